@@ -1,0 +1,79 @@
+-- A schema's tables, and what it refuses.
+use Rattle.std.specs.Prelude.{◌≡◌, ℕ, Bool, not, ◌&&◌, List, [], ◌∷◌, length, Option, Some, None, ◌++◌, option_map, position, slice_get, nat_eq, nat_lt, nat_le, if◌then◌else◌}
+use Rattle.std.specs.List.{list_any, list_all}
+use Rattle.std.specs.Option.{option_or}
+use Rattle.std.specs.Cmp.Lexicographic.{pointwise}
+use Rattle.cs_model.specs.declared.shape.Shape.{Shape}
+use Rattle.cs_model.specs.declared.change.Section.{Section}
+use Rattle.cs_model.specs.declared.schema.SchemaFault.{SchemaFault}
+use Rattle.cs_model.specs.declared.schema.SchemaFault.TheVariants.{DuplicateTable, BadShape, UnknownTable, ShapeDiffers}
+use Rattle.cs_model.specs.declared.schema.SchemaError.{SchemaError}
+use Rattle.cs_model.specs.declared.schema.SchemaError.TheVariants.{Fault, Memory}
+
+-- whether two texts are the same
+abbrev pub same_bytes : List ℕ → List ℕ → Bool
+same_bytes a b = pointwise nat_eq a b
+
+-- the same name and the same key bytes
+abbrev pub same_shape : Shape → Shape → Bool
+same_shape a b = same_bytes a.name b.name && same_bytes a.flags b.flags
+
+-- whether a table has this name
+abbrev pub has_name : List Shape → List ℕ → Bool
+has_name tables name = list_any (λ table. same_bytes table.name name) tables
+
+-- whether a table has this name and these key bytes
+abbrev pub has_shape : List Shape → Shape → Bool
+has_shape tables shape = list_any (λ table. same_shape table shape) tables
+
+-- the place in the schema of the table with this name and these key bytes
+abbrev pub table_index : List Shape → Shape → Option ℕ
+table_index tables shape = position (λ table. same_shape table shape) tables
+
+-- The answer for these sections: the first whose shape is that of no table is refused, as unknown where no
+-- table has its name either.
+abbrev pub refusal_at : List Shape → ℕ → Option Section → SchemaFault
+refusal_at tables i None = UnknownTable i
+refusal_at tables i (Some section) = if has_name tables section.shape.name then ShapeDiffers i else UnknownTable i
+
+abbrev pub first_outside : List Shape → List Section → Option ℕ
+first_outside tables sections = position (λ section. not (has_shape tables section.shape)) sections
+
+abbrev pub refusal_of : List Shape → List Section → Option SchemaFault
+refusal_of tables sections =
+    option_map (λ i. refusal_at tables i (slice_get sections i)) (first_outside tables sections)
+
+-- whether key bytes are those of a table: 1 to 2,000 columns, one of them in the key
+abbrev pub are_flags : List ℕ → Bool
+are_flags flags = nat_lt 0 (length flags) && nat_le (length flags) 2000 && list_any (λ flag. nat_lt 0 flag) flags
+
+-- whether a name is that of a table: 1 to 1,024 bytes without a zero byte
+abbrev pub is_name : List ℕ → Bool
+is_name name = nat_lt 0 (length name) && nat_le (length name) 1024 && list_all (λ byte. nat_lt 0 byte) name
+
+-- whether a shape is one that a table may have
+abbrev pub is_shape : Shape → Bool
+is_shape shape = are_flags shape.flags && is_name shape.name
+
+-- The answer for a table behind earlier ones: its name must be new, its shape one that a table may have, and its
+-- place below 1,024.
+abbrev pub table_refusal : List Shape → Shape → Option SchemaFault
+table_refusal earlier shape =
+    if has_name earlier shape.name then Some (DuplicateTable (length earlier))
+    else if is_shape shape && nat_lt (length earlier) 1024 then None
+    else Some (BadShape (length earlier))
+
+-- The answer for a list of tables: the first that is refused behind those before it.
+abbrev pub tables_refusal : List Shape → List Shape → Option SchemaFault
+tables_refusal earlier [] = None
+tables_refusal earlier (shape ∷ shapes) =
+    option_or (table_refusal earlier shape) (tables_refusal (earlier ++ shape ∷ []) shapes)
+
+-- a schema: tables of which none is refused
+abbrev pub IsSchema : List Shape → Type 0
+IsSchema tables = tables_refusal [] tables ≡ None
+
+-- an error of adding a table: the refusal, or want of memory where there is none
+abbrev pub Refuses : SchemaError → Option SchemaFault → Type 0
+Refuses (Fault fault) refusal = refusal ≡ Some fault
+Refuses Memory refusal = refusal ≡ None

@@ -1,0 +1,54 @@
+//! Whole changesets.
+
+ghost use Rattle.std.specs.Prelude.{◌≡◌};
+ghost use Rattle.cs_model.specs.Changeset.{IsChangeset};
+
+use crate::change::Section;
+use crate::copy::CopyIn;
+use crate::seq::Seq;
+use std::alloc::{AllocError, Global};
+use std::marker::Model;
+
+/// A changeset: sections in order, each with changes that fit its table. Contracts see the list of sections.
+#[derive(Debug, Drop)]
+pub struct Changeset {
+    sections: Seq<Section>,
+}
+
+impl Model for Changeset {
+    ghost use Rattle.std.specs.Prelude.{List};
+    ghost use Rattle.cs_model.specs.declared.change.Section.{Section};
+    ghost use Rattle.cs_model.specs.Changeset.{IsChangeset};
+
+    ghost Value = { List Section };
+
+    ghost view = { λ c. c.sections };
+
+    ghost invariant = { λ c. IsChangeset c.sections };
+}
+
+impl Changeset {
+    /// The changeset of these sections, without a copy.
+    pub fn from_seq(sections: Seq<Section>) -> Changeset
+        requires { IsChangeset sections }
+        ensures { result ≡ sections }
+    {
+        Changeset { sections }
+    }
+
+    /// Its sections, in order.
+    pub fn sections(&self) -> &[Section]
+        ensures same { result.now ≡ self.now }
+        ensures valid { IsChangeset self.now }
+    {
+        &self.sections
+    }
+}
+
+impl CopyIn for Changeset {
+    fn copy_in(&self, alloc: Global) -> Result<Changeset, AllocError> {
+        Ok(Changeset {
+            sections: self.sections.copy_in(alloc)?,
+        })
+    }
+}

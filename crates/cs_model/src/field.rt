@@ -1,0 +1,51 @@
+//! Fields as canonical bytes.
+
+ghost use Rattle.std.specs.Prelude.{◌≡◌, ◌++◌, ◌∷◌, OnOk, OnErr, length, take};
+ghost use Rattle.cs_model.specs.Varint.{varint};
+ghost use Rattle.cs_model.specs.FieldBytes.{field_bytes};
+
+use crate::value::{Field, Value};
+use crate::varint::varint_push;
+use std::alloc::AllocError;
+
+/// Adds a field's canonical bytes to the end of `out`, and nothing else: its type, then a number in eight
+/// bytes, or the shortest length and the bytes. An `Err` leaves `out` as it was.
+pub fn field_push(out: &mut Vec<u8>, field: &Field) -> Result<(), AllocError>
+    ensures ok { OnOk result (out.new.items ≡ out.old.items ++ field_bytes field.now) }
+    ensures err { OnErr result (out.new.items ≡ out.old.items) }
+{
+    let start = out.len();
+    let pushed = add_field(out, field);
+    if pushed.is_err() {
+        out.truncate(start);
+    }
+    pushed
+}
+
+// The same, which may stop in between.
+fn add_field(out: &mut Vec<u8>, field: &Field) -> Result<(), AllocError>
+    ensures ok { OnOk result (out.new.items ≡ out.old.items ++ field_bytes field.now) }
+    ensures adds { take (length out.old.items) out.new.items ≡ out.old.items }
+{
+    match field {
+        Field::Undefined => out.push(0)?,
+        Field::Is(Value::Integer(number)) => {
+            out.push(1)?;
+            out.extend_from_slice(&number.to_be_bytes())?;
+        }
+        Field::Is(Value::Text(bytes)) => add_counted(out, 3, bytes)?,
+        Field::Is(Value::Blob(bytes)) => add_counted(out, 4, bytes)?,
+        Field::Is(Value::Null) => out.push(5)?,
+    }
+    Ok(())
+}
+
+// a type byte, a length and the bytes
+fn add_counted(out: &mut Vec<u8>, kind: u8, bytes: &[u8]) -> Result<(), AllocError>
+    ensures ok { OnOk result (out.new.items ≡ out.old.items ++ kind ∷ (varint (length bytes.now) ++ bytes.now)) }
+    ensures adds { take (length out.old.items) out.new.items ≡ out.old.items }
+{
+    out.push(kind)?;
+    varint_push(out, bytes.len() as u64)?;
+    out.extend_from_slice(bytes)
+}

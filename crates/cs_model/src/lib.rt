@@ -1,0 +1,28 @@
+//! Changesets as values: shapes, records, changes, keys and the schema they are held against, and the small
+//! spellings that they are made of. The definitions that every other crate cites stand here: which changesets
+//! there are, and which texts spell one.
+#![tactic(auto)]
+
+mod change;
+mod changeset;
+mod copy;
+mod field;
+mod origin;
+mod row_key;
+mod schema;
+mod seq;
+mod shape;
+mod value;
+mod varint;
+
+pub use change::{Change, Op, Section};
+pub use changeset::Changeset;
+pub use copy::CopyIn;
+pub use field::field_push;
+pub use origin::Origin;
+pub use row_key::RowKey;
+pub use schema::{RefusedTables, Schema, SchemaError, SchemaFault};
+pub use seq::{Octets, Row, Seq};
+pub use shape::Shape;
+pub use value::{Field, Value};
+pub use varint::{varint_push, varint_read, varint_shortest, varint_spelled};

@@ -1,0 +1,10 @@
+//! Where an entry of the sequence comes from.
+
+/// Why an entry was sent.
+#[derive(Clone, Copy, Debug, PartialEq, Eq)]
+pub enum Origin {
+    /// A publisher sent what it was fed.
+    Sent,
+    /// It withdraws the entry of this number.
+    Withdraws(u64),
+}

@@ -1,0 +1,219 @@
+//! The tables that a broker serves.
+
+ghost use Rattle.std.specs.Prelude.{◌≡◌, ◌++◌, ◌∷◌, [], ◌<◌, IfSome, Some, None, IfOk, IfErr, OnOk, OnErr, IsOk, length, MatchResult, nat_lt};
+ghost use Rattle.std.specs.List.{list_any, list_all};
+ghost use Rattle.cs_model.specs.Schema.{has_name, has_shape, table_index, are_flags, is_name, first_outside, table_refusal, tables_refusal, refusal_of, same_bytes, same_shape, Refuses};
+ghost use Rattle.cs_model.specs.declared.schema.SchemaError.TheVariants.{Memory};
+
+use crate::change::Section;
+use crate::changeset::Changeset;
+use crate::copy::CopyIn;
+use crate::shape::Shape;
+use std::alloc::{AllocError, AllocFailed, Global};
+use std::marker::Model;
+
+/// Why a schema or a changeset is refused.
+#[derive(Clone, Copy, Debug, PartialEq, Eq)]
+pub enum SchemaFault {
+    /// `Schema::new` and `Schema::add`: an earlier table has the name of the table at this place.
+    DuplicateTable(usize),
+    /// `Schema::new` and `Schema::add`: the table at this place has no column, more than 2,000, no key column
+    /// or a bad name, or 1,024 tables stand before it.
+    BadShape(usize),
+    /// `Schema::admits`: no table has the name of the section at this place.
+    UnknownTable(usize),
+    /// `Schema::admits`: the table of that name has another column count or other key bytes than the section
+    /// at this place.
+    ShapeDiffers(usize),
+}
+
+/// Tables that are no schema, with the first fault.
+#[derive(Debug, Drop)]
+pub struct RefusedTables {
+    pub fault: SchemaFault,
+    pub tables: Vec<Shape>,
+}
+
+/// Why `Schema::add` adds nothing.
+#[derive(Debug, Drop)]
+pub enum SchemaError {
+    /// The table is refused.
+    Fault(SchemaFault),
+    /// Memory ran out.
+    Memory,
+}
+
+impl<T: Drop> From<AllocFailed<T>> for SchemaError {
+    ghost from_gives = { λ _ e. e ≡ Memory };
+
+    fn from(_e: AllocFailed<T>) -> SchemaError {
+        SchemaError::Memory
+    }
+}
+
+/// The tables that a broker serves, at most 1,024, in order and with different names. A table is named by its
+/// place, from 0.
+#[derive(Debug, Drop)]
+pub struct Schema {
+    tables: Vec<Shape>,
+}
+
+impl Model for Schema {
+    ghost use Rattle.std.specs.Prelude.{List};
+    ghost use Rattle.cs_model.specs.declared.shape.Shape.{Shape};
+    ghost use Rattle.cs_model.specs.Schema.{IsSchema};
+
+    ghost Value = { List Shape };
+
+    ghost view = { λ s. s.tables.items };
+
+    ghost invariant = { λ s. IsSchema s.tables.items };
+}
+
+impl Schema {
+    /// A schema without tables.
+    pub fn empty(alloc: Global) -> Schema
+        ensures { result ≡ [] }
+    {
+        Schema {
+            tables: Vec::new(alloc),
+        }
+    }
+
+    /// The schema of these tables, without a copy. Refuses the first table whose name an earlier one has
+    /// (`DuplicateTable`) or whose shape no table may have (`BadShape`), and hands all of them back.
+    pub fn new(tables: Vec<Shape>) -> Result<Schema, RefusedTables>
+        ensures ok { IfOk result (λ schema. (schema ≡ tables.items) × (tables_refusal [] tables.items ≡ None)) }
+        ensures refused { IfErr result (λ e. (tables_refusal [] tables.items ≡ Some e.fault) × (e.tables.items ≡ tables.items)) }
+    {
+        match first_refusal(&tables) {
+            Some(fault) => Err(RefusedTables { fault, tables }),
+            None => Ok(Schema { tables }),
+        }
+    }
+
+    /// Adds a table at the end. Refuses as `new` does; an `Err` leaves the schema as it was.
+    pub fn add(&mut self, table: Shape) -> Result<(), SchemaError>
+        ensures ok { OnOk result ((self.new ≡ self.old ++ table ∷ []) × (table_refusal self.old table ≡ None)) }
+        ensures refused { IfErr result (λ e. Refuses e (table_refusal self.old table)) }
+        ensures err { OnErr result (self.new ≡ self.old) }
+    {
+        match refusal(&self.tables, &table) {
+            Some(fault) => Err(SchemaError::Fault(fault)),
+            None => Ok(self.tables.push(table)?),
+        }
+    }
+
+    /// The tables, in order.
+    pub fn tables(&self) -> &[Shape]
+        ensures { result.now ≡ self.now }
+    {
+        &self.tables
+    }
+
+    /// The place of the table with this name and these key bytes, where there is one.
+    pub fn table(&self, shape: &Shape) -> Option<usize>
+        ensures { result ≡ table_index self.now shape.now }
+    {
+        self.tables.iter().position(|table| table == shape)
+    }
+
+    /// Whether each section of a changeset has the shape of a table. Refuses the first that hasn't, as
+    /// `UnknownTable` or `ShapeDiffers`.
+    pub fn admits(&self, changeset: &Changeset) -> Result<(), SchemaFault>
+        ensures ok { OnOk result (refusal_of self.now changeset.now ≡ None) }
+        ensures refused { IfErr result (λ fault. refusal_of self.now changeset.now ≡ Some fault) }
+    {
+        let sections = changeset.sections();
+        match first_without_table(&self.tables, sections) {
+            None => Ok(()),
+            Some(i) if knows_name(&self.tables, &sections[i].shape.name) => {
+                Err(SchemaFault::ShapeDiffers(i))
+            }
+            Some(i) => Err(SchemaFault::UnknownTable(i)),
+        }
+    }
+}
+
+impl CopyIn for Schema {
+    fn copy_in(&self, alloc: Global) -> Result<Schema, AllocError> {
+        Ok(Schema {
+            tables: Shape::copy_all(alloc, &self.tables)?,
+        })
+    }
+}
+
+fn same_table(a: &Shape, b: &Shape) -> bool
+    ensures { result ≡ same_shape a.now b.now }
+{
+    a == b
+}
+
+fn has_table(tables: &[Shape], shape: &Shape) -> bool
+    ensures { result ≡ has_shape tables.now shape.now }
+{
+    tables.iter().any(|table| same_table(table, shape))
+}
+
+fn knows_name(tables: &[Shape], name: &[u8]) -> bool
+    ensures { result ≡ has_name tables.now name.now }
+{
+    tables.iter().any(|table| &table.name[..] == name)
+}
+
+fn first_without_table(tables: &[Shape], sections: &[Section]) -> Option<usize>
+    ensures value { result ≡ first_outside tables.now sections.now }
+    ensures bound { IfSome result (λ i. i < length sections.now) }
+{
+    sections
+        .iter()
+        .position(|section| !has_table(tables, &section.shape))
+}
+
+fn flags_stand(flags: &[u8]) -> bool
+    ensures { result ≡ are_flags flags.now }
+{
+    !flags.is_empty() && flags.len() <= 2000 && any_nonzero(flags)
+}
+
+fn any_nonzero(bytes: &[u8]) -> bool
+    ensures { result ≡ list_any (λ byte. nat_lt 0 byte) bytes.now }
+{
+    bytes.iter().any(|byte| 0 < *byte)
+}
+
+fn all_nonzero(bytes: &[u8]) -> bool
+    ensures { result ≡ list_all (λ byte. nat_lt 0 byte) bytes.now }
+{
+    bytes.iter().all(|byte| 0 < *byte)
+}
+
+fn name_stands(name: &[u8]) -> bool
+    ensures { result ≡ is_name name.now }
+{
+    !name.is_empty() && name.len() <= 1024 && all_nonzero(name)
+}
+
+// why a table can't stand behind these
+fn refusal(earlier: &[Shape], table: &Shape) -> Option<SchemaFault>
+    ensures { result ≡ table_refusal earlier.now table.now }
+{
+    if knows_name(earlier, &table.name) {
+        return Some(SchemaFault::DuplicateTable(earlier.len()));
+    }
+    if flags_stand(&table.flags) && name_stands(&table.name) && earlier.len() < 1024 {
+        return None;
+    }
+    Some(SchemaFault::BadShape(earlier.len()))
+}
+
+fn first_refusal(tables: &[Shape]) -> Option<SchemaFault>
+    ensures { result ≡ tables_refusal [] tables.now }
+{
+    for (i, table) in tables.iter().enumerate() {
+        if let Some(fault) = refusal(&tables[..i], table) {
+            return Some(fault);
+        }
+    }
+    None
+}

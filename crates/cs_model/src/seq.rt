@@ -1,0 +1,95 @@
+//! A list that contracts see as a list.
+
+ghost use Rattle.std.specs.Prelude.{◌≡◌};
+ghost use Rattle.std.specs.Cmp.{on_equiv, on_total, on_po, on_per};
+ghost use Rattle.std.specs.Cmp.Lexicographic.{pointwise, slice_cmp, slice_partial_cmp, lists_per, lists_equiv, lists_po, lists_total, lists_agrees, lists_ties};
+
+use crate::value::Value;
+use std::cmp::Ordering;
+use std::marker::Model;
+use std::ops::DerefSlice;
+
+/// A list of values, made from a `Vec` and given back as one, both without taking memory.
+#[derive(Debug, Drop)]
+pub struct Seq<T> {
+    items: Vec<T>,
+}
+
+/// A text or blob as its bytes.
+pub type Octets = Seq<u8>;
+
+/// A row: one value per column.
+pub type Row = Seq<Value>;
+
+impl<T> Model for Seq<T> {
+    ghost use Rattle.std.specs.Prelude.{List};
+
+    ghost Value = { List T };
+
+    ghost view = { λ s. s.items.items };
+}
+
+impl<T> Seq<T> {
+    /// The same list, without a copy.
+    pub fn from_vec(items: Vec<T>) -> Seq<T>
+        ensures { result ≡ items.items }
+    {
+        Seq { items }
+    }
+
+    /// The same list, without a copy.
+    pub fn into_vec(self) -> Vec<T>
+        ensures { result.items ≡ self }
+    {
+        let Seq { items } = self;
+        items
+    }
+}
+
+impl<T> DerefSlice for Seq<T> {
+    type Elem = T;
+
+    ghost deref_gives = { λ s xs. xs ≡ s };
+
+    fn deref(&self) -> &[T] {
+        self.items.as_slice()
+    }
+}
+
+impl<T: PartialEq> PartialEq for Seq<T> {
+    ghost eq = { λ s t. pointwise T.eq s t };
+
+    ghost laws = { lists_per T.laws };
+
+    fn eq(&self, other: &Self) -> bool {
+        self.items == other.items
+    }
+}
+
+impl<T: Eq> Eq for Seq<T> {
+    ghost laws = { lists_equiv T.Eq.laws };
+}
+
+impl<T: PartialOrd> PartialOrd for Seq<T> {
+    ghost partial_cmp = { λ s t. slice_partial_cmp T.partial_cmp s t };
+
+    ghost laws = { lists_po T.PartialOrd.laws };
+
+    fn partial_cmp(&self, other: &Self) -> Option<Ordering> {
+        self.items.partial_cmp(&other.items)
+    }
+}
+
+impl<T: Ord> Ord for Seq<T> {
+    ghost cmp = { λ s t. slice_cmp T.cmp s t };
+
+    ghost total = { lists_total T.total };
+
+    ghost matches_partial_cmp = { λ s t. lists_agrees T.matches_partial_cmp s t };
+
+    ghost matches_eq = { λ s t. lists_ties T.cmp T.matches_eq s t };
+
+    fn cmp(&self, other: &Self) -> Ordering {
+        self.items.cmp(&other.items)
+    }
+}

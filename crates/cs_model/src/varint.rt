@@ -1,0 +1,67 @@
+//! Varints: the spelling of counts and lengths, one to nine bytes.
+
+ghost use Rattle.std.specs.Prelude.{◌≡◌, ℕ, ◌^◌, ◌<◌, ◌≤◌, ◌++◌, List, length, take, get_or, OnOk, OnErr, IfSome, Some};
+ghost use Rattle.cs_model.specs.Varint.{IsVarint, varint};
+
+use std::alloc::AllocError;
+
+/// Reads the varint that begins `bytes`: its value, and the number of bytes that it takes. Longer spellings
+/// than the shortest are read too. `None` where the bytes end before a varint does.
+pub fn varint_read(bytes: &[u8]) -> Option<(u64, usize)>
+    ensures found { IfSome result (λ found. (found.1 ≤ length bytes.now) × IsVarint (take found.1 bytes.now) found.0) }
+    ensures only { (n len : ℕ) → len ≤ length bytes.now → IsVarint (take len bytes.now) n → result ≡ Some (n, len) }
+{
+    let mut value: u64 = 0;
+    let mut read: usize = 0;
+    for &byte in bytes {
+        if read == 8 {
+            // the ninth byte is the last, whatever it says, and has eight bits of the value
+            return Some((256 * value + u64::from(byte), 9));
+        }
+        if byte < 128 {
+            return Some((128 * value + u64::from(byte), read + 1));
+        }
+        value = 128 * value + u64::from(byte - 128);
+        read += 1;
+    }
+    None
+}
+
+/// Adds the shortest varint of `value` to the end of `out`. An `Err` leaves `out` as it was.
+pub fn varint_push(out: &mut Vec<u8>, value: u64) -> Result<(), AllocError>
+    ensures ok { OnOk result (out.new.items ≡ out.old.items ++ varint value) }
+    ensures err { OnErr result (out.new.items ≡ out.old.items) }
+{
+    if value < 128 {
+        // nearly all lengths and counts take one byte
+        out.push(value as u8)?;
+        return Ok(());
+    }
+    // from 2^56 on all nine bytes are taken, and the last of them has eight bits of the value
+    let whole = value >= 1 << 56;
+    let (mut rest, last) = if whole {
+        (value / 256, value % 256)
+    } else {
+        (value / 128, value % 128)
+    };
+    // filled from the back, and added in one piece: where memory runs out nothing of it is added
+    let mut text = [0u8; 9];
+    text[8] = last as u8;
+    let mut start: usize = 8;
+    while start > 0 && (whole || rest > 0) {
+        start -= 1;
+        text[start] = 128 + (rest % 128) as u8;
+        rest /= 128;
+    }
+    out.extend_from_slice(&text[start..])
+}
+
+/// What `varint_push` writes spells its number.
+pub fn varint_spelled()
+    ensures { (n : ℕ) → n < 2 ^ 64 → IsVarint (varint n) n }
+{}
+
+/// No spelling of a number is shorter than the one that `varint_push` writes.
+pub fn varint_shortest()
+    ensures { (bytes : List ℕ) (n : ℕ) → ((i : ℕ) → get_or bytes i 0 < 256) → IsVarint bytes n → length (varint n) ≤ length bytes }
+{}
