@@ -12,7 +12,7 @@ use crate::value::Field;
 use std::alloc::{AllocError, Global};
 
 /// Which row of which table. Keys go by the table, then by their bytes as unsigned bytes.
-#[derive(Debug, Drop, PartialEq, Eq, PartialOrd, Ord)]
+#[derive(Debug, Drop, PartialEq, Eq, PartialOrd, Ord, Hash)]
 pub struct RowKey {
     /// The table's place in the schema, from 0.
     pub table: usize,
