@@ -43,6 +43,15 @@ impl Changeset {
     {
         &self.sections
     }
+
+    /// Its sections, without a copy.
+    pub fn into_seq(self) -> Seq<Section>
+        ensures same { result ≡ self }
+        ensures valid { IsChangeset self }
+    {
+        let Changeset { sections } = self;
+        sections
+    }
 }
 
 impl CopyIn for Changeset {

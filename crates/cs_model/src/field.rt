@@ -2,7 +2,7 @@
 
 ghost use Rattle.std.specs.Prelude.{◌≡◌, ◌++◌, ◌∷◌, OnOk, OnErr, length, take};
 ghost use Rattle.cs_model.specs.Varint.{varint};
-ghost use Rattle.cs_model.specs.FieldBytes.{field_bytes};
+ghost use Rattle.cs_model.specs.FieldBytes.{value_bytes, field_bytes};
 
 use crate::value::{Field, Value};
 use crate::varint::varint_push;
@@ -14,8 +14,19 @@ pub fn field_push(out: &mut Vec<u8>, field: &Field) -> Result<(), AllocError>
     ensures ok { OnOk result (out.new.items ≡ out.old.items ++ field_bytes field.now) }
     ensures err { OnErr result (out.new.items ≡ out.old.items) }
 {
+    match field {
+        Field::Undefined => Ok(out.push(0)?),
+        Field::Is(value) => value_push(out, value),
+    }
+}
+
+/// The same for a value.
+pub fn value_push(out: &mut Vec<u8>, value: &Value) -> Result<(), AllocError>
+    ensures ok { OnOk result (out.new.items ≡ out.old.items ++ value_bytes value.now) }
+    ensures err { OnErr result (out.new.items ≡ out.old.items) }
+{
     let start = out.len();
-    let pushed = add_field(out, field);
+    let pushed = add_value(out, value);
     if pushed.is_err() {
         out.truncate(start);
     }
@@ -23,19 +34,18 @@ pub fn field_push(out: &mut Vec<u8>, field: &Field) -> Result<(), AllocError>
 }
 
 // The same, which may stop in between.
-fn add_field(out: &mut Vec<u8>, field: &Field) -> Result<(), AllocError>
-    ensures ok { OnOk result (out.new.items ≡ out.old.items ++ field_bytes field.now) }
+fn add_value(out: &mut Vec<u8>, value: &Value) -> Result<(), AllocError>
+    ensures ok { OnOk result (out.new.items ≡ out.old.items ++ value_bytes value.now) }
     ensures adds { take (length out.old.items) out.new.items ≡ out.old.items }
 {
-    match field {
-        Field::Undefined => out.push(0)?,
-        Field::Is(Value::Integer(number)) => {
+    match value {
+        Value::Integer(number) => {
             out.push(1)?;
             out.extend_from_slice(&number.to_be_bytes())?;
         }
-        Field::Is(Value::Text(bytes)) => add_counted(out, 3, bytes)?,
-        Field::Is(Value::Blob(bytes)) => add_counted(out, 4, bytes)?,
-        Field::Is(Value::Null) => out.push(5)?,
+        Value::Text(bytes) => add_counted(out, 3, bytes)?,
+        Value::Blob(bytes) => add_counted(out, 4, bytes)?,
+        Value::Null => out.push(5)?,
     }
     Ok(())
 }

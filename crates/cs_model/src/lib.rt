@@ -18,7 +18,7 @@ mod varint;
 pub use change::{Change, Op, Section};
 pub use changeset::Changeset;
 pub use copy::CopyIn;
-pub use field::field_push;
+pub use field::{field_push, value_push};
 pub use origin::Origin;
 pub use row_key::RowKey;
 pub use schema::{RefusedTables, Schema, SchemaError, SchemaFault};

@@ -1,0 +1,4 @@
+pub mod Keys
+pub mod Puts
+pub mod Sections
+pub mod Orders

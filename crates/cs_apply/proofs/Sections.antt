@@ -1,0 +1,122 @@
+-- Changes one more at a time, and sections one more at a time.
+use Rattle.std.proofs.Common.{◌≡◌, ℕ, suc, ◌+◌, ◌<◌, ◌≤◌, Bool, List, [], ◌∷◌, ◌++◌, length, map, take, drop, get_or, Option, Some, None, Result, Ok, Err, refl, sym, ap, ◌∙◌, add-one, arith, drop-cons, length-append}
+use Rattle.std.proofs.Math.ListN.{drop_of_length-le}
+use Rattle.std.proofs.lemmas.List.{take-append-le, take-append-drop}
+use Rattle.cs_model.specs.declared.shape.Shape.{Shape}
+use Rattle.cs_model.specs.declared.change.Change.{Change}
+use Rattle.cs_model.specs.declared.change.Section.{Section}
+use Rattle.cs_apply.specs.declared.conflict.ConflictKind.{ConflictKind}
+use Rattle.cs_apply.specs.declared.conflict.Conflict.{Conflict as Conflicts}
+use Rattle.cs_apply.specs.declared.conflict.ApplyError.{ApplyError}
+use Rattle.cs_apply.specs.declared.conflict.ApplyError.TheVariants as error
+use Rattle.cs_apply.specs.declared.stop.Stop.{Stop}
+use Rattle.cs_apply.specs.declared.stop.Stop.TheVariants.{Conflict, Memory}
+use Rattle.cs_apply.specs.State.{Rows, compatible}
+use Rattle.cs_apply.specs.Effect.{effect}
+use Rattle.cs_apply.specs.Single.{goes_on, effect_at, changes_of, single_from}
+use Rattle.cs_apply.specs.Inserts.{Entries, Adds, Stops, Refuses, placed, carry, section_from}
+
+-- the old rows stand in front of what is added to them twice
+pub Adds-trans : (a b c : Entries) → Adds a b → Adds b c → Adds a c
+Adds-trans a b c p q =
+    let long : length a ≤ length b = omega (arith, ap length p, ap length (take-append-drop (length a) b), length-append (take (length a) b) (drop (length a) b)) in
+    let split : c ≡ b ++ drop (length b) c = sym (take-append-drop (length b) c) ∙ ap (λ x. x ++ drop (length b) c) q in
+    ap (take (length a)) split ∙ take-append-le (length a) b (drop (length b) c) long ∙ p
+
+-- one change more of a section
+pub next_change : (table : ℕ) (flags : List ℕ) (changes : List Change) (i : ℕ) (change : Change) (at : ℕ) (rows : Rows) → i < length changes → change ≡ get_or changes i change
+    → section_from table flags (drop i changes) at rows
+    ≡ goes_on (λ next after. section_from table flags (drop (i + 1) changes) next after) at (effect table flags rows change)
+unfolding section_from
+next_change table flags changes i change at rows lt is =
+    let e : drop i changes ≡ change ∷ drop (suc i) changes = drop-cons changes i change lt ∙ ap (λ (x : Change). x ∷ drop (suc i) changes) (sym is) in
+    rw (add-one, e) refl
+
+-- a change that has its effect is done with
+pub change_done : (table : ℕ) (flags : List ℕ) (changes : List Change) (i : ℕ) (change : Change) (at next : ℕ) (old new : Rows) (all : Result Rows Conflicts) → i < length changes → change ≡ get_or changes i change
+    → next ≡ suc at → effect table flags old change ≡ Ok new → section_from table flags (drop i changes) at old ≡ all → section_from table flags (drop (i + 1) changes) next new ≡ all
+change_done table flags changes i change at next old new all lt is after ok so_far =
+    ap (λ (n : ℕ). section_from table flags (drop (i + 1) changes) n new) after
+    ∙ sym (next_change table flags changes i change at old lt is ∙ ap (goes_on (λ n rows. section_from table flags (drop (i + 1) changes) n rows) at) ok) ∙ so_far
+
+-- a change that stops stops the section
+pub change_stops : (table : ℕ) (flags : List ℕ) (changes : List Change) (i : ℕ) (change : Change) (at : ℕ) (old : Rows) (all : Result Rows Conflicts) (stop : Stop) → i < length changes → change ≡ get_or changes i change
+    → Stops stop (effect table flags old change) → section_from table flags (drop i changes) at old ≡ all → Refuses (placed at stop) all
+change_stops table flags changes i change at old all Memory lt is stops so_far = tt
+change_stops table flags changes i change at old all (Conflict kind) lt is stops so_far =
+    sym so_far ∙ next_change table flags changes i change at old lt is ∙ ap (goes_on (λ next after. section_from table flags (drop (i + 1) changes) next after) at) stops
+
+-- no change more
+pub changes_done : (table : ℕ) (flags : List ℕ) (changes : List Change) (i at : ℕ) (rows : Rows) (all : Result Rows Conflicts) → length changes ≤ i
+    → section_from table flags (drop i changes) at rows ≡ all → all ≡ Ok rows
+unfolding section_from
+changes_done table flags changes i at rows all le so_far = sym so_far ∙ ap (λ (cs : List Change). section_from table flags cs at rows) (drop_of_length-le changes le)
+
+module _ (schema : List Shape) (kept : List Bool) where
+  -- an answer, and what comes after it
+  goes : (rest : ℕ → Rows → Result Rows Conflicts) (more : ℕ → Rows → Result Rows Conflicts) (last : Rows → Result Rows Conflicts) (at : ℕ) (r : Result Rows ConflictKind)
+      → ((rows : Rows) → rest (suc at) rows ≡ carry last (more (suc at) rows)) → goes_on rest at r ≡ carry last (goes_on more at r)
+  goes rest more last at (Ok rows) h = h rows
+  goes rest more last at (Err kind) h = refl
+
+  -- a section of a table that is kept
+  pub kept_section : (table : ℕ) (shape : Shape) → compatible schema kept shape ≡ Some table → (changes : List Change) (rest : List (Shape × Change)) (at end : ℕ) (rows : Rows) → end ≡ at + length changes
+      → single_from schema kept (map (λ change. (shape, change)) changes ++ rest) at rows
+      ≡ carry (λ after. single_from schema kept rest end after) (section_from table shape.flags changes at rows)
+  unfolding single_from section_from
+  kept_section table shape here [] rest at end rows is = ap (λ (n : ℕ). single_from schema kept rest n rows) (omega arith)
+  kept_section table shape here (change ∷ changes) rest at end rows is =
+      ap (λ (t : Option ℕ). goes_on (λ next after. single_from schema kept (map (λ c. (shape, c)) changes ++ rest) next after) at (effect_at t rows shape change)) here
+      ∙ goes (λ next after. single_from schema kept (map (λ c. (shape, c)) changes ++ rest) next after) (λ next after. section_from table shape.flags changes next after) (λ after. single_from schema kept rest end after) at (effect table shape.flags rows change)
+      (λ after. kept_section table shape here changes rest (suc at) end after (omega arith))
+
+  -- a section of another table
+  pub other_section : (shape : Shape) → compatible schema kept shape ≡ None → (changes : List Change) (rest : List (Shape × Change)) (at end : ℕ) (rows : Rows) → end ≡ at + length changes
+      → single_from schema kept (map (λ change. (shape, change)) changes ++ rest) at rows ≡ single_from schema kept rest end rows
+  unfolding single_from
+  other_section shape none [] rest at end rows is = ap (λ (n : ℕ). single_from schema kept rest n rows) (omega arith)
+  other_section shape none (change ∷ changes) rest at end rows is =
+      ap (λ (t : Option ℕ). goes_on (λ next after. single_from schema kept (map (λ c. (shape, c)) changes ++ rest) next after) at (effect_at t rows shape change)) none
+      ∙ other_section shape none changes rest (suc at) end rows (omega arith)
+
+  -- one section more
+  next_sections : (sections : List Section) (k : ℕ) (section : Section) → k < length sections → section ≡ get_or sections k section
+      → changes_of (drop k sections) ≡ map (λ change. (section.shape, change)) section.changes ++ changes_of (drop (k + 1) sections)
+  next_sections sections k section lt is =
+      let e : drop k sections ≡ section ∷ drop (suc k) sections = drop-cons sections k section lt ∙ ap (λ (x : Section). x ∷ drop (suc k) sections) (sym is) in
+      rw (add-one, e) refl
+
+  -- a section that is kept and has its effect is done with
+  pub section_done : (sections : List Section) (k table : ℕ) (section : Section) (at end : ℕ) (old new : Rows) (all : Result Rows Conflicts) → k < length sections → section ≡ get_or sections k section
+      → compatible schema kept section.shape ≡ Some table → end ≡ at + length section.changes → section_from table section.shape.flags section.changes at old ≡ Ok new
+      → single_from schema kept (changes_of (drop k sections)) at old ≡ all → single_from schema kept (changes_of (drop (k + 1) sections)) end new ≡ all
+  section_done sections k table section at end old new all lt is here counted ok so_far =
+      let rest = changes_of (drop (k + 1) sections) in
+      sym (ap (λ (cs : List (Shape × Change)). single_from schema kept cs at old) (next_sections sections k section lt is)
+      ∙ kept_section table section.shape here section.changes rest at end old counted ∙ ap (carry (λ after. single_from schema kept rest end after)) ok)
+      ∙ so_far
+
+  -- a section that stops stops the changeset
+  pub section_stops : (sections : List Section) (k table : ℕ) (section : Section) (at end : ℕ) (old : Rows) (all : Result Rows Conflicts) (e : ApplyError) → k < length sections → section ≡ get_or sections k section
+      → compatible schema kept section.shape ≡ Some table → end ≡ at + length section.changes → Refuses e (section_from table section.shape.flags section.changes at old)
+      → single_from schema kept (changes_of (drop k sections)) at old ≡ all → Refuses e all
+  section_stops sections k table section at end old all error.Memory lt is here counted stops so_far = tt
+  section_stops sections k table section at end old all (error.Conflict conflict) lt is here counted stops so_far =
+      let rest = changes_of (drop (k + 1) sections) in
+      sym so_far ∙ ap (λ (cs : List (Shape × Change)). single_from schema kept cs at old) (next_sections sections k section lt is)
+      ∙ kept_section table section.shape here section.changes rest at end old counted ∙ ap (carry (λ after. single_from schema kept rest end after)) stops
+
+  -- a section that isn't kept is passed over
+  pub section_passed : (sections : List Section) (k : ℕ) (section : Section) (at end : ℕ) (rows : Rows) (all : Result Rows Conflicts) → k < length sections → section ≡ get_or sections k section
+      → compatible schema kept section.shape ≡ None → end ≡ at + length section.changes
+      → single_from schema kept (changes_of (drop k sections)) at rows ≡ all → single_from schema kept (changes_of (drop (k + 1) sections)) end rows ≡ all
+  section_passed sections k section at end rows all lt is none counted so_far =
+      sym (ap (λ (cs : List (Shape × Change)). single_from schema kept cs at rows) (next_sections sections k section lt is)
+      ∙ other_section section.shape none section.changes (changes_of (drop (k + 1) sections)) at end rows counted)
+      ∙ so_far
+
+  -- no section more
+  pub sections_done : (sections : List Section) (k at : ℕ) (rows : Rows) (all : Result Rows Conflicts) → length sections ≤ k
+      → single_from schema kept (changes_of (drop k sections)) at rows ≡ all → all ≡ Ok rows
+  unfolding single_from
+  sections_done sections k at rows all le so_far = sym so_far ∙ ap (λ (ss : List Section). single_from schema kept (changes_of ss) at rows) (drop_of_length-le sections le)

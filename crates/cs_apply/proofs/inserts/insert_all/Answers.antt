@@ -1,0 +1,35 @@
+use Rattle.std.proofs.Common.{sym, ◌∙◌}
+use Rattle.std.proofs.lemmas.Result.{err_from_is_err_and}
+use Rattle.cs_apply.specs.Inserts.{rows_of}
+use Rattle.cs_apply.proofs.Sections.{Adds-trans, section_done, section_stops, section_passed, sections_done}
+use Rattle.cs_apply.proofs.inserts.insert_all.Goals as goal
+use Rattle.cs_apply.proofs.inserts.insert_all.Goals.{in-Some-kept_table+in_ok-insert_section, in_default-kept_table}
+
+pub returns-in_err-insert_section-clause-refused : goal.returns-in_err-insert_section-clause-refused
+returns-in_err-insert_section-clause-refused c =
+    let s = c.section-item.result in
+    let counted = rw c.deref-changes.ensures at c.in-Some.ensures.1 in
+    let p = err_from_is_err_and c.from_residual.result c.from_residual.ensures.1 in
+    rw (p.1, p.2) (section_stops c.args.schema.now c.args.kept.now c.args.sections.now c.loop-section.section-index c.in-Some-kept_table.table s c.loop-section.start c.in-Some.end (rows_of c.loop-section.rows.entries) _ c.in_err-insert_section.field-0.0
+    c.loop-section-test.true c.section-item.is (sym c.kept_table.ensures ∙ c.in-Some-kept_table.is) counted c.in_err-insert_section.ensures.refused c.loop-section.invariant.so_far)
+
+pub loop-section-preserved : goal.loop-section-preserved
+loop-section-preserved c =
+    let s = c.section-item.result in
+    let counted = rw c.deref-changes.ensures at c.in-Some.ensures.1 in
+    elim c.match-kept_table.branch [
+      | in-Some-kept_table+in_ok-insert_section w ↦ rw (w.rows-is, w.start-is) record {
+        so_far = section_done c.args.schema.now c.args.kept.now c.args.sections.now c.loop-section.section-index w.in-Some-kept_table.table s c.loop-section.start c.in-Some.end (rows_of c.loop-section.rows.entries) (rows_of w.insert_section.new.rows.entries) _
+            c.loop-section-test.true c.section-item.is (sym c.kept_table.ensures ∙ w.in-Some-kept_table.is) counted w.in_ok-insert_section.ensures.ok c.loop-section.invariant.so_far;
+        adds = Adds-trans c.args.rows.now.entries c.loop-section.rows.entries w.insert_section.new.rows.entries c.loop-section.invariant.adds w.insert_section.ensures.adds;
+      }
+      | in_default-kept_table w ↦ rw (w.rows-is, w.start-is) record {
+        so_far = section_passed c.args.schema.now c.args.kept.now c.args.sections.now c.loop-section.section-index s c.loop-section.start c.in-Some.end (rows_of c.loop-section.rows.entries) _
+            c.loop-section-test.true c.section-item.is (sym c.kept_table.ensures ∙ w.in_default-kept_table.is) counted c.loop-section.invariant.so_far;
+        adds = c.loop-section.invariant.adds;
+      }
+    ]
+
+pub returns-clause-ok : goal.returns-clause-ok
+returns-clause-ok c =
+    sections_done c.args.schema.now c.args.kept.now c.args.sections.now c.loop-section.section-index c.loop-section.start (rows_of c.loop-section.rows.entries) _ c.loop-section-test.false c.loop-section.invariant.so_far

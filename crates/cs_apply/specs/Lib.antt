@@ -1,0 +1,5 @@
+pub mod State
+pub mod Effect
+pub mod Single
+pub mod Refusal
+pub mod Inserts

@@ -1,0 +1,37 @@
+-- Changes applied one after another.
+use Rattle.std.specs.Prelude.{ℕ, suc, Bool, List, [], ◌∷◌, map, Option, Some, None, Result, Ok, Err}
+use Rattle.std.specs.List.{flat_map}
+use Rattle.cs_model.specs.declared.shape.Shape.{Shape}
+use Rattle.cs_model.specs.declared.change.Change.{Change}
+use Rattle.cs_model.specs.declared.change.Section.{Section}
+use Rattle.cs_apply.specs.declared.conflict.ConflictKind.{ConflictKind}
+use Rattle.cs_apply.specs.declared.conflict.Conflict.{Conflict}
+use Rattle.cs_apply.specs.State.{Rows, State, compatible}
+use Rattle.cs_apply.specs.Effect.{effect}
+
+-- a changeset's changes in order, each with its table's shape
+abbrev pub changes_of : List Section → List (Shape × Change)
+changes_of sections = flat_map (λ section. map (λ change. (section.shape, change)) section.changes) sections
+
+-- A change: its effect where its table is compatible, and none where it isn't.
+abbrev pub effect_at : Option ℕ → Rows → Shape → Change → Result Rows ConflictKind
+effect_at None rows shape change = Ok rows
+effect_at (Some table) rows shape change = effect table shape.flags rows change
+
+-- changes in order, the first of them at this position: the rows after all, or the first conflict
+abbrev pub goes_on : (ℕ → Rows → Result Rows Conflict) → ℕ → Result Rows ConflictKind → Result Rows Conflict
+goes_on rest at (Ok rows) = rest (suc at) rows
+goes_on rest at (Err kind) = Err (record { position = at; kind = kind })
+
+unfoldable pub single_from : List Shape → List Bool → List (Shape × Change) → ℕ → Rows → Result Rows Conflict
+single_from schema kept [] at rows = Ok rows
+single_from schema kept (x ∷ changes) at rows =
+    goes_on (λ next after. single_from schema kept changes next after) at (effect_at (compatible schema kept x.0) rows x.0 x.1)
+
+-- the tables after all changes of a changeset, one at a time, or its first conflict
+abbrev pub with_rows : State → Result Rows Conflict → Result State Conflict
+with_rows tables (Ok rows) = Ok (record tables { rows = rows })
+with_rows tables (Err conflict) = Err conflict
+
+abbrev pub single : State → List Section → Result State Conflict
+single tables sections = with_rows tables (single_from tables.schema tables.kept (changes_of sections) 0 tables.rows)

@@ -1,0 +1,28 @@
+//! Why a changeset isn't applied.
+
+/// How a change conflicts with the rows.
+#[derive(Clone, Copy, Debug, PartialEq, Eq)]
+pub enum ConflictKind {
+    /// The row that an UPDATE or a DELETE is about has other values (`SQLITE_CHANGESET_DATA`).
+    Data = 1,
+    /// There is no such row (`SQLITE_CHANGESET_NOTFOUND`).
+    NotFound = 2,
+    /// The row that an INSERT makes is there already (`SQLITE_CHANGESET_CONFLICT`).
+    Conflict = 3,
+}
+
+/// The first conflict of a changeset: the change's place among all its changes, from 0, and its kind.
+#[derive(Clone, Copy, Debug, PartialEq, Eq)]
+pub struct Conflict {
+    pub position: usize,
+    pub kind: ConflictKind,
+}
+
+/// Why `Tables::apply` applied nothing. The tables are as before.
+#[derive(Clone, Copy, Debug, PartialEq, Eq)]
+pub enum ApplyError {
+    /// A change conflicts.
+    Conflict(Conflict),
+    /// Memory ran out.
+    Memory,
+}

@@ -1,0 +1,14 @@
+//! Tables and one-thread application: `Tables` is a finite map from row keys to rows, and `apply` gives the
+//! tables that a changeset's changes give one at a time, or its first conflict. Theorem: `apply` is `single`.
+#![tactic(auto)]
+
+mod conflict;
+mod inserts;
+mod row;
+mod stop;
+mod tables;
+#[cfg(test)]
+mod tests;
+
+pub use conflict::{ApplyError, Conflict, ConflictKind};
+pub use tables::Tables;
