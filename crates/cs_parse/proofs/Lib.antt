@@ -1,0 +1,9 @@
+pub mod Loops
+pub mod Letters
+pub mod Numbers
+pub mod Steps
+pub mod NumberLaws
+pub mod FieldLaws
+pub mod ManyLaws
+pub mod ChangeLaws
+pub mod TextLaws

@@ -1,0 +1,18 @@
+-- What `parse` answers, against what a text spells or what reading it gives.
+use Rattle.std.specs.Prelude.{◌≡◌, List, Result, Ok, Err}
+use Rattle.cs_model.specs.declared.change.Section.{Section}
+use Rattle.cs_parse.specs.declared.fault.ParseFault.{ParseFault}
+use Rattle.cs_parse.specs.declared.fault.ParseError.{ParseError}
+use Rattle.cs_parse.specs.declared.fault.ParseError.TheVariants.{Fault, Memory}
+
+-- the answer is this changeset, unless memory ran out
+abbrev pub IsRead : Result (List Section) ParseError → List Section → Type 0
+IsRead (Ok found) changeset = found ≡ changeset
+IsRead (Err (Fault fault)) changeset = ⊥
+IsRead (Err Memory) changeset = Unit {0}
+
+-- the answer is this one, unless memory ran out
+abbrev pub Answers : Result (List Section) ParseError → Result (List Section) ParseFault → Type 0
+Answers (Ok found) answer = answer ≡ Ok found
+Answers (Err (Fault fault)) answer = answer ≡ Err fault
+Answers (Err Memory) answer = Unit {0}

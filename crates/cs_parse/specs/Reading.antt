@@ -1,0 +1,225 @@
+-- Reading a text from its front. A reader takes the bytes from its place on, and gives a value and the bytes behind
+-- it, or why there is none.
+use Rattle.std.specs.Prelude.{ℕ, ℤ, zero, suc, ◌+◌, ◌-◌, ◌*◌, Bool, true, not, ◌||◌, List, [], ◌∷◌, length, take, drop, map, Option, Some, None, Result, Ok, Err, nat_lt, ◌==◌, if◌then◌else◌, ◌≡◌}
+use Rattle.std.specs.Int.{w64, from_be_bytes, cast_signed}
+use Rattle.std.specs.List.{list_any}
+use Rattle.cs_model.specs.declared.value.Value.TheVariants.{Integer, Text, Blob, Null}
+use Rattle.cs_model.specs.declared.value.Field.{Field}
+use Rattle.cs_model.specs.declared.value.Field.TheVariants.{Undefined, Is}
+use Rattle.cs_model.specs.declared.shape.Shape.{Shape}
+use Rattle.cs_model.specs.declared.change.Op.TheVariants.{Insert}
+use Rattle.cs_model.specs.declared.change.Change.{Change}
+use Rattle.cs_model.specs.declared.change.Section.{Section}
+use Rattle.cs_model.specs.Rule.{Rule, Key, Given, Open, Blank, PairedWith, is_defined, row_rule}
+use Rattle.cs_parse.specs.declared.fault.FaultKind.{FaultKind}
+use Rattle.cs_parse.specs.declared.fault.FaultKind.TheVariants.{BadMarker, Patchset, Columns, NoKey, EmptyName, NameTooLong, BadOperation, BadType, Real, UndefinedField, KeyMissing, KeyChanged, OneSided, ValueTooLong, TooLong, Truncated}
+use Rattle.cs_parse.specs.declared.fault.ParseFault.{ParseFault}
+use Rattle.cs_parse.specs.declared.stop.Stop.{Stop}
+use Rattle.cs_parse.specs.declared.stop.Stop.TheVariants as stops
+
+-- Why a reader has no value. Short: the bytes end before it is whole. Bad: a byte can't stand in its place; so many
+-- bytes are left from that byte on, and this is wrong with it.
+pub data Refusal : Type 0 where
+  Short : Refusal
+  Bad : ℕ → FaultKind → Refusal
+
+infixl 10 ◌>>=◌
+abbrev pub ◌>>=◌ : {A B : Type 0} → Result A Refusal → (A → Result B Refusal) → Result B Refusal
+(Ok x) >>= f = f x
+(Err e) >>= f = Err e
+
+-- What a function returned, seen by view, is what reading gives, unless memory ran out.
+abbrev pub Fails : {Y : Type 0} → Stop → Result Y Refusal → Type 0
+Fails stops.Memory read = Unit {0}
+Fails stops.Short read = read ≡ Err Short
+Fails (stops.Bad left kind) read = read ≡ Err (Bad left kind)
+
+abbrev pub Gives : {X Y : Type 0} → (X → Y) → Result X Stop → Result Y Refusal → Type 0
+Gives view (Ok x) read = read ≡ Ok (view x)
+Gives view (Err e) read = Fails e read
+
+-- refused at a byte, behind which `rest` stands
+abbrev pub refuse : {A : Type 0} → FaultKind → List ℕ → Result A Refusal
+refuse kind rest = Err (Bad (suc (length rest)) kind)
+
+-- One item after another, until the bytes are over for them. Each turn takes one from `fuel`, and where it is at
+-- least the number of bytes, it doesn't run out.
+unfoldable pub many_at : {A : Type 0} → (List ℕ → Bool) → (List ℕ → Result (A × List ℕ) Refusal) → ℕ → List ℕ → Result (List A × List ℕ) Refusal
+many_at over read zero bytes = Ok ([], bytes)
+many_at over read (suc fuel) bytes = if over bytes then Ok ([], bytes) else (do
+  first ← read bytes
+  others ← many_at over read fuel first.1
+  Ok (first.0 ∷ others.0, others.1))
+
+-- ---- numbers
+
+-- how much the next byte moves what was read before it, where `left` more bytes may have the high bit
+abbrev pub factor : ℕ → ℕ
+factor left = if left == 0 then 256 else 128
+
+-- a number whose last byte stands before `rest`
+abbrev pub within : ℕ → ℕ → FaultKind → ℕ → List ℕ → Result (ℕ × List ℕ) Refusal
+within least most kind n rest = if nat_lt n least || nat_lt most n then refuse kind rest else Ok (n, rest)
+
+-- The rest of a varint, where `high` stands for the bits read before it, and `left` bytes may still have the high
+-- bit. It is refused at the first byte after which every number is out of its limits.
+unfoldable pub number_at : ℕ → ℕ → FaultKind → ℕ → ℕ → List ℕ → Result (ℕ × List ℕ) Refusal
+number_at least most kind left high [] = Err Short
+number_at least most kind zero high (byte ∷ rest) = within least most kind (256 * high + byte) rest
+number_at least most kind (suc left) high (byte ∷ rest) =
+    if nat_lt byte 128 then within least most kind (128 * high + byte) rest
+    else if nat_lt most (factor left * (128 * high + (byte - 128))) then refuse kind rest
+    else number_at least most kind left (128 * high + (byte - 128)) rest
+
+-- how many columns a table has
+unfoldable pub columns_at : List ℕ → Result (ℕ × List ℕ) Refusal
+columns_at bytes = number_at 1 2000 Columns 8 0 bytes
+
+-- how many bytes a value has
+unfoldable pub length_at : List ℕ → Result (ℕ × List ℕ) Refusal
+length_at bytes = number_at 0 16777216 ValueTooLong 8 0 bytes
+
+-- ---- fields
+
+-- an INTEGER's eight bytes
+unfoldable pub integer_at : List ℕ → Result (ℤ × List ℕ) Refusal
+integer_at bytes = if nat_lt (length bytes) 8 then Err Short else Ok (cast_signed w64 (from_be_bytes w64 (take 8 bytes)), drop 8 bytes)
+
+-- a length, and that many bytes
+unfoldable pub counted_at : List ℕ → Result (List ℕ × List ℕ) Refusal
+counted_at bytes = do
+  n ← length_at bytes
+  if nat_lt (length n.1) n.0 then Err Short else Ok (take n.0 n.1, drop n.0 n.1)
+
+-- what is wrong with a type byte under a rule, where a field may have that type
+abbrev pub rule_refusal : Rule → ℕ → Option FaultKind
+rule_refusal Key byte = if byte == 0 || byte == 5 then Some KeyMissing else None
+rule_refusal Given byte = if byte == 0 then Some UndefinedField else None
+rule_refusal Open byte = None
+rule_refusal Blank byte = if byte == 0 then None else Some KeyChanged
+rule_refusal (PairedWith old) byte =
+    if is_defined old then (if byte == 0 then Some OneSided else None)
+    else if byte == 0 then None
+    else Some OneSided
+
+-- what is wrong with a type byte
+abbrev pub type_refusal : Rule → ℕ → Option FaultKind
+type_refusal rule byte =
+    if nat_lt 5 byte then Some BadType
+    else if byte == 2 then Some Real
+    else rule_refusal rule byte
+
+-- a field behind its type byte, which isn't refused
+unfoldable pub typed_at : ℕ → List ℕ → Result (Field × List ℕ) Refusal
+typed_at byte rest =
+    if byte == 0 then Ok (Undefined, rest)
+    else if byte == 1 then (do
+      number ← integer_at rest
+      Ok (Is (Integer number.0), number.1))
+    else if byte == 3 then (do
+      bytes ← counted_at rest
+      Ok (Is (Text bytes.0), bytes.1))
+    else if byte == 4 then (do
+      bytes ← counted_at rest
+      Ok (Is (Blob bytes.0), bytes.1))
+    else Ok (Is Null, rest)
+
+abbrev pub unless_refused : {A : Type 0} → Option FaultKind → List ℕ → Result A Refusal → Result A Refusal
+unless_refused None rest read = read
+unless_refused (Some kind) rest read = refuse kind rest
+
+unfoldable pub field_at : Rule → List ℕ → Result (Field × List ℕ) Refusal
+field_at rule [] = Err Short
+field_at rule (byte ∷ rest) = unless_refused (type_refusal rule byte) rest (typed_at byte rest)
+
+-- ---- records and changes
+
+-- a field for each rule
+unfoldable pub record_at : List Rule → List ℕ → Result (List Field × List ℕ) Refusal
+record_at [] bytes = Ok ([], bytes)
+record_at (rule ∷ rules) bytes = do
+  field ← field_at rule bytes
+  fields ← record_at rules field.1
+  Ok (field.0 ∷ fields.0, fields.1)
+
+-- an INSERT behind its operation byte
+unfoldable pub insert_at : List ℕ → List ℕ → Result (Change × List ℕ) Refusal
+insert_at flags [] = Err Short
+insert_at flags (mark ∷ rest) = do
+  row ← record_at (map row_rule flags) rest
+  Ok (record { op = Insert; indirect = not (mark == 0); before = []; after = row.0 }, row.1)
+
+-- a change of a table with these key bytes
+unfoldable pub change_at : List ℕ → List ℕ → Result (Change × List ℕ) Refusal
+change_at flags [] = Err Short
+change_at flags (byte ∷ rest) =
+    if byte == 18 then insert_at flags rest
+    else refuse (if byte == 80 then Patchset else BadOperation) rest
+
+-- a section's changes are over at the end, and where the next header begins
+abbrev pub ends_section : List ℕ → Bool
+ends_section [] = true
+ends_section (byte ∷ rest) = byte == 84
+
+unfoldable pub changes_at : List ℕ → List ℕ → Result (List Change × List ℕ) Refusal
+changes_at flags bytes = many_at ends_section (change_at flags) (length bytes) bytes
+
+-- ---- headers
+
+-- key bytes, at least one, of which the last is refused where all are zero
+unfoldable pub flags_at : ℕ → List ℕ → Result (List ℕ × List ℕ) Refusal
+flags_at count bytes =
+    if nat_lt (length bytes) count then Err Short
+    else if list_any (λ flag. nat_lt 0 flag) (take count bytes) then Ok (take count bytes, drop count bytes)
+    else refuse NoKey (drop count bytes)
+
+-- the bytes up to a zero byte, at most so many
+unfoldable pub letters_at : ℕ → List ℕ → Result (List ℕ × List ℕ) Refusal
+letters_at most [] = Err Short
+letters_at zero (byte ∷ rest) = if byte == 0 then Ok ([], rest) else refuse NameTooLong rest
+letters_at (suc most) (byte ∷ rest) = if byte == 0 then Ok ([], rest) else (do
+  letters ← letters_at most rest
+  Ok (byte ∷ letters.0, letters.1))
+
+-- A name, and the zero byte behind it, which is refused where no byte stands before it.
+unfoldable pub name_at : List ℕ → Result (List ℕ × List ℕ) Refusal
+name_at bytes = do
+  name ← letters_at 1024 bytes
+  if length name.0 == 0 then refuse EmptyName name.1 else Ok name
+
+-- a header behind its `T`
+unfoldable pub header_at : List ℕ → Result (Shape × List ℕ) Refusal
+header_at bytes = do
+  count ← columns_at bytes
+  flags ← flags_at count.0 count.1
+  name ← name_at flags.1
+  Ok (record { name = name.0; flags = flags.0 }, name.1)
+
+-- ---- whole texts
+
+-- A section. The changes before it end where it begins with `T`, so that another first byte is the text's.
+unfoldable pub section_at : List ℕ → Result (Section × List ℕ) Refusal
+section_at [] = Err Short
+section_at (byte ∷ rest) = if byte == 84 then (do
+  shape ← header_at rest
+  changes ← changes_at shape.0.flags shape.1
+  Ok (record { shape = shape.0; changes = changes.0 }, changes.1))
+    else refuse (if byte == 80 then Patchset else BadMarker) rest
+
+abbrev pub is_empty : List ℕ → Bool
+is_empty bytes = length bytes == 0
+
+unfoldable pub sections_at : List ℕ → Result (List Section × List ℕ) Refusal
+sections_at bytes = many_at is_empty section_at (length bytes) bytes
+
+-- the answer for a text of so many bytes
+abbrev pub placed : ℕ → Result (List Section × List ℕ) Refusal → Result (List Section) ParseFault
+placed len (Ok read) = Ok read.0
+placed len (Err Short) = Err (record { at = len; kind = Truncated })
+placed len (Err (Bad left kind)) = Err (record { at = len - left; kind = kind })
+
+-- what reading the whole text gives
+unfoldable pub answer_of : List ℕ → Result (List Section) ParseFault
+answer_of text =
+    if nat_lt 16777216 (length text) then Err (record { at = 16777216; kind = TooLong })
+    else placed (length text) (sections_at text)

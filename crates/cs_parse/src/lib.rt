@@ -1,0 +1,16 @@
+//! The reader of changesets: `parse` answers with the changeset that a text spells, or with a fault and its
+//! place. Theorem: the answer is Ok exactly on the texts that spell a changeset, as `Spells` says.
+#![tactic(auto)]
+
+mod fault;
+mod header;
+mod number;
+mod record;
+mod stop;
+mod whole;
+
+pub use fault::{FaultKind, ParseError, ParseFault};
+pub use whole::{parse, reading_is_spelling};
+
+#[cfg(test)]
+mod tests;
