@@ -1,0 +1,22 @@
+//! The pure world: publishers, the sequence and subscriptions as one value, moved by events. Theorem: whatever
+//! the events, the world and its answers are a run of the steps in `specs/Outcome.antt`, and in every run the
+//! numbers that a subscription accepted rise strictly.
+#![tactic(auto)]
+
+mod body;
+mod config;
+mod event;
+mod parts;
+mod publishing;
+mod reply;
+mod runs;
+mod subscribing;
+mod world;
+
+pub use body::Body;
+pub use config::{Config, ConfigFault};
+pub use event::Event;
+pub use parts::{Entry, Handed, Publisher, Subscription};
+pub use reply::{Refusal, Reply};
+pub use runs::{accepted_numbers_rise, run};
+pub use world::World;

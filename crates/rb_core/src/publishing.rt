@@ -1,0 +1,118 @@
+//! Publishers and the sequence.
+
+ghost use Rattle.std.specs.Prelude.{◌≡◌, IfOk, OnErr, IsOk};
+ghost use Rattle.rb_core.specs.Outcome.{publisher_outcome, feed_outcome, end_outcome, send_outcome, turn_outcome, fault_refusal};
+
+use crate::body::Body;
+use crate::parts::{Entry, Publisher};
+use crate::reply::{Refusal, Reply};
+use crate::world::{World, refused};
+use cs_model::{SchemaFault, Seq};
+use cs_parse::{ParseError, parse};
+use std::alloc::{AllocError, Global};
+
+impl World {
+    pub(crate) fn publisher(&mut self, alloc: Global) -> Result<Reply, AllocError>
+        ensures ok { IfOk result (λ reply. publisher_outcome self.old ≡ (reply, self.new)) }
+        ensures err { OnErr result (self.new ≡ self.old) }
+    {
+        let number = self.publishers.len() as u64;
+        self.publishers.push(Publisher {
+            stream: Seq::from_vec(Vec::new(alloc)),
+            staged: None,
+            sent: 0,
+        })?;
+        Ok(Reply::Publisher(number))
+    }
+
+    pub(crate) fn feed(&mut self, publisher: u64, bytes: &[u8]) -> Result<Reply, AllocError>
+        ensures ok { IfOk result (λ reply. feed_outcome self.old publisher bytes.now ≡ (reply, self.new)) }
+        ensures err { OnErr result (self.new ≡ self.old) }
+    {
+        let p = publisher as usize;
+        if p >= self.publishers.len() {
+            return refused(Refusal::NoPublisher);
+        }
+        let found = &mut self.publishers[p];
+        found.stream.extend_from_slice(bytes)?;
+        Ok(Reply::Fed)
+    }
+
+    pub(crate) fn end(&mut self, alloc: Global, publisher: u64) -> Result<Reply, AllocError>
+        ensures ok { IfOk result (λ reply. end_outcome self.old publisher ≡ (reply, self.new)) }
+        ensures err { OnErr result (self.new ≡ self.old) }
+    {
+        let p = publisher as usize;
+        if p >= self.publishers.len() {
+            return refused(Refusal::NoPublisher);
+        }
+        if self.publishers[p].staged.is_some() {
+            return refused(Refusal::Holding);
+        }
+        let changeset = match parse(alloc, &self.publishers[p].stream) {
+            Ok(changeset) => changeset,
+            Err(ParseError::Fault(fault)) => return Ok(Reply::Fault(fault)),
+            Err(ParseError::Memory) => return Err(AllocError),
+        };
+        match self.schema.admits(&changeset) {
+            Err(fault) => refused(refusal_for(fault)),
+            Ok(()) => {
+                let found = &mut self.publishers[p];
+                found.stream = Seq::from_vec(Vec::new(alloc));
+                found.staged = Some(Body::new(changeset));
+                Ok(Reply::Staged)
+            }
+        }
+    }
+
+    pub(crate) fn send(&mut self, publisher: u64) -> Result<Reply, AllocError>
+        ensures ok { IfOk result (λ reply. send_outcome self.old publisher ≡ (reply, self.new)) }
+        ensures err { OnErr result (self.new ≡ self.old) }
+    {
+        let p = publisher as usize;
+        if p >= self.publishers.len() {
+            return refused(Refusal::NoPublisher);
+        }
+        if self.publishers[p].staged.is_none() {
+            return refused(Refusal::NothingStaged);
+        }
+        // 2^64 sendings can't come
+        let own = self.publishers[p].sent.checked_add(1).ok_or(AllocError)?;
+        self.intake.reserve(1)?;
+        let found = &mut self.publishers[p];
+        found.sent = own;
+        match found.staged.take() {
+            None => refused(Refusal::NothingStaged),
+            Some(body) => {
+                self.intake.push_back(Entry { publisher, own, body })?;
+                Ok(Reply::Sent(own))
+            }
+        }
+    }
+
+    pub(crate) fn turn(&mut self) -> Result<Reply, AllocError>
+        ensures ok { IfOk result (λ reply. turn_outcome self.old ≡ (reply, self.new)) }
+        ensures err { OnErr result (self.new ≡ self.old) }
+    {
+        self.sequence.reserve(1)?;
+        match self.intake.pop_front() {
+            None => Ok(Reply::Idle),
+            Some(entry) => {
+                self.sequence.push(entry)?;
+                Ok(Reply::Placed(self.sequence.len() as u64))
+            }
+        }
+    }
+}
+
+// The first two faults are those of a schema, and don't come here.
+fn refusal_for(fault: SchemaFault) -> Refusal
+    ensures { result ≡ fault_refusal fault }
+{
+    match fault {
+        SchemaFault::DuplicateTable(i) | SchemaFault::BadShape(i) | SchemaFault::UnknownTable(i) => {
+            Refusal::UnknownTable(i as u64)
+        }
+        SchemaFault::ShapeDiffers(i) => Refusal::ShapeDiffers(i as u64),
+    }
+}
