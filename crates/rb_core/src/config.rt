@@ -67,6 +67,22 @@ impl Config {
         }
     }
 
+    /// The limits where none are asked for: batch 16, window 4, timeout 10, capacity 65,536, intake 64 and one
+    /// applier.
+    pub fn standard() -> Config
+        ensures value { result ≡ record { batch = 16; window = 4; timeout = 10; capacity = 65536; intake = 64; appliers = 1 } }
+        ensures valid { first_out_of_range result.batch result.window result.timeout result.capacity result.intake result.appliers ≡ None }
+    {
+        Config {
+            batch: 16,
+            window: 4,
+            timeout: 10,
+            capacity: 65_536,
+            intake: 64,
+            appliers: 1,
+        }
+    }
+
     fn first_fault(&self) -> Option<ConfigFault>
         ensures { result ≡ first_out_of_range self.now.batch self.now.window self.now.timeout self.now.capacity self.now.intake self.now.appliers }
     {

@@ -1,0 +1,15 @@
+//! The forms of lines.
+
+use cs_model::Octets;
+use rb_core::Event;
+
+/// What a line asks for.
+#[derive(Debug, Drop)]
+pub enum Form {
+    /// A table, as the bytes of its header.
+    Table(Octets),
+    /// An event.
+    Happens(Event),
+    /// The rows of a subscription.
+    Rows(u64),
+}

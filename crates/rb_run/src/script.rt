@@ -1,0 +1,147 @@
+//! A script, from a reader to a writer.
+
+ghost use Rattle.std.specs.Prelude.{◌≡◌, ◌<◌, ◌≤◌, ◌^◌, ℕ, List, length, take, replicate, vec_len, Ok, Err, OnOk, OnErr, IfErr, IfOk};
+ghost use Rattle.std.specs.Io.KnownBytes.{Appends, Consumes, Keeps, IsAtEnd};
+ghost use Rattle.rb_run.specs.Lines.{line_answer};
+ghost use Rattle.rb_run.specs.Output.{place_at, opening, written, after, answers, longer};
+ghost use Rattle.rb_run.specs.Streams.{AppendsFront};
+
+use crate::fault::ScriptFault;
+use crate::lines::{MOST_OF_LINE, Stage, answer};
+use crate::streams::{read_some, write_whole};
+use cs_model::Schema;
+use rb_core::Config;
+use std::alloc::{AllocError, Global};
+use std::io::{Read, Write};
+
+/// The most bytes of a script.
+pub const MOST_OF_SCRIPT: usize = 16_777_216;
+
+// how many bytes are read at a time
+const PIECE: usize = 65_536;
+
+/// Answers the lines that a reader gives, in order, on a writer. Each line has one answer line, but an empty
+/// line has none and `rows` has several. The last line may lack its end.
+///
+/// `Read` where the reader fails, `Write` where the writer fails or takes no byte, `Endless` where more than
+/// 16,777,216 bytes come, `Memory` where memory runs out: the answers to the whole lines before are written
+/// then, the last one perhaps in part.
+pub fn run_script<R: Read, W: Write>(
+    alloc: Global,
+    reader: &mut R,
+    writer: &mut W,
+    config: Config,
+) -> Result<(), ScriptFault>
+    // All of the input is read, and the answers to it are written.
+    ensures done { OnOk result ((input : List ℕ) × Consumes (R.remaining reader.old) (R.remaining reader.new) input
+        × IsAtEnd (R.remaining reader.new) × (length input ≤ 16777216)
+        × Appends (W.contents writer.old) (W.contents writer.new) (answers config input)) }
+    // What is written by then is a front of the answers to what is read by then.
+    ensures stopped { OnErr result ((input : List ℕ) × Consumes (R.remaining reader.old) (R.remaining reader.new) input
+        × AppendsFront (W.contents writer.old) (W.contents writer.new) (answers config input)) }
+    // Too much has come, and all lines that end within the limit are answered.
+    ensures endless { result ≡ Err ScriptFault.Endless → (input : List ℕ) × Consumes (R.remaining reader.old) (R.remaining reader.new) input
+        × (16777216 < length input)
+        × Appends (W.contents writer.old) (W.contents writer.new) (written config opening (take 16777216 input)) }
+{
+    let mut buffer = zeros(alloc, PIECE)?;
+    let piece = buffer.as_mut_slice();
+    let mut stage = Stage::Tables(Schema::empty(alloc));
+    let mut line = Vec::new(alloc);
+    let mut count = 0;
+    for _ in 0..=MOST_OF_SCRIPT {
+        let read = read_piece(reader, piece)?;
+        if read == 0 {
+            answer_to(alloc, config, stage, &line, writer)?;
+            return Ok(());
+        }
+        if MOST_OF_SCRIPT - count < read {
+            feed(alloc, config, stage, line, &piece[..MOST_OF_SCRIPT - count], writer)?;
+            return Err(ScriptFault::Endless);
+        }
+        let next = feed(alloc, config, stage, line, &piece[..read], writer)?;
+        stage = next.0;
+        line = next.1;
+        count += read;
+    }
+    // each turn reads a byte at least
+    unreachable!()
+}
+
+fn zeros(alloc: Global, n: usize) -> Result<Vec<u8>, AllocError>
+    ensures { IfOk result (λ bytes. vec_len bytes ≡ n) }
+{
+    vec![in alloc; 0u8; n]
+}
+
+fn read_piece<R: Read>(reader: &mut R, piece: &mut [u8]) -> Result<usize, ScriptFault>
+    requires { 0 < length piece.old }
+    ensures length { length piece.new ≡ length piece.old }
+    ensures bound { IfOk result (λ n. n ≤ length piece.new) }
+    ensures bytes { IfOk result (λ n. Consumes (R.remaining reader.old) (R.remaining reader.new) (take n piece.new)) }
+    ensures end { IfOk result (λ n. n ≡ 0 → IsAtEnd (R.remaining reader.new)) }
+    ensures err { OnErr result (Keeps (R.remaining reader.old) (R.remaining reader.new)) }
+    ensures fault { IfErr result (λ e. e ≡ ScriptFault.Read) }
+{
+    match read_some(reader, piece) {
+        Ok(n) => Ok(n),
+        Err(_) => Err(ScriptFault::Read),
+    }
+}
+
+// Answers the lines that end in these bytes, and gives the stage after them and what has come of the next line.
+fn feed<W: Write>(
+    alloc: Global,
+    config: Config,
+    stage: Stage,
+    line: Vec<u8>,
+    bytes: &[u8],
+    writer: &mut W,
+) -> Result<(Stage, Vec<u8>), ScriptFault>
+    ensures ok { IfOk result (λ next. Appends (W.contents writer.old) (W.contents writer.new) (written config (place_at stage line.items) bytes.now)
+        × (place_at next.0 next.1.items ≡ after config (place_at stage line.items) bytes.now)) }
+    ensures err { OnErr result (AppendsFront (W.contents writer.old) (W.contents writer.new) (written config (place_at stage line.items) bytes.now)) }
+    ensures faults { IfErr result (λ e. (e ≡ ScriptFault.Endless) → ⊥) }
+{
+    let mut stage = stage;
+    let mut line = line;
+    for byte in bytes {
+        if *byte == b'\n' {
+            stage = answer_to(alloc, config, stage, &line, writer)?;
+            line.clear();
+        } else {
+            lengthen(&mut line, *byte)?;
+        }
+    }
+    Ok((stage, line))
+}
+
+// One byte more of a line; of a line that is too long only that counts.
+fn lengthen(line: &mut Vec<u8>, byte: u8) -> Result<(), AllocError>
+    ensures { OnOk result (line.new.items ≡ longer line.old.items byte) }
+{
+    if line.len() <= MOST_OF_LINE {
+        line.push(byte)?;
+    }
+    Ok(())
+}
+
+// Answers a line, and gives the stage after it.
+fn answer_to<W: Write>(
+    alloc: Global,
+    config: Config,
+    stage: Stage,
+    line: &[u8],
+    writer: &mut W,
+) -> Result<Stage, ScriptFault>
+    ensures ok { IfOk result (λ next. Appends (W.contents writer.old) (W.contents writer.new) (line_answer config stage line.now).0
+        × (next ≡ (line_answer config stage line.now).1)) }
+    ensures err { OnErr result (AppendsFront (W.contents writer.old) (W.contents writer.new) (line_answer config stage line.now).0) }
+    ensures faults { IfErr result (λ e. (e ≡ ScriptFault.Endless) → ⊥) }
+{
+    let (text, next) = answer(alloc, config, stage, line)?;
+    match write_whole(writer, &text) {
+        Ok(()) => Ok(next),
+        Err(_) => Err(ScriptFault::Write),
+    }
+}
