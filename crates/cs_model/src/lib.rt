@@ -26,3 +26,6 @@ pub use seq::{Octets, Row, Seq};
 pub use shape::Shape;
 pub use value::{Field, Value};
 pub use varint::{varint_push, varint_read, varint_shortest, varint_spelled};
+
+#[cfg(test)]
+mod tests;

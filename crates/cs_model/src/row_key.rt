@@ -54,7 +54,8 @@ fn key_bytes_of(alloc: Global, flags: &[u8], fields: &[Field]) -> Result<Octets,
     requires { length fields.now ≡ length flags.now }
     ensures { IfOk result (λ bytes. bytes ≡ key_bytes flags.now fields.now) }
 {
-    let mut bytes = Vec::new(alloc);
+    // room for two numbers or a short text
+    let mut bytes = Vec::with_capacity(alloc, 24)?;
     for (i, flag) in flags.iter().enumerate() {
         if *flag > 0 {
             field_push(&mut bytes, &fields[i])?;

@@ -106,15 +106,15 @@ keeps_if s old false x y left right = right refl
 keeps_subscribe : (s : ℕ) (old : State) (start : ℕ) → Keeps s old (subscribe_outcome old start).0 (subscribe_outcome old start).1
 keeps_subscribe s old start =
     keeps_if s old (ltb (length old.sequence) start) _ _
-        (still s old _ old (λ s c e. absurd cc) (omega arith))
-        (λ _. still s old _ _ (λ s c e. absurd cc) (cursor_at-push old.subscriptions _ s))
+    (still s old _ old (λ s c e. absurd cc) (omega arith))
+    (λ _. still s old _ _ (λ s c e. absurd cc) (cursor_at-push old.subscriptions _ s))
 
 keeps_take : (s : ℕ) (old : State) (i : ℕ) (o : Option Subscription) → slice_get old.subscriptions i ≡ o → Keeps s old (taken old i o).0 (taken old i o).1
 keeps_take s old i None found = still s old _ old (λ s c e. absurd cc) (omega arith)
 keeps_take s old i (Some q) found =
     keeps_if s old (ltb q.handed (length old.sequence)) _ _
-        (still s old _ _ (λ s c e. absurd cc) (cursor_at-set old.subscriptions i q (record q { handed = q.handed + 1 }) s found (omega arith)))
-        (λ _. still s old _ old (λ s c e. absurd cc) (omega arith))
+    (still s old _ _ (λ s c e. absurd cc) (cursor_at-set old.subscriptions i q (record q { handed = q.handed + 1 }) s found (omega arith)))
+    (λ _. still s old _ old (λ s c e. absurd cc) (omega arith))
 
 keeps_accepted : (s : ℕ) (old : State) (handed : Handed) (q : Subscription) (r : Result tables.State Conflict) → slice_get old.subscriptions handed.subscription ≡ Some q → q.cursor < handed.last
     → Keeps s old (with_accepted old handed.subscription (accepted handed q r)).0 (with_accepted old handed.subscription (accepted handed q r)).1
@@ -128,7 +128,7 @@ keeps_accepted s old handed q (Ok t) found lt =
           let here : slice_get old.subscriptions s ≡ Some q = subst (λ (i : ℕ). slice_get old.subscriptions i ≡ Some q) same found in
           let before : cursor_at old.subscriptions s ≡ q.cursor = cursor_at-found old.subscriptions s q here in
           let after : cursor_at (set old.subscriptions handed.subscription new) s ≡ handed.last =
-              subst (λ (i : ℕ). cursor_at (set old.subscriptions i new) s ≡ handed.last) (sym same) (cursor_at-set_same old.subscriptions s q new here) in
+          subst (λ (i : ℕ). cursor_at (set old.subscriptions i new) s ≡ handed.last) (sym same) (cursor_at-set_same old.subscriptions s q new here) in
           (omega arith, omega arith);
     }
 keeps_accepted s old handed q (Err conflict) found lt =
@@ -142,8 +142,8 @@ keeps_reached : (s : ℕ) (old : State) (handed : Handed) (o : Option Subscripti
 keeps_reached s old handed None found = still s old _ old (λ s c e. absurd cc) (omega arith)
 keeps_reached s old handed (Some q) found =
     keeps_if s old (leb handed.last q.cursor) _ _
-        (still s old _ old (λ s c e. absurd cc) (omega arith))
-        (λ no. keeps_opened s old handed q (numbered old.sequence handed.last) found (leb-false _ _ no))
+    (still s old _ old (λ s c e. absurd cc) (omega arith))
+    (λ no. keeps_opened s old handed q (numbered old.sequence handed.last) found (leb-false _ _ no))
 
 keeps_delivered : (s : ℕ) (old : State) (o : Option Handed) → Keeps s old (delivered old o).0 (delivered old o).1
 keeps_delivered s old None = still s old _ old (λ s c e. absurd cc) (omega arith)

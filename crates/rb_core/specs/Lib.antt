@@ -2,3 +2,4 @@ pub mod Limits
 pub mod State
 pub mod Outcome
 pub mod Run
+pub mod Step

@@ -81,9 +81,11 @@ end_outcome old p = ended old p (slice_get old.publishers p) (staged_of (slice_g
 abbrev pub sent : State → ℕ → Option Publisher → Option (List Section) → Reply × State
 sent old p None staged = refused old refusal.NoPublisher
 sent old p (Some publisher) None = refused old refusal.NothingStaged
-sent old p (Some publisher) (Some changeset) =
-    (reply.Sent (publisher.sent + 1), record (with_publisher old p (record publisher { staged = None; sent = publisher.sent + 1 }))
-        { intake = old.intake ++ record { publisher = p; own = publisher.sent + 1; body = changeset } ∷ [] })
+sent old p (Some publisher) (Some changeset) = (
+  reply.Sent (publisher.sent + 1),
+  record (with_publisher old p (record publisher { staged = None; sent = publisher.sent + 1 }))
+      { intake = old.intake ++ record { publisher = p; own = publisher.sent + 1; body = changeset } ∷ [] },
+)
 
 abbrev pub send_outcome : State → ℕ → Reply × State
 send_outcome old p = sent old p (slice_get old.publishers p) (staged_of (slice_get old.publishers p))
@@ -100,17 +102,20 @@ turn_outcome old = turned old old.intake
 abbrev pub subscribe_outcome : State → ℕ → Reply × State
 subscribe_outcome old start =
     if nat_lt (length old.sequence) start then refused old (refusal.StartAhead (length old.sequence))
-    else (reply.Subscriber (length old.subscriptions) (length old.subscriptions + 1),
-        record old { subscriptions = old.subscriptions ++ record { handed = start; cursor = start; tables = empty_tables old.schema } ∷ [] })
+    else (
+      reply.Subscriber (length old.subscriptions) (length old.subscriptions + 1),
+      record old { subscriptions = old.subscriptions ++ record { handed = start; cursor = start; tables = empty_tables old.schema } ∷ [] },
+    )
 
 -- Take: the entry after the last one handed out to the subscription
 abbrev pub taken : State → ℕ → Option Subscription → Reply × State
 taken old s None = refused old refusal.NoSuch
 taken old s (Some subscription) =
-    if nat_lt subscription.handed (length old.sequence) then
-      (reply.Delivery (length old.deliveries + 1) s (subscription.handed + 1) (subscription.handed + 1),
-        record (with_subscription old s (record subscription { handed = subscription.handed + 1 }))
-            { deliveries = old.deliveries ++ record { subscription = s; first = subscription.handed + 1; last = subscription.handed + 1 } ∷ [] })
+    if nat_lt subscription.handed (length old.sequence) then (
+      reply.Delivery (length old.deliveries + 1) s (subscription.handed + 1) (subscription.handed + 1),
+      record (with_subscription old s (record subscription { handed = subscription.handed + 1 }))
+          { deliveries = old.deliveries ++ record { subscription = s; first = subscription.handed + 1; last = subscription.handed + 1 } ∷ [] },
+    )
     else refused old (refusal.Empty (length old.sequence))
 
 abbrev pub take_outcome : State → ℕ → Reply × State

@@ -31,7 +31,13 @@ pub record State : Type 0 where
 -- the world before any event
 abbrev pub empty_world : Config → List Shape → State
 empty_world config schema = record {
-  config = config; schema = schema; publishers = []; intake = []; sequence = []; subscriptions = []; deliveries = []
+  config = config;
+  schema = schema;
+  publishers = [];
+  intake = [];
+  sequence = [];
+  subscriptions = [];
+  deliveries = [];
 }
 
 -- tables without rows, every one of them kept
@@ -42,9 +48,9 @@ empty_tables schema = record { schema = schema; kept = replicate (length schema)
 abbrev pub world_code : Coded State
 world_code =
     code_by (Config × (List Shape × (List Publisher × (List Entry × (List Entry × (List Subscription × List Handed))))))
-        (coded× config.the_row.coded (coded× (coded_list shape.the_row.coded) (coded× (coded_list publisher.the_row.coded)
-            (coded× (coded_list entry.the_row.coded) (coded× (coded_list entry.the_row.coded)
-            (coded× (coded_list subscription.the_row.coded) (coded_list handed.the_row.coded)))))))
-        (λ w. (w.config, (w.schema, (w.publishers, (w.intake, (w.sequence, (w.subscriptions, w.deliveries)))))))
-        (λ p. record { config = p.0; schema = p.1.0; publishers = p.1.1.0; intake = p.1.1.1.0; sequence = p.1.1.1.1.0; subscriptions = p.1.1.1.1.1.0; deliveries = p.1.1.1.1.1.1 })
-        (λ _. refl)
+    (coded× config.the_row.coded (coded× (coded_list shape.the_row.coded) (coded× (coded_list publisher.the_row.coded)
+    (coded× (coded_list entry.the_row.coded) (coded× (coded_list entry.the_row.coded)
+    (coded× (coded_list subscription.the_row.coded) (coded_list handed.the_row.coded)))))))
+    (λ w. (w.config, (w.schema, (w.publishers, (w.intake, (w.sequence, (w.subscriptions, w.deliveries)))))))
+    (λ p. record { config = p.0; schema = p.1.0; publishers = p.1.1.0; intake = p.1.1.1.0; sequence = p.1.1.1.1.0; subscriptions = p.1.1.1.1.1.0; deliveries = p.1.1.1.1.1.1 })
+    (λ _. refl)

@@ -11,6 +11,8 @@ mod publishing;
 mod reply;
 mod runs;
 mod subscribing;
+#[cfg(test)]
+mod tests;
 mod world;
 
 pub use body::Body;
@@ -18,5 +20,5 @@ pub use config::{Config, ConfigFault};
 pub use event::Event;
 pub use parts::{Entry, Handed, Publisher, Subscription};
 pub use reply::{Refusal, Reply};
-pub use runs::{accepted_numbers_rise, run};
+pub use runs::{accepted_numbers_rise, outcome_is_step, run};
 pub use world::World;

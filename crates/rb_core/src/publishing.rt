@@ -84,7 +84,11 @@ impl World {
         match found.staged.take() {
             None => refused(Refusal::NothingStaged),
             Some(body) => {
-                self.intake.push_back(Entry { publisher, own, body })?;
+                self.intake.push_back(Entry {
+                    publisher,
+                    own,
+                    body,
+                })?;
                 Ok(Reply::Sent(own))
             }
         }
@@ -110,9 +114,8 @@ fn refusal_for(fault: SchemaFault) -> Refusal
     ensures { result ≡ fault_refusal fault }
 {
     match fault {
-        SchemaFault::DuplicateTable(i) | SchemaFault::BadShape(i) | SchemaFault::UnknownTable(i) => {
-            Refusal::UnknownTable(i as u64)
-        }
+        SchemaFault::DuplicateTable(i) | SchemaFault::BadShape(i) | SchemaFault::UnknownTable(i) =>
+            { Refusal::UnknownTable(i as u64) }
         SchemaFault::ShapeDiffers(i) => Refusal::ShapeDiffers(i as u64),
     }
 }

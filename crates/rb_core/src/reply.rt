@@ -19,11 +19,22 @@ pub enum Reply {
     /// Nothing waits to be placed.
     Idle,
     /// The new subscription's number and link.
-    Subscriber { subscription: u64, link: u64 },
+    Subscriber {
+        subscription: u64,
+        link: u64,
+    },
     /// A delivery of the entries `first` to `last`.
-    Delivery { number: u64, subscription: u64, first: u64, last: u64 },
+    Delivery {
+        number: u64,
+        subscription: u64,
+        first: u64,
+        last: u64,
+    },
     /// A subscription has accepted all entries up to this number that it took.
-    Accepted { subscription: u64, cursor: u64 },
+    Accepted {
+        subscription: u64,
+        cursor: u64,
+    },
     /// The stream isn't that of a changeset. It stays as it is.
     Fault(ParseFault),
     /// The event is refused, and the world is as before.

@@ -5,6 +5,8 @@ ghost use Rattle.cs_model.specs.declared.shape.Shape.{Shape};
 ghost use Rattle.rb_core.specs.declared.config.Config.{Config};
 ghost use Rattle.rb_core.specs.declared.event.Event.{Event};
 ghost use Rattle.rb_core.specs.State.{State, empty_world};
+ghost use Rattle.rb_core.specs.Outcome.{outcome};
+ghost use Rattle.rb_core.specs.Step.{Step};
 ghost use Rattle.rb_core.specs.Run.{Answer, Run, accepted_by, RiseAbove};
 
 use crate::config::Config;
@@ -12,6 +14,7 @@ use crate::event::Event;
 use crate::reply::Reply;
 use crate::world::World;
 use cs_model::Schema;
+use cs_parse::reading_is_spelling;
 use std::alloc::{AllocError, Global};
 
 /// Serves events one after another from an empty world, and gives the world and what each was answered: a reply,
@@ -42,3 +45,10 @@ pub fn accepted_numbers_rise()
     ensures { (config : Config) (schema : List Shape) (events : List Event) (answers : List Answer) (new : State) (s : ℕ)
         → Run (empty_world config schema) events answers new → RiseAbove 0 (accepted_by s answers) }
 {}
+
+/// What an event does, as a function, is one of the steps that the relation allows.
+pub fn outcome_is_step()
+    ensures { (old : State) (event : Event) (given : Reply) (new : State) → outcome old event ≡ (given, new) → Step old event given new }
+{
+    reading_is_spelling();
+}

@@ -5,11 +5,13 @@ ghost use Rattle.std.specs.Option.{option_map};
 ghost use Rattle.std.specs.FinMap as map;
 ghost use Rattle.rb_core.specs.State.{empty_world};
 ghost use Rattle.rb_core.specs.Outcome.{outcome};
+ghost use Rattle.rb_core.specs.Step.{Step};
 
 use crate::config::Config;
 use crate::event::Event;
 use crate::parts::{Entry, Handed, Publisher, Subscription};
 use crate::reply::{Refusal, Reply};
+use crate::runs::outcome_is_step;
 use cs_model::{Row, RowKey, Schema};
 use std::alloc::{AllocError, Global};
 use std::collections::VecDeque;
@@ -35,8 +37,13 @@ impl Model for World {
     ghost coded = { world_code };
 
     ghost view = { λ w. record {
-        config = w.config; schema = w.schema; publishers = w.publishers.items; intake = w.intake.items;
-        sequence = w.sequence.items; subscriptions = w.subscriptions.items; deliveries = w.deliveries.items
+      config = w.config;
+      schema = w.schema;
+      publishers = w.publishers.items;
+      intake = w.intake.items;
+      sequence = w.sequence.items;
+      subscriptions = w.subscriptions.items;
+      deliveries = w.deliveries.items;
     } };
 }
 
@@ -60,14 +67,24 @@ impl World {
     /// was; a refusal is a reply, and leaves the world as it was too.
     pub fn step(&mut self, alloc: Global, event: Event) -> Result<Reply, AllocError>
         ensures ok { IfOk result (λ reply. outcome self.old event ≡ (reply, self.new)) }
+        ensures relation { IfOk result (λ reply. Step self.old event reply self.new) }
         ensures err { OnErr result (self.new ≡ self.old) }
     {
         self.serve(alloc, &event)
     }
 
     /// The same for an event that stays with the caller.
-    #[tactic(auto, unfolding(crate::specs::Outcome::outcome))]
     pub fn serve(&mut self, alloc: Global, event: &Event) -> Result<Reply, AllocError>
+        ensures ok { IfOk result (λ reply. outcome self.old event.now ≡ (reply, self.new)) }
+        ensures relation { IfOk result (λ reply. Step self.old event.now reply self.new) }
+        ensures err { OnErr result (self.new ≡ self.old) }
+    {
+        outcome_is_step();
+        self.moved_by(alloc, event)
+    }
+
+    #[tactic(auto, unfolding(crate::specs::Outcome::outcome))]
+    fn moved_by(&mut self, alloc: Global, event: &Event) -> Result<Reply, AllocError>
         ensures ok { IfOk result (λ reply. outcome self.old event.now ≡ (reply, self.new)) }
         ensures err { OnErr result (self.new ≡ self.old) }
     {
@@ -78,7 +95,10 @@ impl World {
             Event::Send { publisher } => self.send(*publisher),
             Event::Turn => self.turn(),
             Event::Subscribe { start } => self.subscribe(alloc, *start),
-            Event::Take { subscription, now: _ } => self.take(*subscription),
+            Event::Take {
+                subscription,
+                now: _,
+            } => self.take(*subscription),
             Event::Accept { delivery } => self.accept(alloc, *delivery),
         }
     }

@@ -50,7 +50,7 @@ Fed-more config place now next bytes b w0 w w' fed said stands =
     let here : Place = after config place bytes in
     let said' : Appends w w' (byte_answer config here b).0 = subst (λ (p : Place). Appends w w' (byte_answer config p b).0) fed.stands said in
     let text : written config place (bytes ++ b ∷ []) ≡ written config place bytes ++ (byte_answer config here b).0 =
-        written-append config place bytes (b ∷ []) ∙ ap (λ (t : List ℕ). written config place bytes ++ t) (written-one config here b) in
+    written-append config place bytes (b ∷ []) ∙ ap (λ (t : List ℕ). written config place bytes ++ t) (written-one config here b) in
     let last : after config place (bytes ++ b ∷ []) ≡ (byte_answer config here b).1 = after-append config place bytes (b ∷ []) ∙ after-one config here b in
     record {
       said = rw text (Appends-trans w0 w w' (written config place bytes) (byte_answer config here b).0 fed.said said');
@@ -65,22 +65,22 @@ Fed-part config place now before rest b w0 w w' fed part =
     let part' : AppendsFront w w' (byte_answer config here b).0 = subst (λ (p : Place). AppendsFront w w' (byte_answer config p b).0) fed.stands part in
     let later : List ℕ = written config (after config here (b ∷ [])) rest in
     let split : written config place (before ++ b ∷ rest) ≡ written config place before ++ ((byte_answer config here b).0 ++ later) =
-        written-append config place before (b ∷ rest) ∙ ap (λ (t : List ℕ). written config place before ++ t) (written-append config here (b ∷ []) rest ∙ ap (λ (t : List ℕ). t ++ later) (written-one config here b)) in
+    written-append config place before (b ∷ rest) ∙ ap (λ (t : List ℕ). written config place before ++ t) (written-append config here (b ∷ []) rest ∙ ap (λ (t : List ℕ). t ++ later) (written-one config here b)) in
     let e : written config place (before ++ b ∷ rest) ≡ (written config place before ++ part'.0) ++ (part'.1 ++ later) =
-        split ∙ ap (λ (t : List ℕ). written config place before ++ (t ++ later)) part'.2 ∙ ap (λ (t : List ℕ). written config place before ++ t) (append_assoc part'.0 part'.1 later) ∙ sym (append_assoc (written config place before) part'.0 (part'.1 ++ later)) in
+    split ∙ ap (λ (t : List ℕ). written config place before ++ (t ++ later)) part'.2 ∙ ap (λ (t : List ℕ). written config place before ++ t) (append_assoc part'.0 part'.1 later) ∙ sym (append_assoc (written config place before) part'.0 (part'.1 ++ later)) in
     (written config place before ++ part'.0, part'.1 ++ later, e, Appends-trans w0 w w' (written config place before) part'.0 fed.said part'.3)
 
 byte_answer-end : (config : Config) (place : Place) (b : ℕ) → b ≡ 10 → byte_answer config place b ≡ ends_line (line_answer config place.stage place.line)
 byte_answer-end config place b is = elim (eqb_tells b 10) as (λ _. byte_answer config place b ≡ ends_line (line_answer config place.stage place.line)) [
-    | inl p ↦ ap (λ (t : Bool). cond t (ends_line (line_answer config place.stage place.line)) ([], record place { line = longer place.line b })) p.0
-    | inr q ↦ absurd (q.1 is)
-  ]
+  | inl p ↦ ap (λ (t : Bool). cond t (ends_line (line_answer config place.stage place.line)) ([], record place { line = longer place.line b })) p.0
+  | inr q ↦ absurd (q.1 is)
+]
 
 byte_answer-other : (config : Config) (place : Place) (b : ℕ) → b ≢ 10 → byte_answer config place b ≡ ([], record place { line = longer place.line b })
 byte_answer-other config place b isnt = elim (eqb_tells b 10) as (λ _. byte_answer config place b ≡ ([], record place { line = longer place.line b })) [
-    | inl p ↦ absurd (isnt p.1)
-    | inr q ↦ ap (λ (t : Bool). cond t (ends_line (line_answer config place.stage place.line)) ([], record place { line = longer place.line b })) q.0
-  ]
+  | inl p ↦ absurd (isnt p.1)
+  | inr q ↦ ap (λ (t : Bool). cond t (ends_line (line_answer config place.stage place.line)) ([], record place { line = longer place.line b })) q.0
+]
 
 -- a line's end comes, and the line is answered
 pub Fed-line : (config : Config) (place : Place) (stage next : Stage) (line bytes : List ℕ) (b : ℕ) (w0 w w' : Option (List ℕ)) → Fed config place bytes w0 w (place_at stage line) → b ≡ 10
@@ -88,8 +88,8 @@ pub Fed-line : (config : Config) (place : Place) (stage next : Stage) (line byte
 Fed-line config place stage next line bytes b w0 w w' fed is said stands =
     let e : byte_answer config (place_at stage line) b ≡ ends_line (line_answer config stage line) = byte_answer-end config (place_at stage line) b is in
     Fed-more config place (place_at stage line) (place_at next []) bytes b w0 w w' fed
-        (subst (λ (g : List ℕ × Place). Appends w w' g.0) (sym e) said)
-        (ap (λ (s : Stage). place_at s []) stands ∙ ap (λ (g : List ℕ × Place). g.1) (sym e))
+    (subst (λ (g : List ℕ × Place). Appends w w' g.0) (sym e) said)
+    (ap (λ (s : Stage). place_at s []) stands ∙ ap (λ (g : List ℕ × Place). g.1) (sym e))
 
 -- another byte comes
 pub Fed-byte : (config : Config) (place : Place) (stage : Stage) (line longer_line bytes : List ℕ) (b : ℕ) (w0 w : Option (List ℕ)) → Fed config place bytes w0 w (place_at stage line) → b ≢ 10
@@ -97,8 +97,8 @@ pub Fed-byte : (config : Config) (place : Place) (stage : Stage) (line longer_li
 Fed-byte config place stage line longer_line bytes b w0 w fed isnt grown =
     let e : byte_answer config (place_at stage line) b ≡ ([], place_at stage (longer line b)) = byte_answer-other config (place_at stage line) b isnt in
     Fed-more config place (place_at stage line) (place_at stage longer_line) bytes b w0 w w fed
-        (subst (λ (g : List ℕ × Place). Appends w w g.0) (sym e) (Appends-none w))
-        (ap (λ (l : List ℕ). place_at stage l) grown ∙ ap (λ (g : List ℕ × Place). g.1) (sym e))
+    (subst (λ (g : List ℕ × Place). Appends w w g.0) (sym e) (Appends-none w))
+    (ap (λ (l : List ℕ). place_at stage l) grown ∙ ap (λ (g : List ℕ × Place). g.1) (sym e))
 
 -- the answer to a line is written in part
 pub Fed-line_part : (config : Config) (place : Place) (stage : Stage) (line before rest : List ℕ) (b : ℕ) (w0 w w' : Option (List ℕ)) → Fed config place before w0 w (place_at stage line) → b ≡ 10
@@ -132,7 +132,7 @@ pub line_stops : (config : Config) (place : Place) (bytes : List ℕ) (i : ℕ) 
     → Fed config place (take i bytes) w0 w (place_at stage line) → get_or bytes i 0 ≡ 10 → AppendsFront w w' (line_answer config stage line).0 → AppendsFront w0 w' (written config place bytes)
 line_stops config place bytes i stage line w0 w w' lt fed is part =
     subst (λ (t : List ℕ). AppendsFront w0 w' (written config place t)) (split_at_byte bytes i lt)
-        (Fed-line_part config place stage line (take i bytes) (drop (suc i) bytes) (get_or bytes i 0) w0 w w' fed is part)
+    (Fed-line_part config place stage line (take i bytes) (drop (suc i) bytes) (get_or bytes i 0) w0 w w' fed is part)
 
 pub byte_stops : (config : Config) (place now : Place) (bytes : List ℕ) (i : ℕ) (w0 w : Option (List ℕ)) → Fed config place (take i bytes) w0 w now → AppendsFront w0 w (written config place bytes)
 byte_stops config place now bytes i w0 w fed =
@@ -184,10 +184,12 @@ stops_feeding config r0 r r' w0 w w' now count piece more so_far read part =
     let all : List ℕ = input ++ (piece ++ more) in
     let later : List ℕ = written config (after config here piece) more ++ last_answer config (after config opening all) in
     let e : answers config all ≡ (written config opening input ++ part'.0) ++ (part'.1 ++ later) =
-        ap (λ (t : List ℕ). t ++ last_answer config (after config opening all)) (written-append config opening input (piece ++ more) ∙ ap (λ (t : List ℕ). written config opening input ++ t) (written-append config here piece more ∙ ap (λ (t : List ℕ). t ++ written config (after config here piece) more) part'.2))
-        ∙ simp append_assoc refl in
-    (all, Consumes-trans r0 r r' input (piece ++ more) so_far.read read,
-      (written config opening input ++ part'.0, part'.1 ++ later, e, Appends-trans w0 w w' (written config opening input) part'.0 so_far.fed.said part'.3))
+    ap (λ (t : List ℕ). t ++ last_answer config (after config opening all)) (written-append config opening input (piece ++ more) ∙ ap (λ (t : List ℕ). written config opening input ++ t) (written-append config here piece more ∙ ap (λ (t : List ℕ). t ++ written config (after config here piece) more) part'.2))
+    ∙ simp append_assoc refl in (
+      all,
+      Consumes-trans r0 r r' input (piece ++ more) so_far.read read,
+      (written config opening input ++ part'.0, part'.1 ++ later, e, Appends-trans w0 w w' (written config opening input) part'.0 so_far.fed.said part'.3),
+    )
 
 pub stops_at_end : (config : Config) (r0 r r' w0 w w' : Option (List ℕ)) (stage : Stage) (line : List ℕ) (count : ℕ) → Progress config r0 r w0 w (place_at stage line) count
     → Consumes r r' [] → AppendsFront w w' (line_answer config stage line).0 → Stopped config r0 r' w0 w'
@@ -195,18 +197,24 @@ stops_at_end config r0 r r' w0 w w' stage line count so_far read part =
     let input : List ℕ = so_far.input in
     let part' : AppendsFront w w' (last_answer config (after config opening input)) = subst (λ (p : Place). AppendsFront w w' (last_answer config p)) so_far.fed.stands part in
     let e : answers config input ≡ (written config opening input ++ part'.0) ++ part'.1 =
-        ap (λ (t : List ℕ). written config opening input ++ t) part'.2 ∙ sym (append_assoc (written config opening input) part'.0 part'.1) in
-    (input, subst (λ (t : List ℕ). Consumes r0 r' t) (append-nil input) (Consumes-trans r0 r r' input [] so_far.read read),
-      (written config opening input ++ part'.0, part'.1, e, Appends-trans w0 w w' (written config opening input) part'.0 so_far.fed.said part'.3))
+    ap (λ (t : List ℕ). written config opening input ++ t) part'.2 ∙ sym (append_assoc (written config opening input) part'.0 part'.1) in (
+      input,
+      subst (λ (t : List ℕ). Consumes r0 r' t) (append-nil input) (Consumes-trans r0 r r' input [] so_far.read read),
+      (written config opening input ++ part'.0, part'.1, e, Appends-trans w0 w w' (written config opening input) part'.0 so_far.fed.said part'.3),
+    )
 
 pub ends : (config : Config) (r0 r r' w0 w w' : Option (List ℕ)) (stage : Stage) (line : List ℕ) (count : ℕ) → Progress config r0 r w0 w (place_at stage line) count
     → Consumes r r' [] → IsAtEnd r' → count ≤ 16777216 → Appends w w' (line_answer config stage line).0
     → (input : List ℕ) × Consumes r0 r' input × IsAtEnd r' × (length input ≤ 16777216) × Appends w0 w' (answers config input)
 ends config r0 r r' w0 w w' stage line count so_far read end within said =
     let input : List ℕ = so_far.input in
-    let said' : Appends w w' (last_answer config (after config opening input)) = subst (λ (p : Place). Appends w w' (last_answer config p)) so_far.fed.stands said in
-    (input, subst (λ (t : List ℕ). Consumes r0 r' t) (append-nil input) (Consumes-trans r0 r r' input [] so_far.read read), end,
-      omega (arith, so_far.counted), Appends-trans w0 w w' (written config opening input) (last_answer config (after config opening input)) so_far.fed.said said')
+    let said' : Appends w w' (last_answer config (after config opening input)) = subst (λ (p : Place). Appends w w' (last_answer config p)) so_far.fed.stands said in (
+      input,
+      subst (λ (t : List ℕ). Consumes r0 r' t) (append-nil input) (Consumes-trans r0 r r' input [] so_far.read read),
+      end,
+      omega (arith, so_far.counted),
+      Appends-trans w0 w w' (written config opening input) (last_answer config (after config opening input)) so_far.fed.said said',
+    )
 
 pub passes_limit : (config : Config) (r0 r r' w0 w w' : Option (List ℕ)) (now : Place) (count : ℕ) (piece more : List ℕ) → Progress config r0 r w0 w now count
     → Consumes r r' (piece ++ more) → Appends w w' (written config now piece) → count + length piece ≡ 16777216 → 0 < length more
@@ -217,10 +225,12 @@ passes_limit config r0 r r' w0 w w' now count piece more so_far read said full p
     let said' : Appends w w' (written config here piece) = subst (λ (p : Place). Appends w w' (written config p piece)) so_far.fed.stands said in
     let all : List ℕ = (input ++ piece) ++ more in
     let len : length (input ++ piece) ≡ 16777216 = length-append input piece ∙ ap (λ (n : ℕ). n + length piece) so_far.counted ∙ full in
-    let cut : take 16777216 all ≡ input ++ piece = ap (λ (n : ℕ). take n all) (sym len) ∙ take-append_seam (input ++ piece) more in
-    (all, rw (append_assoc input piece more) (Consumes-trans r0 r r' input (piece ++ more) so_far.read read),
+    let cut : take 16777216 all ≡ input ++ piece = ap (λ (n : ℕ). take n all) (sym len) ∙ take-append_seam (input ++ piece) more in (
+      all,
+      rw (append_assoc input piece more) (Consumes-trans r0 r r' input (piece ++ more) so_far.read read),
       omega (arith, length-append (input ++ piece) more, len),
-      rw (cut, written-append config opening input piece) (Appends-trans w0 w w' (written config opening input) (written config here piece) so_far.fed.said said'))
+      rw (cut, written-append config opening input piece) (Appends-trans w0 w w' (written config opening input) (written config here piece) so_far.fed.said said'),
+    )
 
 -- ---- the turns of the loop over the pieces
 

@@ -17,10 +17,9 @@ use fault::ScriptFault;
 use rb_core::Config;
 use script::run_script;
 use std::alloc::Global;
-use std::env;
-use std::io;
 use std::io::{BufWriter, Write};
 use std::process::ExitCode;
+use std::{env, io};
 
 fn main(rt: HostRuntime) -> ExitCode {
     let words = match words_of(&rt) {
@@ -78,3 +77,6 @@ fn stopped(rt: &HostRuntime, fault: ScriptFault) -> ExitCode {
     let _ = eprintln!(rt; "rb_run: {fault}");
     ExitCode::FAILURE
 }
+
+#[cfg(test)]
+mod tests;

@@ -86,13 +86,19 @@ fn with_two(alloc: Global, name: &[u8], n: u64, word: &[u8]) -> Result<Option<Fo
     if is(name, b"feed") {
         return match octets(alloc, word)? {
             None => Ok(None),
-            Some(bytes) => Ok(Some(Form::Happens(Event::Feed { publisher: n, bytes }))),
+            Some(bytes) => Ok(Some(Form::Happens(Event::Feed {
+                publisher: n,
+                bytes,
+            }))),
         };
     }
     if is(name, b"take") {
         return match number(word) {
             None => Ok(None),
-            Some(now) => Ok(Some(Form::Happens(Event::Take { subscription: n, now }))),
+            Some(now) => Ok(Some(Form::Happens(Event::Take {
+                subscription: n,
+                now,
+            }))),
         };
     }
     Ok(None)

@@ -56,7 +56,14 @@ pub fn run_script<R: Read, W: Write>(
             return Ok(());
         }
         if MOST_OF_SCRIPT - count < read {
-            feed(alloc, config, stage, line, &piece[..MOST_OF_SCRIPT - count], writer)?;
+            feed(
+                alloc,
+                config,
+                stage,
+                line,
+                &piece[..MOST_OF_SCRIPT - count],
+                writer,
+            )?;
             return Err(ScriptFault::Endless);
         }
         let next = feed(alloc, config, stage, line, &piece[..read], writer)?;

@@ -41,13 +41,13 @@ returns-then-count-read-clause-endless g c = λ _.
     let k = 16777216 - c.loop.count in
     let cut = cut_piece k c.in_ok-read.read c.read_piece.new.piece (omega (arith, past)) in
     passes_limit c.args.config _ _ _ _ _ _ (place_at c.loop.stage c.loop.line.items) c.loop.count _ _ c.loop.invariant.so_far (rw cut at c.in_ok-read.ensures.bytes) c.in_ok-feed.ensures.ok.0
-        (omega (arith, within, length-front k c.read_piece.new.piece (omega (arith, past, bound))))
-        (length-back k c.in_ok-read.read c.read_piece.new.piece past bound)
+    (omega (arith, within, length-front k c.read_piece.new.piece (omega (arith, past, bound))))
+    (length-back k c.in_ok-read.read c.read_piece.new.piece past bound)
 
 pub returns-in_err-next-clause-stopped : goal.returns-in_err-next-clause-stopped
 returns-in_err-next-clause-stopped g c =
     on_err _ _ (stops_feeding c.args.config _ _ _ _ _ _ (place_at c.loop.stage c.loop.line.items) c.loop.count (take c.in_ok-read.read c.read_piece.new.piece) [] c.loop.invariant.so_far
-        (rw (append-nil (take c.in_ok-read.read c.read_piece.new.piece)) c.in_ok-read.ensures.bytes) c.in_err-next.ensures.err)
+    (rw (append-nil (take c.in_ok-read.read c.read_piece.new.piece)) c.in_ok-read.ensures.bytes) c.in_err-next.ensures.err)
 
 pub loop-preserved : goal.loop-preserved
 loop-preserved g c =

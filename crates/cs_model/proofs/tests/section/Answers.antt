@@ -1,0 +1,29 @@
+use Rattle.std.proofs.Common.{◌≡◌, ℕ, ◌<◌, true, List, ◌∷◌, [], sym, ap, subst, refl, arith}
+use Rattle.std.specs.Prelude.{nat_lt, ◌&&◌}
+use Rattle.std.specs.List.{AllByRecursion}
+use Rattle.std.proofs.lemmas.Bool.Decides.{nat_tests}
+use Rattle.cs_model.specs.declared.shape.Shape.{Shape}
+use Rattle.cs_model.specs.declared.change.Change.{Change}
+use Rattle.cs_model.specs.Changeset.{AreRecords, IsShape}
+use Rattle.cs_model.proofs.tests.section.Goals as goal
+
+positive : (n : ℕ) → 0 < n → nat_lt 0 n ≡ true
+positive n lt = grind (arith, nat_tests)
+
+fits : (shape : Shape) (name second : ℕ) → shape.name ≡ name ∷ [] → shape.flags ≡ 1 ∷ second ∷ [] → 0 < name → IsShape shape
+fits shape name second is_name is_flags lt = record {
+  columns = rw is_flags (omega arith);
+  not_more_columns = rw is_flags (omega arith);
+  key = rw is_flags refl;
+  named = rw is_name (omega arith);
+  not_longer = rw is_name (omega arith);
+  no_zero = rw is_name (ap (λ b. b && true) (positive name lt));
+}
+
+pub returns : goal.returns
+returns c =
+    let shape = c.in_ok-shape.ensures in
+    rw c.from_vec.ensures (
+      fits c.in_ok-shape.field-0 c.args.name c.args.second shape.name shape.flags c.requires.named,
+      subst (λ (flags : List ℕ). AllByRecursion (λ (x : Change). AreRecords flags x.op x.before x.after) c.args.changes.items) (sym shape.flags) c.requires.fit,
+    )

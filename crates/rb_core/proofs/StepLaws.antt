@@ -1,0 +1,186 @@
+-- What an event does is one of the steps that the relation allows.
+use Rattle.std.proofs.Common.{◌≡◌, ℕ, zero, suc, ◌+◌, ◌<◌, ◌≤◌, Bool, true, false, cond, ltb, leb, List, [], ◌∷◌, ◌++◌, length, get_or, Option, Some, None, Result, Ok, Err, refl, sym, ap, subst, ◌∙◌, arith, set}
+use Rattle.std.specs.Prelude.{slice_get, MatchOption, MatchResult, ◌↔◌, IfOk}
+use Rattle.std.proofs.lemmas.Bool.{ltb-true, ltb-false, leb-true, leb-false}
+use Rattle.cs_model.specs.declared.change.Section.{Section}
+use Rattle.cs_model.specs.declared.schema.SchemaFault.{SchemaFault}
+use Rattle.cs_model.specs.Changeset.{AreInserts}
+use Rattle.cs_model.specs.Schema.{refusal_of}
+use Rattle.cs_model.specs.Text.{Spells}
+use Rattle.cs_parse.specs.declared.fault.ParseFault.{ParseFault}
+use Rattle.cs_parse.specs.Reading.{answer_of}
+use Rattle.cs_apply.specs.declared.conflict.Conflict.{Conflict}
+use Rattle.cs_apply.specs.State as tables
+use Rattle.cs_apply.specs.Single.{single}
+use Rattle.rb_core.specs.declared.event.Event.{Event}
+use Rattle.rb_core.specs.declared.event.Event.TheVariants as event
+use Rattle.rb_core.specs.declared.reply.Reply.{Reply}
+use Rattle.rb_core.specs.declared.reply.Reply.TheVariants as reply
+use Rattle.rb_core.specs.declared.reply.Refusal.{Refusal}
+use Rattle.rb_core.specs.declared.reply.Refusal.TheVariants as refusal
+use Rattle.rb_core.specs.declared.parts.Publisher.{Publisher}
+use Rattle.rb_core.specs.declared.parts.Entry.{Entry}
+use Rattle.rb_core.specs.declared.parts.Subscription.{Subscription}
+use Rattle.rb_core.specs.declared.parts.Handed.{Handed}
+use Rattle.rb_core.specs.State.{State}
+use Rattle.rb_core.specs.Outcome.{outcome, fed, ended, parsed, admitted, sent, staged_of, turned, taken, numbered, delivered, reached, opened, accepted, subscribe_outcome, fault_refusal, with_publisher, with_subscription, with_accepted}
+use Rattle.rb_core.specs.Step.{Refuses, Stages, Reads, SubscribeStep, Applies, Step}
+use Rattle.rb_core.specs.Run.{Answer}
+
+-- a relation between a reply and a world, of an outcome
+abbrev Of : (Reply → State → Type 0) → Reply × State → Type 0
+Of R x = R x.0 x.1
+
+-- what is read is what is spelled
+abbrev pub ReadingIsSpelling : Type 0
+ReadingIsSpelling = (text : List ℕ) (changeset : List Section) → ((i : ℕ) → get_or text i 0 < 256) → (answer_of text ≡ Ok changeset) ↔ (Spells text changeset × AreInserts changeset)
+
+step_if : (R : Reply → State → Type 0) (b : Bool) (x y : Reply × State) → (b ≡ true → Of R x) → (b ≡ false → Of R y) → Of R (cond b x y)
+step_if R true x y left right = left refl
+step_if R false x y left right = right refl
+
+-- a thing put where it stands already
+set-found : (xs : List Subscription) (i : ℕ) (x : Subscription) → slice_get xs i ≡ Some x → set xs i x ≡ xs
+set-found [] i x found = absurd cc
+set-found (y ∷ xs) zero x found = let e : y ≡ x = cc in ap (λ (z : Subscription). z ∷ xs) (sym e)
+set-found (y ∷ xs) (suc i) x found = ap (λ (zs : List Subscription). y ∷ zs) (set-found xs i x found)
+
+step_feed : (old : State) (p : ℕ) (bytes : List ℕ) (o : Option Publisher)
+    → Of (λ given new. MatchOption o (Refuses old refusal.NoPublisher given new)
+    (λ q. (given ≡ reply.Fed) × (new ≡ with_publisher old p (record q { stream = q.stream ++ bytes })))) (fed old p bytes o)
+step_feed old p bytes None = (refl, refl)
+step_feed old p bytes (Some q) = (refl, refl)
+
+step_admitted : (old : State) (p : ℕ) (q : Publisher) (changeset : List Section) (o : Option SchemaFault)
+    → Of (λ given new. MatchOption o ((given ≡ reply.Staged) × (new ≡ with_publisher old p (record q { stream = []; staged = Some changeset })))
+    (λ fault. Refuses old (fault_refusal fault) given new)) (admitted old p q changeset o)
+step_admitted old p q changeset None = (refl, refl)
+step_admitted old p q changeset (Some fault) = (refl, refl)
+
+step_reads : (old : State) (p : ℕ) (q : Publisher) (r : Result (List Section) ParseFault) → answer_of q.stream ≡ r → ReadingIsSpelling → Of (Reads old p q) (parsed old p q r)
+step_reads old p q (Ok c) found reading = λ fits. (
+  λ d spells inserts.
+      let e : Ok c ≡ Ok d = sym found ∙ (reading q.stream d fits).1 (spells, inserts) in
+      let same : c ≡ d = cc in
+      subst (λ (x : List Section). Of (Stages old p q x) (parsed old p q (Ok c))) same (step_admitted old p q c (refusal_of old.schema c)),
+  λ none. let read = (reading q.stream c fits).0 found in absurd (none c read.0 read.1),
+)
+step_reads old p q (Err fault) found reading = λ fits. (
+  λ d spells inserts. let e : Err fault ≡ Ok d = sym found ∙ (reading q.stream d fits).1 (spells, inserts) in absurd cc,
+  λ none. (fault, refl, refl),
+)
+
+step_held : (old : State) (p : ℕ) (q : Publisher) (staged : Option (List Section)) → ReadingIsSpelling
+    → Of (λ given new. MatchOption staged (Reads old p q given new) (λ _. Refuses old refusal.Holding given new)) (ended old p (Some q) staged)
+step_held old p q None reading = step_reads old p q (answer_of q.stream) refl reading
+step_held old p q (Some c) reading = (refl, refl)
+
+step_end : (old : State) (p : ℕ) (o : Option Publisher) → ReadingIsSpelling
+    → Of (λ given new. MatchOption o (Refuses old refusal.NoPublisher given new)
+    (λ q. MatchOption q.staged (Reads old p q given new) (λ _. Refuses old refusal.Holding given new))) (ended old p o (staged_of o))
+step_end old p None reading = (refl, refl)
+step_end old p (Some q) reading = step_held old p q q.staged reading
+
+-- what sending does where a publisher is found
+abbrev Sends : State → ℕ → Publisher → Option (List Section) → Reply → State → Type 0
+Sends old p q staged given new = MatchOption staged
+    (Refuses old refusal.NothingStaged given new)
+    (λ changeset. (given ≡ reply.Sent (q.sent + 1))
+    × (new ≡ record (with_publisher old p (record q { staged = None; sent = q.sent + 1 }))
+    { intake = old.intake ++ record { publisher = p; own = q.sent + 1; body = changeset } ∷ [] }))
+
+step_sent : (old : State) (p : ℕ) (q : Publisher) (staged : Option (List Section)) → Of (Sends old p q staged) (sent old p (Some q) staged)
+step_sent old p q None = (refl, refl)
+step_sent old p q (Some c) = (refl, refl)
+
+step_send : (old : State) (p : ℕ) (o : Option Publisher)
+    → Of (λ given new. MatchOption o (Refuses old refusal.NoPublisher given new) (λ q. Sends old p q q.staged given new)) (sent old p o (staged_of o))
+step_send old p None = (refl, refl)
+step_send old p (Some q) = step_sent old p q q.staged
+
+step_turn : (old : State) (waiting : List Entry)
+    → Of (λ given new. MatchOption (slice_get waiting 0) ((given ≡ reply.Idle) × (new ≡ old))
+    (λ entry. (given ≡ reply.Placed (length old.sequence + 1)) × (waiting ≡ entry ∷ new.intake)
+    × (new ≡ record old { intake = new.intake; sequence = old.sequence ++ entry ∷ [] }))) (turned old waiting)
+step_turn old [] = (refl, refl)
+step_turn old (entry ∷ rest) = (refl, refl, refl)
+
+step_subscribe : (old : State) (start : ℕ) → Of (SubscribeStep old start) (subscribe_outcome old start)
+step_subscribe old start =
+    step_if (SubscribeStep old start) (ltb (length old.sequence) start) _ _
+    (λ e. (λ _. (refl, refl), λ le. let lt = ltb-true (length old.sequence) start e in absurd (omega arith)))
+    (λ e. (λ lt. let le = ltb-false (length old.sequence) start e in absurd (omega arith), λ _. (refl, refl)))
+
+-- what taking does where a subscription is found
+abbrev Takes : State → ℕ → Subscription → Reply → State → Type 0
+Takes old s q given new =
+    (length old.sequence ≤ q.handed → Refuses old (refusal.Empty (length old.sequence)) given new)
+    × (q.handed < length old.sequence →
+    (given ≡ reply.Delivery (length old.deliveries + 1) s (q.handed + 1) (q.handed + 1))
+    × (new ≡ record (with_subscription old s (record q { handed = q.handed + 1 }))
+    { deliveries = old.deliveries ++ record { subscription = s; first = q.handed + 1; last = q.handed + 1 } ∷ [] }))
+
+step_take : (old : State) (s : ℕ) (o : Option Subscription)
+    → Of (λ given new. MatchOption o (Refuses old refusal.NoSuch given new) (λ q. Takes old s q given new)) (taken old s o)
+step_take old s None = (refl, refl)
+step_take old s (Some q) =
+    step_if (Takes old s q) (ltb q.handed (length old.sequence)) _ _
+    (λ e. (λ le. let lt = ltb-true q.handed (length old.sequence) e in absurd (omega arith), λ _. (refl, refl)))
+    (λ e. (λ _. (refl, refl), λ lt. let le = ltb-false q.handed (length old.sequence) e in absurd (omega arith)))
+
+-- what applying does where an entry is found
+abbrev Becomes : State → Handed → Subscription → Result tables.State Conflict → Reply → State → Type 0
+Becomes old handed q r given new = MatchResult r
+    (λ t. (given ≡ reply.Accepted handed.subscription handed.last)
+    × (new ≡ with_subscription old handed.subscription (record q { cursor = handed.last; tables = t })))
+    (λ conflict. Refuses old (refusal.Conflict conflict) given new)
+
+step_accepted : (old : State) (handed : Handed) (q : Subscription) (r : Result tables.State Conflict) → slice_get old.subscriptions handed.subscription ≡ Some q
+    → Of (Becomes old handed q r) (with_accepted old handed.subscription (accepted handed q r))
+step_accepted old handed q (Ok t) found = (refl, refl)
+step_accepted old handed q (Err conflict) found =
+    (refl, ap (λ (xs : List Subscription). record old { subscriptions = xs }) (set-found old.subscriptions handed.subscription q found))
+
+step_opened : (old : State) (handed : Handed) (q : Subscription) (o : Option Entry) → slice_get old.subscriptions handed.subscription ≡ Some q
+    → Of (λ given new. MatchOption o (Refuses old refusal.NoDelivery given new) (λ entry. Becomes old handed q (single q.tables entry.body) given new)) (opened old handed q o)
+step_opened old handed q None found = (refl, refl)
+step_opened old handed q (Some entry) found = step_accepted old handed q (single q.tables entry.body) found
+
+-- what accepting does where a delivery's subscription is found
+abbrev Accepts : State → Handed → Subscription → Reply → State → Type 0
+Accepts old handed q given new =
+    (handed.last ≤ q.cursor → Refuses old refusal.Seen given new) × (q.cursor < handed.last → Applies old handed q given new)
+
+step_reached : (old : State) (handed : Handed) (o : Option Subscription) → slice_get old.subscriptions handed.subscription ≡ o
+    → Of (λ given new. MatchOption o (Refuses old refusal.NoDelivery given new) (λ q. Accepts old handed q given new)) (reached old handed o)
+step_reached old handed None found = (refl, refl)
+step_reached old handed (Some q) found =
+    step_if (Accepts old handed q) (leb handed.last q.cursor) _ _
+    (λ e. (λ _. (refl, refl), λ lt. let le = leb-true handed.last q.cursor e in absurd (omega arith)))
+    (λ e. (
+      λ le. let lt = leb-false handed.last q.cursor e in absurd (omega arith),
+      λ _. step_opened old handed q (numbered old.sequence handed.last) found,
+    ))
+
+step_delivered : (old : State) (o : Option Handed)
+    → Of (λ given new. MatchOption o (Refuses old refusal.NoDelivery given new)
+    (λ handed. MatchOption (slice_get old.subscriptions handed.subscription) (Refuses old refusal.NoDelivery given new) (λ q. Accepts old handed q given new))) (delivered old o)
+step_delivered old None = (refl, refl)
+step_delivered old (Some handed) = step_reached old handed (slice_get old.subscriptions handed.subscription) refl
+
+pub outcome_steps : ReadingIsSpelling → (old : State) (e : Event) → Step old e (outcome old e).0 (outcome old e).1
+unfolding outcome
+outcome_steps reading old event.Publisher = (refl, refl)
+outcome_steps reading old (event.Feed p bytes) = step_feed old p bytes (slice_get old.publishers p)
+outcome_steps reading old (event.End p) = step_end old p (slice_get old.publishers p) reading
+outcome_steps reading old (event.Send p) = step_send old p (slice_get old.publishers p)
+outcome_steps reading old event.Turn = step_turn old old.intake
+outcome_steps reading old (event.Subscribe start) = step_subscribe old start
+outcome_steps reading old (event.Take s now) = step_take old s (slice_get old.subscriptions s)
+outcome_steps reading old (event.Accept d) = step_delivered old (numbered old.deliveries d)
+
+-- where the outcome is answered, the relation holds
+pub Step-from : ((old : State) (e : Event) (given : Reply) (new : State) → outcome old e ≡ (given, new) → Step old e given new)
+    → (old new : State) (e : Event) (answer : Answer) → IfOk answer (λ given. outcome old e ≡ (given, new)) → IfOk answer (λ given. Step old e given new)
+Step-from law old new e (Ok given) ok = law old e given new ok
+Step-from law old new e (Err none) ok = tt

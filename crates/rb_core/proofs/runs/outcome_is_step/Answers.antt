@@ -1,0 +1,9 @@
+use Rattle.std.proofs.Common.{subst}
+use Rattle.rb_core.specs.declared.reply.Reply.{Reply}
+use Rattle.rb_core.specs.State.{State}
+use Rattle.rb_core.specs.Step.{Step}
+use Rattle.rb_core.proofs.StepLaws.{outcome_steps}
+use Rattle.rb_core.proofs.runs.outcome_is_step.Goals as goal
+
+pub returns : goal.returns
+returns c = λ old event given new e. subst (λ (x : Reply × State). Step old event x.0 x.1) e (outcome_steps c.reading_is_spelling.ensures old event)
