@@ -1,3 +1,4 @@
 pub mod Numbers
 pub mod StreamLaws
 pub mod ScriptLaws
+pub mod LineLaws

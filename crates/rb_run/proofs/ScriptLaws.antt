@@ -70,13 +70,13 @@ Fed-part config place now before rest b w0 w w' fed part =
     split ∙ ap (λ (t : List ℕ). written config place before ++ (t ++ later)) part'.2 ∙ ap (λ (t : List ℕ). written config place before ++ t) (append_assoc part'.0 part'.1 later) ∙ sym (append_assoc (written config place before) part'.0 (part'.1 ++ later)) in
     (written config place before ++ part'.0, part'.1 ++ later, e, Appends-trans w0 w w' (written config place before) part'.0 fed.said part'.3)
 
-byte_answer-end : (config : Config) (place : Place) (b : ℕ) → b ≡ 10 → byte_answer config place b ≡ ends_line (line_answer config place.stage place.line)
+pub byte_answer-end : (config : Config) (place : Place) (b : ℕ) → b ≡ 10 → byte_answer config place b ≡ ends_line (line_answer config place.stage place.line)
 byte_answer-end config place b is = elim (eqb_tells b 10) as (λ _. byte_answer config place b ≡ ends_line (line_answer config place.stage place.line)) [
   | inl p ↦ ap (λ (t : Bool). cond t (ends_line (line_answer config place.stage place.line)) ([], record place { line = longer place.line b })) p.0
   | inr q ↦ absurd (q.1 is)
 ]
 
-byte_answer-other : (config : Config) (place : Place) (b : ℕ) → b ≢ 10 → byte_answer config place b ≡ ([], record place { line = longer place.line b })
+pub byte_answer-other : (config : Config) (place : Place) (b : ℕ) → b ≢ 10 → byte_answer config place b ≡ ([], record place { line = longer place.line b })
 byte_answer-other config place b isnt = elim (eqb_tells b 10) as (λ _. byte_answer config place b ≡ ([], record place { line = longer place.line b })) [
   | inl p ↦ absurd (isnt p.1)
   | inr q ↦ ap (λ (t : Bool). cond t (ends_line (line_answer config place.stage place.line)) ([], record place { line = longer place.line b })) q.0

@@ -4,3 +4,4 @@ pub mod Texts
 pub mod Lines
 pub mod Output
 pub mod Streams
+pub mod Script

@@ -5,6 +5,7 @@
 mod command;
 mod fault;
 mod forms;
+mod laws;
 mod lines;
 mod reading;
 mod script;
