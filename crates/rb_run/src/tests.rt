@@ -1,4 +1,4 @@
-//! Scripts and what they are answered. The expected answers are worked out by hand from the rules of lines.
+//! Scripts and what they are answered. The expected answers come from outside the program.
 
 use crate::fault::ScriptFault;
 use crate::script::run_script;
