@@ -1,12 +1,12 @@
 -- Row keys: one order, and entries looked up by it.
-use Rattle.std.proofs.Common.{◌≡◌, ℕ, Bool, cond, List, [], ◌∷◌, Some, refl, ap, ◌∙◌, arith}
+use Rattle.std.proofs.Common.{◌≡◌, ℕ, Bool, true, cond, List, [], ◌∷◌, Some, refl, ap, subst, ◌∙◌, arith}
 use Rattle.std.proofs.lemmas.Bool.Decides.{nat_tests}
 use Rattle.std.proofs.lemmas.Map.Text.{is_eq-slice_cmp}
 use Rattle.std.specs.declared.cmp.Ordering.{Ordering}
 use Rattle.std.specs.declared.cmp.Ordering.TheVariants.{Less, Equal, Greater}
 use Rattle.std.specs.Prelude.{◌&&◌, nat_eq}
 use Rattle.std.specs.Ordering.{nat_cmp, ordering_then, eq_by_cmp, is_eq}
-use Rattle.std.specs.Cmp.{IsTotalOrder, nat_cmp_total, on_total, then_total}
+use Rattle.std.specs.Cmp.{IsTotalOrder, IsEquivalence, eq_by_cmp_equiv, Equal-is, nat_cmp_total, on_total, then_total}
 use Rattle.std.specs.Cmp.Lexicographic.{pointwise, slice_cmp, nat_list_cmp_total}
 use Rattle.std.specs.FinMap as map
 use Rattle.std.specs.FinMap.{find, IsAntisymmetric}
@@ -45,3 +45,9 @@ find_key (e ∷ es) q = (λ i. cond (tied q e.0 i) (Some e.1) (find_key es q i))
 -- what the map that the entries make has at a key
 pub get_key : {X : Type 0} (es : List (RowKey × X)) (q : RowKey) → map.get (map.from_entries {R = row_key_cmp} es) q ≡ lookup (same_key q) es
 get_key es q = map.get-from_entries keys_total es q ∙ find_key es q
+
+pub laws : IsEquivalence same_key
+laws = subst IsEquivalence (λ i a b. tied a b i) (eq_by_cmp_equiv keys_total)
+
+pub exact : (a b : RowKey) → same_key a b ≡ true → a ≡ b
+exact a b e = exact_keys a b ((Equal-is (row_key_cmp a b)).0 (tied a b ∙ e))

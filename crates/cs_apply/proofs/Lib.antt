@@ -1,4 +1,6 @@
 pub mod Keys
-pub mod Puts
-pub mod Sections
+pub mod Columns
+pub mod Filled
+pub mod Log
 pub mod Orders
+pub mod Sections

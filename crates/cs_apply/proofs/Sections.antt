@@ -1,7 +1,6 @@
 -- Changes one more at a time, and sections one more at a time.
-use Rattle.std.proofs.Common.{◌≡◌, ℕ, suc, ◌+◌, ◌<◌, ◌≤◌, Bool, List, [], ◌∷◌, ◌++◌, length, map, take, drop, get_or, Option, Some, None, Result, Ok, Err, refl, sym, ap, ◌∙◌, add-one, arith, drop-cons, length-append}
+use Rattle.std.proofs.Common.{◌≡◌, ℕ, suc, ◌+◌, ◌<◌, ◌≤◌, Bool, List, [], ◌∷◌, ◌++◌, length, map, drop, get_or, Option, Some, None, Result, Ok, Err, refl, sym, ap, ◌∙◌, add-one, arith, drop-cons}
 use Rattle.std.proofs.Math.ListN.{drop_of_length-le}
-use Rattle.std.proofs.lemmas.List.{take-append-le, take-append-drop}
 use Rattle.cs_model.specs.declared.shape.Shape.{Shape}
 use Rattle.cs_model.specs.declared.change.Change.{Change}
 use Rattle.cs_model.specs.declared.change.Section.{Section}
@@ -14,14 +13,7 @@ use Rattle.cs_apply.specs.declared.stop.Stop.TheVariants.{Conflict, Memory}
 use Rattle.cs_apply.specs.State.{Rows, compatible}
 use Rattle.cs_apply.specs.Effect.{effect}
 use Rattle.cs_apply.specs.Single.{goes_on, effect_at, changes_of, single_from}
-use Rattle.cs_apply.specs.Inserts.{Entries, Adds, Stops, Refuses, placed, carry, section_from}
-
--- the old rows stand in front of what is added to them twice
-pub Adds-trans : (a b c : Entries) → Adds a b → Adds b c → Adds a c
-Adds-trans a b c p q =
-    let long : length a ≤ length b = omega (arith, ap length p, ap length (take-append-drop (length a) b), length-append (take (length a) b) (drop (length a) b)) in
-    let split : c ≡ b ++ drop (length b) c = sym (take-append-drop (length b) c) ∙ ap (λ x. x ++ drop (length b) c) q in
-    ap (take (length a)) split ∙ take-append-le (length a) b (drop (length b) c) long ∙ p
+use Rattle.cs_apply.specs.Steps.{Stops, Refuses, placed, carry, section_from}
 
 -- one change more of a section
 pub next_change : (table : ℕ) (flags : List ℕ) (changes : List Change) (i : ℕ) (change : Change) (at : ℕ) (rows : Rows) → i < length changes → change ≡ get_or changes i change

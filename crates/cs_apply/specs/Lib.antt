@@ -2,4 +2,4 @@ pub mod State
 pub mod Effect
 pub mod Single
 pub mod Refusal
-pub mod Inserts
+pub mod Steps

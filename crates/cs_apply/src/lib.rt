@@ -2,13 +2,13 @@
 //! tables that a changeset's changes give one at a time, or its first conflict. Theorem: `apply` is `single`.
 #![tactic(auto)]
 
+mod changes;
 mod conflict;
-mod inserts;
+mod edit;
+mod places;
 mod row;
 mod stop;
 mod tables;
-#[cfg(test)]
-mod tests;
 
 pub use conflict::{ApplyError, Conflict, ConflictKind};
 pub use tables::Tables;

@@ -32,7 +32,7 @@ impl<T: Drop> From<AllocFailed<T>> for Stop {
 }
 
 impl Stop {
-    ghost use Rattle.cs_apply.specs.Inserts.{placed};
+    ghost use Rattle.cs_apply.specs.Steps.{placed};
 
     /// The same, of the change at this place.
     pub(crate) fn at(self, position: usize) -> ApplyError

@@ -3,15 +3,13 @@
 ghost use Rattle.std.specs.Prelude.{◌≡◌, length, map as list_map, IfOk, IfErr, OnOk, OnErr, Ok};
 ghost use Rattle.std.specs.Option.{option_copied};
 ghost use Rattle.std.specs.FinMap as map;
-ghost use Rattle.cs_model.specs.Changeset.{AreInserts};
 ghost use Rattle.cs_apply.specs.Single.{single};
 ghost use Rattle.cs_apply.specs.Refusal.{Refuses};
-ghost use Rattle.cs_apply.specs.Inserts.{rows_of};
 
+use crate::changes::change_all;
 use crate::conflict::ApplyError;
-use crate::inserts::{Rows, insert_all};
+use crate::places::Places;
 use cs_model::{Changeset, Row, RowKey, Schema};
-use indexmap::IndexMap;
 use std::alloc::{AllocError, Global};
 use std::marker::Model;
 
@@ -20,21 +18,21 @@ use std::marker::Model;
 pub struct Tables {
     schema: Schema,
     kept: Vec<bool>,
-    rows: IndexMap<RowKey, Row>,
+    places: Places,
 }
 
 impl Model for Tables {
-    ghost use Rattle.std.specs.Prelude.{◌≡◌, length};
-    ghost use Rattle.std.specs.FinMap as map;
+    ghost use Rattle.std.specs.Prelude.{◌≡◌, [], length};
     ghost use Rattle.cs_apply.specs.State.{State, state_code};
+    ghost use Rattle.cs_apply.specs.Steps.{rows_of};
 
     ghost Value = { State };
 
     ghost coded = { state_code };
 
-    ghost view = { λ t. record { schema = t.schema; kept = t.kept.items; rows = map.from_entries t.rows.entries } };
+    ghost view = { λ t. record { schema = t.schema; kept = t.kept.items; rows = rows_of t.places.rows.entries } };
 
-    ghost invariant = { λ t. length t.kept.items ≡ length t.schema };
+    ghost invariant = { λ t. (length t.kept.items ≡ length t.schema) × (t.places.log.items ≡ []) };
 }
 
 impl Tables {
@@ -46,7 +44,7 @@ impl Tables {
         Tables {
             schema,
             kept,
-            rows: IndexMap::new(alloc),
+            places: Places::new(alloc),
         }
     }
 
@@ -54,46 +52,38 @@ impl Tables {
     pub fn row(&self, key: &RowKey) -> Option<&Row>
         ensures { option_copied result ≡ map.get self.now.rows key.now }
     {
-        self.rows.get(key)
+        let (_, row) = self.places.find(key)?;
+        Some(row)
     }
 
     /// All rows with their keys, by table, then by the key's bytes. `AllocError` where memory runs out.
     pub fn rows_in_order(&self, alloc: Global) -> Result<Vec<(&RowKey, &Row)>, AllocError>
         ensures { IfOk result (λ rows. list_map (λ p. (p.0.now, p.1.now)) rows.items ≡ map.entries self.now.rows) }
     {
-        in_order(alloc, &self.rows)
+        self.places.in_order(alloc)
     }
 
-    /// Applies all changes of a changeset, each of them an INSERT, in order. Changes of a table that isn't in the
-    /// schema, has another shape or isn't kept are passed over, and count for the position. An `Err` is the
-    /// first conflict, or want of memory, and leaves the tables as they were.
+    /// Applies all changes of a changeset, in order. Changes of a table that isn't in the schema, has another
+    /// shape or isn't kept are passed over, and count for the position. An `Err` is the first conflict, or want
+    /// of memory, and leaves the tables as they were.
     pub fn apply(&mut self, alloc: Global, changeset: &Changeset) -> Result<(), ApplyError>
-        requires { AreInserts changeset.now }
         ensures ok { OnOk result (single self.old changeset.now ≡ Ok self.new) }
         ensures refused { IfErr result (λ e. Refuses e (single self.old changeset.now)) }
         ensures err { OnErr result (self.new ≡ self.old) }
     {
-        let old = self.rows.len();
-        let applied = insert_all(
-            &mut self.rows,
+        let places = self.places.len();
+        let applied = change_all(
+            &mut self.places,
             alloc,
             &self.schema,
             &self.kept,
             changeset.sections(),
         );
-        if applied.is_err() {
-            // the new rows stand at the end: to take them back needs no memory
-            self.rows.truncate(old);
+        if applied.is_ok() {
+            self.places.keep();
+        } else {
+            self.places.take_back(places);
         }
         applied
     }
-}
-
-// the rows by their keys
-fn in_order<'a>(alloc: Global, rows: &'a Rows) -> Result<Vec<(&'a RowKey, &'a Row)>, AllocError>
-    ensures { IfOk result (λ pairs. list_map (λ p. (p.0.now, p.1.now)) pairs.items ≡ map.entries (rows_of rows.now.entries)) }
-{
-    let mut pairs = Vec::from_iter(alloc, rows.iter())?;
-    pairs.sort_unstable_by(|a, b| a.0.cmp(b.0));
-    Ok(pairs)
 }

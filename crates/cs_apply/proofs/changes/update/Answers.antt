@@ -1,0 +1,19 @@
+use Rattle.std.proofs.Common.{◌≡◌, true, if◌then◌else◌, Some, Ok, Err, sym, ap, ◌∙◌}
+use Rattle.std.specs.FinMap as map
+use Rattle.cs_apply.specs.declared.conflict.ConflictKind.TheVariants.{Data}
+use Rattle.cs_apply.specs.Effect.{changed, rest_agrees, updated}
+use Rattle.cs_apply.specs.Steps.{rows_of}
+use Rattle.cs_apply.proofs.changes.update.Goals as goal
+
+pub returns-clause-ok : goal.returns-clause-ok
+returns-clause-ok c =
+    let rows = rows_of c.args.places.now.rows.entries in
+    let key = c.args.key.now in
+    let after = c.args.after.now in
+    let row = c.in-Some.row.now in
+    let agrees : rest_agrees c.args.flags.now c.args.before.now row ≡ true =
+    ap (rest_agrees c.args.flags.now c.args.before.now) (sym c.deref.ensures) ∙ sym c.if-not-rest_agrees.ensures in
+    let done = c.in_ok-edit.ensures.ok key (Some row) c.in-Some.ensures.place in
+    ap (changed rows key c.args.flags.now c.args.before.now after) (sym c.in-Some.ensures.row)
+    ∙ (λ i. if agrees i then Ok (map.insert rows key (updated after row)) else Err Data)
+    ∙ ap Ok (sym (done ∙ ap (λ fields. map.insert rows key (updated fields row)) c.in_ok-fields.ensures))

@@ -1,0 +1,160 @@
+//! Changes: one, those of a section, and all. What is done before a conflict is logged by `Places`, which takes
+//! it back.
+
+ghost use Rattle.std.specs.Prelude.{◌≡◌, ◌+◌, ◌<◌, ◌^◌, Ok, OnOk, IfErr, length};
+ghost use Rattle.std.specs.FinMap as map;
+ghost use Rattle.cs_model.specs.Changeset.{IsChange, IsSection, IsChangeset};
+ghost use Rattle.cs_apply.specs.Effect.{effect, inserted, deleted, changed};
+ghost use Rattle.cs_apply.specs.Single.{changes_of, single_from};
+ghost use Rattle.cs_apply.specs.State.{compatible};
+ghost use Rattle.cs_apply.specs.Steps.{rows_of, section_from, Back, Stops, Refuses};
+ghost use Rattle.cs_apply.specs.Effect.{values_of};
+
+use crate::conflict::{ApplyError, ConflictKind};
+use crate::edit::Edit;
+use crate::places::Places;
+use crate::row::{all_agree, rest_agrees, row_of};
+use crate::stop::Stop;
+use cs_model::{Change, CopyIn, Field, Op, RowKey, Schema, Section, Seq, Shape};
+use std::alloc::Global;
+
+// INSERT: the key has no row, and gets the one that the new record says.
+fn insert(places: &mut Places, alloc: Global, key: RowKey, after: &[Field]) -> Result<(), Stop>
+    ensures ok { OnOk result (inserted (rows_of places.old.rows.entries) key (values_of after.now) (map.get (rows_of places.old.rows.entries) key) ≡ Ok (rows_of places.new.rows.entries)) }
+    ensures back { Back places.old places.new }
+    ensures refused { IfErr result (λ stop. Stops stop (inserted (rows_of places.old.rows.entries) key (values_of after.now) (map.get (rows_of places.old.rows.entries) key))) }
+{
+    let row = row_of(alloc, after)?;
+    places.insert(key, row)
+}
+
+// DELETE: the row is there, is what the old record says, and goes.
+fn delete(places: &mut Places, key: &RowKey, before: &[Field]) -> Result<(), Stop>
+    ensures ok { OnOk result (deleted (rows_of places.old.rows.entries) key.now before.now (map.get (rows_of places.old.rows.entries) key.now) ≡ Ok (rows_of places.new.rows.entries)) }
+    ensures back { Back places.old places.new }
+    ensures refused { IfErr result (λ stop. Stops stop (deleted (rows_of places.old.rows.entries) key.now before.now (map.get (rows_of places.old.rows.entries) key.now))) }
+{
+    let Some((place, row)) = places.find(key) else {
+        return Err(Stop::Conflict(ConflictKind::NotFound));
+    };
+    if !all_agree(before, row) {
+        return Err(Stop::Conflict(ConflictKind::Data));
+    }
+    Ok(places.edit(place, Edit::Set(None))?)
+}
+
+// UPDATE: the row is there, is what the old record says outside the key, and gets what the new one says. Only
+// the new record is copied, and not the row.
+fn update(
+    places: &mut Places,
+    alloc: Global,
+    key: &RowKey,
+    flags: &[u8],
+    before: &[Field],
+    after: &Seq<Field>,
+) -> Result<(), Stop>
+    ensures ok { OnOk result (changed (rows_of places.old.rows.entries) key.now flags.now before.now after.now (map.get (rows_of places.old.rows.entries) key.now) ≡ Ok (rows_of places.new.rows.entries)) }
+    ensures back { Back places.old places.new }
+    ensures refused { IfErr result (λ stop. Stops stop (changed (rows_of places.old.rows.entries) key.now flags.now before.now after.now (map.get (rows_of places.old.rows.entries) key.now))) }
+{
+    let Some((place, row)) = places.find(key) else {
+        return Err(Stop::Conflict(ConflictKind::NotFound));
+    };
+    if !rest_agrees(flags, before, row) {
+        return Err(Stop::Conflict(ConflictKind::Data));
+    }
+    let fields = after.copy_in(alloc)?;
+    Ok(places.edit(place, Edit::Exchange(fields))?)
+}
+
+// Applies one change of a table that is kept. An `Err` leaves the rows as they were.
+fn change_row(
+    places: &mut Places,
+    alloc: Global,
+    table: usize,
+    shape: &Shape,
+    change: &Change,
+) -> Result<(), Stop>
+    requires { IsChange shape.now change.now }
+    ensures ok { OnOk result (effect table shape.now.flags (rows_of places.old.rows.entries) change.now ≡ Ok (rows_of places.new.rows.entries)) }
+    ensures back { Back places.old places.new }
+    ensures refused { IfErr result (λ stop. Stops stop (effect table shape.now.flags (rows_of places.old.rows.entries) change.now)) }
+{
+    let key = RowKey::of(alloc, table, shape, change)?;
+    match change.op {
+        Op::Insert => insert(places, alloc, key, &change.after),
+        Op::Delete => delete(places, &key, &change.before),
+        Op::Update => update(
+            places,
+            alloc,
+            &key,
+            &shape.flags,
+            &change.before,
+            &change.after,
+        ),
+    }
+}
+
+// Applies the changes of one section of a table that is kept, the first of them at position `start`. An `Err`
+// leaves what those before it did.
+fn change_section(
+    places: &mut Places,
+    alloc: Global,
+    table: usize,
+    section: &Section,
+    start: usize,
+) -> Result<(), ApplyError>
+    requires counted { start + length section.now.changes < 2 ^ 64 }
+    requires fits { IsSection section.now }
+    ensures ok { OnOk result (section_from table section.now.shape.flags section.now.changes start (rows_of places.old.rows.entries) ≡ Ok (rows_of places.new.rows.entries)) }
+    ensures back { Back places.old places.new }
+    ensures refused { IfErr result (λ e. Refuses e (section_from table section.now.shape.flags section.now.changes start (rows_of places.old.rows.entries))) }
+{
+    for (i, change) in section.changes.iter().enumerate() {
+        if let Err(stop) = change_row(places, alloc, table, &section.shape, change) {
+            return Err(stop.at(start + i));
+        }
+    }
+    Ok(())
+}
+
+// The place of the table with this name and these key bytes, where it is kept.
+fn kept_table(schema: &Schema, kept: &[bool], shape: &Shape) -> Option<usize>
+    ensures { result ≡ compatible schema.now kept.now shape.now }
+{
+    let table = schema.table(shape)?;
+    if kept.get(table).copied().unwrap_or(false) {
+        Some(table)
+    } else {
+        None
+    }
+}
+
+/// Applies the changes of all sections, those of tables that aren't kept passed over. An `Err` leaves what the
+/// changes before the first conflict did, for `Places::take_back`.
+pub(crate) fn change_all(
+    places: &mut Places,
+    alloc: Global,
+    schema: &Schema,
+    kept: &[bool],
+    sections: &[Section],
+) -> Result<(), ApplyError>
+    requires { IsChangeset sections.now }
+    ensures ok { OnOk result (single_from schema.now kept.now (changes_of sections.now) 0 (rows_of places.old.rows.entries) ≡ Ok (rows_of places.new.rows.entries)) }
+    ensures back { Back places.old places.new }
+    ensures refused { IfErr result (λ e. Refuses e (single_from schema.now kept.now (changes_of sections.now) 0 (rows_of places.old.rows.entries))) }
+{
+    let mut start: usize = 0;
+    for section in sections {
+        // no memory holds more changes than a `usize` counts
+        let changes: &[Change] = &section.changes;
+        let Some(end) = start.checked_add(changes.len()) else {
+            return Err(ApplyError::Memory);
+        };
+        if let Some(table) = kept_table(schema, kept, &section.shape) {
+            change_section(places, alloc, table, section, start)?;
+        }
+        start = end;
+    }
+    Ok(())
+}

@@ -1,0 +1,174 @@
+//! Places for rows, and a log by which what was done to them is taken back without memory.
+//!
+//! A key that had a row once keeps its place, which may be empty. So while a changeset is applied each place
+//! keeps its index: a DELETE moves the row out of its place into the log, and to move it back needs no room.
+
+ghost use Rattle.std.specs.Prelude.{◌≡◌, ℕ, [], length, take, map as list_map, Option, List, Some, Ok, slice_get, IfSome, IfOk, IfErr, OnOk};
+ghost use Rattle.std.specs.Option.{option_map};
+ghost use Rattle.std.specs.FinMap as map;
+ghost use Rattle.cs_model.specs.declared.value.Value.{Value};
+ghost use Rattle.cs_model.specs.declared.row_key.RowKey.{RowKey};
+ghost use Rattle.cs_apply.specs.Effect.{inserted};
+ghost use Rattle.cs_apply.specs.Steps.{filled, rows_of, put, edited, edited_at, undone, Back, Stops};
+
+use crate::conflict::ConflictKind;
+use crate::edit::Edit;
+use crate::stop::Stop;
+use cs_model::{Row, RowKey};
+use indexmap::IndexMap;
+use indexmap::map::Entry;
+use std::alloc::{AllocError, Global};
+
+/// A step that was taken: the index of its place, and what takes it back.
+#[derive(Debug, Drop)]
+pub(crate) struct Step {
+    place: usize,
+    back: Edit,
+}
+
+/// The rows of one replica, and the steps of the changeset that is being applied.
+#[derive(Debug, Drop)]
+pub(crate) struct Places {
+    rows: IndexMap<RowKey, Option<Row>>,
+    log: Vec<Step>,
+    // About how many places are empty. It only says when they are worth a sweep.
+    empty: usize,
+}
+
+impl Places {
+    /// No places.
+    pub(crate) fn new(alloc: Global) -> Places
+        ensures rows { result.rows.entries ≡ [] }
+        ensures log { result.log.items ≡ [] }
+    {
+        Places {
+            rows: IndexMap::new(alloc),
+            log: Vec::new(alloc),
+            empty: 0,
+        }
+    }
+
+    /// How many places there are.
+    pub(crate) fn len(&self) -> usize
+        ensures { result ≡ length self.now.rows.entries }
+    {
+        self.rows.len()
+    }
+
+    /// The row with this key and the index of its place, where there is one.
+    pub(crate) fn find(&self, key: &RowKey) -> Option<(usize, &Row)>
+        ensures row { option_map (λ p. p.1.now) result ≡ map.get (rows_of self.now.rows.entries) key.now }
+        ensures place { IfSome result (λ p. slice_get self.now.rows.entries p.0 ≡ Some (key.now, Some p.1.now)) }
+    {
+        let place = self.rows.get_index_of(key)?;
+        let (_, row) = self.rows.get_index(place)?;
+        Some((place, row.as_ref()?))
+    }
+
+    /// All rows with their keys, by table, then by the key's bytes. `AllocError` where memory runs out.
+    pub(crate) fn in_order(&self, alloc: Global) -> Result<Vec<(&RowKey, &Row)>, AllocError>
+        ensures { IfOk result (λ pairs. list_map (λ p. (p.0.now, p.1.now)) pairs.items ≡ map.entries (rows_of self.now.rows.entries)) }
+    {
+        let _places = self.rows.len();
+        let mut pairs = self.filled(alloc)?;
+        pairs.sort_unstable_by(|a, b| a.0.cmp(b.0));
+        Ok(pairs)
+    }
+
+    // The same in the order of the places.
+    fn filled(&self, alloc: Global) -> Result<Vec<(&RowKey, &Row)>, AllocError>
+        ensures { IfOk result (λ pairs. list_map (λ p. (p.0.now, p.1.now)) pairs.items ≡ filled self.now.rows.entries) }
+    {
+        let mut pairs = Vec::with_capacity(alloc, self.rows.len())?;
+        for (key, place) in self.rows.iter() {
+            let Some(row) = place else {
+                continue;
+            };
+            pairs.push((key, row))?;
+        }
+        Ok(pairs)
+    }
+
+    /// Does an edit at a place, and logs what takes it back. An `Err` leaves the rows as they were.
+    pub(crate) fn edit(&mut self, place: usize, edit: Edit) -> Result<(), AllocError>
+        ensures ok { OnOk result ((key : RowKey) (row : Option (List Value)) → slice_get self.old.rows.entries place ≡ Some (key, row) → rows_of self.new.rows.entries ≡ put (rows_of self.old.rows.entries) key (edited edit row)) }
+        ensures back { Back self.old self.new }
+    {
+        self.log.reserve(1)?;
+        if let Some(row) = self.rows.get_index_mut(place) {
+            let back = edit.perform(row);
+            self.log.push_reserved(Step { place, back });
+        }
+        Ok(())
+    }
+
+    /// Puts a row under a key that has none. An `Err` leaves the rows as they were.
+    pub(crate) fn insert(&mut self, key: RowKey, row: Row) -> Result<(), Stop>
+        ensures ok { OnOk result (inserted (rows_of self.old.rows.entries) key row (map.get (rows_of self.old.rows.entries) key) ≡ Ok (rows_of self.new.rows.entries)) }
+        ensures back { Back self.old self.new }
+        ensures refused { IfErr result (λ stop. Stops stop (inserted (rows_of self.old.rows.entries) key row (map.get (rows_of self.old.rows.entries) key))) }
+    {
+        let place = match self.rows.entry(key)? {
+            Entry::Vacant(end) => {
+                // a new place is cut when the changes are taken back, so it needs no step
+                end.insert(Some(row));
+                return Ok(());
+            }
+            Entry::Occupied(place) => {
+                if place.get().is_some() {
+                    return Err(Stop::Conflict(ConflictKind::Conflict));
+                }
+                place.index()
+            }
+        };
+        Ok(self.edit(place, Edit::Set(Some(row)))?)
+    }
+
+    /// Takes back all that was logged, and cuts the places to this many. It needs no memory.
+    pub(crate) fn take_back(&mut self, places: usize)
+        ensures rows { self.new.rows.entries ≡ take places (undone self.old.log.items self.old.rows.entries) }
+        ensures log { self.new.log.items ≡ [] }
+    {
+        while let Some(step) = self.log.pop() {
+            self.step_back(step);
+        }
+        self.rows.truncate(places);
+    }
+
+    // Takes one step back.
+    fn step_back(&mut self, step: Step)
+        ensures rows { self.new.rows.entries ≡ edited_at step.place step.back self.old.rows.entries }
+        ensures log { self.new.log.items ≡ self.old.log.items }
+    {
+        if let Some(row) = self.rows.get_index_mut(step.place) {
+            step.back.perform(row);
+        }
+    }
+
+    /// Keeps all that was done: forgets the log, and drops the empty places once they are the most. So the
+    /// deletes since the last sweep pay for the next.
+    pub(crate) fn keep(&mut self)
+        ensures rows { rows_of self.new.rows.entries ≡ rows_of self.old.rows.entries }
+        ensures log { self.new.log.items ≡ [] }
+    {
+        self.empty = counted(self.empty, &self.log);
+        self.log.clear();
+        if self.empty > self.rows.len() / 2 {
+            self.rows.retain(|_, row| row.is_some());
+            self.empty = 0;
+        }
+    }
+}
+
+// How many places are empty after these steps.
+fn counted(empty: usize, log: &[Step]) -> usize {
+    let mut empty = empty;
+    for step in log {
+        match &step.back {
+            Edit::Set(Some(_)) => empty = empty.saturating_add(1),
+            Edit::Set(None) => empty = empty.saturating_sub(1),
+            Edit::Exchange(_) => {}
+        }
+    }
+    empty
+}
