@@ -1,5 +1,5 @@
 -- Changes: what is read was spelled so, and what is spelled so is read.
-use Rattle.std.proofs.Common.{◌≡◌, ◌==◌, ℕ, zero, suc, ◌<◌, inl, inr, Bool, true, false, not, cond, List, [], ◌∷◌, ◌++◌, length, map, Option, Some, None, Result, Ok, Err, refl, sym, ap, subst, ◌∙◌, append_assoc, arith}
+use Rattle.std.proofs.Common.{◌≡◌, ◌==◌, ℕ, zero, suc, ◌<◌, inl, inr, Bool, true, false, not, cond, List, [], ◌∷◌, ◌++◌, length, map, Option, Some, None, Ok, Err, refl, sym, ap, subst, ◌∙◌, append_assoc, arith}
 use Rattle.std.specs.List.{AllByRecursion}
 use Rattle.std.proofs.lemmas.Bool.{eqb-true, ne_eqb}
 use Rattle.std.proofs.lemmas.List.{append-nil}
@@ -8,10 +8,10 @@ use Rattle.cs_model.specs.declared.change.Op.{Op}
 use Rattle.cs_model.specs.declared.change.Op.TheVariants.{Insert, Update, Delete}
 use Rattle.cs_model.specs.declared.change.Change.{Change}
 use Rattle.cs_model.specs.Rule.{row_rule, old_rule, new_rules}
-use Rattle.cs_model.specs.Changeset.{Obeys, AreRecords}
+use Rattle.cs_model.specs.Changeset.{AreRecords}
 use Rattle.cs_model.specs.Text.{SpellsField, SpellsEach, op_byte, SpellsIndirect, SpellsChange}
 use Rattle.cs_parse.specs.declared.fault.FaultKind.TheVariants.{Patchset, BadOperation}
-use Rattle.cs_parse.specs.Reading.{Refusal, Bad, ◌>>=◌, refuse, record_at, records_at, marked_at, op_of, operated, change_at, ends_section, changes_at}
+use Rattle.cs_parse.specs.Reading.{Bad, ◌>>=◌, record_at, records_at, marked_at, op_of, operated, change_at, ends_section, changes_at}
 use Rattle.cs_parse.proofs.Steps.{IsBytes, Takes, back_fits, bind_ok, done, ok_is, chosen}
 use Rattle.cs_parse.proofs.FieldLaws.{record_takes, record_again}
 use Rattle.cs_parse.proofs.ManyLaws.{IsReader, TakesEach, many_takes, many_again}
@@ -104,16 +104,16 @@ op_is byte op e = elim (chosen (byte == 18) (Some Insert) (cond (byte == 23) (So
       let same : Insert ≡ op = cc is.1 in
       eqb-true byte 18 is.0 ∙ ap op_byte same
   | inr other ↦ elim (chosen (byte == 23) (Some Update) (cond (byte == 9) (Some Delete) None) (Some op) other.1) as (λ w. byte ≡ op_byte op) [
+    | inl is ↦
+        let same : Update ≡ op = cc is.1 in
+        eqb-true byte 23 is.0 ∙ ap op_byte same
+    | inr other ↦ elim (chosen (byte == 9) (Some Delete) None (Some op) other.1) as (λ w. byte ≡ op_byte op) [
       | inl is ↦
-          let same : Update ≡ op = cc is.1 in
-          eqb-true byte 23 is.0 ∙ ap op_byte same
-      | inr other ↦ elim (chosen (byte == 9) (Some Delete) None (Some op) other.1) as (λ w. byte ≡ op_byte op) [
-          | inl is ↦
-              let same : Delete ≡ op = cc is.1 in
-              eqb-true byte 9 is.0 ∙ ap op_byte same
-          | inr none ↦ absurd (cc none.1)
-        ]
+          let same : Delete ≡ op = cc is.1 in
+          eqb-true byte 9 is.0 ∙ ap op_byte same
+      | inr none ↦ absurd (cc none.1)
     ]
+  ]
 ]
 
 operated_takes : (flags : List ℕ) (o : Option Op) (byte : ℕ) (rest : List ℕ) (x : Change × List ℕ) → IsBytes rest → op_of byte ≡ o → operated flags o byte rest ≡ Ok x → Takes SpellsChange (byte ∷ rest) x × IsChangeBy flags x.0

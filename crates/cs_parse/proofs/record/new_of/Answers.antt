@@ -48,7 +48,7 @@ returns-in_err-field c =
     let turn = zip_turn flags before c.loop-flag.yielded c.into_iter-flag-iterator.result c.loop-flag.flag-iterator c.next.new.self c.next.result (cc) (cc) c.loop-flag.yielded_by (c.in-Some.field-0-0, c.in-Some.old) c.in-Some.is c.next.ensures.steps in
     let fails : Fails e (field_at rule bytes) = subst (λ r. Fails e r) (same_field (rule_of c.rule_by_old.result) rule bytes c.rule_by_old.ensures) c.in_err-field.ensures in
     rw (p.1, p.2) (fields_end e c.loop-flag.fields.items rule (new_rules (drop (i + 1) flags) (drop (i + 1) before)) bytes total fails
-        (from_column c.loop-flag.fields.items flags before i c.in-Some.field-0-0.now c.in-Some.old.now bytes total (turn.0, turn.1, turn.2 0, turn.3 c.in-Some.old.now) c.loop-flag.invariant))
+    (from_column c.loop-flag.fields.items flags before i c.in-Some.field-0-0.now c.in-Some.old.now bytes total (turn.0, turn.1, turn.2 0, turn.3 c.in-Some.old.now) c.loop-flag.invariant))
 
 pub loop-flag-preserved : goal.loop-flag-preserved
 loop-flag-preserved c =
@@ -61,8 +61,8 @@ loop-flag-preserved c =
     let turn = zip_turn flags before c.loop-flag.yielded c.into_iter-flag-iterator.result c.loop-flag.flag-iterator c.next.new.self c.next.result (cc) (cc) c.loop-flag.yielded_by (c.in-Some.field-0-0, c.in-Some.old) c.in-Some.is c.next.ensures.steps in
     let reads = sym (same_field (rule_of c.rule_by_old.result) rule bytes c.rule_by_old.ensures) ∙ c.in_ok-field.ensures in
     rw (length_push c.loop-flag.yielded (c.in-Some.field-0-0, c.in-Some.old), c.in_ok-push.ensures.items)
-        (fields_go_on c.loop-flag.fields.items rule (new_rules (drop (i + 1) flags) (drop (i + 1) before)) bytes c.in_ok-field.field c.in_ok-field.after.now total reads
-        (from_column c.loop-flag.fields.items flags before i c.in-Some.field-0-0.now c.in-Some.old.now bytes total (turn.0, turn.1, turn.2 0, turn.3 c.in-Some.old.now) c.loop-flag.invariant))
+    (fields_go_on c.loop-flag.fields.items rule (new_rules (drop (i + 1) flags) (drop (i + 1) before)) bytes c.in_ok-field.field c.in_ok-field.after.now total reads
+    (from_column c.loop-flag.fields.items flags before i c.in-Some.field-0-0.now c.in-Some.old.now bytes total (turn.0, turn.1, turn.2 0, turn.3 c.in-Some.old.now) c.loop-flag.invariant))
 
 shorter : (a b i : ℕ) → i ≡ min a b → (a ≤ i) ⊎ (b ≤ i)
 shorter a b i e = elim (order a b) as (λ w. (a ≤ i) ⊎ (b ≤ i)) [
@@ -78,4 +78,4 @@ returns c =
     let total = record_at (new_rules flags before) c.args.bytes.now in
     let ends = zip_end flags before c.loop-flag.yielded c.into_iter-flag-iterator.result c.loop-flag.flag-iterator c.next.new.self c.next.result (cc) (cc) c.loop-flag.yielded_by c.in-None.is c.next.ensures.steps in
     fields_are_done c.loop-flag.fields.items c.loop-flag.rest.now total
-        (no_column c.loop-flag.fields.items flags before i c.loop-flag.rest.now total (shorter (length flags) (length before) i ends) c.loop-flag.invariant)
+    (no_column c.loop-flag.fields.items flags before i c.loop-flag.rest.now total (shorter (length flags) (length before) i ends) c.loop-flag.invariant)

@@ -27,7 +27,7 @@ returns-in_err-field c =
     let total = record_at (map rule flags) c.args.bytes.now in
     let fails : Fails e (field_at (rule (get_or flags i 0)) c.loop-flag.rest.now) = subst (λ r. Fails e (field_at r c.loop-flag.rest.now)) c.rule_by_flag.ensures c.in_err-field.ensures in
     rw (p.1, p.2) (fields_end e c.loop-flag.fields.items (rule (get_or flags i 0)) (map rule (drop (i + 1) flags)) c.loop-flag.rest.now total fails
-        (from_column rule c.loop-flag.fields.items flags i c.loop-flag.rest.now total c.loop-flag-test.true c.loop-flag.invariant))
+    (from_column rule c.loop-flag.fields.items flags i c.loop-flag.rest.now total c.loop-flag-test.true c.loop-flag.invariant))
 
 pub loop-flag-preserved : goal.loop-flag-preserved
 loop-flag-preserved c =
@@ -37,7 +37,7 @@ loop-flag-preserved c =
     let total = record_at (map rule flags) c.args.bytes.now in
     let reads = sym (ap (λ r. field_at r c.loop-flag.rest.now) c.rule_by_flag.ensures) ∙ c.in_ok-field.ensures in
     rw c.in_ok-push.ensures.items (fields_go_on c.loop-flag.fields.items (rule (get_or flags i 0)) (map rule (drop (i + 1) flags)) c.loop-flag.rest.now c.in_ok-field.field c.in_ok-field.after.now total reads
-        (from_column rule c.loop-flag.fields.items flags i c.loop-flag.rest.now total c.loop-flag-test.true c.loop-flag.invariant))
+    (from_column rule c.loop-flag.fields.items flags i c.loop-flag.rest.now total c.loop-flag-test.true c.loop-flag.invariant))
 
 pub returns : goal.returns
 returns c =
