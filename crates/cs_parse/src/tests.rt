@@ -263,21 +263,22 @@ fn faults_of_deletes(rt: HostRuntime) -> Result<(), Fail> {
     Ok(())
 }
 
-// an INSERT of 1 and a BLOB of 16,777,194 bytes: a text of 16,777,216 bytes
-fn longest(alloc: Global) -> Result<Vec<u8>, AllocError> {
+// A text of so many bytes: an INSERT of 1 and a BLOB of zeros, and more zeros where any are left. The lowest seven bits
+// of the BLOB's length are given, and with 0x6a its end is at 16,777,216.
+fn with_blob(alloc: Global, low: u8, len: usize) -> Result<Vec<u8>, AllocError> {
     let mut text = Vec::from_slice(alloc, &INSERT[..17])?;
-    text.extend_from_slice(&[4, 0x87, 0xff, 0xff, 0x6a])?;
-    text.resize(16_777_216, 0)?;
+    text.extend_from_slice(&[4, 0x87, 0xff, 0xff, low])?;
+    text.resize(len, 0)?;
     Ok(text)
 }
 
 #[test]
 fn longest_text(rt: HostRuntime) -> Result<(), Fail> {
     let alloc = rt.alloc();
-    let mut text = longest(alloc)?;
+    let text = with_blob(alloc, 0x6a, 16_777_216)?;
     assert!(rt; matches!(parse(alloc, &text), Ok(read) if read.sections().len() == 1));
-    // its last byte is one too many for its blob, which a zero can't follow
-    text[21] = 0x69;
+    // a zero behind the last change
+    let text = with_blob(alloc, 0x69, 16_777_216)?;
     assert_eq!(rt; fault(alloc, &text)?, (16_777_215, BadOperation));
     Ok(())
 }
@@ -285,17 +286,15 @@ fn longest_text(rt: HostRuntime) -> Result<(), Fail> {
 #[test]
 fn longer_texts(rt: HostRuntime) -> Result<(), Fail> {
     let alloc = rt.alloc();
-    let mut text = longest(alloc)?;
-    // whatever stands behind the limit, the text is too long
-    text.push(0xff)?;
+    // whatever stands behind the limit, and also where the limit is in a value
+    let text = with_blob(alloc, 0x6a, 16_777_217)?;
     assert_eq!(rt; fault(alloc, &text)?, (16_777_216, TooLong));
-    // and also where the limit is in a value
-    text[21] = 0x6b;
+    let text = with_blob(alloc, 0x6b, 16_777_217)?;
     assert_eq!(rt; fault(alloc, &text)?, (16_777_216, TooLong));
     // but what is wrong before the limit comes first
-    text[21] = 0x69;
+    let text = with_blob(alloc, 0x69, 16_777_217)?;
     assert_eq!(rt; fault(alloc, &text)?, (16_777_215, BadOperation));
-    text[0] = 0;
+    let text = repeated(alloc, 0, 16_777_217)?;
     assert_eq!(rt; fault(alloc, &text)?, (0, BadMarker));
     Ok(())
 }
