@@ -5,5 +5,6 @@ pub mod Steps
 pub mod NumberLaws
 pub mod FieldLaws
 pub mod ManyLaws
+pub mod HeaderLaws
 pub mod ChangeLaws
 pub mod TextLaws

@@ -1,8 +1,8 @@
 -- Reading items one after the other, as a loop does.
-use Rattle.std.proofs.Common.{◌≡◌, ℕ, zero, suc, ◌-◌, ◌+◌, ◌≤◌, ◌<◌, ◌⊎◌, inl, inr, Bool, true, false, cond, List, [], ◌∷◌, ◌++◌, map, drop, length, get_or, Result, Ok, Err, refl, sym, ap, ◌∙◌, append_assoc, arith}
-use Rattle.std.proofs.lemmas.List.{append-nil, drop_more, drop_all}
+use Rattle.std.proofs.Common.{◌≡◌, ℕ, zero, suc, ◌-◌, ◌+◌, ◌<◌, ◌⊎◌, inl, inr, Bool, true, false, cond, List, [], ◌∷◌, ◌++◌, Result, Ok, Err, refl, sym, ap, ◌∙◌, append_assoc, arith}
+use Rattle.std.proofs.lemmas.List.{append-nil}
 use Rattle.cs_model.specs.declared.value.Field.{Field}
-use Rattle.cs_model.specs.Rule.{Rule, row_rule}
+use Rattle.cs_model.specs.Rule.{Rule}
 use Rattle.cs_parse.specs.declared.stop.Stop.{Stop}
 use Rattle.cs_parse.specs.declared.stop.Stop.TheVariants as stops
 use Rattle.cs_parse.specs.Reading.{Refusal, ◌>>=◌, Fails, many_at, field_at, record_at}
@@ -74,27 +74,24 @@ many_is_done over read front count i bytes total done so_far =
 abbrev fields_of : List Rule → Field × List ℕ → Result (List Field × List ℕ) Refusal
 fields_of rules first = then_others first.0 (record_at rules first.1)
 
-fields_step : (front : List Field) (flags : List ℕ) (i : ℕ) (bytes : List ℕ) (total : Result (List Field × List ℕ) Refusal) → i < length flags
-    → with_front front (record_at (map row_rule (drop i flags)) bytes) ≡ total
-    → with_front front (field_at (row_rule (get_or flags i 0)) bytes >>= fields_of (map row_rule (drop (i + 1) flags))) ≡ total
+fields_step : (front : List Field) (rule : Rule) (rules : List Rule) (bytes : List ℕ) (total : Result (List Field × List ℕ) Refusal)
+    → with_front front (record_at (rule ∷ rules) bytes) ≡ total → with_front front (field_at rule bytes >>= fields_of rules) ≡ total
 unfolding record_at
-fields_step front flags i bytes total lt so_far =
-    sym (ap (λ w. with_front front (record_at (map row_rule w) bytes)) (drop_more flags i 0 lt)) ∙ so_far
+fields_step front rule rules bytes total so_far = so_far
 
-pub fields_go_on : (front : List Field) (flags : List ℕ) (i : ℕ) (bytes : List ℕ) (first : Field) (after : List ℕ) (total : Result (List Field × List ℕ) Refusal) → i < length flags → field_at (row_rule (get_or flags i 0)) bytes ≡ Ok (first, after)
-    → with_front front (record_at (map row_rule (drop i flags)) bytes) ≡ total → with_front (front ++ first ∷ []) (record_at (map row_rule (drop (i + 1) flags)) after) ≡ total
-fields_go_on front flags i bytes first after total lt h so_far =
-    let one = ap (λ r. with_front front (r >>= fields_of (map row_rule (drop (i + 1) flags)))) h in
-    sym (one ∙ regroup front first (record_at (map row_rule (drop (i + 1) flags)) after)) ∙ fields_step front flags i bytes total lt so_far
+pub fields_go_on : (front : List Field) (rule : Rule) (rules : List Rule) (bytes : List ℕ) (first : Field) (after : List ℕ) (total : Result (List Field × List ℕ) Refusal) → field_at rule bytes ≡ Ok (first, after)
+    → with_front front (record_at (rule ∷ rules) bytes) ≡ total → with_front (front ++ first ∷ []) (record_at rules after) ≡ total
+fields_go_on front rule rules bytes first after total h so_far =
+    let one = ap (λ r. with_front front (r >>= fields_of rules)) h in
+    sym (one ∙ regroup front first (record_at rules after)) ∙ fields_step front rule rules bytes total so_far
 
-pub fields_end : (e : Stop) (front : List Field) (flags : List ℕ) (i : ℕ) (bytes : List ℕ) (total : Result (List Field × List ℕ) Refusal) → i < length flags → Fails e (field_at (row_rule (get_or flags i 0)) bytes)
-    → with_front front (record_at (map row_rule (drop i flags)) bytes) ≡ total → Fails e total
-fields_end e front flags i bytes total lt h so_far =
-    failed e (field_at (row_rule (get_or flags i 0)) bytes) (λ x. with_front front (fields_of (map row_rule (drop (i + 1) flags)) x)) total h
-    (sym (joined (field_at (row_rule (get_or flags i 0)) bytes) (fields_of (map row_rule (drop (i + 1) flags))) (λ x. Ok (front ++ x.0, x.1))) ∙ fields_step front flags i bytes total lt so_far)
+pub fields_end : (e : Stop) (front : List Field) (rule : Rule) (rules : List Rule) (bytes : List ℕ) (total : Result (List Field × List ℕ) Refusal) → Fails e (field_at rule bytes)
+    → with_front front (record_at (rule ∷ rules) bytes) ≡ total → Fails e total
+fields_end e front rule rules bytes total h so_far =
+    failed e (field_at rule bytes) (λ x. with_front front (fields_of rules x)) total h
+    (sym (joined (field_at rule bytes) (fields_of rules) (λ x. Ok (front ++ x.0, x.1))) ∙ fields_step front rule rules bytes total so_far)
 
-pub fields_are_done : (front : List Field) (flags : List ℕ) (i : ℕ) (bytes : List ℕ) (total : Result (List Field × List ℕ) Refusal) → length flags ≤ i
-    → with_front front (record_at (map row_rule (drop i flags)) bytes) ≡ total → total ≡ Ok (front, bytes)
+pub fields_are_done : (front : List Field) (bytes : List ℕ) (total : Result (List Field × List ℕ) Refusal)
+    → with_front front (record_at [] bytes) ≡ total → total ≡ Ok (front, bytes)
 unfolding record_at
-fields_are_done front flags i bytes total le so_far =
-    sym so_far ∙ ap (λ w. with_front front (record_at (map row_rule w) bytes)) (drop_all i flags le) ∙ ap (λ xs. Ok (xs, bytes)) (append-nil front)
+fields_are_done front bytes total so_far = sym so_far ∙ ap (λ xs. Ok (xs, bytes)) (append-nil front)

@@ -1,9 +1,12 @@
 -- What `parse` answers, against what a text spells or what reading it gives.
-use Rattle.std.specs.Prelude.{◌≡◌, List, Result, Ok, Err}
+use Rattle.std.specs.Prelude.{◌≡◌, ℕ, ◌-◌, List, Result, Ok, Err}
 use Rattle.cs_model.specs.declared.change.Section.{Section}
+use Rattle.cs_parse.specs.declared.fault.FaultKind.{FaultKind}
 use Rattle.cs_parse.specs.declared.fault.ParseFault.{ParseFault}
 use Rattle.cs_parse.specs.declared.fault.ParseError.{ParseError}
 use Rattle.cs_parse.specs.declared.fault.ParseError.TheVariants.{Fault, Memory}
+use Rattle.cs_parse.specs.declared.stop.Stop.{Stop}
+use Rattle.cs_parse.specs.declared.stop.Stop.TheVariants as stops
 
 -- the answer is this changeset, unless memory ran out
 abbrev pub IsRead : Result (List Section) ParseError → List Section → Type 0
@@ -16,3 +19,9 @@ abbrev pub Answers : Result (List Section) ParseError → Result (List Section) 
 Answers (Ok found) answer = answer ≡ Ok found
 Answers (Err (Fault fault)) answer = answer ≡ Err fault
 Answers (Err Memory) answer = Unit {0}
+
+-- The error where the reader stopped in the first `len` bytes, and what it is when they end too early.
+abbrev pub stopped : ℕ → FaultKind → Stop → ParseError
+stopped len ended stops.Memory = Memory
+stopped len ended stops.Short = Fault (record { at = len; kind = ended })
+stopped len ended (stops.Bad left kind) = Fault (record { at = len - left; kind = kind })

@@ -1,2 +1,3 @@
 pub mod Answer
+pub mod FieldRules
 pub mod Reading

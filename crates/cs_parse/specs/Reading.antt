@@ -7,10 +7,12 @@ use Rattle.cs_model.specs.declared.value.Value.TheVariants.{Integer, Text, Blob,
 use Rattle.cs_model.specs.declared.value.Field.{Field}
 use Rattle.cs_model.specs.declared.value.Field.TheVariants.{Undefined, Is}
 use Rattle.cs_model.specs.declared.shape.Shape.{Shape}
-use Rattle.cs_model.specs.declared.change.Op.TheVariants.{Insert}
+use Rattle.cs_model.specs.declared.change.Op.{Op}
+use Rattle.cs_model.specs.declared.change.Op.TheVariants.{Insert, Update, Delete}
 use Rattle.cs_model.specs.declared.change.Change.{Change}
 use Rattle.cs_model.specs.declared.change.Section.{Section}
-use Rattle.cs_model.specs.Rule.{Rule, Key, Given, Open, Blank, PairedWith, is_defined, row_rule}
+use Rattle.cs_model.specs.Rule.{Rule, Key, Given, Open, Blank, PairedWith, is_defined, row_rule, old_rule, new_rules}
+use Rattle.cs_model.specs.Changeset.{most_bytes}
 use Rattle.cs_parse.specs.declared.fault.FaultKind.{FaultKind}
 use Rattle.cs_parse.specs.declared.fault.FaultKind.TheVariants.{BadMarker, Patchset, Columns, NoKey, EmptyName, NameTooLong, BadOperation, BadType, Real, UndefinedField, KeyMissing, KeyChanged, OneSided, ValueTooLong, TooLong, Truncated}
 use Rattle.cs_parse.specs.declared.fault.ParseFault.{ParseFault}
@@ -142,19 +144,43 @@ record_at (rule ∷ rules) bytes = do
   fields ← record_at rules field.1
   Ok (field.0 ∷ fields.0, fields.1)
 
--- an INSERT behind its operation byte
-unfoldable pub insert_at : List ℕ → List ℕ → Result (Change × List ℕ) Refusal
-insert_at flags [] = Err Short
-insert_at flags (mark ∷ rest) = do
-  row ← record_at (map row_rule flags) rest
-  Ok (record { op = Insert; indirect = not (mark == 0); before = []; after = row.0 }, row.1)
+-- the old record and the new one of a change with this operation, of a table with these key bytes
+unfoldable pub records_at : List ℕ → Op → List ℕ → Result (List Field × List Field × List ℕ) Refusal
+records_at flags Insert bytes = do
+  row ← record_at (map row_rule flags) bytes
+  Ok ([], row.0, row.1)
+records_at flags Update bytes = do
+  old ← record_at (map old_rule flags) bytes
+  new ← record_at (new_rules flags old.0) old.1
+  Ok (old.0, new.0, new.1)
+records_at flags Delete bytes = do
+  row ← record_at (map row_rule flags) bytes
+  Ok (row.0, [], row.1)
+
+-- a change behind its operation byte
+unfoldable pub marked_at : List ℕ → Op → List ℕ → Result (Change × List ℕ) Refusal
+marked_at flags op [] = Err Short
+marked_at flags op (mark ∷ rest) = do
+  records ← records_at flags op rest
+  Ok (record { op = op; indirect = not (mark == 0); before = records.0; after = records.1 }, records.2)
+
+-- the operation of a byte
+abbrev pub op_of : ℕ → Option Op
+op_of byte =
+    if byte == 18 then Some Insert
+    else if byte == 23 then Some Update
+    else if byte == 9 then Some Delete
+    else None
+
+-- a change behind its first byte, which is that of this operation, or of none
+abbrev pub operated : List ℕ → Option Op → ℕ → List ℕ → Result (Change × List ℕ) Refusal
+operated flags (Some op) byte rest = marked_at flags op rest
+operated flags None byte rest = refuse (if byte == 80 then Patchset else BadOperation) rest
 
 -- a change of a table with these key bytes
 unfoldable pub change_at : List ℕ → List ℕ → Result (Change × List ℕ) Refusal
 change_at flags [] = Err Short
-change_at flags (byte ∷ rest) =
-    if byte == 18 then insert_at flags rest
-    else refuse (if byte == 80 then Patchset else BadOperation) rest
+change_at flags (byte ∷ rest) = operated flags (op_of byte) byte rest
 
 -- a section's changes are over at the end, and where the next header begins
 abbrev pub ends_section : List ℕ → Bool
@@ -212,14 +238,24 @@ is_empty bytes = length bytes == 0
 unfoldable pub sections_at : List ℕ → Result (List Section × List ℕ) Refusal
 sections_at bytes = many_at is_empty section_at (length bytes) bytes
 
--- the answer for a text of so many bytes
+-- The fault of a text of which the first `len` bytes are read, and what it is when they end too early.
+abbrev pub fault_of : ℕ → FaultKind → Refusal → ParseFault
+fault_of len ended Short = record { at = len; kind = ended }
+fault_of len ended (Bad left kind) = record { at = len - left; kind = kind }
+
+-- the answer for a text of so many bytes, which is read whole
 abbrev pub placed : ℕ → Result (List Section × List ℕ) Refusal → Result (List Section) ParseFault
 placed len (Ok read) = Ok read.0
-placed len (Err Short) = Err (record { at = len; kind = Truncated })
-placed len (Err (Bad left kind)) = Err (record { at = len - left; kind = kind })
+placed len (Err refusal) = Err (fault_of len Truncated refusal)
 
--- what reading the whole text gives
+-- The answer for a longer text, of which so many bytes are read: a byte that can't stand in its place is found before
+-- the text is found too long.
+abbrev pub cut : ℕ → Result (List Section × List ℕ) Refusal → Result (List Section) ParseFault
+cut len (Ok read) = Err (fault_of len TooLong Short)
+cut len (Err refusal) = Err (fault_of len TooLong refusal)
+
+-- what reading a text gives
 unfoldable pub answer_of : List ℕ → Result (List Section) ParseFault
 answer_of text =
-    if nat_lt 16777216 (length text) then Err (record { at = 16777216; kind = TooLong })
+    if nat_lt most_bytes (length text) then cut most_bytes (sections_at (take most_bytes text))
     else placed (length text) (sections_at text)

@@ -2,10 +2,13 @@
 //! place. Theorem: the answer is Ok exactly on the texts that spell a changeset, as `Spells` says.
 #![tactic(auto)]
 
+mod change;
 mod fault;
+mod field;
 mod header;
 mod number;
 mod record;
+mod rule;
 mod stop;
 mod whole;
 

@@ -2,8 +2,8 @@
 
 use super::*;
 use crate::fault::FaultKind::{
-    BadMarker, BadOperation, BadType, Columns, EmptyName, KeyMissing, NameTooLong, NoKey, Patchset,
-    Real, TooLong, Truncated, UndefinedField, ValueTooLong,
+    BadMarker, BadOperation, BadType, Columns, EmptyName, KeyChanged, KeyMissing, NameTooLong,
+    NoKey, OneSided, Patchset, Real, TooLong, Truncated, UndefinedField, ValueTooLong,
 };
 use cs_model::{Change, Field, Octets, Op, Section, Seq, Shape, Value};
 use std::alloc::{AllocError, Global};
@@ -26,20 +26,38 @@ fn octets(alloc: Global, bytes: &[u8]) -> Result<Octets, AllocError> {
     Ok(Seq::from_vec(Vec::from_slice(alloc, bytes)?))
 }
 
-// the section with the one INSERT of 1 and this text
-fn section(alloc: Global, indirect: bool, text: &[u8]) -> Result<Section, AllocError> {
+// a record: 1 in the key column or nothing, and this text in the other or nothing
+fn fields(alloc: Global, has_key: bool, text: Option<&[u8]>) -> Result<Vec<Field>, AllocError> {
+    let mut fields = Vec::new(alloc);
+    if has_key {
+        fields.push(Field::Is(Value::Integer(1)))?;
+    } else {
+        fields.push(Field::Undefined)?;
+    }
+    match text {
+        Some(bytes) => fields.push(Field::Is(Value::Text(octets(alloc, bytes)?)))?,
+        None => fields.push(Field::Undefined)?,
+    }
+    Ok(fields)
+}
+
+// the section of the table in HEADER with this one change
+fn section(
+    alloc: Global,
+    op: Op,
+    indirect: bool,
+    before: Vec<Field>,
+    after: Vec<Field>,
+) -> Result<Section, AllocError> {
     let shape = Shape {
         name: octets(alloc, b"t")?,
         flags: octets(alloc, &[1, 0])?,
     };
-    let mut after = Vec::new(alloc);
-    after.push(Field::Is(Value::Integer(1)))?;
-    after.push(Field::Is(Value::Text(octets(alloc, text)?)))?;
     let mut changes = Vec::new(alloc);
     changes.push(Change {
-        op: Op::Insert,
+        op,
         indirect,
-        before: Seq::from_vec(Vec::new(alloc)),
+        before: Seq::from_vec(before),
         after: Seq::from_vec(after),
     })?;
     Ok(Section {
@@ -48,17 +66,23 @@ fn section(alloc: Global, indirect: bool, text: &[u8]) -> Result<Section, AllocE
     })
 }
 
-// whether a text is read as the section with this one INSERT
-fn is_insert(alloc: Global, text: &[u8], indirect: bool, value: &[u8]) -> Result<bool, Fail> {
-    let expected = section(alloc, indirect, value)?;
+// whether a text is read as this section alone
+fn is_section(alloc: Global, text: &[u8], expected: &Section) -> Result<bool, Fail> {
     match parse(alloc, text) {
         Ok(read) => match read.sections() {
-            [found] => Ok(*found == expected),
+            [found] => Ok(*found == *expected),
             _ => Ok(false),
         },
         Err(ParseError::Memory) => Err("memory")?,
         Err(ParseError::Fault(_)) => Ok(false),
     }
+}
+
+// whether a text is read as the section with one INSERT of 1 and this text
+fn is_insert(alloc: Global, text: &[u8], indirect: bool, value: &[u8]) -> Result<bool, Fail> {
+    let row = fields(alloc, true, Some(value))?;
+    let expected = section(alloc, Op::Insert, indirect, Vec::new(alloc), row)?;
+    is_section(alloc, text, &expected)
 }
 
 // the place and kind of a text's fault
@@ -95,6 +119,57 @@ fn inserts(rt: HostRuntime) -> Result<(), Fail> {
     let front = joined(alloc, &INSERT[..18], &[0x81, 0x48])?;
     let text = joined(alloc, &front, &value)?;
     assert!(rt; is_insert(alloc, &text, false, &value)?);
+    Ok(())
+}
+
+#[test]
+fn updates(rt: HostRuntime) -> Result<(), Fail> {
+    let alloc = rt.alloc();
+    // from 'x' to 'yz'
+    let change = [
+        0x17, 0, 1, 0, 0, 0, 0, 0, 0, 0, 1, 3, 1, 0x78, 0, 3, 2, 0x79, 0x7a,
+    ];
+    let before = fields(alloc, true, Some(b"x"))?;
+    let after = fields(alloc, false, Some(b"yz"))?;
+    let expected = section(alloc, Op::Update, false, before, after)?;
+    assert!(rt; is_section(alloc, &joined(alloc, &HEADER, &change)?, &expected)?);
+    // one that leaves the other column as it is
+    let change = [0x17, 1, 1, 0, 0, 0, 0, 0, 0, 0, 1, 0, 0, 0];
+    let before = fields(alloc, true, None)?;
+    let after = fields(alloc, false, None)?;
+    let expected = section(alloc, Op::Update, true, before, after)?;
+    assert!(rt; is_section(alloc, &joined(alloc, &HEADER, &change)?, &expected)?);
+    Ok(())
+}
+
+#[test]
+fn deletes(rt: HostRuntime) -> Result<(), Fail> {
+    let alloc = rt.alloc();
+    let change = [9, 0, 1, 0, 0, 0, 0, 0, 0, 0, 1, 3, 1, 0x78];
+    let row = fields(alloc, true, Some(b"x"))?;
+    let expected = section(alloc, Op::Delete, false, row, Vec::new(alloc))?;
+    assert!(rt; is_section(alloc, &joined(alloc, &HEADER, &change)?, &expected)?);
+    Ok(())
+}
+
+// a change of each kind in one section, and the section once more
+#[test]
+fn many_changes(rt: HostRuntime) -> Result<(), Fail> {
+    let alloc = rt.alloc();
+    let mut text = Vec::from_slice(alloc, &INSERT)?;
+    text.extend_from_slice(&[0x17, 0, 1, 0, 0, 0, 0, 0, 0, 0, 1, 3, 1, 0x78, 0, 5])?;
+    text.extend_from_slice(&[9, 0, 1, 0, 0, 0, 0, 0, 0, 0, 1, 5])?;
+    let text = joined(alloc, &text, &text)?;
+    match parse(alloc, &text) {
+        Ok(read) => match read.sections() {
+            [first, second] => {
+                assert_eq!(rt; first.changes[..].len(), 3);
+                assert!(rt; *first == *second);
+            }
+            _ => Err("not two sections")?,
+        },
+        Err(_) => Err("a changeset isn't read")?,
+    }
     Ok(())
 }
 
@@ -148,11 +223,78 @@ fn faults_of_changes(rt: HostRuntime) -> Result<(), Fail> {
 }
 
 #[test]
+fn faults_of_updates(rt: HostRuntime) -> Result<(), Fail> {
+    let alloc = rt.alloc();
+    assert_eq!(rt; behind(alloc, &[0x17])?, (7, Truncated));
+    assert_eq!(rt; behind(alloc, &[0x17, 0, 0])?, (8, KeyMissing));
+    assert_eq!(rt; behind(alloc, &[0x17, 0, 5])?, (8, KeyMissing));
+    // an old record with 'x', and then a new key, or no value, or none of the types
+    let old = [0x17, 0, 1, 0, 0, 0, 0, 0, 0, 0, 1, 3, 1, 0x78];
+    assert_eq!(rt; behind(alloc, &old)?, (20, Truncated));
+    assert_eq!(rt;
+        behind(alloc, &joined(alloc, &old, &[5])?)?,
+        (20, KeyChanged)
+    );
+    assert_eq!(rt; behind(alloc, &joined(alloc, &old, &[2])?)?, (20, Real));
+    assert_eq!(rt;
+        behind(alloc, &joined(alloc, &old, &[0, 0])?)?,
+        (21, OneSided)
+    );
+    assert_eq!(rt;
+        behind(alloc, &joined(alloc, &old, &[0, 6])?)?,
+        (21, BadType)
+    );
+    // an old record without a value, and then a new value
+    let old = [0x17, 0, 1, 0, 0, 0, 0, 0, 0, 0, 1, 0];
+    assert_eq!(rt;
+        behind(alloc, &joined(alloc, &old, &[0, 5])?)?,
+        (19, OneSided)
+    );
+    Ok(())
+}
+
+#[test]
+fn faults_of_deletes(rt: HostRuntime) -> Result<(), Fail> {
+    let alloc = rt.alloc();
+    assert_eq!(rt; behind(alloc, &[9, 0])?, (8, Truncated));
+    assert_eq!(rt; behind(alloc, &[9, 0, 0])?, (8, KeyMissing));
+    let undefined = [9, 0, 1, 0, 0, 0, 0, 0, 0, 0, 1, 0];
+    assert_eq!(rt; behind(alloc, &undefined)?, (17, UndefinedField));
+    Ok(())
+}
+
+// A text of so many bytes: an INSERT of 1 and a BLOB of zeros, and more zeros where any are left. The lowest seven bits
+// of the BLOB's length are given, and with 0x6a its end is at 16,777,216.
+fn with_blob(alloc: Global, low: u8, len: usize) -> Result<Vec<u8>, AllocError> {
+    let mut text = Vec::from_slice(alloc, &INSERT[..17])?;
+    text.extend_from_slice(&[4, 0x87, 0xff, 0xff, low])?;
+    text.resize(len, 0)?;
+    Ok(text)
+}
+
+#[test]
 fn longest_text(rt: HostRuntime) -> Result<(), Fail> {
     let alloc = rt.alloc();
-    let text = repeated(alloc, 0, 16_777_216)?;
-    assert_eq!(rt; fault(alloc, &text)?, (0, BadMarker));
-    let text = repeated(alloc, 0, 16_777_217)?;
+    let text = with_blob(alloc, 0x6a, 16_777_216)?;
+    assert!(rt; matches!(parse(alloc, &text), Ok(read) if read.sections().len() == 1));
+    // a zero behind the last change
+    let text = with_blob(alloc, 0x69, 16_777_216)?;
+    assert_eq!(rt; fault(alloc, &text)?, (16_777_215, BadOperation));
+    Ok(())
+}
+
+#[test]
+fn longer_texts(rt: HostRuntime) -> Result<(), Fail> {
+    let alloc = rt.alloc();
+    // whatever stands behind the limit, and also where the limit is in a value
+    let text = with_blob(alloc, 0x6a, 16_777_217)?;
     assert_eq!(rt; fault(alloc, &text)?, (16_777_216, TooLong));
+    let text = with_blob(alloc, 0x6b, 16_777_217)?;
+    assert_eq!(rt; fault(alloc, &text)?, (16_777_216, TooLong));
+    // but what is wrong before the limit comes first
+    let text = with_blob(alloc, 0x69, 16_777_217)?;
+    assert_eq!(rt; fault(alloc, &text)?, (16_777_215, BadOperation));
+    let text = repeated(alloc, 0, 16_777_217)?;
+    assert_eq!(rt; fault(alloc, &text)?, (0, BadMarker));
     Ok(())
 }

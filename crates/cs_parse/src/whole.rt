@@ -1,18 +1,20 @@
 //! Whole texts.
 
-ghost use Rattle.std.specs.Prelude.{◌≡◌, ◌<◌, ◌↔◌, ℕ, List, IfOk, Ok, get_or, length};
+ghost use Rattle.std.specs.Prelude.{◌≡◌, ◌<◌, ◌↔◌, ℕ, List, IfOk, Ok, Err, get_or, length};
 ghost use Rattle.cs_model.specs.declared.change.Section.{Section};
-ghost use Rattle.cs_model.specs.Changeset.{AreInserts};
 ghost use Rattle.cs_model.specs.Text.{Spells};
-ghost use Rattle.cs_parse.specs.Answer.{IsRead, Answers};
-ghost use Rattle.cs_parse.specs.Reading.{answer_of, Gives, section_at, is_empty, many_at, sections_at};
+ghost use Rattle.cs_parse.specs.Answer.{IsRead, Answers, stopped};
+ghost use Rattle.cs_parse.specs.Reading.{answer_of, Gives, section_at, is_empty, many_at, sections_at, placed, cut};
 
+use crate::change::changes_of;
 use crate::fault::{FaultKind, ParseError, ParseFault};
 use crate::header::header_of;
-use crate::record::changes_of;
 use crate::stop::Stop;
 use cs_model::{Changeset, Section, Seq};
 use std::alloc::Global;
+
+// the most bytes of a text
+const MOST_BYTES: usize = 16_777_216;
 
 // A section. The one before it ends only where a `T` follows, so another first byte is the first of the text.
 #[tactic(auto, unfolding(crate::specs::Reading::section_at))]
@@ -55,39 +57,64 @@ fn sections_of(alloc: Global, bytes: &[u8]) -> Result<(Vec<Section>, &[u8]), Sto
     Ok((sections, rest))
 }
 
-// the sections of a whole text
+// Why no changeset is read, where the reader stopped in the text's first `len` bytes, and what it is when they end
+// too early.
+fn error_of(stop: Stop, len: usize, ended: FaultKind) -> ParseError
+    ensures { result ≡ stopped len ended stop }
+{
+    match stop {
+        Stop::Memory => ParseError::Memory,
+        Stop::Short => ParseError::Fault(ParseFault {
+            at: len,
+            kind: ended,
+        }),
+        // the byte stands in the text, so that no more bytes are left than it has
+        Stop::Bad { left, kind } => ParseError::Fault(ParseFault {
+            at: len.saturating_sub(left),
+            kind,
+        }),
+    }
+}
+
+// the sections of a text that isn't too long
+fn whole_of(alloc: Global, text: &[u8]) -> Result<Seq<Section>, ParseError>
+    ensures { Answers result (placed (length text.now) (sections_at text.now)) }
+{
+    match sections_of(alloc, text) {
+        Ok((sections, _)) => Ok(Seq::from_vec(sections)),
+        Err(stop) => Err(error_of(stop, text.len(), FaultKind::Truncated)),
+    }
+}
+
+// what is wrong with a text that is too long and begins so
+fn cut_of(alloc: Global, front: &[u8]) -> ParseError
+    ensures { Answers (Err result) (cut (length front.now) (sections_at front.now)) }
+{
+    let stop = match sections_of(alloc, front) {
+        Ok(_) => Stop::Short,
+        Err(stop) => stop,
+    };
+    error_of(stop, front.len(), FaultKind::TooLong)
+}
+
+// the sections of a text
 #[tactic(auto, unfolding(crate::specs::Reading::answer_of))]
 fn read(alloc: Global, text: &[u8]) -> Result<Seq<Section>, ParseError>
     ensures { Answers result (answer_of text.now) }
 {
-    if text.len() > 16_777_216 {
-        return Err(ParseError::Fault(ParseFault {
-            at: 16_777_216,
-            kind: FaultKind::TooLong,
-        }));
+    if text.len() > MOST_BYTES {
+        return Err(cut_of(alloc, &text[..MOST_BYTES]));
     }
-    match sections_of(alloc, text) {
-        Ok((sections, _)) => Ok(Seq::from_vec(sections)),
-        Err(Stop::Memory) => Err(ParseError::Memory),
-        Err(Stop::Short) => Err(ParseError::Fault(ParseFault {
-            at: text.len(),
-            kind: FaultKind::Truncated,
-        })),
-        // the byte stands in the text, so that no more bytes are left than it has
-        Err(Stop::Bad { left, kind }) => Err(ParseError::Fault(ParseFault {
-            at: text.len().saturating_sub(left),
-            kind,
-        })),
-    }
+    whole_of(alloc, text)
 }
 
-/// The changeset that `text` spells, where each of its changes is an INSERT; else a fault, or `Memory`.
-/// A text of more than 16,777,216 bytes is refused as `TooLong` without being read.
+/// The changeset that `text` spells; else the text's first fault, or `Memory`.
+/// Of a text of more than 16,777,216 bytes only so many are read: it is `TooLong`, unless something is wrong in them.
 pub fn parse(alloc: Global, text: &[u8]) -> Result<Changeset, ParseError>
     // What is read is spelled so.
-    ensures found { IfOk result (λ changeset. Spells text.now changeset × AreInserts changeset) }
+    ensures found { IfOk result (λ changeset. Spells text.now changeset) }
     // What is spelled so is read, unless memory runs out.
-    ensures only { (changeset : List Section) → Spells text.now changeset → AreInserts changeset → IsRead result changeset }
+    ensures only { (changeset : List Section) → Spells text.now changeset → IsRead result changeset }
     // And the answer is determined by the text.
     ensures exact { Answers result (answer_of text.now) }
 {
@@ -98,5 +125,5 @@ pub fn parse(alloc: Global, text: &[u8]) -> Result<Changeset, ParseError>
 /// What reading a text gives is what the text spells.
 pub fn reading_is_spelling()
     ensures { (text : List ℕ) (changeset : List Section) → ((i : ℕ) → get_or text i 0 < 256)
-        → (answer_of text ≡ Ok changeset) ↔ (Spells text changeset × AreInserts changeset) }
+        → (answer_of text ≡ Ok changeset) ↔ Spells text changeset }
 {}

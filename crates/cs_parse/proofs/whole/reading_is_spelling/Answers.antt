@@ -2,4 +2,4 @@ use Rattle.cs_parse.proofs.TextLaws.{answer_takes, answer_again}
 use Rattle.cs_parse.proofs.whole.reading_is_spelling.Goals as goal
 
 pub returns : goal.returns
-returns c = λ text changeset fits. (answer_takes text changeset fits, λ h. answer_again text changeset h.0 h.1)
+returns c = λ text changeset fits. (answer_takes text changeset fits, answer_again text changeset)

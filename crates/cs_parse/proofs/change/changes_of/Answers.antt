@@ -2,8 +2,8 @@ use Rattle.std.proofs.Common.{length, inl, inr, sym, ◌∙◌, arith}
 use Rattle.std.proofs.lemmas.Result.{err_from_is_err_and}
 use Rattle.cs_parse.specs.Reading.{ends_section, change_at, many_at, changes_at}
 use Rattle.cs_parse.proofs.Loops.{many_goes_on, many_ends, many_is_done}
-use Rattle.cs_parse.proofs.record.changes_of.Goals.{else-loop-test, then-loop-test+then-is_over}
-use Rattle.cs_parse.proofs.record.changes_of.Goals as goal
+use Rattle.cs_parse.proofs.change.changes_of.Goals.{else-loop-test, then-loop-test+then-is_over}
+use Rattle.cs_parse.proofs.change.changes_of.Goals as goal
 
 pub returns-in_err-change : goal.returns-in_err-change
 unfolding changes_at

@@ -1,0 +1,67 @@
+//! What a field may be, and what is wrong with its type byte.
+
+ghost use Rattle.std.specs.Prelude.{◌≡◌, ℕ};
+ghost use Rattle.cs_model.specs.Rule.{new_rule};
+ghost use Rattle.cs_parse.specs.FieldRules.{rule_of, column_rule};
+ghost use Rattle.cs_parse.specs.Reading.{type_refusal};
+
+use crate::fault::FaultKind;
+use cs_model::Field;
+
+/// What a field may be, by its column and the record that it stands in.
+#[derive(Clone, Copy)]
+pub enum FieldRule {
+    /// A value that isn't NULL: a key column.
+    Key,
+    /// A value, NULL or not: the one record of an INSERT or a DELETE.
+    Given,
+    /// Anything: the old record of an UPDATE.
+    Open,
+    /// Nothing: a key column in an UPDATE's new record.
+    Blank,
+    /// A value, since the UPDATE's old record has one.
+    Both,
+    /// Nothing, since the UPDATE's old record has none.
+    Neither,
+}
+
+/// A column's rule by its key byte, where a column outside the key has the rule `outside`.
+pub fn rule_by_flag(flag: u8, outside: FieldRule) -> FieldRule
+    ensures { rule_of result ≡ column_rule (rule_of outside) flag }
+{
+    if flag == 0 { outside } else { FieldRule::Key }
+}
+
+/// A column's rule in an UPDATE's new record, by its key byte and its field in the old record.
+pub fn rule_by_old(flag: u8, old: &Field) -> FieldRule
+    ensures { (byte : ℕ) → type_refusal (rule_of result) byte ≡ type_refusal (new_rule flag old.now) byte }
+{
+    if flag != 0 {
+        return FieldRule::Blank;
+    }
+    match old {
+        Field::Undefined => FieldRule::Neither,
+        Field::Is(_) => FieldRule::Both,
+    }
+}
+
+/// What is wrong with a type byte under a rule.
+pub fn type_fault(rule: FieldRule, byte: u8) -> Option<FaultKind>
+    ensures { result ≡ type_refusal (rule_of rule) byte }
+{
+    if byte > 5 {
+        return Some(FaultKind::BadType);
+    }
+    if byte == 2 {
+        return Some(FaultKind::Real);
+    }
+    let undefined = byte == 0;
+    match rule {
+        FieldRule::Key => (undefined || byte == 5).then_some(FaultKind::KeyMissing),
+        FieldRule::Given => undefined.then_some(FaultKind::UndefinedField),
+        FieldRule::Open => None,
+        FieldRule::Blank => (!undefined).then_some(FaultKind::KeyChanged),
+        FieldRule::Both => undefined.then_some(FaultKind::OneSided),
+        FieldRule::Neither => (!undefined).then_some(FaultKind::OneSided),
+    }
+}
