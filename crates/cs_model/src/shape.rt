@@ -3,7 +3,7 @@
 use crate::seq::Octets;
 
 /// A table as a changeset's header names it.
-#[derive(Debug, Drop, PartialEq, Eq)]
+#[derive(Debug, Drop, PartialEq, Eq, Hash)]
 pub struct Shape {
     /// The table's name, 1 to 1,024 bytes without a zero byte.
     pub name: Octets,

@@ -1,0 +1,6 @@
+pub mod Shapes
+pub mod GroupLaws
+pub mod Lengths
+pub mod TextLaws
+pub mod FormLaws
+pub mod SpellLaws

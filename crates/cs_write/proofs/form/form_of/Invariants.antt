@@ -1,0 +1,7 @@
+use Rattle.std.proofs.Common.{◌≡◌, ◌++◌}
+use Rattle.cs_write.specs.Canon.{canon_of}
+use Rattle.cs_write.specs.Seen.{seen}
+use Rattle.cs_write.proofs.form.form_of.Given as goal
+
+abbrev pub invariant-loop-shape : goal.invariant-loop-shape
+invariant-loop-shape l = l.form.items ++ canon_of (seen l.shape-iterator) ≡ canon_of (seen l.groups.entries)

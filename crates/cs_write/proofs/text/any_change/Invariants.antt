@@ -1,0 +1,8 @@
+use Rattle.std.proofs.Common.{◌≡◌, drop}
+use Rattle.cs_write.specs.Canon.{all_changes}
+use Rattle.cs_write.specs.Seen.{sections_of}
+use Rattle.cs_write.proofs.text.any_change.Given as goal
+
+-- the changes of the sections that are left are all there are
+abbrev pub invariant-loop-section : goal.invariant-loop-section
+invariant-loop-section l = all_changes (sections_of (drop l.section-index l.sections)) ≡ all_changes (sections_of l.sections)

@@ -1,0 +1,42 @@
+-- The canonical form of a changeset.
+use Rattle.std.specs.Prelude.{ℕ, Bool, List, [], ◌∷◌, length, map, filter, nat_lt, if◌then◌else◌}
+use Rattle.std.specs.List.{flat_map}
+use Rattle.cs_model.specs.declared.shape.Shape.{Shape}
+use Rattle.cs_model.specs.declared.change.Change.{Change}
+use Rattle.cs_model.specs.declared.change.Section.{Section}
+use Rattle.cs_model.specs.Schema.{same_shape, has_shape}
+
+-- A shape with sections that have it.
+abbrev pub Group : Type 0
+Group = Shape × List Section
+
+-- the sections with this shape, in order
+abbrev pub with_shape : Shape → List Section → List Section
+with_shape shape sections = filter (λ section. same_shape section.shape shape) sections
+
+-- The sections by their shapes: each shape at the place of its first section, with all sections that have it. Those
+-- of an earlier shape are left out.
+unfoldable pub by_shape : List Shape → List Section → List Group
+by_shape earlier [] = []
+by_shape earlier (section ∷ sections) =
+    if has_shape earlier section.shape then by_shape earlier sections
+    else (section.shape, section ∷ with_shape section.shape sections) ∷ by_shape (section.shape ∷ earlier) sections
+
+-- the changes of these sections, in order
+abbrev pub all_changes : List Section → List Change
+all_changes sections = flat_map (λ section. section.changes) sections
+
+-- one section for a group
+abbrev pub joined : Group → Section
+joined group = record { shape = group.0; changes = all_changes group.1 }
+
+abbrev pub has_changes : Section → Bool
+has_changes section = nat_lt 0 (length section.changes)
+
+-- The canonical form: one section for each shape, at the place of the first with that shape, with the changes of all
+-- of them in order; and none without changes.
+abbrev pub canon_of : List Group → List Section
+canon_of groups = filter has_changes (map joined groups)
+
+abbrev pub canon : List Section → List Section
+canon sections = canon_of (by_shape [] sections)

@@ -1,0 +1,4 @@
+pub mod Canon
+pub mod Text
+pub mod Groups
+pub mod Seen

@@ -1,0 +1,41 @@
+//! Sections by their shapes.
+
+ghost use Rattle.std.specs.Prelude.{◌≡◌, [], map as list_map, IfOk, OnOk};
+ghost use Rattle.cs_write.specs.Canon.{by_shape};
+ghost use Rattle.cs_write.specs.Groups.{added};
+ghost use Rattle.cs_write.specs.Seen.{seen};
+
+use cs_model::{CopyIn, Section, Shape};
+use indexmap::IndexMap;
+use std::alloc::{AllocError, Global};
+
+/// The sections of each shape, the shapes in the order of their first sections.
+pub type Groups<'a> = IndexMap<Shape, Vec<&'a Section>>;
+
+// Adds a section to the group of its shape, or as the first of a new one.
+fn add<'a>(alloc: Global, groups: &mut Groups<'a>, section: &'a Section) -> Result<(), AllocError>
+    ensures ok { OnOk result (seen groups.new.entries ≡ added (seen groups.old.entries) section.now) }
+{
+    if let Some(place) = groups.get_index_of(&section.shape) {
+        if let Some(group) = groups.get_index_mut(place) {
+            group.push(section)?;
+        }
+        return Ok(());
+    }
+    let shape = section.shape.copy_in(alloc)?;
+    let mut group = Vec::new(alloc);
+    group.push(section)?;
+    groups.insert(shape, group)?;
+    Ok(())
+}
+
+/// The groups of a changeset's sections.
+pub fn groups_of<'a>(alloc: Global, sections: &'a [Section]) -> Result<Groups<'a>, AllocError>
+    ensures { IfOk result (λ groups. seen groups.entries ≡ by_shape [] sections.now) }
+{
+    let mut groups = IndexMap::new(alloc);
+    for section in sections {
+        add(alloc, &mut groups, section)?;
+    }
+    Ok(groups)
+}

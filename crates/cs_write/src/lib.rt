@@ -1,0 +1,14 @@
+//! The canonical writer: one form and one text for every spelling of a changeset. Theorems: `canonical` is `canon`,
+//! `write` is `text_of`, and where that text is within the limit it spells the canonical form.
+#![tactic(auto)]
+
+mod form;
+mod groups;
+mod length;
+mod pushing;
+#[cfg(test)]
+mod tests;
+mod text;
+
+pub use form::canonical;
+pub use text::{text_spells_form, write};

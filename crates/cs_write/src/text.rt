@@ -1,0 +1,115 @@
+//! The canonical text.
+
+ghost use Rattle.std.specs.Prelude.{◌≡◌, ◌++◌, ◌≤◌, ◌^◌, [], List, length, nat_lt, IfOk, IfSome, OnOk};
+ghost use Rattle.cs_model.specs.declared.change.Section.{Section};
+ghost use Rattle.cs_model.specs.Changeset.{IsChangeset, most_bytes};
+ghost use Rattle.cs_model.specs.Text.{Spells};
+ghost use Rattle.cs_write.specs.Canon.{canon, all_changes};
+ghost use Rattle.cs_write.specs.Text.{changes_text, text_of};
+ghost use Rattle.cs_write.specs.Groups.{group_text, groups_text};
+ghost use Rattle.cs_write.specs.Seen.{seen, sections_of};
+
+use crate::groups::{Groups, groups_of};
+use crate::length::{changes_len, header_len};
+use crate::pushing::{push_changes, push_header};
+use bytes::Bytes;
+use cs_model::{Change, Changeset, Section, Shape, varint_spelled};
+use std::alloc::{AllocError, Global};
+
+// whether these sections have a change
+fn any_change(sections: &[&Section]) -> bool
+    ensures { result ≡ nat_lt 0 (length (all_changes (sections_of sections.now))) }
+{
+    for section in sections {
+        let changes: &[Change] = &section.changes;
+        if !changes.is_empty() {
+            return true;
+        }
+    }
+    false
+}
+
+// how many bytes the changes of these sections have
+fn sections_len(sections: &[&Section]) -> Option<usize>
+    ensures { IfSome result (λ n. n ≡ length (changes_text (all_changes (sections_of sections.now)))) }
+{
+    let mut len: usize = 0;
+    for section in sections {
+        len = len.checked_add(changes_len(&section.changes)?)?;
+    }
+    Some(len)
+}
+
+// how many bytes a group has: none where it has no change
+fn group_len(shape: &Shape, sections: &[&Section]) -> Option<usize>
+    ensures { IfSome result (λ n. n ≡ length (group_text (shape.now, sections_of sections.now))) }
+{
+    if !any_change(sections) {
+        return Some(0);
+    }
+    header_len(shape)?.checked_add(sections_len(sections)?)
+}
+
+// how many bytes the canonical text has
+fn groups_len(groups: &Groups) -> Option<usize>
+    ensures { IfSome result (λ n. n ≡ length (groups_text (seen groups.now.entries))) }
+{
+    let mut len: usize = 0;
+    for (shape, sections) in groups.iter() {
+        len = len.checked_add(group_len(shape, sections)?)?;
+    }
+    Some(len)
+}
+
+// the changes of these sections
+fn push_sections(out: &mut Vec<u8>, sections: &[&Section]) -> Result<(), AllocError>
+    ensures ok { OnOk result (out.new.items ≡ out.old.items ++ changes_text (all_changes (sections_of sections.now))) }
+{
+    for section in sections {
+        push_changes(out, &section.changes)?;
+    }
+    Ok(())
+}
+
+// a group, where it has a change
+fn push_group(out: &mut Vec<u8>, shape: &Shape, sections: &[&Section]) -> Result<(), AllocError>
+    ensures ok { OnOk result (out.new.items ≡ out.old.items ++ group_text (shape.now, sections_of sections.now)) }
+{
+    if !any_change(sections) {
+        return Ok(());
+    }
+    push_header(out, shape)?;
+    push_sections(out, sections)
+}
+
+// all groups, in a buffer of their exact length
+fn bytes_of(alloc: Global, groups: &Groups) -> Result<Vec<u8>, AllocError>
+    ensures { IfOk result (λ text. text.items ≡ groups_text (seen groups.now.entries)) }
+{
+    let Some(len) = groups_len(groups) else {
+        return Err(AllocError);
+    };
+    let mut out = Vec::with_capacity(alloc, len)?;
+    for (shape, sections) in groups.iter() {
+        push_group(&mut out, shape, sections)?;
+    }
+    Ok(out)
+}
+
+/// The canonical text of a changeset: that of `canonical`, with shortest varints and indirect bytes 0 and 1. The
+/// buffer is taken once, at the text's length, and nothing of the changeset is copied besides. `AllocError` where
+/// memory runs out.
+pub fn write(alloc: Global, changeset: &Changeset) -> Result<Bytes, AllocError>
+    ensures { IfOk result (λ text. text ≡ text_of changeset.now) }
+{
+    let groups = groups_of(alloc, changeset.sections())?;
+    Ok(Bytes::from_vec(bytes_of(alloc, &groups)?)?)
+}
+
+/// What `write` gives spells what `canonical` gives, where it is within the limit of a text.
+pub fn text_spells_form()
+    ensures { (sections : List Section) → IsChangeset sections → length (text_of sections) ≤ most_bytes
+        → Spells (text_of sections) (canon sections) }
+{
+    varint_spelled();
+}
