@@ -1,5 +1,6 @@
 -- What `parse` answers, against what a text spells or what reading it gives.
 use Rattle.std.specs.Prelude.{◌≡◌, ℕ, ◌-◌, List, Result, Ok, Err}
+use Rattle.std.specs.Borrow.{Bor}
 use Rattle.cs_model.specs.declared.change.Section.{Section}
 use Rattle.cs_parse.specs.declared.fault.FaultKind.{FaultKind}
 use Rattle.cs_parse.specs.declared.fault.ParseFault.{ParseFault}
@@ -25,3 +26,8 @@ abbrev pub stopped : ℕ → FaultKind → Stop → ParseError
 stopped len ended stops.Memory = Memory
 stopped len ended stops.Short = Fault (record { at = len; kind = ended })
 stopped len ended (stops.Bad left kind) = Fault (record { at = len - left; kind = kind })
+
+-- the same of an answer that shows the changeset where it stands
+abbrev pub Shows : Result (Bor (List Section)) ParseFault → Result (List Section) ParseFault → Type 0
+Shows (Ok found) answer = answer ≡ Ok found.now
+Shows (Err fault) answer = answer ≡ Err fault

@@ -1,3 +1,4 @@
 pub mod Answer
 pub mod FieldRules
 pub mod Reading
+pub mod Pieces

@@ -7,11 +7,13 @@ mod fault;
 mod field;
 mod header;
 mod number;
+mod pieces;
 mod record;
 mod rule;
 mod stop;
 mod whole;
 
+pub use pieces::PieceParser;
 pub use fault::{FaultKind, ParseError, ParseFault};
 pub use whole::{parse, reading_is_spelling};
 

@@ -1,0 +1,59 @@
+-- A text that comes in pieces.
+use Rattle.std.specs.Prelude.{◌≡◌, ℕ, Bool, true, false, List, ◌++◌, length, Option, Some, None, Result, Ok, Err, if◌then◌else◌}
+use Rattle.cs_model.specs.declared.change.Section.{Section}
+use Rattle.cs_parse.specs.declared.fault.FaultKind.{FaultKind}
+use Rattle.cs_parse.specs.declared.fault.FaultKind.TheVariants as kind
+use Rattle.cs_parse.specs.declared.fault.ParseFault.{ParseFault}
+use Rattle.cs_parse.specs.declared.fault.ParseError.{ParseError}
+use Rattle.cs_parse.specs.declared.fault.ParseError.TheVariants.{Fault, Memory}
+use Rattle.cs_parse.specs.Reading.{answer_of}
+
+-- whether more bytes may mend a fault: that the text ends too early
+abbrev pub may_be_mended : FaultKind → Bool
+may_be_mended kind.BadMarker = false
+may_be_mended kind.Patchset = false
+may_be_mended kind.Columns = false
+may_be_mended kind.NoKey = false
+may_be_mended kind.EmptyName = false
+may_be_mended kind.NameTooLong = false
+may_be_mended kind.BadOperation = false
+may_be_mended kind.BadType = false
+may_be_mended kind.Real = false
+may_be_mended kind.UndefinedField = false
+may_be_mended kind.KeyMissing = false
+may_be_mended kind.KeyChanged = false
+may_be_mended kind.OneSided = false
+may_be_mended kind.ValueTooLong = false
+may_be_mended kind.TooLong = false
+may_be_mended kind.Truncated = true
+
+-- the fault that no more bytes mend
+abbrev pub lasting : Result (List Section) ParseFault → Option ParseFault
+lasting (Ok sections) = None
+lasting (Err fault) = if may_be_mended fault.kind then None else Some fault
+
+-- that of a text
+abbrev pub fault_in : List ℕ → Option ParseFault
+fault_in text = lasting (answer_of text)
+
+-- The text once a piece has come. Behind a fault nothing is added.
+abbrev pub behind : Option ParseFault → List ℕ → List ℕ → List ℕ
+behind None text piece = text ++ piece
+behind (Some fault) text piece = text
+
+abbrev pub taken : List ℕ → List ℕ → List ℕ
+taken text piece = behind (fault_in text) text piece
+
+-- how many bytes were taken, or the place of the fault
+abbrev pub reached : Option ParseFault → ℕ → ℕ
+reached None len = len
+reached (Some fault) len = fault.at
+
+abbrev pub offset_of : List ℕ → ℕ
+offset_of text = reached (fault_in text) (length text)
+
+-- What `feed` answers, and the text behind it: the fault of the text with the piece, or none; without memory nothing is taken.
+abbrev pub Fed : {A : Type 0} → Result A ParseError → List ℕ → List ℕ → List ℕ → Type 0
+Fed (Ok done) old piece new = (fault_in (taken old piece) ≡ None) × (new ≡ taken old piece)
+Fed (Err (Fault fault)) old piece new = (fault_in (taken old piece) ≡ Some fault) × (new ≡ taken old piece)
+Fed (Err Memory) old piece new = new ≡ old

@@ -1,0 +1,116 @@
+//! A text that comes in pieces.
+
+ghost use Rattle.std.specs.Prelude.{◌≡◌, ◌++◌, [], IfOk, OnOk, OnErr};
+ghost use Rattle.cs_parse.specs.Reading.{answer_of};
+ghost use Rattle.cs_parse.specs.Pieces.{lasting, offset_of, Fed};
+ghost use Rattle.cs_parse.specs.Answer.{Answers, Shows};
+
+use crate::fault::{FaultKind, ParseError, ParseFault};
+use crate::whole::parse;
+use cs_model::{Changeset, Seq};
+use std::alloc::Global;
+use std::marker::Model;
+
+/// Reads a text that comes in pieces of any size. Contracts see the bytes taken so far. What is answered depends on
+/// these alone, and not on how they were cut.
+///
+/// So far it keeps the bytes and reads them anew at each piece, so that many small pieces cost the square of the
+/// text's length.
+#[derive(Debug, Drop)]
+pub struct PieceParser {
+    text: Vec<u8>,
+    answer: Result<Changeset, ParseFault>,
+}
+
+impl Model for PieceParser {
+    ghost use Rattle.std.specs.Prelude.{◌≡◌, ℕ, List};
+    ghost use Rattle.cs_parse.specs.Reading.{answer_of};
+
+    ghost Value = { List ℕ };
+
+    ghost view = { λ p. p.text.items };
+
+    ghost invariant = { λ p. answer_of p.text.items ≡ p.answer };
+}
+
+impl PieceParser {
+    /// A parser that has taken nothing. It takes no memory.
+    #[tactic(auto, unfolding(crate::specs::Reading::answer_of, crate::specs::Reading::sections_at, crate::specs::Reading::many_at))]
+    pub fn new(alloc: Global) -> PieceParser
+        ensures { result ≡ [] }
+    {
+        PieceParser {
+            text: Vec::new(alloc),
+            answer: Ok(Changeset::from_seq(Seq::from_vec(Vec::new(alloc)))),
+        }
+    }
+
+    /// Takes the next piece. It is a fault from the piece on that holds the fault's byte, and then at every call,
+    /// which takes nothing more; that the text isn't whole yet is none. `Memory` leaves the parser as it was.
+    pub fn feed(&mut self, alloc: Global, piece: &[u8]) -> Result<(), ParseError>
+        ensures { Fed result self.old piece.now self.new }
+    {
+        if let Some(fault) = lasting_of(&self.answer) {
+            return Err(ParseError::Fault(fault));
+        }
+        let start = self.text.len();
+        if self.text.extend_from_slice(piece).is_err() {
+            return Err(ParseError::Memory);
+        }
+        let answer = match parse(alloc, &self.text) {
+            Ok(changeset) => Ok(changeset),
+            Err(ParseError::Fault(fault)) => Err(fault),
+            Err(ParseError::Memory) => {
+                self.text.truncate(start);
+                return Err(ParseError::Memory);
+            }
+        };
+        self.answer = answer;
+        match lasting_of(&self.answer) {
+            None => Ok(()),
+            Some(fault) => Err(ParseError::Fault(fault)),
+        }
+    }
+
+    /// The changeset that the bytes taken so far spell, or their fault. It changes nothing and takes no memory, so
+    /// that feeding may go on.
+    pub fn finish(&self) -> Result<&Changeset, ParseFault>
+        ensures { Shows result (answer_of self.now) }
+    {
+        match &self.answer {
+            Ok(changeset) => Ok(changeset),
+            Err(fault) => Err(*fault),
+        }
+    }
+
+    /// The same as the parser's end: the changeset without a copy.
+    pub fn into_changeset(self) -> Result<Changeset, ParseFault>
+        ensures { result ≡ answer_of self }
+    {
+        let PieceParser { text: _, answer } = self;
+        answer
+    }
+
+    /// How many bytes were taken so far; after a fault its place.
+    pub fn offset(&self) -> usize
+        ensures { result ≡ offset_of self.now }
+    {
+        match lasting_of(&self.answer) {
+            None => self.text.len(),
+            Some(fault) => fault.at,
+        }
+    }
+}
+
+// the fault that no more bytes mend
+fn lasting_of(answer: &Result<Changeset, ParseFault>) -> Option<ParseFault>
+    ensures { result ≡ lasting answer.now }
+{
+    match answer {
+        Ok(_) => None,
+        Err(fault) => match fault.kind {
+            FaultKind::Truncated => None,
+            _ => Some(*fault),
+        },
+    }
+}
