@@ -10,6 +10,8 @@ use Rattle.cs_model.specs.declared.shape.Shape.{Shape}
 use Rattle.cs_model.specs.Schema.{refusal_of}
 use Rattle.cs_parse.specs.declared.fault.ParseFault.{ParseFault}
 use Rattle.cs_parse.specs.Reading.{answer_of}
+use Rattle.cs_parse.specs.Pieces as pieces
+use Rattle.cs_parse.specs.Pieces.{fault_in}
 use Rattle.cs_apply.specs.declared.conflict.Conflict.{Conflict}
 use Rattle.cs_apply.specs.State as tables
 use Rattle.cs_apply.specs.Single.{single}
@@ -19,12 +21,12 @@ use Rattle.rb_core.specs.declared.reply.Reply.{Reply}
 use Rattle.rb_core.specs.declared.reply.Reply.TheVariants as reply
 use Rattle.rb_core.specs.declared.reply.Refusal.{Refusal}
 use Rattle.rb_core.specs.declared.parts.Publisher.{Publisher}
-use Rattle.rb_core.specs.declared.parts.Entry.{Entry}
+use Rattle.rb_core.specs.declared.entry.Item.{Item}
 use Rattle.rb_core.specs.declared.parts.Subscription.{Subscription}
 use Rattle.rb_core.specs.declared.parts.Handed.{Handed}
 use Rattle.rb_core.specs.declared.config.Config.{Config}
 use Rattle.rb_core.specs.State.{State, empty_world}
-use Rattle.rb_core.specs.Outcome.{outcome, fed, ended, parsed, admitted, sent, staged_of, turned, taken, numbered, delivered, reached, opened, accepted, subscribe_outcome, fault_refusal, with_accepted}
+use Rattle.rb_core.specs.Outcome.{outcome, fed_reply, fed, reset, ended, parsed, admitted, sent, staged_of, turned, taken, numbered, delivered, reached, opened, accepted, subscribe_outcome, fault_refusal, with_accepted}
 use Rattle.rb_core.specs.Run.{Answer, Stepped, Run, accepted_now, accepted_by, RiseAbove}
 
 -- the cursor of the subscription at a place, and 0 where there is none
@@ -73,9 +75,17 @@ Quiet given = (s c : ℕ) → given ≡ reply.Accepted s c → ⊥
 still : (s : ℕ) (old : State) (given : Reply) (new : State) → Quiet given → cursor_at old.subscriptions s ≤ cursor_at new.subscriptions s → Keeps s old given new
 still s old given new quiet le = record { climbs = le; above = λ c e. absurd (quiet s c e) }
 
+quiet_feed : (o : Option ParseFault) → Quiet (fed_reply o)
+quiet_feed None = λ s c e. absurd cc
+quiet_feed (Some fault) = λ s c e. absurd cc
+
 keeps_feed : (s : ℕ) (old : State) (p : ℕ) (bytes : List ℕ) (o : Option Publisher) → Keeps s old (fed old p bytes o).0 (fed old p bytes o).1
 keeps_feed s old p bytes None = still s old _ old (λ s c e. absurd cc) (omega arith)
-keeps_feed s old p bytes (Some q) = still s old _ _ (λ s c e. absurd cc) (omega arith)
+keeps_feed s old p bytes (Some q) = still s old _ _ (quiet_feed (fault_in (pieces.taken q.stream bytes))) (omega arith)
+
+keeps_reset : (s : ℕ) (old : State) (p : ℕ) (o : Option Publisher) → Keeps s old (reset old p o).0 (reset old p o).1
+keeps_reset s old p None = still s old _ old (λ s c e. absurd cc) (omega arith)
+keeps_reset s old p (Some q) = still s old _ _ (λ s c e. absurd cc) (omega arith)
 
 keeps_admitted : (s : ℕ) (old : State) (p : ℕ) (q : Publisher) (c : List Section) (o : Option SchemaFault) → Keeps s old (admitted old p q c o).0 (admitted old p q c o).1
 keeps_admitted s old p q c None = still s old _ _ (λ s c e. absurd cc) (omega arith)
@@ -95,7 +105,7 @@ keeps_send s old p None staged = still s old _ old (λ s c e. absurd cc) (omega 
 keeps_send s old p (Some q) None = still s old _ old (λ s c e. absurd cc) (omega arith)
 keeps_send s old p (Some q) (Some c) = still s old _ _ (λ s c e. absurd cc) (omega arith)
 
-keeps_turn : (s : ℕ) (old : State) (waiting : List Entry) → Keeps s old (turned old waiting).0 (turned old waiting).1
+keeps_turn : (s : ℕ) (old : State) (waiting : List Item) → Keeps s old (turned old waiting).0 (turned old waiting).1
 keeps_turn s old [] = still s old _ old (λ s c e. absurd cc) (omega arith)
 keeps_turn s old (entry ∷ rest) = still s old _ _ (λ s c e. absurd cc) (omega arith)
 
@@ -134,7 +144,7 @@ keeps_accepted s old handed q (Ok t) found lt =
 keeps_accepted s old handed q (Err conflict) found lt =
     still s old _ _ (λ s c e. absurd cc) (cursor_at-set old.subscriptions handed.subscription q q s found (omega arith))
 
-keeps_opened : (s : ℕ) (old : State) (handed : Handed) (q : Subscription) (o : Option Entry) → slice_get old.subscriptions handed.subscription ≡ Some q → q.cursor < handed.last → Keeps s old (opened old handed q o).0 (opened old handed q o).1
+keeps_opened : (s : ℕ) (old : State) (handed : Handed) (q : Subscription) (o : Option Item) → slice_get old.subscriptions handed.subscription ≡ Some q → q.cursor < handed.last → Keeps s old (opened old handed q o).0 (opened old handed q o).1
 keeps_opened s old handed q None found lt = still s old _ old (λ s c e. absurd cc) (omega arith)
 keeps_opened s old handed q (Some entry) found lt = keeps_accepted s old handed q (single q.tables entry.body) found lt
 
@@ -153,6 +163,7 @@ keeps : (s : ℕ) (old : State) (e : Event) → Keeps s old (outcome old e).0 (o
 unfolding outcome
 keeps s old event.Publisher = still s old _ _ (λ s c e. absurd cc) (omega arith)
 keeps s old (event.Feed p bytes) = keeps_feed s old p bytes (slice_get old.publishers p)
+keeps s old (event.Reset p) = keeps_reset s old p (slice_get old.publishers p)
 keeps s old (event.End p) = keeps_end s old p (slice_get old.publishers p) (staged_of (slice_get old.publishers p))
 keeps s old (event.Send p) = keeps_send s old p (slice_get old.publishers p) (staged_of (slice_get old.publishers p))
 keeps s old event.Turn = keeps_turn s old old.intake
@@ -176,6 +187,7 @@ accepted_now-rises s old new (reply.Accepted i c) rest keep rise = by (eqb i s) 
     by false e = RiseAbove-below _ _ rest keep.climbs rise
 accepted_now-rises s old new (reply.Publisher n) rest keep rise = RiseAbove-below _ _ rest keep.climbs rise
 accepted_now-rises s old new reply.Fed rest keep rise = RiseAbove-below _ _ rest keep.climbs rise
+accepted_now-rises s old new reply.Reset rest keep rise = RiseAbove-below _ _ rest keep.climbs rise
 accepted_now-rises s old new reply.Staged rest keep rise = RiseAbove-below _ _ rest keep.climbs rise
 accepted_now-rises s old new (reply.Sent n) rest keep rise = RiseAbove-below _ _ rest keep.climbs rise
 accepted_now-rises s old new (reply.Placed n) rest keep rise = RiseAbove-below _ _ rest keep.climbs rise

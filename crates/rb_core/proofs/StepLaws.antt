@@ -4,11 +4,11 @@ use Rattle.std.specs.Prelude.{slice_get, MatchOption, MatchResult, ◌↔◌, If
 use Rattle.std.proofs.lemmas.Bool.{ltb-true, ltb-false, leb-true, leb-false}
 use Rattle.cs_model.specs.declared.change.Section.{Section}
 use Rattle.cs_model.specs.declared.schema.SchemaFault.{SchemaFault}
-use Rattle.cs_model.specs.Changeset.{AreInserts}
 use Rattle.cs_model.specs.Schema.{refusal_of}
 use Rattle.cs_model.specs.Text.{Spells}
 use Rattle.cs_parse.specs.declared.fault.ParseFault.{ParseFault}
 use Rattle.cs_parse.specs.Reading.{answer_of}
+use Rattle.cs_parse.specs.Pieces.{fault_in, behind}
 use Rattle.cs_apply.specs.declared.conflict.Conflict.{Conflict}
 use Rattle.cs_apply.specs.State as tables
 use Rattle.cs_apply.specs.Single.{single}
@@ -19,12 +19,12 @@ use Rattle.rb_core.specs.declared.reply.Reply.TheVariants as reply
 use Rattle.rb_core.specs.declared.reply.Refusal.{Refusal}
 use Rattle.rb_core.specs.declared.reply.Refusal.TheVariants as refusal
 use Rattle.rb_core.specs.declared.parts.Publisher.{Publisher}
-use Rattle.rb_core.specs.declared.parts.Entry.{Entry}
+use Rattle.rb_core.specs.declared.entry.Item.{Item}
 use Rattle.rb_core.specs.declared.parts.Subscription.{Subscription}
 use Rattle.rb_core.specs.declared.parts.Handed.{Handed}
 use Rattle.rb_core.specs.State.{State}
-use Rattle.rb_core.specs.Outcome.{outcome, fed, ended, parsed, admitted, sent, staged_of, turned, taken, numbered, delivered, reached, opened, accepted, subscribe_outcome, fault_refusal, with_publisher, with_subscription, with_accepted}
-use Rattle.rb_core.specs.Step.{Refuses, Stages, Reads, SubscribeStep, Applies, Step}
+use Rattle.rb_core.specs.Outcome.{outcome, fed_reply, fed_stream, fed, reset, ended, parsed, admitted, sent, staged_of, turned, taken, numbered, delivered, reached, opened, accepted, subscribe_outcome, fault_refusal, with_publisher, with_subscription, with_accepted}
+use Rattle.rb_core.specs.Step.{Refuses, Adds, Stages, Reads, SubscribeStep, Applies, Step}
 use Rattle.rb_core.specs.Run.{Answer}
 
 -- a relation between a reply and a world, of an outcome
@@ -33,23 +33,38 @@ Of R x = R x.0 x.1
 
 -- what is read is what is spelled
 abbrev pub ReadingIsSpelling : Type 0
-ReadingIsSpelling = (text : List ℕ) (changeset : List Section) → ((i : ℕ) → get_or text i 0 < 256) → (answer_of text ≡ Ok changeset) ↔ (Spells text changeset × AreInserts changeset)
+ReadingIsSpelling = (text : List ℕ) (changeset : List Section) → ((i : ℕ) → get_or text i 0 < 256) → (answer_of text ≡ Ok changeset) ↔ Spells text changeset
 
 step_if : (R : Reply → State → Type 0) (b : Bool) (x y : Reply × State) → (b ≡ true → Of R x) → (b ≡ false → Of R y) → Of R (cond b x y)
 step_if R true x y left right = left refl
 step_if R false x y left right = right refl
 
 -- a thing put where it stands already
-set-found : (xs : List Subscription) (i : ℕ) (x : Subscription) → slice_get xs i ≡ Some x → set xs i x ≡ xs
+set-found : {A : Type 0} (xs : List A) (i : ℕ) (x : A) → slice_get xs i ≡ Some x → set xs i x ≡ xs
 set-found [] i x found = absurd cc
-set-found (y ∷ xs) zero x found = let e : y ≡ x = cc in ap (λ (z : Subscription). z ∷ xs) (sym e)
-set-found (y ∷ xs) (suc i) x found = ap (λ (zs : List Subscription). y ∷ zs) (set-found xs i x found)
+set-found (y ∷ xs) zero x found = let e : y ≡ x = cc in ap (λ z. z ∷ xs) (sym e)
+set-found (y ∷ xs) (suc i) x found = ap (λ zs. y ∷ zs) (set-found xs i x found)
 
-step_feed : (old : State) (p : ℕ) (bytes : List ℕ) (o : Option Publisher)
+-- what feeding does where a publisher is found
+abbrev Feeds : State → ℕ → Publisher → List ℕ → Option ParseFault → Reply → State → Type 0
+Feeds old p q bytes o given new = MatchOption o (Adds old p q bytes given new) (λ fault. (given ≡ reply.Fault fault) × (new ≡ old))
+
+step_fed : (old : State) (p : ℕ) (q : Publisher) (bytes : List ℕ) (o : Option ParseFault) → slice_get old.publishers p ≡ Some q → fault_in q.stream ≡ o
+    → Of (Feeds old p q bytes o) (fed_stream old p q (behind o q.stream bytes))
+step_fed old p q bytes None found e = (refl, refl)
+step_fed old p q bytes (Some fault) found e = (ap fed_reply e, ap (λ ps. record old { publishers = ps }) (set-found old.publishers p q found))
+
+step_feed : (old : State) (p : ℕ) (bytes : List ℕ) (o : Option Publisher) → slice_get old.publishers p ≡ o
     → Of (λ given new. MatchOption o (Refuses old refusal.NoPublisher given new)
-    (λ q. (given ≡ reply.Fed) × (new ≡ with_publisher old p (record q { stream = q.stream ++ bytes })))) (fed old p bytes o)
-step_feed old p bytes None = (refl, refl)
-step_feed old p bytes (Some q) = (refl, refl)
+    (λ q. Feeds old p q bytes (fault_in q.stream) given new)) (fed old p bytes o)
+step_feed old p bytes None found = (refl, refl)
+step_feed old p bytes (Some q) found = step_fed old p q bytes (fault_in q.stream) found refl
+
+step_reset : (old : State) (p : ℕ) (o : Option Publisher)
+    → Of (λ given new. MatchOption o (Refuses old refusal.NoPublisher given new)
+    (λ q. (given ≡ reply.Reset) × (new ≡ with_publisher old p (record q { stream = [] })))) (reset old p o)
+step_reset old p None = (refl, refl)
+step_reset old p (Some q) = (refl, refl)
 
 step_admitted : (old : State) (p : ℕ) (q : Publisher) (changeset : List Section) (o : Option SchemaFault)
     → Of (λ given new. MatchOption o ((given ≡ reply.Staged) × (new ≡ with_publisher old p (record q { stream = []; staged = Some changeset })))
@@ -59,14 +74,14 @@ step_admitted old p q changeset (Some fault) = (refl, refl)
 
 step_reads : (old : State) (p : ℕ) (q : Publisher) (r : Result (List Section) ParseFault) → answer_of q.stream ≡ r → ReadingIsSpelling → Of (Reads old p q) (parsed old p q r)
 step_reads old p q (Ok c) found reading = λ fits. (
-  λ d spells inserts.
-      let e : Ok c ≡ Ok d = sym found ∙ (reading q.stream d fits).1 (spells, inserts) in
+  λ d spells.
+      let e : Ok c ≡ Ok d = sym found ∙ (reading q.stream d fits).1 spells in
       let same : c ≡ d = cc in
       subst (λ (x : List Section). Of (Stages old p q x) (parsed old p q (Ok c))) same (step_admitted old p q c (refusal_of old.schema c)),
-  λ none. let read = (reading q.stream c fits).0 found in absurd (none c read.0 read.1),
+  λ none. let read = (reading q.stream c fits).0 found in absurd (none c read),
 )
 step_reads old p q (Err fault) found reading = λ fits. (
-  λ d spells inserts. let e : Err fault ≡ Ok d = sym found ∙ (reading q.stream d fits).1 (spells, inserts) in absurd cc,
+  λ d spells. let e : Err fault ≡ Ok d = sym found ∙ (reading q.stream d fits).1 spells in absurd cc,
   λ none. (fault, refl, refl),
 )
 
@@ -98,7 +113,7 @@ step_send : (old : State) (p : ℕ) (o : Option Publisher)
 step_send old p None = (refl, refl)
 step_send old p (Some q) = step_sent old p q q.staged
 
-step_turn : (old : State) (waiting : List Entry)
+step_turn : (old : State) (waiting : List Item)
     → Of (λ given new. MatchOption (slice_get waiting 0) ((given ≡ reply.Idle) × (new ≡ old))
     (λ entry. (given ≡ reply.Placed (length old.sequence + 1)) × (waiting ≡ entry ∷ new.intake)
     × (new ≡ record old { intake = new.intake; sequence = old.sequence ++ entry ∷ [] }))) (turned old waiting)
@@ -141,7 +156,7 @@ step_accepted old handed q (Ok t) found = (refl, refl)
 step_accepted old handed q (Err conflict) found =
     (refl, ap (λ (xs : List Subscription). record old { subscriptions = xs }) (set-found old.subscriptions handed.subscription q found))
 
-step_opened : (old : State) (handed : Handed) (q : Subscription) (o : Option Entry) → slice_get old.subscriptions handed.subscription ≡ Some q
+step_opened : (old : State) (handed : Handed) (q : Subscription) (o : Option Item) → slice_get old.subscriptions handed.subscription ≡ Some q
     → Of (λ given new. MatchOption o (Refuses old refusal.NoDelivery given new) (λ entry. Becomes old handed q (single q.tables entry.body) given new)) (opened old handed q o)
 step_opened old handed q None found = (refl, refl)
 step_opened old handed q (Some entry) found = step_accepted old handed q (single q.tables entry.body) found
@@ -171,7 +186,8 @@ step_delivered old (Some handed) = step_reached old handed (slice_get old.subscr
 pub outcome_steps : ReadingIsSpelling → (old : State) (e : Event) → Step old e (outcome old e).0 (outcome old e).1
 unfolding outcome
 outcome_steps reading old event.Publisher = (refl, refl)
-outcome_steps reading old (event.Feed p bytes) = step_feed old p bytes (slice_get old.publishers p)
+outcome_steps reading old (event.Feed p bytes) = step_feed old p bytes (slice_get old.publishers p) refl
+outcome_steps reading old (event.Reset p) = step_reset old p (slice_get old.publishers p)
 outcome_steps reading old (event.End p) = step_end old p (slice_get old.publishers p) reading
 outcome_steps reading old (event.Send p) = step_send old p (slice_get old.publishers p)
 outcome_steps reading old event.Turn = step_turn old old.intake

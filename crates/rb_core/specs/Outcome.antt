@@ -6,6 +6,7 @@ use Rattle.cs_model.specs.declared.schema.SchemaFault.TheVariants.{DuplicateTabl
 use Rattle.cs_model.specs.Schema.{refusal_of}
 use Rattle.cs_parse.specs.declared.fault.ParseFault.{ParseFault}
 use Rattle.cs_parse.specs.Reading.{answer_of}
+use Rattle.cs_parse.specs.Pieces as pieces
 use Rattle.cs_apply.specs.declared.conflict.Conflict.{Conflict}
 use Rattle.cs_apply.specs.State as tables
 use Rattle.cs_apply.specs.Single.{single}
@@ -16,7 +17,7 @@ use Rattle.rb_core.specs.declared.reply.Reply.TheVariants as reply
 use Rattle.rb_core.specs.declared.reply.Refusal.{Refusal}
 use Rattle.rb_core.specs.declared.reply.Refusal.TheVariants as refusal
 use Rattle.rb_core.specs.declared.parts.Publisher.{Publisher}
-use Rattle.rb_core.specs.declared.parts.Entry.{Entry}
+use Rattle.rb_core.specs.declared.entry.Item.{Item}
 use Rattle.rb_core.specs.declared.parts.Subscription.{Subscription}
 use Rattle.rb_core.specs.declared.parts.Handed.{Handed}
 use Rattle.rb_core.specs.State.{State, empty_tables}
@@ -42,13 +43,28 @@ abbrev pub publisher_outcome : State → Reply × State
 publisher_outcome old =
     (reply.Publisher (length old.publishers), record old { publishers = old.publishers ++ record { stream = []; staged = None; sent = 0 } ∷ [] })
 
--- Feed: the bytes go to the end of the stream
+-- Feed: the bytes go to the end of the stream, where it has no fault yet; a fault that no more bytes mend is told at once
+abbrev pub fed_reply : Option ParseFault → Reply
+fed_reply None = reply.Fed
+fed_reply (Some fault) = reply.Fault fault
+
+abbrev pub fed_stream : State → ℕ → Publisher → List ℕ → Reply × State
+fed_stream old p publisher stream = (fed_reply (pieces.fault_in stream), with_publisher old p (record publisher { stream = stream }))
+
 abbrev pub fed : State → ℕ → List ℕ → Option Publisher → Reply × State
 fed old p bytes None = refused old refusal.NoPublisher
-fed old p bytes (Some publisher) = (reply.Fed, with_publisher old p (record publisher { stream = publisher.stream ++ bytes }))
+fed old p bytes (Some publisher) = fed_stream old p publisher (pieces.taken publisher.stream bytes)
 
 abbrev pub feed_outcome : State → ℕ → List ℕ → Reply × State
 feed_outcome old p bytes = fed old p bytes (slice_get old.publishers p)
+
+-- Reset: the stream is empty again; what is staged stays
+abbrev pub reset : State → ℕ → Option Publisher → Reply × State
+reset old p None = refused old refusal.NoPublisher
+reset old p (Some publisher) = (reply.Reset, with_publisher old p (record publisher { stream = [] }))
+
+abbrev pub reset_outcome : State → ℕ → Reply × State
+reset_outcome old p = reset old p (slice_get old.publishers p)
 
 -- End: what the stream spells is staged where the schema admits it, and the stream is empty; else it stays.
 abbrev pub fault_refusal : SchemaFault → Refusal
@@ -91,7 +107,7 @@ abbrev pub send_outcome : State → ℕ → Reply × State
 send_outcome old p = sent old p (slice_get old.publishers p) (staged_of (slice_get old.publishers p))
 
 -- Turn: the intake's first entry becomes the last one of the sequence
-abbrev pub turned : State → List Entry → Reply × State
+abbrev pub turned : State → List Item → Reply × State
 turned old [] = (reply.Idle, old)
 turned old (entry ∷ rest) = (reply.Placed (length old.sequence + 1), record old { intake = rest; sequence = old.sequence ++ entry ∷ [] })
 
@@ -131,7 +147,7 @@ accepted handed subscription (Err conflict) = (reply.Refused (refusal.Conflict c
 abbrev pub with_accepted : State → ℕ → Reply × Subscription → Reply × State
 with_accepted old s given = (given.0, with_subscription old s given.1)
 
-abbrev pub opened : State → Handed → Subscription → Option Entry → Reply × State
+abbrev pub opened : State → Handed → Subscription → Option Item → Reply × State
 opened old handed subscription None = refused old refusal.NoDelivery
 opened old handed subscription (Some entry) =
     with_accepted old handed.subscription (accepted handed subscription (single subscription.tables entry.body))
@@ -153,6 +169,7 @@ accept_outcome old d = delivered old (numbered old.deliveries d)
 unfoldable pub outcome : State → Event → Reply × State
 outcome old event.Publisher = publisher_outcome old
 outcome old (event.Feed p bytes) = feed_outcome old p bytes
+outcome old (event.Reset p) = reset_outcome old p
 outcome old (event.End p) = end_outcome old p
 outcome old (event.Send p) = send_outcome old p
 outcome old event.Turn = turn_outcome old

@@ -28,6 +28,7 @@ abbrev pub accepted_now : ℕ → Reply → List ℕ → List ℕ
 accepted_now s (reply.Accepted subscription cursor) rest = if subscription == s then cursor ∷ rest else rest
 accepted_now s (reply.Publisher n) rest = rest
 accepted_now s reply.Fed rest = rest
+accepted_now s reply.Reset rest = rest
 accepted_now s reply.Staged rest = rest
 accepted_now s (reply.Sent n) rest = rest
 accepted_now s (reply.Placed n) rest = rest

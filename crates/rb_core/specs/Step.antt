@@ -1,7 +1,6 @@
 -- What an event may be answered, and what it changes: a relation by cases of what is found.
 use Rattle.std.specs.Prelude.{◌≡◌, ℕ, ◌+◌, ◌<◌, ◌≤◌, List, [], ◌∷◌, ◌++◌, length, get_or, Option, Some, None, MatchOption, MatchResult, slice_get}
 use Rattle.cs_model.specs.declared.change.Section.{Section}
-use Rattle.cs_model.specs.Changeset.{AreInserts}
 use Rattle.cs_model.specs.Schema.{refusal_of}
 use Rattle.cs_model.specs.Text.{Spells}
 use Rattle.cs_parse.specs.declared.fault.ParseFault.{ParseFault}
@@ -16,7 +15,8 @@ use Rattle.rb_core.specs.declared.parts.Publisher.{Publisher}
 use Rattle.rb_core.specs.declared.parts.Subscription.{Subscription}
 use Rattle.rb_core.specs.declared.parts.Handed.{Handed}
 use Rattle.rb_core.specs.State.{State, empty_tables}
-use Rattle.rb_core.specs.Outcome.{numbered, with_publisher, with_subscription, fault_refusal}
+use Rattle.cs_parse.specs.Pieces.{fault_in}
+use Rattle.rb_core.specs.Outcome.{fed_reply, numbered, with_publisher, with_subscription, fault_refusal}
 
 -- the event is refused, and nothing changes
 abbrev pub Refuses : State → Refusal → Reply → State → Type 0
@@ -28,11 +28,24 @@ PublisherStep old given new =
     (given ≡ reply.Publisher (length old.publishers))
     × (new ≡ record old { publishers = old.publishers ++ record { stream = []; staged = None; sent = 0 } ∷ [] })
 
--- the bytes go to the end of the publisher's stream
+-- the bytes go to the end of a stream without a fault, and the fault that they make is told
+abbrev pub Adds : State → ℕ → Publisher → List ℕ → Reply → State → Type 0
+Adds old p q bytes given new =
+    (given ≡ fed_reply (fault_in (q.stream ++ bytes))) × (new ≡ with_publisher old p (record q { stream = q.stream ++ bytes }))
+
+-- a stream with a fault answers it, and nothing changes
 abbrev pub FeedStep : State → ℕ → List ℕ → Reply → State → Type 0
 FeedStep old p bytes given new = MatchOption (slice_get old.publishers p)
     (Refuses old refusal.NoPublisher given new)
-    (λ q. (given ≡ reply.Fed) × (new ≡ with_publisher old p (record q { stream = q.stream ++ bytes })))
+    (λ q. MatchOption (fault_in q.stream)
+    (Adds old p q bytes given new)
+    (λ fault. (given ≡ reply.Fault fault) × (new ≡ old)))
+
+-- the publisher's stream is empty, and nothing else changes
+abbrev pub ResetStep : State → ℕ → Reply → State → Type 0
+ResetStep old p given new = MatchOption (slice_get old.publishers p)
+    (Refuses old refusal.NoPublisher given new)
+    (λ q. (given ≡ reply.Reset) × (new ≡ with_publisher old p (record q { stream = [] })))
 
 -- a changeset that the stream spells is staged and the stream is empty, where the schema admits it
 abbrev pub Stages : State → ℕ → Publisher → List Section → Reply → State → Type 0
@@ -40,11 +53,11 @@ Stages old p q changeset given new = MatchOption (refusal_of old.schema changese
     ((given ≡ reply.Staged) × (new ≡ with_publisher old p (record q { stream = []; staged = Some changeset })))
     (λ fault. Refuses old (fault_refusal fault) given new)
 
--- what the stream's bytes spell is staged; where they spell nothing that is all INSERTs, that is a fault
+-- what the stream's bytes spell is staged; where they spell nothing, that is a fault
 abbrev pub Reads : State → ℕ → Publisher → Reply → State → Type 0
 Reads old p q given new = ((i : ℕ) → get_or q.stream i 0 < 256) →
-    ((changeset : List Section) → Spells q.stream changeset → AreInserts changeset → Stages old p q changeset given new)
-    × (((changeset : List Section) → Spells q.stream changeset → AreInserts changeset → ⊥) → (fault : ParseFault) × (given ≡ reply.Fault fault) × (new ≡ old))
+    ((changeset : List Section) → Spells q.stream changeset → Stages old p q changeset given new)
+    × (((changeset : List Section) → Spells q.stream changeset → ⊥) → (fault : ParseFault) × (given ≡ reply.Fault fault) × (new ≡ old))
 
 abbrev pub EndStep : State → ℕ → Reply → State → Type 0
 EndStep old p given new = MatchOption (slice_get old.publishers p)
@@ -108,6 +121,7 @@ AcceptStep old d given new = MatchOption (numbered old.deliveries d)
 abbrev pub Step : State → Event → Reply → State → Type 0
 Step old event.Publisher given new = PublisherStep old given new
 Step old (event.Feed p bytes) given new = FeedStep old p bytes given new
+Step old (event.Reset p) given new = ResetStep old p given new
 Step old (event.End p) given new = EndStep old p given new
 Step old (event.Send p) given new = SendStep old p given new
 Step old event.Turn given new = TurnStep old given new

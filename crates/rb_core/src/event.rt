@@ -10,6 +10,8 @@ pub enum Event {
     Publisher,
     /// A publisher is fed the next bytes of its stream.
     Feed { publisher: u64, bytes: Octets },
+    /// A publisher's stream is dropped, and a new one begins.
+    Reset { publisher: u64 },
     /// A publisher's stream ends: what it spells is staged.
     End { publisher: u64 },
     /// A publisher sends what it has staged.

@@ -3,8 +3,8 @@
 //! numbers that a subscription accepted rise strictly.
 #![tactic(auto)]
 
-mod body;
 mod config;
+mod entry;
 mod event;
 mod parts;
 mod publishing;
@@ -15,10 +15,10 @@ mod subscribing;
 mod tests;
 mod world;
 
-pub use body::Body;
 pub use config::{Config, ConfigFault};
+pub use entry::{Entry, Item};
 pub use event::Event;
-pub use parts::{Entry, Handed, Publisher, Subscription};
+pub use parts::{Handed, Publisher, Subscription};
 pub use reply::{Refusal, Reply};
 pub use runs::{accepted_numbers_rise, outcome_is_step, run};
 pub use world::World;

@@ -1,29 +1,18 @@
 //! The parts of a world.
 
-use crate::body::Body;
 use cs_apply::Tables;
-use cs_model::Octets;
+use cs_model::Changeset;
+use cs_parse::PieceParser;
 
 /// A publisher.
 #[derive(Debug, Drop)]
 pub struct Publisher {
-    /// The bytes fed since its last end.
-    pub stream: Octets,
+    /// The bytes fed since its last end or reset.
+    pub stream: PieceParser,
     /// What is staged and not sent.
-    pub staged: Option<Body>,
+    pub staged: Option<Changeset>,
     /// How often it has sent.
     pub sent: u64,
-}
-
-/// A changeset that was sent.
-#[derive(Debug, Drop)]
-pub struct Entry {
-    /// Who sent it.
-    pub publisher: u64,
-    /// Its place among the sendings of its publisher, from 1.
-    pub own: u64,
-    /// What was sent.
-    pub body: Body,
 }
 
 /// A subscription.

@@ -1,15 +1,17 @@
 //! Publishers and the sequence.
 
 ghost use Rattle.std.specs.Prelude.{◌≡◌, IfOk, OnErr, IsOk};
-ghost use Rattle.rb_core.specs.Outcome.{publisher_outcome, feed_outcome, end_outcome, send_outcome, turn_outcome, fault_refusal};
+ghost use Rattle.rb_core.specs.Outcome.{publisher_outcome, feed_outcome, reset_outcome, end_outcome, send_outcome, turn_outcome, fault_refusal};
 
-use crate::body::Body;
-use crate::parts::{Entry, Publisher};
+use crate::entry::{Entry, Item};
+use crate::parts::Publisher;
 use crate::reply::{Refusal, Reply};
 use crate::world::{World, refused};
-use cs_model::{SchemaFault, Seq};
-use cs_parse::{ParseError, parse};
+use cs_model::SchemaFault;
+use cs_parse::{ParseError, PieceParser};
+use cs_write::write;
 use std::alloc::{AllocError, Global};
+use std::mem;
 
 impl World {
     pub(crate) fn publisher(&mut self, alloc: Global) -> Result<Reply, AllocError>
@@ -18,14 +20,19 @@ impl World {
     {
         let number = self.publishers.len() as u64;
         self.publishers.push(Publisher {
-            stream: Seq::from_vec(Vec::new(alloc)),
+            stream: PieceParser::new(alloc),
             staged: None,
             sent: 0,
         })?;
         Ok(Reply::Publisher(number))
     }
 
-    pub(crate) fn feed(&mut self, publisher: u64, bytes: &[u8]) -> Result<Reply, AllocError>
+    pub(crate) fn feed(
+        &mut self,
+        alloc: Global,
+        publisher: u64,
+        bytes: &[u8],
+    ) -> Result<Reply, AllocError>
         ensures ok { IfOk result (λ reply. feed_outcome self.old publisher bytes.now ≡ (reply, self.new)) }
         ensures err { OnErr result (self.new ≡ self.old) }
     {
@@ -34,8 +41,24 @@ impl World {
             return refused(Refusal::NoPublisher);
         }
         let found = &mut self.publishers[p];
-        found.stream.extend_from_slice(bytes)?;
-        Ok(Reply::Fed)
+        match found.stream.feed(alloc, bytes) {
+            Ok(()) => Ok(Reply::Fed),
+            Err(ParseError::Fault(fault)) => Ok(Reply::Fault(fault)),
+            Err(ParseError::Memory) => Err(AllocError),
+        }
+    }
+
+    pub(crate) fn reset(&mut self, alloc: Global, publisher: u64) -> Result<Reply, AllocError>
+        ensures ok { IfOk result (λ reply. reset_outcome self.old publisher ≡ (reply, self.new)) }
+        ensures err { OnErr result (self.new ≡ self.old) }
+    {
+        let p = publisher as usize;
+        if p >= self.publishers.len() {
+            return refused(Refusal::NoPublisher);
+        }
+        let found = &mut self.publishers[p];
+        found.stream = PieceParser::new(alloc);
+        Ok(Reply::Reset)
     }
 
     pub(crate) fn end(&mut self, alloc: Global, publisher: u64) -> Result<Reply, AllocError>
@@ -49,19 +72,21 @@ impl World {
         if self.publishers[p].staged.is_some() {
             return refused(Refusal::Holding);
         }
-        let changeset = match parse(alloc, &self.publishers[p].stream) {
+        let changeset = match self.publishers[p].stream.finish() {
             Ok(changeset) => changeset,
-            Err(ParseError::Fault(fault)) => return Ok(Reply::Fault(fault)),
-            Err(ParseError::Memory) => return Err(AllocError),
+            Err(fault) => return Ok(Reply::Fault(fault)),
         };
-        match self.schema.admits(&changeset) {
-            Err(fault) => refused(refusal_for(fault)),
-            Ok(()) => {
-                let found = &mut self.publishers[p];
-                found.stream = Seq::from_vec(Vec::new(alloc));
-                found.staged = Some(Body::new(changeset));
+        if let Err(fault) = self.schema.admits(changeset) {
+            return refused(refusal_for(fault));
+        }
+        let found = &mut self.publishers[p];
+        let stream = mem::replace(&mut found.stream, PieceParser::new(alloc));
+        match stream.into_changeset() {
+            Ok(changeset) => {
+                found.staged = Some(changeset);
                 Ok(Reply::Staged)
             }
+            Err(fault) => Ok(Reply::Fault(fault)),
         }
     }
 
@@ -84,7 +109,7 @@ impl World {
         match found.staged.take() {
             None => refused(Refusal::NothingStaged),
             Some(body) => {
-                self.intake.push_back(Entry {
+                self.intake.push_back(Item {
                     publisher,
                     own,
                     body,
@@ -94,15 +119,20 @@ impl World {
         }
     }
 
-    pub(crate) fn turn(&mut self) -> Result<Reply, AllocError>
+    pub(crate) fn turn(&mut self, alloc: Global) -> Result<Reply, AllocError>
         ensures ok { IfOk result (λ reply. turn_outcome self.old ≡ (reply, self.new)) }
         ensures err { OnErr result (self.new ≡ self.old) }
     {
+        // all memory is taken before anything moves
+        let text = match self.intake.front() {
+            None => return Ok(Reply::Idle),
+            Some(item) => write(alloc, &item.body)?,
+        };
         self.sequence.reserve(1)?;
         match self.intake.pop_front() {
             None => Ok(Reply::Idle),
-            Some(entry) => {
-                self.sequence.push(entry)?;
+            Some(item) => {
+                self.sequence.push(Entry::new(item, text))?;
                 Ok(Reply::Placed(self.sequence.len() as u64))
             }
         }

@@ -10,6 +10,8 @@ pub enum Reply {
     Publisher(u64),
     /// The bytes are at the end of the stream.
     Fed,
+    /// The stream is empty again.
+    Reset,
     /// A changeset is staged, and the stream is empty.
     Staged,
     /// The changeset is sent: its place among the sendings of its publisher, from 1.
@@ -35,7 +37,8 @@ pub enum Reply {
         subscription: u64,
         cursor: u64,
     },
-    /// The stream isn't that of a changeset. It stays as it is.
+    /// The stream isn't that of a changeset: its first fault. A `Feed` that meets it keeps the bytes, and every later one
+    /// answers the same and takes nothing; an `End` leaves the stream as it is.
     Fault(ParseFault),
     /// The event is refused, and the world is as before.
     Refused(Refusal),

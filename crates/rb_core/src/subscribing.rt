@@ -6,7 +6,8 @@ ghost use Rattle.cs_apply.specs.Single.{single};
 ghost use Rattle.rb_core.specs.Outcome as spec;
 ghost use Rattle.rb_core.specs.Outcome.{subscribe_outcome, take_outcome, accept_outcome, accepted};
 
-use crate::parts::{Entry, Handed, Subscription};
+use crate::entry::Entry;
+use crate::parts::{Handed, Subscription};
 use crate::reply::{Refusal, Reply};
 use crate::world::{World, refused};
 use cs_apply::{ApplyError, Tables};
@@ -97,7 +98,7 @@ fn accept_entry(
     ensures ok { IfOk result (λ reply. accepted handed subscription.old (single subscription.old.tables entry.now.body) ≡ (reply, subscription.new)) }
     ensures err { OnErr result (subscription.new ≡ subscription.old) }
 {
-    match subscription.tables.apply(alloc, entry.body.changeset()) {
+    match subscription.tables.apply(alloc, &entry.item().body) {
         Ok(()) => {}
         Err(ApplyError::Conflict(conflict)) => return refused(Refusal::Conflict(conflict)),
         Err(ApplyError::Memory) => return Err(AllocError),

@@ -1,15 +1,16 @@
 //! The world.
 
 ghost use Rattle.std.specs.Prelude.{◌≡◌, map as list_map, IfOk, OnErr, slice_get, Option};
-ghost use Rattle.std.specs.Option.{option_map};
+ghost use Rattle.std.specs.Option.{option_map, option_copied};
 ghost use Rattle.std.specs.FinMap as map;
 ghost use Rattle.rb_core.specs.State.{empty_world};
-ghost use Rattle.rb_core.specs.Outcome.{outcome};
+ghost use Rattle.rb_core.specs.Outcome.{outcome, numbered};
 ghost use Rattle.rb_core.specs.Step.{Step};
 
 use crate::config::Config;
+use crate::entry::{Entry, Item};
 use crate::event::Event;
-use crate::parts::{Entry, Handed, Publisher, Subscription};
+use crate::parts::{Handed, Publisher, Subscription};
 use crate::reply::{Refusal, Reply};
 use crate::runs::outcome_is_step;
 use cs_model::{Row, RowKey, Schema};
@@ -23,7 +24,7 @@ pub struct World {
     pub(crate) config: Config,
     pub(crate) schema: Schema,
     pub(crate) publishers: Vec<Publisher>,
-    pub(crate) intake: VecDeque<Entry>,
+    pub(crate) intake: VecDeque<Item>,
     pub(crate) sequence: Vec<Entry>,
     pub(crate) subscriptions: Vec<Subscription>,
     pub(crate) deliveries: Vec<Handed>,
@@ -90,10 +91,11 @@ impl World {
     {
         match event {
             Event::Publisher => self.publisher(alloc),
-            Event::Feed { publisher, bytes } => self.feed(*publisher, bytes),
+            Event::Feed { publisher, bytes } => self.feed(alloc, *publisher, bytes),
+            Event::Reset { publisher } => self.reset(alloc, *publisher),
             Event::End { publisher } => self.end(alloc, *publisher),
             Event::Send { publisher } => self.send(*publisher),
-            Event::Turn => self.turn(),
+            Event::Turn => self.turn(alloc),
             Event::Subscribe { start } => self.subscribe(alloc, *start),
             Event::Take {
                 subscription,
@@ -101,6 +103,14 @@ impl World {
             } => self.take(*subscription),
             Event::Accept { delivery } => self.accept(alloc, *delivery),
         }
+    }
+
+    /// The entry with this number, where it is placed.
+    pub fn entry(&self, number: u64) -> Option<&Entry>
+        ensures { option_copied result ≡ numbered self.now.sequence number }
+    {
+        let place = number.checked_sub(1)?;
+        self.sequence.get(place as usize)
     }
 
     /// The rows of a subscription with their keys, by table, then by the key's bytes; `None` where there is no

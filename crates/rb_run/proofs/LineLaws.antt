@@ -139,6 +139,7 @@ form_from_world : (config : Config) (world : State) (o : Option Form) → FromWo
 form_from_world config world None = refl
 form_from_world config world (Some (form.Table bytes)) = refl
 form_from_world config world (Some (form.Happens event)) = refl
+form_from_world config world (Some (form.Entry n)) = refl
 form_from_world config world (Some (form.Rows s)) = refl
 
 line_from_world : (config : Config) (world : State) (line : List ℕ) → FromWorld world (event_of line) (line_answer config (Running world) line).1
@@ -186,6 +187,7 @@ form_from_tables : (config : Config) (tables : List Shape) (o : Option Form) →
 form_from_tables config tables None = inl (tables, refl)
 form_from_tables config tables (Some (form.Table bytes)) = inl (table_from_tables tables (header_of_answer (answer_of bytes)))
 form_from_tables config tables (Some (form.Happens event)) = refl
+form_from_tables config tables (Some (form.Entry n)) = inr refl
 form_from_tables config tables (Some (form.Rows s)) = inr refl
 
 line_from_tables : (config : Config) (tables : List Shape) (line : List ℕ) → FromTables config tables (event_of line) (line_answer config (Tables tables) line).1

@@ -4,7 +4,7 @@ use Rattle.rb_core.specs.declared.event.Event.{Event}
 use Rattle.rb_core.specs.declared.event.Event.TheVariants as event
 use Rattle.cs_model.specs.Schema.{same_bytes}
 use Rattle.rb_run.specs.declared.forms.Form.{Form}
-use Rattle.rb_run.specs.declared.forms.Form.TheVariants.{Table, Happens, Rows}
+use Rattle.rb_run.specs.declared.forms.Form.TheVariants.{Table, Happens, Entry, Rows}
 use Rattle.rb_run.specs.Words.{words_of, number_of, bytes_of}
 
 -- `publisher` and `turn`
@@ -14,14 +14,16 @@ one_word name =
     else if same_bytes name (codes "turn") then Some (Happens event.Turn)
     else None
 
--- `end P`, `send P`, `subscribe START`, `accept D` and `rows S`
+-- `reset P`, `end P`, `send P`, `subscribe START`, `accept D`, `entry N` and `rows S`
 abbrev pub name_and_number : List ℕ → Option ℕ → Option Form
 name_and_number name None = None
 name_and_number name (Some n) =
-    if same_bytes name (codes "end") then Some (Happens (event.End n))
+    if same_bytes name (codes "reset") then Some (Happens (event.Reset n))
+    else if same_bytes name (codes "end") then Some (Happens (event.End n))
     else if same_bytes name (codes "send") then Some (Happens (event.Send n))
     else if same_bytes name (codes "subscribe") then Some (Happens (event.Subscribe n))
     else if same_bytes name (codes "accept") then Some (Happens (event.Accept n))
+    else if same_bytes name (codes "entry") then Some (Entry n)
     else if same_bytes name (codes "rows") then Some (Rows n)
     else None
 

@@ -16,13 +16,14 @@ use Rattle.rb_core.specs.declared.event.Event.{Event}
 use Rattle.rb_core.specs.declared.reply.Reply.{Reply}
 use Rattle.rb_core.specs.declared.reply.Refusal.TheVariants as refusal
 use Rattle.rb_core.specs.State.{State, empty_world}
-use Rattle.rb_core.specs.Outcome.{outcome}
+use Rattle.rb_core.specs.declared.entry.Item.{Item}
+use Rattle.rb_core.specs.Outcome.{outcome, numbered}
 use Rattle.rb_run.specs.declared.forms.Form.{Form}
 use Rattle.rb_run.specs.declared.forms.Form.TheVariants as form
 use Rattle.rb_run.specs.declared.lines.Stage.{Stage}
 use Rattle.rb_run.specs.declared.lines.Stage.TheVariants.{Tables, Running}
 use Rattle.rb_run.specs.Forms.{form_of}
-use Rattle.rb_run.specs.Texts.{reply_text, refusal_text, rows_text}
+use Rattle.rb_run.specs.Texts.{reply_text, refusal_text, entry_text, rows_text}
 
 -- the most bytes of a line, its end not counted
 abbrev pub most_of_line : ℕ
@@ -80,6 +81,13 @@ found_rows (Some rows) = rows_text rows
 abbrev pub rows_answer : State → ℕ → List ℕ
 rows_answer world s = found_rows (option_map (λ q. map.entries q.tables.rows) (slice_get world.subscriptions s))
 
+abbrev pub found_entry : ℕ → Option Item → List ℕ
+found_entry n None = codes "refused NotPlaced"
+found_entry n (Some item) = entry_text n item
+
+abbrev pub entry_answer : State → ℕ → List ℕ
+entry_answer world n = line_of (found_entry n (numbered world.sequence n))
+
 abbrev pub with_line_end : List ℕ × Stage → List ℕ × Stage
 with_line_end given = (line_of given.0, given.1)
 
@@ -87,6 +95,7 @@ abbrev pub form_answer : Config → Stage → Option Form → List ℕ × Stage
 form_answer config stage None = (line_of (codes "refused Line"), stage)
 form_answer config stage (Some (form.Table bytes)) = with_line_end (table_answer stage bytes)
 form_answer config stage (Some (form.Happens event)) = event_answer (outcome (world_of config stage) event)
+form_answer config stage (Some (form.Entry n)) = (entry_answer (world_of config stage) n, Running (world_of config stage))
 form_answer config stage (Some (form.Rows s)) = (rows_answer (world_of config stage) s, Running (world_of config stage))
 
 -- the answer to a line, with the end of each of its lines, and the stage after it

@@ -31,6 +31,7 @@ abbrev pub event_in : Option Form → Option Event
 event_in None = None
 event_in (Some (form.Table bytes)) = None
 event_in (Some (form.Happens event)) = Some event
+event_in (Some (form.Entry n)) = None
 event_in (Some (form.Rows s)) = None
 
 abbrev pub event_of : List ℕ → Option Event

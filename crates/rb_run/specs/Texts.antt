@@ -11,6 +11,8 @@ use Rattle.cs_parse.specs.declared.fault.FaultKind.TheVariants as kind
 use Rattle.cs_parse.specs.declared.fault.ParseFault.{ParseFault}
 use Rattle.cs_apply.specs.declared.conflict.ConflictKind.{ConflictKind}
 use Rattle.cs_apply.specs.declared.conflict.ConflictKind.TheVariants as conflict
+use Rattle.cs_write.specs.Text.{text_of}
+use Rattle.rb_core.specs.declared.entry.Item.{Item}
 use Rattle.rb_core.specs.declared.reply.Reply.{Reply}
 use Rattle.rb_core.specs.declared.reply.Reply.TheVariants as reply
 use Rattle.rb_core.specs.declared.reply.Refusal.{Refusal}
@@ -59,6 +61,7 @@ refusal_text (refusal.Conflict c) = codes "refused Conflict " ++ (decimal c.posi
 abbrev pub reply_text : Reply → List ℕ
 reply_text (reply.Publisher p) = codes "publisher " ++ decimal p
 reply_text reply.Fed = codes "ok"
+reply_text reply.Reset = codes "ok"
 reply_text reply.Staged = codes "staged"
 reply_text (reply.Sent own) = codes "sent " ++ decimal own
 reply_text (reply.Placed n) = codes "placed " ++ decimal n
@@ -69,6 +72,17 @@ reply_text (reply.Delivery d s first last) =
 reply_text (reply.Accepted s cursor) = codes "accepted " ++ decimal cursor
 reply_text (reply.Fault fault) = codes "fault " ++ (decimal fault.at ++ (codes " " ++ kind_name fault.kind))
 reply_text (reply.Refused why) = refusal_text why
+
+-- bytes as a word: in hexadecimal, and none as `-`
+abbrev pub bytes_word : List ℕ → List ℕ
+bytes_word [] = codes "-"
+bytes_word (byte ∷ bytes) = encode_lower (byte ∷ bytes)
+
+-- an entry with this number: who sent it, its place among that publisher's sendings, that it was sent, and its text
+abbrev pub entry_text : ℕ → Item → List ℕ
+entry_text n item =
+    (codes "entry " ++ (decimal n ++ (codes " " ++ (decimal item.publisher ++ (codes " " ++ (decimal item.own ++ codes " s "))))))
+    ++ bytes_word (text_of item.body)
 
 -- a value behind a space, as its canonical bytes in hexadecimal
 abbrev pub value_text : Value → List ℕ

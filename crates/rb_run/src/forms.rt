@@ -10,6 +10,8 @@ pub enum Form {
     Table(Octets),
     /// An event.
     Happens(Event),
+    /// The entry with this number.
+    Entry(u64),
     /// The rows of a subscription.
     Rows(u64),
 }

@@ -4,11 +4,11 @@ ghost use Rattle.std.specs.Prelude.{◌≡◌, ◌++◌, ◌∷◌, [], codes, I
 ghost use Rattle.cs_model.specs.Schema.{table_refusal};
 ghost use Rattle.cs_parse.specs.Reading.{answer_of};
 ghost use Rattle.rb_core.specs.Outcome.{outcome};
-ghost use Rattle.rb_run.specs.Lines.{line_answer, form_answer, line_of, world_of, event_answer, rows_answer, with_line_end, table_answer, table_added, header_of_answer, header_of_sections};
+ghost use Rattle.rb_run.specs.Lines.{line_answer, form_answer, line_of, world_of, event_answer, entry_answer, rows_answer, with_line_end, table_answer, table_added, header_of_answer, header_of_sections};
 
 use crate::forms::Form;
 use crate::reading::form;
-use crate::texts::{text_of, text_of_refusal, text_of_rows};
+use crate::texts::{text_of, text_of_entry, text_of_refusal, text_of_rows};
 use cs_model::{Changeset, Schema, SchemaError, SchemaFault, Shape};
 use cs_parse::{ParseError, parse};
 use rb_core::{Config, Event, Refusal, World};
@@ -56,6 +56,11 @@ fn answer_form(
         None => Ok((text_line(alloc, "refused Line")?, stage)),
         Some(Form::Table(bytes)) => table(alloc, stage, &bytes),
         Some(Form::Happens(event)) => happen(alloc, begin(alloc, config, stage), event),
+        Some(Form::Entry(number)) => {
+            let world = begin(alloc, config, stage);
+            let text = entry(alloc, &world, number)?;
+            Ok((text, Stage::Running(world)))
+        }
         Some(Form::Rows(subscription)) => {
             let world = begin(alloc, config, stage);
             let text = rows(alloc, &world, subscription)?;
@@ -91,6 +96,19 @@ fn happen(alloc: Global, mut world: World, event: Event) -> Result<(Vec<u8>, Sta
     let text = text_of(alloc, reply)?;
     let line = text_line(alloc, &text)?;
     Ok((line, Stage::Running(world)))
+}
+
+fn entry(alloc: Global, world: &World, number: u64) -> Result<Vec<u8>, AllocError>
+    ensures { IfOk result (λ line. line.items ≡ entry_answer world.now number) }
+{
+    match world.entry(number) {
+        None => text_line(alloc, "refused NotPlaced"),
+        Some(found) => {
+            let mut line = text_of_entry(alloc, number, found)?;
+            line.push(b'\n')?;
+            Ok(line)
+        }
+    }
 }
 
 fn rows(alloc: Global, world: &World, subscription: u64) -> Result<Vec<u8>, AllocError>

@@ -28,13 +28,14 @@ fn form_of_parts(alloc: Global, words: &[&[u8]]) -> Result<Option<Form>, AllocEr
     ensures { IfOk result (λ form. form ≡ form_of_words (map (λ word. word.now) words.now)) }
 {
     match words {
+        [] => Ok(None),
         [name] => Ok(alone(name)),
         [name, word] => with_one(alloc, name, word),
         [name, first, word] => match number(first) {
             None => Ok(None),
             Some(n) => with_two(alloc, name, n, word),
         },
-        _ => Ok(None),
+        [_, _, _, _, ..] => Ok(None),
     }
 }
 
@@ -65,7 +66,9 @@ fn with_one(alloc: Global, name: &[u8], word: &[u8]) -> Result<Option<Form>, All
 fn with_number(name: &[u8], n: u64) -> Option<Form>
     ensures { result ≡ name_and_number name.now (Some n) }
 {
-    if is(name, b"end") {
+    if is(name, b"reset") {
+        Some(Form::Happens(Event::Reset { publisher: n }))
+    } else if is(name, b"end") {
         Some(Form::Happens(Event::End { publisher: n }))
     } else if is(name, b"send") {
         Some(Form::Happens(Event::Send { publisher: n }))
@@ -73,6 +76,8 @@ fn with_number(name: &[u8], n: u64) -> Option<Form>
         Some(Form::Happens(Event::Subscribe { start: n }))
     } else if is(name, b"accept") {
         Some(Form::Happens(Event::Accept { delivery: n }))
+    } else if is(name, b"entry") {
+        Some(Form::Entry(n))
     } else if is(name, b"rows") {
         Some(Form::Rows(n))
     } else {

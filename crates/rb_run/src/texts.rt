@@ -2,12 +2,12 @@
 
 ghost use Rattle.std.specs.Prelude.{◌≡◌, ◌++◌, IfOk, OnOk, codes, length, map as list_map, string_bytes};
 ghost use Rattle.std.specs.List.{flat_map};
-ghost use Rattle.rb_run.specs.Texts.{kind_name, conflict_number, refusal_text, reply_text, value_text, row_text, rows_text};
+ghost use Rattle.rb_run.specs.Texts.{kind_name, conflict_number, refusal_text, reply_text, bytes_word, entry_text, value_text, row_text, rows_text};
 
 use cs_apply::ConflictKind;
 use cs_model::{Field, Row, RowKey, Value, value_push};
 use cs_parse::FaultKind;
-use rb_core::{Refusal, Reply};
+use rb_core::{Entry, Refusal, Reply};
 use std::alloc::{AllocError, Global};
 
 /// The text of a reply, without the end of its line. `AllocError` where memory runs out.
@@ -16,7 +16,7 @@ pub fn text_of(alloc: Global, reply: Reply) -> Result<String, AllocError>
 {
     match reply {
         Reply::Publisher(p) => format!(in alloc; "publisher {p}"),
-        Reply::Fed => format!(in alloc; "ok"),
+        Reply::Fed | Reply::Reset => format!(in alloc; "ok"),
         Reply::Staged => format!(in alloc; "staged"),
         Reply::Sent(own) => format!(in alloc; "sent {own}"),
         Reply::Placed(n) => format!(in alloc; "placed {n}"),
@@ -96,6 +96,29 @@ fn number_of_kind(kind: ConflictKind) -> u64
         ConflictKind::Data => 1,
         ConflictKind::NotFound => 2,
         ConflictKind::Conflict => 3,
+    }
+}
+
+/// The text of an entry with its number, without the end of its line. `AllocError` where memory runs out.
+pub fn text_of_entry(alloc: Global, number: u64, entry: &Entry) -> Result<Vec<u8>, AllocError>
+    ensures { IfOk result (λ text. text.items ≡ entry_text number entry.now) }
+{
+    let item = entry.item();
+    let publisher = item.publisher;
+    let own = item.own;
+    let mut text = Vec::new(alloc);
+    let front = format!(in alloc; "entry {number} {publisher} {own} s ")?;
+    text.extend_from_slice(front.as_bytes())?;
+    add_word(alloc, &mut text, entry.text())?;
+    Ok(text)
+}
+
+fn add_word(alloc: Global, text: &mut Vec<u8>, bytes: &[u8]) -> Result<(), AllocError>
+    ensures { OnOk result (text.new.items ≡ text.old.items ++ bytes_word bytes.now) }
+{
+    match bytes {
+        [] => Ok(text.push(b'-')?),
+        _ => text.extend_from_slice(hex::encode(alloc, bytes)?.as_bytes()),
     }
 }
 
