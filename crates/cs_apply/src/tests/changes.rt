@@ -34,7 +34,7 @@ fn one_at_a_time(rt: HostRuntime) -> Result<(), Fail> {
 #[test]
 fn one_after_another(rt: HostRuntime) -> Result<(), Fail> {
     let alloc = rt.alloc();
-    let mut tables = tables_with(&rt, alloc, &[(1, b'x', b'z'), (2, b'x', b'z')])?;
+    let mut tables = tables_with(alloc, &[(1, b'x', b'z'), (2, b'x', b'z')])?;
     let changes = [
         Delete(1, b'x', b'z'),
         Insert(1, b'y', b'z'),
@@ -60,7 +60,7 @@ fn rows_come_in_order(rt: HostRuntime) -> Result<(), Fail> {
         (i64::MAX, b'b', b'z'),
         (0, b'a', b'z'),
     ];
-    let tables = tables_with(&rt, alloc, &rows)?;
+    let tables = tables_with(alloc, &rows)?;
     let want = [
         (0, b'a', b'z'),
         (i64::MAX, b'b', b'z'),
@@ -75,7 +75,7 @@ fn rows_come_in_order(rt: HostRuntime) -> Result<(), Fail> {
 #[test]
 fn a_row_has_its_values(rt: HostRuntime) -> Result<(), Fail> {
     let alloc = rt.alloc();
-    let tables = tables_with(&rt, alloc, &[(7, b'x', b'z')])?;
+    let tables = tables_with(alloc, &[(7, b'x', b'z')])?;
     let key = key(alloc, 7)?;
     let row: &[Value] = tables.row(&key).ok_or("no row")?;
     assert_eq!(rt; row.len(), 3);

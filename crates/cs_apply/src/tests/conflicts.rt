@@ -9,7 +9,7 @@ use std::test::Fail;
 #[test]
 fn kinds(rt: HostRuntime) -> Result<(), Fail> {
     let alloc = rt.alloc();
-    let mut tables = tables_with(&rt, alloc, &[(1, b'x', b'z')])?;
+    let mut tables = tables_with(alloc, &[(1, b'x', b'z')])?;
     for (change, kind) in [
         (Insert(1, b'x', b'z'), Conflict),
         (Update(1, Some((b'y', b'u')), None), Data),
@@ -32,7 +32,7 @@ fn kinds(rt: HostRuntime) -> Result<(), Fail> {
 fn all_or_nothing(rt: HostRuntime) -> Result<(), Fail> {
     let alloc = rt.alloc();
     let rows = [(1, b'a', b'z'), (2, b'b', b'z'), (3, b'c', b'z')];
-    let mut tables = tables_with(&rt, alloc, &rows)?;
+    let mut tables = tables_with(alloc, &rows)?;
     let old = [
         Insert(4, b'd', b'z'),
         Update(1, Some((b'a', b'A')), None),
@@ -63,7 +63,7 @@ fn all_or_nothing(rt: HostRuntime) -> Result<(), Fail> {
 #[test]
 fn skipped_sections_count(rt: HostRuntime) -> Result<(), Fail> {
     let alloc = rt.alloc();
-    let mut tables = tables_with(&rt, alloc, &[(1, b'x', b'z')])?;
+    let mut tables = tables_with(alloc, &[(1, b'x', b'z')])?;
     for (last, want) in [
         (Delete(1, b'y', b'z'), Err(conflict(6, Data))),
         (Delete(1, b'x', b'z'), Ok(&[(5, b'k', b'z')][..])),

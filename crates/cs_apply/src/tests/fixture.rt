@@ -128,7 +128,7 @@ pub(super) fn tables(alloc: Global) -> Result<Tables, Fail> {
 }
 
 /// The same with these rows in `t`.
-pub(super) fn tables_with(rt: &impl Abort, alloc: Global, rows: &[Held]) -> Result<Tables, Fail> {
+pub(super) fn tables_with(alloc: Global, rows: &[Held]) -> Result<Tables, Fail> {
     let mut tables = tables(alloc)?;
     let mut all = Vec::new(alloc);
     for (key, v, w) in rows {
@@ -136,7 +136,7 @@ pub(super) fn tables_with(rt: &impl Abort, alloc: Global, rows: &[Held]) -> Resu
     }
     let rows = vec![in alloc; section(alloc, b't', &all)?]?;
     let rows = Changeset::from_seq(Seq::from_vec(rows));
-    assert_eq!(rt; tables.apply(alloc, &rows), Ok(()));
+    tables.apply(alloc, &rows)?;
     Ok(tables)
 }
 
@@ -168,8 +168,8 @@ pub(super) fn held(alloc: Global, tables: &Tables) -> Result<Vec<Held>, AllocErr
     Ok(all)
 }
 
-/// Applies the changes of `t` and compares the answer, and the rows after it: those wanted, or as before where a
-/// conflict is. Without memory the answer is `Memory` and the rows are as before.
+/// Applies the changes of `t` and compares the answer and the rows after it, which are as before where a conflict
+/// is. Where memory was refused the rows are as before too, and a second try is like a first.
 pub(super) fn applies(
     rt: &impl Abort,
     alloc: Global,
@@ -193,10 +193,10 @@ pub(super) fn applies_all(
 {
     let changeset = Changeset::from_seq(Seq::from_vec(sections));
     let before = held(alloc, tables)?;
-    let got = tables.apply(alloc, &changeset);
+    let mut got = tables.apply(alloc, &changeset);
     if got == Err(ApplyError::Memory) {
         assert_eq!(rt; held(alloc, tables)?.as_slice(), before.as_slice());
-        return Ok(got?);
+        got = tables.apply(alloc, &changeset);
     }
     let after = held(alloc, tables)?;
     match want {
