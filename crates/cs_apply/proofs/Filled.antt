@@ -146,7 +146,6 @@ pub is_none : (r : Option (List Value)) → false ≡ is_some r → r ≡ None
 is_none None h = refl
 is_none (Some x) h = absurd (false≢true h)
 
-
 -- ---- one place more, of those that pairs show
 module _ {X Y : Type 0} (show : X → RowKey × List Value) (place : Y → RowKey × Option (List Value)) where
   pub filled_more : (rows pushed : List X) (places : List Y) (x : X) (y : Y) → list_map show rows ≡ filled (list_map place places) → pushed ≡ rows ++ x ∷ []

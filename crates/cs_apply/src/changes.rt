@@ -4,11 +4,10 @@
 ghost use Rattle.std.specs.Prelude.{◌≡◌, ◌+◌, ◌<◌, ◌^◌, Ok, OnOk, IfErr, length};
 ghost use Rattle.std.specs.FinMap as map;
 ghost use Rattle.cs_model.specs.Changeset.{IsChange, IsSection, IsChangeset};
-ghost use Rattle.cs_apply.specs.Effect.{effect, inserted, deleted, changed};
+ghost use Rattle.cs_apply.specs.Effect.{values_of, inserted, deleted, changed, effect};
 ghost use Rattle.cs_apply.specs.Single.{changes_of, single_from};
 ghost use Rattle.cs_apply.specs.State.{compatible};
 ghost use Rattle.cs_apply.specs.Steps.{rows_of, section_from, Back, Stops, Refuses};
-ghost use Rattle.cs_apply.specs.Effect.{values_of};
 
 use crate::conflict::{ApplyError, ConflictKind};
 use crate::edit::Edit;
@@ -18,7 +17,8 @@ use crate::stop::Stop;
 use cs_model::{Change, CopyIn, Field, Op, RowKey, Schema, Section, Seq, Shape};
 use std::alloc::Global;
 
-// INSERT: the key has no row, and gets the one that the new record says.
+// INSERT: the key has no row, and gets the one that the new record says. An `Err` of this and the next two leaves
+// the rows as they were.
 fn insert(places: &mut Places, alloc: Global, key: RowKey, after: &[Field]) -> Result<(), Stop>
     ensures ok { OnOk result (inserted (rows_of places.old.rows.entries) key (values_of after.now) (map.get (rows_of places.old.rows.entries) key) ≡ Ok (rows_of places.new.rows.entries)) }
     ensures back { Back places.old places.new }

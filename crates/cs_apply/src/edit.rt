@@ -38,7 +38,7 @@ fn exchange_row(row: &mut Option<Row>, fields: Seq<Field>) -> Edit
     let Some(old) = row.take() else {
         return Edit::Set(None);
     };
-    let (new, fields) = exchange(old, fields);
+    let (new, taken) = exchange(old, fields);
     *row = Some(new);
-    Edit::Exchange(fields)
+    Edit::Exchange(taken)
 }

@@ -9,6 +9,8 @@ mod places;
 mod row;
 mod stop;
 mod tables;
+#[cfg(test)]
+mod tests;
 
 pub use conflict::{ApplyError, Conflict, ConflictKind};
 pub use tables::Tables;

@@ -26,10 +26,11 @@ pub(crate) struct Step {
     back: Edit,
 }
 
-/// The rows of one replica, and the steps of the changeset that is being applied.
+/// Places, and the steps of the changeset that is being applied.
 #[derive(Debug, Drop)]
 pub(crate) struct Places {
     rows: IndexMap<RowKey, Option<Row>>,
+    // Empty between two changesets, and keeps its memory for the next.
     log: Vec<Step>,
     // About how many places are empty. It only says when they are worth a sweep.
     empty: usize,
@@ -69,6 +70,7 @@ impl Places {
     pub(crate) fn in_order(&self, alloc: Global) -> Result<Vec<(&RowKey, &Row)>, AllocError>
         ensures { IfOk result (λ pairs. list_map (λ p. (p.0.now, p.1.now)) pairs.items ≡ map.entries (rows_of self.now.rows.entries)) }
     {
+        // for its clause that no two keys are equal
         let _places = self.rows.len();
         let mut pairs = self.filled(alloc)?;
         pairs.sort_unstable_by(|a, b| a.0.cmp(b.0));
@@ -161,8 +163,7 @@ impl Places {
 }
 
 // How many places are empty after these steps.
-fn counted(empty: usize, log: &[Step]) -> usize {
-    let mut empty = empty;
+fn counted(mut empty: usize, log: &[Step]) -> usize {
     for step in log {
         match &step.back {
             Edit::Set(Some(_)) => empty = empty.saturating_add(1),

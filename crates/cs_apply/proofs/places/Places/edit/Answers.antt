@@ -1,6 +1,5 @@
 use Rattle.std.proofs.Common.{◌≡◌, ◌∷◌, ◌++◌, [], refl, sym, ap, ◌∙◌}
-use Rattle.std.specs.Map.{values_of}
-use Rattle.cs_apply.specs.Steps.{rows_of, put, edited}
+use Rattle.cs_apply.specs.Steps.{rows_of, edited}
 use Rattle.indexmap.specs.Layout.{set_value_at}
 use Rattle.cs_apply.proofs.Filled.{value_at, set_rows}
 use Rattle.cs_apply.proofs.Log.{Back-write}

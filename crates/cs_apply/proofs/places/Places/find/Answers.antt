@@ -1,4 +1,4 @@
-use Rattle.std.proofs.Common.{◌≡◌, Some, sym, ap, ◌∙◌}
+use Rattle.std.proofs.Common.{Some, sym, ap, ◌∙◌}
 use Rattle.cs_apply.proofs.Filled.{row_in, get_row, found_place, no_place}
 use Rattle.cs_apply.proofs.places.Places.find.Goals as goal
 
