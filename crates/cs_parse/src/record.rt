@@ -2,7 +2,8 @@
 
 ghost use Rattle.std.specs.Prelude.{◌≡◌, List, length, map};
 ghost use Rattle.cs_model.specs.Rule.{row_rule};
-ghost use Rattle.cs_parse.specs.Reading.{Gives, counted_at, type_refusal, typed_at, field_at, record_at, insert_at, change_at, ends_section, changes_at, many_at};
+ghost use Rattle.cs_parse.specs.Place.{type_refusal};
+ghost use Rattle.cs_parse.specs.Reading.{Gives, counted_at, typed_at, field_at, record_at, insert_at, change_at, ends_section, changes_at, many_at};
 
 use crate::fault::FaultKind;
 use crate::number::{integer_of, length_of};
