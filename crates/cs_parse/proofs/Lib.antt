@@ -2,7 +2,9 @@ pub mod Loops
 pub mod Letters
 pub mod Numbers
 pub mod Steps
+pub mod Exact
 pub mod NumberLaws
+pub mod ExactNumbers
 pub mod FieldLaws
 pub mod ManyLaws
 pub mod HeaderLaws

@@ -124,24 +124,24 @@ record_at (rule ∷ rules) bytes = do
   Ok (field.0 ∷ fields.0, fields.1)
 
 -- the old record and the new one of a change with this operation, of a table with these key bytes
-unfoldable pub records_at : List ℕ → Op → List ℕ → Result (List Field × List Field × List ℕ) Refusal
+unfoldable pub records_at : List ℕ → Op → List ℕ → Result ((List Field × List Field) × List ℕ) Refusal
 records_at flags Insert bytes = do
   row ← record_at (map row_rule flags) bytes
-  Ok ([], row.0, row.1)
+  Ok (([], row.0), row.1)
 records_at flags Update bytes = do
   old ← record_at (map old_rule flags) bytes
   new ← record_at (new_rules flags old.0) old.1
-  Ok (old.0, new.0, new.1)
+  Ok ((old.0, new.0), new.1)
 records_at flags Delete bytes = do
   row ← record_at (map row_rule flags) bytes
-  Ok (row.0, [], row.1)
+  Ok ((row.0, []), row.1)
 
 -- a change behind its operation byte
 unfoldable pub marked_at : List ℕ → Op → List ℕ → Result (Change × List ℕ) Refusal
 marked_at flags op [] = Err Short
 marked_at flags op (mark ∷ rest) = do
   records ← records_at flags op rest
-  Ok (record { op = op; indirect = not (mark == 0); before = records.0; after = records.1 }, records.2)
+  Ok (record { op = op; indirect = not (mark == 0); before = records.0.0; after = records.0.1 }, records.1)
 
 -- the operation of a byte
 abbrev pub op_of : ℕ → Option Op
