@@ -8,5 +8,6 @@ pub mod ExactNumbers
 pub mod FieldLaws
 pub mod ManyLaws
 pub mod HeaderLaws
+pub mod ExactHeader
 pub mod ChangeLaws
 pub mod TextLaws
