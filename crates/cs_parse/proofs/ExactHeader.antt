@@ -1,7 +1,7 @@
 -- The faults of headers are exact.
-use Rattle.std.proofs.Common.{◌≡◌, ◌==◌, ℕ, zero, suc, ◌+◌, ◌-◌, ◌<◌, ◌≤◌, ◌⊎◌, inl, inr, Bool, true, false, cond, eqb, ltb, ◌||◌, List, [], ◌∷◌, ◌++◌, length, take, drop, get_or, replicate, Some, None, Result, Ok, Err, refl, sym, ap, subst, ◌∙◌, append_assoc, arith}
+use Rattle.std.proofs.Common.{◌≡◌, ◌==◌, ℕ, zero, suc, ◌+◌, ◌-◌, ◌<◌, ◌≤◌, ◌⊎◌, inl, inr, true, false, cond, eqb, ltb, ◌||◌, List, [], ◌∷◌, ◌++◌, length, take, drop, get_or, replicate, Some, None, Result, Ok, Err, refl, sym, ap, subst, ◌∙◌, append_assoc, arith}
 use Rattle.std.specs.Prelude.{nat_lt}
-use Rattle.std.proofs.lemmas.Bool.{ltb-true, ltb-false, le-ltb, lt-ltb, eqb-true, eqb-false, ne_eqb, and_from, and_parts, or_parts, cases_lt}
+use Rattle.std.proofs.lemmas.Bool.{ltb-false, le-ltb, lt-ltb, eqb-true, and_from, and_parts, or_parts, cases_lt}
 use Rattle.std.proofs.lemmas.List.{take_at, drop_at, take-append-drop, drop_more, append-nil, length-append, length-take, length-replicate, nil_from_length}
 use Rattle.std.proofs.lemmas.List.Folds.{list_any-append}
 use Rattle.cs_model.specs.declared.shape.Shape.{Shape}
@@ -10,14 +10,14 @@ use Rattle.cs_model.specs.Text.{SpellsHeader}
 use Rattle.cs_model.specs.Varint.{IsVarint}
 use Rattle.cs_parse.specs.declared.fault.FaultKind.{FaultKind}
 use Rattle.cs_parse.specs.declared.fault.FaultKind.TheVariants.{NoKey, EmptyName, NameTooLong}
-use Rattle.cs_parse.specs.Place.{Place, InColumns, LastKey, FirstLetter, PastName, wrong}
-use Rattle.cs_parse.specs.Stands.{InNumber, OnLastKey, OnName, BehindName, InHeader}
+use Rattle.cs_parse.specs.Place.{Place, LastKey, FirstLetter, PastName, wrong}
+use Rattle.cs_parse.specs.Stands.{InHeader}
 use Rattle.cs_parse.specs.Fault.{are_bytes}
 use Rattle.cs_parse.specs.Reading.{Refusal, Short, Bad, ◌>>=◌, refuse, columns_at, flags_at, letters_at, name_at, header_at}
-use Rattle.cs_parse.proofs.Steps.{IsBytes, Takes, done, chosen}
+use Rattle.cs_parse.proofs.Steps.{done, chosen}
 use Rattle.cs_parse.proofs.Letters.{no_zero, nonzero, letter_and, letters_end, letters_full, letters_more, letters_short, letters_take, name_takes, name_again}
 use Rattle.cs_parse.proofs.HeaderLaws.{any_key, HeaderText, flags_take, flags_again}
-use Rattle.cs_parse.proofs.Exact.{Completes, Stopped, Exact, Renames, SeqText, SeqPlace, seq, bind_err, seq_exact, mapped_exact, renamed}
+use Rattle.cs_parse.proofs.Exact.{Completes, Stopped, Exact, SeqText, SeqPlace, seq, bind_err, seq_exact, mapped_exact, renamed}
 use Rattle.cs_parse.proofs.ExactNumbers.{ColumnsText, InColumnDigits, columns_exact}
 
 -- ---- key bytes

@@ -1,5 +1,5 @@
 -- The faults of numbers, lengths and the values behind them are exact.
-use Rattle.std.proofs.Common.{◌≡◌, ℕ, zero, suc, ◌+◌, ◌-◌, ◌*◌, ◌<◌, ◌≤◌, ◌⊎◌, inl, inr, true, false, cond, ltb, List, [], ◌∷◌, ◌++◌, length, Some, None, Result, Ok, Err, refl, sym, ap, subst, ◌∙◌, arith}
+use Rattle.std.proofs.Common.{◌≡◌, ℕ, zero, suc, ◌+◌, ◌-◌, ◌*◌, ◌<◌, ◌≤◌, inl, inr, true, false, cond, ltb, List, [], ◌∷◌, ◌++◌, length, Some, None, Ok, Err, refl, sym, ap, subst, ◌∙◌, arith}
 use Rattle.std.proofs.lemmas.Bool.{lt-ltb, le-ltb, ltb-true, ltb-false, ne_eqb, and_from}
 use Rattle.cs_model.specs.Varint.{EndsVarint, IsVarint}
 use Rattle.cs_parse.specs.declared.fault.FaultKind.{FaultKind}
@@ -7,8 +7,8 @@ use Rattle.cs_parse.specs.declared.fault.FaultKind.TheVariants.{Columns, ValueTo
 use Rattle.cs_parse.specs.Place.{Place, InColumns, InLength, factor, outside, leaves_none, wrong}
 use Rattle.cs_parse.specs.Stands.{Unfinished}
 use Rattle.cs_parse.specs.Fault.{are_bytes}
-use Rattle.cs_parse.specs.Reading.{Refusal, Short, Bad, within, number_at, columns_at, length_at}
-use Rattle.cs_parse.proofs.Steps.{IsBytes, Takes, chosen}
+use Rattle.cs_parse.specs.Reading.{Short, Bad, within, number_at, columns_at, length_at}
+use Rattle.cs_parse.proofs.Steps.{chosen}
 use Rattle.cs_parse.proofs.Numbers.{goes, number_short, number_more, number_last, number_ends, number_goes}
 use Rattle.cs_parse.proofs.NumberLaws.{number_takes, number_again}
 use Rattle.cs_parse.proofs.Exact.{Completes, Stopped, Exact}

@@ -6,6 +6,8 @@ pub mod Exact
 pub mod NumberLaws
 pub mod ExactNumbers
 pub mod FieldLaws
+pub mod ExactValues
+pub mod ExactFields
 pub mod ManyLaws
 pub mod HeaderLaws
 pub mod ExactHeader

@@ -4,7 +4,6 @@ use Rattle.std.specs.List.{list_all}
 use Rattle.cs_model.specs.declared.change.Section.{Section}
 use Rattle.cs_model.specs.Changeset.{IsChangeset, most_bytes}
 use Rattle.cs_model.specs.Text.{SpellsEach, SpellsSection, Spells}
-use Rattle.cs_parse.specs.declared.fault.FaultKind.{FaultKind}
 use Rattle.cs_parse.specs.declared.fault.FaultKind.TheVariants.{TooLong, Truncated}
 use Rattle.cs_parse.specs.declared.fault.ParseFault.{ParseFault}
 use Rattle.cs_parse.specs.Place.{Place, wrong}

@@ -11,10 +11,10 @@ use Rattle.cs_model.specs.declared.change.Op.{Op}
 use Rattle.cs_model.specs.declared.change.Op.TheVariants.{Insert, Update, Delete}
 use Rattle.cs_model.specs.declared.change.Change.{Change}
 use Rattle.cs_model.specs.declared.change.Section.{Section}
-use Rattle.cs_model.specs.Rule.{Rule, Key, Given, Open, Blank, PairedWith, is_defined, row_rule, old_rule, new_rules}
+use Rattle.cs_model.specs.Rule.{Rule, row_rule, old_rule, new_rules}
 use Rattle.cs_model.specs.Changeset.{most_bytes}
 use Rattle.cs_parse.specs.declared.fault.FaultKind.{FaultKind}
-use Rattle.cs_parse.specs.declared.fault.FaultKind.TheVariants.{BadMarker, Patchset, Columns, NoKey, EmptyName, NameTooLong, BadOperation, BadType, Real, UndefinedField, KeyMissing, KeyChanged, OneSided, ValueTooLong, TooLong, Truncated}
+use Rattle.cs_parse.specs.declared.fault.FaultKind.TheVariants.{BadMarker, Patchset, Columns, NoKey, EmptyName, NameTooLong, BadOperation, ValueTooLong, TooLong, Truncated}
 use Rattle.cs_parse.specs.Place.{factor, type_refusal}
 use Rattle.cs_parse.specs.declared.fault.ParseFault.{ParseFault}
 use Rattle.cs_parse.specs.declared.stop.Stop.{Stop}
