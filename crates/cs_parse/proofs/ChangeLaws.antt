@@ -83,10 +83,10 @@ records_again flags Delete text fields rest h =
 
 -- ---- a change
 
-abbrev made : Op → Bool → List Field → List Field → Change
+abbrev pub made : Op → Bool → List Field → List Field → Change
 made op indirect before after = record { op = op; indirect = indirect; before = before; after = after }
 
-mark_spells : (mark : ℕ) → SpellsIndirect mark (not (mark == 0))
+pub mark_spells : (mark : ℕ) → SpellsIndirect mark (not (mark == 0))
 mark_spells zero = refl
 mark_spells (suc mark) = subst (λ b. SpellsIndirect (suc mark) (not b)) (sym (ne_eqb (suc mark) 0 (λ e. absurd cc))) (λ e. absurd cc)
 
@@ -94,7 +94,7 @@ mark_is : (mark : ℕ) (indirect : Bool) → SpellsIndirect mark indirect → no
 mark_is mark true h = ap not (ne_eqb mark 0 h)
 mark_is mark false h = ap (λ m. not (m == 0)) h
 
-abbrev marked : Op → ℕ → Records → Result (Change × List ℕ) Refusal
+abbrev pub marked : Op → ℕ → Records → Result (Change × List ℕ) Refusal
 marked op mark records = done (made op (not (mark == 0)) records.0.0 records.0.1, records.1)
 
 marked_takes : (flags : List ℕ) (op : Op) (bytes : List ℕ) (x : Change × List ℕ) → IsBytes bytes → marked_at flags op bytes ≡ Ok x → Takes SpellsChange (op_byte op ∷ bytes) x × IsChangeBy flags x.0
@@ -109,7 +109,7 @@ marked_takes flags op (mark ∷ rest) x fits e =
     subst (λ (y : Change × List ℕ). Takes SpellsChange (op_byte op ∷ mark ∷ rest) y × IsChangeBy flags y.0) (ok_is (change, a.0.1) x a.2)
     (record { text = text; parts = ap (λ w. op_byte op ∷ mark ∷ w) t.parts; spelled = spelled }, t.spelled.valid)
 
-op_is : (byte : ℕ) (op : Op) → op_of byte ≡ Some op → byte ≡ op_byte op
+pub op_is : (byte : ℕ) (op : Op) → op_of byte ≡ Some op → byte ≡ op_byte op
 op_is byte op e = elim (chosen (byte == 18) (Some Insert) (cond (byte == 23) (Some Update) (cond (byte == 9) (Some Delete) None)) (Some op) e) as (λ w. byte ≡ op_byte op) [
   | inl is ↦
       let same : Insert ≡ op = cc is.1 in
@@ -143,7 +143,7 @@ op_of_byte Insert = refl
 op_of_byte Update = refl
 op_of_byte Delete = refl
 
-by_byte : (flags : List ℕ) (op : Op) (rest : List ℕ) → change_at flags (op_byte op ∷ rest) ≡ marked_at flags op rest
+pub by_byte : (flags : List ℕ) (op : Op) (rest : List ℕ) → change_at flags (op_byte op ∷ rest) ≡ marked_at flags op rest
 unfolding change_at
 by_byte flags op rest = ap (λ o. operated flags o (op_byte op) rest) (op_of_byte op)
 
@@ -166,7 +166,7 @@ change_again flags text change rest h valid =
 change_long : (text : List ℕ) (change : Change) → SpellsChange text change → 0 < length text
 change_long text change h = omega (arith, ap length h.parts)
 
-op_no_header : (op : Op) → (op_byte op == 84) ≡ false
+pub op_no_header : (op : Op) → (op_byte op == 84) ≡ false
 op_no_header Insert = refl
 op_no_header Update = refl
 op_no_header Delete = refl
@@ -174,10 +174,10 @@ op_no_header Delete = refl
 change_goes_on : (text : List ℕ) (change : Change) (rest : List ℕ) → SpellsChange text change → ends_section (text ++ rest) ≡ false
 change_goes_on text change rest h = ap (λ w. ends_section (w ++ rest)) h.parts ∙ op_no_header change.op
 
-abbrev IsAny : List ℕ → Type 0
+abbrev pub IsAny : List ℕ → Type 0
 IsAny rest = Unit {0}
 
-change_reader : (flags : List ℕ) → IsReader ends_section (change_at flags) SpellsChange (IsChangeBy flags) IsAny
+pub change_reader : (flags : List ℕ) → IsReader ends_section (change_at flags) SpellsChange (IsChangeBy flags) IsAny
 change_reader flags = record {
   at_end = refl;
   long = change_long;

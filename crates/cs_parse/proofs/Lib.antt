@@ -12,4 +12,6 @@ pub mod ManyLaws
 pub mod HeaderLaws
 pub mod ExactHeader
 pub mod ChangeLaws
+pub mod ExactChanges
+pub mod ExactMany
 pub mod TextLaws
