@@ -15,3 +15,4 @@ pub mod ChangeLaws
 pub mod ExactChanges
 pub mod ExactMany
 pub mod TextLaws
+pub mod ExactSections
