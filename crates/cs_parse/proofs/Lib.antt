@@ -16,3 +16,5 @@ pub mod ExactChanges
 pub mod ExactMany
 pub mod TextLaws
 pub mod ExactSections
+pub mod ExactText
+pub mod FaultLaws

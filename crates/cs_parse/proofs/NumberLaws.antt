@@ -136,7 +136,7 @@ counted_again text bytes rest h top =
 abbrev pub SpellsInteger : List ℕ → ℤ → Type 0
 SpellsInteger text number = text ≡ to_be_bytes w64 (cast_unsigned w64 number)
 
-front_fits : (n : ℕ) (bytes : List ℕ) → n ≤ length bytes → IsBytes bytes → IsBytes (take n bytes)
+pub front_fits : (n : ℕ) (bytes : List ℕ) → n ≤ length bytes → IsBytes bytes → IsBytes (take n bytes)
 front_fits n bytes within fits i =
     elim (cases_lt i n) as (λ w. get_or (take n bytes) i 0 < 256) [
       | inl lt ↦ rw (get_or-take n bytes i 0 lt) (fits i)
