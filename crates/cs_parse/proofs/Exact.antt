@@ -70,12 +70,12 @@ pub renamed : {A : Type 0} (read : List ℕ → Result (A × List ℕ) Refusal) 
 renamed read T U S P names exact = record {
   begins = completes_by T U [] names.text_to exact.begins;
   takes = λ bytes x fits e.
-    let t = exact.takes bytes x fits e in
-    record { text = t.text; parts = t.parts; spelled = names.text_to t.text x.0 t.spelled };
+      let t = exact.takes bytes x fits e in
+      record { text = t.text; parts = t.parts; spelled = names.text_to t.text x.0 t.spelled };
   again = λ text a rest h. exact.again text a rest (names.text_from text a h);
   stops = λ bytes left kind fits e.
-    let s = exact.stops bytes left kind fits e in
-    record { front = s.front; byte = s.byte; back = s.back; place = s.place; parts = s.parts; left_is = s.left_is; alive = completes_by T U s.front names.text_to s.alive; stands = names.place_to s.front s.place s.stands; is_wrong = s.is_wrong };
+      let s = exact.stops bytes left kind fits e in
+      record { front = s.front; byte = s.byte; back = s.back; place = s.place; parts = s.parts; left_is = s.left_is; alive = completes_by T U s.front names.text_to s.alive; stands = names.place_to s.front s.place s.stands; is_wrong = s.is_wrong };
   places = λ front place byte kind more h w. exact.places front place byte kind more (names.place_from front place h) w;
   completes = λ bytes fits e. completes_by T U bytes names.text_to (exact.completes bytes fits e);
 }
@@ -185,6 +185,6 @@ mapped_exact {A} {B} f read T S exact =
     renamed (seq read (λ a bytes. done (f a, bytes))) (SeqText T (λ a. Nothing (f a))) (λ text b. (a : A) × T text a × (b ≡ f a)) (SeqPlace T S (λ a. Nowhere)) S (record {
       text_to = λ text b h. (h.0, subst (λ w. T w h.0) (sym (h.3 ∙ ap (λ w. h.1 ++ w) h.5.0 ∙ append-nil h.1)) h.4, h.5.1);
       text_from = λ text b h. (h.0, text, [], sym (append-nil text), h.1, (refl, h.2));
-      place_to = λ front place h. elim h as (λ w. S front place) [ | inl s ↦ s | inr k ↦ absurd k.5 ];
+      place_to = λ front place h. elim h as (λ w. S front place) [ inl s ↦ s | inr k ↦ absurd k.5 ];
       place_from = λ front place h. inl h;
     }) (seq_exact read (λ a bytes. done (f a, bytes)) T (λ a. Nothing (f a)) S (λ a. Nowhere) exact (λ text a h. pure_exact (f a)))

@@ -1,5 +1,5 @@
 -- The faults of a change are exact.
-use Rattle.std.proofs.Common.{◌≡◌, ◌==◌, ℕ, zero, suc, ◌⊎◌, inl, inr, Bool, true, false, not, cond, eqb, ◌||◌, List, [], ◌∷◌, ◌++◌, length, map, Option, Some, None, Result, Ok, Err, refl, sym, ap, subst, ◌∙◌, append_assoc, arith}
+use Rattle.std.proofs.Common.{◌≡◌, ◌==◌, ℕ, suc, inl, inr, Bool, true, false, not, cond, ◌||◌, List, [], ◌∷◌, ◌++◌, length, map, Option, Some, None, Result, Ok, Err, refl, sym, ap, subst, ◌∙◌}
 use Rattle.std.proofs.lemmas.Bool.{eqb-true, or_parts}
 use Rattle.std.proofs.lemmas.List.{append-nil}
 use Rattle.cs_model.specs.declared.value.Field.{Field}
@@ -7,16 +7,15 @@ use Rattle.cs_model.specs.declared.change.Op.{Op}
 use Rattle.cs_model.specs.declared.change.Op.TheVariants.{Insert, Update, Delete}
 use Rattle.cs_model.specs.declared.change.Change.{Change}
 use Rattle.cs_model.specs.Rule.{row_rule, old_rule, new_rules}
-use Rattle.cs_model.specs.Changeset.{Obeys}
 use Rattle.cs_model.specs.Text.{SpellsField, SpellsEach, op_byte, SpellsChange}
 use Rattle.cs_parse.specs.declared.fault.FaultKind.{FaultKind}
 use Rattle.cs_parse.specs.declared.fault.FaultKind.TheVariants.{Patchset, BadOperation}
 use Rattle.cs_parse.specs.Place.{Place, Between, goes_on, wrong}
-use Rattle.cs_parse.specs.Stands.{InRecord, InNew, InRecords, InChange, AtChange}
+use Rattle.cs_parse.specs.Stands.{InRecord, InRecords, AtChange}
 use Rattle.cs_parse.specs.Fault.{are_bytes}
 use Rattle.cs_parse.specs.Reading.{Refusal, Short, Bad, ◌>>=◌, record_at, records_at, marked_at, op_of, operated, change_at, ends_section}
 use Rattle.cs_parse.proofs.Steps.{IsBytes, Takes, done, ok_is, chosen}
-use Rattle.cs_parse.proofs.ChangeLaws.{IsChangeBy, SpellsRecords, made, marked, mark_spells, op_is, by_byte, op_no_header}
+use Rattle.cs_parse.proofs.ChangeLaws.{IsChangeBy, SpellsRecords, made, mark_spells, op_is, by_byte, op_no_header}
 use Rattle.cs_parse.proofs.Exact.{Completes, Stopped, Exact, Nowhere, SeqText, SeqPlace, seq, seq_exact, mapped_exact, renamed, same_reader}
 use Rattle.cs_parse.proofs.ExactFields.{RecordText, record_exact}
 
@@ -33,10 +32,10 @@ insert_exact flags =
     renamed (λ bytes. record_at rules bytes >>= λ row. done (([], row.0), row.1)) RowText (SpellsRecords flags Insert) (InRecord rules) (InRecords flags Insert) (record {
       text_to = λ text fields h. subst (λ fs. SpellsRecords flags Insert text fs) (sym h.2) (record { old = []; new = text; parts = refl; is_old = refl; is_new = h.1.0; valid = (refl, h.1.1) });
       text_from = λ text fields h.
-        let none : h.old ≡ [] = subst (λ b. SpellsEach SpellsField h.old b) h.valid.0 h.is_old in
-        let whole : text ≡ h.new = h.parts ∙ ap (λ w. w ++ h.new) none in
-        let pair : Fields = (fields.0, fields.1) in
-        (fields.1, (subst (λ w. SpellsEach SpellsField w fields.1) (sym whole) h.is_new, h.valid.1), ap (λ b. (b, fields.1)) h.valid.0);
+          let none : h.old ≡ [] = subst (λ b. SpellsEach SpellsField h.old b) h.valid.0 h.is_old in
+          let whole : text ≡ h.new = h.parts ∙ ap (λ w. w ++ h.new) none in
+          let pair : Fields = (fields.0, fields.1) in
+          (fields.1, (subst (λ w. SpellsEach SpellsField w fields.1) (sym whole) h.is_new, h.valid.1), ap (λ b. (b, fields.1)) h.valid.0);
       place_to = λ front place h. h;
       place_from = λ front place h. h;
     }) (mapped_exact (λ row. ([], row)) (record_at rules) (RecordText rules) (InRecord rules) (record_exact rules))
@@ -49,9 +48,9 @@ delete_exact flags =
     renamed (λ bytes. record_at rules bytes >>= λ row. done ((row.0, []), row.1)) RowText (SpellsRecords flags Delete) (InRecord rules) (InRecords flags Delete) (record {
       text_to = λ text fields h. subst (λ fs. SpellsRecords flags Delete text fs) (sym h.2) (record { old = text; new = []; parts = sym (append-nil text); is_old = h.1.0; is_new = refl; valid = (h.1.1, refl) });
       text_from = λ text fields h.
-        let none : h.new ≡ [] = subst (λ b. SpellsEach SpellsField h.new b) h.valid.1 h.is_new in
-        let whole : text ≡ h.old = h.parts ∙ ap (λ w. h.old ++ w) none ∙ append-nil h.old in
-        (fields.0, (subst (λ w. SpellsEach SpellsField w fields.0) (sym whole) h.is_old, h.valid.0), ap (λ a. (fields.0, a)) h.valid.1);
+          let none : h.new ≡ [] = subst (λ b. SpellsEach SpellsField h.new b) h.valid.1 h.is_new in
+          let whole : text ≡ h.old = h.parts ∙ ap (λ w. h.old ++ w) none ∙ append-nil h.old in
+          (fields.0, (subst (λ w. SpellsEach SpellsField w fields.0) (sym whole) h.is_old, h.valid.0), ap (λ a. (fields.0, a)) h.valid.1);
       place_to = λ front place h. h;
       place_from = λ front place h. h;
     }) (mapped_exact (λ row. (row, [])) (record_at rules) (RecordText rules) (InRecord rules) (record_exact rules))
@@ -83,7 +82,7 @@ update_exact flags =
       place_to = new_place_to flags;
       place_from = new_place_from flags;
     }) (seq_exact (record_at rules) (new_behind flags) (RecordText rules) (NewText flags) (InRecord rules) (InNewRecord flags) (record_exact rules)
-      (λ text before h. mapped_exact (λ new. (before, new)) (record_at (new_rules flags before)) (RecordText (new_rules flags before)) (InNewRecord flags before) (record_exact (new_rules flags before))))
+    (λ text before h. mapped_exact (λ new. (before, new)) (record_at (new_rules flags before)) (RecordText (new_rules flags before)) (InNewRecord flags before) (record_exact (new_rules flags before))))
 
 records_exact : (flags : List ℕ) (op : Op) → Exact (records_at flags op) (SpellsRecords flags op) (InRecords flags op)
 records_exact flags Insert = insert_exact flags
@@ -191,12 +190,12 @@ others_no : (byte : ℕ) → op_of byte ≡ None → ((byte == 9) ≡ false) × 
 others_no byte e = elim (chosen (byte == 18) (Some Insert) (cond (byte == 23) (Some Update) (cond (byte == 9) (Some Delete) None)) None e) as (λ w. ((byte == 9) ≡ false) × ((byte == 18) ≡ false) × ((byte == 23) ≡ false)) [
   | inl h ↦ absurd (cc h.1)
   | inr h ↦ elim (chosen (byte == 23) (Some Update) (cond (byte == 9) (Some Delete) None) None h.1) as (λ w. ((byte == 9) ≡ false) × ((byte == 18) ≡ false) × ((byte == 23) ≡ false)) [
-      | inl k ↦ absurd (cc k.1)
-      | inr k ↦ elim (chosen (byte == 9) (Some Delete) None None k.1) as (λ w. ((byte == 9) ≡ false) × ((byte == 18) ≡ false) × ((byte == 23) ≡ false)) [
-          | inl l ↦ absurd (cc l.1)
-          | inr l ↦ (l.0, h.0, k.0)
-        ]
+    | inl k ↦ absurd (cc k.1)
+    | inr k ↦ elim (chosen (byte == 9) (Some Delete) None None k.1) as (λ w. ((byte == 9) ≡ false) × ((byte == 18) ≡ false) × ((byte == 23) ≡ false)) [
+      | inl l ↦ absurd (cc l.1)
+      | inr l ↦ (l.0, h.0, k.0)
     ]
+  ]
 ]
 
 either : (b : Bool) → cond b (Some Patchset) (Some BadOperation) ≡ Some (cond b Patchset BadOperation)
@@ -216,15 +215,15 @@ wrong_is byte kind w = elim (chosen (byte == 80) (Some Patchset) (cond (goes_on 
       let same : Patchset ≡ kind = cc h.1 in
       (ap op_of is, ap (λ b. b == 84) is, ap begins_none is ∙ same)
   | inr h ↦ elim (chosen (goes_on byte) None (Some BadOperation) (Some kind) h.1) as (λ w. (op_of byte ≡ None) × ((byte == 84) ≡ false) × (begins_none byte ≡ kind)) [
-      | inl k ↦ absurd (cc k.1)
-      | inr k ↦
-          let a = or_parts (byte == 84) (byte == 9 || (byte == 18 || byte == 23)) k.0 in
-          let b = or_parts (byte == 9) (byte == 18 || byte == 23) a.1 in
-          let d = or_parts (byte == 18) (byte == 23) b.1 in
-          let same : BadOperation ≡ kind = cc k.1 in
-          let none : op_of byte ≡ None = rw (d.0, d.1, b.0) refl in
-          (none, a.0, ap (λ t. cond t Patchset BadOperation) h.0 ∙ same)
-    ]
+    | inl k ↦ absurd (cc k.1)
+    | inr k ↦
+        let a = or_parts (byte == 84) (byte == 9 || (byte == 18 || byte == 23)) k.0 in
+        let b = or_parts (byte == 9) (byte == 18 || byte == 23) a.1 in
+        let d = or_parts (byte == 18) (byte == 23) b.1 in
+        let same : BadOperation ≡ kind = cc k.1 in
+        let none : op_of byte ≡ None = rw (d.0, d.1, b.0) refl in
+        (none, a.0, ap (λ t. cond t Patchset BadOperation) h.0 ∙ same)
+  ]
 ]
 
 -- ---- the faults of a change
@@ -234,8 +233,17 @@ operated_stops : (flags : List ℕ) (o : Option Op) (byte : ℕ) (rest : List �
 operated_stops flags (Some op) byte rest left kind fits is no_header e =
     let s = (marked_exact flags op).stops rest left kind fits e in
     let known = op_is byte op is in
-    record { front = byte ∷ s.front; byte = s.byte; back = s.back; place = s.place; parts = ap (λ w. byte ∷ w) s.parts; left_is = s.left_is; alive = change_begun flags op byte s.front known s.alive;
-      stands = place_in flags op byte s.front s.place known s.stands; is_wrong = s.is_wrong }
+    record {
+      front = byte ∷ s.front;
+      byte = s.byte;
+      back = s.back;
+      place = s.place;
+      parts = ap (λ w. byte ∷ w) s.parts;
+      left_is = s.left_is;
+      alive = change_begun flags op byte s.front known s.alive;
+      stands = place_in flags op byte s.front s.place known s.stands;
+      is_wrong = s.is_wrong;
+    }
 operated_stops flags None byte rest left kind fits is no_header e =
     let len : left ≡ suc (length rest) = cc e in
     let same : begins_none byte ≡ kind = cc e in

@@ -124,8 +124,8 @@ pub field_exact : (rule : Rule) → Exact (field_at rule) (FieldText rule) (InFi
 field_exact rule =
     same_reader (seq (type_at rule) typed_at) (field_at rule) (FieldText rule) (InField rule) (field_is rule)
     (renamed (seq (type_at rule) typed_at) (SeqText (TypeText rule) TypedText) (FieldText rule) (SeqPlace (TypeText rule) (TypePlace rule) TypedPlace) (InField rule)
-      (record { text_to = field_to rule; text_from = field_from rule; place_to = field_place_to rule; place_from = field_place_from rule })
-      (seq_exact (type_at rule) typed_at (TypeText rule) TypedText (TypePlace rule) TypedPlace (type_exact rule) (λ text byte h. typed_exact rule byte h.1)))
+    (record { text_to = field_to rule; text_from = field_from rule; place_to = field_place_to rule; place_from = field_place_from rule })
+    (seq_exact (type_at rule) typed_at (TypeText rule) TypedText (TypePlace rule) TypedPlace (type_exact rule) (λ text byte h. typed_exact rule byte h.1)))
 
 -- ---- records
 
@@ -170,4 +170,4 @@ record_exact (rule ∷ rules) =
     renamed (seq (field_at rule) (λ field bytes. and_others field bytes rules)) (SeqText (FieldText rule) (OthersText rules)) (RecordText (rule ∷ rules)) (SeqPlace (FieldText rule) (InField rule) (λ field. InRecord rules)) (InRecord (rule ∷ rules))
     (record { text_to = record_to rule rules; text_from = record_from rule rules; place_to = record_place_to rule rules; place_from = record_place_from rule rules })
     (seq_exact (field_at rule) (λ field bytes. and_others field bytes rules) (FieldText rule) (OthersText rules) (InField rule) (λ field. InRecord rules) (field_exact rule)
-      (λ text field h. mapped_exact (λ fields. field ∷ fields) (record_at rules) (RecordText rules) (InRecord rules) (record_exact rules)))
+    (λ text field h. mapped_exact (λ fields. field ∷ fields) (record_at rules) (RecordText rules) (InRecord rules) (record_exact rules)))

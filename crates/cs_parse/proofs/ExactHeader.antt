@@ -72,8 +72,17 @@ flags_stop front byte back left kind e = elim (chosen (any_key (front ++ byte �
       let nothing : byte ≡ 0 = omega (arith, zeroed) in
       let len : left ≡ suc (length back) = cc h.1 in
       let same : NoKey ≡ kind = cc h.1 in
-      record { front = front; byte = byte; back = back; place = LastKey; parts = refl; left_is = len; alive = flags_go_on (suc (length front)) front (omega arith); stands = (refl, none.0, refl);
-        is_wrong = ap (wrong LastKey) nothing ∙ ap (λ k. Some k) same }
+      record {
+        front = front;
+        byte = byte;
+        back = back;
+        place = LastKey;
+        parts = refl;
+        left_is = len;
+        alive = flags_go_on (suc (length front)) front (omega arith);
+        stands = (refl, none.0, refl);
+        is_wrong = ap (wrong LastKey) nothing ∙ ap (λ k. Some k) same;
+      }
 ]
 
 split_at : (n : ℕ) (bytes : List ℕ) → n < length bytes → bytes ≡ take n bytes ++ get_or bytes n 0 ∷ drop (n + 1) bytes
@@ -130,8 +139,8 @@ module _ (count : ℕ) (some : 1 ≤ count) where
   flags_exact = record {
     begins = flags_go_on count [] (omega arith);
     takes = λ bytes x fits e.
-      let t = flags_take count bytes x e in
-      record { text = x.0; parts = t.0; spelled = (refl, t.1, t.2) };
+        let t = flags_take count bytes x e in
+        record { text = x.0; parts = t.0; spelled = (refl, t.1, t.2) };
     again = λ text flags rest h. ap (λ w. flags_at count (w ++ rest)) h.0 ∙ ap (λ n. flags_at n (flags ++ rest)) (sym h.1) ∙ flags_again flags rest h.2;
     stops = λ bytes left kind fits e. flags_stops bytes left kind e;
     places = flags_places;
@@ -224,17 +233,26 @@ name_stops : (bytes : List ℕ) (left : ℕ) (kind : FaultKind) → name_at byte
 name_stops bytes left kind e = elim (bind_err (letters_at 1024 bytes) checked (Bad left kind) (sym (name_is bytes) ∙ e)) as (λ w. Stopped NameText NamePlace bytes left kind) [
   | inl h ↦
       let t = letters_bad 1024 bytes left kind h in
-      record { front = t.front; byte = suc t.byte; back = t.back; place = PastName; parts = t.parts; left_is = t.left_is; alive = name_goes_on t.front (omega (arith, t.full)) t.whole; stands = inr (t.full, t.whole, refl);
-        is_wrong = ap (λ b. cond b None (Some NameTooLong)) (nonzero t.byte) ∙ ap (λ k. Some k) t.same }
+      record {
+        front = t.front;
+        byte = suc t.byte;
+        back = t.back;
+        place = PastName;
+        parts = t.parts;
+        left_is = t.left_is;
+        alive = name_goes_on t.front (omega (arith, t.full)) t.whole;
+        stands = inr (t.full, t.whole, refl);
+        is_wrong = ap (λ b. cond b None (Some NameTooLong)) (nonzero t.byte) ∙ ap (λ k. Some k) t.same;
+      }
   | inr h ↦ elim (chosen (eqb (length h.0.0) 0) (refuse EmptyName h.0.1) (Ok h.0) (Err (Bad left kind)) h.2) as (λ w. Stopped NameText NamePlace bytes left kind) [
-      | inl empty ↦
-          let nothing : h.0.0 ≡ [] = nil_from_length h.0.0 (eqb-true (length h.0.0) 0 empty.0) in
-          let whole : bytes ≡ 0 ∷ h.0.1 = (letters_take 1024 bytes h.0 h.1).0 ∙ ap (λ w. w ++ 0 ∷ h.0.1) nothing in
-          let len : left ≡ suc (length h.0.1) = cc empty.1 in
-          let same : EmptyName ≡ kind = cc empty.1 in
-          record { front = []; byte = 0; back = h.0.1; place = FirstLetter; parts = whole; left_is = len; alive = no_name; stands = inl (refl, refl); is_wrong = ap (λ k. Some k) same }
-      | inr other ↦ absurd (cc other.1)
-    ]
+    | inl empty ↦
+        let nothing : h.0.0 ≡ [] = nil_from_length h.0.0 (eqb-true (length h.0.0) 0 empty.0) in
+        let whole : bytes ≡ 0 ∷ h.0.1 = (letters_take 1024 bytes h.0 h.1).0 ∙ ap (λ w. w ++ 0 ∷ h.0.1) nothing in
+        let len : left ≡ suc (length h.0.1) = cc empty.1 in
+        let same : EmptyName ≡ kind = cc empty.1 in
+        record { front = []; byte = 0; back = h.0.1; place = FirstLetter; parts = whole; left_is = len; alive = no_name; stands = inl (refl, refl); is_wrong = ap (λ k. Some k) same }
+    | inr other ↦ absurd (cc other.1)
+  ]
 ]
 
 name_places : (front : List ℕ) (place : Place) (byte : ℕ) (kind : FaultKind) (more : List ℕ) → NamePlace front place → wrong place byte ≡ Some kind → name_at (front ++ byte ∷ more) ≡ Err (Bad (suc (length more)) kind)
@@ -259,17 +277,17 @@ name_complete bytes e = elim (bind_err (letters_at 1024 bytes) checked Short (sy
       let t = letters_open 1024 bytes h in
       name_goes_on bytes t.0 t.1
   | inr h ↦ elim (chosen (eqb (length h.0.0) 0) (refuse EmptyName h.0.1) (Ok h.0) (Err Short) h.2) as (λ w. Completes NameText bytes) [
-      | inl empty ↦ absurd (cc empty.1)
-      | inr other ↦ absurd (cc other.1)
-    ]
+    | inl empty ↦ absurd (cc empty.1)
+    | inr other ↦ absurd (cc other.1)
+  ]
 ]
 
 name_exact : Exact name_at NameText NamePlace
 name_exact = record {
   begins = no_name;
   takes = λ bytes x fits e.
-    let t = name_takes bytes x e in
-    record { text = x.0 ++ 0 ∷ []; parts = t.0.0 ∙ sym (append_assoc x.0 (0 ∷ []) x.1); spelled = (refl, t.1, t.0.1, t.0.2) };
+      let t = name_takes bytes x e in
+      record { text = x.0 ++ 0 ∷ []; parts = t.0.0 ∙ sym (append_assoc x.0 (0 ∷ []) x.1); spelled = (refl, t.1, t.0.1, t.0.2) };
   again = λ text name rest h. ap (λ w. name_at (w ++ rest)) h.0 ∙ ap name_at (append_assoc name (0 ∷ []) rest) ∙ name_again name rest h.1 h.2 h.3;
   stops = λ bytes left kind fits e. name_stops bytes left kind e;
   places = name_places;
@@ -320,9 +338,14 @@ header_from text shape h =
     let flags = shape.flags in
     let name = shape.name in
     let parts = h.0.parts in
-    let whole : text ≡ h.0.count ++ flags ++ name ++ 0 ∷ [] = cc in
-    (length flags, h.0.count, flags ++ (name ++ 0 ∷ []), whole ∙ sym (joined h.0.count flags name), (h.0.is_count, h.1.columns, h.1.not_more_columns),
-      (flags, flags, name ++ 0 ∷ [], refl, (refl, refl, h.1.key), (name, (refl, h.1.named, h.1.not_longer, h.1.no_zero), refl)))
+    let whole : text ≡ h.0.count ++ flags ++ name ++ 0 ∷ [] = cc in (
+      length flags,
+      h.0.count,
+      flags ++ (name ++ 0 ∷ []),
+      whole ∙ sym (joined h.0.count flags name),
+      (h.0.is_count, h.1.columns, h.1.not_more_columns),
+      (flags, flags, name ++ 0 ∷ [], refl, (refl, refl, h.1.key), (name, (refl, h.1.named, h.1.not_longer, h.1.no_zero), refl)),
+    )
 
 place_to : (front : List ℕ) (place : Place) → SeqPlace ColumnsText InColumnDigits FlagsAndNamePlace front place → InHeader front place
 place_to front place (inl h) = inl (record { left = h.0; high = h.1; digits = h.2; stands = h.3 })

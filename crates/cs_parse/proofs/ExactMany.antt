@@ -1,13 +1,13 @@
 -- Items one after another: their faults are exact where those of an item are.
-use Rattle.std.proofs.Common.{◌≡◌, ℕ, zero, suc, ◌≤◌, inl, inr, Bool, true, false, List, [], ◌∷◌, ◌++◌, length, Some, Result, Ok, Err, refl, sym, ap, subst, ◌∙◌, append_assoc, arith}
+use Rattle.std.proofs.Common.{◌≡◌, ℕ, zero, suc, ◌≤◌, inl, inr, Bool, false, List, [], ◌∷◌, ◌++◌, length, Some, Result, Ok, Err, refl, sym, ap, subst, ◌∙◌, append_assoc, arith}
 use Rattle.std.specs.List.{AllByRecursion}
 use Rattle.std.proofs.lemmas.Bool.{cases_Bool}
-use Rattle.std.proofs.lemmas.List.{append-nil, nil_from_length, length-append}
+use Rattle.std.proofs.lemmas.List.{append-nil, length-append}
 use Rattle.cs_model.specs.Text.{SpellsEach}
 use Rattle.cs_parse.specs.declared.fault.FaultKind.{FaultKind}
 use Rattle.cs_parse.specs.Place.{Place, wrong}
 use Rattle.cs_parse.specs.Reading.{Refusal, Short, Bad, ◌>>=◌, many_at}
-use Rattle.cs_parse.proofs.Steps.{IsBytes, Takes, back_fits, done}
+use Rattle.cs_parse.proofs.Steps.{IsBytes, back_fits, done}
 use Rattle.cs_parse.proofs.Loops.{then_others, rest_of, many_more, many_done}
 use Rattle.cs_parse.proofs.ManyLaws.{IsReader}
 use Rattle.cs_parse.proofs.Exact.{Completes, Stopped, bind_err}
@@ -29,7 +29,7 @@ pub record IsExact {A : Type 0} (over : List ℕ → Bool) (read : List ℕ → 
   pub leaves : (bytes : List ℕ) (x : A × List ℕ) → Follows bytes → IsBytes bytes → read bytes ≡ Ok x → Follows x.1
   pub stops : (bytes : List ℕ) (left : ℕ) (kind : FaultKind) → over bytes ≡ false → Follows bytes → IsBytes bytes → read bytes ≡ Err (Bad left kind) → Stopped (ItemText Spelling IsItem) S bytes left kind
   pub places : (front : List ℕ) (place : Place) (byte : ℕ) (kind : FaultKind) (more : List ℕ) → S front place → wrong place byte ≡ Some kind
-    → (over (front ++ byte ∷ more) ≡ false) × Follows (front ++ byte ∷ more) × (read (front ++ byte ∷ more) ≡ Err (Bad (suc (length more)) kind))
+      → (over (front ++ byte ∷ more) ≡ false) × Follows (front ++ byte ∷ more) × (read (front ++ byte ∷ more) ≡ Err (Bad (suc (length more)) kind))
   pub completes : (bytes : List ℕ) → over bytes ≡ false → Follows bytes → IsBytes bytes → read bytes ≡ Err Short → Completes (ItemText Spelling IsItem) bytes
 
 module _ {A : Type 0} (over : List ℕ → Bool) (read : List ℕ → Result (A × List ℕ) Refusal) (Spelling : List ℕ → A → Type 0) (IsItem : A → Type 0) (Follows : List ℕ → Type 0) (S : List ℕ → Place → Type 0)
@@ -53,22 +53,31 @@ module _ {A : Type 0} (over : List ℕ → Bool) (read : List ℕ → Result (A 
       elim (cases_Bool (over bytes)) as (λ w. Stopped (ManyText Spelling IsItem) (ManyPlace Spelling IsItem S) bytes left kind) [
         | inl ended ↦ absurd (cc (sym (many_done over read (suc fuel) bytes (inl ended)) ∙ e))
         | inr more ↦ elim (bind_err (read bytes) (rest_of over read fuel) (Bad left kind) (sym (many_more over read fuel bytes more) ∙ e)) as (λ w. Stopped (ManyText Spelling IsItem) (ManyPlace Spelling IsItem S) bytes left kind) [
-            | inl h ↦
-                let s = exact.stops bytes left kind more follows fits h in
-                record { front = s.front; byte = s.byte; back = s.back; place = s.place; parts = s.parts; left_is = s.left_is; alive = one_begun s.front s.alive; stands = ([], [], s.front, refl, (refl, tt), s.stands); is_wrong = s.is_wrong }
-            | inr h ↦ elim (bind_err (many_at over read fuel h.0.1) (λ others. done (h.0.0 ∷ others.0, others.1)) (Bad left kind) h.2) as (λ w. Stopped (ManyText Spelling IsItem) (ManyPlace Spelling IsItem S) bytes left kind) [
-                | inl k ↦
-                    let t = exact.reader.takes bytes h.0 fits h.1 in
-                    let text = t.0.text in
-                    let s = many_stops fuel h.0.1 left kind (less_fuel fuel bytes text h.0.1 h.0.0 enough t.0.parts t.0.spelled) (exact.leaves bytes h.0 follows fits h.1) (back_fits bytes text h.0.1 t.0.parts fits) k in
-                    let whole : bytes ≡ (text ++ s.front) ++ s.byte ∷ s.back = t.0.parts ∙ ap (λ w. text ++ w) s.parts ∙ sym (append_assoc text s.front (s.byte ∷ s.back)) in
-                    let p = s.stands in
-                    let front_is : text ++ s.front ≡ (text ++ p.0) ++ p.2 = ap (λ w. text ++ w) p.3 ∙ sym (append_assoc text p.0 p.2) in
-                    record { front = text ++ s.front; byte = s.byte; back = s.back; place = s.place; parts = whole; left_is = s.left_is; alive = one_more text h.0.0 s.front t.0.spelled t.1 s.alive;
-                      stands = (text ++ p.0, h.0.0 ∷ p.1, p.2, front_is, ((text, p.0, refl, t.0.spelled, p.4.0), (t.1, p.4.1)), p.5); is_wrong = s.is_wrong }
-                | inr k ↦ absurd (cc k.2)
-              ]
+          | inl h ↦
+              let s = exact.stops bytes left kind more follows fits h in
+              record { front = s.front; byte = s.byte; back = s.back; place = s.place; parts = s.parts; left_is = s.left_is; alive = one_begun s.front s.alive; stands = ([], [], s.front, refl, (refl, tt), s.stands); is_wrong = s.is_wrong }
+          | inr h ↦ elim (bind_err (many_at over read fuel h.0.1) (λ others. done (h.0.0 ∷ others.0, others.1)) (Bad left kind) h.2) as (λ w. Stopped (ManyText Spelling IsItem) (ManyPlace Spelling IsItem S) bytes left kind) [
+            | inl k ↦
+                let t = exact.reader.takes bytes h.0 fits h.1 in
+                let text = t.0.text in
+                let s = many_stops fuel h.0.1 left kind (less_fuel fuel bytes text h.0.1 h.0.0 enough t.0.parts t.0.spelled) (exact.leaves bytes h.0 follows fits h.1) (back_fits bytes text h.0.1 t.0.parts fits) k in
+                let whole : bytes ≡ (text ++ s.front) ++ s.byte ∷ s.back = t.0.parts ∙ ap (λ w. text ++ w) s.parts ∙ sym (append_assoc text s.front (s.byte ∷ s.back)) in
+                let p = s.stands in
+                let front_is : text ++ s.front ≡ (text ++ p.0) ++ p.2 = ap (λ w. text ++ w) p.3 ∙ sym (append_assoc text p.0 p.2) in
+                record {
+                  front = text ++ s.front;
+                  byte = s.byte;
+                  back = s.back;
+                  place = s.place;
+                  parts = whole;
+                  left_is = s.left_is;
+                  alive = one_more text h.0.0 s.front t.0.spelled t.1 s.alive;
+                  stands = (text ++ p.0, h.0.0 ∷ p.1, p.2, front_is, ((text, p.0, refl, t.0.spelled, p.4.0), (t.1, p.4.1)), p.5);
+                  is_wrong = s.is_wrong;
+                }
+            | inr k ↦ absurd (cc k.2)
           ]
+        ]
       ]
 
   pub many_completes : (fuel : ℕ) (bytes : List ℕ) → length bytes ≤ fuel → Follows bytes → IsBytes bytes → many_at over read fuel bytes ≡ Err Short → Completes (ManyText Spelling IsItem) bytes
@@ -77,16 +86,16 @@ module _ {A : Type 0} (over : List ℕ → Bool) (read : List ℕ → Result (A 
       elim (cases_Bool (over bytes)) as (λ w. Completes (ManyText Spelling IsItem) bytes) [
         | inl ended ↦ absurd (cc (sym (many_done over read (suc fuel) bytes (inl ended)) ∙ e))
         | inr more ↦ elim (bind_err (read bytes) (rest_of over read fuel) Short (sym (many_more over read fuel bytes more) ∙ e)) as (λ w. Completes (ManyText Spelling IsItem) bytes) [
-            | inl h ↦ one_begun bytes (exact.completes bytes more follows fits h)
-            | inr h ↦ elim (bind_err (many_at over read fuel h.0.1) (λ others. done (h.0.0 ∷ others.0, others.1)) Short h.2) as (λ w. Completes (ManyText Spelling IsItem) bytes) [
-                | inl k ↦
-                    let t = exact.reader.takes bytes h.0 fits h.1 in
-                    let text = t.0.text in
-                    let c = many_completes fuel h.0.1 (less_fuel fuel bytes text h.0.1 h.0.0 enough t.0.parts t.0.spelled) (exact.leaves bytes h.0 follows fits h.1) (back_fits bytes text h.0.1 t.0.parts fits) k in
-                    subst (λ w. Completes (ManyText Spelling IsItem) w) (sym t.0.parts) (one_more text h.0.0 h.0.1 t.0.spelled t.1 c)
-                | inr k ↦ absurd (cc k.2)
-              ]
+          | inl h ↦ one_begun bytes (exact.completes bytes more follows fits h)
+          | inr h ↦ elim (bind_err (many_at over read fuel h.0.1) (λ others. done (h.0.0 ∷ others.0, others.1)) Short h.2) as (λ w. Completes (ManyText Spelling IsItem) bytes) [
+            | inl k ↦
+                let t = exact.reader.takes bytes h.0 fits h.1 in
+                let text = t.0.text in
+                let c = many_completes fuel h.0.1 (less_fuel fuel bytes text h.0.1 h.0.0 enough t.0.parts t.0.spelled) (exact.leaves bytes h.0 follows fits h.1) (back_fits bytes text h.0.1 t.0.parts fits) k in
+                subst (λ w. Completes (ManyText Spelling IsItem) w) (sym t.0.parts) (one_more text h.0.0 h.0.1 t.0.spelled t.1 c)
+            | inr k ↦ absurd (cc k.2)
           ]
+        ]
       ]
 
   -- what stands behind the items may follow them, where it may follow the last

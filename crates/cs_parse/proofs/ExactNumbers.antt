@@ -65,7 +65,6 @@ number_begins least most (suc left) (suc high) low top room =
 
 module _ (least most : ℕ) (kind : FaultKind) (P : ℕ → ℕ → Place) (low : least ≤ 1) (top : 1 ≤ most)
     (table : (left high byte : ℕ) → wrong (P left high) byte ≡ cond (leaves_none least most left high byte) (Some kind) None) where
-
   wrong_is : (left high byte : ℕ) (k : FaultKind) → leaves_none least most left high byte ≡ true → kind ≡ k → wrong (P left high) byte ≡ Some k
   wrong_is left high byte k none same = table left high byte ∙ ap (λ b. cond b (Some kind) None) none ∙ ap (λ f. Some f) same
 
@@ -91,20 +90,28 @@ module _ (least most : ℕ) (kind : FaultKind) (P : ℕ → ℕ → Place) (low 
             let none = ap (λ b. cond b (outside least most (128 * high + byte)) (ltb most (factor left * next))) last.0 ∙ w.0 in
             here (suc left) high byte l rest k room none w.1 w.2
         | inr more ↦ elim (chosen (ltb most (factor left * next)) (Err (Bad (suc (length rest)) kind)) (number_at least most kind left next rest) (Err (Bad l k)) more.1) as (λ w. Stopped (NumberText least most (suc left) high) (Digits most P (suc left) high) (byte ∷ rest) l k) [
-            | inl over ↦
-                let len : l ≡ suc (length rest) = cc over.1 in
-                let same : kind ≡ k = cc over.1 in
-                let none = ap (λ b. cond b (outside least most (128 * high + byte)) (ltb most (factor left * next))) more.0 ∙ over.0 in
-                here (suc left) high byte l rest k room none len same
-            | inr on ↦
-                let under = ltb-false most (factor left * next) on.0 in
-                let large = ltb-false byte 128 more.0 in
-                let s = number_stops left next rest l k under on.1 in
-                let c = s.alive in
-                record { front = byte ∷ s.front; byte = s.byte; back = s.back; place = s.place; parts = ap (λ w. byte ∷ w) s.parts; left_is = s.left_is;
-                  alive = record { more = c.more; bytes = c.bytes; value = c.value; whole = (inr (large, c.whole.0), c.whole.1, c.whole.2) };
-                  stands = (s.stands.0, s.stands.1, (large, under, s.stands.2), s.stands.3); is_wrong = s.is_wrong }
-          ]
+          | inl over ↦
+              let len : l ≡ suc (length rest) = cc over.1 in
+              let same : kind ≡ k = cc over.1 in
+              let none = ap (λ b. cond b (outside least most (128 * high + byte)) (ltb most (factor left * next))) more.0 ∙ over.0 in
+              here (suc left) high byte l rest k room none len same
+          | inr on ↦
+              let under = ltb-false most (factor left * next) on.0 in
+              let large = ltb-false byte 128 more.0 in
+              let s = number_stops left next rest l k under on.1 in
+              let c = s.alive in
+              record {
+                front = byte ∷ s.front;
+                byte = s.byte;
+                back = s.back;
+                place = s.place;
+                parts = ap (λ w. byte ∷ w) s.parts;
+                left_is = s.left_is;
+                alive = record { more = c.more; bytes = c.bytes; value = c.value; whole = (inr (large, c.whole.0), c.whole.1, c.whole.2) };
+                stands = (s.stands.0, s.stands.1, (large, under, s.stands.2), s.stands.3);
+                is_wrong = s.is_wrong;
+              }
+        ]
       ]
 
   bad_here : (left high byte : ℕ) (k : FaultKind) (more : List ℕ) → leaves_none least most left high byte ≡ true → kind ≡ k → number_at least most kind left high (byte ∷ more) ≡ Err (Bad (suc (length more)) k)
@@ -137,11 +144,11 @@ module _ (least most : ℕ) (kind : FaultKind) (P : ℕ → ℕ → Place) (low 
       elim (chosen (ltb byte 128) (within least most kind (128 * high + byte) rest) (goes least most kind left high byte rest) (Err Short) (sym (number_more least most kind left high byte rest) ∙ e)) as (λ w. Completes (NumberText least most (suc left) high) (byte ∷ rest)) [
         | inl last ↦ absurd (within_whole least most kind (128 * high + byte) rest last.1)
         | inr more ↦ elim (chosen (ltb most (factor left * next)) (Err (Bad (suc (length rest)) kind)) (number_at least most kind left next rest) (Err Short) more.1) as (λ w. Completes (NumberText least most (suc left) high) (byte ∷ rest)) [
-            | inl over ↦ absurd (cc over.1)
-            | inr on ↦
-                let c = number_completes left next rest (ltb-false most (factor left * next) on.0) on.1 in
-                record { more = c.more; bytes = c.bytes; value = c.value; whole = (inr (ltb-false byte 128 more.0, c.whole.0), c.whole.1, c.whole.2) }
-          ]
+          | inl over ↦ absurd (cc over.1)
+          | inr on ↦
+              let c = number_completes left next rest (ltb-false most (factor left * next) on.0) on.1 in
+              record { more = c.more; bytes = c.bytes; value = c.value; whole = (inr (ltb-false byte 128 more.0, c.whole.0), c.whole.1, c.whole.2) }
+        ]
       ]
 
   number_exact : Exact (number_at least most kind 8 0) (NumberText least most 8 0) (Digits most P 8 0)
@@ -150,8 +157,8 @@ module _ (least most : ℕ) (kind : FaultKind) (P : ℕ → ℕ → Place) (low 
       record {
         begins = number_begins least most 8 0 low top room;
         takes = λ bytes x fits e.
-          let t = number_takes least most kind 8 0 bytes x e in
-          record { text = t.0.text; parts = t.0.parts; spelled = (t.0.spelled, t.1, t.2) };
+            let t = number_takes least most kind 8 0 bytes x e in
+            record { text = t.0.text; parts = t.0.parts; spelled = (t.0.spelled, t.1, t.2) };
         again = λ text n rest h. number_again least most kind 8 0 text n rest h.0 h.1 h.2;
         stops = λ bytes l k fits e. number_stops 8 0 bytes l k room e;
         places = number_places 8 0;

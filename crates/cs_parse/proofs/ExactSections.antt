@@ -1,22 +1,21 @@
 -- The faults of sections are exact.
-use Rattle.std.proofs.Common.{◌≡◌, ◌==◌, ℕ, suc, inl, inr, true, false, cond, List, [], ◌∷◌, ◌++◌, length, Some, Result, Ok, Err, refl, sym, ap, subst, ◌∙◌, append_assoc, arith}
-use Rattle.std.specs.List.{AllByRecursion}
+use Rattle.std.proofs.Common.{◌≡◌, ℕ, suc, inl, inr, false, List, [], ◌∷◌, ◌++◌, length, Some, Ok, Err, refl, sym, ap, subst, ◌∙◌, append_assoc, arith}
 use Rattle.std.proofs.lemmas.Bool.{eqb-true, ne_eqb}
-use Rattle.std.proofs.lemmas.List.{append-nil, length-append}
+use Rattle.std.proofs.lemmas.List.{append-nil}
 use Rattle.cs_model.specs.declared.shape.Shape.{Shape}
 use Rattle.cs_model.specs.declared.change.Change.{Change}
 use Rattle.cs_model.specs.declared.change.Section.{Section}
-use Rattle.cs_model.specs.Changeset.{IsShape, IsSection}
-use Rattle.cs_model.specs.Text.{SpellsChange, SpellsHeader, SpellsSection}
+use Rattle.cs_model.specs.Changeset.{IsSection}
+use Rattle.cs_model.specs.Text.{SpellsChange, SpellsSection}
 use Rattle.cs_parse.specs.declared.fault.FaultKind.{FaultKind}
 use Rattle.cs_parse.specs.Place.{Place, wrong}
-use Rattle.cs_parse.specs.Stands.{AtChange, BehindHeader, InSection}
-use Rattle.cs_parse.specs.Reading.{Refusal, Short, Bad, ◌>>=◌, change_at, ends_section, changes_at, header_at, section_at, is_empty}
-use Rattle.cs_parse.proofs.Steps.{IsBytes, Takes, back_fits, bind_ok, done, ok_is}
-use Rattle.cs_parse.proofs.HeaderLaws.{HeaderText, header_again}
+use Rattle.cs_parse.specs.Stands.{AtChange, InSection}
+use Rattle.cs_parse.specs.Reading.{Short, Bad, ◌>>=◌, change_at, ends_section, changes_at, header_at, section_at, is_empty}
+use Rattle.cs_parse.proofs.Steps.{IsBytes, back_fits, bind_ok, ok_is}
+use Rattle.cs_parse.proofs.HeaderLaws.{header_again}
 use Rattle.cs_parse.proofs.ChangeLaws.{IsChangeBy, IsAny, change_reader, changes_take}
 use Rattle.cs_parse.proofs.TextLaws.{sectioned, changes_behind, CanFollow, marked_again, section_reader}
-use Rattle.cs_parse.proofs.Exact.{Completes, Stopped, Exact, bind_err}
+use Rattle.cs_parse.proofs.Exact.{Completes, Stopped, bind_err}
 use Rattle.cs_parse.proofs.ExactHeader.{HeaderSpelled, header_exact}
 use Rattle.cs_parse.proofs.ExactChanges.{change_stops, change_places, change_completes}
 use Rattle.cs_parse.proofs.ExactMany.{ItemText, ManyText, ManyPlace, IsExact, many_stops, many_places, many_completes}
@@ -35,8 +34,8 @@ change_exact flags = record {
   leaves = λ bytes x follows fits e. tt;
   stops = λ bytes left kind more follows fits e. change_stops flags bytes left kind more fits e;
   places = λ front place byte kind more h w.
-    let p = change_places flags front place byte kind more h w in
-    (p.0, tt, p.1);
+      let p = change_places flags front place byte kind more h w in
+      (p.0, tt, p.1);
   completes = λ bytes more follows fits e. change_completes flags bytes fits e;
 }
 
@@ -89,8 +88,17 @@ marked_stops rest left kind fits e = elim (bind_err (header_at rest) changes_beh
         | inl k ↦
             let s = changes_stops shape.flags h.0.1 left kind (back_fits rest t.text h.0.1 t.parts fits) k in
             let whole : rest ≡ (t.text ++ s.front) ++ s.byte ∷ s.back = t.parts ∙ ap (λ w. t.text ++ w) s.parts ∙ sym (append_assoc t.text s.front (s.byte ∷ s.back)) in
-            record { front = 84 ∷ (t.text ++ s.front); byte = s.byte; back = s.back; place = s.place; parts = ap (λ w. 84 ∷ w) whole; left_is = s.left_is; alive = section_behind t.text shape s.front t.spelled s.alive;
-              stands = changes_stand t.text shape s.front s.place t.spelled s.stands; is_wrong = s.is_wrong }
+            record {
+              front = 84 ∷ (t.text ++ s.front);
+              byte = s.byte;
+              back = s.back;
+              place = s.place;
+              parts = ap (λ w. 84 ∷ w) whole;
+              left_is = s.left_is;
+              alive = section_behind t.text shape s.front t.spelled s.alive;
+              stands = changes_stand t.text shape s.front s.place t.spelled s.stands;
+              is_wrong = s.is_wrong;
+            }
         | inr k ↦ absurd (cc k.2)
       ]
 ]

@@ -1,10 +1,9 @@
 -- The faults of whole texts are exact.
 use Rattle.std.proofs.Common.{◌≡◌, ◌==◌, ℕ, suc, inl, inr, Bool, true, false, cond, List, [], ◌∷◌, ◌++◌, length, Some, None, Result, Ok, Err, refl, sym, ap, subst, ◌∙◌, append_assoc, arith}
-use Rattle.std.specs.List.{AllByRecursion}
 use Rattle.std.proofs.lemmas.Bool.{cases_Bool, ne_eqb, eqb-true}
-use Rattle.std.proofs.lemmas.List.{append-nil, nil_from_length, length-append}
+use Rattle.std.proofs.lemmas.List.{append-nil, nil_from_length}
 use Rattle.cs_model.specs.declared.change.Section.{Section}
-use Rattle.cs_model.specs.Changeset.{IsSection, IsChangeset}
+use Rattle.cs_model.specs.Changeset.{IsSection}
 use Rattle.cs_model.specs.Text.{SpellsEach, SpellsSection}
 use Rattle.cs_parse.specs.declared.fault.FaultKind.{FaultKind}
 use Rattle.cs_parse.specs.declared.fault.FaultKind.TheVariants.{Patchset, BadMarker}
@@ -12,9 +11,8 @@ use Rattle.cs_parse.specs.Place.{Place, Start, wrong}
 use Rattle.cs_parse.specs.Stands.{BehindSections, InSection, Stands}
 use Rattle.cs_parse.specs.Fault.{are_bytes, Viable}
 use Rattle.cs_parse.specs.Reading.{Refusal, Short, Bad, ◌>>=◌, section_at, is_empty, sections_at, many_at}
-use Rattle.cs_parse.proofs.Steps.{IsBytes, Takes, done, chosen}
+use Rattle.cs_parse.proofs.Steps.{IsBytes, chosen}
 use Rattle.cs_parse.proofs.Loops.{rest_of, many_more, many_done}
-use Rattle.cs_parse.proofs.ManyLaws.{TakesEach}
 use Rattle.cs_parse.proofs.TextLaws.{CanFollow, sections_take, sections_again}
 use Rattle.cs_parse.proofs.Exact.{Completes, Stopped, are_bytes-append}
 use Rattle.cs_parse.proofs.ExactMany.{ManyText, ManyPlace, many_stops, many_places, many_completes}
@@ -55,11 +53,11 @@ wrong_is byte kind w = elim (chosen (byte == 80) (Some Patchset) (cond (byte == 
       let same : Patchset ≡ kind = cc h.1 in
       (ap (λ b. b == 84) is, ap begins_none is ∙ same)
   | inr h ↦ elim (chosen (byte == 84) None (Some BadMarker) (Some kind) h.1) as (λ w. ((byte == 84) ≡ false) × (begins_none byte ≡ kind)) [
-      | inl k ↦ absurd (cc k.1)
-      | inr k ↦
-          let same : BadMarker ≡ kind = cc k.1 in
-          (k.0, ap (λ t. cond t Patchset BadMarker) h.0 ∙ same)
-    ]
+    | inl k ↦ absurd (cc k.1)
+    | inr k ↦
+        let same : BadMarker ≡ kind = cc k.1 in
+        (k.0, ap (λ t. cond t Patchset BadMarker) h.0 ∙ same)
+  ]
 ]
 
 -- ---- texts

@@ -59,13 +59,13 @@ taken_exact : (n : ℕ) → Exact (taken n) (TakenText n) Nowhere
 taken_exact n = record {
   begins = taken_goes_on n [] (omega arith);
   takes = λ bytes x fits e.
-    let g = guard_ok (ltb (length bytes) n) Short (Ok (take n bytes, drop n bytes)) x e in
-    let long : n ≤ length bytes = ltb-false _ _ g.0 in
-    let len : length (take n bytes) ≡ n = omega (arith, length-take n bytes) in
-    subst (λ (y : List ℕ × List ℕ). Takes (TakenText n) bytes y) (ok_is (take n bytes, drop n bytes) x g.1) (record { text = take n bytes; parts = sym (take-append-drop n bytes); spelled = (refl, len) });
+      let g = guard_ok (ltb (length bytes) n) Short (Ok (take n bytes, drop n bytes)) x e in
+      let long : n ≤ length bytes = ltb-false _ _ g.0 in
+      let len : length (take n bytes) ≡ n = omega (arith, length-take n bytes) in
+      subst (λ (y : List ℕ × List ℕ). Takes (TakenText n) bytes y) (ok_is (take n bytes, drop n bytes) x g.1) (record { text = take n bytes; parts = sym (take-append-drop n bytes); spelled = (refl, len) });
   again = λ text bytes rest h.
-    let long : ltb (length (bytes ++ rest)) n ≡ false = le-ltb _ _ (omega (arith, length-append bytes rest, h.1)) in
-    ap (λ w. taken n (w ++ rest)) h.0 ∙ rw (long, take_at bytes rest n h.1, drop_at bytes rest n h.1) refl;
+      let long : ltb (length (bytes ++ rest)) n ≡ false = le-ltb _ _ (omega (arith, length-append bytes rest, h.1)) in
+      ap (λ w. taken n (w ++ rest)) h.0 ∙ rw (long, take_at bytes rest n h.1, drop_at bytes rest n h.1) refl;
   stops = λ bytes left kind fits e. elim (chosen (ltb (length bytes) n) (Err Short) (Ok (take n bytes, drop n bytes)) (Err (Bad left kind)) e) as (λ w. Stopped (TakenText n) Nowhere bytes left kind) [
     | inl h ↦ absurd (cc h.1)
     | inr h ↦ absurd (cc h.1)
@@ -87,10 +87,10 @@ unfolding counted_at
 counted_exact =
     renamed (seq length_at taken) (SeqText LengthText TakenText) CountedText (SeqPlace LengthText InLengthDigits (λ n. Nowhere)) InLengthDigits (record {
       text_to = λ text bytes h.
-        let whole : text ≡ h.1 ++ bytes = h.3 ∙ ap (λ w. h.1 ++ w) h.5.0 in
-        (record { count = h.1; parts = whole; is_count = subst (λ n. IsVarint h.1 n) (sym h.5.1) h.4.0 }, omega (arith, h.5.1, h.4.2));
+          let whole : text ≡ h.1 ++ bytes = h.3 ∙ ap (λ w. h.1 ++ w) h.5.0 in
+          (record { count = h.1; parts = whole; is_count = subst (λ n. IsVarint h.1 n) (sym h.5.1) h.4.0 }, omega (arith, h.5.1, h.4.2));
       text_from = λ text bytes h. (length bytes, h.0.count, bytes, h.0.parts, (h.0.is_count, omega arith, h.1), (refl, refl));
-      place_to = λ front place h. elim h as (λ w. InLengthDigits front place) [ | inl s ↦ s | inr k ↦ absurd k.5 ];
+      place_to = λ front place h. elim h as (λ w. InLengthDigits front place) [ inl s ↦ s | inr k ↦ absurd k.5 ];
       place_from = λ front place h. inl h;
     }) (seq_exact length_at taken LengthText TakenText InLengthDigits (λ n. Nowhere) length_exact (λ text n h. taken_exact n))
 
@@ -126,12 +126,12 @@ integer_exact : Exact integer_at IntegerText Nowhere
 integer_exact = record {
   begins = integer_goes_on [] (bytes_from [] refl) (omega arith);
   takes = λ bytes x fits e.
-    let t = integer_takes bytes x fits e in
-    record { text = t.0.text; parts = t.0.parts; spelled = (t.0.spelled, t.1) };
+      let t = integer_takes bytes x fits e in
+      record { text = t.0.text; parts = t.0.parts; spelled = (t.0.spelled, t.1) };
   again = λ text n rest h. ap (λ w. integer_at (w ++ rest)) h.0 ∙ integer_again n rest h.1;
   stops = λ bytes left kind fits e.
-    let other = (integer_fails bytes (Bad left kind) e).1 in
-    absurd cc;
+      let other = (integer_fails bytes (Bad left kind) e).1 in
+      absurd cc;
   places = λ front place byte kind more h w. absurd h;
   completes = λ bytes fits e. integer_goes_on bytes fits (integer_fails bytes Short e).0;
 }

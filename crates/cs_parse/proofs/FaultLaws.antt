@@ -1,9 +1,9 @@
 -- What reading refuses is the text's fault, and the text's fault is what reading refuses.
-use Rattle.std.proofs.Common.{◌≡◌, ℕ, suc, ◌+◌, ◌-◌, ◌<◌, ◌≤◌, ◌⊎◌, inl, inr, true, false, cond, ltb, List, [], ◌∷◌, ◌++◌, length, take, drop, get_or, Some, Result, Ok, Err, refl, sym, ap, subst, ◌∙◌, append_assoc, arith}
+use Rattle.std.proofs.Common.{◌≡◌, ℕ, suc, ◌+◌, ◌-◌, ◌<◌, ◌≤◌, ◌⊎◌, inl, inr, cond, List, [], ◌∷◌, ◌++◌, length, take, drop, get_or, Some, Result, Ok, Err, refl, sym, ap, subst, ◌∙◌, append_assoc, arith}
 use Rattle.std.specs.Prelude.{nat_lt, slice_get}
 use Rattle.std.specs.List.{list_all}
-use Rattle.std.proofs.lemmas.Bool.{ltb-true, ltb-false, le-ltb, lt-ltb, and_parts, cases_lt}
-use Rattle.std.proofs.lemmas.List.{append-nil, take_at, take-append-le, take-append-drop, take-take, drop_more, length-append, length-take, length-drop, get_or-take}
+use Rattle.std.proofs.lemmas.Bool.{le-ltb, lt-ltb, and_parts, cases_lt}
+use Rattle.std.proofs.lemmas.List.{append-nil, take_at, take-append-le, take-append-drop, take-take, drop_more, length-append, length-drop, get_or-take}
 use Rattle.std.proofs.lemmas.List.Folds.{list_all-append}
 use Rattle.std.proofs.lemmas.Option.{slice_get_read, get_or_from_slice_get}
 use Rattle.std.proofs.Math.Seq.{get_or-append_seam}
@@ -13,13 +13,16 @@ use Rattle.cs_model.specs.Text.{Spells}
 use Rattle.cs_parse.specs.declared.fault.FaultKind.{FaultKind}
 use Rattle.cs_parse.specs.declared.fault.FaultKind.TheVariants.{TooLong, Truncated}
 use Rattle.cs_parse.specs.declared.fault.ParseFault.{ParseFault}
+use Rattle.cs_parse.specs.declared.fault.ParseError.{ParseError}
+use Rattle.cs_parse.specs.declared.fault.ParseError.TheVariants.{Fault, Memory}
+use Rattle.cs_parse.specs.Answer.{Answers, Tells, IsRefused, HasChangeset, HasFault}
 use Rattle.cs_parse.specs.Place.{Place, wrong}
 use Rattle.cs_parse.specs.Stands.{Stands}
 use Rattle.cs_parse.specs.Fault.{are_bytes, Viable, IsFirst, AtByte, IsTooLong, IsTruncated, IsFault}
 use Rattle.cs_parse.specs.Reading.{Refusal, Short, Bad, sections_at, fault_of, placed, cut, answer_of}
-use Rattle.cs_parse.proofs.Steps.{IsBytes, chosen}
+use Rattle.cs_parse.proofs.Steps.{IsBytes}
 use Rattle.cs_parse.proofs.NumberLaws.{front_fits}
-use Rattle.cs_parse.proofs.TextLaws.{front_long, answer_takes, answer_again}
+use Rattle.cs_parse.proofs.TextLaws.{front_long, answer_takes, answer_again, only_one}
 use Rattle.cs_parse.proofs.Exact.{Stopped}
 use Rattle.cs_parse.proofs.ExactValues.{bytes_to}
 use Rattle.cs_parse.proofs.ExactText.{SectionsText, text_stops, text_completes, text_places, viable_by, viable_whole, viable_front, not_viable}
@@ -60,9 +63,9 @@ module _ (text front : List ℕ) (byte : ℕ) (back : List ℕ) (parts : text �
         inside = omega (arith, ap length parts, length-append front (byte ∷ back));
         dead = λ v. not_viable front place byte kind [] stands w (subst (λ t. Viable t) with_byte v);
         alive = λ m lt.
-          let whole : front ≡ take (suc m) front ++ drop (suc m) front = sym (take-append-drop (suc m) front) in
-          let rest = (parts_are_bytes (take (suc m) front) (drop (suc m) front) (subst are_bytes whole bytes)).1 in
-          subst (λ t. Viable t) (sym (front_is (suc m) lt)) (viable_front (take (suc m) front) (drop (suc m) front) rest (subst (λ t. Viable t) whole alive));
+            let whole : front ≡ take (suc m) front ++ drop (suc m) front = sym (take-append-drop (suc m) front) in
+            let rest = (parts_are_bytes (take (suc m) front) (drop (suc m) front) (subst are_bytes whole bytes)).1 in
+            subst (λ t. Viable t) (sym (front_is (suc m) lt)) (viable_front (take (suc m) front) (drop (suc m) front) rest (subst (λ t. Viable t) whole alive));
       }
 
   byte_at : slice_get text (length front) ≡ Some byte
@@ -98,7 +101,7 @@ fault_long text fault fits long e =
     let len = front_long most_bytes text long in
     let front_bytes = front_fits most_bytes text (omega arith) fits in
     let too_long : Viable front → refusal (fault_of most_bytes TooLong Short) ≡ refusal fault → IsFault text fault = λ so_far is.
-      inr (inl (record { same = sym (same_fault (fault_of most_bytes TooLong Short) fault is); long = long; so_far = so_far })) in
+    inr (inl (record { same = sym (same_fault (fault_of most_bytes TooLong Short) fault is); long = long; so_far = so_far })) in
     elim (read_ends (sections_at front)) as (λ w. IsFault text fault) [
       | inl h ↦ too_long (viable_whole front h.0 front_bytes h.1) (sym (ap (cut most_bytes) h.1) ∙ e)
       | inr (inl h) ↦ too_long (viable_by front (text_completes front front_bytes h)) (sym (ap (cut most_bytes) h) ∙ e)
@@ -196,3 +199,38 @@ pub fault_is_refused : (text : List ℕ) (fault : ParseFault) → IsBytes text �
 fault_is_refused text fault fits (inl h) = fault_read text fault h
 fault_is_refused text fault fits (inr (inl h)) = long_read text fault fits h
 fault_is_refused text fault fits (inr (inr h)) = short_read text fault fits h
+
+-- ---- for `parse`
+
+pub error_tells : (text : List ℕ) (e : ParseError) → IsBytes text → Answers (Err e) (answer_of text) → Tells e text
+error_tells text (Fault fault) fits given = refused_is_fault text fault fits given
+error_tells text Memory fits given = tt
+
+pub fault_told : (text : List ℕ) (result : Result (List Section) ParseError) (fault : ParseFault) → IsBytes text → Answers result (answer_of text) → IsFault text fault → IsRefused result fault
+fault_told text (Ok found) fault fits given h =
+    let both : refusal fault ≡ Ok found = sym (fault_is_refused text fault fits h) ∙ given in
+    absurd cc
+fault_told text (Err (Fault told)) fault fits given h = same_fault told fault (sym given ∙ fault_is_refused text fault fits h)
+fault_told text (Err Memory) fault fits given h = tt
+
+answer_ends : (answer : Result (List Section) ParseFault) → ((sections : List Section) × (answer ≡ Ok sections)) ⊎ ((fault : ParseFault) × (answer ≡ Err fault))
+answer_ends (Ok sections) = inl (sections, refl)
+answer_ends (Err fault) = inr (fault, refl)
+
+pub text_has : (text : List ℕ) → IsBytes text → HasChangeset text ⊎ HasFault text
+text_has text fits = elim (answer_ends (answer_of text)) as (λ w. HasChangeset text ⊎ HasFault text) [
+  | inl h ↦ inl (record {
+    sections = h.0;
+    spelled = answer_takes text h.0 fits h.1;
+    only = λ others k. sym (only_one text h.0 others h.1 k);
+    no_fault = λ fault k.
+        let both : refusal fault ≡ Ok h.0 = sym (fault_is_refused text fault fits k) ∙ h.1 in
+        absurd cc;
+  })
+  | inr h ↦ inr (record {
+    fault = h.0;
+    is_fault = refused_is_fault text h.0 fits h.1;
+    only = λ others k. same_fault others h.0 (sym (fault_is_refused text others fits k) ∙ h.1);
+    spells_none = spells_none text h.0 h.1;
+  })
+]

@@ -13,7 +13,7 @@ mod stop;
 mod whole;
 
 pub use fault::{FaultKind, ParseError, ParseFault};
-pub use whole::{parse, reading_is_spelling};
+pub use whole::{every_text, parse, reading_is_spelling};
 
 #[cfg(test)]
 mod tests;
