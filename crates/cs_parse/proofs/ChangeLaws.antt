@@ -1,5 +1,5 @@
 -- Changes: what is read was spelled so, and what is spelled so is read.
-use Rattle.std.proofs.Common.{◌≡◌, ◌==◌, ℕ, zero, suc, ◌<◌, inl, inr, Bool, true, false, not, cond, List, [], ◌∷◌, ◌++◌, length, map, Option, Some, None, Ok, Err, refl, sym, ap, subst, ◌∙◌, append_assoc, arith}
+use Rattle.std.proofs.Common.{◌≡◌, ◌==◌, ℕ, zero, suc, ◌<◌, inl, inr, Bool, true, false, not, cond, List, [], ◌∷◌, ◌++◌, length, map, Option, Some, None, Result, Ok, Err, refl, sym, ap, subst, ◌∙◌, append_assoc, arith}
 use Rattle.std.specs.List.{AllByRecursion}
 use Rattle.std.proofs.lemmas.Bool.{eqb-true, ne_eqb}
 use Rattle.std.proofs.lemmas.List.{append-nil}
@@ -11,7 +11,7 @@ use Rattle.cs_model.specs.Rule.{row_rule, old_rule, new_rules}
 use Rattle.cs_model.specs.Changeset.{AreRecords}
 use Rattle.cs_model.specs.Text.{SpellsField, SpellsEach, op_byte, SpellsIndirect, SpellsChange}
 use Rattle.cs_parse.specs.declared.fault.FaultKind.TheVariants.{Patchset, BadOperation}
-use Rattle.cs_parse.specs.Reading.{Bad, ◌>>=◌, record_at, records_at, marked_at, op_of, operated, change_at, ends_section, changes_at}
+use Rattle.cs_parse.specs.Reading.{Refusal, Bad, ◌>>=◌, record_at, records_at, marked_at, op_of, operated, change_at, ends_section, changes_at}
 use Rattle.cs_parse.proofs.Steps.{IsBytes, Takes, back_fits, bind_ok, done, ok_is, chosen}
 use Rattle.cs_parse.proofs.FieldLaws.{record_takes, record_again}
 use Rattle.cs_parse.proofs.ManyLaws.{IsReader, TakesEach, many_takes, many_again}
@@ -22,63 +22,71 @@ IsChangeBy flags change = AreRecords flags change.op change.before change.after
 
 -- ---- the records of a change
 
+-- two records, one behind the other
+pub record SpellsRecords (flags : List ℕ) (op : Op) (text : List ℕ) (fields : List Field × List Field) : Type 0 where
+  pub old : List ℕ
+  pub new : List ℕ
+  pub parts : text ≡ old ++ new
+  pub is_old : SpellsEach SpellsField old fields.0
+  pub is_new : SpellsEach SpellsField new fields.1
+  pub valid : AreRecords flags op fields.0 fields.1
+
 abbrev Records : Type 0
-Records = List Field × List Field × List ℕ
+Records = (List Field × List Field) × List ℕ
 
--- the bytes spell two records, and then those that are left
-record TakesRecords (flags : List ℕ) (op : Op) (bytes : List ℕ) (x : Records) : Type 0 where
-  old : List ℕ
-  new : List ℕ
-  parts : bytes ≡ (old ++ new) ++ x.2
-  is_old : SpellsEach SpellsField old x.0
-  is_new : SpellsEach SpellsField new x.1
-  valid : AreRecords flags op x.0 x.1
+abbrev TakesRecords : List ℕ → Op → List ℕ → Records → Type 0
+TakesRecords flags op bytes x = Takes (SpellsRecords flags op) bytes x
 
-records_take : (flags : List ℕ) (op : Op) (bytes : List ℕ) (x : Records) → IsBytes bytes → records_at flags op bytes ≡ Ok x → TakesRecords flags op bytes x
+pub records_take : (flags : List ℕ) (op : Op) (bytes : List ℕ) (x : Records) → IsBytes bytes → records_at flags op bytes ≡ Ok x → TakesRecords flags op bytes x
 unfolding records_at
 records_take flags Insert bytes x fits e =
-    let a = bind_ok (record_at (map row_rule flags) bytes) (λ row. done ([], row.0, row.1)) x e in
+    let a = bind_ok (record_at (map row_rule flags) bytes) (λ row. done (([], row.0), row.1)) x e in
     let t = record_takes (map row_rule flags) bytes a.0 fits a.1 in
-    subst (λ (y : Records). TakesRecords flags Insert bytes y) (ok_is ([], a.0.0, a.0.1) x a.2)
-    (record { old = []; new = t.0.text; parts = t.0.parts; is_old = refl; is_new = t.0.spelled; valid = (refl, t.1) })
+    let spelled : SpellsRecords flags Insert t.0.text ([], a.0.0) = record { old = []; new = t.0.text; parts = refl; is_old = refl; is_new = t.0.spelled; valid = (refl, t.1) } in
+    subst (λ (y : Records). TakesRecords flags Insert bytes y) (ok_is (([], a.0.0), a.0.1) x a.2) (record { text = t.0.text; parts = t.0.parts; spelled = spelled })
 records_take flags Update bytes x fits e =
-    let a = bind_ok (record_at (map old_rule flags) bytes) (λ old. record_at (new_rules flags old.0) old.1 >>= λ new. done (old.0, new.0, new.1)) x e in
-    let b = bind_ok (record_at (new_rules flags a.0.0) a.0.1) (λ new. done (a.0.0, new.0, new.1)) x a.2 in
+    let a = bind_ok (record_at (map old_rule flags) bytes) (λ old. record_at (new_rules flags old.0) old.1 >>= λ new. done ((old.0, new.0), new.1)) x e in
+    let b = bind_ok (record_at (new_rules flags a.0.0) a.0.1) (λ new. done ((a.0.0, new.0), new.1)) x a.2 in
     let t = record_takes (map old_rule flags) bytes a.0 fits a.1 in
     let u = record_takes (new_rules flags a.0.0) a.0.1 b.0 (back_fits bytes t.0.text a.0.1 t.0.parts fits) b.1 in
     let whole : bytes ≡ (t.0.text ++ u.0.text) ++ b.0.1 = t.0.parts ∙ ap (λ w. t.0.text ++ w) u.0.parts ∙ sym (append_assoc t.0.text u.0.text b.0.1) in
-    subst (λ (y : Records). TakesRecords flags Update bytes y) (ok_is (a.0.0, b.0.0, b.0.1) x b.2)
-    (record { old = t.0.text; new = u.0.text; parts = whole; is_old = t.0.spelled; is_new = u.0.spelled; valid = (t.1, u.1) })
+    let spelled : SpellsRecords flags Update (t.0.text ++ u.0.text) (a.0.0, b.0.0) = record { old = t.0.text; new = u.0.text; parts = refl; is_old = t.0.spelled; is_new = u.0.spelled; valid = (t.1, u.1) } in
+    subst (λ (y : Records). TakesRecords flags Update bytes y) (ok_is ((a.0.0, b.0.0), b.0.1) x b.2) (record { text = t.0.text ++ u.0.text; parts = whole; spelled = spelled })
 records_take flags Delete bytes x fits e =
-    let a = bind_ok (record_at (map row_rule flags) bytes) (λ row. done (row.0, [], row.1)) x e in
+    let a = bind_ok (record_at (map row_rule flags) bytes) (λ row. done ((row.0, []), row.1)) x e in
     let t = record_takes (map row_rule flags) bytes a.0 fits a.1 in
-    let whole : bytes ≡ (t.0.text ++ []) ++ a.0.1 = t.0.parts ∙ ap (λ w. w ++ a.0.1) (sym (append-nil t.0.text)) in
-    subst (λ (y : Records). TakesRecords flags Delete bytes y) (ok_is (a.0.0, [], a.0.1) x a.2)
-    (record { old = t.0.text; new = []; parts = whole; is_old = t.0.spelled; is_new = refl; valid = (t.1, refl) })
+    let spelled : SpellsRecords flags Delete t.0.text (a.0.0, []) = record { old = t.0.text; new = []; parts = sym (append-nil t.0.text); is_old = t.0.spelled; is_new = refl; valid = (t.1, refl) } in
+    subst (λ (y : Records). TakesRecords flags Delete bytes y) (ok_is ((a.0.0, []), a.0.1) x a.2) (record { text = t.0.text; parts = t.0.parts; spelled = spelled })
 
-records_again : (flags : List ℕ) (op : Op) (old new : List ℕ) (before after : List Field) (rest : List ℕ) → SpellsEach SpellsField old before → SpellsEach SpellsField new after → AreRecords flags op before after
-    → records_at flags op (old ++ (new ++ rest)) ≡ Ok (before, after, rest)
+none_spelled : (text : List ℕ) (fields : List Field) → SpellsEach SpellsField text fields → fields ≡ [] → text ≡ []
+none_spelled text fields h none = subst (λ b. SpellsEach SpellsField text b) none h
+
+pub records_again : (flags : List ℕ) (op : Op) (text : List ℕ) (fields : List Field × List Field) (rest : List ℕ) → SpellsRecords flags op text fields → records_at flags op (text ++ rest) ≡ Ok (fields, rest)
 unfolding records_at
-records_again flags Insert old new before after rest is_old is_new valid =
-    let none : old ≡ [] = subst (λ b. SpellsEach SpellsField old b) valid.0 is_old in
-    ap (λ w. records_at flags Insert (w ++ (new ++ rest))) none
-    ∙ ap (λ r. r >>= λ row. done ([], row.0, row.1)) (record_again (map row_rule flags) new after rest is_new valid.1)
-    ∙ ap (λ b. done (b, after, rest)) (sym valid.0)
-records_again flags Update old new before after rest is_old is_new valid =
-    ap (λ r. r >>= λ old. record_at (new_rules flags old.0) old.1 >>= λ new. done (old.0, new.0, new.1)) (record_again (map old_rule flags) old before (new ++ rest) is_old valid.0)
-    ∙ ap (λ r. r >>= λ new. done (before, new.0, new.1)) (record_again (new_rules flags before) new after rest is_new valid.1)
-records_again flags Delete old new before after rest is_old is_new valid =
-    let none : new ≡ [] = subst (λ b. SpellsEach SpellsField new b) valid.1 is_new in
-    ap (λ w. records_at flags Delete (old ++ (w ++ rest))) none
-    ∙ ap (λ r. r >>= λ row. done (row.0, [], row.1)) (record_again (map row_rule flags) old before rest is_old valid.0)
-    ∙ ap (λ a. done (before, a, rest)) (sym valid.1)
+records_again flags Insert text fields rest h =
+    let none = none_spelled h.old fields.0 h.is_old h.valid.0 in
+    let whole : text ≡ h.new = h.parts ∙ ap (λ w. w ++ h.new) none in
+    ap (λ w. records_at flags Insert (w ++ rest)) whole
+    ∙ ap (λ r. r >>= λ row. done (([], row.0), row.1)) (record_again (map row_rule flags) h.new fields.1 rest h.is_new h.valid.1)
+    ∙ ap (λ b. done ((b, fields.1), rest)) (sym h.valid.0)
+records_again flags Update text fields rest h =
+    let regrouped : text ++ rest ≡ h.old ++ (h.new ++ rest) = ap (λ w. w ++ rest) h.parts ∙ append_assoc h.old h.new rest in
+    ap (records_at flags Update) regrouped
+    ∙ ap (λ r. r >>= λ old. record_at (new_rules flags old.0) old.1 >>= λ new. done ((old.0, new.0), new.1)) (record_again (map old_rule flags) h.old fields.0 (h.new ++ rest) h.is_old h.valid.0)
+    ∙ ap (λ r. r >>= λ new. done ((fields.0, new.0), new.1)) (record_again (new_rules flags fields.0) h.new fields.1 rest h.is_new h.valid.1)
+records_again flags Delete text fields rest h =
+    let none = none_spelled h.new fields.1 h.is_new h.valid.1 in
+    let whole : text ≡ h.old = h.parts ∙ ap (λ w. h.old ++ w) none ∙ append-nil h.old in
+    ap (λ w. records_at flags Delete (w ++ rest)) whole
+    ∙ ap (λ r. r >>= λ row. done ((row.0, []), row.1)) (record_again (map row_rule flags) h.old fields.0 rest h.is_old h.valid.0)
+    ∙ ap (λ a. done ((fields.0, a), rest)) (sym h.valid.1)
 
 -- ---- a change
 
-abbrev made : Op → Bool → List Field → List Field → Change
+abbrev pub made : Op → Bool → List Field → List Field → Change
 made op indirect before after = record { op = op; indirect = indirect; before = before; after = after }
 
-mark_spells : (mark : ℕ) → SpellsIndirect mark (not (mark == 0))
+pub mark_spells : (mark : ℕ) → SpellsIndirect mark (not (mark == 0))
 mark_spells zero = refl
 mark_spells (suc mark) = subst (λ b. SpellsIndirect (suc mark) (not b)) (sym (ne_eqb (suc mark) 0 (λ e. absurd cc))) (λ e. absurd cc)
 
@@ -86,19 +94,22 @@ mark_is : (mark : ℕ) (indirect : Bool) → SpellsIndirect mark indirect → no
 mark_is mark true h = ap not (ne_eqb mark 0 h)
 mark_is mark false h = ap (λ m. not (m == 0)) h
 
+abbrev pub marked : Op → ℕ → Records → Result (Change × List ℕ) Refusal
+marked op mark records = done (made op (not (mark == 0)) records.0.0 records.0.1, records.1)
+
 marked_takes : (flags : List ℕ) (op : Op) (bytes : List ℕ) (x : Change × List ℕ) → IsBytes bytes → marked_at flags op bytes ≡ Ok x → Takes SpellsChange (op_byte op ∷ bytes) x × IsChangeBy flags x.0
 unfolding marked_at
 marked_takes flags op [] x fits e = absurd cc
 marked_takes flags op (mark ∷ rest) x fits e =
-    let a = bind_ok (records_at flags op rest) (λ records. done (made op (not (mark == 0)) records.0 records.1, records.2)) x e in
+    let a = bind_ok (records_at flags op rest) (marked op mark) x e in
     let t = records_take flags op rest a.0 (λ i. fits (suc i)) a.1 in
-    let change = made op (not (mark == 0)) a.0.0 a.0.1 in
-    let text = op_byte op ∷ mark ∷ (t.old ++ t.new) in
-    let spelled : SpellsChange text change = record { byte = mark; old = t.old; new = t.new; parts = refl; is_indirect = mark_spells mark; is_old = t.is_old; is_new = t.is_new } in
-    subst (λ (y : Change × List ℕ). Takes SpellsChange (op_byte op ∷ mark ∷ rest) y × IsChangeBy flags y.0) (ok_is (change, a.0.2) x a.2)
-    (record { text = text; parts = ap (λ w. op_byte op ∷ mark ∷ w) t.parts; spelled = spelled }, t.valid)
+    let change = made op (not (mark == 0)) a.0.0.0 a.0.0.1 in
+    let text = op_byte op ∷ mark ∷ t.text in
+    let spelled : SpellsChange text change = record { byte = mark; old = t.spelled.old; new = t.spelled.new; parts = ap (λ w. op_byte op ∷ mark ∷ w) t.spelled.parts; is_indirect = mark_spells mark; is_old = t.spelled.is_old; is_new = t.spelled.is_new } in
+    subst (λ (y : Change × List ℕ). Takes SpellsChange (op_byte op ∷ mark ∷ rest) y × IsChangeBy flags y.0) (ok_is (change, a.0.1) x a.2)
+    (record { text = text; parts = ap (λ w. op_byte op ∷ mark ∷ w) t.parts; spelled = spelled }, t.spelled.valid)
 
-op_is : (byte : ℕ) (op : Op) → op_of byte ≡ Some op → byte ≡ op_byte op
+pub op_is : (byte : ℕ) (op : Op) → op_of byte ≡ Some op → byte ≡ op_byte op
 op_is byte op e = elim (chosen (byte == 18) (Some Insert) (cond (byte == 23) (Some Update) (cond (byte == 9) (Some Delete) None)) (Some op) e) as (λ w. byte ≡ op_byte op) [
   | inl is ↦
       let same : Insert ≡ op = cc is.1 in
@@ -132,23 +143,22 @@ op_of_byte Insert = refl
 op_of_byte Update = refl
 op_of_byte Delete = refl
 
-by_byte : (flags : List ℕ) (op : Op) (rest : List ℕ) → change_at flags (op_byte op ∷ rest) ≡ marked_at flags op rest
+pub by_byte : (flags : List ℕ) (op : Op) (rest : List ℕ) → change_at flags (op_byte op ∷ rest) ≡ marked_at flags op rest
 unfolding change_at
 by_byte flags op rest = ap (λ o. operated flags o (op_byte op) rest) (op_of_byte op)
 
-marked_again : (flags : List ℕ) (op : Op) (mark : ℕ) (old new : List ℕ) (before after : List Field) (rest : List ℕ) → SpellsEach SpellsField old before → SpellsEach SpellsField new after → AreRecords flags op before after
-    → marked_at flags op (mark ∷ (old ++ (new ++ rest))) ≡ Ok (made op (not (mark == 0)) before after, rest)
+marked_again : (flags : List ℕ) (op : Op) (mark : ℕ) (text : List ℕ) (fields : List Field × List Field) (rest : List ℕ) → SpellsRecords flags op text fields
+    → marked_at flags op (mark ∷ (text ++ rest)) ≡ Ok (made op (not (mark == 0)) fields.0 fields.1, rest)
 unfolding marked_at
-marked_again flags op mark old new before after rest is_old is_new valid =
-    ap (λ r. r >>= λ records. done (made op (not (mark == 0)) records.0 records.1, records.2)) (records_again flags op old new before after rest is_old is_new valid)
+marked_again flags op mark text fields rest h = ap (λ r. r >>= marked op mark) (records_again flags op text fields rest h)
 
 pub change_again : (flags text : List ℕ) (change : Change) (rest : List ℕ) → SpellsChange text change → IsChangeBy flags change → change_at flags (text ++ rest) ≡ Ok (change, rest)
 change_again flags text change rest h valid =
     let op = change.op in
-    let regrouped : text ++ rest ≡ op_byte op ∷ h.byte ∷ (h.old ++ (h.new ++ rest)) = ap (λ w. w ++ rest) h.parts ∙ ap (λ w. op_byte op ∷ h.byte ∷ w) (append_assoc h.old h.new rest) in
-    ap (change_at flags) regrouped
-    ∙ by_byte flags op (h.byte ∷ (h.old ++ (h.new ++ rest)))
-    ∙ marked_again flags op h.byte h.old h.new change.before change.after rest h.is_old h.is_new valid
+    let fields : SpellsRecords flags op (h.old ++ h.new) (change.before, change.after) = record { old = h.old; new = h.new; parts = refl; is_old = h.is_old; is_new = h.is_new; valid = valid } in
+    ap (λ w. change_at flags (w ++ rest)) h.parts
+    ∙ by_byte flags op (h.byte ∷ ((h.old ++ h.new) ++ rest))
+    ∙ marked_again flags op h.byte (h.old ++ h.new) (change.before, change.after) rest fields
     ∙ ap (λ i. done (made op i change.before change.after, rest)) (mark_is h.byte change.indirect h.is_indirect)
 
 -- ---- changes one after another
@@ -156,7 +166,7 @@ change_again flags text change rest h valid =
 change_long : (text : List ℕ) (change : Change) → SpellsChange text change → 0 < length text
 change_long text change h = omega (arith, ap length h.parts)
 
-op_no_header : (op : Op) → (op_byte op == 84) ≡ false
+pub op_no_header : (op : Op) → (op_byte op == 84) ≡ false
 op_no_header Insert = refl
 op_no_header Update = refl
 op_no_header Delete = refl
@@ -164,10 +174,10 @@ op_no_header Delete = refl
 change_goes_on : (text : List ℕ) (change : Change) (rest : List ℕ) → SpellsChange text change → ends_section (text ++ rest) ≡ false
 change_goes_on text change rest h = ap (λ w. ends_section (w ++ rest)) h.parts ∙ op_no_header change.op
 
-abbrev IsAny : List ℕ → Type 0
+abbrev pub IsAny : List ℕ → Type 0
 IsAny rest = Unit {0}
 
-change_reader : (flags : List ℕ) → IsReader ends_section (change_at flags) SpellsChange (IsChangeBy flags) IsAny
+pub change_reader : (flags : List ℕ) → IsReader ends_section (change_at flags) SpellsChange (IsChangeBy flags) IsAny
 change_reader flags = record {
   at_end = refl;
   long = change_long;

@@ -8,12 +8,13 @@ use Rattle.cs_model.specs.Rule.{Rule, Key, Given, Open, Blank, PairedWith, meets
 use Rattle.cs_model.specs.Changeset.{IsField, Obeys}
 use Rattle.cs_model.specs.Text.{SpellsField, SpellsEach}
 use Rattle.cs_parse.specs.declared.fault.FaultKind.TheVariants.{BadType, Real}
-use Rattle.cs_parse.specs.Reading.{Refusal, ◌>>=◌, rule_refusal, type_refusal, typed_at, unless_refused, field_at, record_at, integer_at, counted_at}
+use Rattle.cs_parse.specs.Reading.{Refusal, ◌>>=◌, typed_at, unless_refused, field_at, record_at, integer_at, counted_at}
+use Rattle.cs_parse.specs.Place.{rule_refusal, type_refusal}
 use Rattle.cs_parse.proofs.Steps.{IsBytes, Takes, back_fits, bind_ok, done, ok_is, unless_ok}
 use Rattle.cs_parse.proofs.NumberLaws.{integer_takes, integer_again, counted_takes, counted_again}
 
 -- the type byte of a field
-abbrev type_byte : Field → ℕ
+abbrev pub type_byte : Field → ℕ
 type_byte Undefined = 0
 type_byte (Is (Integer number)) = 1
 type_byte (Is (Text bytes)) = 3
@@ -21,7 +22,7 @@ type_byte (Is (Blob bytes)) = 4
 type_byte (Is Null) = 5
 
 -- a type byte is refused exactly where the field wouldn't follow the rule
-not_refused : (rule : Rule) (field : Field) → meets rule field ≡ true → type_refusal rule (type_byte field) ≡ None
+pub not_refused : (rule : Rule) (field : Field) → meets rule field ≡ true → type_refusal rule (type_byte field) ≡ None
 not_refused Key Undefined h = absurd cc
 not_refused Key (Is (Integer number)) h = refl
 not_refused Key (Is (Text bytes)) h = refl
@@ -47,7 +48,7 @@ not_refused (PairedWith (Is old)) (Is (Text bytes)) h = refl
 not_refused (PairedWith (Is old)) (Is (Blob bytes)) h = refl
 not_refused (PairedWith (Is old)) (Is Null) h = refl
 
-follows : (rule : Rule) (field : Field) → type_refusal rule (type_byte field) ≡ None → meets rule field ≡ true
+pub follows : (rule : Rule) (field : Field) → type_refusal rule (type_byte field) ≡ None → meets rule field ≡ true
 follows Key Undefined h = absurd cc
 follows Key (Is (Integer number)) h = refl
 follows Key (Is (Text bytes)) h = refl
@@ -112,7 +113,7 @@ unfolding field_at
 field_by rule field bytes rest h read = ap (λ o. unless_refused o bytes (typed_at (type_byte field) bytes)) (not_refused rule field h) ∙ read
 
 -- what stands behind the type byte
-typed_again : (field : Field) (text rest : List ℕ) → SpellsField text field → IsField field → (back : List ℕ) × (text ≡ type_byte field ∷ back) × (typed_at (type_byte field) (back ++ rest) ≡ Ok (field, rest))
+pub typed_again : (field : Field) (text rest : List ℕ) → SpellsField text field → IsField field → (back : List ℕ) × (text ≡ type_byte field ∷ back) × (typed_at (type_byte field) (back ++ rest) ≡ Ok (field, rest))
 unfolding typed_at
 typed_again Undefined text rest h valid = ([], h, refl)
 typed_again (Is (Integer number)) text rest h valid = (_, h, ap (λ r. r >>= λ n. Ok (Is (Integer n.0), n.1)) (integer_again number rest valid))

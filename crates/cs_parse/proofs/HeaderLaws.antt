@@ -14,13 +14,13 @@ use Rattle.cs_parse.proofs.Steps.{Takes, bind_ok, done, ok_is, guard_ok, chosen}
 use Rattle.cs_parse.proofs.NumberLaws.{columns_takes, columns_again}
 use Rattle.cs_parse.proofs.Letters.{name_takes, name_again}
 
-abbrev any_key : List ℕ → Bool
+abbrev pub any_key : List ℕ → Bool
 any_key flags = list_any (λ flag. nat_lt 0 flag) flags
 
 abbrev HasKey : ℕ → List ℕ → List ℕ × List ℕ → Type 0
 HasKey count bytes x = (bytes ≡ x.0 ++ x.1) × (length x.0 ≡ count) × (any_key x.0 ≡ true)
 
-flags_take : (count : ℕ) (bytes : List ℕ) (x : List ℕ × List ℕ) → flags_at count bytes ≡ Ok x → HasKey count bytes x
+pub flags_take : (count : ℕ) (bytes : List ℕ) (x : List ℕ × List ℕ) → flags_at count bytes ≡ Ok x → HasKey count bytes x
 unfolding flags_at
 flags_take count bytes x e =
     let front = take count bytes in
@@ -33,7 +33,7 @@ flags_take count bytes x e =
           absurd cc
     ]
 
-flags_again : (flags rest : List ℕ) → any_key flags ≡ true → flags_at (length flags) (flags ++ rest) ≡ Ok (flags, rest)
+pub flags_again : (flags rest : List ℕ) → any_key flags ≡ true → flags_at (length flags) (flags ++ rest) ≡ Ok (flags, rest)
 unfolding flags_at
 flags_again flags rest key =
     let long : ltb (length (flags ++ rest)) (length flags) ≡ false = le-ltb _ _ (omega (arith, length-append flags rest)) in
@@ -45,7 +45,7 @@ shaped flags name = Ok (record { name = name.0; flags = flags }, name.1)
 abbrev named_by : List ℕ × List ℕ → Result (Shape × List ℕ) Refusal
 named_by flags = name_at flags.1 >>= shaped flags.0
 
-abbrev HeaderText : List ℕ → Shape → Type 0
+abbrev pub HeaderText : List ℕ → Shape → Type 0
 HeaderText text shape = SpellsHeader (84 ∷ text) shape
 
 joined_header : (a b c d : List ℕ) → (((a ++ b) ++ c) ++ 0 ∷ []) ++ d ≡ a ++ (b ++ (c ++ 0 ∷ d))

@@ -41,31 +41,31 @@ window_is bytes k most e = elim (cases_lt (length bytes) most) as (λ w. take k 
       ap (λ n. take n bytes) same
 ]
 
-abbrev letter_and : ℕ → List ℕ × List ℕ → Result (List ℕ × List ℕ) Refusal
+abbrev pub letter_and : ℕ → List ℕ × List ℕ → Result (List ℕ × List ℕ) Refusal
 letter_and byte letters = Ok (byte ∷ letters.0, letters.1)
 
 abbrev named : List ℕ → List ℕ → Result (List ℕ × List ℕ) Refusal
 named name rest = Ok (name, rest)
 
-nonzero : (b : ℕ) → (suc b == 0) ≡ false
+pub nonzero : (b : ℕ) → (suc b == 0) ≡ false
 nonzero b = ne_eqb (suc b) 0 (λ e. absurd cc)
 
 -- ---- what reading gives, case by case
 
-letters_end : (most : ℕ) (rest : List ℕ) → letters_at most (zero ∷ rest) ≡ named [] rest
+pub letters_end : (most : ℕ) (rest : List ℕ) → letters_at most (zero ∷ rest) ≡ named [] rest
 unfolding letters_at
 letters_end zero rest = refl
 letters_end (suc most) rest = refl
 
-letters_full : (b : ℕ) (rest : List ℕ) → letters_at zero (suc b ∷ rest) ≡ Err (Bad (suc (length rest)) NameTooLong)
+pub letters_full : (b : ℕ) (rest : List ℕ) → letters_at zero (suc b ∷ rest) ≡ Err (Bad (suc (length rest)) NameTooLong)
 unfolding letters_at
 letters_full b rest = ap (λ t. cond t (named [] rest) (Err (Bad (suc (length rest)) NameTooLong))) (nonzero b)
 
-letters_more : (most b : ℕ) (rest : List ℕ) → letters_at (suc most) (suc b ∷ rest) ≡ (letters_at most rest >>= letter_and (suc b))
+pub letters_more : (most b : ℕ) (rest : List ℕ) → letters_at (suc most) (suc b ∷ rest) ≡ (letters_at most rest >>= letter_and (suc b))
 unfolding letters_at
 letters_more most b rest = ap (λ t. cond t (named [] rest) (letters_at most rest >>= letter_and (suc b))) (nonzero b)
 
-letters_short : (most : ℕ) → letters_at most [] ≡ Err Short
+pub letters_short : (most : ℕ) → letters_at most [] ≡ Err Short
 unfolding letters_at
 letters_short zero = refl
 letters_short (suc most) = refl

@@ -10,7 +10,8 @@ use Rattle.cs_model.specs.Varint.{EndsVarint, IsVarint}
 use Rattle.cs_model.specs.Text.{SpellsBytes}
 use Rattle.cs_parse.specs.declared.fault.FaultKind.{FaultKind}
 use Rattle.cs_parse.specs.declared.fault.FaultKind.TheVariants.{Columns, ValueTooLong}
-use Rattle.cs_parse.specs.Reading.{Refusal, Short, Bad, ◌>>=◌, factor, within, number_at, columns_at, length_at, integer_at, counted_at}
+use Rattle.cs_parse.specs.Reading.{Refusal, Short, Bad, ◌>>=◌, within, number_at, columns_at, length_at, integer_at, counted_at}
+use Rattle.cs_parse.specs.Place.{factor}
 use Rattle.cs_parse.proofs.Steps.{IsBytes, Takes, bind_ok, done, ok_is, guard_ok, chosen}
 use Rattle.cs_parse.proofs.Numbers.{goes, number_short, number_more, number_last, number_ends, number_goes}
 
@@ -135,7 +136,7 @@ counted_again text bytes rest h top =
 abbrev pub SpellsInteger : List ℕ → ℤ → Type 0
 SpellsInteger text number = text ≡ to_be_bytes w64 (cast_unsigned w64 number)
 
-front_fits : (n : ℕ) (bytes : List ℕ) → n ≤ length bytes → IsBytes bytes → IsBytes (take n bytes)
+pub front_fits : (n : ℕ) (bytes : List ℕ) → n ≤ length bytes → IsBytes bytes → IsBytes (take n bytes)
 front_fits n bytes within fits i =
     elim (cases_lt i n) as (λ w. get_or (take n bytes) i 0 < 256) [
       | inl lt ↦ rw (get_or-take n bytes i 0 lt) (fits i)

@@ -21,10 +21,10 @@ use Rattle.cs_parse.proofs.ChangeLaws.{changes_take, changes_again}
 
 -- ---- sections
 
-abbrev sectioned : Shape → List Change × List ℕ → Result (Section × List ℕ) Refusal
+abbrev pub sectioned : Shape → List Change × List ℕ → Result (Section × List ℕ) Refusal
 sectioned shape changes = Ok (record { shape = shape; changes = changes.0 }, changes.1)
 
-abbrev changes_behind : Shape × List ℕ → Result (Section × List ℕ) Refusal
+abbrev pub changes_behind : Shape × List ℕ → Result (Section × List ℕ) Refusal
 changes_behind shape = changes_at shape.0.flags shape.1 >>= sectioned shape.0
 
 marked_takes : (rest : List ℕ) (x : Section × List ℕ) → IsBytes rest → (header_at rest >>= changes_behind) ≡ Ok x → Takes SpellsSection (84 ∷ rest) x × IsSection x.0
@@ -50,10 +50,10 @@ section_takes (byte ∷ rest) x fits e =
           absurd cc
     ]
 
-abbrev CanFollow : List ℕ → Type 0
+abbrev pub CanFollow : List ℕ → Type 0
 CanFollow rest = ends_section rest ≡ true
 
-marked_again : (rest : List ℕ) → section_at (84 ∷ rest) ≡ (header_at rest >>= changes_behind)
+pub marked_again : (rest : List ℕ) → section_at (84 ∷ rest) ≡ (header_at rest >>= changes_behind)
 unfolding section_at
 marked_again rest = refl
 
@@ -75,7 +75,7 @@ section_long text section h = omega (arith, ap length (section_text text section
 section_goes_on : (text : List ℕ) (section : Section) (rest : List ℕ) → SpellsSection text section → is_empty (text ++ rest) ≡ false
 section_goes_on text section rest h = ne_eqb (length (text ++ rest)) 0 (λ e. absurd (omega (arith, e, length-append text rest, section_long text section h)))
 
-section_reader : IsReader is_empty section_at SpellsSection IsSection CanFollow
+pub section_reader : IsReader is_empty section_at SpellsSection IsSection CanFollow
 section_reader = record {
   at_end = refl;
   long = section_long;
@@ -85,11 +85,11 @@ section_reader = record {
   follows = λ text section rest h. ap ends_section (section_text text section rest h);
 }
 
-sections_take : (bytes : List ℕ) (x : List Section × List ℕ) → IsBytes bytes → sections_at bytes ≡ Ok x → TakesEach is_empty SpellsSection IsSection bytes x
+pub sections_take : (bytes : List ℕ) (x : List Section × List ℕ) → IsBytes bytes → sections_at bytes ≡ Ok x → TakesEach is_empty SpellsSection IsSection bytes x
 unfolding sections_at
 sections_take bytes x fits e = many_takes is_empty section_at SpellsSection IsSection CanFollow section_reader (length bytes) bytes x fits (omega arith) e
 
-sections_again : (text : List ℕ) (sections : List Section) → SpellsEach SpellsSection text sections → AllByRecursion IsSection sections → sections_at text ≡ Ok (sections, [])
+pub sections_again : (text : List ℕ) (sections : List Section) → SpellsEach SpellsSection text sections → AllByRecursion IsSection sections → sections_at text ≡ Ok (sections, [])
 unfolding sections_at
 sections_again text sections h valid =
     subst (λ w. many_at is_empty section_at (length w) w ≡ Ok (sections, [])) (append-nil text) (many_again is_empty section_at SpellsSection IsSection CanFollow section_reader (length (text ++ [])) text sections [] h valid refl refl (omega arith))

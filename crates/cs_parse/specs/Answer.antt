@@ -2,12 +2,14 @@
 use Rattle.std.specs.Prelude.{◌≡◌, ℕ, ◌-◌, List, Result, Ok, Err}
 use Rattle.std.specs.Borrow.{Bor}
 use Rattle.cs_model.specs.declared.change.Section.{Section}
+use Rattle.cs_model.specs.Text.{Spells}
 use Rattle.cs_parse.specs.declared.fault.FaultKind.{FaultKind}
 use Rattle.cs_parse.specs.declared.fault.ParseFault.{ParseFault}
 use Rattle.cs_parse.specs.declared.fault.ParseError.{ParseError}
 use Rattle.cs_parse.specs.declared.fault.ParseError.TheVariants.{Fault, Memory}
 use Rattle.cs_parse.specs.declared.stop.Stop.{Stop}
 use Rattle.cs_parse.specs.declared.stop.Stop.TheVariants as stops
+use Rattle.cs_parse.specs.Fault.{IsFault}
 
 -- the answer is this changeset, unless memory ran out
 abbrev pub IsRead : Result (List Section) ParseError → List Section → Type 0
@@ -20,6 +22,31 @@ abbrev pub Answers : Result (List Section) ParseError → Result (List Section) 
 Answers (Ok found) answer = answer ≡ Ok found
 Answers (Err (Fault fault)) answer = answer ≡ Err fault
 Answers (Err Memory) answer = Unit {0}
+
+-- the error tells the text's fault, unless memory ran out
+abbrev pub Tells : ParseError → List ℕ → Type 0
+Tells (Fault fault) text = IsFault text fault
+Tells Memory text = Unit {0}
+
+-- the answer is this fault, unless memory ran out
+abbrev pub IsRefused : Result (List Section) ParseError → ParseFault → Type 0
+IsRefused (Ok found) fault = ⊥
+IsRefused (Err (Fault told)) fault = told ≡ fault
+IsRefused (Err Memory) fault = Unit {0}
+
+-- the text spells one changeset, and has no fault
+pub record HasChangeset (text : List ℕ) : Type 0 where
+  pub sections : List Section
+  pub spelled : Spells text sections
+  pub only : (others : List Section) → Spells text others → others ≡ sections
+  pub no_fault : (fault : ParseFault) → IsFault text fault → ⊥
+
+-- the text has one fault, and spells no changeset
+pub record HasFault (text : List ℕ) : Type 0 where
+  pub fault : ParseFault
+  pub is_fault : IsFault text fault
+  pub only : (others : ParseFault) → IsFault text others → others ≡ fault
+  pub spells_none : (sections : List Section) → Spells text sections → ⊥
 
 -- The error where the reader stopped in the first `len` bytes, and what it is when they end too early.
 abbrev pub stopped : ℕ → FaultKind → Stop → ParseError

@@ -11,10 +11,11 @@ use Rattle.cs_model.specs.declared.change.Op.{Op}
 use Rattle.cs_model.specs.declared.change.Op.TheVariants.{Insert, Update, Delete}
 use Rattle.cs_model.specs.declared.change.Change.{Change}
 use Rattle.cs_model.specs.declared.change.Section.{Section}
-use Rattle.cs_model.specs.Rule.{Rule, Key, Given, Open, Blank, PairedWith, is_defined, row_rule, old_rule, new_rules}
+use Rattle.cs_model.specs.Rule.{Rule, row_rule, old_rule, new_rules}
 use Rattle.cs_model.specs.Changeset.{most_bytes}
 use Rattle.cs_parse.specs.declared.fault.FaultKind.{FaultKind}
-use Rattle.cs_parse.specs.declared.fault.FaultKind.TheVariants.{BadMarker, Patchset, Columns, NoKey, EmptyName, NameTooLong, BadOperation, BadType, Real, UndefinedField, KeyMissing, KeyChanged, OneSided, ValueTooLong, TooLong, Truncated}
+use Rattle.cs_parse.specs.declared.fault.FaultKind.TheVariants.{BadMarker, Patchset, Columns, NoKey, EmptyName, NameTooLong, BadOperation, ValueTooLong, TooLong, Truncated}
+use Rattle.cs_parse.specs.Place.{factor, type_refusal}
 use Rattle.cs_parse.specs.declared.fault.ParseFault.{ParseFault}
 use Rattle.cs_parse.specs.declared.stop.Stop.{Stop}
 use Rattle.cs_parse.specs.declared.stop.Stop.TheVariants as stops
@@ -55,10 +56,6 @@ many_at over read (suc fuel) bytes = if over bytes then Ok ([], bytes) else (do
 
 -- ---- numbers
 
--- how much the next byte moves what was read before it, where `left` more bytes may have the high bit
-abbrev pub factor : ℕ → ℕ
-factor left = if left == 0 then 256 else 128
-
 -- a number whose last byte stands before `rest`
 abbrev pub within : ℕ → ℕ → FaultKind → ℕ → List ℕ → Result (ℕ × List ℕ) Refusal
 within least most kind n rest = if nat_lt n least || nat_lt most n then refuse kind rest else Ok (n, rest)
@@ -92,24 +89,6 @@ unfoldable pub counted_at : List ℕ → Result (List ℕ × List ℕ) Refusal
 counted_at bytes = do
   n ← length_at bytes
   if nat_lt (length n.1) n.0 then Err Short else Ok (take n.0 n.1, drop n.0 n.1)
-
--- what is wrong with a type byte under a rule, where a field may have that type
-abbrev pub rule_refusal : Rule → ℕ → Option FaultKind
-rule_refusal Key byte = if byte == 0 || byte == 5 then Some KeyMissing else None
-rule_refusal Given byte = if byte == 0 then Some UndefinedField else None
-rule_refusal Open byte = None
-rule_refusal Blank byte = if byte == 0 then None else Some KeyChanged
-rule_refusal (PairedWith old) byte =
-    if is_defined old then (if byte == 0 then Some OneSided else None)
-    else if byte == 0 then None
-    else Some OneSided
-
--- what is wrong with a type byte
-abbrev pub type_refusal : Rule → ℕ → Option FaultKind
-type_refusal rule byte =
-    if nat_lt 5 byte then Some BadType
-    else if byte == 2 then Some Real
-    else rule_refusal rule byte
 
 -- a field behind its type byte, which isn't refused
 unfoldable pub typed_at : ℕ → List ℕ → Result (Field × List ℕ) Refusal
@@ -145,24 +124,24 @@ record_at (rule ∷ rules) bytes = do
   Ok (field.0 ∷ fields.0, fields.1)
 
 -- the old record and the new one of a change with this operation, of a table with these key bytes
-unfoldable pub records_at : List ℕ → Op → List ℕ → Result (List Field × List Field × List ℕ) Refusal
+unfoldable pub records_at : List ℕ → Op → List ℕ → Result ((List Field × List Field) × List ℕ) Refusal
 records_at flags Insert bytes = do
   row ← record_at (map row_rule flags) bytes
-  Ok ([], row.0, row.1)
+  Ok (([], row.0), row.1)
 records_at flags Update bytes = do
   old ← record_at (map old_rule flags) bytes
   new ← record_at (new_rules flags old.0) old.1
-  Ok (old.0, new.0, new.1)
+  Ok ((old.0, new.0), new.1)
 records_at flags Delete bytes = do
   row ← record_at (map row_rule flags) bytes
-  Ok (row.0, [], row.1)
+  Ok ((row.0, []), row.1)
 
 -- a change behind its operation byte
 unfoldable pub marked_at : List ℕ → Op → List ℕ → Result (Change × List ℕ) Refusal
 marked_at flags op [] = Err Short
 marked_at flags op (mark ∷ rest) = do
   records ← records_at flags op rest
-  Ok (record { op = op; indirect = not (mark == 0); before = records.0; after = records.1 }, records.2)
+  Ok (record { op = op; indirect = not (mark == 0); before = records.0.0; after = records.0.1 }, records.1)
 
 -- the operation of a byte
 abbrev pub op_of : ℕ → Option Op

@@ -34,7 +34,7 @@ fn marked_of<'a>(
     let Some((&mark, rest)) = bytes.split_first() else {
         return Err(Stop::Short);
     };
-    let (before, after, rest) = records_of(alloc, flags, op, rest)?;
+    let ((before, after), rest) = records_of(alloc, flags, op, rest)?;
     let change = Change {
         op,
         indirect: mark != 0,

@@ -15,7 +15,7 @@ mod whole;
 
 pub use pieces::PieceParser;
 pub use fault::{FaultKind, ParseError, ParseFault};
-pub use whole::{parse, reading_is_spelling};
+pub use whole::{every_text, parse, reading_is_spelling};
 
 #[cfg(test)]
 mod tests;

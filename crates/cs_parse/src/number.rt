@@ -1,7 +1,8 @@
 //! Numbers: varints within limits, and INTEGER values.
 
 ghost use Rattle.std.specs.Prelude.{◌≡◌, ◌≤◌, ◌*◌, length, nat_eq};
-ghost use Rattle.cs_parse.specs.Reading.{Gives, factor, within, number_at, columns_at, length_at, integer_at};
+ghost use Rattle.cs_parse.specs.Place.{factor};
+ghost use Rattle.cs_parse.specs.Reading.{Gives, within, number_at, columns_at, length_at, integer_at};
 
 use crate::fault::FaultKind;
 use crate::stop::Stop;

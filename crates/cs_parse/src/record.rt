@@ -56,23 +56,23 @@ pub fn records_of<'a>(
     flags: &[u8],
     op: Op,
     bytes: &'a [u8],
-) -> Result<(Seq<Field>, Seq<Field>, &'a [u8]), Stop>
-    ensures { Gives (λ x. (x.0, x.1, x.2.now)) result (records_at flags.now op bytes.now) }
+) -> Result<((Seq<Field>, Seq<Field>), &'a [u8]), Stop>
+    ensures { Gives (λ x. (x.0, x.1.now)) result (records_at flags.now op bytes.now) }
 {
     let none = Seq::from_vec(Vec::new(alloc));
     match op {
         Op::Insert => {
             let (row, rest) = record_of(alloc, FieldRule::Given, flags, bytes)?;
-            Ok((none, Seq::from_vec(row), rest))
+            Ok(((none, Seq::from_vec(row)), rest))
         }
         Op::Update => {
             let (old, rest) = record_of(alloc, FieldRule::Open, flags, bytes)?;
             let (new, rest) = new_of(alloc, flags, &old, rest)?;
-            Ok((Seq::from_vec(old), Seq::from_vec(new), rest))
+            Ok(((Seq::from_vec(old), Seq::from_vec(new)), rest))
         }
         Op::Delete => {
             let (row, rest) = record_of(alloc, FieldRule::Given, flags, bytes)?;
-            Ok((Seq::from_vec(row), none, rest))
+            Ok(((Seq::from_vec(row), none), rest))
         }
     }
 }

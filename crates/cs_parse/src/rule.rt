@@ -3,7 +3,7 @@
 ghost use Rattle.std.specs.Prelude.{◌≡◌, ℕ};
 ghost use Rattle.cs_model.specs.Rule.{new_rule};
 ghost use Rattle.cs_parse.specs.FieldRules.{rule_of, column_rule};
-ghost use Rattle.cs_parse.specs.Reading.{type_refusal};
+ghost use Rattle.cs_parse.specs.Place.{type_refusal};
 
 use crate::fault::FaultKind;
 use cs_model::Field;

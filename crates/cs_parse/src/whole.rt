@@ -1,9 +1,11 @@
 //! Whole texts.
 
-ghost use Rattle.std.specs.Prelude.{◌≡◌, ◌<◌, ◌↔◌, ℕ, List, IfOk, Ok, Err, get_or, length};
+ghost use Rattle.std.specs.Prelude.{◌≡◌, ◌<◌, ◌↔◌, ◌⊎◌, ℕ, List, IfOk, IfErr, Ok, Err, get_or, length};
+ghost use Rattle.cs_parse.specs.declared.fault.ParseFault.{ParseFault};
+ghost use Rattle.cs_parse.specs.Fault.{IsFault};
 ghost use Rattle.cs_model.specs.declared.change.Section.{Section};
 ghost use Rattle.cs_model.specs.Text.{Spells};
-ghost use Rattle.cs_parse.specs.Answer.{IsRead, Answers, stopped};
+ghost use Rattle.cs_parse.specs.Answer.{IsRead, Answers, Tells, IsRefused, HasChangeset, HasFault, stopped};
 ghost use Rattle.cs_parse.specs.Reading.{answer_of, Gives, section_at, is_empty, many_at, sections_at, placed, cut};
 
 use crate::change::changes_of;
@@ -108,13 +110,19 @@ fn read(alloc: Global, text: &[u8]) -> Result<Seq<Section>, ParseError>
     whole_of(alloc, text)
 }
 
-/// The changeset that `text` spells; else the text's first fault, or `Memory`.
-/// Of a text of more than 16,777,216 bytes only so many are read: it is `TooLong`, unless something is wrong in them.
+/// The changeset that `text` spells; else the text's one fault, or `Memory`. Nothing is taken from the text, so that
+/// it can be parsed again.
+/// The fault is the first byte after which no text can be that of a changeset, and what is wrong with it there. Of a
+/// text of more than 16,777,216 bytes only so many are read: it is `TooLong`, unless its fault stands among them.
 pub fn parse(alloc: Global, text: &[u8]) -> Result<Changeset, ParseError>
     // What is read is spelled so.
     ensures found { IfOk result (λ changeset. Spells text.now changeset) }
     // What is spelled so is read, unless memory runs out.
     ensures only { (changeset : List Section) → Spells text.now changeset → IsRead result changeset }
+    // What is told is the text's fault.
+    ensures faulty { IfErr result (λ error. Tells error text.now) }
+    // The text's fault is told, unless memory runs out.
+    ensures the_fault { (fault : ParseFault) → IsFault text.now fault → IsRefused result fault }
     // And the answer is determined by the text.
     ensures exact { Answers result (answer_of text.now) }
 {
@@ -126,4 +134,9 @@ pub fn parse(alloc: Global, text: &[u8]) -> Result<Changeset, ParseError>
 pub fn reading_is_spelling()
     ensures { (text : List ℕ) (changeset : List Section) → ((i : ℕ) → get_or text i 0 < 256)
         → (answer_of text ≡ Ok changeset) ↔ Spells text changeset }
+{}
+
+/// Each text either spells a changeset and has no fault, or it has one fault and spells none.
+pub fn every_text()
+    ensures { (text : List ℕ) → ((i : ℕ) → get_or text i 0 < 256) → HasChangeset text ⊎ HasFault text }
 {}

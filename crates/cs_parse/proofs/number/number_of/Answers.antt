@@ -1,5 +1,6 @@
 use Rattle.std.proofs.Common.{◌≡◌, ◌<◌, ◌*◌, ◌-◌, ◌+◌, ℕ, suc, List, ◌∷◌, get_or, subst, inl, inr, arith}
-use Rattle.cs_parse.specs.Reading.{Gives, factor, number_at}
+use Rattle.cs_parse.specs.Reading.{Gives, number_at}
+use Rattle.cs_parse.specs.Place.{factor}
 use Rattle.cs_parse.proofs.Numbers.{turn_short, turn_ends, turn_bad, turn_goes, turn_last, shift_is, low_on}
 use Rattle.cs_parse.proofs.number.number_of.Goals.{then-read-eq7, else-read-eq7}
 use Rattle.cs_parse.proofs.number.number_of.Goals as goal

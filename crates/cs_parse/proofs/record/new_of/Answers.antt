@@ -6,7 +6,8 @@ use Rattle.std.proofs.lemmas.Slice.Zip.{zip_turn, zip_end}
 use Rattle.cs_model.specs.declared.value.Field.{Field}
 use Rattle.cs_model.specs.Rule.{Rule, new_rule, new_rules}
 use Rattle.cs_parse.specs.FieldRules.{rule_of}
-use Rattle.cs_parse.specs.Reading.{Refusal, Fails, type_refusal, typed_at, unless_refused, field_at, record_at}
+use Rattle.cs_parse.specs.Place.{type_refusal}
+use Rattle.cs_parse.specs.Reading.{Refusal, Fails, typed_at, unless_refused, field_at, record_at}
 use Rattle.cs_parse.proofs.Loops.{with_front, fields_go_on, fields_end, fields_are_done}
 use Rattle.cs_parse.proofs.record.new_of.Goals as goal
 
