@@ -18,3 +18,4 @@ pub mod TextLaws
 pub mod ExactSections
 pub mod ExactText
 pub mod FaultLaws
+pub mod PieceLaws

@@ -1,11 +1,14 @@
 -- A text that comes in pieces.
-use Rattle.std.specs.Prelude.{◌≡◌, ℕ, Bool, true, false, List, ◌++◌, length, Option, Some, None, Result, Ok, Err, if◌then◌else◌}
+use Rattle.std.specs.Prelude.{◌≡◌, ◌≤◌, ℕ, Bool, true, false, List, [], ◌∷◌, ◌++◌, length, Option, Some, None, Result, Ok, Err, if◌then◌else◌}
 use Rattle.cs_model.specs.declared.change.Section.{Section}
 use Rattle.cs_parse.specs.declared.fault.FaultKind.{FaultKind}
 use Rattle.cs_parse.specs.declared.fault.FaultKind.TheVariants as kind
 use Rattle.cs_parse.specs.declared.fault.ParseFault.{ParseFault}
 use Rattle.cs_parse.specs.declared.fault.ParseError.{ParseError}
 use Rattle.cs_parse.specs.declared.fault.ParseError.TheVariants.{Fault, Memory}
+use Rattle.std.specs.List.{flat_map}
+use Rattle.cs_model.specs.Changeset.{most_bytes}
+use Rattle.cs_parse.specs.Fault.{Viable, IsFault}
 use Rattle.cs_parse.specs.Reading.{answer_of}
 
 -- whether more bytes may mend a fault: that the text ends too early
@@ -57,3 +60,26 @@ abbrev pub Fed : {A : Type 0} → Result A ParseError → List ℕ → List ℕ 
 Fed (Ok done) old piece new = (fault_in (taken old piece) ≡ None) × (new ≡ taken old piece)
 Fed (Err (Fault fault)) old piece new = (fault_in (taken old piece) ≡ Some fault) × (new ≡ taken old piece)
 Fed (Err Memory) old piece new = new ≡ old
+
+-- a fault of the text that no more bytes mend
+abbrev pub IsLasting : List ℕ → ParseFault → Type 0
+IsLasting text fault = IsFault text fault × (may_be_mended fault.kind ≡ false)
+
+-- A text without such a fault: it is within the limit, and some text that begins so is that of a changeset.
+pub record GoesOn (text : List ℕ) : Type 0 where
+  pub within_limit : length text ≤ most_bytes
+  pub viable : Viable text
+
+-- the error tells such a fault, unless memory ran out
+abbrev pub TellsLasting : ParseError → List ℕ → Type 0
+TellsLasting (Fault fault) text = IsLasting text fault
+TellsLasting Memory text = Unit {0}
+
+-- pieces one after another
+abbrev pub joined : List (List ℕ) → List ℕ
+joined pieces = flat_map (λ piece. piece) pieces
+
+-- what is kept of a text and pieces behind it
+abbrev pub kept : List ℕ → List (List ℕ) → List ℕ
+kept text [] = text
+kept text (piece ∷ pieces) = kept (taken text piece) pieces

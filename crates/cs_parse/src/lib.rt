@@ -13,8 +13,8 @@ mod rule;
 mod stop;
 mod whole;
 
-pub use pieces::PieceParser;
 pub use fault::{FaultKind, ParseError, ParseFault};
+pub use pieces::{PieceParser, feeding_tells_faults, pieces_are_joined};
 pub use whole::{every_text, parse, reading_is_spelling};
 
 #[cfg(test)]

@@ -1,9 +1,12 @@
 //! A text that comes in pieces.
 
-ghost use Rattle.std.specs.Prelude.{◌≡◌, ◌++◌, [], IfOk, OnOk, OnErr};
+ghost use Rattle.std.specs.Prelude.{◌≡◌, ◌++◌, [], IfOk, IfErr, OnOk, ℕ, ◌<◌, ◌↔◌, List, Some, get_or};
 ghost use Rattle.cs_parse.specs.Reading.{answer_of};
-ghost use Rattle.cs_parse.specs.Pieces.{lasting, offset_of, Fed};
-ghost use Rattle.cs_parse.specs.Answer.{Answers, Shows};
+ghost use Rattle.cs_parse.specs.Pieces.{lasting, fault_in, offset_of, Fed, IsLasting, TellsLasting, GoesOn, joined, kept};
+ghost use Rattle.cs_parse.specs.Fault.{IsFault};
+ghost use Rattle.cs_parse.specs.declared.fault.ParseFault.{ParseFault};
+ghost use Rattle.cs_model.specs.Text.{Spells};
+ghost use Rattle.cs_parse.specs.Answer.{Shows};
 
 use crate::fault::{FaultKind, ParseError, ParseFault};
 use crate::whole::parse;
@@ -23,14 +26,14 @@ pub struct PieceParser {
 }
 
 impl Model for PieceParser {
-    ghost use Rattle.std.specs.Prelude.{◌≡◌, ℕ, List};
+    ghost use Rattle.std.specs.Prelude.{◌≡◌, ◌<◌, ℕ, List, get_or};
     ghost use Rattle.cs_parse.specs.Reading.{answer_of};
 
     ghost Value = { List ℕ };
 
     ghost view = { λ p. p.text.items };
 
-    ghost invariant = { λ p. answer_of p.text.items ≡ p.answer };
+    ghost invariant = { λ p. (answer_of p.text.items ≡ p.answer) × ((i : ℕ) → get_or p.text.items i 0 < 256) };
 }
 
 impl PieceParser {
@@ -48,7 +51,20 @@ impl PieceParser {
     /// Takes the next piece. It is a fault from the piece on that holds the fault's byte, and then at every call,
     /// which takes nothing more; that the text isn't whole yet is none. `Memory` leaves the parser as it was.
     pub fn feed(&mut self, alloc: Global, piece: &[u8]) -> Result<(), ParseError>
-        ensures { Fed result self.old piece.now self.new }
+        // The piece is added, unless the text has a fault that lasts or memory runs out.
+        ensures fed { Fed result self.old piece.now self.new }
+        // What is told is the fault of the text, and no more bytes mend it.
+        ensures told { IfErr result (λ error. TellsLasting error self.new) }
+        // Where none is told, the text goes on.
+        ensures going { OnOk result (GoesOn self.new) }
+    {
+        self.fed(alloc, piece)
+    }
+
+    // the same, as the answer is determined by the text
+    fn fed(&mut self, alloc: Global, piece: &[u8]) -> Result<(), ParseError>
+        ensures fed { Fed result self.old piece.now self.new }
+        ensures bytes { (i : ℕ) → get_or self.new i 0 < 256 }
     {
         if let Some(fault) = lasting_of(&self.answer) {
             return Err(ParseError::Fault(fault));
@@ -75,7 +91,9 @@ impl PieceParser {
     /// The changeset that the bytes taken so far spell, or their fault. It changes nothing and takes no memory, so
     /// that feeding may go on.
     pub fn finish(&self) -> Result<&Changeset, ParseFault>
-        ensures { Shows result (answer_of self.now) }
+        ensures found { IfOk result (λ changeset. Spells self.now changeset.now) }
+        ensures faulty { IfErr result (λ fault. IsFault self.now fault) }
+        ensures exact { Shows result (answer_of self.now) }
     {
         match &self.answer {
             Ok(changeset) => Ok(changeset),
@@ -114,3 +132,15 @@ fn lasting_of(answer: &Result<Changeset, ParseFault>) -> Option<ParseFault>
         },
     }
 }
+
+/// However a text was cut into pieces, the bytes kept of them are answered as the whole text is.
+pub fn pieces_are_joined()
+    ensures { (pieces : List (List ℕ)) → ((i : ℕ) → get_or (joined pieces) i 0 < 256)
+        → answer_of (kept [] pieces) ≡ answer_of (joined pieces) }
+{}
+
+/// The fault that feeding tells is the one of the text that no more bytes mend.
+pub fn feeding_tells_faults()
+    ensures { (text : List ℕ) (fault : ParseFault) → ((i : ℕ) → get_or text i 0 < 256)
+        → (fault_in text ≡ Some fault) ↔ IsLasting text fault }
+{}

@@ -1,0 +1,8 @@
+use Rattle.cs_parse.proofs.PieceLaws.{feed_tells, feed_goes}
+use Rattle.cs_parse.proofs.pieces.PieceParser.feed.Goals as goal
+
+pub returns-clause-told : goal.returns-clause-told
+returns-clause-told c = feed_tells c.fed.result c.args.self.now c.args.piece.now c.fed.new.self c.fed.ensures.bytes c.fed.ensures.fed
+
+pub returns-clause-going : goal.returns-clause-going
+returns-clause-going c = feed_goes c.fed.result c.args.self.now c.args.piece.now c.fed.new.self c.fed.ensures.bytes c.fed.ensures.fed
