@@ -10,6 +10,8 @@ pub mod ExactValues
 pub mod ExactFields
 pub mod ManyLaws
 pub mod HeaderLaws
+pub mod ExactFlags
+pub mod ExactNames
 pub mod ExactHeader
 pub mod ChangeLaws
 pub mod ExactChanges

@@ -110,8 +110,7 @@ fn read(alloc: Global, text: &[u8]) -> Result<Seq<Section>, ParseError>
     whole_of(alloc, text)
 }
 
-/// The changeset that `text` spells; else the text's one fault, or `Memory`. Nothing is taken from the text, so that
-/// it can be parsed again.
+/// The changeset that `text` spells; else the text's one fault, or `Memory`. Whatever the answer, nothing is changed.
 /// The fault is the first byte after which no text can be that of a changeset, and what is wrong with it there. Of a
 /// text of more than 16,777,216 bytes only so many are read: it is `TooLong`, unless its fault stands among them.
 pub fn parse(alloc: Global, text: &[u8]) -> Result<Changeset, ParseError>
