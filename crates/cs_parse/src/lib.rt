@@ -15,7 +15,7 @@ mod whole;
 
 pub use fault::{FaultKind, ParseError, ParseFault};
 pub use pieces::{PieceParser, feeding_tells_faults, pieces_are_joined};
-pub use whole::{every_text, parse, reading_is_spelling};
+pub use whole::{every_text, parse, reading_is_spelling, refusing_is_fault};
 
 #[cfg(test)]
 mod tests;

@@ -135,6 +135,12 @@ pub fn reading_is_spelling()
         → (answer_of text ≡ Ok changeset) ↔ Spells text changeset }
 {}
 
+/// What reading a text refuses is the text's fault.
+pub fn refusing_is_fault()
+    ensures { (text : List ℕ) (fault : ParseFault) → ((i : ℕ) → get_or text i 0 < 256)
+        → (answer_of text ≡ Err fault) ↔ IsFault text fault }
+{}
+
 /// Each text either spells a changeset and has no fault, or it has one fault and spells none.
 pub fn every_text()
     ensures { (text : List ℕ) → ((i : ℕ) → get_or text i 0 < 256) → HasChangeset text ⊎ HasFault text }

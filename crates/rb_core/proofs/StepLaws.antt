@@ -1,14 +1,16 @@
 -- What an event does is one of the steps that the relation allows.
-use Rattle.std.proofs.Common.{◌≡◌, ℕ, zero, suc, ◌+◌, ◌<◌, ◌≤◌, Bool, true, false, cond, ltb, leb, List, [], ◌∷◌, ◌++◌, length, get_or, Option, Some, None, Result, Ok, Err, refl, sym, ap, subst, ◌∙◌, arith, set}
+use Rattle.std.proofs.Common.{◌≡◌, ℕ, zero, suc, ◌+◌, ◌<◌, ◌≤◌, inl, inr, Bool, true, false, cond, ltb, leb, List, [], ◌∷◌, ◌++◌, length, get_or, Option, Some, None, Result, Ok, Err, refl, sym, ap, subst, ◌∙◌, arith, set}
 use Rattle.std.specs.Prelude.{slice_get, MatchOption, MatchResult, ◌↔◌, IfOk}
-use Rattle.std.proofs.lemmas.Bool.{ltb-true, ltb-false, leb-true, leb-false}
+use Rattle.std.proofs.lemmas.List.{get_or_append_left, get_or_past}
+use Rattle.std.proofs.lemmas.Bool.{cases_lt, ltb-true, ltb-false, leb-true, leb-false}
 use Rattle.cs_model.specs.declared.change.Section.{Section}
 use Rattle.cs_model.specs.declared.schema.SchemaFault.{SchemaFault}
 use Rattle.cs_model.specs.Schema.{refusal_of}
 use Rattle.cs_model.specs.Text.{Spells}
 use Rattle.cs_parse.specs.declared.fault.ParseFault.{ParseFault}
 use Rattle.cs_parse.specs.Reading.{answer_of}
-use Rattle.cs_parse.specs.Pieces.{fault_in, behind}
+use Rattle.cs_parse.specs.Pieces.{fault_in, behind, IsLasting}
+use Rattle.cs_parse.specs.Fault.{IsFault}
 use Rattle.cs_apply.specs.declared.conflict.Conflict.{Conflict}
 use Rattle.cs_apply.specs.State as tables
 use Rattle.cs_apply.specs.Single.{single}
@@ -24,7 +26,7 @@ use Rattle.rb_core.specs.declared.parts.Subscription.{Subscription}
 use Rattle.rb_core.specs.declared.parts.Handed.{Handed}
 use Rattle.rb_core.specs.State.{State}
 use Rattle.rb_core.specs.Outcome.{outcome, fed_reply, fed_stream, fed, reset, ended, parsed, admitted, sent, staged_of, turned, taken, numbered, delivered, reached, opened, accepted, subscribe_outcome, fault_refusal, with_publisher, with_subscription, with_accepted}
-use Rattle.rb_core.specs.Step.{Refuses, Adds, Stages, Reads, SubscribeStep, Applies, Step}
+use Rattle.rb_core.specs.Step.{Refuses, AreBytes, Stays, Adds, Stages, Reads, SubscribeStep, Applies, Step}
 use Rattle.rb_core.specs.Run.{Answer}
 
 -- a relation between a reply and a world, of an outcome
@@ -45,20 +47,60 @@ set-found [] i x found = absurd cc
 set-found (y ∷ xs) zero x found = let e : y ≡ x = cc in ap (λ z. z ∷ xs) (sym e)
 set-found (y ∷ xs) (suc i) x found = ap (λ zs. y ∷ zs) (set-found xs i x found)
 
+-- the fault that feeding tells is the text's fault that no more bytes mend
+abbrev pub FeedingTells : Type 0
+FeedingTells = (text : List ℕ) (fault : ParseFault) → ((i : ℕ) → get_or text i 0 < 256) → (fault_in text ≡ Some fault) ↔ IsLasting text fault
+
+-- the fault of a text is what reading it answers
+abbrev pub FaultsAreTold : Type 0
+FaultsAreTold = (text : List ℕ) (fault : ParseFault) → ((i : ℕ) → get_or text i 0 < 256) → IsFault text fault → answer_of text ≡ Err fault
+
 -- what feeding does where a publisher is found
-abbrev Feeds : State → ℕ → Publisher → List ℕ → Option ParseFault → Reply → State → Type 0
-Feeds old p q bytes o given new = MatchOption o (Adds old p q bytes given new) (λ fault. (given ≡ reply.Fault fault) × (new ≡ old))
+abbrev Feeds : State → ℕ → Publisher → List ℕ → Reply → State → Type 0
+Feeds old p q bytes given new = AreBytes (q.stream ++ bytes) → Stays old q given new × Adds old p q bytes given new
 
-step_fed : (old : State) (p : ℕ) (q : Publisher) (bytes : List ℕ) (o : Option ParseFault) → slice_get old.publishers p ≡ Some q → fault_in q.stream ≡ o
-    → Of (Feeds old p q bytes o) (fed_stream old p q (behind o q.stream bytes))
-step_fed old p q bytes None found e = (refl, refl)
-step_fed old p q bytes (Some fault) found e = (ap fed_reply e, ap (λ ps. record old { publishers = ps }) (set-found old.publishers p q found))
+reply_told : (text : List ℕ) (o : Option ParseFault) → AreBytes text → FeedingTells → fault_in text ≡ o
+    → ((fault : ParseFault) → IsLasting text fault → fed_reply o ≡ reply.Fault fault) × (((fault : ParseFault) → IsLasting text fault → ⊥) → fed_reply o ≡ reply.Fed)
+reply_told text None fits tells e = (
+  λ fault h. let some : None ≡ Some fault = sym e ∙ (tells text fault fits).1 h in absurd cc,
+  λ none. refl,
+)
+reply_told text (Some told) fits tells e = (
+  λ fault h.
+      let some : Some told ≡ Some fault = sym e ∙ (tells text fault fits).1 h in
+      let same : told ≡ fault = cc in
+      ap reply.Fault same,
+  λ none. absurd (none told ((tells text told fits).0 e)),
+)
 
-step_feed : (old : State) (p : ℕ) (bytes : List ℕ) (o : Option Publisher) → slice_get old.publishers p ≡ o
-    → Of (λ given new. MatchOption o (Refuses old refusal.NoPublisher given new)
-    (λ q. Feeds old p q bytes (fault_in q.stream) given new)) (fed old p bytes o)
-step_feed old p bytes None found = (refl, refl)
-step_feed old p bytes (Some q) found = step_fed old p q bytes (fault_in q.stream) found refl
+front_bytes : (front back : List ℕ) → AreBytes (front ++ back) → AreBytes front
+front_bytes front back fits i = elim (cases_lt i (length front)) as (λ w. get_or front i 0 < 256) [
+  | inl less ↦ subst (λ n. n < 256) (get_or_append_left front back 0 i less) (fits i)
+  | inr past ↦ subst (λ n. n < 256) (sym (get_or_past front i 0 past)) (omega arith)
+]
+
+step_fed : (old : State) (p : ℕ) (q : Publisher) (bytes : List ℕ) (o : Option ParseFault) → slice_get old.publishers p ≡ Some q → fault_in q.stream ≡ o → FeedingTells
+    → Of (Feeds old p q bytes) (fed_stream old p q (behind o q.stream bytes))
+step_fed old p q bytes None found e tells = λ fits.
+    let told = reply_told (q.stream ++ bytes) (fault_in (q.stream ++ bytes)) fits tells refl in
+    (
+      λ fault h. let some : None ≡ Some fault = sym e ∙ (tells q.stream fault (front_bytes q.stream bytes fits)).1 h in absurd cc,
+      λ none. (refl, told.0, told.1),
+    )
+step_fed old p q bytes (Some fault) found e tells = λ fits.
+    let front = front_bytes q.stream bytes fits in
+    (
+      λ other h.
+          let some : Some fault ≡ Some other = sym e ∙ (tells q.stream other front).1 h in
+          let same : fault ≡ other = cc in
+          (ap fed_reply e ∙ ap reply.Fault same, ap (λ ps. record old { publishers = ps }) (set-found old.publishers p q found)),
+      λ none. absurd (none fault ((tells q.stream fault front).0 e)),
+    )
+
+step_feed : (old : State) (p : ℕ) (bytes : List ℕ) (o : Option Publisher) → slice_get old.publishers p ≡ o → FeedingTells
+    → Of (λ given new. MatchOption o (Refuses old refusal.NoPublisher given new) (λ q. Feeds old p q bytes given new)) (fed old p bytes o)
+step_feed old p bytes None found tells = (refl, refl)
+step_feed old p bytes (Some q) found tells = step_fed old p q bytes (fault_in q.stream) found refl tells
 
 step_reset : (old : State) (p : ℕ) (o : Option Publisher)
     → Of (λ given new. MatchOption o (Refuses old refusal.NoPublisher given new)
@@ -72,29 +114,32 @@ step_admitted : (old : State) (p : ℕ) (q : Publisher) (changeset : List Sectio
 step_admitted old p q changeset None = (refl, refl)
 step_admitted old p q changeset (Some fault) = (refl, refl)
 
-step_reads : (old : State) (p : ℕ) (q : Publisher) (r : Result (List Section) ParseFault) → answer_of q.stream ≡ r → ReadingIsSpelling → Of (Reads old p q) (parsed old p q r)
-step_reads old p q (Ok c) found reading = λ fits. (
+step_reads : (old : State) (p : ℕ) (q : Publisher) (r : Result (List Section) ParseFault) → answer_of q.stream ≡ r → ReadingIsSpelling → FaultsAreTold → Of (Reads old p q) (parsed old p q r)
+step_reads old p q (Ok c) found reading faults = λ fits. (
   λ d spells.
       let e : Ok c ≡ Ok d = sym found ∙ (reading q.stream d fits).1 spells in
       let same : c ≡ d = cc in
       subst (λ (x : List Section). Of (Stages old p q x) (parsed old p q (Ok c))) same (step_admitted old p q c (refusal_of old.schema c)),
-  λ none. let read = (reading q.stream c fits).0 found in absurd (none c read),
+  λ fault h. let e : Ok c ≡ Err fault = sym found ∙ faults q.stream fault fits h in absurd cc,
 )
-step_reads old p q (Err fault) found reading = λ fits. (
+step_reads old p q (Err fault) found reading faults = λ fits. (
   λ d spells. let e : Err fault ≡ Ok d = sym found ∙ (reading q.stream d fits).1 spells in absurd cc,
-  λ none. (fault, refl, refl),
+  λ other h.
+      let e : Err fault ≡ Err other = sym found ∙ faults q.stream other fits h in
+      let same : fault ≡ other = cc in
+      (ap reply.Fault same, refl),
 )
 
-step_held : (old : State) (p : ℕ) (q : Publisher) (staged : Option (List Section)) → ReadingIsSpelling
+step_held : (old : State) (p : ℕ) (q : Publisher) (staged : Option (List Section)) → ReadingIsSpelling → FaultsAreTold
     → Of (λ given new. MatchOption staged (Reads old p q given new) (λ _. Refuses old refusal.Holding given new)) (ended old p (Some q) staged)
-step_held old p q None reading = step_reads old p q (answer_of q.stream) refl reading
-step_held old p q (Some c) reading = (refl, refl)
+step_held old p q None reading faults = step_reads old p q (answer_of q.stream) refl reading faults
+step_held old p q (Some c) reading faults = (refl, refl)
 
-step_end : (old : State) (p : ℕ) (o : Option Publisher) → ReadingIsSpelling
+step_end : (old : State) (p : ℕ) (o : Option Publisher) → ReadingIsSpelling → FaultsAreTold
     → Of (λ given new. MatchOption o (Refuses old refusal.NoPublisher given new)
     (λ q. MatchOption q.staged (Reads old p q given new) (λ _. Refuses old refusal.Holding given new))) (ended old p o (staged_of o))
-step_end old p None reading = (refl, refl)
-step_end old p (Some q) reading = step_held old p q q.staged reading
+step_end old p None reading faults = (refl, refl)
+step_end old p (Some q) reading faults = step_held old p q q.staged reading faults
 
 -- what sending does where a publisher is found
 abbrev Sends : State → ℕ → Publisher → Option (List Section) → Reply → State → Type 0
@@ -183,17 +228,17 @@ step_delivered : (old : State) (o : Option Handed)
 step_delivered old None = (refl, refl)
 step_delivered old (Some handed) = step_reached old handed (slice_get old.subscriptions handed.subscription) refl
 
-pub outcome_steps : ReadingIsSpelling → (old : State) (e : Event) → Step old e (outcome old e).0 (outcome old e).1
+pub outcome_steps : ReadingIsSpelling → FaultsAreTold → FeedingTells → (old : State) (e : Event) → Step old e (outcome old e).0 (outcome old e).1
 unfolding outcome
-outcome_steps reading old event.Publisher = (refl, refl)
-outcome_steps reading old (event.Feed p bytes) = step_feed old p bytes (slice_get old.publishers p) refl
-outcome_steps reading old (event.Reset p) = step_reset old p (slice_get old.publishers p)
-outcome_steps reading old (event.End p) = step_end old p (slice_get old.publishers p) reading
-outcome_steps reading old (event.Send p) = step_send old p (slice_get old.publishers p)
-outcome_steps reading old event.Turn = step_turn old old.intake
-outcome_steps reading old (event.Subscribe start) = step_subscribe old start
-outcome_steps reading old (event.Take s now) = step_take old s (slice_get old.subscriptions s)
-outcome_steps reading old (event.Accept d) = step_delivered old (numbered old.deliveries d)
+outcome_steps reading faults tells old event.Publisher = (refl, refl)
+outcome_steps reading faults tells old (event.Feed p bytes) = step_feed old p bytes (slice_get old.publishers p) refl tells
+outcome_steps reading faults tells old (event.Reset p) = step_reset old p (slice_get old.publishers p)
+outcome_steps reading faults tells old (event.End p) = step_end old p (slice_get old.publishers p) reading faults
+outcome_steps reading faults tells old (event.Send p) = step_send old p (slice_get old.publishers p)
+outcome_steps reading faults tells old event.Turn = step_turn old old.intake
+outcome_steps reading faults tells old (event.Subscribe start) = step_subscribe old start
+outcome_steps reading faults tells old (event.Take s now) = step_take old s (slice_get old.subscriptions s)
+outcome_steps reading faults tells old (event.Accept d) = step_delivered old (numbered old.deliveries d)
 
 -- where the outcome is answered, the relation holds
 pub Step-from : ((old : State) (e : Event) (given : Reply) (new : State) → outcome old e ≡ (given, new) → Step old e given new)

@@ -15,8 +15,9 @@ use Rattle.rb_core.specs.declared.parts.Publisher.{Publisher}
 use Rattle.rb_core.specs.declared.parts.Subscription.{Subscription}
 use Rattle.rb_core.specs.declared.parts.Handed.{Handed}
 use Rattle.rb_core.specs.State.{State, empty_tables}
-use Rattle.cs_parse.specs.Pieces.{fault_in}
-use Rattle.rb_core.specs.Outcome.{fed_reply, numbered, with_publisher, with_subscription, fault_refusal}
+use Rattle.cs_parse.specs.Fault.{IsFault}
+use Rattle.cs_parse.specs.Pieces.{IsLasting}
+use Rattle.rb_core.specs.Outcome.{numbered, with_publisher, with_subscription, fault_refusal}
 
 -- the event is refused, and nothing changes
 abbrev pub Refuses : State → Refusal → Reply → State → Type 0
@@ -28,18 +29,25 @@ PublisherStep old given new =
     (given ≡ reply.Publisher (length old.publishers))
     × (new ≡ record old { publishers = old.publishers ++ record { stream = []; staged = None; sent = 0 } ∷ [] })
 
--- the bytes go to the end of a stream without a fault, and the fault that they make is told
-abbrev pub Adds : State → ℕ → Publisher → List ℕ → Reply → State → Type 0
-Adds old p q bytes given new =
-    (given ≡ fed_reply (fault_in (q.stream ++ bytes))) × (new ≡ with_publisher old p (record q { stream = q.stream ++ bytes }))
+-- a stream is of bytes
+abbrev pub AreBytes : List ℕ → Type 0
+AreBytes stream = (i : ℕ) → get_or stream i 0 < 256
 
--- a stream with a fault answers it, and nothing changes
+-- a stream with a fault that no more bytes mend answers it, and nothing changes
+abbrev pub Stays : State → Publisher → Reply → State → Type 0
+Stays old q given new = (fault : ParseFault) → IsLasting q.stream fault → (given ≡ reply.Fault fault) × (new ≡ old)
+
+-- Else the bytes go to its end. Where that makes such a fault, it is told.
+abbrev pub Adds : State → ℕ → Publisher → List ℕ → Reply → State → Type 0
+Adds old p q bytes given new = ((fault : ParseFault) → IsLasting q.stream fault → ⊥) →
+    (new ≡ with_publisher old p (record q { stream = q.stream ++ bytes }))
+    × ((fault : ParseFault) → IsLasting (q.stream ++ bytes) fault → given ≡ reply.Fault fault)
+    × (((fault : ParseFault) → IsLasting (q.stream ++ bytes) fault → ⊥) → given ≡ reply.Fed)
+
 abbrev pub FeedStep : State → ℕ → List ℕ → Reply → State → Type 0
 FeedStep old p bytes given new = MatchOption (slice_get old.publishers p)
     (Refuses old refusal.NoPublisher given new)
-    (λ q. MatchOption (fault_in q.stream)
-    (Adds old p q bytes given new)
-    (λ fault. (given ≡ reply.Fault fault) × (new ≡ old)))
+    (λ q. AreBytes (q.stream ++ bytes) → Stays old q given new × Adds old p q bytes given new)
 
 -- the publisher's stream is empty, and nothing else changes
 abbrev pub ResetStep : State → ℕ → Reply → State → Type 0
@@ -53,11 +61,11 @@ Stages old p q changeset given new = MatchOption (refusal_of old.schema changese
     ((given ≡ reply.Staged) × (new ≡ with_publisher old p (record q { stream = []; staged = Some changeset })))
     (λ fault. Refuses old (fault_refusal fault) given new)
 
--- what the stream's bytes spell is staged; where they spell nothing, that is a fault
+-- what the stream's bytes spell is staged; where they spell nothing, their fault is told, and nothing changes
 abbrev pub Reads : State → ℕ → Publisher → Reply → State → Type 0
-Reads old p q given new = ((i : ℕ) → get_or q.stream i 0 < 256) →
+Reads old p q given new = AreBytes q.stream →
     ((changeset : List Section) → Spells q.stream changeset → Stages old p q changeset given new)
-    × (((changeset : List Section) → Spells q.stream changeset → ⊥) → (fault : ParseFault) × (given ≡ reply.Fault fault) × (new ≡ old))
+    × ((fault : ParseFault) → IsFault q.stream fault → (given ≡ reply.Fault fault) × (new ≡ old))
 
 abbrev pub EndStep : State → ℕ → Reply → State → Type 0
 EndStep old p given new = MatchOption (slice_get old.publishers p)

@@ -1,14 +1,16 @@
 //! Publishers and the sequence.
 
 ghost use Rattle.std.specs.Prelude.{◌≡◌, IfOk, OnErr, IsOk};
+ghost use Rattle.cs_parse.specs.Answer.{Shows};
+ghost use Rattle.cs_parse.specs.Reading.{answer_of};
 ghost use Rattle.rb_core.specs.Outcome.{publisher_outcome, feed_outcome, reset_outcome, end_outcome, send_outcome, turn_outcome, fault_refusal};
 
 use crate::entry::{Entry, Item};
 use crate::parts::Publisher;
 use crate::reply::{Refusal, Reply};
 use crate::world::{World, refused};
-use cs_model::SchemaFault;
-use cs_parse::{ParseError, PieceParser};
+use cs_model::{Changeset, SchemaFault};
+use cs_parse::{ParseError, ParseFault, PieceParser};
 use cs_write::write;
 use std::alloc::{AllocError, Global};
 use std::mem;
@@ -72,7 +74,7 @@ impl World {
         if self.publishers[p].staged.is_some() {
             return refused(Refusal::Holding);
         }
-        let changeset = match self.publishers[p].stream.finish() {
+        let changeset = match spelled(&self.publishers[p].stream) {
             Ok(changeset) => changeset,
             Err(fault) => return Ok(Reply::Fault(fault)),
         };
@@ -137,6 +139,13 @@ impl World {
             }
         }
     }
+}
+
+// the changeset that a stream spells, or its fault
+fn spelled(stream: &PieceParser) -> Result<&Changeset, ParseFault>
+    ensures { Shows result (answer_of stream.now) }
+{
+    stream.finish()
 }
 
 // The first two faults are those of a schema, and don't come here.

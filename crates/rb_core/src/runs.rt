@@ -14,7 +14,7 @@ use crate::event::Event;
 use crate::reply::Reply;
 use crate::world::World;
 use cs_model::Schema;
-use cs_parse::reading_is_spelling;
+use cs_parse::{feeding_tells_faults, reading_is_spelling, refusing_is_fault};
 use std::alloc::{AllocError, Global};
 
 /// Serves events one after another from an empty world, and gives the world and what each was answered: a reply,
@@ -51,4 +51,6 @@ pub fn outcome_is_step()
     ensures { (old : State) (event : Event) (given : Reply) (new : State) → outcome old event ≡ (given, new) → Step old event given new }
 {
     reading_is_spelling();
+    refusing_is_fault();
+    feeding_tells_faults();
 }
