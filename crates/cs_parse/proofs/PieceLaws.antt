@@ -93,13 +93,13 @@ lasting_is text fault fits e = elim (cases (answer_of text)) as (λ w. IsLasting
       let none : None ≡ Some fault = sym (ap lasting h.1) ∙ e in
       absurd cc
   | inr h ↦ elim (mended_or_not (may_be_mended h.0.kind)) as (λ w. IsLasting text fault) [
-      | inl m ↦
-          let none : None ≡ Some fault = sym (ap lasting h.1 ∙ told h.0 true m) ∙ e in
-          absurd cc
-      | inr n ↦
-          let same : h.0 ≡ fault = some_is h.0 fault (sym (ap lasting h.1 ∙ told h.0 false n) ∙ e) in
-          subst (λ f. IsLasting text f) same (refused_is_fault text h.0 fits h.1, n)
-    ]
+    | inl m ↦
+        let none : None ≡ Some fault = sym (ap lasting h.1 ∙ told h.0 true m) ∙ e in
+        absurd cc
+    | inr n ↦
+        let same : h.0 ≡ fault = some_is h.0 fault (sym (ap lasting h.1 ∙ told h.0 false n) ∙ e) in
+        subst (λ f. IsLasting text f) same (refused_is_fault text h.0 fits h.1, n)
+  ]
 ]
 
 pub is_lasting : (text : List ℕ) (fault : ParseFault) → IsBytes text → IsLasting text fault → fault_in text ≡ Some fault
@@ -111,11 +111,11 @@ goes_on text fits e = elim (cases (answer_of text)) as (λ w. GoesOn text) [
       let s = answer_takes text h.0 fits h.1 in
       record { within_limit = s.within_limit; viable = record { more = []; bytes = refl; sections = h.0; is_changeset = s.is_changeset; spelled = subst (λ w. SpellsEach SpellsSection w h.0) (sym (append-nil text)) s.sections } }
   | inr h ↦ elim (mended_or_not (may_be_mended h.0.kind)) as (λ w. GoesOn text) [
-      | inl m ↦ mended text h.0 m (refused_is_fault text h.0 fits h.1)
-      | inr n ↦
-          let some : Some h.0 ≡ None = sym (ap lasting h.1 ∙ told h.0 false n) ∙ e in
-          absurd cc
-    ]
+    | inl m ↦ mended text h.0 m (refused_is_fault text h.0 fits h.1)
+    | inr n ↦
+        let some : Some h.0 ≡ None = sym (ap lasting h.1 ∙ told h.0 false n) ∙ e in
+        absurd cc
+  ]
 ]
   where
     mended : (text : List ℕ) (fault : ParseFault) → may_be_mended fault.kind ≡ true → IsFault text fault → GoesOn text

@@ -9,6 +9,8 @@ use cs_model::{Change, Field, Octets, Op, Section, Seq, Shape, Value};
 use std::alloc::{AllocError, Global};
 use std::test::*;
 
+mod cuts;
+
 // the header of a table `t` with two columns, of which the first is its key
 const HEADER: [u8; 6] = [0x54, 2, 1, 0, 0x74, 0];
 

@@ -1,0 +1,75 @@
+//! Texts in pieces.
+
+use super::*;
+use crate::PieceParser;
+
+// INSERT (1, NULL), UPDATE of it to (1, x'aabb') and DELETE of that in a table `t`; an INSERT of 'abc' in a table `u`
+const WHOLE: [u8; 62] = [
+    0x54, 2, 1, 0, 0x74, 0, 0x12, 0, 1, 0, 0, 0, 0, 0, 0, 0, 1, 5, 0x17, 1, 1, 0, 0, 0, 0, 0, 0, 0,
+    1, 5, 0, 4, 2, 0xaa, 0xbb, 9, 0, 1, 0, 0, 0, 0, 0, 0, 0, 1, 4, 2, 0xaa, 0xbb, 0x54, 1, 1, 0x75,
+    0, 0x12, 0, 3, 3, 0x61, 0x62, 0x63,
+];
+
+// where the text so far is that of a changeset: behind headers and changes
+const ENDS: [usize; 7] = [0, 6, 18, 35, 50, 55, 62];
+
+// Cut anywhere, the front is a changeset or ends too early there, and both pieces give the whole.
+#[test]
+fn cuts_leave_no_trace(rt: HostRuntime) -> Result<(), Fail> {
+    let alloc = rt.alloc();
+    for cut in 0..63_usize {
+        let (front, back) = WHOLE.split_at(cut);
+        let mut parser = PieceParser::new(alloc);
+        assert_eq!(rt; parser.feed(alloc, front), Ok(()));
+        assert_eq!(rt; parser.offset(), cut);
+        match parser.finish() {
+            Ok(_) => assert!(rt; ENDS.contains(&cut), "at {cut}"),
+            Err(fault) => {
+                assert!(rt; !ENDS.contains(&cut), "at {cut}");
+                let kind = FaultKind::Truncated;
+                assert_eq!(rt; fault, ParseFault { at: cut, kind });
+            }
+        }
+        assert_eq!(rt; parser.feed(alloc, &[]), Ok(()));
+        assert_eq!(rt; parser.feed(alloc, back), Ok(()));
+        assert_eq!(rt; parser.offset(), 62);
+        let Ok(changeset) = parser.into_changeset() else {
+            return Err("a fault")?;
+        };
+        let mut changes = 0_usize;
+        for section in changeset.sections() {
+            let items: &[Change] = &section.changes;
+            changes = changes.wrapping_add(items.len());
+        }
+        assert_eq!(rt; changes, 4);
+    }
+    Ok(())
+}
+
+// A REAL at byte 8: told at the piece that holds it, however the text is cut, and from then on.
+#[test]
+fn faults_last(rt: HostRuntime) -> Result<(), Fail> {
+    let alloc = rt.alloc();
+    let mut text = WHOLE;
+    text[8] = 2;
+    let fault = ParseFault {
+        at: 8,
+        kind: FaultKind::Real,
+    };
+    let told = Err(ParseError::Fault(fault));
+    for cut in 0..62_usize {
+        let (front, back) = text.split_at(cut);
+        let mut parser = PieceParser::new(alloc);
+        let first = parser.feed(alloc, front);
+        assert_eq!(rt; first, if cut > 8 { told } else { Ok(()) });
+        for piece in [back, &[], back] {
+            assert_eq!(rt; parser.feed(alloc, piece), told);
+            assert_eq!(rt; parser.offset(), 8);
+        }
+        match parser.finish() {
+            Ok(_) => return Err("no fault")?,
+            Err(found) => assert_eq!(rt; found, fault),
+        }
+    }
+    Ok(())
+}
