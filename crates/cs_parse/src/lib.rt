@@ -1,5 +1,6 @@
-//! The reader of changesets: `parse` answers with the changeset that a text spells, or with a fault and its
-//! place. Theorem: the answer is Ok exactly on the texts that spell a changeset, as `Spells` says.
+//! The reader of changesets, whole by `parse` or in pieces by `PieceParser`. Theorems: the answer is Ok exactly on the
+//! texts that spell a changeset, as `Spells` says; else it is the text's one fault, its place and kind as `IsFault`
+//! says; and how a text was cut into pieces makes no difference.
 #![tactic(auto)]
 
 mod change;
