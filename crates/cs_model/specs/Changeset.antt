@@ -60,7 +60,3 @@ IsSection section = IsShape section.shape × AllByRecursion (IsChange section.sh
 -- a changeset is its sections, in order
 abbrev pub IsChangeset : List Section → Type 0
 IsChangeset sections = AllByRecursion IsSection sections
-
--- changesets of which every change is an INSERT
-abbrev pub AreInserts : List Section → Type 0
-AreInserts sections = AllByRecursion (λ section. AllByRecursion (λ change. change.op ≡ Insert) section.changes) sections

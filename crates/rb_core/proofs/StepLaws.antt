@@ -82,14 +82,12 @@ front_bytes front back fits i = elim (cases_lt i (length front)) as (λ w. get_o
 step_fed : (old : State) (p : ℕ) (q : Publisher) (bytes : List ℕ) (o : Option ParseFault) → slice_get old.publishers p ≡ Some q → fault_in q.stream ≡ o → FeedingTells
     → Of (Feeds old p q bytes) (fed_stream old p q (behind o q.stream bytes))
 step_fed old p q bytes None found e tells = λ fits.
-    let told = reply_told (q.stream ++ bytes) (fault_in (q.stream ++ bytes)) fits tells refl in
-    (
+    let told = reply_told (q.stream ++ bytes) (fault_in (q.stream ++ bytes)) fits tells refl in (
       λ fault h. let some : None ≡ Some fault = sym e ∙ (tells q.stream fault (front_bytes q.stream bytes fits)).1 h in absurd cc,
       λ none. (refl, told.0, told.1),
     )
 step_fed old p q bytes (Some fault) found e tells = λ fits.
-    let front = front_bytes q.stream bytes fits in
-    (
+    let front = front_bytes q.stream bytes fits in (
       λ other h.
           let some : Some fault ≡ Some other = sym e ∙ (tells q.stream other front).1 h in
           let same : fault ≡ other = cc in

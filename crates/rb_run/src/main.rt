@@ -13,6 +13,8 @@ mod streams;
 mod texts;
 mod words;
 
+use clap::Error;
+use clap::error::ErrorKind;
 use command::matches;
 use fault::ScriptFault;
 use rb_core::Config;
@@ -29,16 +31,22 @@ fn main(rt: HostRuntime) -> ExitCode {
     };
     match matches(rt.alloc(), &words) {
         Ok(_) => script_of(&rt),
-        Err(shown) => {
-            let printed = shown.print(&rt);
-            if shown.use_stderr() {
-                ExitCode::from(2)
-            } else if printed.is_err() {
-                stopped(&rt, ScriptFault::Write)
-            } else {
-                ExitCode::SUCCESS
-            }
-        }
+        Err(shown) => told(&rt, &shown),
+    }
+}
+
+// Prints help, or what is wrong with the command line.
+fn told(rt: &HostRuntime, shown: &Error) -> ExitCode {
+    if shown.kind() == ErrorKind::OutOfMemory {
+        return stopped(rt, ScriptFault::Memory);
+    }
+    let printed = shown.print(rt);
+    if shown.use_stderr() {
+        ExitCode::from(2)
+    } else if printed.is_err() {
+        stopped(rt, ScriptFault::Write)
+    } else {
+        ExitCode::SUCCESS
     }
 }
 
