@@ -47,6 +47,15 @@ impl Write for Full {
     }
 }
 
+// The run stopped so. Where memory ran out before, that is handed up.
+fn stopped(rt: &impl Abort, run: Result<(), ScriptFault>, want: ScriptFault) -> Result<(), Fail> {
+    if run == Err(ScriptFault::Memory) {
+        return Err("out of memory")?;
+    }
+    assert!(rt; run == Err(want));
+    Ok(())
+}
+
 #[test]
 fn stops(rt: HostRuntime) -> Result<(), Fail> {
     let alloc = rt.alloc();
@@ -56,14 +65,14 @@ fn stops(rt: HostRuntime) -> Result<(), Fail> {
         rest: b"publisher\nturn\ntur",
     };
     let read = run_script(alloc, &mut failing, &mut written, config);
-    assert!(rt; read == Err(ScriptFault::Read));
+    stopped(&rt, read, ScriptFault::Read)?;
     assert!(rt; written.as_slice() == b"publisher 0\nidle\n".as_slice());
     let mut script: &[u8] = b"publisher\n";
     let full = run_script(alloc, &mut script, &mut Full, config);
-    assert!(rt; full == Err(ScriptFault::Write));
+    stopped(&rt, full, ScriptFault::Write)?;
     let mut nothing = Vec::new(alloc);
     let endless = run_script(alloc, &mut Unending, &mut nothing, config);
-    assert!(rt; endless == Err(ScriptFault::Endless));
+    stopped(&rt, endless, ScriptFault::Endless)?;
     assert!(rt; nothing.is_empty());
     Ok(())
 }
