@@ -1,0 +1,66 @@
+-- What the numbers that the exports answer say of a text: 0 or more, -1 (`negsuc 0`) or -2 (`negsuc 1`).
+use Rattle.std.specs.Prelude.{◌≡◌, ◌<◌, ℕ, suc, zero, ℤ, pos, negsuc, List, length}
+use Rattle.cs_model.specs.declared.change.Section.{Section}
+use Rattle.cs_model.specs.Text.{Spells}
+use Rattle.cs_parse.specs.declared.fault.ParseFault.{ParseFault}
+use Rattle.cs_parse.specs.Fault.{IsFault}
+use Rattle.cs_write.specs.Text.{text_of}
+use Rattle.changeset_c.specs.Numbers.{changes_in, number_of, given}
+use Rattle.changeset_c.specs.Job.{Gives}
+
+-- the text has a fault, at this place and of the kind with this number
+pub record HasFaultAt (text : List ℕ) (at kind : ℕ) : Type 0 where
+  pub fault : ParseFault
+  pub is_fault : IsFault text fault
+  pub is_place : at ≡ fault.at
+  pub is_kind : kind ≡ number_of fault.kind
+
+-- what `changeset_check` says of a text, where it tells `at` and `kind` besides
+abbrev pub CheckSays : ℤ → ℕ → ℕ → List ℕ → Type 0
+CheckSays (pos n) at kind text = Gives changes_in text n
+CheckSays (negsuc zero) at kind text = HasFaultAt text at kind
+CheckSays (negsuc (suc zero)) at kind text = Unit {0}
+CheckSays (negsuc (suc (suc n))) at kind text = ⊥
+
+-- the text spells a changeset with a canonical text so long, which the buffer was given
+pub record IsWritten (text : List ℕ) (n : ℕ) (before after : List ℕ) : Type 0 where
+  pub changeset : List Section
+  pub spelled : Spells text changeset
+  pub is_length : n ≡ length (text_of changeset)
+  pub is_given : after ≡ given (text_of changeset) before
+
+-- the text has a fault, and the buffer is as it was
+pub record IsRefused (text before after : List ℕ) : Type 0 where
+  pub fault : ParseFault
+  pub is_fault : IsFault text fault
+  pub same : after ≡ before
+
+-- what `changeset_canonical` says of a text, where the buffer was `before` and is `after`
+abbrev pub CanonicalSays : ℤ → List ℕ → List ℕ → List ℕ → Type 0
+CanonicalSays (pos n) before after text = IsWritten text n before after
+CanonicalSays (negsuc zero) before after text = IsRefused text before after
+CanonicalSays (negsuc (suc zero)) before after text = after ≡ before
+CanonicalSays (negsuc (suc (suc n))) before after text = ⊥
+
+-- the number, unless memory ran out
+abbrev pub IsNumber : ℤ → ℕ → Type 0
+IsNumber (pos found) n = found ≡ n
+IsNumber (negsuc zero) n = ⊥
+IsNumber (negsuc (suc m)) n = m ≡ 0
+
+-- a value that is kept, unless the answer is -1
+abbrev pub KeptBut : ℤ → ℕ → ℕ → Type 0
+KeptBut (negsuc zero) before after = Unit {0}
+KeptBut (negsuc (suc n)) before after = after ≡ before
+KeptBut (pos n) before after = after ≡ before
+
+-- a refusal of a text with this fault, unless memory ran out
+abbrev pub IsFaultAt : ℤ → ℕ → ℕ → ParseFault → Type 0
+IsFaultAt (pos n) at kind fault = ⊥
+IsFaultAt (negsuc zero) at kind fault = (at ≡ fault.at) × (kind ≡ number_of fault.kind)
+IsFaultAt (negsuc (suc n)) at kind fault = n ≡ 0
+
+-- a refusal, unless memory ran out
+abbrev pub IsNegative : ℤ → Type 0
+IsNegative (pos n) = ⊥
+IsNegative (negsuc n) = n < 2
