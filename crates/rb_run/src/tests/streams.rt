@@ -47,9 +47,10 @@ impl Write for Full {
     }
 }
 
-// The run stopped so. Where memory ran out before, that is handed up.
+// The run stopped so. Where memory ran out before, for the run or for the list that takes its answers, that is
+// handed up.
 fn stopped(rt: &impl Abort, run: Result<(), ScriptFault>, want: ScriptFault) -> Result<(), Fail> {
-    if run == Err(ScriptFault::Memory) {
+    if run != Err(want) && (run == Err(ScriptFault::Memory) || run == Err(ScriptFault::Write)) {
         return Err("out of memory")?;
     }
     assert!(rt; run == Err(want));
