@@ -6,3 +6,5 @@ mod answers;
 mod exports;
 mod jobs;
 mod numbers;
+#[cfg(test)]
+mod tests;

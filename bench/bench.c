@@ -1,0 +1,120 @@
+/* Compares the library with SQLite's session functions on the same changesets, and prints one table.
+ * Each figure is of five runs of each, ours and SQLite's in turn, after one run of each that isn't counted. */
+#include "inputs.h"
+#include "jobs.h"
+
+#include <stdio.h>
+#include <stdlib.h>
+#include <string.h>
+#include <time.h>
+
+enum { RUNS = 5 };
+
+/* a text may have so many bytes */
+static const size_t MOST_BYTES = 16777216;
+static const size_t USUAL_BYTES = 15000000;
+
+struct measured {
+    double ours[RUNS];
+    double sqlite[RUNS];
+};
+
+static double now(void) {
+    struct timespec time;
+    clock_gettime(CLOCK_MONOTONIC, &time);
+    return (double)time.tv_sec + (double)time.tv_nsec * 1e-9;
+}
+
+/* the seconds of one call, by the mean of as many */
+static double seconds(job *job, const struct input *input, int calls) {
+    double start = now();
+    for (int call = 0; call < calls; call++) job(input);
+    return (now() - start) / calls;
+}
+
+static int by_size(const void *one, const void *other) {
+    double a = *(const double *)one, b = *(const double *)other;
+    return (a > b) - (a < b);
+}
+
+/* both sorted, the quickest first */
+static struct measured measure(job *ours, job *sqlite, const struct input *input, int calls) {
+    struct measured times;
+    seconds(ours, input, 1);
+    seconds(sqlite, input, 1);
+    for (int run = 0; run < RUNS; run++) {
+        times.ours[run] = seconds(ours, input, calls);
+        times.sqlite[run] = seconds(sqlite, input, calls);
+    }
+    qsort(times.ours, RUNS, sizeof(double), by_size);
+    qsort(times.sqlite, RUNS, sizeof(double), by_size);
+    return times;
+}
+
+/* A row of the table: `amount` for each second, the median and the least of the runs. */
+static void print_row(const char *job, const char *input, double amount, const struct measured *times) {
+    double ours = amount / times->ours[RUNS / 2], sqlite = amount / times->sqlite[RUNS / 2];
+    printf("| %s | %s | %.0f (%.0f) | %.0f (%.0f) | %.2f |\n", job, input, ours, amount / times->ours[RUNS - 1], sqlite,
+           amount / times->sqlite[RUNS - 1], ours / sqlite);
+    fflush(stdout);
+}
+
+static const char *const READ = "read every change";
+static const char *const WRITE = "read and write again";
+
+/* both jobs, in megabytes a second */
+static void compare_bytes(enum rows rows, const char *what) {
+    struct input input = make_input(rows, 1000000000, USUAL_BYTES);
+    char name[100];
+    snprintf(name, sizeof name, "%s, %ld changes", what, input.changes);
+    struct measured reads = measure(ours_reads, sqlite_reads, &input, 1);
+    print_row(READ, name, (double)input.len / 1e6, &reads);
+    struct measured writes = measure(ours_writes, sqlite_writes, &input, 1);
+    print_row(WRITE, name, (double)input.len / 1e6, &writes);
+    free(input.bytes);
+}
+
+/* both jobs, in thousands of changes a second, on at most so many changes */
+static void compare_changes(long changes) {
+    struct input input = make_input(INTEGERS, changes, MOST_BYTES);
+    int calls = input.changes < 100000 ? (int)(100000 / input.changes) : 1;
+    char name[100];
+    snprintf(name, sizeof name, "integer rows, %ld changes", input.changes);
+    struct measured reads = measure(ours_reads, sqlite_reads, &input, calls);
+    print_row(READ, name, (double)input.changes / 1e3, &reads);
+    struct measured writes = measure(ours_writes, sqlite_writes, &input, calls);
+    print_row(WRITE, name, (double)input.changes / 1e3, &writes);
+    free(input.bytes);
+}
+
+static void print_head(const char *unit) {
+    printf("| job (for SQLite, \"write again\" is sqlite3changeset_invert twice, the nearest that it has) | input "
+           "| ours, %s: median (least) | SQLite's, %s: median (least) | ours / SQLite's |\n|---|---|--:|--:|--:|\n",
+           unit, unit);
+}
+
+/* With the word `ours` or `sqlite` and one of `read` or `write` only that job is run, once, on the integer rows: for
+ * a profiler. */
+static int run_once(const char *who, const char *what) {
+    struct input input = make_input(INTEGERS, 1000000000, USUAL_BYTES);
+    int reads = strcmp(what, "read") == 0;
+    if (strcmp(who, "ours") == 0) (reads ? ours_reads : ours_writes)(&input);
+    else (reads ? sqlite_reads : sqlite_writes)(&input);
+    free(input.bytes);
+    return 0;
+}
+
+int main(int count, char **words) {
+    if (count == 3) return run_once(words[1], words[2]);
+    print_head("MB/s");
+    compare_bytes(INTEGERS, "integer rows");
+    compare_bytes(TEXTS, "100-byte text rows");
+    compare_bytes(BLOBS, "4 KB blob rows");
+    printf("\n");
+    print_head("1,000 changes/s");
+    compare_changes(1000);
+    compare_changes(10000);
+    compare_changes(100000);
+    compare_changes(1000000000);
+    return 0;
+}

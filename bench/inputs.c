@@ -1,0 +1,91 @@
+#include "inputs.h"
+
+#include <stdint.h>
+#include <stdio.h>
+#include <stdlib.h>
+#include <string.h>
+
+enum { INSERT = 18, UPDATE = 23, DELETE = 9 };
+/* the types of fields */
+enum { UNDEFINED = 0, INTEGER = 1, TEXT = 3, BLOB = 4 };
+
+/* more than any change of these tables takes */
+#define MOST_OF_A_CHANGE 20000
+
+/* a generator of numbers, the same at every run */
+static uint64_t state;
+
+static uint64_t next_number(void) {
+    state = state * 6364136223846793005u + 1442695040888963407u;
+    return state >> 11;
+}
+
+static unsigned char *put_integer(unsigned char *at, uint64_t number) {
+    *at++ = INTEGER;
+    for (int shift = 56; shift >= 0; shift -= 8) *at++ = (unsigned char)(number >> shift);
+    return at;
+}
+
+/* a length as a varint of one byte or two, and as many bytes */
+static unsigned char *put_bytes(unsigned char *at, int type, size_t len) {
+    *at++ = (unsigned char)type;
+    if (len >= 128) *at++ = (unsigned char)(128 + len / 128);
+    *at++ = (unsigned char)(len % 128);
+    memset(at, 'a' + (int)(next_number() % 26), len);
+    return at + len;
+}
+
+static int columns_of(enum rows rows) { return rows == INTEGERS ? 4 : 2; }
+
+static unsigned char *put_columns(unsigned char *at, enum rows rows) {
+    if (rows == TEXTS) return put_bytes(at, TEXT, 100);
+    if (rows == BLOBS) return put_bytes(at, BLOB, 4096);
+    for (int column = 1; column < 4; column++) at = put_integer(at, next_number());
+    return at;
+}
+
+/* a record with a value in each column */
+static unsigned char *put_row(unsigned char *at, enum rows rows, uint64_t key) {
+    return put_columns(put_integer(at, key), rows);
+}
+
+static unsigned char *put_change(unsigned char *at, enum rows rows, long i) {
+    static const int operations[3] = {INSERT, UPDATE, DELETE};
+    int operation = operations[i % 3];
+    *at++ = (unsigned char)operation;
+    *at++ = 0;
+    at = put_row(at, rows, (uint64_t)i);
+    if (operation == UPDATE) {
+        /* all columns but the key change */
+        *at++ = UNDEFINED;
+        at = put_columns(at, rows);
+    }
+    return at;
+}
+
+static unsigned char *put_header(unsigned char *at, enum rows rows) {
+    int columns = columns_of(rows);
+    *at++ = 'T';
+    *at++ = (unsigned char)columns;
+    for (int column = 0; column < columns; column++) *at++ = column == 0;
+    memcpy(at, "measured", 9);
+    return at + 9;
+}
+
+struct input make_input(enum rows rows, long changes, size_t limit) {
+    unsigned char *bytes = malloc(limit + MOST_OF_A_CHANGE);
+    if (!bytes) {
+        fputs("out of memory\n", stderr);
+        exit(1);
+    }
+    state = 1;
+    unsigned char *at = put_header(bytes, rows);
+    long made = 0;
+    while (made < changes) {
+        unsigned char *after = put_change(at, rows, made);
+        if ((size_t)(after - bytes) > limit) break;
+        at = after;
+        made++;
+    }
+    return (struct input){bytes, (size_t)(at - bytes), made};
+}

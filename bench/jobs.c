@@ -1,0 +1,77 @@
+#define SQLITE_ENABLE_SESSION
+#define SQLITE_ENABLE_PREUPDATE_HOOK
+#include <sqlite3.h>
+
+#include "changeset.h"
+#include "jobs.h"
+
+#include <stdio.h>
+#include <stdlib.h>
+#include <string.h>
+
+static void must(int holds, const char *what) {
+    if (holds) return;
+    fprintf(stderr, "wrong answer: %s\n", what);
+    exit(1);
+}
+
+void ours_reads(const struct input *input) {
+    size_t at = 0;
+    uint32_t kind = 0;
+    must(changeset_check(input->bytes, input->len, &at, &kind) == input->changes, "ours_reads");
+}
+
+/* the values of a change, each looked at */
+static long values_of(sqlite3_changeset_iter *iter, int columns, int operation) {
+    long seen = 0;
+    sqlite3_value *value;
+    for (int column = 0; column < columns; column++) {
+        if (operation != SQLITE_INSERT) {
+            must(sqlite3changeset_old(iter, column, &value) == SQLITE_OK, "old");
+            seen += value && sqlite3_value_type(value) != SQLITE_NULL;
+        }
+        if (operation != SQLITE_DELETE) {
+            must(sqlite3changeset_new(iter, column, &value) == SQLITE_OK, "new");
+            seen += value && sqlite3_value_type(value) != SQLITE_NULL;
+        }
+    }
+    return seen;
+}
+
+void sqlite_reads(const struct input *input) {
+    sqlite3_changeset_iter *iter;
+    must(sqlite3changeset_start(&iter, (int)input->len, input->bytes) == SQLITE_OK, "start");
+    long changes = 0;
+    while (sqlite3changeset_next(iter) == SQLITE_ROW) {
+        const char *table;
+        int columns, operation, indirect;
+        must(sqlite3changeset_op(iter, &table, &columns, &operation, &indirect) == SQLITE_OK, "op");
+        must(values_of(iter, columns, operation) >= columns, "values");
+        changes++;
+    }
+    must(sqlite3changeset_finalize(iter) == SQLITE_OK, "finalize");
+    must(changes == input->changes, "sqlite_reads");
+}
+
+static void must_be_same(const struct input *input, const void *bytes, size_t len) {
+    must(len == input->len && memcmp(bytes, input->bytes, len) == 0, "other bytes");
+}
+
+void ours_writes(const struct input *input) {
+    unsigned char *out = malloc(input->len);
+    must(out != NULL, "memory");
+    int64_t len = changeset_canonical(input->bytes, input->len, out, input->len);
+    must(len >= 0, "ours_writes");
+    must_be_same(input, out, (size_t)len);
+    free(out);
+}
+
+void sqlite_writes(const struct input *input) {
+    void *inverse, *again;
+    int inverse_len, len;
+    must(sqlite3changeset_invert((int)input->len, input->bytes, &inverse_len, &inverse) == SQLITE_OK, "invert");
+    must(sqlite3changeset_invert(inverse_len, inverse, &len, &again) == SQLITE_OK, "invert again");
+    must_be_same(input, again, (size_t)len);
+    sqlite3_free(inverse);
+    sqlite3_free(again);
+}

@@ -1,0 +1,23 @@
+#!/bin/sh
+# Builds the static library and the comparison with SQLite, and prints its table. It installs what is missing, by
+# package name. RT names the prover's command where it isn't `rt`.
+set -eu
+cd "$(dirname "$0")/.."
+: "${RT:=rt}"
+
+for package in gcc libc6-dev libsqlite3-dev; do
+    dpkg -s "$package" >/dev/null 2>&1 || apt-get install -y "$package" >&2
+done
+
+(cd crates/changeset_c && "$RT" lib >&2)
+# the toolchain's three functions between the library and malloc
+heap="$(dirname "$($RT doc)")/c/liblibc_c.a"
+made="$(mktemp -d)"
+trap 'rm -rf "$made"' EXIT
+gcc -O2 -Wall -Wextra -I include bench/bench.c bench/inputs.c bench/jobs.c \
+    crates/changeset_c/out/libchangeset_c.a "$heap" -lsqlite3 -o "$made/bench"
+
+echo "$(nproc) processors, $(sed -n 's/^model name[^:]*: //p' /proc/cpuinfo | head -n 1)," \
+    "SQLite $(dpkg-query -W -f '${Version}' libsqlite3-0), load before: $(cut -d ' ' -f 1 /proc/loadavg)"
+echo
+"$made/bench" "$@"
