@@ -1,5 +1,6 @@
 /* Compares the library with SQLite's session functions on the same changesets, and prints one table.
- * Each figure is of five runs of each, ours and SQLite's in turn, after one run of each that isn't counted. */
+ * SQLite is measured twice: as it comes, and lean, without its memory statistics and its locks. Each figure is of
+ * five runs of each of the three, in turn, after one run of each that isn't counted. */
 #include "inputs.h"
 #include "jobs.h"
 
@@ -9,19 +10,21 @@
 #include <time.h>
 
 enum { RUNS = 5 };
+enum side { OURS, SQLITE, LEAN, SIDES };
 
 /* a text may have so many bytes */
 static const size_t MOST_BYTES = 16777216;
 static const size_t USUAL_BYTES = 15000000;
 
+/* the seconds of each run */
 struct measured {
-    double ours[RUNS];
-    double sqlite[RUNS];
+    double seconds[SIDES][RUNS];
 };
 
+/* the processor time of this program so far, in seconds: other work on the machine disturbs it less than the clock */
 static double now(void) {
     struct timespec time;
-    clock_gettime(CLOCK_MONOTONIC, &time);
+    clock_gettime(CLOCK_PROCESS_CPUTIME_ID, &time);
     return (double)time.tv_sec + (double)time.tv_nsec * 1e-9;
 }
 
@@ -37,25 +40,30 @@ static int by_size(const void *one, const void *other) {
     return (a > b) - (a < b);
 }
 
-/* both sorted, the quickest first */
+/* each side's runs sorted, the quickest first */
 static struct measured measure(job *ours, job *sqlite, const struct input *input, int calls) {
     struct measured times;
-    seconds(ours, input, 1);
-    seconds(sqlite, input, 1);
-    for (int run = 0; run < RUNS; run++) {
-        times.ours[run] = seconds(ours, input, calls);
-        times.sqlite[run] = seconds(sqlite, input, calls);
+    for (int run = -1; run < RUNS; run++) {
+        for (int side = OURS; side < SIDES; side++) {
+            configure_sqlite(side == LEAN);
+            double took = seconds(side == OURS ? ours : sqlite, input, run < 0 ? 1 : calls);
+            if (run >= 0) times.seconds[side][run] = took;
+        }
     }
-    qsort(times.ours, RUNS, sizeof(double), by_size);
-    qsort(times.sqlite, RUNS, sizeof(double), by_size);
+    for (int side = OURS; side < SIDES; side++) qsort(times.seconds[side], RUNS, sizeof(double), by_size);
     return times;
 }
 
-/* A row of the table: `amount` for each second, the median and the least of the runs. */
+/* A row of the table: `amount` for each second, by the median and the slowest of the runs. */
 static void print_row(const char *job, const char *input, double amount, const struct measured *times) {
-    double ours = amount / times->ours[RUNS / 2], sqlite = amount / times->sqlite[RUNS / 2];
-    printf("| %s | %s | %.0f (%.0f) | %.0f (%.0f) | %.2f |\n", job, input, ours, amount / times->ours[RUNS - 1], sqlite,
-           amount / times->sqlite[RUNS - 1], ours / sqlite);
+    double ours = times->seconds[OURS][RUNS / 2];
+    printf("| %s | %s ", job, input);
+    for (int side = OURS; side < SIDES; side++) {
+        double median = times->seconds[side][RUNS / 2];
+        printf("| %.0f (%.0f) ", amount / median, amount / times->seconds[side][RUNS - 1]);
+        if (side != OURS) printf("| %.2f ", median / ours);
+    }
+    printf("|\n");
     fflush(stdout);
 }
 
@@ -88,15 +96,15 @@ static void compare_changes(long changes) {
 }
 
 static void print_head(const char *unit) {
-    printf("| job (for SQLite, \"write again\" is sqlite3changeset_invert twice, the nearest that it has) | input "
-           "| ours, %s: median (least) | SQLite's, %s: median (least) | ours / SQLite's |\n|---|---|--:|--:|--:|\n",
-           unit, unit);
+    printf("| job (SQLite writes again by sqlite3changeset_invert twice, the nearest that it has) | input "
+           "| ours, %s | SQLite's, %s | ratio | lean SQLite's, %s | ratio |\n|---|---|--:|--:|--:|--:|--:|\n",
+           unit, unit, unit);
 }
 
-/* With the word `ours` or `sqlite` and one of `read` or `write` only that job is run, once, on the integer rows: for
- * a profiler. */
-static int run_once(const char *who, const char *what) {
-    struct input input = make_input(INTEGERS, 1000000000, USUAL_BYTES);
+/* Runs one job once, for a profiler: `ours` or `sqlite`, `read` or `write`, and `integers`, `texts` or `blobs`. */
+static int run_once(const char *who, const char *what, const char *which) {
+    enum rows rows = *which == 'i' ? INTEGERS : *which == 't' ? TEXTS : BLOBS;
+    struct input input = make_input(rows, 1000000000, USUAL_BYTES);
     int reads = strcmp(what, "read") == 0;
     if (strcmp(who, "ours") == 0) (reads ? ours_reads : ours_writes)(&input);
     else (reads ? sqlite_reads : sqlite_writes)(&input);
@@ -105,7 +113,7 @@ static int run_once(const char *who, const char *what) {
 }
 
 int main(int count, char **words) {
-    if (count == 3) return run_once(words[1], words[2]);
+    if (count == 4) return run_once(words[1], words[2], words[3]);
     print_head("MB/s");
     compare_bytes(INTEGERS, "integer rows");
     compare_bytes(TEXTS, "100-byte text rows");

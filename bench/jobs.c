@@ -15,6 +15,13 @@ static void must(int holds, const char *what) {
     exit(1);
 }
 
+void configure_sqlite(int lean) {
+    must(sqlite3_shutdown() == SQLITE_OK, "shutdown");
+    must(sqlite3_config(SQLITE_CONFIG_MEMSTATUS, !lean) == SQLITE_OK, "statistics");
+    must(sqlite3_config(lean ? SQLITE_CONFIG_SINGLETHREAD : SQLITE_CONFIG_SERIALIZED) == SQLITE_OK, "locks");
+    must(sqlite3_initialize() == SQLITE_OK, "initialize");
+}
+
 void ours_reads(const struct input *input) {
     size_t at = 0;
     uint32_t kind = 0;

@@ -11,4 +11,7 @@ job ours_reads, sqlite_reads;
 /* the changeset is read and written again, to the same bytes */
 job ours_writes, sqlite_writes;
 
+/* Sets SQLite up as it comes, or lean: without its memory statistics and its locks. */
+void configure_sqlite(int lean);
+
 #endif

@@ -14,7 +14,7 @@ done
 heap="$(dirname "$($RT doc)")/c/liblibc_c.a"
 made="$(mktemp -d)"
 trap 'rm -rf "$made"' EXIT
-gcc -O2 -Wall -Wextra -I include bench/bench.c bench/inputs.c bench/jobs.c \
+gcc -O2 -Wall -Wextra -I include bench/*.c \
     crates/changeset_c/out/libchangeset_c.a "$heap" -lsqlite3 -o "$made/bench"
 
 echo "$(nproc) processors, $(sed -n 's/^model name[^:]*: //p' /proc/cpuinfo | head -n 1)," \
