@@ -1,9 +1,11 @@
 #!/bin/sh
 # Builds the static library and the comparison with SQLite, and prints its table. It installs what is missing, by
-# package name. RT names the prover's command where it isn't `rt`.
+# package name. RT names the prover's command where it isn't `rt`, and UNDER one that runs the program, as a profiler.
+# With words, as `ours read integers`, the program runs one job once.
 set -eu
 cd "$(dirname "$0")/.."
 : "${RT:=rt}"
+: "${UNDER:=}"
 
 for package in gcc libc6-dev libsqlite3-dev; do
     dpkg -s "$package" >/dev/null 2>&1 || apt-get install -y "$package" >&2
@@ -20,4 +22,4 @@ gcc -O2 -Wall -Wextra -I include bench/*.c \
 echo "$(nproc) processors, $(sed -n 's/^model name[^:]*: //p' /proc/cpuinfo | head -n 1)," \
     "SQLite $(dpkg-query -W -f '${Version}' libsqlite3-0), load before: $(cut -d ' ' -f 1 /proc/loadavg)"
 echo
-"$made/bench" "$@"
+$UNDER "$made/bench" "$@"
