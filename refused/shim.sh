@@ -1,0 +1,29 @@
+# What run.sh and tests.sh share. It goes to the repository's top and builds the shim.
+cd "$(dirname "$0")/.." || exit 2
+work=$(mktemp -d) || exit 2
+trap 'rm -rf "$work"' EXIT
+gcc -O2 -shared -fPIC -o "$work/refuse.so" refused/refuse.c -ldl || exit 2
+bad=0
+
+# in_turn LABEL JUDGE INPUT COMMAND..: runs the command on the input once for each allocation that it asks for, which is
+# refused. JUDGE STATUS says `passed`, `told` or another word of what stands in $work/out and $work/err.
+in_turn() {
+    label=$1 judge=$2 input=$3
+    shift 3
+    count=$(REFUSE_TELL=1 LD_PRELOAD="$work/refuse.so" "$@" <"$input" 2>&1 >/dev/null | sed -n 's/^asked //p')
+    passed=0 told=0 at=1
+    while [ "$at" -le "$count" ]; do
+        REFUSE_AT=$at LD_PRELOAD="$work/refuse.so" "$@" <"$input" >"$work/out" 2>"$work/err"
+        status=$?
+        case $($judge $status) in
+        passed) passed=$((passed + 1)) ;;
+        told) told=$((told + 1)) ;;
+        *)
+            echo "$label: allocation $at: status $status: $(cat "$work/err" "$work/out" | head -c 120)"
+            bad=$((bad + 1))
+            ;;
+        esac
+        at=$((at + 1))
+    done
+    echo "$label: $count allocations, passed $passed times, told $told times"
+}
