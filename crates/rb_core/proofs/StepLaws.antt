@@ -26,7 +26,7 @@ use Rattle.rb_core.specs.declared.parts.Subscription.{Subscription}
 use Rattle.rb_core.specs.declared.parts.Handed.{Handed}
 use Rattle.rb_core.specs.State.{State}
 use Rattle.rb_core.specs.Outcome.{outcome, fed_reply, fed_stream, fed, reset, ended, parsed, admitted, sent, staged_of, turned, taken, numbered, delivered, reached, opened, accepted, subscribe_outcome, fault_refusal, with_publisher, with_subscription, with_accepted}
-use Rattle.rb_core.specs.Step.{Refuses, AreBytes, Stays, Adds, Stages, Reads, SubscribeStep, Applies, Step}
+use Rattle.rb_core.specs.Step.{Refuses, AreBytes, Feeds, Stays, Adds, Stages, Reads, SubscribeStep, Applies, Step}
 use Rattle.rb_core.specs.Run.{Answer}
 
 -- a relation between a reply and a world, of an outcome
@@ -56,8 +56,8 @@ abbrev pub FaultsAreTold : Type 0
 FaultsAreTold = (text : List ℕ) (fault : ParseFault) → ((i : ℕ) → get_or text i 0 < 256) → IsFault text fault → answer_of text ≡ Err fault
 
 -- what feeding does where a publisher is found
-abbrev Feeds : State → ℕ → Publisher → List ℕ → Reply → State → Type 0
-Feeds old p q bytes given new = AreBytes (q.stream ++ bytes) → Stays old q given new × Adds old p q bytes given new
+abbrev Fed : State → ℕ → Publisher → List ℕ → Reply → State → Type 0
+Fed old p q bytes given new = Feeds old p q bytes given new × (AreBytes (q.stream ++ bytes) → Stays old q given new × Adds old p q bytes given new)
 
 reply_told : (text : List ℕ) (o : Option ParseFault) → AreBytes text → FeedingTells → fault_in text ≡ o
     → ((fault : ParseFault) → IsLasting text fault → fed_reply o ≡ reply.Fault fault) × (((fault : ParseFault) → IsLasting text fault → ⊥) → fed_reply o ≡ reply.Fed)
@@ -80,23 +80,29 @@ front_bytes front back fits i = elim (cases_lt i (length front)) as (λ w. get_o
 ]
 
 step_fed : (old : State) (p : ℕ) (q : Publisher) (bytes : List ℕ) (o : Option ParseFault) → slice_get old.publishers p ≡ Some q → fault_in q.stream ≡ o → FeedingTells
-    → Of (Feeds old p q bytes) (fed_stream old p q (behind o q.stream bytes))
-step_fed old p q bytes None found e tells = λ fits.
-    let told = reply_told (q.stream ++ bytes) (fault_in (q.stream ++ bytes)) fits tells refl in (
-      λ fault h. let some : None ≡ Some fault = sym e ∙ (tells q.stream fault (front_bytes q.stream bytes fits)).1 h in absurd cc,
-      λ none. (refl, told.0, told.1),
-    )
-step_fed old p q bytes (Some fault) found e tells = λ fits.
-    let front = front_bytes q.stream bytes fits in (
-      λ other h.
-          let some : Some fault ≡ Some other = sym e ∙ (tells q.stream other front).1 h in
-          let same : fault ≡ other = cc in
-          (ap fed_reply e ∙ ap reply.Fault same, ap (λ ps. record old { publishers = ps }) (set-found old.publishers p q found)),
-      λ none. absurd (none fault ((tells q.stream fault front).0 e)),
-    )
+    → Of (Fed old p q bytes) (fed_stream old p q (behind o q.stream bytes))
+step_fed old p q bytes None found e tells = (
+  inr refl,
+  λ fits.
+      let told = reply_told (q.stream ++ bytes) (fault_in (q.stream ++ bytes)) fits tells refl in (
+        λ fault h. let some : None ≡ Some fault = sym e ∙ (tells q.stream fault (front_bytes q.stream bytes fits)).1 h in absurd cc,
+        λ none. (refl, told.0, told.1),
+      ),
+)
+step_fed old p q bytes (Some fault) found e tells = (
+  inl (fault, ap fed_reply e, ap (λ ps. record old { publishers = ps }) (set-found old.publishers p q found)),
+  λ fits.
+      let front = front_bytes q.stream bytes fits in (
+        λ other h.
+            let some : Some fault ≡ Some other = sym e ∙ (tells q.stream other front).1 h in
+            let same : fault ≡ other = cc in
+            (ap fed_reply e ∙ ap reply.Fault same, ap (λ ps. record old { publishers = ps }) (set-found old.publishers p q found)),
+        λ none. absurd (none fault ((tells q.stream fault front).0 e)),
+      ),
+)
 
 step_feed : (old : State) (p : ℕ) (bytes : List ℕ) (o : Option Publisher) → slice_get old.publishers p ≡ o → FeedingTells
-    → Of (λ given new. MatchOption o (Refuses old refusal.NoPublisher given new) (λ q. Feeds old p q bytes given new)) (fed old p bytes o)
+    → Of (λ given new. MatchOption o (Refuses old refusal.NoPublisher given new) (λ q. Fed old p q bytes given new)) (fed old p bytes o)
 step_feed old p bytes None found tells = (refl, refl)
 step_feed old p bytes (Some q) found tells = step_fed old p q bytes (fault_in q.stream) found refl tells
 

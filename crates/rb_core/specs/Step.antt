@@ -1,5 +1,5 @@
 -- What an event may be answered, and what it changes: a relation by cases of what is found.
-use Rattle.std.specs.Prelude.{◌≡◌, ℕ, ◌+◌, ◌<◌, ◌≤◌, List, [], ◌∷◌, ◌++◌, length, get_or, Option, Some, None, MatchOption, MatchResult, slice_get}
+use Rattle.std.specs.Prelude.{◌≡◌, ℕ, ◌+◌, ◌<◌, ◌≤◌, ◌⊎◌, List, [], ◌∷◌, ◌++◌, length, get_or, Option, Some, None, MatchOption, MatchResult, slice_get}
 use Rattle.cs_model.specs.declared.change.Section.{Section}
 use Rattle.cs_model.specs.Schema.{refusal_of}
 use Rattle.cs_model.specs.Text.{Spells}
@@ -44,10 +44,16 @@ Adds old p q bytes given new = ((fault : ParseFault) → IsLasting q.stream faul
     × ((fault : ParseFault) → IsLasting (q.stream ++ bytes) fault → given ≡ reply.Fault fault)
     × (((fault : ParseFault) → IsLasting (q.stream ++ bytes) fault → ⊥) → given ≡ reply.Fed)
 
+-- whatever the stream, nothing changes and a fault is answered, or the bytes go to its end and nothing else changes
+abbrev pub Feeds : State → ℕ → Publisher → List ℕ → Reply → State → Type 0
+Feeds old p q bytes given new =
+    ((fault : ParseFault) × (given ≡ reply.Fault fault) × (new ≡ old))
+    ⊎ (new ≡ with_publisher old p (record q { stream = q.stream ++ bytes }))
+
 abbrev pub FeedStep : State → ℕ → List ℕ → Reply → State → Type 0
 FeedStep old p bytes given new = MatchOption (slice_get old.publishers p)
     (Refuses old refusal.NoPublisher given new)
-    (λ q. AreBytes (q.stream ++ bytes) → Stays old q given new × Adds old p q bytes given new)
+    (λ q. Feeds old p q bytes given new × (AreBytes (q.stream ++ bytes) → Stays old q given new × Adds old p q bytes given new))
 
 -- the publisher's stream is empty, and nothing else changes
 abbrev pub ResetStep : State → ℕ → Reply → State → Type 0
