@@ -11,7 +11,9 @@ use Rattle.cs_model.specs.Rule.{row_rule, old_rule, new_rules}
 use Rattle.cs_model.specs.Changeset.{AreRecords}
 use Rattle.cs_model.specs.Text.{SpellsField, SpellsEach, op_byte, SpellsIndirect, SpellsChange}
 use Rattle.cs_parse.specs.declared.fault.FaultKind.TheVariants.{Patchset, BadOperation}
-use Rattle.cs_parse.specs.Reading.{Refusal, Bad, ◌>>=◌, record_at, records_at, marked_at, op_of, operated, change_at, ends_section, changes_at}
+use Rattle.cs_parse.specs.declared.stop.Refusal.{Refusal}
+use Rattle.cs_parse.specs.declared.stop.Refusal.TheVariants.{Bad}
+use Rattle.cs_parse.specs.Reading.{◌>>=◌, record_at, records_at, marked_at, op_of, operated, change_at, ends_section, changes_at}
 use Rattle.cs_parse.proofs.Steps.{IsBytes, Takes, back_fits, bind_ok, done, ok_is, chosen}
 use Rattle.cs_parse.proofs.FieldLaws.{record_takes, record_again}
 use Rattle.cs_parse.proofs.ManyLaws.{IsReader, TakesEach, many_takes, many_again}

@@ -8,7 +8,9 @@ use Rattle.std.proofs.lemmas.List.Folds.{list_all-append}
 use Rattle.cs_parse.specs.declared.fault.FaultKind.{FaultKind}
 use Rattle.cs_parse.specs.Place.{Place, wrong}
 use Rattle.cs_parse.specs.Fault.{are_bytes}
-use Rattle.cs_parse.specs.Reading.{Refusal, Short, Bad, ◌>>=◌}
+use Rattle.cs_parse.specs.declared.stop.Refusal.{Refusal}
+use Rattle.cs_parse.specs.declared.stop.Refusal.TheVariants.{Short, Bad}
+use Rattle.cs_parse.specs.Reading.{◌>>=◌}
 use Rattle.cs_parse.proofs.Steps.{IsBytes, Takes, back_fits, bind_ok, done, ok_is}
 
 -- some text that begins so is whole

@@ -13,7 +13,9 @@ use Rattle.cs_parse.specs.declared.fault.FaultKind.TheVariants.{Patchset, BadOpe
 use Rattle.cs_parse.specs.Place.{Place, Between, goes_on, wrong}
 use Rattle.cs_parse.specs.Stands.{InRecord, InRecords, AtChange}
 use Rattle.cs_parse.specs.Fault.{are_bytes}
-use Rattle.cs_parse.specs.Reading.{Refusal, Short, Bad, ◌>>=◌, record_at, records_at, marked_at, op_of, operated, change_at, ends_section}
+use Rattle.cs_parse.specs.declared.stop.Refusal.{Refusal}
+use Rattle.cs_parse.specs.declared.stop.Refusal.TheVariants.{Short, Bad}
+use Rattle.cs_parse.specs.Reading.{◌>>=◌, record_at, records_at, marked_at, op_of, operated, change_at, ends_section}
 use Rattle.cs_parse.proofs.Steps.{IsBytes, Takes, done, ok_is, chosen}
 use Rattle.cs_parse.proofs.ChangeLaws.{IsChangeBy, SpellsRecords, made, mark_spells, op_is, by_byte, op_no_header}
 use Rattle.cs_parse.proofs.Exact.{Completes, Stopped, Exact, Nowhere, SeqText, SeqPlace, seq, seq_exact, mapped_exact, renamed, same_reader}

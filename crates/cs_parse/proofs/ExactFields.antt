@@ -8,7 +8,9 @@ use Rattle.cs_model.specs.Text.{SpellsField, SpellsEach}
 use Rattle.cs_parse.specs.declared.fault.FaultKind.{FaultKind}
 use Rattle.cs_parse.specs.Place.{Place, AtType, type_refusal, wrong}
 use Rattle.cs_parse.specs.Stands.{InField, InRecord}
-use Rattle.cs_parse.specs.Reading.{Refusal, Short, Bad, ◌>>=◌, typed_at, unless_refused, field_at, record_at}
+use Rattle.cs_parse.specs.declared.stop.Refusal.{Refusal}
+use Rattle.cs_parse.specs.declared.stop.Refusal.TheVariants.{Short, Bad}
+use Rattle.cs_parse.specs.Reading.{◌>>=◌, typed_at, unless_refused, field_at, record_at}
 use Rattle.cs_parse.proofs.Steps.{Takes, done, ok_is, unless_ok}
 use Rattle.cs_parse.proofs.FieldLaws.{type_byte, not_refused, follows, typed_again}
 use Rattle.cs_parse.proofs.Exact.{Completes, Stopped, Exact, Nowhere, Nothing, SeqText, SeqPlace, seq, seq_exact, pure_exact, mapped_exact, renamed, same_reader}

@@ -8,7 +8,9 @@ use Rattle.cs_parse.specs.declared.fault.FaultKind.{FaultKind}
 use Rattle.cs_parse.specs.declared.fault.FaultKind.TheVariants.{NoKey}
 use Rattle.cs_parse.specs.Place.{Place, LastKey, wrong}
 use Rattle.cs_parse.specs.Fault.{are_bytes}
-use Rattle.cs_parse.specs.Reading.{Refusal, Short, Bad, refuse, flags_at}
+use Rattle.cs_parse.specs.declared.stop.Refusal.{Refusal}
+use Rattle.cs_parse.specs.declared.stop.Refusal.TheVariants.{Short, Bad}
+use Rattle.cs_parse.specs.Reading.{refuse, flags_at}
 use Rattle.cs_parse.proofs.Steps.{chosen}
 use Rattle.cs_parse.proofs.HeaderLaws.{any_key, flags_take, flags_again}
 use Rattle.cs_parse.proofs.Exact.{Completes, Stopped, Exact}

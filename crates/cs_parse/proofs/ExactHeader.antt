@@ -7,7 +7,8 @@ use Rattle.cs_model.specs.Text.{SpellsHeader}
 use Rattle.cs_model.specs.Varint.{IsVarint}
 use Rattle.cs_parse.specs.Place.{Place}
 use Rattle.cs_parse.specs.Stands.{InHeader}
-use Rattle.cs_parse.specs.Reading.{Refusal, ◌>>=◌, columns_at, flags_at, name_at, header_at}
+use Rattle.cs_parse.specs.declared.stop.Refusal.{Refusal}
+use Rattle.cs_parse.specs.Reading.{◌>>=◌, columns_at, flags_at, name_at, header_at}
 use Rattle.cs_parse.proofs.Steps.{done}
 use Rattle.cs_parse.proofs.HeaderLaws.{any_key, HeaderText}
 use Rattle.cs_parse.proofs.Exact.{Exact, SeqText, SeqPlace, seq, seq_exact, mapped_exact, renamed}

@@ -6,7 +6,9 @@ use Rattle.std.proofs.lemmas.List.{append-nil, length-append}
 use Rattle.cs_model.specs.Text.{SpellsEach}
 use Rattle.cs_parse.specs.declared.fault.FaultKind.{FaultKind}
 use Rattle.cs_parse.specs.Place.{Place, wrong}
-use Rattle.cs_parse.specs.Reading.{Refusal, Short, Bad, ◌>>=◌, many_at}
+use Rattle.cs_parse.specs.declared.stop.Refusal.{Refusal}
+use Rattle.cs_parse.specs.declared.stop.Refusal.TheVariants.{Short, Bad}
+use Rattle.cs_parse.specs.Reading.{◌>>=◌, many_at}
 use Rattle.cs_parse.proofs.Steps.{IsBytes, back_fits, done}
 use Rattle.cs_parse.proofs.Loops.{then_others, rest_of, many_more, many_done}
 use Rattle.cs_parse.proofs.ManyLaws.{IsReader}

@@ -6,7 +6,9 @@ use Rattle.std.proofs.lemmas.List.{nil_from_length}
 use Rattle.cs_parse.specs.declared.fault.FaultKind.{FaultKind}
 use Rattle.cs_parse.specs.declared.fault.FaultKind.TheVariants.{EmptyName, NameTooLong}
 use Rattle.cs_parse.specs.Place.{Place, FirstLetter, PastName, wrong}
-use Rattle.cs_parse.specs.Reading.{Refusal, Short, Bad, ◌>>=◌, refuse, letters_at, name_at}
+use Rattle.cs_parse.specs.declared.stop.Refusal.{Refusal}
+use Rattle.cs_parse.specs.declared.stop.Refusal.TheVariants.{Short, Bad}
+use Rattle.cs_parse.specs.Reading.{◌>>=◌, refuse, letters_at, name_at}
 use Rattle.cs_parse.proofs.Steps.{chosen}
 use Rattle.cs_parse.proofs.Letters.{no_zero, nonzero, letter_and, letters_end, letters_full, letters_more, letters_short, letters_take, name_takes, name_again}
 use Rattle.cs_parse.proofs.Exact.{Completes, Stopped, Exact, bind_err}

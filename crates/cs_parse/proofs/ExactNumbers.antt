@@ -7,7 +7,8 @@ use Rattle.cs_parse.specs.declared.fault.FaultKind.TheVariants.{Columns, ValueTo
 use Rattle.cs_parse.specs.Place.{Place, InColumns, InLength, factor, outside, leaves_none, wrong}
 use Rattle.cs_parse.specs.Stands.{Unfinished}
 use Rattle.cs_parse.specs.Fault.{are_bytes}
-use Rattle.cs_parse.specs.Reading.{Short, Bad, within, number_at, columns_at, length_at}
+use Rattle.cs_parse.specs.declared.stop.Refusal.TheVariants.{Short, Bad}
+use Rattle.cs_parse.specs.Reading.{within, number_at, columns_at, length_at}
 use Rattle.cs_parse.proofs.Steps.{chosen}
 use Rattle.cs_parse.proofs.Numbers.{goes, number_short, number_more, number_last, number_ends, number_goes}
 use Rattle.cs_parse.proofs.NumberLaws.{number_takes, number_again}

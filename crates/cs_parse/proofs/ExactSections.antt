@@ -10,11 +10,12 @@ use Rattle.cs_model.specs.Text.{SpellsChange, SpellsSection}
 use Rattle.cs_parse.specs.declared.fault.FaultKind.{FaultKind}
 use Rattle.cs_parse.specs.Place.{Place, wrong}
 use Rattle.cs_parse.specs.Stands.{AtChange, InSection}
-use Rattle.cs_parse.specs.Reading.{Short, Bad, ◌>>=◌, change_at, ends_section, changes_at, header_at, section_at, is_empty}
+use Rattle.cs_parse.specs.declared.stop.Refusal.TheVariants.{Short, Bad}
+use Rattle.cs_parse.specs.Reading.{◌>>=◌, change_at, ends_section, changes_at, header_at, section_at, is_empty}
 use Rattle.cs_parse.proofs.Steps.{IsBytes, back_fits, bind_ok, ok_is}
 use Rattle.cs_parse.proofs.HeaderLaws.{header_again}
 use Rattle.cs_parse.proofs.ChangeLaws.{IsChangeBy, IsAny, change_reader, changes_take}
-use Rattle.cs_parse.proofs.TextLaws.{sectioned, changes_behind, CanFollow, marked_again, section_reader}
+use Rattle.cs_parse.proofs.TextLaws.{sectioned, changes_behind, nothing_taken, CanFollow, marked_again, section_reader}
 use Rattle.cs_parse.proofs.Exact.{Completes, Stopped, bind_err}
 use Rattle.cs_parse.proofs.ExactHeader.{HeaderSpelled, header_exact}
 use Rattle.cs_parse.proofs.ExactChanges.{change_stops, change_places, change_completes}
@@ -142,12 +143,8 @@ marked_leaves rest x fits e =
     let section : Section = record { shape = a.0.0; changes = b.0.0 } in
     subst (λ (y : Section × List ℕ). CanFollow y.1) (ok_is (section, b.0.1) x b.2) left
 
-nothing_read : (x : Section × List ℕ) → section_at [] ≡ Ok x → ⊥
-unfolding section_at
-nothing_read x e = absurd (cc e)
-
 section_leaves : (bytes : List ℕ) (x : Section × List ℕ) → CanFollow bytes → IsBytes bytes → section_at bytes ≡ Ok x → CanFollow x.1
-section_leaves [] x follows fits e = absurd (nothing_read x e)
+section_leaves [] x follows fits e = absurd (nothing_taken x e)
 section_leaves (byte ∷ rest) x follows fits e =
     let is = eqb-true byte 84 follows in
     marked_leaves rest x (λ i. fits (suc i)) (ap (λ b. section_at (b ∷ rest)) (sym is) ∙ e)

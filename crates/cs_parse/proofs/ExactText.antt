@@ -10,10 +10,12 @@ use Rattle.cs_parse.specs.declared.fault.FaultKind.TheVariants.{Patchset, BadMar
 use Rattle.cs_parse.specs.Place.{Place, Start, wrong}
 use Rattle.cs_parse.specs.Stands.{BehindSections, InSection, Stands}
 use Rattle.cs_parse.specs.Fault.{are_bytes, Viable}
-use Rattle.cs_parse.specs.Reading.{Refusal, Short, Bad, ◌>>=◌, section_at, is_empty, sections_at, many_at}
+use Rattle.cs_parse.specs.declared.stop.Refusal.{Refusal}
+use Rattle.cs_parse.specs.declared.stop.Refusal.TheVariants.{Short, Bad}
+use Rattle.cs_parse.specs.Reading.{◌>>=◌, refuse, header_at, section_at, is_empty, sections_at, many_at}
 use Rattle.cs_parse.proofs.Steps.{IsBytes, chosen}
 use Rattle.cs_parse.proofs.Loops.{rest_of, many_more, many_done}
-use Rattle.cs_parse.proofs.TextLaws.{CanFollow, sections_take, sections_again}
+use Rattle.cs_parse.proofs.TextLaws.{CanFollow, changes_behind, begins_none, section_begins, sections_take, sections_again}
 use Rattle.cs_parse.proofs.Exact.{Completes, Stopped, are_bytes-append}
 use Rattle.cs_parse.proofs.ExactMany.{ManyText, ManyPlace, many_stops, many_places, many_completes}
 use Rattle.cs_parse.proofs.ExactSections.{section_exact}
@@ -26,12 +28,8 @@ no_sections = record { more = []; bytes = refl; value = []; whole = (refl, tt) }
 
 -- ---- a first byte that isn't `T`
 
-abbrev begins_none : ℕ → FaultKind
-begins_none byte = cond (byte == 80) Patchset BadMarker
-
 refused_first : (byte : ℕ) (rest : List ℕ) → (byte == 84) ≡ false → section_at (byte ∷ rest) ≡ Err (Bad (suc (length rest)) (begins_none byte))
-unfolding section_at
-refused_first byte rest other = rw other refl
+refused_first byte rest other = section_begins byte rest ∙ ap (λ b. cond b (header_at rest >>= changes_behind) (refuse (begins_none byte) rest)) other
 
 refused_text : (byte : ℕ) (rest : List ℕ) → (byte == 84) ≡ false → sections_at (byte ∷ rest) ≡ Err (Bad (suc (length rest)) (begins_none byte))
 unfolding sections_at

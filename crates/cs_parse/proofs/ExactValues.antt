@@ -13,7 +13,9 @@ use Rattle.cs_model.specs.Varint.{IsVarint}
 use Rattle.cs_parse.specs.declared.fault.FaultKind.TheVariants.{BadType, Real}
 use Rattle.cs_parse.specs.Place.{Place, rule_refusal, type_refusal}
 use Rattle.cs_parse.specs.Fault.{are_bytes}
-use Rattle.cs_parse.specs.Reading.{Refusal, Short, Bad, ◌>>=◌, length_at, integer_at, counted_at, typed_at}
+use Rattle.cs_parse.specs.declared.stop.Refusal.{Refusal}
+use Rattle.cs_parse.specs.declared.stop.Refusal.TheVariants.{Short, Bad}
+use Rattle.cs_parse.specs.Reading.{◌>>=◌, length_at, integer_at, counted_at, typed_at}
 use Rattle.cs_parse.proofs.Steps.{IsBytes, Takes, done, ok_is, guard_ok, chosen}
 use Rattle.cs_parse.proofs.NumberLaws.{SpellsInteger, integer_takes, integer_again}
 use Rattle.cs_parse.proofs.FieldLaws.{type_byte}

@@ -19,7 +19,9 @@ use Rattle.cs_parse.specs.Answer.{Answers, Tells, IsRefused, HasChangeset, HasFa
 use Rattle.cs_parse.specs.Place.{Place, wrong}
 use Rattle.cs_parse.specs.Stands.{Stands}
 use Rattle.cs_parse.specs.Fault.{are_bytes, Viable, IsFirst, AtByte, IsTooLong, IsTruncated, IsFault}
-use Rattle.cs_parse.specs.Reading.{Refusal, Short, Bad, sections_at, fault_of, placed, cut, answer_of}
+use Rattle.cs_parse.specs.declared.stop.Refusal.{Refusal}
+use Rattle.cs_parse.specs.declared.stop.Refusal.TheVariants.{Short, Bad}
+use Rattle.cs_parse.specs.Reading.{sections_at, fault_of, placed, cut, answer_of}
 use Rattle.cs_parse.proofs.Steps.{IsBytes}
 use Rattle.cs_parse.proofs.NumberLaws.{front_fits}
 use Rattle.cs_parse.proofs.TextLaws.{front_long, answer_takes, answer_again, only_one}

@@ -8,7 +8,8 @@ use Rattle.cs_model.specs.Rule.{Rule, Key, Given, Open, Blank, PairedWith, meets
 use Rattle.cs_model.specs.Changeset.{IsField, Obeys}
 use Rattle.cs_model.specs.Text.{SpellsField, SpellsEach}
 use Rattle.cs_parse.specs.declared.fault.FaultKind.TheVariants.{BadType, Real}
-use Rattle.cs_parse.specs.Reading.{Refusal, ◌>>=◌, typed_at, unless_refused, field_at, record_at, integer_at, counted_at}
+use Rattle.cs_parse.specs.declared.stop.Refusal.{Refusal}
+use Rattle.cs_parse.specs.Reading.{◌>>=◌, typed_at, unless_refused, field_at, record_at, integer_at, counted_at}
 use Rattle.cs_parse.specs.Place.{rule_refusal, type_refusal}
 use Rattle.cs_parse.proofs.Steps.{IsBytes, Takes, back_fits, bind_ok, done, ok_is, unless_ok}
 use Rattle.cs_parse.proofs.NumberLaws.{integer_takes, integer_again, counted_takes, counted_again}

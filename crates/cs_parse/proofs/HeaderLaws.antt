@@ -9,7 +9,9 @@ use Rattle.cs_model.specs.Changeset.{IsShape}
 use Rattle.cs_model.specs.Text.{SpellsHeader}
 use Rattle.cs_model.specs.Varint.{IsVarint}
 use Rattle.cs_parse.specs.declared.fault.FaultKind.TheVariants.{NoKey}
-use Rattle.cs_parse.specs.Reading.{Refusal, Short, Bad, ◌>>=◌, refuse, columns_at, flags_at, name_at, header_at}
+use Rattle.cs_parse.specs.declared.stop.Refusal.{Refusal}
+use Rattle.cs_parse.specs.declared.stop.Refusal.TheVariants.{Short, Bad}
+use Rattle.cs_parse.specs.Reading.{◌>>=◌, refuse, columns_at, flags_at, name_at, header_at}
 use Rattle.cs_parse.proofs.Steps.{Takes, bind_ok, done, ok_is, guard_ok, chosen}
 use Rattle.cs_parse.proofs.NumberLaws.{columns_takes, columns_again}
 use Rattle.cs_parse.proofs.Letters.{name_takes, name_again}

@@ -6,7 +6,9 @@ use Rattle.std.proofs.lemmas.Bool.{lt-ltb, le-ltb, ne_eqb, eqb-false, and_from, 
 use Rattle.std.proofs.lemmas.Bool.Decides.{nat_tests}
 use Rattle.std.proofs.lemmas.List.{take_all, take_rest}
 use Rattle.cs_parse.specs.declared.fault.FaultKind.TheVariants.{NameTooLong, EmptyName}
-use Rattle.cs_parse.specs.Reading.{Refusal, Short, Bad, ◌>>=◌, refuse, letters_at, name_at}
+use Rattle.cs_parse.specs.declared.stop.Refusal.{Refusal}
+use Rattle.cs_parse.specs.declared.stop.Refusal.TheVariants.{Short, Bad}
+use Rattle.cs_parse.specs.Reading.{◌>>=◌, refuse, letters_at, name_at}
 use Rattle.cs_parse.proofs.Steps.{bind_ok, done, ok_is, guard_ok}
 
 abbrev pub is_zero : ℕ → Bool

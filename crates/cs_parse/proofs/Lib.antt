@@ -17,7 +17,10 @@ pub mod ChangeLaws
 pub mod ExactChanges
 pub mod ExactMany
 pub mod TextLaws
+pub mod Skims
+pub mod Counts
 pub mod ExactSections
 pub mod ExactText
 pub mod FaultLaws
+pub mod CountLaws
 pub mod PieceLaws

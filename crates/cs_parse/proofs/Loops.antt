@@ -3,9 +3,11 @@ use Rattle.std.proofs.Common.{◌≡◌, ℕ, zero, suc, ◌-◌, ◌+◌, ◌<�
 use Rattle.std.proofs.lemmas.List.{append-nil}
 use Rattle.cs_model.specs.declared.value.Field.{Field}
 use Rattle.cs_model.specs.Rule.{Rule}
+use Rattle.cs_parse.specs.Place.{type_refusal}
 use Rattle.cs_parse.specs.declared.stop.Stop.{Stop}
 use Rattle.cs_parse.specs.declared.stop.Stop.TheVariants as stops
-use Rattle.cs_parse.specs.Reading.{Refusal, ◌>>=◌, Fails, many_at, field_at, record_at}
+use Rattle.cs_parse.specs.declared.stop.Refusal.{Refusal}
+use Rattle.cs_parse.specs.Reading.{◌>>=◌, Fails, many_at, typed_at, unless_refused, field_at, record_at}
 
 -- what was read before, and what is still read
 abbrev pub with_front : {A : Type 0} → List A → Result (List A × List ℕ) Refusal → Result (List A × List ℕ) Refusal
@@ -21,8 +23,7 @@ regroup front first (Err e) = refl
 -- a failed step is what the whole gives
 failed : {A B : Type 0} (e : Stop) (read : Result A Refusal) (f : A → Result B Refusal) (total : Result B Refusal) → Fails e read → (read >>= f) ≡ total → Fails e total
 failed stops.Memory read f total h so_far = tt
-failed stops.Short read f total h so_far = sym so_far ∙ ap (λ r. r >>= f) h
-failed (stops.Bad left kind) read f total h so_far = sym so_far ∙ ap (λ r. r >>= f) h
+failed (stops.Refused refusal) read f total h so_far = sym so_far ∙ ap (λ r. r >>= f) h
 
 -- ---- many_at
 
@@ -78,6 +79,12 @@ fields_step : (front : List Field) (rule : Rule) (rules : List Rule) (bytes : Li
     → with_front front (record_at (rule ∷ rules) bytes) ≡ total → with_front front (field_at rule bytes >>= fields_of rules) ≡ total
 unfolding record_at
 fields_step front rule rules bytes total so_far = so_far
+
+-- rules that refuse the same bytes read the same
+pub same_field : (a b : Rule) (bytes : List ℕ) → ((byte : ℕ) → type_refusal a byte ≡ type_refusal b byte) → field_at a bytes ≡ field_at b bytes
+unfolding field_at
+same_field a b [] h = refl
+same_field a b (byte ∷ rest) h = ap (λ o. unless_refused o rest (typed_at byte rest)) (h byte)
 
 pub fields_go_on : (front : List Field) (rule : Rule) (rules : List Rule) (bytes : List ℕ) (first : Field) (after : List ℕ) (total : Result (List Field × List ℕ) Refusal) → field_at rule bytes ≡ Ok (first, after)
     → with_front front (record_at (rule ∷ rules) bytes) ≡ total → with_front (front ++ first ∷ []) (record_at rules after) ≡ total

@@ -4,7 +4,8 @@ use Rattle.std.specs.List.{AllByRecursion}
 use Rattle.std.proofs.lemmas.Bool.{cases_Bool}
 use Rattle.std.proofs.lemmas.List.{nil_from_length, length-append}
 use Rattle.cs_model.specs.Text.{SpellsEach}
-use Rattle.cs_parse.specs.Reading.{Refusal, ◌>>=◌, many_at}
+use Rattle.cs_parse.specs.declared.stop.Refusal.{Refusal}
+use Rattle.cs_parse.specs.Reading.{◌>>=◌, many_at}
 use Rattle.cs_parse.proofs.Steps.{IsBytes, Takes, back_fits, bind_ok, done, ok_is}
 use Rattle.cs_parse.proofs.Loops.{then_others, rest_of, many_more, many_done}
 

@@ -10,7 +10,9 @@ use Rattle.cs_model.specs.Varint.{EndsVarint, IsVarint}
 use Rattle.cs_model.specs.Text.{SpellsBytes}
 use Rattle.cs_parse.specs.declared.fault.FaultKind.{FaultKind}
 use Rattle.cs_parse.specs.declared.fault.FaultKind.TheVariants.{Columns, ValueTooLong}
-use Rattle.cs_parse.specs.Reading.{Refusal, Short, Bad, ◌>>=◌, within, number_at, columns_at, length_at, integer_at, counted_at}
+use Rattle.cs_parse.specs.declared.stop.Refusal.{Refusal}
+use Rattle.cs_parse.specs.declared.stop.Refusal.TheVariants.{Short, Bad}
+use Rattle.cs_parse.specs.Reading.{◌>>=◌, within, number_at, columns_at, length_at, integer_at, counted_at}
 use Rattle.cs_parse.specs.Place.{factor}
 use Rattle.cs_parse.proofs.Steps.{IsBytes, Takes, bind_ok, done, ok_is, guard_ok, chosen}
 use Rattle.cs_parse.proofs.Numbers.{goes, number_short, number_more, number_last, number_ends, number_goes}

@@ -2,7 +2,9 @@
 use Rattle.std.proofs.Common.{◌≡◌, ℕ, zero, suc, ◌+◌, ◌-◌, ◌*◌, ◌<◌, ◌≤◌, ◌⊎◌, inl, inr, cond, ltb, List, [], ◌∷◌, length, Result, Err, refl, sym, ap, subst, ◌∙◌, arith}
 use Rattle.std.proofs.lemmas.Bool.{lt-ltb, le-ltb, ne_eqb, cases_eq}
 use Rattle.cs_parse.specs.declared.fault.FaultKind.{FaultKind}
-use Rattle.cs_parse.specs.Reading.{Refusal, Short, Bad, within, number_at}
+use Rattle.cs_parse.specs.declared.stop.Refusal.{Refusal}
+use Rattle.cs_parse.specs.declared.stop.Refusal.TheVariants.{Short, Bad}
+use Rattle.cs_parse.specs.Reading.{within, number_at}
 use Rattle.cs_parse.specs.Place.{factor}
 
 -- ---- what reading gives, case by case

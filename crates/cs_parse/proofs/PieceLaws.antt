@@ -3,7 +3,6 @@ use Rattle.std.proofs.Common.{◌≡◌, ℕ, suc, ◌+◌, ◌-◌, ◌<◌, �
 use Rattle.std.proofs.lemmas.Bool.{false≢true, cases_lt}
 use Rattle.std.proofs.lemmas.List.{append-nil, take-append-le, take_all, length-append, get_or_append_left, get_or-append-add}
 use Rattle.cs_model.specs.declared.change.Section.{Section}
-use Rattle.cs_model.specs.declared.value.Field.{Field}
 use Rattle.cs_model.specs.declared.value.Field.TheVariants.{Undefined, Is}
 use Rattle.cs_model.specs.Rule.{Rule, Key, Given, Open, Blank, PairedWith}
 use Rattle.cs_model.specs.Changeset.{most_bytes}
@@ -16,7 +15,7 @@ use Rattle.cs_parse.specs.declared.fault.ParseError.{ParseError}
 use Rattle.cs_parse.specs.declared.fault.ParseError.TheVariants.{Fault, Memory}
 use Rattle.cs_parse.specs.Place.{Place, Start, Between, InColumns, LastKey, FirstLetter, PastName, AtType, InLength, leaves_none, rule_refusal, type_refusal, goes_on as begins, wrong}
 use Rattle.cs_parse.specs.Stands.{Stands}
-use Rattle.cs_parse.specs.Fault.{Viable, IsFirst, AtByte, IsTooLong, IsTruncated, IsFault}
+use Rattle.cs_parse.specs.Fault.{Viable, IsFirst, IsFault}
 use Rattle.cs_parse.specs.Reading.{answer_of}
 use Rattle.cs_parse.specs.Pieces.{may_be_mended, lasting, fault_in, behind, taken, IsLasting, GoesOn, TellsLasting, joined, kept, Fed}
 use Rattle.cs_parse.proofs.Steps.{IsBytes, back_fits}

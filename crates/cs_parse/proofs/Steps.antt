@@ -2,7 +2,8 @@
 use Rattle.std.proofs.Common.{◌≡◌, ℕ, ◌+◌, ◌<◌, ◌⊎◌, inl, inr, Bool, true, false, cond, List, ◌++◌, length, get_or, Option, Some, None, Result, Ok, Err, refl, subst}
 use Rattle.std.proofs.lemmas.List.{get_or-append-add}
 use Rattle.cs_parse.specs.declared.fault.FaultKind.{FaultKind}
-use Rattle.cs_parse.specs.Reading.{Refusal, ◌>>=◌, unless_refused}
+use Rattle.cs_parse.specs.declared.stop.Refusal.{Refusal}
+use Rattle.cs_parse.specs.Reading.{◌>>=◌, unless_refused}
 
 abbrev pub IsBytes : List ℕ → Type 0
 IsBytes bytes = (i : ℕ) → get_or bytes i 0 < 256

@@ -1,5 +1,5 @@
 -- Sections and whole texts: reading is the spelling turned round.
-use Rattle.std.proofs.Common.{◌≡◌, ◌==◌, ℕ, suc, ◌<◌, ◌≤◌, inl, inr, true, false, cond, ltb, List, [], ◌∷◌, ◌++◌, length, take, Result, Ok, Err, refl, sym, ap, subst, ◌∙◌, append_assoc, arith}
+use Rattle.std.proofs.Common.{◌≡◌, ◌==◌, ℕ, suc, ◌<◌, ◌≤◌, inl, inr, Bool, true, false, cond, ltb, List, [], ◌∷◌, ◌++◌, length, take, Result, Ok, Err, refl, sym, ap, subst, ◌∙◌, append_assoc, arith}
 use Rattle.std.specs.List.{AllByRecursion}
 use Rattle.std.proofs.lemmas.Bool.{eqb-true, ltb-false, le-ltb, lt-ltb, ne_eqb}
 use Rattle.std.proofs.lemmas.List.{append-nil, nil_from_length, length-append, length-take}
@@ -8,12 +8,15 @@ use Rattle.cs_model.specs.declared.change.Change.{Change}
 use Rattle.cs_model.specs.declared.change.Section.{Section}
 use Rattle.cs_model.specs.Changeset.{IsSection, IsChangeset, most_bytes}
 use Rattle.cs_model.specs.Text.{SpellsEach, SpellsSection, Spells}
+use Rattle.cs_parse.specs.declared.fault.FaultKind.{FaultKind}
 use Rattle.cs_parse.specs.declared.fault.FaultKind.TheVariants.{Patchset, BadMarker}
 use Rattle.cs_parse.specs.declared.fault.ParseFault.{ParseFault}
 use Rattle.cs_parse.specs.declared.fault.ParseError.{ParseError}
 use Rattle.cs_parse.specs.declared.fault.ParseError.TheVariants.{Fault, Memory}
 use Rattle.cs_parse.specs.Answer.{IsRead, Answers}
-use Rattle.cs_parse.specs.Reading.{Refusal, Bad, ◌>>=◌, refuse, ends_section, changes_at, header_at, section_at, is_empty, sections_at, many_at, placed, cut, answer_of}
+use Rattle.cs_parse.specs.declared.stop.Refusal.{Refusal}
+use Rattle.cs_parse.specs.declared.stop.Refusal.TheVariants.{Bad}
+use Rattle.cs_parse.specs.Reading.{◌>>=◌, refuse, ends_section, changes_at, header_at, shape_at, section_at, is_empty, sections_at, many_at, placed, cut, answer_of}
 use Rattle.cs_parse.proofs.Steps.{IsBytes, Takes, back_fits, bind_ok, done, ok_is, chosen}
 use Rattle.cs_parse.proofs.ManyLaws.{IsReader, TakesEach, many_takes, many_again}
 use Rattle.cs_parse.proofs.HeaderLaws.{header_takes, header_again}
@@ -39,14 +42,29 @@ marked_takes rest x fits e =
     subst (λ (y : Section × List ℕ). Takes SpellsSection (84 ∷ rest) y × IsSection y.0) (ok_is (section, b.0.1) x b.2)
     (record { text = 84 ∷ (t0.0.text ++ t1.0.text); parts = ap (λ w. 84 ∷ w) whole; spelled = spelled }, (t0.1, t1.1))
 
+-- a test before a step that follows both ways
+either_then : {A B : Type 0} (b : Bool) (x y : Result A Refusal) (f : A → Result B Refusal) → (cond b x y >>= f) ≡ cond b (x >>= f) (y >>= f)
+either_then true x y f = refl
+either_then false x y f = refl
+
+abbrev pub begins_none : ℕ → FaultKind
+begins_none byte = cond (byte == 80) Patchset BadMarker
+
+pub section_begins : (byte : ℕ) (rest : List ℕ) → section_at (byte ∷ rest) ≡ cond (byte == 84) (header_at rest >>= changes_behind) (refuse (begins_none byte) rest)
+unfolding section_at shape_at
+section_begins byte rest = either_then (byte == 84) (header_at rest) (refuse (begins_none byte) rest) changes_behind
+
+pub nothing_taken : (x : Section × List ℕ) → section_at [] ≡ Ok x → ⊥
+unfolding section_at shape_at
+nothing_taken x e = absurd (cc e)
+
 section_takes : (bytes : List ℕ) (x : Section × List ℕ) → IsBytes bytes → section_at bytes ≡ Ok x → Takes SpellsSection bytes x × IsSection x.0
-unfolding section_at
-section_takes [] x fits e = absurd cc
+section_takes [] x fits e = absurd (nothing_taken x e)
 section_takes (byte ∷ rest) x fits e =
-    elim (chosen (byte == 84) (header_at rest >>= changes_behind) (refuse (cond (byte == 80) Patchset BadMarker) rest) (Ok x) e) as (λ w. Takes SpellsSection (byte ∷ rest) x × IsSection x.0) [
+    elim (chosen (byte == 84) (header_at rest >>= changes_behind) (refuse (begins_none byte) rest) (Ok x) (sym (section_begins byte rest) ∙ e)) as (λ w. Takes SpellsSection (byte ∷ rest) x × IsSection x.0) [
       | inl is ↦ subst (λ b. Takes SpellsSection (b ∷ rest) x × IsSection x.0) (sym (eqb-true byte 84 is.0)) (marked_takes rest x (λ i. fits (suc i)) is.1)
       | inr other ↦
-          let none : Err (Bad (suc (length rest)) (cond (byte == 80) Patchset BadMarker)) ≡ done x = other.1 in
+          let none : Err (Bad (suc (length rest)) (begins_none byte)) ≡ done x = other.1 in
           absurd cc
     ]
 
@@ -54,8 +72,7 @@ abbrev pub CanFollow : List ℕ → Type 0
 CanFollow rest = ends_section rest ≡ true
 
 pub marked_again : (rest : List ℕ) → section_at (84 ∷ rest) ≡ (header_at rest >>= changes_behind)
-unfolding section_at
-marked_again rest = refl
+marked_again rest = section_begins 84 rest
 
 -- a section's text from its `T` on
 section_text : (text : List ℕ) (section : Section) (rest : List ℕ) → (h : SpellsSection text section) → text ++ rest ≡ 84 ∷ ((h.is_header.count ++ section.shape.flags ++ section.shape.name ++ 0 ∷ []) ++ (h.body ++ rest))

@@ -1,14 +1,11 @@
 -- What `parse` answers, against what a text spells or what reading it gives.
-use Rattle.std.specs.Prelude.{◌≡◌, ℕ, ◌-◌, List, Result, Ok, Err}
+use Rattle.std.specs.Prelude.{◌≡◌, ℕ, List, Result, Ok, Err}
 use Rattle.std.specs.Borrow.{Bor}
 use Rattle.cs_model.specs.declared.change.Section.{Section}
 use Rattle.cs_model.specs.Text.{Spells}
-use Rattle.cs_parse.specs.declared.fault.FaultKind.{FaultKind}
 use Rattle.cs_parse.specs.declared.fault.ParseFault.{ParseFault}
 use Rattle.cs_parse.specs.declared.fault.ParseError.{ParseError}
 use Rattle.cs_parse.specs.declared.fault.ParseError.TheVariants.{Fault, Memory}
-use Rattle.cs_parse.specs.declared.stop.Stop.{Stop}
-use Rattle.cs_parse.specs.declared.stop.Stop.TheVariants as stops
 use Rattle.cs_parse.specs.Fault.{IsFault}
 
 -- the answer is this changeset, unless memory ran out
@@ -48,13 +45,7 @@ pub record HasFault (text : List ℕ) : Type 0 where
   pub only : (others : ParseFault) → IsFault text others → others ≡ fault
   pub spells_none : (sections : List Section) → Spells text sections → ⊥
 
--- The error where the reader stopped in the first `len` bytes, and what it is when they end too early.
-abbrev pub stopped : ℕ → FaultKind → Stop → ParseError
-stopped len ended stops.Memory = Memory
-stopped len ended stops.Short = Fault (record { at = len; kind = ended })
-stopped len ended (stops.Bad left kind) = Fault (record { at = len - left; kind = kind })
-
--- the same of an answer that shows the changeset where it stands
+-- the answer is this one, and shows the changeset where it stands
 abbrev pub Shows : Result (Bor (List Section)) ParseFault → Result (List Section) ParseFault → Type 0
 Shows (Ok found) answer = answer ≡ Ok found.now
 Shows (Err fault) answer = answer ≡ Err fault

@@ -1,5 +1,6 @@
 -- What the reader's rules stand for.
-use Rattle.std.specs.Prelude.{ℕ, ◌==◌, if◌then◌else◌}
+use Rattle.std.specs.Prelude.{ℕ, Bool, true, false, ◌==◌, if◌then◌else◌}
+use Rattle.cs_model.specs.declared.value.Field.{Field}
 use Rattle.cs_model.specs.declared.value.Value.TheVariants.{Null}
 use Rattle.cs_model.specs.declared.value.Field.TheVariants.{Undefined, Is}
 use Rattle.cs_model.specs.Rule.{Rule, Key, Given, Open, Blank, PairedWith}
@@ -18,3 +19,8 @@ rule_of reader.Neither = PairedWith Undefined
 -- a column's rule by its key byte, where a column outside the key has this one
 abbrev pub column_rule : Rule → ℕ → Rule
 column_rule outside flag = if flag == 0 then outside else Key
+
+-- whether a field has a value
+abbrev pub is_value : Field → Bool
+is_value Undefined = false
+is_value (Is value) = true

@@ -17,25 +17,25 @@ use Rattle.cs_parse.specs.declared.fault.FaultKind.{FaultKind}
 use Rattle.cs_parse.specs.declared.fault.FaultKind.TheVariants.{BadMarker, Patchset, Columns, NoKey, EmptyName, NameTooLong, BadOperation, ValueTooLong, TooLong, Truncated}
 use Rattle.cs_parse.specs.Place.{factor, type_refusal}
 use Rattle.cs_parse.specs.declared.fault.ParseFault.{ParseFault}
+use Rattle.cs_parse.specs.declared.stop.Refusal.{Refusal}
+use Rattle.cs_parse.specs.declared.stop.Refusal.TheVariants.{Short, Bad}
 use Rattle.cs_parse.specs.declared.stop.Stop.{Stop}
-use Rattle.cs_parse.specs.declared.stop.Stop.TheVariants as stops
-
--- Why a reader has no value. Short: the bytes end before it is whole. Bad: a byte can't stand in its place; so many
--- bytes are left from that byte on, and this is wrong with it.
-pub data Refusal : Type 0 where
-  Short : Refusal
-  Bad : ℕ → FaultKind → Refusal
+use Rattle.cs_parse.specs.declared.stop.Stop.TheVariants.{Memory, Refused}
 
 infixl 10 ◌>>=◌
 abbrev pub ◌>>=◌ : {A B : Type 0} → Result A Refusal → (A → Result B Refusal) → Result B Refusal
 (Ok x) >>= f = f x
 (Err e) >>= f = Err e
 
--- What a function returned, seen by view, is what reading gives, unless memory ran out.
+-- What a function returned, seen by view, is what reading gives.
+abbrev pub Reads : {X Y : Type 0} → (X → Y) → Result X Refusal → Result Y Refusal → Type 0
+Reads view (Ok x) read = read ≡ Ok (view x)
+Reads view (Err refusal) read = read ≡ Err refusal
+
+-- The same, unless memory ran out.
 abbrev pub Fails : {Y : Type 0} → Stop → Result Y Refusal → Type 0
-Fails stops.Memory read = Unit {0}
-Fails stops.Short read = read ≡ Err Short
-Fails (stops.Bad left kind) read = read ≡ Err (Bad left kind)
+Fails Memory read = Unit {0}
+Fails (Refused refusal) read = read ≡ Err refusal
 
 abbrev pub Gives : {X Y : Type 0} → (X → Y) → Result X Stop → Result Y Refusal → Type 0
 Gives view (Ok x) read = read ≡ Ok (view x)
@@ -202,14 +202,17 @@ header_at bytes = do
 
 -- ---- whole texts
 
--- A section. The changes before it end where it begins with `T`, so that another first byte is the text's.
+-- A section's shape. The changes before it end where it begins with `T`, so that another first byte is the text's.
+unfoldable pub shape_at : List ℕ → Result (Shape × List ℕ) Refusal
+shape_at [] = Err Short
+shape_at (byte ∷ rest) = if byte == 84 then header_at rest else refuse (if byte == 80 then Patchset else BadMarker) rest
+
+-- a section
 unfoldable pub section_at : List ℕ → Result (Section × List ℕ) Refusal
-section_at [] = Err Short
-section_at (byte ∷ rest) = if byte == 84 then (do
-  shape ← header_at rest
+section_at bytes = do
+  shape ← shape_at bytes
   changes ← changes_at shape.0.flags shape.1
-  Ok (record { shape = shape.0; changes = changes.0 }, changes.1))
-    else refuse (if byte == 80 then Patchset else BadMarker) rest
+  Ok (record { shape = shape.0; changes = changes.0 }, changes.1)
 
 abbrev pub is_empty : List ℕ → Bool
 is_empty bytes = length bytes == 0

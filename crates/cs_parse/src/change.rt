@@ -1,16 +1,18 @@
 //! Changes.
 
-ghost use Rattle.std.specs.Prelude.{◌≡◌, length};
+ghost use Rattle.std.specs.Prelude.{◌≡◌, ◌==◌, length, if◌then◌else◌};
+ghost use Rattle.cs_parse.specs.declared.fault.FaultKind.TheVariants.{Patchset, BadOperation};
+ghost use Rattle.cs_parse.specs.declared.stop.Refusal.TheVariants.{Bad};
 ghost use Rattle.cs_parse.specs.Reading.{Gives, op_of, marked_at, change_at, ends_section, changes_at, many_at};
 
 use crate::fault::FaultKind;
 use crate::record::records_of;
-use crate::stop::Stop;
+use crate::stop::{Refusal, Stop};
 use cs_model::{Change, Op};
 use std::alloc::Global;
 
-// the operation of a byte
-fn op_by_byte(byte: u8) -> Option<Op>
+/// The operation of a byte.
+pub fn op_by_byte(byte: u8) -> Option<Op>
     ensures { result ≡ op_of byte }
 {
     match byte {
@@ -32,7 +34,7 @@ fn marked_of<'a>(
     ensures { Gives (λ x. (x.0, x.1.now)) result (marked_at flags.now op bytes.now) }
 {
     let Some((&mark, rest)) = bytes.split_first() else {
-        return Err(Stop::Short);
+        return Err(Stop::Refused(Refusal::Short));
     };
     let ((before, after), rest) = records_of(alloc, flags, op, rest)?;
     let change = Change {
@@ -44,30 +46,34 @@ fn marked_of<'a>(
     Ok((change, rest))
 }
 
+/// Why no change begins with this byte, which is the first of `left` bytes.
+pub fn no_change(byte: u8, left: usize) -> Refusal
+    ensures { result ≡ Bad left (if byte == 80 then Patchset else BadOperation) }
+{
+    let kind = if byte == 0x50 {
+        FaultKind::Patchset
+    } else {
+        FaultKind::BadOperation
+    };
+    Refusal::Bad { left, kind }
+}
+
 // a change of a table with these key bytes
 #[tactic(auto, unfolding(crate::specs::Reading::change_at))]
 fn change_of<'a>(alloc: Global, flags: &[u8], bytes: &'a [u8]) -> Result<(Change, &'a [u8]), Stop>
     ensures { Gives (λ x. (x.0, x.1.now)) result (change_at flags.now bytes.now) }
 {
     let Some((&byte, rest)) = bytes.split_first() else {
-        return Err(Stop::Short);
+        return Err(Stop::Refused(Refusal::Short));
     };
-    if let Some(op) = op_by_byte(byte) {
-        return marked_of(alloc, flags, op, rest);
+    match op_by_byte(byte) {
+        Some(op) => marked_of(alloc, flags, op, rest),
+        None => Err(Stop::Refused(no_change(byte, bytes.len()))),
     }
-    let kind = if byte == 0x50 {
-        FaultKind::Patchset
-    } else {
-        FaultKind::BadOperation
-    };
-    Err(Stop::Bad {
-        left: bytes.len(),
-        kind,
-    })
 }
 
-// whether no change of this section follows
-fn is_over(bytes: &[u8]) -> bool
+/// Whether no change of a section follows.
+pub fn is_over(bytes: &[u8]) -> bool
     ensures { result ≡ ends_section bytes.now }
 {
     match bytes {

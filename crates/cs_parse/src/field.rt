@@ -1,64 +1,114 @@
 //! Fields.
 
-ghost use Rattle.std.specs.Prelude.{◌≡◌, length};
-ghost use Rattle.cs_parse.specs.FieldRules.{rule_of};
-ghost use Rattle.cs_parse.specs.Reading.{Gives, counted_at, typed_at, field_at};
+ghost use Rattle.std.specs.Prelude.{◌≡◌, IfOk, length};
+ghost use Rattle.cs_parse.specs.FieldRules.{rule_of, is_value};
+ghost use Rattle.cs_parse.specs.Reading.{Reads, Gives, counted_at, typed_at, field_at};
+ghost use Rattle.cs_parse.specs.Standing.{field_seen};
 
 use crate::number::{integer_of, length_of};
 use crate::rule::{FieldRule, type_fault};
-use crate::stop::Stop;
+use crate::stop::{Refusal, Stop};
 use cs_model::{Field, Octets, Seq, Value};
-use std::alloc::Global;
+use std::alloc::{AllocError, Global};
 
-// A length, and that many bytes. They have come before memory is taken for them.
+/// A field whose bytes stand in the text.
+#[derive(Clone, Copy)]
+pub enum FieldRef<'a> {
+    /// No value.
+    Undefined,
+    /// An INTEGER.
+    Integer(i64),
+    /// A TEXT's bytes.
+    Text(&'a [u8]),
+    /// A BLOB's bytes.
+    Blob(&'a [u8]),
+    /// NULL.
+    Null,
+}
+
+impl FieldRef<'_> {
+    pub fn has_value(self) -> bool
+        ensures { result ≡ is_value (field_seen self.entry) }
+    {
+        !matches!(self, FieldRef::Undefined)
+    }
+}
+
+// a length, and that many bytes
 #[tactic(auto, unfolding(crate::specs::Reading::counted_at))]
-fn counted_of(alloc: Global, bytes: &[u8]) -> Result<(Octets, &[u8]), Stop>
-    ensures { Gives (λ x. (x.0, x.1.now)) result (counted_at bytes.now) }
+fn counted_of(bytes: &[u8]) -> Result<(&[u8], &[u8]), Refusal>
+    ensures { Reads (λ x. (x.0.now, x.1.now)) result (counted_at bytes.now) }
 {
     let (len, rest) = length_of(bytes)?;
     if rest.len() < len {
-        return Err(Stop::Short);
+        return Err(Refusal::Short);
     }
-    let (value, rest) = rest.split_at(len);
-    Ok((Seq::from_vec(Vec::from_slice(alloc, value)?), rest))
+    Ok(rest.split_at(len))
 }
 
 // a field behind its type byte, which isn't refused
 #[tactic(auto, unfolding(crate::specs::Reading::typed_at))]
-fn typed_of(alloc: Global, byte: u8, rest: &[u8]) -> Result<(Field, &[u8]), Stop>
-    ensures { Gives (λ x. (x.0, x.1.now)) result (typed_at byte rest.now) }
+fn typed_of(byte: u8, rest: &[u8]) -> Result<(FieldRef, &[u8]), Refusal>
+    ensures { Reads (λ x. (field_seen x.0, x.1.now)) result (typed_at byte rest.now) }
 {
     match byte {
-        0 => Ok((Field::Undefined, rest)),
+        0 => Ok((FieldRef::Undefined, rest)),
         1 => {
             let (number, rest) = integer_of(rest)?;
-            Ok((Field::Is(Value::Integer(number)), rest))
+            Ok((FieldRef::Integer(number), rest))
         }
         3 => {
-            let (bytes, rest) = counted_of(alloc, rest)?;
-            Ok((Field::Is(Value::Text(bytes)), rest))
+            let (bytes, rest) = counted_of(rest)?;
+            Ok((FieldRef::Text(bytes), rest))
         }
         4 => {
-            let (bytes, rest) = counted_of(alloc, rest)?;
-            Ok((Field::Is(Value::Blob(bytes)), rest))
+            let (bytes, rest) = counted_of(rest)?;
+            Ok((FieldRef::Blob(bytes), rest))
         }
-        _ => Ok((Field::Is(Value::Null), rest)),
+        _ => Ok((FieldRef::Null, rest)),
     }
 }
 
-/// A field under a rule.
+/// A field under a rule, where it stands.
 #[tactic(auto, unfolding(crate::specs::Reading::field_at))]
-pub fn field_of(alloc: Global, rule: FieldRule, bytes: &[u8]) -> Result<(Field, &[u8]), Stop>
-    ensures { Gives (λ x. (x.0, x.1.now)) result (field_at (rule_of rule) bytes.now) }
+pub fn field_in(rule: FieldRule, bytes: &[u8]) -> Result<(FieldRef, &[u8]), Refusal>
+    ensures { Reads (λ x. (field_seen x.0, x.1.now)) result (field_at (rule_of rule) bytes.now) }
 {
     let Some((&byte, rest)) = bytes.split_first() else {
-        return Err(Stop::Short);
+        return Err(Refusal::Short);
     };
     if let Some(kind) = type_fault(rule, byte) {
-        return Err(Stop::Bad {
+        return Err(Refusal::Bad {
             left: bytes.len(),
             kind,
         });
     }
-    typed_of(alloc, byte, rest)
+    typed_of(byte, rest)
+}
+
+fn octets(alloc: Global, bytes: &[u8]) -> Result<Octets, AllocError>
+    ensures { IfOk result (λ copy. copy ≡ bytes.now) }
+{
+    Ok(Seq::from_vec(Vec::from_slice(alloc, bytes)?))
+}
+
+// the field with bytes of its own
+fn owned(alloc: Global, field: FieldRef) -> Result<Field, AllocError>
+    ensures { IfOk result (λ copy. copy ≡ field_seen field.entry) }
+{
+    Ok(match field {
+        FieldRef::Undefined => Field::Undefined,
+        FieldRef::Integer(number) => Field::Is(Value::Integer(number)),
+        FieldRef::Text(bytes) => Field::Is(Value::Text(octets(alloc, bytes)?)),
+        FieldRef::Blob(bytes) => Field::Is(Value::Blob(octets(alloc, bytes)?)),
+        FieldRef::Null => Field::Is(Value::Null),
+    })
+}
+
+/// A field under a rule. Its bytes have come before memory is taken for them.
+pub fn field_of(alloc: Global, rule: FieldRule, bytes: &[u8]) -> Result<(Field, &[u8]), Stop>
+    ensures { Gives (λ x. (x.0, x.1.now)) result (field_at (rule_of rule) bytes.now) }
+{
+    let (field, rest) = field_in(rule, bytes)?;
+    Ok((owned(alloc, field)?, rest))
 }

@@ -1,14 +1,24 @@
 //! Headers.
 
-ghost use Rattle.std.specs.Prelude.{◌≡◌, ◌==◌, ◌<◌, length, nat_lt, position, IfSome};
+ghost use Rattle.std.specs.Prelude.{◌≡◌, ◌==◌, ◌<◌, length, nat_lt, position, IfOk, IfSome};
 ghost use Rattle.std.specs.List.{list_any};
-ghost use Rattle.cs_parse.specs.Reading.{Gives, flags_at, letters_at, name_at, header_at};
+ghost use Rattle.cs_parse.specs.Reading.{Reads, flags_at, letters_at, name_at, header_at};
+ghost use Rattle.cs_parse.specs.Standing.{shape_seen};
 
 use crate::fault::FaultKind;
 use crate::number::columns_of;
-use crate::stop::Stop;
-use cs_model::{Octets, Seq, Shape};
-use std::alloc::Global;
+use crate::stop::Refusal;
+use cs_model::{Seq, Shape};
+use std::alloc::{AllocError, Global};
+
+/// A table's shape whose bytes stand in the text.
+#[derive(Clone, Copy)]
+pub struct ShapeRef<'a> {
+    /// The table's name.
+    pub name: &'a [u8],
+    /// Its columns' key bytes.
+    pub flags: &'a [u8],
+}
 
 fn any_nonzero(bytes: &[u8]) -> bool
     ensures { result ≡ list_any (λ byte. nat_lt 0 byte) bytes.now }
@@ -16,22 +26,22 @@ fn any_nonzero(bytes: &[u8]) -> bool
     bytes.iter().any(|byte| 0 < *byte)
 }
 
-// The key bytes of a table with `count` columns. They have come before memory is taken for them.
+// the key bytes of a table with `count` columns
 #[tactic(auto, unfolding(crate::specs::Reading::flags_at))]
-fn flags_of(alloc: Global, count: usize, bytes: &[u8]) -> Result<(Octets, &[u8]), Stop>
-    ensures { Gives (λ x. (x.0, x.1.now)) result (flags_at count bytes.now) }
+fn flags_of(count: usize, bytes: &[u8]) -> Result<(&[u8], &[u8]), Refusal>
+    ensures { Reads (λ x. (x.0.now, x.1.now)) result (flags_at count bytes.now) }
 {
     if bytes.len() < count {
-        return Err(Stop::Short);
+        return Err(Refusal::Short);
     }
     let (flags, rest) = bytes.split_at(count);
     if !any_nonzero(flags) {
-        return Err(Stop::Bad {
+        return Err(Refusal::Bad {
             left: rest.len() + 1,
             kind: FaultKind::NoKey,
         });
     }
-    Ok((Seq::from_vec(Vec::from_slice(alloc, flags)?), rest))
+    Ok((flags, rest))
 }
 
 fn first_zero(bytes: &[u8]) -> Option<usize>
@@ -43,42 +53,52 @@ fn first_zero(bytes: &[u8]) -> Option<usize>
 
 // The bytes before the first zero byte, and those behind it. No more than the 1,025 that a name and its end can
 // take are looked at.
-fn letters_of(bytes: &[u8]) -> Result<(&[u8], &[u8]), Stop>
-    ensures { Gives (λ x. (x.0.now, x.1.now)) result (letters_at 1024 bytes.now) }
+fn letters_of(bytes: &[u8]) -> Result<(&[u8], &[u8]), Refusal>
+    ensures { Reads (λ x. (x.0.now, x.1.now)) result (letters_at 1024 bytes.now) }
 {
     let window = &bytes[..bytes.len().min(1025)];
     match first_zero(window) {
         Some(end) => Ok((&bytes[..end], &bytes[end + 1..])),
-        None if bytes.len() > 1024 => Err(Stop::Bad {
+        None if bytes.len() > 1024 => Err(Refusal::Bad {
             left: bytes.len() - 1024,
             kind: FaultKind::NameTooLong,
         }),
-        None => Err(Stop::Short),
+        None => Err(Refusal::Short),
     }
 }
 
 // a table's name, and the bytes behind the zero byte that ends it
 #[tactic(auto, unfolding(crate::specs::Reading::name_at))]
-fn name_of(alloc: Global, bytes: &[u8]) -> Result<(Octets, &[u8]), Stop>
-    ensures { Gives (λ x. (x.0, x.1.now)) result (name_at bytes.now) }
+fn name_of(bytes: &[u8]) -> Result<(&[u8], &[u8]), Refusal>
+    ensures { Reads (λ x. (x.0.now, x.1.now)) result (name_at bytes.now) }
 {
     let (name, rest) = letters_of(bytes)?;
     if name.is_empty() {
-        return Err(Stop::Bad {
+        return Err(Refusal::Bad {
             left: rest.len() + 1,
             kind: FaultKind::EmptyName,
         });
     }
-    Ok((Seq::from_vec(Vec::from_slice(alloc, name)?), rest))
+    Ok((name, rest))
 }
 
-/// A header behind its `T`.
+/// A header behind its `T`, where it stands.
 #[tactic(auto, unfolding(crate::specs::Reading::header_at))]
-pub fn header_of(alloc: Global, bytes: &[u8]) -> Result<(Shape, &[u8]), Stop>
-    ensures { Gives (λ x. (x.0, x.1.now)) result (header_at bytes.now) }
+pub fn header_of(bytes: &[u8]) -> Result<(ShapeRef, &[u8]), Refusal>
+    ensures { Reads (λ x. (shape_seen x.0, x.1.now)) result (header_at bytes.now) }
 {
     let (count, rest) = columns_of(bytes)?;
-    let (flags, rest) = flags_of(alloc, count, rest)?;
-    let (name, rest) = name_of(alloc, rest)?;
-    Ok((Shape { name, flags }, rest))
+    let (flags, rest) = flags_of(count, rest)?;
+    let (name, rest) = name_of(rest)?;
+    Ok((ShapeRef { name, flags }, rest))
+}
+
+/// The shape with bytes of its own.
+pub fn shape_of(alloc: Global, shape: ShapeRef) -> Result<Shape, AllocError>
+    ensures { IfOk result (λ copy. copy ≡ shape_seen shape.entry) }
+{
+    Ok(Shape {
+        name: Seq::from_vec(Vec::from_slice(alloc, shape.name)?),
+        flags: Seq::from_vec(Vec::from_slice(alloc, shape.flags)?),
+    })
 }

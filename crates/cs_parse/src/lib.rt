@@ -11,12 +11,14 @@ mod number;
 mod pieces;
 mod record;
 mod rule;
+mod section;
+mod skim;
 mod stop;
 mod whole;
 
 pub use fault::{FaultKind, ParseError, ParseFault};
 pub use pieces::{PieceParser, feeding_tells_faults, pieces_are_joined};
-pub use whole::{every_text, parse, reading_is_spelling, refusing_is_fault};
+pub use whole::{count_changes, every_text, parse, reading_is_spelling, refusing_is_fault};
 
 #[cfg(test)]
 mod tests;

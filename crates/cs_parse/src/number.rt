@@ -2,10 +2,10 @@
 
 ghost use Rattle.std.specs.Prelude.{◌≡◌, ◌≤◌, ◌*◌, length, nat_eq};
 ghost use Rattle.cs_parse.specs.Place.{factor};
-ghost use Rattle.cs_parse.specs.Reading.{Gives, within, number_at, columns_at, length_at, integer_at};
+ghost use Rattle.cs_parse.specs.Reading.{Reads, within, number_at, columns_at, length_at, integer_at};
 
 use crate::fault::FaultKind;
-use crate::stop::Stop;
+use crate::stop::Refusal;
 
 // a number whose last byte stands before `rest`
 fn limited(
@@ -14,11 +14,11 @@ fn limited(
     least: u64,
     most: u64,
     kind: FaultKind,
-) -> Result<(u64, &[u8]), Stop>
-    ensures { Gives (λ x. (x.0, x.1.now)) result (within least most kind value rest.now) }
+) -> Result<(u64, &[u8]), Refusal>
+    ensures { Reads (λ x. (x.0, x.1.now)) result (within least most kind value rest.now) }
 {
     if value < least || most < value {
-        return Err(Stop::Bad {
+        return Err(Refusal::Bad {
             left: rest.len() + 1,
             kind,
         });
@@ -28,15 +28,15 @@ fn limited(
 
 // A varint from `least` to `most`. It is refused at the first byte after which no number within the limits can
 // come, so that a hostile number is never read to its end.
-fn number_of(bytes: &[u8], least: u64, most: u64, kind: FaultKind) -> Result<(u64, &[u8]), Stop>
+fn number_of(bytes: &[u8], least: u64, most: u64, kind: FaultKind) -> Result<(u64, &[u8]), Refusal>
     requires { most ≤ 16777216 }
-    ensures { Gives (λ x. (x.0, x.1.now)) result (number_at least most kind 8 0 bytes.now) }
+    ensures { Reads (λ x. (x.0, x.1.now)) result (number_at least most kind 8 0 bytes.now) }
 {
     let mut high: u64 = 0;
     let mut rest = bytes;
     for read in 0..8_usize {
         let Some((&byte, after)) = rest.split_first() else {
-            return Err(Stop::Short);
+            return Err(Refusal::Short);
         };
         if byte < 128 {
             return limited(128 * high + u64::from(byte), after, least, most, kind);
@@ -44,7 +44,7 @@ fn number_of(bytes: &[u8], least: u64, most: u64, kind: FaultKind) -> Result<(u6
         high = 128 * high + u64::from(byte - 128);
         let shift: u64 = if read == 7 { 256 } else { 128 };
         if most < shift * high {
-            return Err(Stop::Bad {
+            return Err(Refusal::Bad {
                 left: rest.len(),
                 kind,
             });
@@ -52,7 +52,7 @@ fn number_of(bytes: &[u8], least: u64, most: u64, kind: FaultKind) -> Result<(u6
         rest = after;
     }
     let Some((&byte, after)) = rest.split_first() else {
-        return Err(Stop::Short);
+        return Err(Refusal::Short);
     };
     // the ninth byte is the last, whatever it says
     limited(256 * high + u64::from(byte), after, least, most, kind)
@@ -60,8 +60,8 @@ fn number_of(bytes: &[u8], least: u64, most: u64, kind: FaultKind) -> Result<(u6
 
 /// How many columns a table has, 1 to 2,000.
 #[tactic(auto, unfolding(crate::specs::Reading::columns_at))]
-pub fn columns_of(bytes: &[u8]) -> Result<(usize, &[u8]), Stop>
-    ensures { Gives (λ x. (x.0, x.1.now)) result (columns_at bytes.now) }
+pub fn columns_of(bytes: &[u8]) -> Result<(usize, &[u8]), Refusal>
+    ensures { Reads (λ x. (x.0, x.1.now)) result (columns_at bytes.now) }
 {
     let (count, rest) = number_of(bytes, 1, 2000, FaultKind::Columns)?;
     Ok((count as usize, rest))
@@ -69,8 +69,8 @@ pub fn columns_of(bytes: &[u8]) -> Result<(usize, &[u8]), Stop>
 
 /// How many bytes a value has, at most 16,777,216.
 #[tactic(auto, unfolding(crate::specs::Reading::length_at))]
-pub fn length_of(bytes: &[u8]) -> Result<(usize, &[u8]), Stop>
-    ensures { Gives (λ x. (x.0, x.1.now)) result (length_at bytes.now) }
+pub fn length_of(bytes: &[u8]) -> Result<(usize, &[u8]), Refusal>
+    ensures { Reads (λ x. (x.0, x.1.now)) result (length_at bytes.now) }
 {
     let (len, rest) = number_of(bytes, 0, 16_777_216, FaultKind::ValueTooLong)?;
     Ok((len as usize, rest))
@@ -78,11 +78,11 @@ pub fn length_of(bytes: &[u8]) -> Result<(usize, &[u8]), Stop>
 
 /// An INTEGER's eight bytes.
 #[tactic(auto, unfolding(crate::specs::Reading::integer_at))]
-pub fn integer_of(bytes: &[u8]) -> Result<(i64, &[u8]), Stop>
-    ensures { Gives (λ x. (x.0, x.1.now)) result (integer_at bytes.now) }
+pub fn integer_of(bytes: &[u8]) -> Result<(i64, &[u8]), Refusal>
+    ensures { Reads (λ x. (x.0, x.1.now)) result (integer_at bytes.now) }
 {
     if bytes.len() < 8 {
-        return Err(Stop::Short);
+        return Err(Refusal::Short);
     }
     let (front, rest) = bytes.split_at(8);
     let number = i64::from_be_bytes([

@@ -2,7 +2,7 @@
 
 ghost use Rattle.std.specs.Prelude.{◌≡◌, map};
 ghost use Rattle.cs_model.specs.Rule.{new_rules};
-ghost use Rattle.cs_parse.specs.FieldRules.{rule_of, column_rule};
+ghost use Rattle.cs_parse.specs.FieldRules.{rule_of, column_rule, is_value};
 ghost use Rattle.cs_parse.specs.Reading.{Gives, record_at, records_at};
 
 use crate::field::field_of;
@@ -30,6 +30,12 @@ fn record_of<'a>(
     Ok((fields, rest))
 }
 
+fn has_value(field: &Field) -> bool
+    ensures { result ≡ is_value field.now }
+{
+    matches!(field, Field::Is(_))
+}
+
 // An UPDATE's new record, behind its old one.
 fn new_of<'a>(
     alloc: Global,
@@ -42,7 +48,7 @@ fn new_of<'a>(
     let mut fields = Vec::with_capacity(alloc, flags.len())?;
     let mut rest = bytes;
     for (&flag, old) in flags.iter().zip(before) {
-        let (field, after) = field_of(alloc, rule_by_old(flag, old), rest)?;
+        let (field, after) = field_of(alloc, rule_by_old(flag, has_value(old)), rest)?;
         fields.push(field)?;
         rest = after;
     }

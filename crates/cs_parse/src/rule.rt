@@ -2,11 +2,11 @@
 
 ghost use Rattle.std.specs.Prelude.{◌≡◌, ℕ};
 ghost use Rattle.cs_model.specs.Rule.{new_rule};
-ghost use Rattle.cs_parse.specs.FieldRules.{rule_of, column_rule};
+ghost use Rattle.cs_model.specs.declared.value.Field.{Field};
+ghost use Rattle.cs_parse.specs.FieldRules.{rule_of, column_rule, is_value};
 ghost use Rattle.cs_parse.specs.Place.{type_refusal};
 
 use crate::fault::FaultKind;
-use cs_model::Field;
 
 /// What a field may be, by its column and the record that it stands in.
 #[derive(Clone, Copy)]
@@ -32,16 +32,17 @@ pub fn rule_by_flag(flag: u8, outside: FieldRule) -> FieldRule
     if flag == 0 { outside } else { FieldRule::Key }
 }
 
-/// A column's rule in an UPDATE's new record, by its key byte and its field in the old record.
-pub fn rule_by_old(flag: u8, old: &Field) -> FieldRule
-    ensures { (byte : ℕ) → type_refusal (rule_of result) byte ≡ type_refusal (new_rule flag old.now) byte }
+/// A column's rule in an UPDATE's new record, by its key byte and whether its field in the old record has a value.
+pub fn rule_by_old(flag: u8, has_value: bool) -> FieldRule
+    ensures { (byte : ℕ) (old : Field) → is_value old ≡ has_value → type_refusal (rule_of result) byte ≡ type_refusal (new_rule flag old) byte }
 {
     if flag != 0 {
         return FieldRule::Blank;
     }
-    match old {
-        Field::Undefined => FieldRule::Neither,
-        Field::Is(_) => FieldRule::Both,
+    if has_value {
+        FieldRule::Both
+    } else {
+        FieldRule::Neither
     }
 }
 

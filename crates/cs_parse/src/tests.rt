@@ -69,8 +69,11 @@ fn section(
     })
 }
 
-// whether a text is read as this section alone
+// whether a text is read as this section alone, which has one change
 fn is_section(alloc: Global, text: &[u8], expected: &Section) -> Result<bool, Fail> {
+    if count_changes(text) != Ok(1) {
+        return Ok(false);
+    }
     match parse(alloc, text) {
         Ok(read) => match read.sections() {
             [found] => Ok(*found == *expected),
@@ -88,11 +91,14 @@ fn is_insert(alloc: Global, text: &[u8], indirect: bool, value: &[u8]) -> Result
     is_section(alloc, text, &expected)
 }
 
-// the place and kind of a text's fault
+// the place and kind of a text's fault, which is the same where its changes are only counted
 fn fault(alloc: Global, text: &[u8]) -> Result<(usize, FaultKind), Fail> {
     match parse(alloc, text) {
         Ok(_) => Err("what is no changeset is read")?,
         Err(ParseError::Memory) => Err("memory")?,
+        Err(ParseError::Fault(fault)) if count_changes(text) != Err(fault) => {
+            Err("counting tells another fault")?
+        }
         Err(ParseError::Fault(fault)) => Ok((fault.at, fault.kind)),
     }
 }
@@ -163,6 +169,7 @@ fn many_changes(rt: HostRuntime) -> Result<(), Fail> {
     text.extend_from_slice(&[0x17, 0, 1, 0, 0, 0, 0, 0, 0, 0, 1, 3, 1, 0x78, 0, 5])?;
     text.extend_from_slice(&[9, 0, 1, 0, 0, 0, 0, 0, 0, 0, 1, 5])?;
     let text = joined(alloc, &text, &text)?;
+    assert_eq!(rt; count_changes(&text), Ok(6));
     match parse(alloc, &text) {
         Ok(read) => match read.sections() {
             [first, second] => {
@@ -179,6 +186,7 @@ fn many_changes(rt: HostRuntime) -> Result<(), Fail> {
 #[test]
 fn empty_text(rt: HostRuntime) {
     assert!(rt; matches!(parse(rt.alloc(), &[]), Ok(read) if read.sections().is_empty()));
+    assert_eq!(rt; count_changes(&[]), Ok(0));
 }
 
 #[test]
@@ -279,6 +287,7 @@ fn with_blob(alloc: Global, low: u8, len: usize) -> Result<Vec<u8>, AllocError> 
 fn longest_text(rt: HostRuntime) -> Result<(), Fail> {
     let alloc = rt.alloc();
     let text = with_blob(alloc, 0x6a, 16_777_216)?;
+    assert_eq!(rt; count_changes(&text), Ok(1));
     match parse(alloc, &text) {
         Ok(read) => assert_eq!(rt; read.sections().len(), 1),
         Err(ParseError::Memory) => return Err("out of memory")?,

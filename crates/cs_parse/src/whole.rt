@@ -1,80 +1,39 @@
 //! Whole texts.
 
-ghost use Rattle.std.specs.Prelude.{◌≡◌, ◌<◌, ◌↔◌, ◌⊎◌, ℕ, List, IfOk, IfErr, Ok, Err, get_or, length};
+ghost use Rattle.std.specs.Prelude.{◌≡◌, ◌<◌, ◌≤◌, ◌↔◌, ◌⊎◌, ℕ, List, IfOk, IfErr, Ok, Err, get_or, length};
 ghost use Rattle.cs_parse.specs.declared.fault.ParseFault.{ParseFault};
 ghost use Rattle.cs_parse.specs.Fault.{IsFault};
 ghost use Rattle.cs_model.specs.declared.change.Section.{Section};
 ghost use Rattle.cs_model.specs.Text.{Spells};
-ghost use Rattle.cs_parse.specs.Answer.{IsRead, Answers, Tells, IsRefused, HasChangeset, HasFault, stopped};
-ghost use Rattle.cs_parse.specs.Reading.{answer_of, Gives, section_at, is_empty, many_at, sections_at, placed, cut};
+ghost use Rattle.cs_model.specs.Changeset.{most_bytes};
+ghost use Rattle.cs_parse.specs.Answer.{IsRead, Answers, Tells, IsRefused, HasChangeset, HasFault};
+ghost use Rattle.cs_parse.specs.Count.{changes_in, counted_answer, HasChanges};
+ghost use Rattle.cs_parse.specs.Reading.{answer_of, fault_of, sections_at, placed, cut};
 
-use crate::change::changes_of;
 use crate::fault::{FaultKind, ParseError, ParseFault};
-use crate::header::header_of;
-use crate::stop::Stop;
+use crate::section::sections_of;
+use crate::skim::sections_counted;
+use crate::stop::{Refusal, Stop};
 use cs_model::{Changeset, Section, Seq};
 use std::alloc::Global;
 
 // the most bytes of a text
 const MOST_BYTES: usize = 16_777_216;
 
-// A section. The one before it ends only where a `T` follows, so another first byte is the first of the text.
-#[tactic(auto, unfolding(crate::specs::Reading::section_at))]
-fn section_of(alloc: Global, bytes: &[u8]) -> Result<(Section, &[u8]), Stop>
-    ensures { Gives (λ x. (x.0, x.1.now)) result (section_at bytes.now) }
+// The fault of a text of which the first `len` bytes are read, and what it is when they end too early.
+fn fault_from(refusal: Refusal, len: usize, ended: FaultKind) -> ParseFault
+    ensures { result ≡ fault_of len ended refusal }
 {
-    match bytes {
-        [] => Err(Stop::Short),
-        [0x54, rest @ ..] => {
-            let (shape, rest) = header_of(alloc, rest)?;
-            let (changes, rest) = changes_of(alloc, &shape.flags, rest)?;
-            let changes = Seq::from_vec(changes);
-            Ok((Section { shape, changes }, rest))
-        }
-        [0x50, ..] => Err(Stop::Bad {
-            left: bytes.len(),
-            kind: FaultKind::Patchset,
-        }),
-        _ => Err(Stop::Bad {
-            left: bytes.len(),
-            kind: FaultKind::BadMarker,
-        }),
-    }
-}
-
-fn sections_of(alloc: Global, bytes: &[u8]) -> Result<(Vec<Section>, &[u8]), Stop>
-    ensures { Gives (λ x. (x.0.items, x.1.now)) result (sections_at bytes.now) }
-{
-    let mut sections = Vec::new(alloc);
-    let mut rest = bytes;
-    // each turn takes a byte at least
-    for _ in 0..bytes.len() {
-        if rest.is_empty() {
-            break;
-        }
-        let (section, after) = section_of(alloc, rest)?;
-        sections.push(section)?;
-        rest = after;
-    }
-    Ok((sections, rest))
-}
-
-// Why no changeset is read, where the reader stopped in the text's first `len` bytes, and what it is when they end
-// too early.
-fn error_of(stop: Stop, len: usize, ended: FaultKind) -> ParseError
-    ensures { result ≡ stopped len ended stop }
-{
-    match stop {
-        Stop::Memory => ParseError::Memory,
-        Stop::Short => ParseError::Fault(ParseFault {
+    match refusal {
+        Refusal::Short => ParseFault {
             at: len,
             kind: ended,
-        }),
+        },
         // the byte stands in the text, so that no more bytes are left than it has
-        Stop::Bad { left, kind } => ParseError::Fault(ParseFault {
+        Refusal::Bad { left, kind } => ParseFault {
             at: len.saturating_sub(left),
             kind,
-        }),
+        },
     }
 }
 
@@ -84,19 +43,24 @@ fn whole_of(alloc: Global, text: &[u8]) -> Result<Seq<Section>, ParseError>
 {
     match sections_of(alloc, text) {
         Ok((sections, _)) => Ok(Seq::from_vec(sections)),
-        Err(stop) => Err(error_of(stop, text.len(), FaultKind::Truncated)),
+        Err(Stop::Refused(refusal)) => Err(ParseError::Fault(fault_from(
+            refusal,
+            text.len(),
+            FaultKind::Truncated,
+        ))),
+        Err(Stop::Memory) => Err(ParseError::Memory),
     }
 }
 
 // what is wrong with a text that is too long and begins so
-fn cut_of(alloc: Global, front: &[u8]) -> ParseError
-    ensures { Answers (Err result) (cut (length front.now) (sections_at front.now)) }
+fn cut_of(front: &[u8]) -> ParseFault
+    ensures { cut (length front.now) (sections_at front.now) ≡ Err result }
 {
-    let stop = match sections_of(alloc, front) {
-        Ok(_) => Stop::Short,
-        Err(stop) => stop,
+    let refusal = match sections_counted(front) {
+        Ok(_) => Refusal::Short,
+        Err(refusal) => refusal,
     };
-    error_of(stop, front.len(), FaultKind::TooLong)
+    fault_from(refusal, front.len(), FaultKind::TooLong)
 }
 
 // the sections of a text
@@ -105,7 +69,7 @@ fn read(alloc: Global, text: &[u8]) -> Result<Seq<Section>, ParseError>
     ensures { Answers result (answer_of text.now) }
 {
     if text.len() > MOST_BYTES {
-        return Err(cut_of(alloc, &text[..MOST_BYTES]));
+        return Err(ParseError::Fault(cut_of(&text[..MOST_BYTES])));
     }
     whole_of(alloc, text)
 }
@@ -127,6 +91,37 @@ pub fn parse(alloc: Global, text: &[u8]) -> Result<Changeset, ParseError>
 {
     let sections = read(alloc, text)?;
     Ok(Changeset::from_seq(sections))
+}
+
+// the number of changes that a text spells, by what reading it gives
+#[tactic(auto, unfolding(crate::specs::Reading::answer_of))]
+fn counted(text: &[u8]) -> Result<usize, ParseFault>
+    ensures { result ≡ counted_answer (answer_of text.now) }
+{
+    if text.len() > MOST_BYTES {
+        return Err(cut_of(&text[..MOST_BYTES]));
+    }
+    match sections_counted(text) {
+        Ok((changes, _)) => Ok(changes),
+        Err(refusal) => Err(fault_from(refusal, text.len(), FaultKind::Truncated)),
+    }
+}
+
+/// How many changes `text` spells; else the text's one fault, as `parse` tells it. It takes no memory, since each value is
+/// read where it stands and left behind: the way to check a text of which nothing is kept.
+pub fn count_changes(text: &[u8]) -> Result<usize, ParseFault>
+    // What is counted is spelled so.
+    ensures found { IfOk result (λ count. HasChanges text.now count) }
+    // What is spelled so is counted.
+    ensures only { (changeset : List Section) → Spells text.now changeset → result ≡ Ok (changes_in changeset) }
+    // What is told is the text's fault.
+    ensures faulty { IfErr result (λ fault. IsFault text.now fault) }
+    // The text's fault is told.
+    ensures the_fault { (fault : ParseFault) → IsFault text.now fault → result ≡ Err fault }
+    // There are no more changes than bytes.
+    ensures bounded { IfOk result (λ count. count ≤ most_bytes) }
+{
+    counted(text)
 }
 
 /// What reading a text gives is what the text spells.

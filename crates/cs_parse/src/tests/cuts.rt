@@ -13,6 +13,24 @@ const WHOLE: [u8; 62] = [
 // where the text so far is that of a changeset: behind headers and changes
 const ENDS: [usize; 7] = [0, 6, 18, 35, 50, 55, 62];
 
+// and how many changes it has there
+const CHANGES: [usize; 7] = [0, 0, 1, 2, 3, 3, 4];
+
+// cut anywhere, the changes of the front are counted, or it ends too early there
+#[test]
+fn cuts_are_counted(rt: HostRuntime) {
+    for cut in 0..63_usize {
+        let want = match ENDS.iter().position(|end| *end == cut) {
+            Some(place) => Ok(CHANGES[place]),
+            None => Err(ParseFault {
+                at: cut,
+                kind: FaultKind::Truncated,
+            }),
+        };
+        assert_eq!(rt; count_changes(&WHOLE[..cut]), want);
+    }
+}
+
 // Feeds a piece, which must be answered so. Where memory runs out the parser is as before, and a second try goes on
 // from there.
 fn feeds(

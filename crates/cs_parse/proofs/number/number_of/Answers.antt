@@ -1,5 +1,5 @@
 use Rattle.std.proofs.Common.{◌≡◌, ◌<◌, ◌*◌, ◌-◌, ◌+◌, ℕ, suc, List, ◌∷◌, get_or, subst, inl, inr, arith}
-use Rattle.cs_parse.specs.Reading.{Gives, number_at}
+use Rattle.cs_parse.specs.Reading.{Reads, number_at}
 use Rattle.cs_parse.specs.Place.{factor}
 use Rattle.cs_parse.proofs.Numbers.{turn_short, turn_ends, turn_bad, turn_goes, turn_last, shift_is, low_on}
 use Rattle.cs_parse.proofs.number.number_of.Goals.{then-read-eq7, else-read-eq7}
@@ -10,7 +10,7 @@ returns-in_default c = turn_short c.args.least c.args.most c.args.kind (8 - c.lo
 
 pub returns-then-byte-lt128 : goal.returns-then-byte-lt128
 returns-then-byte-lt128 c =
-    subst (λ read. Gives (λ x. (x.0, x.1.now)) c.limited.result read)
+    subst (λ read. Reads (λ x. (x.0, x.1.now)) c.limited.result read)
     (turn_ends c.args.least c.args.most c.args.kind c.loop-read.read c.loop-read.high c.loop-read.rest.now c.in-Some.field-0-0.now c.from.result c.in-Some.after.now (number_at c.args.least c.args.most c.args.kind 8 0 c.args.bytes.now) c.loop-read-test.true c.in-Some.ensures.cases.0 c.if-byte-lt128.true c.from.ensures c.loop-read.invariant.reads)
     c.limited.ensures
 
@@ -60,6 +60,6 @@ overflow_add-high-2 c = omega (arith, c.loop-read.invariant.low, c.requires, c.f
 
 pub returns : goal.returns
 returns c =
-    subst (λ read. Gives (λ x. (x.0, x.1.now)) c.limited-2.result read)
+    subst (λ read. Reads (λ x. (x.0, x.1.now)) c.limited-2.result read)
     (turn_last c.args.least c.args.most c.args.kind c.loop-read.read c.loop-read.high c.loop-read.rest.now c.in-Some-split_first.field-0-0.now c.from-2.result c.in-Some-split_first.after.now (number_at c.args.least c.args.most c.args.kind 8 0 c.args.bytes.now) c.loop-read-test.false c.in-Some-split_first.ensures.cases.0 c.from-2.ensures c.loop-read.invariant.reads)
     c.limited-2.ensures

@@ -4,18 +4,12 @@ use Rattle.std.proofs.lemmas.List.{drop_more, drop_all, length_push}
 use Rattle.std.proofs.lemmas.Result.{err_from_is_err_and}
 use Rattle.std.proofs.lemmas.Slice.Zip.{zip_turn, zip_end}
 use Rattle.cs_model.specs.declared.value.Field.{Field}
-use Rattle.cs_model.specs.Rule.{Rule, new_rule, new_rules}
+use Rattle.cs_model.specs.Rule.{new_rule, new_rules}
 use Rattle.cs_parse.specs.FieldRules.{rule_of}
-use Rattle.cs_parse.specs.Place.{type_refusal}
-use Rattle.cs_parse.specs.Reading.{Refusal, Fails, typed_at, unless_refused, field_at, record_at}
-use Rattle.cs_parse.proofs.Loops.{with_front, fields_go_on, fields_end, fields_are_done}
+use Rattle.cs_parse.specs.declared.stop.Refusal.{Refusal}
+use Rattle.cs_parse.specs.Reading.{Fails, field_at, record_at}
+use Rattle.cs_parse.proofs.Loops.{same_field, with_front, fields_go_on, fields_end, fields_are_done}
 use Rattle.cs_parse.proofs.record.new_of.Goals as goal
-
--- rules that refuse the same bytes read the same
-same_field : (a b : Rule) (bytes : List ℕ) → ((byte : ℕ) → type_refusal a byte ≡ type_refusal b byte) → field_at a bytes ≡ field_at b bytes
-unfolding field_at
-same_field a b [] h = refl
-same_field a b (byte ∷ rest) h = ap (λ o. unless_refused o rest (typed_at byte rest)) (h byte)
 
 -- the rules from column i on
 from_column : (front : List Field) (flags : List ℕ) (before : List Field) (i flag : ℕ) (old : Field) (bytes : List ℕ) (total : Result (List Field × List ℕ) Refusal)
@@ -47,7 +41,7 @@ returns-in_err-field c =
     let p = err_from_is_err_and c.from_residual-in_err-field.result c.from_residual-in_err-field.ensures.1 in
     let total = record_at (new_rules flags before) c.args.bytes.now in
     let turn = zip_turn flags before c.loop-flag.yielded c.into_iter-flag-iterator.result c.loop-flag.flag-iterator c.next.new.self c.next.result (cc) (cc) c.loop-flag.yielded_by (c.in-Some.field-0-0, c.in-Some.old) c.in-Some.is c.next.ensures.steps in
-    let fails : Fails e (field_at rule bytes) = subst (λ r. Fails e r) (same_field (rule_of c.rule_by_old.result) rule bytes c.rule_by_old.ensures) c.in_err-field.ensures in
+    let fails : Fails e (field_at rule bytes) = subst (λ r. Fails e r) (same_field (rule_of c.rule_by_old.result) rule bytes (λ byte. c.rule_by_old.ensures byte c.in-Some.old.now (sym c.has_value.ensures))) c.in_err-field.ensures in
     rw (p.1, p.2) (fields_end e c.loop-flag.fields.items rule (new_rules (drop (i + 1) flags) (drop (i + 1) before)) bytes total fails
     (from_column c.loop-flag.fields.items flags before i c.in-Some.field-0-0.now c.in-Some.old.now bytes total (turn.0, turn.1, turn.2 0, turn.3 c.in-Some.old.now) c.loop-flag.invariant))
 
@@ -60,7 +54,7 @@ loop-flag-preserved c =
     let rule = new_rule c.in-Some.field-0-0.now c.in-Some.old.now in
     let total = record_at (new_rules flags before) c.args.bytes.now in
     let turn = zip_turn flags before c.loop-flag.yielded c.into_iter-flag-iterator.result c.loop-flag.flag-iterator c.next.new.self c.next.result (cc) (cc) c.loop-flag.yielded_by (c.in-Some.field-0-0, c.in-Some.old) c.in-Some.is c.next.ensures.steps in
-    let reads = sym (same_field (rule_of c.rule_by_old.result) rule bytes c.rule_by_old.ensures) ∙ c.in_ok-field.ensures in
+    let reads = sym (same_field (rule_of c.rule_by_old.result) rule bytes (λ byte. c.rule_by_old.ensures byte c.in-Some.old.now (sym c.has_value.ensures))) ∙ c.in_ok-field.ensures in
     rw (length_push c.loop-flag.yielded (c.in-Some.field-0-0, c.in-Some.old), c.in_ok-push.ensures.items)
     (fields_go_on c.loop-flag.fields.items rule (new_rules (drop (i + 1) flags) (drop (i + 1) before)) bytes c.in_ok-field.field c.in_ok-field.after.now total reads
     (from_column c.loop-flag.fields.items flags before i c.in-Some.field-0-0.now c.in-Some.old.now bytes total (turn.0, turn.1, turn.2 0, turn.3 c.in-Some.old.now) c.loop-flag.invariant))

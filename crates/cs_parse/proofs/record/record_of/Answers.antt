@@ -4,7 +4,8 @@ use Rattle.std.proofs.lemmas.Result.{err_from_is_err_and}
 use Rattle.cs_model.specs.declared.value.Field.{Field}
 use Rattle.cs_model.specs.Rule.{Rule}
 use Rattle.cs_parse.specs.FieldRules.{rule_of, column_rule}
-use Rattle.cs_parse.specs.Reading.{Refusal, Fails, field_at, record_at}
+use Rattle.cs_parse.specs.declared.stop.Refusal.{Refusal}
+use Rattle.cs_parse.specs.Reading.{Fails, field_at, record_at}
 use Rattle.cs_parse.proofs.Loops.{with_front, fields_go_on, fields_end, fields_are_done}
 use Rattle.cs_parse.proofs.record.record_of.Goals as goal
 

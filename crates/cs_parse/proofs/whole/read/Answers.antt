@@ -1,6 +1,5 @@
-use Rattle.std.proofs.Common.{Err, subst}
+use Rattle.std.proofs.Common.{sym, ◌∙◌}
 use Rattle.cs_model.specs.Changeset.{most_bytes}
-use Rattle.cs_parse.specs.Answer.{Answers}
 use Rattle.cs_parse.proofs.TextLaws.{front_long, answer_cut}
 use Rattle.cs_parse.proofs.whole.read.Goals as goal
 
@@ -8,4 +7,4 @@ pub slice_bounds-cut_of-end : goal.slice_bounds-cut_of-end
 slice_bounds-cut_of-end c = front_long most_bytes c.args.text.now c.if-text-gt-MOST_BYTES.true
 
 pub returns-then-text-gt-MOST_BYTES : goal.returns-then-text-gt-MOST_BYTES
-returns-then-text-gt-MOST_BYTES c = subst (λ answer. Answers (Err c.cut_of.result) answer) (answer_cut c.args.text.now c.if-text-gt-MOST_BYTES.true) c.cut_of.ensures
+returns-then-text-gt-MOST_BYTES c = sym (answer_cut c.args.text.now c.if-text-gt-MOST_BYTES.true) ∙ c.cut_of.ensures

@@ -2,8 +2,8 @@ use Rattle.std.proofs.Common.{length, inl, inr, sym, ◌∙◌, arith}
 use Rattle.std.proofs.lemmas.Result.{err_from_is_err_and}
 use Rattle.cs_parse.specs.Reading.{is_empty, section_at, many_at, sections_at}
 use Rattle.cs_parse.proofs.Loops.{many_goes_on, many_ends, many_is_done}
-use Rattle.cs_parse.proofs.whole.sections_of.Goals.{else-loop-test, then-loop-test+then-is_empty}
-use Rattle.cs_parse.proofs.whole.sections_of.Goals as goal
+use Rattle.cs_parse.proofs.section.sections_of.Goals.{else-loop-test, then-loop-test+then-is_empty}
+use Rattle.cs_parse.proofs.section.sections_of.Goals as goal
 
 pub returns-in_err-section : goal.returns-in_err-section
 unfolding sections_at

@@ -1,0 +1,11 @@
+use Rattle.std.proofs.Common.{sym, ap, ◌∙◌}
+use Rattle.cs_model.specs.Changeset.{most_bytes}
+use Rattle.cs_parse.specs.Count.{counted_answer}
+use Rattle.cs_parse.proofs.TextLaws.{front_long, answer_cut}
+use Rattle.cs_parse.proofs.whole.counted.Goals as goal
+
+pub slice_bounds-cut_of-end : goal.slice_bounds-cut_of-end
+slice_bounds-cut_of-end c = front_long most_bytes c.args.text.now c.if-text-gt-MOST_BYTES.true
+
+pub returns-then-text-gt-MOST_BYTES : goal.returns-then-text-gt-MOST_BYTES
+returns-then-text-gt-MOST_BYTES c = sym (ap counted_answer (sym (answer_cut c.args.text.now c.if-text-gt-MOST_BYTES.true) ∙ c.cut_of.ensures))

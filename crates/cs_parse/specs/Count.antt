@@ -1,0 +1,31 @@
+-- How many changes a text spells.
+use Rattle.std.specs.Prelude.{◌≡◌, ℕ, List, length, Result, Ok, Err}
+use Rattle.std.specs.List.{flat_map}
+use Rattle.cs_model.specs.declared.change.Section.{Section}
+use Rattle.cs_model.specs.Text.{Spells}
+use Rattle.cs_parse.specs.declared.fault.ParseFault.{ParseFault}
+use Rattle.cs_parse.specs.declared.stop.Refusal.{Refusal}
+use Rattle.cs_parse.specs.Reading.{◌>>=◌}
+
+-- how many changes a changeset has
+abbrev pub changes_in : List Section → ℕ
+changes_in sections = length (flat_map (λ section. section.changes) sections)
+
+-- the text spells a changeset of so many changes
+pub record HasChanges (text : List ℕ) (count : ℕ) : Type 0 where
+  pub changeset : List Section
+  pub spelled : Spells text changeset
+  pub is_count : count ≡ changes_in changeset
+
+-- an answer with the number of changes in place of the changeset
+abbrev pub counted_answer : Result (List Section) ParseFault → Result ℕ ParseFault
+counted_answer (Ok sections) = Ok (changes_in sections)
+counted_answer (Err fault) = Err fault
+
+-- what reading gives, with a number of it in place of its value
+abbrev pub counted : {A : Type 0} → (A → ℕ) → Result (A × List ℕ) Refusal → Result (ℕ × List ℕ) Refusal
+counted count read = read >>= λ x. Ok (count x.0, x.1)
+
+-- the bytes behind what is read
+abbrev pub behind : {A : Type 0} → Result (A × List ℕ) Refusal → Result (List ℕ) Refusal
+behind read = read >>= λ x. Ok x.1
