@@ -2,3 +2,4 @@ pub mod Canon
 pub mod Text
 pub mod Groups
 pub mod Seen
+pub mod Lengths

@@ -1,16 +1,17 @@
 //! The canonical text.
 
-ghost use Rattle.std.specs.Prelude.{◌≡◌, ◌++◌, ◌≤◌, ◌^◌, [], List, length, nat_lt, IfOk, IfSome, OnOk};
+ghost use Rattle.std.specs.Prelude.{◌≡◌, ◌++◌, ◌≤◌, ◌^◌, [], List, length, nat_lt, IfOk, OnErr, OnOk};
 ghost use Rattle.cs_model.specs.declared.change.Section.{Section};
 ghost use Rattle.cs_model.specs.Changeset.{IsChangeset, most_bytes};
 ghost use Rattle.cs_model.specs.Text.{Spells};
 ghost use Rattle.cs_write.specs.Canon.{canon, all_changes};
+ghost use Rattle.cs_write.specs.Lengths.{held};
 ghost use Rattle.cs_write.specs.Text.{changes_text, text_of};
 ghost use Rattle.cs_write.specs.Groups.{group_text, groups_text};
 ghost use Rattle.cs_write.specs.Seen.{seen, sections_of};
 
 use crate::groups::{Groups, groups_of};
-use crate::length::{changes_len, header_len};
+use crate::length::{changes_len, header_len, plus};
 use crate::pushing::{push_changes, push_header};
 use bytes::Bytes;
 use cs_model::{Change, Changeset, Section, Shape, varint_spelled};
@@ -31,34 +32,34 @@ fn any_change(sections: &[&Section]) -> bool
 
 // how many bytes the changes of these sections have
 fn sections_len(sections: &[&Section]) -> Option<usize>
-    ensures { IfSome result (λ n. n ≡ length (changes_text (all_changes (sections_of sections.now)))) }
+    ensures { result ≡ held (length (changes_text (all_changes (sections_of sections.now)))) }
 {
-    let mut len: usize = 0;
+    let mut len = Some(0);
     for section in sections {
-        len = len.checked_add(changes_len(&section.changes)?)?;
+        len = plus(len, changes_len(&section.changes));
     }
-    Some(len)
+    len
 }
 
 // how many bytes a group has: none where it has no change
 fn group_len(shape: &Shape, sections: &[&Section]) -> Option<usize>
-    ensures { IfSome result (λ n. n ≡ length (group_text (shape.now, sections_of sections.now))) }
+    ensures { result ≡ held (length (group_text (shape.now, sections_of sections.now))) }
 {
     if !any_change(sections) {
         return Some(0);
     }
-    header_len(shape)?.checked_add(sections_len(sections)?)
+    plus(header_len(shape), sections_len(sections))
 }
 
 // how many bytes the canonical text has
 fn groups_len(groups: &Groups) -> Option<usize>
-    ensures { IfSome result (λ n. n ≡ length (groups_text (seen groups.now.entries))) }
+    ensures { result ≡ held (length (groups_text (seen groups.now.entries))) }
 {
-    let mut len: usize = 0;
+    let mut len = Some(0);
     for (shape, sections) in groups.iter() {
-        len = len.checked_add(group_len(shape, sections)?)?;
+        len = plus(len, group_len(shape, sections));
     }
-    Some(len)
+    len
 }
 
 // the changes of these sections
@@ -82,13 +83,26 @@ fn push_group(out: &mut Vec<u8>, shape: &Shape, sections: &[&Section]) -> Result
     push_sections(out, sections)
 }
 
-// all groups, in a buffer of their exact length
-fn bytes_of(alloc: Global, groups: &Groups) -> Result<Vec<u8>, AllocError>
+// the groups of a changeset, which give its canonical text
+fn groups_in<'a>(alloc: Global, changeset: &'a Changeset) -> Result<Groups<'a>, AllocError>
+    ensures { IfOk result (λ groups. groups_text (seen groups.entries) ≡ text_of changeset.now) }
+{
+    groups_of(alloc, changeset.sections())
+}
+
+// How many bytes to write. Memory has no room for more than a `usize` holds.
+#[tactic(auto, using(crate::proofs::Held::holding))]
+fn needed(groups: &Groups) -> Result<usize, AllocError>
+    ensures ok { IfOk result (λ n. n ≡ length (groups_text (seen groups.now.entries))) }
+    ensures err { OnErr result (2 ^ 64 ≤ length (groups_text (seen groups.now.entries))) }
+{
+    groups_len(groups).ok_or(AllocError)
+}
+
+// all groups, in a buffer that is taken at the length they have
+fn bytes_of(alloc: Global, groups: &Groups, len: usize) -> Result<Vec<u8>, AllocError>
     ensures { IfOk result (λ text. text.items ≡ groups_text (seen groups.now.entries)) }
 {
-    let Some(len) = groups_len(groups) else {
-        return Err(AllocError);
-    };
     let mut out = Vec::with_capacity(alloc, len)?;
     for (shape, sections) in groups.iter() {
         push_group(&mut out, shape, sections)?;
@@ -102,8 +116,9 @@ fn bytes_of(alloc: Global, groups: &Groups) -> Result<Vec<u8>, AllocError>
 pub fn write(alloc: Global, changeset: &Changeset) -> Result<Bytes, AllocError>
     ensures { IfOk result (λ text. text ≡ text_of changeset.now) }
 {
-    let groups = groups_of(alloc, changeset.sections())?;
-    Ok(Bytes::from_vec(bytes_of(alloc, &groups)?)?)
+    let groups = groups_in(alloc, changeset)?;
+    let len = needed(&groups)?;
+    Ok(Bytes::from_vec(bytes_of(alloc, &groups, len)?)?)
 }
 
 /// What `write` gives spells what `canonical` gives, where it is within the limit of a text.
