@@ -3,3 +3,4 @@ pub mod Text
 pub mod Groups
 pub mod Seen
 pub mod Lengths
+pub mod Buffer

@@ -1,5 +1,6 @@
 //! The canonical writer: one form and one text for every spelling of a changeset. Theorems: `canonical` is `canon`,
-//! `write` is `text_of`, and where that text is within the limit it spells the canonical form.
+//! `write` is `text_of`, `write_to` gives a buffer that text where there is room for it, and where the text is within
+//! the limit it spells the canonical form.
 #![tactic(auto)]
 
 mod form;
@@ -11,4 +12,4 @@ mod tests;
 mod text;
 
 pub use form::canonical;
-pub use text::{text_spells_form, write};
+pub use text::{text_spells_form, write, write_to};

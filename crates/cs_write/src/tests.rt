@@ -4,7 +4,7 @@ ghost use Rattle.cs_model.specs.Changeset.{AreRecords, IsSection, IsChangeset};
 ghost use Rattle.cs_model.specs.declared.value.Value.TheVariants.{Integer, Text};
 ghost use Rattle.cs_model.specs.declared.value.Field.TheVariants.{Undefined, Is};
 
-use crate::{canonical, write};
+use crate::{canonical, write, write_to};
 use cs_model::{Change, Changeset, Field, Op, Section, Seq, Shape, Value};
 use std::alloc::{AllocError, Global};
 use std::process::Abort;
@@ -168,4 +168,32 @@ fn lengths_are_shortest(rt: HostRuntime) -> Result<(), Fail> {
         &want,
         1,
     )
+}
+
+// Writes the changeset to a buffer of sevens as long as this one, which it must give, with the length of its text.
+fn fills(rt: &impl Abort, alloc: Global, changeset: &Changeset, want: &[u8]) -> Result<(), Fail> {
+    let mut out = Vec::from_elem(alloc, 7, want.len())?;
+    let len = write_to(alloc, changeset, &mut out)?;
+    let text = write(alloc, changeset)?;
+    assert_eq!(rt; len, text.len());
+    let got: &[u8] = &out;
+    assert_eq!(rt; got, want);
+    Ok(())
+}
+
+// A buffer of the text's length is the text, and in a longer one the bytes behind it stay. A shorter one stays whole.
+#[test]
+fn buffers_are_filled_where_there_is_room(rt: HostRuntime) -> Result<(), Fail> {
+    let alloc = rt.alloc();
+    let insert = section(alloc, b't', &[(Op::Insert, 1, b'x')])?;
+    let sections = vec![in alloc; insert]?;
+    let changeset = Changeset::from_seq(Seq::from_vec(sections));
+    let mut want = first(alloc, b't')?;
+    let mut short = Vec::from_elem(alloc, 7, want.len())?;
+    short.pop();
+    fills(&rt, alloc, &changeset, &want)?;
+    want.extend_from_slice(&[7, 7])?;
+    fills(&rt, alloc, &changeset, &want)?;
+    fills(&rt, alloc, &changeset, &short)?;
+    fills(&rt, alloc, &changeset, &[])
 }

@@ -5,6 +5,7 @@ ghost use Rattle.cs_model.specs.declared.change.Section.{Section};
 ghost use Rattle.cs_model.specs.Changeset.{IsChangeset, most_bytes};
 ghost use Rattle.cs_model.specs.Text.{Spells};
 ghost use Rattle.cs_write.specs.Canon.{canon, all_changes};
+ghost use Rattle.cs_write.specs.Buffer.{given};
 ghost use Rattle.cs_write.specs.Lengths.{held};
 ghost use Rattle.cs_write.specs.Text.{changes_text, text_of};
 ghost use Rattle.cs_write.specs.Groups.{group_text, groups_text};
@@ -119,6 +120,25 @@ pub fn write(alloc: Global, changeset: &Changeset) -> Result<Bytes, AllocError>
     let groups = groups_in(alloc, changeset)?;
     let len = needed(&groups)?;
     Ok(Bytes::from_vec(bytes_of(alloc, &groups, len)?)?)
+}
+
+/// Writes the canonical text of a changeset to the front of `out`, where there is room for it, and answers its length, in
+/// bytes. Where there is less room nothing is written, so that a call with an empty buffer tells how much is needed.
+/// `AllocError` where memory runs out, which leaves `out` as it was.
+pub fn write_to(alloc: Global, changeset: &Changeset, out: &mut [u8]) -> Result<usize, AllocError>
+    ensures length { IfOk result (λ n. n ≡ length (text_of changeset.now)) }
+    ensures written { OnOk result (out.new ≡ given (text_of changeset.now) out.old) }
+    ensures err { OnErr result (out.new ≡ out.old) }
+{
+    let groups = groups_in(alloc, changeset)?;
+    let len = needed(&groups)?;
+    let room = out.len();
+    if room < len {
+        return Ok(len);
+    }
+    let text = bytes_of(alloc, &groups, len)?;
+    out[..len].copy_from_slice(&text);
+    Ok(len)
 }
 
 /// What `write` gives spells what `canonical` gives, where it is within the limit of a text.
