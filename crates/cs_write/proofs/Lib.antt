@@ -5,3 +5,4 @@ pub mod Held
 pub mod TextLaws
 pub mod FormLaws
 pub mod SpellLaws
+pub mod NoLonger

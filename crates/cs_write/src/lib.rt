@@ -1,10 +1,12 @@
 //! The canonical writer: one form and one text for every spelling of a changeset. Theorems: `canonical` is `canon`,
 //! `write` is `text_of`, `write_to` gives a buffer that text where there is room for it, and where the text is within
-//! the limit it spells the canonical form.
+//! the limit it spells the canonical form. The text of a changeset that was read always is: it is no longer than what
+//! was read.
 #![tactic(auto)]
 
 mod form;
 mod groups;
+mod laws;
 mod length;
 mod pushing;
 #[cfg(test)]
@@ -12,4 +14,5 @@ mod tests;
 mod text;
 
 pub use form::canonical;
-pub use text::{text_spells_form, write, write_to};
+pub use laws::{read_is_spelled_again, text_is_no_longer, text_spells_form};
+pub use text::{write, write_to};

@@ -1,10 +1,7 @@
 //! The canonical text.
 
-ghost use Rattle.std.specs.Prelude.{◌≡◌, ◌++◌, ◌≤◌, ◌^◌, [], List, length, nat_lt, IfOk, OnErr, OnOk};
-ghost use Rattle.cs_model.specs.declared.change.Section.{Section};
-ghost use Rattle.cs_model.specs.Changeset.{IsChangeset, most_bytes};
-ghost use Rattle.cs_model.specs.Text.{Spells};
-ghost use Rattle.cs_write.specs.Canon.{canon, all_changes};
+ghost use Rattle.std.specs.Prelude.{◌≡◌, ◌++◌, ◌≤◌, ◌^◌, length, nat_lt, IfOk, OnErr, OnOk};
+ghost use Rattle.cs_write.specs.Canon.{all_changes};
 ghost use Rattle.cs_write.specs.Buffer.{given};
 ghost use Rattle.cs_write.specs.Lengths.{held};
 ghost use Rattle.cs_write.specs.Text.{changes_text, text_of};
@@ -15,7 +12,7 @@ use crate::groups::{Groups, groups_of};
 use crate::length::{changes_len, header_len, plus};
 use crate::pushing::{push_changes, push_header};
 use bytes::Bytes;
-use cs_model::{Change, Changeset, Section, Shape, varint_spelled};
+use cs_model::{Change, Changeset, Section, Shape};
 use std::alloc::{AllocError, Global};
 
 // whether these sections have a change
@@ -139,12 +136,4 @@ pub fn write_to(alloc: Global, changeset: &Changeset, out: &mut [u8]) -> Result<
     let text = bytes_of(alloc, &groups, len)?;
     out[..len].copy_from_slice(&text);
     Ok(len)
-}
-
-/// What `write` gives spells what `canonical` gives, where it is within the limit of a text.
-pub fn text_spells_form()
-    ensures { (sections : List Section) → IsChangeset sections → length (text_of sections) ≤ most_bytes
-        → Spells (text_of sections) (canon sections) }
-{
-    varint_spelled();
 }

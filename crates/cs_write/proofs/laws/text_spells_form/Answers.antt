@@ -1,5 +1,5 @@
 use Rattle.cs_write.proofs.SpellLaws.{text_spelled}
-use Rattle.cs_write.proofs.text.text_spells_form.Goals as goal
+use Rattle.cs_write.proofs.laws.text_spells_form.Goals as goal
 
 pub returns : goal.returns
 returns c = text_spelled c.varint_spelled.ensures
