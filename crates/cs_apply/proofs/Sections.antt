@@ -13,7 +13,8 @@ use Rattle.cs_apply.specs.declared.stop.Stop.TheVariants.{Conflict, Memory}
 use Rattle.cs_apply.specs.State.{Rows, compatible}
 use Rattle.cs_apply.specs.Effect.{effect}
 use Rattle.cs_apply.specs.Single.{goes_on, effect_at, changes_of, single_from}
-use Rattle.cs_apply.specs.Steps.{Stops, Refuses, placed, carry, section_from}
+use Rattle.cs_apply.specs.Refusal.{Refuses}
+use Rattle.cs_apply.specs.Steps.{Stops, placed, carry, section_from}
 
 -- one change more of a section
 pub next_change : (table : ℕ) (flags : List ℕ) (changes : List Change) (i : ℕ) (change : Change) (at : ℕ) (rows : Rows) → i < length changes → change ≡ get_or changes i change

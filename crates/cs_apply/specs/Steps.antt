@@ -91,11 +91,6 @@ abbrev pub Stops : Stop → Result Rows ConflictKind → Type 0
 Stops (Conflict kind) answer = answer ≡ Err kind
 Stops Memory answer = Unit {0}
 
--- an error is the first conflict, or want of memory
-abbrev pub Refuses : ApplyError → Result Rows Conflicts → Type 0
-Refuses (error.Conflict conflict) answer = answer ≡ Err conflict
-Refuses error.Memory answer = Unit {0}
-
 -- the changes of one section of a compatible table, the first of them at this position
 unfoldable pub section_from : ℕ → List ℕ → List Change → ℕ → Rows → Result Rows Conflicts
 section_from table flags [] at rows = Ok rows

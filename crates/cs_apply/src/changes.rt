@@ -7,7 +7,8 @@ ghost use Rattle.cs_model.specs.Changeset.{IsChange, IsSection, IsChangeset};
 ghost use Rattle.cs_apply.specs.Effect.{values_of, inserted, deleted, changed, effect};
 ghost use Rattle.cs_apply.specs.Single.{changes_of, single_from};
 ghost use Rattle.cs_apply.specs.State.{compatible};
-ghost use Rattle.cs_apply.specs.Steps.{rows_of, section_from, Back, Stops, Refuses};
+ghost use Rattle.cs_apply.specs.Steps.{rows_of, section_from, Back, Stops};
+ghost use Rattle.cs_apply.specs.Refusal.{Refuses};
 
 use crate::conflict::{ApplyError, ConflictKind};
 use crate::edit::Edit;
