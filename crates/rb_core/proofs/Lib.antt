@@ -1,3 +1,4 @@
 pub mod RunLaws
 pub mod Rising
 pub mod StepLaws
+pub mod Streams

@@ -2,10 +2,13 @@
 use Rattle.std.specs.Prelude.{◌≡◌, ℕ, ◌<◌, List, [], ◌∷◌, Result, Ok, Err, ◌==◌, if◌then◌else◌}
 use Rattle.std.specs.declared.alloc.AllocError.{AllocError}
 use Rattle.rb_core.specs.declared.event.Event.{Event}
+use Rattle.rb_core.specs.declared.event.Event.TheVariants as event
+use Rattle.rb_core.specs.declared.parts.Publisher.{Publisher}
 use Rattle.rb_core.specs.declared.reply.Reply.{Reply}
 use Rattle.rb_core.specs.declared.reply.Reply.TheVariants as reply
 use Rattle.rb_core.specs.State.{State}
 use Rattle.rb_core.specs.Outcome.{outcome}
+use Rattle.rb_core.specs.Step.{AreBytes}
 
 -- what an event is answered: a reply, or that memory ran out
 abbrev pub Answer : Type 0
@@ -22,6 +25,22 @@ Run old [] [] new = new ≡ old
 Run old [] (answer ∷ answers) new = ⊥
 Run old (event ∷ events) [] new = ⊥
 Run old (event ∷ events) (answer ∷ answers) new = (mid : State) × Stepped old event answer mid × Run mid events answers new
+
+-- an event feeds bytes, or nothing
+abbrev pub FeedsBytes : Event → Type 0
+FeedsBytes event.Publisher = Unit {0}
+FeedsBytes (event.Feed p bytes) = AreBytes bytes
+FeedsBytes (event.Reset p) = Unit {0}
+FeedsBytes (event.End p) = Unit {0}
+FeedsBytes (event.Send p) = Unit {0}
+FeedsBytes event.Turn = Unit {0}
+FeedsBytes (event.Subscribe start) = Unit {0}
+FeedsBytes (event.Take s now) = Unit {0}
+FeedsBytes (event.Accept d) = Unit {0}
+
+-- a publisher's stream is of bytes
+abbrev pub HasBytes : Publisher → Type 0
+HasBytes publisher = AreBytes publisher.stream
 
 -- the numbers that a subscription accepted, in order
 abbrev pub accepted_now : ℕ → Reply → List ℕ → List ℕ

@@ -20,5 +20,5 @@ pub use entry::{Entry, Item};
 pub use event::Event;
 pub use parts::{Handed, Publisher, Subscription};
 pub use reply::{Refusal, Reply};
-pub use runs::{accepted_numbers_rise, outcome_is_step, run};
+pub use runs::{accepted_numbers_rise, outcome_is_step, run, streams_are_bytes};
 pub use world::World;

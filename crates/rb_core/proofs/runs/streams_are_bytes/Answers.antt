@@ -1,0 +1,5 @@
+use Rattle.rb_core.proofs.Streams.{keeps_bytes}
+use Rattle.rb_core.proofs.runs.streams_are_bytes.Goals as goal
+
+pub returns : goal.returns
+returns c = keeps_bytes
