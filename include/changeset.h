@@ -3,8 +3,8 @@
  * A text is the bytes of a changeset, as SQLite's session extension writes it. Any bytes may be given: each call
  * returns, reads the text within its length alone, and keeps no pointer. Lengths, places and rooms are in bytes.
  *
- * Who owns what: the caller owns every buffer before, during and after a call. A call takes memory by malloc and
- * realloc, and has freed all of it when it returns.
+ * Who owns what: the caller owns every buffer before, during and after a call. changeset_check takes no memory.
+ * changeset_canonical takes it by malloc and realloc, and has freed all of it when it returns.
  *
  * What a caller owes, and nothing checks:
  * - No pointer is NULL, also where its length is 0: any address serves there. `len` and `room` are below 2^63.
@@ -69,8 +69,7 @@ enum changeset_fault_kind {
  * - CHANGESET_NONE: it spells none. Then `*fault_at` is the place of its one fault, 0 to `len`, which is the first
  *   byte after which no text can be that of a changeset, or the end; and `*fault_kind` is the fault's kind, as the
  *   enum above numbers it.
- * - CHANGESET_NO_MEMORY.
- * Unless the answer is CHANGESET_NONE, `*fault_at` and `*fault_kind` stay as they were. */
+ * It takes no memory, so these are all answers. Unless the answer is CHANGESET_NONE, `*fault_at` and `*fault_kind` stay as they were. */
 int64_t changeset_check(const unsigned char *text, size_t len, size_t *fault_at, uint32_t *fault_kind);
 
 /* Writes the canonical text of the changeset that a text of `len` bytes spells: one section for each table's shape,

@@ -6,7 +6,8 @@ use Rattle.cs_parse.specs.declared.fault.ParseFault.{ParseFault}
 use Rattle.cs_parse.specs.Answer.{HasChangeset, HasFault}
 use Rattle.cs_parse.specs.Fault.{IsFault}
 use Rattle.cs_write.specs.Text.{text_of}
-use Rattle.changeset_c.specs.Numbers.{changes_in, number_of}
+use Rattle.cs_parse.specs.Count.{changes_in}
+use Rattle.changeset_c.specs.Kinds.{number_of}
 use Rattle.changeset_c.specs.Says.{CheckSays, CanonicalSays, IsNumber, IsFaultAt, IsNegative}
 
 abbrev pub EitherOf : List ℕ → Type 0
@@ -24,19 +25,17 @@ not_both : (text : List ℕ) → EitherOf text → (sections : List Section) (fa
 not_both text (inl has) sections fault s t = has.no_fault fault t
 not_both text (inr has) sections fault s t = has.spells_none sections s
 
-pub check_only : (answer : ℤ) (at kind : ℕ) (text : List ℕ) → EitherOf text → CheckSays answer at kind text → (changeset : List Section) → Spells text changeset → IsNumber answer (changes_in changeset)
-check_only (pos n) at kind text either says changeset s = says.is_given ∙ ap changes_in (one_changeset text either says.changeset changeset says.spelled s)
-check_only (negsuc zero) at kind text either says changeset s = not_both text either changeset says.fault s says.is_fault
-check_only (negsuc (suc zero)) at kind text either says changeset s = refl
-check_only (negsuc (suc (suc n))) at kind text either says changeset s = absurd says
+pub check_only : (answer : ℤ) (at kind : ℕ) (text : List ℕ) → EitherOf text → CheckSays answer at kind text → (changeset : List Section) → Spells text changeset → answer ≡ pos (changes_in changeset)
+check_only (pos n) at kind text either says changeset s = ap pos (says.is_count ∙ ap changes_in (one_changeset text either says.changeset changeset says.spelled s))
+check_only (negsuc zero) at kind text either says changeset s = absurd (not_both text either changeset says.fault s says.is_fault)
+check_only (negsuc (suc n)) at kind text either says changeset s = absurd says
 
 pub check_fault : (answer : ℤ) (at kind : ℕ) (text : List ℕ) → EitherOf text → CheckSays answer at kind text → (fault : ParseFault) → IsFault text fault → IsFaultAt answer at kind fault
-check_fault (pos n) at kind text either says fault t = not_both text either says.changeset fault says.spelled t
+check_fault (pos n) at kind text either says fault t = absurd (not_both text either says.changeset fault says.spelled t)
 check_fault (negsuc zero) at kind text either says fault t =
     let same = one_fault text either says.fault fault says.is_fault t in
-    (says.is_place ∙ ap (λ f. f.at) same, says.is_kind ∙ ap (λ f. number_of f.kind) same)
-check_fault (negsuc (suc zero)) at kind text either says fault t = refl
-check_fault (negsuc (suc (suc n))) at kind text either says fault t = absurd says
+    (refl, says.is_place ∙ ap (λ f. f.at) same, says.is_kind ∙ ap (λ f. number_of f.kind) same)
+check_fault (negsuc (suc n)) at kind text either says fault t = absurd says
 
 pub canonical_only : (answer : ℤ) (before after text : List ℕ) → EitherOf text → CanonicalSays answer before after text → (changeset : List Section) → Spells text changeset → IsNumber answer (length (text_of changeset))
 canonical_only (pos n) before after text either says changeset s = says.is_length ∙ ap (λ c. length (text_of c)) (one_changeset text either says.changeset changeset says.spelled s)

@@ -1,3 +1,2 @@
-pub mod Numbers
-pub mod Job
+pub mod Kinds
 pub mod Says

@@ -5,8 +5,9 @@ use Rattle.cs_model.specs.Text.{Spells}
 use Rattle.cs_parse.specs.declared.fault.ParseFault.{ParseFault}
 use Rattle.cs_parse.specs.Fault.{IsFault}
 use Rattle.cs_write.specs.Text.{text_of}
-use Rattle.changeset_c.specs.Numbers.{changes_in, number_of, given}
-use Rattle.changeset_c.specs.Job.{Gives}
+use Rattle.cs_parse.specs.Count.{HasChanges}
+use Rattle.cs_write.specs.Buffer.{given}
+use Rattle.changeset_c.specs.Kinds.{number_of}
 
 -- the text has a fault, at this place and of the kind with this number
 pub record HasFaultAt (text : List ℕ) (at kind : ℕ) : Type 0 where
@@ -17,10 +18,9 @@ pub record HasFaultAt (text : List ℕ) (at kind : ℕ) : Type 0 where
 
 -- what `changeset_check` says of a text, where it tells `at` and `kind` besides
 abbrev pub CheckSays : ℤ → ℕ → ℕ → List ℕ → Type 0
-CheckSays (pos n) at kind text = Gives changes_in text n
+CheckSays (pos n) at kind text = HasChanges text n
 CheckSays (negsuc zero) at kind text = HasFaultAt text at kind
-CheckSays (negsuc (suc zero)) at kind text = Unit {0}
-CheckSays (negsuc (suc (suc n))) at kind text = ⊥
+CheckSays (negsuc (suc n)) at kind text = ⊥
 
 -- the text spells a changeset with a canonical text so long, which the buffer was given
 pub record IsWritten (text : List ℕ) (n : ℕ) (before after : List ℕ) : Type 0 where
@@ -54,11 +54,9 @@ KeptBut (negsuc zero) before after = Unit {0}
 KeptBut (negsuc (suc n)) before after = after ≡ before
 KeptBut (pos n) before after = after ≡ before
 
--- a refusal of a text with this fault, unless memory ran out
+-- the refusal of a text with this fault
 abbrev pub IsFaultAt : ℤ → ℕ → ℕ → ParseFault → Type 0
-IsFaultAt (pos n) at kind fault = ⊥
-IsFaultAt (negsuc zero) at kind fault = (at ≡ fault.at) × (kind ≡ number_of fault.kind)
-IsFaultAt (negsuc (suc n)) at kind fault = n ≡ 0
+IsFaultAt answer at kind fault = (answer ≡ negsuc 0) × (at ≡ fault.at) × (kind ≡ number_of fault.kind)
 
 -- a refusal, unless memory ran out
 abbrev pub IsNegative : ℤ → Type 0

@@ -2,9 +2,9 @@
 
 ghost use Rattle.changeset_c.specs.Says.{CheckSays, CanonicalSays, KeptBut};
 
-use crate::jobs::{canonical_of, changes_of};
-use crate::numbers::{give, kind_number};
-use cs_parse::ParseError;
+use crate::kinds::kind_number;
+use cs_parse::{ParseError, count_changes, parse};
+use cs_write::{text_is_no_longer, write_to};
 use std::alloc::Global;
 
 // the text spells no changeset
@@ -12,34 +12,35 @@ const NO_CHANGESET: i64 = -1;
 // memory ran out
 const NO_MEMORY: i64 = -2;
 
-/// How many changes the text spells; -1 with the place and the kind's number of its fault; or -2.
-pub fn check(alloc: Global, text: &[u8], fault_at: &mut usize, fault_kind: &mut u32) -> i64
+/// How many changes the text spells; or -1 with the place and the kind's number of its fault.
+pub fn check(text: &[u8], fault_at: &mut usize, fault_kind: &mut u32) -> i64
     ensures says { CheckSays result fault_at.new fault_kind.new text.now }
     ensures same_place { KeptBut result fault_at.old fault_at.new }
     ensures same_kind { KeptBut result fault_kind.old fault_kind.new }
 {
-    match changes_of(alloc, text) {
+    match count_changes(text) {
         Ok(changes) => changes as i64,
-        Err(ParseError::Fault(fault)) => {
+        Err(fault) => {
             *fault_at = fault.at;
             *fault_kind = kind_number(fault.kind);
             NO_CHANGESET
         }
-        Err(ParseError::Memory) => NO_MEMORY,
     }
 }
 
-/// The length of the canonical text, which is written where `out` has room for it; -1; or -2.
+/// The length of the canonical text, which is written where `out` has room for it; -1; or -2. A canonical
+/// text is never longer than the text that was read, so that an `i64` holds its length.
 pub fn canonical(alloc: Global, text: &[u8], out: &mut [u8]) -> i64
     ensures { CanonicalSays result out.old out.new text.now }
 {
-    match canonical_of(alloc, text) {
-        Ok(canonical) => {
-            let bytes: &[u8] = &canonical;
-            give(bytes, out);
-            bytes.len() as i64
-        }
-        Err(ParseError::Fault(_)) => NO_CHANGESET,
-        Err(ParseError::Memory) => NO_MEMORY,
+    let changeset = match parse(alloc, text) {
+        Ok(changeset) => changeset,
+        Err(ParseError::Fault(_)) => return NO_CHANGESET,
+        Err(ParseError::Memory) => return NO_MEMORY,
+    };
+    text_is_no_longer();
+    match write_to(alloc, &changeset, out) {
+        Ok(len) => len as i64,
+        Err(_) => NO_MEMORY,
     }
 }

@@ -4,7 +4,6 @@
 
 mod answers;
 mod exports;
-mod jobs;
-mod numbers;
+mod kinds;
 #[cfg(test)]
 mod tests;

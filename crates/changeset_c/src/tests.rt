@@ -37,17 +37,11 @@ const TIGHT: [u8; 34] = [
     0, 0, 0, 2, 3, 1, 0x79,
 ];
 
-// Checks a text, which must give this answer and leave these in the places, where 77 stood. Where memory runs out they
-// stand there still, and a second try goes on.
-fn checks(rt: &impl Abort, alloc: Global, text: &[u8], want: i64, at: usize, kind: u32) {
+// Checks a text, which must give this answer and leave these in the places, where 77 stood.
+fn checks(rt: &impl Abort, text: &[u8], want: i64, at: usize, kind: u32) {
     let mut fault_at: usize = 77;
     let mut fault_kind: u32 = 77;
-    let mut answer = changeset_check(alloc, text, &mut fault_at, &mut fault_kind);
-    if answer == -2 {
-        assert_eq!(rt; fault_at, 77);
-        assert_eq!(rt; fault_kind, 77);
-        answer = changeset_check(alloc, text, &mut fault_at, &mut fault_kind);
-    }
+    let answer = changeset_check(text, &mut fault_at, &mut fault_kind);
     assert_eq!(rt; answer, want);
     assert_eq!(rt; fault_at, at);
     assert_eq!(rt; fault_kind, kind);
@@ -55,20 +49,18 @@ fn checks(rt: &impl Abort, alloc: Global, text: &[u8], want: i64, at: usize, kin
 
 #[test]
 fn changes_are_counted(rt: HostRuntime) {
-    let alloc = rt.alloc();
-    checks(&rt, alloc, &RECORDED, 4, 77, 77);
-    checks(&rt, alloc, &LOOSE[..48], 2, 77, 77);
-    checks(&rt, alloc, &[], 0, 77, 77);
+    checks(&rt, &RECORDED, 4, 77, 77);
+    checks(&rt, &LOOSE[..48], 2, 77, 77);
+    checks(&rt, &[], 0, 77, 77);
 }
 
 #[test]
 fn faults_are_told(rt: HostRuntime) {
-    let alloc = rt.alloc();
-    checks(&rt, alloc, &WITH_REAL, -1, 17, 9);
-    checks(&rt, alloc, &[0x50, 2, 1, 0], -1, 0, 2);
-    checks(&rt, alloc, &RECORDED[..88], -1, 88, 16);
+    checks(&rt, &WITH_REAL, -1, 17, 9);
+    checks(&rt, &[0x50, 2, 1, 0], -1, 0, 2);
+    checks(&rt, &RECORDED[..88], -1, 88, 16);
     // a zero byte where a change or a header has to begin
-    checks(&rt, alloc, &LOOSE, -1, 48, 7);
+    checks(&rt, &LOOSE, -1, 48, 7);
 }
 
 // Asks for the canonical text with a buffer of 60 bytes of 9, of which `room` are given, and compares all of them. Where

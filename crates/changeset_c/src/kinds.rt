@@ -1,7 +1,7 @@
-//! What is told to C in numbers.
+//! Kinds of faults as C gets them.
 
 ghost use Rattle.std.specs.Prelude.{◌≡◌};
-ghost use Rattle.changeset_c.specs.Numbers.{number_of, given};
+ghost use Rattle.changeset_c.specs.Kinds.{number_of};
 
 use cs_parse::FaultKind;
 
@@ -27,14 +27,4 @@ pub fn kind_number(kind: FaultKind) -> u32
         FaultKind::TooLong => 15,
         FaultKind::Truncated => 16,
     }
-}
-
-/// Writes a text to the front of a buffer that has room for it. Any other is left as it was.
-pub fn give(text: &[u8], out: &mut [u8])
-    ensures { out.new ≡ given text.now out.old }
-{
-    if out.len() < text.len() {
-        return;
-    }
-    out[..text.len()].copy_from_slice(text);
 }

@@ -1,13 +1,7 @@
--- What the exports tell in numbers.
-use Rattle.std.specs.Prelude.{ℕ, List, ◌++◌, drop, length, nat_lt, if◌then◌else◌}
-use Rattle.cs_model.specs.declared.change.Section.{Section}
+-- Kinds of faults as numbers.
+use Rattle.std.specs.Prelude.{ℕ}
 use Rattle.cs_parse.specs.declared.fault.FaultKind.{FaultKind}
 use Rattle.cs_parse.specs.declared.fault.FaultKind.TheVariants.{BadMarker, Patchset, Columns, NoKey, EmptyName, NameTooLong, BadOperation, BadType, Real, UndefinedField, KeyMissing, KeyChanged, OneSided, ValueTooLong, TooLong, Truncated}
-use Rattle.cs_write.specs.Canon.{all_changes}
-
--- how many changes a changeset has
-abbrev pub changes_in : List Section → ℕ
-changes_in sections = length (all_changes sections)
 
 -- the number of a fault's kind
 abbrev pub number_of : FaultKind → ℕ
@@ -27,7 +21,3 @@ number_of OneSided = 13
 number_of ValueTooLong = 14
 number_of TooLong = 15
 number_of Truncated = 16
-
--- A buffer that was given this text: it begins with the text where it has room for it, and else it is as it was.
-abbrev pub given : List ℕ → List ℕ → List ℕ
-given text out = if nat_lt (length out) (length text) then out else text ++ drop (length text) out
