@@ -68,21 +68,24 @@ static void print_row(const char *job, const char *input, double amount, const s
 }
 
 static const char *const READ = "read every change";
+static const char *const BUILD = "read, build and keep every value";
 static const char *const WRITE = "read and write again";
 
-/* both jobs, in megabytes a second */
+/* all jobs, in megabytes a second */
 static void compare_bytes(enum rows rows, const char *what) {
     struct input input = make_input(rows, 1000000000, USUAL_BYTES);
     char name[100];
     snprintf(name, sizeof name, "%s, %ld changes", what, input.changes);
     struct measured reads = measure(ours_reads, sqlite_reads, &input, 1);
     print_row(READ, name, (double)input.len / 1e6, &reads);
+    struct measured builds = measure(ours_builds, sqlite_reads, &input, 1);
+    print_row(BUILD, name, (double)input.len / 1e6, &builds);
     struct measured writes = measure(ours_writes, sqlite_writes, &input, 1);
     print_row(WRITE, name, (double)input.len / 1e6, &writes);
     free(input.bytes);
 }
 
-/* both jobs, in thousands of changes a second, on at most so many changes */
+/* reading and writing, in thousands of changes a second, on at most so many changes */
 static void compare_changes(long changes) {
     struct input input = make_input(INTEGERS, changes, MOST_BYTES);
     int calls = input.changes < 100000 ? (int)(100000 / input.changes) : 1;
@@ -101,13 +104,13 @@ static void print_head(const char *unit) {
            unit, unit, unit);
 }
 
-/* Runs one job once, for a profiler: `ours` or `sqlite`, `read` or `write`, and `integers`, `texts` or `blobs`. */
+/* Runs one job once, for a profiler: `ours` or `sqlite`, `read`, `build` or `write`, and `integers`, `texts` or `blobs`. */
 static int run_once(const char *who, const char *what, const char *which) {
     enum rows rows = *which == 'i' ? INTEGERS : *which == 't' ? TEXTS : BLOBS;
     struct input input = make_input(rows, 1000000000, USUAL_BYTES);
-    int reads = strcmp(what, "read") == 0;
-    if (strcmp(who, "ours") == 0) (reads ? ours_reads : ours_writes)(&input);
-    else (reads ? sqlite_reads : sqlite_writes)(&input);
+    int writes = strcmp(what, "write") == 0, builds = strcmp(what, "build") == 0;
+    if (strcmp(who, "ours") == 0) (writes ? ours_writes : builds ? ours_builds : ours_reads)(&input);
+    else (writes ? sqlite_writes : sqlite_reads)(&input);
     free(input.bytes);
     return 0;
 }

@@ -28,6 +28,11 @@ void ours_reads(const struct input *input) {
     must(changeset_check(input->bytes, input->len, &at, &kind) == input->changes, "ours_reads");
 }
 
+void ours_builds(const struct input *input) {
+    unsigned char nothing;
+    must(changeset_canonical(input->bytes, input->len, &nothing, 0) == (int64_t)input->len, "ours_builds");
+}
+
 /* the values of a change, each looked at */
 static long values_of(sqlite3_changeset_iter *iter, int columns, int operation) {
     long seen = 0;

@@ -8,6 +8,8 @@ typedef void job(const struct input *input);
 
 /* every change of the changeset is read */
 job ours_reads, sqlite_reads;
+/* and every value is built and kept, and the length of the canonical text told */
+job ours_builds;
 /* the changeset is read and written again, to the same bytes */
 job ours_writes, sqlite_writes;
 
