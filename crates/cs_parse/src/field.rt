@@ -1,4 +1,4 @@
-//! Fields.
+//! Fields. Their readers are inlined: there is one for each column of each change, and a call costs more than most fields.
 
 ghost use Rattle.std.specs.Prelude.{◌≡◌, IfOk, length};
 ghost use Rattle.cs_parse.specs.FieldRules.{rule_of, is_value};
@@ -48,6 +48,7 @@ fn counted_of(bytes: &[u8]) -> Result<(&[u8], &[u8]), Refusal>
 
 // a field behind its type byte, which isn't refused
 #[tactic(auto, unfolding(crate::specs::Reading::typed_at))]
+#[inline(always)]
 fn typed_of(byte: u8, rest: &[u8]) -> Result<(FieldRef, &[u8]), Refusal>
     ensures { Reads (λ x. (field_seen x.0, x.1.now)) result (typed_at byte rest.now) }
 {
@@ -71,6 +72,7 @@ fn typed_of(byte: u8, rest: &[u8]) -> Result<(FieldRef, &[u8]), Refusal>
 
 /// A field under a rule, where it stands.
 #[tactic(auto, unfolding(crate::specs::Reading::field_at))]
+#[inline(always)]
 pub fn field_in(rule: FieldRule, bytes: &[u8]) -> Result<(FieldRef, &[u8]), Refusal>
     ensures { Reads (λ x. (field_seen x.0, x.1.now)) result (field_at (rule_of rule) bytes.now) }
 {
@@ -93,6 +95,7 @@ fn octets(alloc: Global, bytes: &[u8]) -> Result<Octets, AllocError>
 }
 
 // the field with bytes of its own
+#[inline(always)]
 fn owned(alloc: Global, field: FieldRef) -> Result<Field, AllocError>
     ensures { IfOk result (λ copy. copy ≡ field_seen field.entry) }
 {
@@ -106,6 +109,7 @@ fn owned(alloc: Global, field: FieldRef) -> Result<Field, AllocError>
 }
 
 /// A field under a rule. Its bytes have come before memory is taken for them.
+#[inline(always)]
 pub fn field_of(alloc: Global, rule: FieldRule, bytes: &[u8]) -> Result<(Field, &[u8]), Stop>
     ensures { Gives (λ x. (x.0, x.1.now)) result (field_at (rule_of rule) bytes.now) }
 {
