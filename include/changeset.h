@@ -25,7 +25,7 @@ extern "C" {
 
 /* The text spells no changeset. */
 #define CHANGESET_NONE (-1)
-/* Memory ran out. Nothing is told of the text. */
+/* Memory ran out. The text spells a changeset. */
 #define CHANGESET_NO_MEMORY (-2)
 
 /* What is wrong at a fault's place. */
@@ -78,7 +78,7 @@ int64_t changeset_check(const unsigned char *text, size_t len, size_t *fault_at,
  *   and its bytes behind that stay as they were; where `room` is less, all of `out` stays as it was. So a first call
  *   with a room of 0 tells how much is needed.
  * - CHANGESET_NONE: the text spells no changeset. `changeset_check` tells why.
- * - CHANGESET_NO_MEMORY.
+ * - CHANGESET_NO_MEMORY: it spells one, and memory ran out.
  * Unless the answer is 0 or more, `out` stays as it was. */
 int64_t changeset_canonical(const unsigned char *text, size_t len, unsigned char *out, size_t room);
 

@@ -8,7 +8,7 @@ use Rattle.cs_parse.specs.Fault.{IsFault}
 use Rattle.cs_write.specs.Text.{text_of}
 use Rattle.cs_parse.specs.Count.{changes_in}
 use Rattle.changeset_c.specs.Kinds.{number_of}
-use Rattle.changeset_c.specs.Says.{CheckSays, CanonicalSays, IsNumber, IsFaultAt, IsNegative}
+use Rattle.changeset_c.specs.Says.{CheckSays, CanonicalSays, IsNumber, IsFaultAt}
 
 abbrev pub EitherOf : List ℕ → Type 0
 EitherOf text = HasChangeset text ⊎ HasFault text
@@ -43,8 +43,8 @@ canonical_only (negsuc zero) before after text either says changeset s = not_bot
 canonical_only (negsuc (suc zero)) before after text either says changeset s = refl
 canonical_only (negsuc (suc (suc n))) before after text either says changeset s = absurd says
 
-pub canonical_fault : (answer : ℤ) (before after text : List ℕ) → EitherOf text → CanonicalSays answer before after text → (fault : ParseFault) → IsFault text fault → IsNegative answer
-canonical_fault (pos n) before after text either says fault t = not_both text either says.changeset fault says.spelled t
-canonical_fault (negsuc zero) before after text either says fault t = omega arith
-canonical_fault (negsuc (suc zero)) before after text either says fault t = omega arith
+pub canonical_fault : (answer : ℤ) (before after text : List ℕ) → EitherOf text → CanonicalSays answer before after text → (fault : ParseFault) → IsFault text fault → answer ≡ negsuc 0
+canonical_fault (pos n) before after text either says fault t = absurd (not_both text either says.changeset fault says.spelled t)
+canonical_fault (negsuc zero) before after text either says fault t = refl
+canonical_fault (negsuc (suc zero)) before after text either says fault t = absurd (not_both text either says.0.0 fault says.0.1 t)
 canonical_fault (negsuc (suc (suc n))) before after text either says fault t = absurd says

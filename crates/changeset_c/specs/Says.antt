@@ -1,10 +1,11 @@
 -- What the numbers that the exports answer say of a text: 0 or more, -1 (`negsuc 0`) or -2 (`negsuc 1`).
-use Rattle.std.specs.Prelude.{◌≡◌, ◌<◌, ℕ, suc, zero, ℤ, pos, negsuc, List, length}
+use Rattle.std.specs.Prelude.{◌≡◌, ℕ, suc, zero, ℤ, pos, negsuc, List, length}
 use Rattle.cs_model.specs.declared.change.Section.{Section}
 use Rattle.cs_model.specs.Text.{Spells}
 use Rattle.cs_parse.specs.declared.fault.ParseFault.{ParseFault}
 use Rattle.cs_parse.specs.Fault.{IsFault}
 use Rattle.cs_write.specs.Text.{text_of}
+use Rattle.cs_parse.specs.Answer.{IsSpelled}
 use Rattle.cs_parse.specs.Count.{HasChanges}
 use Rattle.cs_write.specs.Buffer.{given}
 use Rattle.changeset_c.specs.Kinds.{number_of}
@@ -39,10 +40,10 @@ pub record IsRefused (text before after : List ℕ) : Type 0 where
 abbrev pub CanonicalSays : ℤ → List ℕ → List ℕ → List ℕ → Type 0
 CanonicalSays (pos n) before after text = IsWritten text n before after
 CanonicalSays (negsuc zero) before after text = IsRefused text before after
-CanonicalSays (negsuc (suc zero)) before after text = after ≡ before
+CanonicalSays (negsuc (suc zero)) before after text = IsSpelled text × (after ≡ before)
 CanonicalSays (negsuc (suc (suc n))) before after text = ⊥
 
--- the number, unless memory ran out
+-- the number, or that memory ran out
 abbrev pub IsNumber : ℤ → ℕ → Type 0
 IsNumber (pos found) n = found ≡ n
 IsNumber (negsuc zero) n = ⊥
@@ -57,8 +58,3 @@ KeptBut (pos n) before after = after ≡ before
 -- the refusal of a text with this fault
 abbrev pub IsFaultAt : ℤ → ℕ → ℕ → ParseFault → Type 0
 IsFaultAt answer at kind fault = (answer ≡ negsuc 0) × (at ≡ fault.at) × (kind ≡ number_of fault.kind)
-
--- a refusal, unless memory ran out
-abbrev pub IsNegative : ℤ → Type 0
-IsNegative (pos n) = ⊥
-IsNegative (negsuc n) = n < 2

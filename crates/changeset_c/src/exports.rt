@@ -1,14 +1,14 @@
 //! What C calls, under the names of `include/changeset.h`. A slice crosses as its pointer and its length, and the
 //! allocator takes no place among the arguments.
 
-ghost use Rattle.std.specs.Prelude.{◌≡◌, List, pos, length};
+ghost use Rattle.std.specs.Prelude.{◌≡◌, List, pos, negsuc, length};
 ghost use Rattle.cs_model.specs.declared.change.Section.{Section};
 ghost use Rattle.cs_model.specs.Text.{Spells};
 ghost use Rattle.cs_parse.specs.declared.fault.ParseFault.{ParseFault};
 ghost use Rattle.cs_parse.specs.Count.{changes_in};
 ghost use Rattle.cs_parse.specs.Fault.{IsFault};
 ghost use Rattle.cs_write.specs.Text.{text_of};
-ghost use Rattle.changeset_c.specs.Says.{CheckSays, CanonicalSays, IsNumber, IsFaultAt, IsNegative, KeptBut};
+ghost use Rattle.changeset_c.specs.Says.{CheckSays, CanonicalSays, IsNumber, IsFaultAt, KeptBut};
 
 use crate::answers::{canonical, check};
 use cs_parse::every_text;
@@ -32,16 +32,16 @@ pub extern "C" fn changeset_check(text: &[u8], fault_at: &mut usize, fault_kind:
 }
 
 /// How many bytes the canonical text of what the text spells has, which is written to the front of `out` where there
-/// is room for it; or -1 where the text spells no changeset; or -2 where memory ran out. All else of `out` is left as
-/// it was.
+/// is room for it; or -1 where the text spells no changeset; or -2 where it spells one and memory ran out. All else of `out`
+/// is left as it was.
 #[unsafe(no_mangle)]
 pub extern "C" fn changeset_canonical(alloc: Global, text: &[u8], out: &mut [u8]) -> i64
     // What is answered is so, and `out` is as it says.
     ensures says { CanonicalSays result out.old out.new text.now }
     // A text that spells a changeset is answered with the length, unless memory runs out.
     ensures only { (changeset : List Section) → Spells text.now changeset → IsNumber result (length (text_of changeset)) }
-    // A text with a fault is never answered with a length.
-    ensures the_fault { (fault : ParseFault) → IsFault text.now fault → IsNegative result }
+    // A text with a fault is answered with -1.
+    ensures the_fault { (fault : ParseFault) → IsFault text.now fault → result ≡ negsuc 0 }
 {
     every_text();
     canonical(alloc, text, out)

@@ -1,3 +1,4 @@
+pub mod Conflict
 pub mod State
 pub mod Effect
 pub mod Single

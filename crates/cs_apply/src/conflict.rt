@@ -1,14 +1,30 @@
 //! Why a changeset isn't applied.
 
+ghost use Rattle.std.specs.Prelude.{◌≡◌};
+ghost use Rattle.cs_apply.specs.Conflict.{code_of};
+
 /// How a change conflicts with the rows.
 #[derive(Clone, Copy, Debug, PartialEq, Eq)]
 pub enum ConflictKind {
     /// The row that an UPDATE or a DELETE is about has other values (`SQLITE_CHANGESET_DATA`).
-    Data = 1,
+    Data,
     /// There is no such row (`SQLITE_CHANGESET_NOTFOUND`).
-    NotFound = 2,
+    NotFound,
     /// The row that an INSERT makes is there already (`SQLITE_CHANGESET_CONFLICT`).
-    Conflict = 3,
+    Conflict,
+}
+
+impl ConflictKind {
+    /// The number that SQLite's conflict handlers know it by: 1 DATA, 2 NOTFOUND, 3 CONFLICT.
+    pub fn code(self) -> u8
+        ensures { result ≡ code_of self }
+    {
+        match self {
+            ConflictKind::Data => 1,
+            ConflictKind::NotFound => 2,
+            ConflictKind::Conflict => 3,
+        }
+    }
 }
 
 /// The first conflict of a changeset: the change's place among all its changes, from 0, and its kind.

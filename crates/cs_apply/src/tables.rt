@@ -63,6 +63,12 @@ impl Tables {
         self.places.in_order(alloc)
     }
 
+    // How many places there are, the empty ones too.
+    #[cfg(test)]
+    pub(crate) fn places(&self) -> usize {
+        self.places.len()
+    }
+
     /// Applies all changes of a changeset, in order. Changes of a table that isn't in the schema, has another
     /// shape or isn't kept are passed over, and count for the position. An `Err` is the first conflict, or want
     /// of memory, and leaves the tables as they were.

@@ -20,7 +20,7 @@ pub use changeset::Changeset;
 pub use copy::CopyIn;
 pub use field::{field_push, value_push};
 pub use origin::Origin;
-pub use row_key::RowKey;
+pub use row_key::{RowKey, order_of_keys};
 pub use schema::{RefusedTables, Schema, SchemaError, SchemaFault};
 pub use seq::{Octets, Row, Seq};
 pub use shape::Shape;

@@ -1,8 +1,8 @@
 -- What reading refuses is the text's fault, and the text's fault is what reading refuses.
-use Rattle.std.proofs.Common.{◌≡◌, ℕ, suc, ◌+◌, ◌-◌, ◌<◌, ◌≤◌, ◌⊎◌, inl, inr, cond, List, [], ◌∷◌, ◌++◌, length, take, drop, get_or, Some, Result, Ok, Err, refl, sym, ap, subst, ◌∙◌, append_assoc, arith}
+use Rattle.std.proofs.Common.{◌≡◌, ℕ, suc, ◌+◌, ◌-◌, ◌<◌, ◌≤◌, ◌⊎◌, inl, inr, cond, List, [], ◌∷◌, ◌++◌, length, take, drop, get_or, Some, Result, Ok, Err, IsOk, refl, sym, ap, subst, ◌∙◌, append_assoc, arith}
 use Rattle.std.specs.Prelude.{nat_lt, slice_get}
 use Rattle.std.specs.List.{list_all}
-use Rattle.std.proofs.lemmas.Bool.{le-ltb, lt-ltb, and_parts, cases_lt}
+use Rattle.std.proofs.lemmas.Bool.{le-ltb, lt-ltb, and_parts, cases_lt, false≢true}
 use Rattle.std.proofs.lemmas.List.{append-nil, take_at, take-append-le, take-append-drop, take-take, drop_more, length-append, length-drop, get_or-take}
 use Rattle.std.proofs.lemmas.List.Folds.{list_all-append}
 use Rattle.std.proofs.lemmas.Option.{slice_get_read, get_or_from_slice_get}
@@ -15,7 +15,7 @@ use Rattle.cs_parse.specs.declared.fault.FaultKind.TheVariants.{TooLong, Truncat
 use Rattle.cs_parse.specs.declared.fault.ParseFault.{ParseFault}
 use Rattle.cs_parse.specs.declared.fault.ParseError.{ParseError}
 use Rattle.cs_parse.specs.declared.fault.ParseError.TheVariants.{Fault, Memory}
-use Rattle.cs_parse.specs.Answer.{Answers, Tells, IsRefused, HasChangeset, HasFault}
+use Rattle.cs_parse.specs.Answer.{Answers, Tells, IsSpelled, HasChangeset, HasFault}
 use Rattle.cs_parse.specs.Place.{Place, wrong}
 use Rattle.cs_parse.specs.Stands.{Stands}
 use Rattle.cs_parse.specs.Fault.{are_bytes, Viable, IsFirst, AtByte, IsTooLong, IsTruncated, IsFault}
@@ -204,20 +204,26 @@ fault_is_refused text fault fits (inr (inr h)) = short_read text fault fits h
 
 -- ---- for `parse`
 
-pub error_tells : (text : List ℕ) (e : ParseError) → IsBytes text → Answers (Err e) (answer_of text) → Tells e text
-error_tells text (Fault fault) fits given = refused_is_fault text fault fits given
-error_tells text Memory fits given = tt
-
-pub fault_told : (text : List ℕ) (result : Result (List Section) ParseError) (fault : ParseFault) → IsBytes text → Answers result (answer_of text) → IsFault text fault → IsRefused result fault
-fault_told text (Ok found) fault fits given h =
-    let both : refusal fault ≡ Ok found = sym (fault_is_refused text fault fits h) ∙ given in
-    absurd cc
-fault_told text (Err (Fault told)) fault fits given h = same_fault told fault (sym given ∙ fault_is_refused text fault fits h)
-fault_told text (Err Memory) fault fits given h = tt
-
 answer_ends : (answer : Result (List Section) ParseFault) → ((sections : List Section) × (answer ≡ Ok sections)) ⊎ ((fault : ParseFault) × (answer ≡ Err fault))
 answer_ends (Ok sections) = inl (sections, refl)
 answer_ends (Err fault) = inr (fault, refl)
+
+not_ok : (fault : ParseFault) → IsOk (refusal fault) → ⊥
+not_ok fault h = false≢true h
+
+pub error_tells : (text : List ℕ) (e : ParseError) → IsBytes text → Answers (Err e) (answer_of text) → Tells e text
+error_tells text (Fault fault) fits given = refused_is_fault text fault fits given
+error_tells text Memory fits given = elim (answer_ends (answer_of text)) as (λ w. IsSpelled text) [
+  | inl h ↦ (h.0, answer_takes text h.0 fits h.1)
+  | inr h ↦ absurd (not_ok h.0 (subst (λ (r : Result (List Section) ParseFault). IsOk r) h.1 given))
+]
+
+pub fault_told : (text : List ℕ) (result : Result (List Section) ParseError) (fault : ParseFault) → IsBytes text → Answers result (answer_of text) → IsFault text fault → result ≡ Err (Fault fault)
+fault_told text (Ok found) fault fits given h =
+    let both : refusal fault ≡ Ok found = sym (fault_is_refused text fault fits h) ∙ given in
+    absurd cc
+fault_told text (Err (Fault told)) fault fits given h = ap (λ f. Err (Fault f)) (same_fault told fault (sym given ∙ fault_is_refused text fault fits h))
+fault_told text (Err Memory) fault fits given h = absurd (not_ok fault (subst (λ (r : Result (List Section) ParseFault). IsOk r) (fault_is_refused text fault fits h) given))
 
 pub text_has : (text : List ℕ) → IsBytes text → HasChangeset text ⊎ HasFault text
 text_has text fits = elim (answer_ends (answer_of text)) as (λ w. HasChangeset text ⊎ HasFault text) [

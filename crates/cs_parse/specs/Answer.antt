@@ -1,5 +1,5 @@
 -- What `parse` answers, against what a text spells or what reading it gives.
-use Rattle.std.specs.Prelude.{◌≡◌, ℕ, List, Result, Ok, Err}
+use Rattle.std.specs.Prelude.{◌≡◌, ℕ, List, Result, Ok, Err, IsOk}
 use Rattle.std.specs.Borrow.{Bor}
 use Rattle.cs_model.specs.declared.change.Section.{Section}
 use Rattle.cs_model.specs.Text.{Spells}
@@ -14,22 +14,20 @@ IsRead (Ok found) changeset = found ≡ changeset
 IsRead (Err (Fault fault)) changeset = ⊥
 IsRead (Err Memory) changeset = Unit {0}
 
--- the answer is this one, unless memory ran out
+-- The answer is this one. Memory runs out only where this one is a changeset.
 abbrev pub Answers : Result (List Section) ParseError → Result (List Section) ParseFault → Type 0
 Answers (Ok found) answer = answer ≡ Ok found
 Answers (Err (Fault fault)) answer = answer ≡ Err fault
-Answers (Err Memory) answer = Unit {0}
+Answers (Err Memory) answer = IsOk answer
 
--- the error tells the text's fault, unless memory ran out
+-- the text spells a changeset
+abbrev pub IsSpelled : List ℕ → Type 0
+IsSpelled text = (changeset : List Section) × Spells text changeset
+
+-- the error tells the text's fault, or that memory ran out for the changeset that it spells
 abbrev pub Tells : ParseError → List ℕ → Type 0
 Tells (Fault fault) text = IsFault text fault
-Tells Memory text = Unit {0}
-
--- the answer is this fault, unless memory ran out
-abbrev pub IsRefused : Result (List Section) ParseError → ParseFault → Type 0
-IsRefused (Ok found) fault = ⊥
-IsRefused (Err (Fault told)) fault = told ≡ fault
-IsRefused (Err Memory) fault = Unit {0}
+Tells Memory text = IsSpelled text
 
 -- the text spells one changeset, and has no fault
 pub record HasChangeset (text : List ℕ) : Type 0 where

@@ -49,7 +49,8 @@ impl PieceParser {
     }
 
     /// Takes the next piece. It is a fault from the piece on that holds the fault's byte, and then at every call,
-    /// which takes nothing more; that the text isn't whole yet is none. `Memory` leaves the parser as it was.
+    /// which takes nothing more; that the text isn't whole yet is none. `Memory` leaves the parser as it was, and doesn't come
+    /// behind a fault.
     pub fn feed(&mut self, alloc: Global, piece: &[u8]) -> Result<(), ParseError>
         // The piece is added, unless the text has a fault that lasts or memory runs out.
         ensures fed { Fed result self.old piece.now self.new }
@@ -57,6 +58,8 @@ impl PieceParser {
         ensures told { IfErr result (λ error. TellsLasting error self.new) }
         // Where none is told, the text goes on.
         ensures going { OnOk result (GoesOn self.new) }
+        // A fault that was told before is told again.
+        ensures again { (fault : ParseFault) → IsLasting self.old fault → result ≡ Err (ParseError.Fault fault) }
     {
         self.fed(alloc, piece)
     }
@@ -64,7 +67,9 @@ impl PieceParser {
     // the same, as the answer is determined by the text
     fn fed(&mut self, alloc: Global, piece: &[u8]) -> Result<(), ParseError>
         ensures fed { Fed result self.old piece.now self.new }
+        ensures old_bytes { (i : ℕ) → get_or self.old i 0 < 256 }
         ensures bytes { (i : ℕ) → get_or self.new i 0 < 256 }
+        ensures again { (fault : ParseFault) → fault_in self.old ≡ Some fault → result ≡ Err (ParseError.Fault fault) }
     {
         if let Some(fault) = lasting_of(&self.answer) {
             return Err(ParseError::Fault(fault));

@@ -6,7 +6,7 @@ ghost use Rattle.cs_parse.specs.Fault.{IsFault};
 ghost use Rattle.cs_model.specs.declared.change.Section.{Section};
 ghost use Rattle.cs_model.specs.Text.{Spells};
 ghost use Rattle.cs_model.specs.Changeset.{most_bytes};
-ghost use Rattle.cs_parse.specs.Answer.{IsRead, Answers, Tells, IsRefused, HasChangeset, HasFault};
+ghost use Rattle.cs_parse.specs.Answer.{IsRead, Answers, Tells, HasChangeset, HasFault};
 ghost use Rattle.cs_parse.specs.Count.{changes_in, counted_answer, HasChanges};
 ghost use Rattle.cs_parse.specs.Reading.{answer_of, fault_of, sections_at, placed, cut};
 
@@ -48,7 +48,17 @@ fn whole_of(alloc: Global, text: &[u8]) -> Result<Seq<Section>, ParseError>
             text.len(),
             FaultKind::Truncated,
         ))),
-        Err(Stop::Memory) => Err(ParseError::Memory),
+        Err(Stop::Memory) => Err(unbuilt(text)),
+    }
+}
+
+// What is told where memory runs out: a fault is found without any.
+fn unbuilt(text: &[u8]) -> ParseError
+    ensures { Answers (Err result) (placed (length text.now) (sections_at text.now)) }
+{
+    match sections_counted(text) {
+        Ok(_) => ParseError::Memory,
+        Err(refusal) => ParseError::Fault(fault_from(refusal, text.len(), FaultKind::Truncated)),
     }
 }
 
@@ -74,7 +84,8 @@ fn read(alloc: Global, text: &[u8]) -> Result<Seq<Section>, ParseError>
     whole_of(alloc, text)
 }
 
-/// The changeset that `text` spells; else the text's one fault, or `Memory`. Whatever the answer, nothing is changed.
+/// The changeset that `text` spells; else the text's one fault. `Memory` comes only where the text spells a changeset, since
+/// a fault is found without memory. Whatever the answer, nothing is changed.
 /// The fault is the first byte after which no text can be that of a changeset, and what is wrong with it there. Of a
 /// text of more than 16,777,216 bytes only so many are read: it is `TooLong`, unless its fault stands among them.
 pub fn parse(alloc: Global, text: &[u8]) -> Result<Changeset, ParseError>
@@ -82,10 +93,10 @@ pub fn parse(alloc: Global, text: &[u8]) -> Result<Changeset, ParseError>
     ensures found { IfOk result (λ changeset. Spells text.now changeset) }
     // What is spelled so is read, unless memory runs out.
     ensures only { (changeset : List Section) → Spells text.now changeset → IsRead result changeset }
-    // What is told is the text's fault.
+    // What is told is the text's fault; or memory ran out, and the text spells a changeset.
     ensures faulty { IfErr result (λ error. Tells error text.now) }
-    // The text's fault is told, unless memory runs out.
-    ensures the_fault { (fault : ParseFault) → IsFault text.now fault → IsRefused result fault }
+    // The text's fault is told, whether there is memory or not.
+    ensures the_fault { (fault : ParseFault) → IsFault text.now fault → result ≡ Err (ParseError.Fault fault) }
     // And the answer is determined by the text.
     ensures exact { Answers result (answer_of text.now) }
 {

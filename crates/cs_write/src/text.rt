@@ -108,8 +108,8 @@ fn bytes_of(alloc: Global, groups: &Groups, len: usize) -> Result<Vec<u8>, Alloc
     Ok(out)
 }
 
-/// The canonical text of a changeset: that of `canonical`, with shortest varints and indirect bytes 0 and 1. The
-/// buffer is taken once, at the text's length, and nothing of the changeset is copied besides. `AllocError` where
+/// The canonical text of a changeset: that of `canonical`, with shortest varints and indirect bytes 0 and 1. Nothing of
+/// the changeset is copied besides. `AllocError` where
 /// memory runs out.
 pub fn write(alloc: Global, changeset: &Changeset) -> Result<Bytes, AllocError>
     ensures { IfOk result (λ text. text ≡ text_of changeset.now) }

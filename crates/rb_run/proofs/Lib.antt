@@ -1,4 +1,5 @@
 pub mod Numbers
 pub mod StreamLaws
 pub mod ScriptLaws
+pub mod EndLaws
 pub mod LineLaws

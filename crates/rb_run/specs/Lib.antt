@@ -4,4 +4,6 @@ pub mod Texts
 pub mod Lines
 pub mod Output
 pub mod Streams
+pub mod Ends
+pub mod Endings
 pub mod Script

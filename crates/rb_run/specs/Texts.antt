@@ -9,8 +9,7 @@ use Rattle.cs_model.specs.FieldBytes.{value_bytes}
 use Rattle.cs_parse.specs.declared.fault.FaultKind.{FaultKind}
 use Rattle.cs_parse.specs.declared.fault.FaultKind.TheVariants as kind
 use Rattle.cs_parse.specs.declared.fault.ParseFault.{ParseFault}
-use Rattle.cs_apply.specs.declared.conflict.ConflictKind.{ConflictKind}
-use Rattle.cs_apply.specs.declared.conflict.ConflictKind.TheVariants as conflict
+use Rattle.cs_apply.specs.Conflict.{code_of}
 use Rattle.cs_write.specs.Text.{text_of}
 use Rattle.rb_core.specs.declared.entry.Item.{Item}
 use Rattle.rb_core.specs.declared.reply.Reply.{Reply}
@@ -37,12 +36,6 @@ kind_name kind.ValueTooLong = codes "ValueTooLong"
 kind_name kind.TooLong = codes "TooLong"
 kind_name kind.Truncated = codes "Truncated"
 
--- the number of a conflict's kind
-abbrev pub conflict_number : ConflictKind → ℕ
-conflict_number conflict.Data = 1
-conflict_number conflict.NotFound = 2
-conflict_number conflict.Conflict = 3
-
 -- a refusal: its name, and its values
 abbrev pub refusal_text : Refusal → List ℕ
 refusal_text refusal.NoPublisher = codes "refused NoPublisher"
@@ -55,7 +48,7 @@ refusal_text (refusal.Empty front) = codes "refused Empty " ++ decimal front
 refusal_text refusal.Seen = codes "refused Seen"
 refusal_text (refusal.UnknownTable i) = codes "refused UnknownTable " ++ decimal i
 refusal_text (refusal.ShapeDiffers i) = codes "refused ShapeDiffers " ++ decimal i
-refusal_text (refusal.Conflict c) = codes "refused Conflict " ++ (decimal c.position ++ (codes " " ++ decimal (conflict_number c.kind)))
+refusal_text (refusal.Conflict c) = codes "refused Conflict " ++ (decimal c.position ++ (codes " " ++ decimal (code_of c.kind)))
 
 -- a reply, without the end of its line
 abbrev pub reply_text : Reply → List ℕ

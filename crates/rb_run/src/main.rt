@@ -3,6 +3,7 @@
 #![tactic(auto)]
 
 mod command;
+mod ending;
 mod fault;
 mod forms;
 mod laws;
@@ -16,37 +17,33 @@ mod words;
 use clap::Error;
 use clap::error::ErrorKind;
 use command::matches;
+use ending::Ending;
 use fault::ScriptFault;
 use rb_core::Config;
 use script::run_script;
 use std::alloc::Global;
-use std::io::{BufWriter, Write};
+use std::io::BufWriter;
 use std::process::ExitCode;
 use std::{env, io};
 
 fn main(rt: HostRuntime) -> ExitCode {
-    let words = match words_of(&rt) {
-        Ok(words) => words,
-        Err(_) => return stopped(&rt, ScriptFault::Memory),
-    };
-    match matches(rt.alloc(), &words) {
-        Ok(_) => script_of(&rt),
-        Err(shown) => told(&rt, &shown),
+    let ending = run(&rt);
+    if let Ending::Stopped(fault) = &ending {
+        // nothing is left to do where even this can't be said
+        let _ = eprintln!(rt; "rb_run: {fault}");
     }
+    ExitCode::from(ending.status())
 }
 
-// Prints help, or what is wrong with the command line.
-fn told(rt: &HostRuntime, shown: &Error) -> ExitCode {
-    if shown.kind() == ErrorKind::OutOfMemory {
-        return stopped(rt, ScriptFault::Memory);
-    }
-    let printed = shown.print(rt);
-    if shown.use_stderr() {
-        ExitCode::from(2)
-    } else if printed.is_err() {
-        stopped(rt, ScriptFault::Write)
-    } else {
-        ExitCode::SUCCESS
+// Does what the command line asks for.
+fn run(rt: &HostRuntime) -> Ending {
+    match words_of(rt) {
+        Ok(words) => called(rt, &words),
+        Err(why) if why.kind() == io::ErrorKind::InvalidData => {
+            let _ = eprintln!(rt; "rb_run: an argument isn't UTF-8");
+            Ending::Misused
+        }
+        Err(_) => Ending::Stopped(ScriptFault::Memory),
     }
 }
 
@@ -58,33 +55,39 @@ fn words_of(rt: &HostRuntime) -> io::Result<Vec<String>> {
     Ok(words)
 }
 
-// Runs the script on standard input, with its answers on standard output.
-fn script_of(rt: &HostRuntime) -> ExitCode {
-    match answered(rt, rt.alloc()) {
-        Ok(()) => ExitCode::SUCCESS,
-        Err(fault) => stopped(rt, fault),
+// Does what these words ask for, of which the first is the program's name.
+fn called(rt: &HostRuntime, words: &[String]) -> Ending {
+    match matches(rt.alloc(), words) {
+        Ok(_) => scripted(rt, rt.alloc()),
+        Err(shown) => told(rt, &shown),
     }
 }
 
-fn answered(rt: &HostRuntime, alloc: Global) -> Result<(), ScriptFault> {
+// Prints help, the version, or what is wrong with the command line.
+fn told(rt: &HostRuntime, shown: &Error) -> Ending {
+    if shown.kind() == ErrorKind::OutOfMemory {
+        return Ending::Stopped(ScriptFault::Memory);
+    }
+    let printed = shown.print(rt);
+    if shown.use_stderr() {
+        return Ending::Misused;
+    }
+    match printed {
+        Ok(()) => Ending::Done,
+        Err(why) => Ending::Stopped(ScriptFault::Write(why)),
+    }
+}
+
+// Answers the script on standard input, on standard output.
+fn scripted(rt: &HostRuntime, alloc: Global) -> Ending {
     let mut reader = rt.stdin();
-    let mut writer = match BufWriter::with_capacity(alloc, 65_536, rt.stdout()) {
-        Ok(writer) => writer,
-        Err(_) => return Err(ScriptFault::Memory),
+    let Ok(mut writer) = BufWriter::with_capacity(alloc, 65_536, rt.stdout()) else {
+        return Ending::Stopped(ScriptFault::Memory);
     };
-    let run = run_script(alloc, &mut reader, &mut writer, Config::standard());
-    let flushed = writer.flush();
-    run?;
-    match flushed {
-        Ok(()) => Ok(()),
-        Err(_) => Err(ScriptFault::Write),
+    match run_script(alloc, &mut reader, &mut writer, Config::standard()) {
+        Ok(()) => Ending::Done,
+        Err(fault) => Ending::Stopped(fault),
     }
-}
-
-// Says on standard error why the program stopped. Nothing is left to do where even that fails.
-fn stopped(rt: &HostRuntime, fault: ScriptFault) -> ExitCode {
-    let _ = eprintln!(rt; "rb_run: {fault}");
-    ExitCode::FAILURE
 }
 
 #[cfg(test)]

@@ -3,12 +3,13 @@
 ghost use Rattle.std.specs.Prelude.{◌≡◌, ◌<◌, ◌≤◌, ◌^◌, ℕ, List, length, take, replicate, vec_len, Ok, Err, OnOk, OnErr, IfErr, IfOk};
 ghost use Rattle.std.specs.Io.KnownBytes.{Appends, Consumes, Keeps, IsAtEnd};
 ghost use Rattle.rb_run.specs.Lines.{line_answer};
-ghost use Rattle.rb_run.specs.Output.{place_at, opening, written, after, answers, longer};
+ghost use Rattle.rb_run.specs.Output.{place_at, written, after, longer};
 ghost use Rattle.rb_run.specs.Streams.{AppendsFront};
+ghost use Rattle.rb_run.specs.Ends.{Ends, IsOfReader, IsOfAnswers};
 
 use crate::fault::ScriptFault;
 use crate::lines::{MOST_OF_LINE, Stage, answer};
-use crate::streams::{read_some, write_whole};
+use crate::streams::{flush, read_some, write_whole};
 use cs_model::Schema;
 use rb_core::Config;
 use std::alloc::{AllocError, Global};
@@ -23,26 +24,36 @@ const PIECE: usize = 65_536;
 /// Answers the lines that a reader gives, in order, on a writer. Each line has one answer line, but an empty
 /// line has none and `rows` has several. The last line may lack its end.
 ///
-/// `Read` where the reader fails, `Write` where the writer fails or takes no byte, `Endless` where more than
-/// 16,777,216 bytes come, `Memory` where memory runs out: the answers to the whole lines before are written
-/// then, the last one perhaps in part.
+/// Whole lines are answered, and the writer flushed, before the next read waits.
+///
+/// `Read` where the reader fails, and `Endless` where more than 16,777,216 bytes come: the answers to all whole lines before
+/// are written then. `Write` where the writer fails or takes no byte, `Memory` where memory runs out: a front of the answers
+/// is written then, the last of them perhaps in part.
 pub fn run_script<R: Read, W: Write>(
     alloc: Global,
     reader: &mut R,
     writer: &mut W,
     config: Config,
 ) -> Result<(), ScriptFault>
-    // All of the input is read, and the answers to it are written.
-    ensures done { OnOk result ((input : List ℕ) × Consumes (R.remaining reader.old) (R.remaining reader.new) input
-        × IsAtEnd (R.remaining reader.new) × (length input ≤ 16777216)
-        × Appends (W.contents writer.old) (W.contents writer.new) (answers config input)) }
-    // What is written by then is a front of the answers to what is read by then.
-    ensures stopped { OnErr result ((input : List ℕ) × Consumes (R.remaining reader.old) (R.remaining reader.new) input
-        × AppendsFront (W.contents writer.old) (W.contents writer.new) (answers config input)) }
-    // Too much has come, and all lines that end within the limit are answered.
-    ensures endless { result ≡ Err ScriptFault.Endless → (input : List ℕ) × Consumes (R.remaining reader.old) (R.remaining reader.new) input
-        × (16777216 < length input)
-        × Appends (W.contents writer.old) (W.contents writer.new) (written config opening (take 16777216 input)) }
+    // What is written is the answers to what is read: to all of it, or, after a fault, as far as the fault lets them be.
+    ensures { Ends config result (R.remaining reader.old) (R.remaining reader.new) (W.contents writer.old) (W.contents writer.new) }
+{
+    let answered = answer_all(alloc, reader, writer, config);
+    let handed_on = hand_on(writer);
+    match answered {
+        Ok(()) => handed_on,
+        Err(fault) => Err(fault),
+    }
+}
+
+// The same, but for what the writer holds back at the end.
+fn answer_all<R: Read, W: Write>(
+    alloc: Global,
+    reader: &mut R,
+    writer: &mut W,
+    config: Config,
+) -> Result<(), ScriptFault>
+    ensures { Ends config result (R.remaining reader.old) (R.remaining reader.new) (W.contents writer.old) (W.contents writer.new) }
 {
     let mut buffer = zeros(alloc, PIECE)?;
     let piece = buffer.as_mut_slice();
@@ -50,6 +61,8 @@ pub fn run_script<R: Read, W: Write>(
     let mut line = Vec::new(alloc);
     let mut count = 0;
     for _ in 0..=MOST_OF_SCRIPT {
+        // whoever waits for answers has them before the next read waits
+        hand_on(writer)?;
         let read = read_piece(reader, piece)?;
         if read == 0 {
             answer_to(alloc, config, stage, &line, writer)?;
@@ -88,11 +101,21 @@ fn read_piece<R: Read>(reader: &mut R, piece: &mut [u8]) -> Result<usize, Script
     ensures bytes { IfOk result (λ n. Consumes (R.remaining reader.old) (R.remaining reader.new) (take n piece.new)) }
     ensures end { IfOk result (λ n. n ≡ 0 → IsAtEnd (R.remaining reader.new)) }
     ensures err { OnErr result (Keeps (R.remaining reader.old) (R.remaining reader.new)) }
-    ensures fault { IfErr result (λ e. e ≡ ScriptFault.Read) }
+    ensures fault { IfErr result IsOfReader }
 {
     match read_some(reader, piece) {
         Ok(n) => Ok(n),
-        Err(_) => Err(ScriptFault::Read),
+        Err(why) => Err(ScriptFault::Read(why)),
+    }
+}
+
+fn hand_on<W: Write>(writer: &mut W) -> Result<(), ScriptFault>
+    ensures kept { Keeps (W.contents writer.old) (W.contents writer.new) }
+    ensures fault { IfErr result IsOfAnswers }
+{
+    match flush(writer) {
+        Ok(()) => Ok(()),
+        Err(why) => Err(ScriptFault::Write(why)),
     }
 }
 
@@ -108,7 +131,7 @@ fn feed<W: Write>(
     ensures ok { IfOk result (λ next. Appends (W.contents writer.old) (W.contents writer.new) (written config (place_at stage line.items) bytes.now)
         × (place_at next.0 next.1.items ≡ after config (place_at stage line.items) bytes.now)) }
     ensures err { OnErr result (AppendsFront (W.contents writer.old) (W.contents writer.new) (written config (place_at stage line.items) bytes.now)) }
-    ensures faults { IfErr result (λ e. (e ≡ ScriptFault.Endless) → ⊥) }
+    ensures faults { IfErr result IsOfAnswers }
 {
     let mut stage = stage;
     let mut line = line;
@@ -144,11 +167,11 @@ fn answer_to<W: Write>(
     ensures ok { IfOk result (λ next. Appends (W.contents writer.old) (W.contents writer.new) (line_answer config stage line.now).0
         × (next ≡ (line_answer config stage line.now).1)) }
     ensures err { OnErr result (AppendsFront (W.contents writer.old) (W.contents writer.new) (line_answer config stage line.now).0) }
-    ensures faults { IfErr result (λ e. (e ≡ ScriptFault.Endless) → ⊥) }
+    ensures faults { IfErr result IsOfAnswers }
 {
     let (text, next) = answer(alloc, config, stage, line)?;
     match write_whole(writer, &text) {
         Ok(()) => Ok(next),
-        Err(_) => Err(ScriptFault::Write),
+        Err(why) => Err(ScriptFault::Write(why)),
     }
 }

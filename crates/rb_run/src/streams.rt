@@ -43,6 +43,20 @@ pub fn write_whole<W: Write>(writer: &mut W, bytes: &[u8]) -> io::Result<()>
     Ok(())
 }
 
+/// Hands on what the writer holds back. What the writer interrupts is tried again. An `Err` has handed on some of it.
+#[tactic(auto, using(crate::proofs::StreamLaws::known_bytes))]
+pub fn flush<W: Write>(writer: &mut W) -> io::Result<()>
+    ensures { Keeps (W.contents writer.old) (W.contents writer.new) }
+{
+    for _ in 0..u64::MAX {
+        match writer.flush() {
+            Err(e) if e.kind() == ErrorKind::Interrupted => {}
+            flushed => return flushed,
+        }
+    }
+    writer.flush()
+}
+
 // Writes a front of some bytes, and tells how many. To take none of them is a fault.
 #[tactic(auto, using(crate::proofs::StreamLaws::known_bytes))]
 fn write_some<W: Write>(writer: &mut W, bytes: &[u8]) -> io::Result<usize>

@@ -10,6 +10,7 @@ mod changes;
 mod cuts;
 mod faults;
 mod lines;
+mod program;
 mod recorded;
 mod streams;
 

@@ -2,9 +2,8 @@
 
 ghost use Rattle.std.specs.Prelude.{◌≡◌, ◌++◌, IfOk, OnOk, codes, length, map as list_map, string_bytes};
 ghost use Rattle.std.specs.List.{flat_map};
-ghost use Rattle.rb_run.specs.Texts.{kind_name, conflict_number, refusal_text, reply_text, bytes_word, entry_text, value_text, row_text, rows_text};
+ghost use Rattle.rb_run.specs.Texts.{kind_name, refusal_text, reply_text, bytes_word, entry_text, value_text, row_text, rows_text};
 
-use cs_apply::ConflictKind;
 use cs_model::{Field, Row, RowKey, Value, value_push};
 use cs_parse::FaultKind;
 use rb_core::{Entry, Refusal, Reply};
@@ -60,7 +59,7 @@ pub fn text_of_refusal(alloc: Global, why: Refusal) -> Result<String, AllocError
         Refusal::ShapeDiffers(i) => format!(in alloc; "refused ShapeDiffers {i}"),
         Refusal::Conflict(conflict) => {
             let position = conflict.position;
-            let kind = number_of_kind(conflict.kind);
+            let kind = conflict.kind.code();
             format!(in alloc; "refused Conflict {position} {kind}")
         }
     }
@@ -86,16 +85,6 @@ fn name_of(kind: FaultKind) -> &'static str
         FaultKind::ValueTooLong => "ValueTooLong",
         FaultKind::TooLong => "TooLong",
         FaultKind::Truncated => "Truncated",
-    }
-}
-
-fn number_of_kind(kind: ConflictKind) -> u64
-    ensures { result ≡ conflict_number kind }
-{
-    match kind {
-        ConflictKind::Data => 1,
-        ConflictKind::NotFound => 2,
-        ConflictKind::Conflict => 3,
     }
 }
 

@@ -1,8 +1,11 @@
 //! So many deletes that the empty places are swept.
 
 use super::fixture::Do::{Delete, Insert};
-use super::fixture::{applies, conflict, held, key, tables};
+use super::fixture::{Held, applies, conflict, key, tables, tables_with};
 use crate::ConflictKind::NotFound;
+use crate::Tables;
+use std::alloc::{AllocError, Global};
+use std::process::Abort;
 use std::test::Fail;
 
 #[test]
@@ -45,5 +48,57 @@ fn swept_and_filled_again(rt: HostRuntime) -> Result<(), Fail> {
         (27, b'x', b'z'),
     ];
     applies(&rt, alloc, &mut tables, &again, Ok(&more))?;
+    Ok(())
+}
+
+// The rows from one number up to another.
+fn rows(alloc: Global, from: i64, to: i64) -> Result<Vec<Held>, AllocError> {
+    let mut rows = Vec::new(alloc);
+    for number in from..to {
+        rows.push((number, b'x', b'z'))?;
+    }
+    Ok(rows)
+}
+
+// Deletes the first 16 rows of 32, or inserts them again. None of the places goes.
+fn halves(
+    rt: &impl Abort,
+    alloc: Global,
+    tables: &mut Tables,
+    deletes: bool,
+    left: &[Held],
+) -> Result<(), Fail> {
+    let mut changes = Vec::new(alloc);
+    for number in 0..16 {
+        changes.push(if deletes {
+            Delete(number, b'x', b'z')
+        } else {
+            Insert(number, b'x', b'z')
+        })?;
+    }
+    applies(rt, alloc, tables, &changes, Ok(left))?;
+    assert_eq!(rt; tables.places(), 32);
+    Ok(())
+}
+
+// Empty places are counted: those that are filled again don't count, nor those of a changeset that was taken back; and
+// they are swept as soon as they are more than half.
+#[test]
+fn swept_when_more_than_half_are_empty(rt: HostRuntime) -> Result<(), Fail> {
+    let alloc = rt.alloc();
+    let all = rows(alloc, 0, 32)?;
+    let half = rows(alloc, 16, 32)?;
+    let mut tables = tables_with(alloc, &all)?;
+    for _ in 0..3 {
+        halves(&rt, alloc, &mut tables, true, &half)?;
+        halves(&rt, alloc, &mut tables, false, &all)?;
+    }
+    let twice = [Delete(0, b'x', b'z'), Delete(0, b'x', b'z')];
+    applies(&rt, alloc, &mut tables, &twice, Err(conflict(1, NotFound)))?;
+    halves(&rt, alloc, &mut tables, true, &half)?;
+    let one = [Delete(16, b'x', b'z')];
+    let left = rows(alloc, 17, 32)?;
+    applies(&rt, alloc, &mut tables, &one, Ok(&left))?;
+    assert_eq!(rt; tables.places(), 15);
     Ok(())
 }

@@ -42,3 +42,20 @@ fn ranges_of_limits(rt: HostRuntime) {
         }
     }
 }
+
+#[test]
+fn faults_say_their_range(rt: HostRuntime) -> Result<(), Fail> {
+    let alloc = rt.alloc();
+    for (fault, text) in [
+        (ConfigFault::Batch, "batch is 1 to 256"),
+        (ConfigFault::Window, "window is 1 to 64"),
+        (ConfigFault::Timeout, "timeout is 1 to 1000000000"),
+        (ConfigFault::Capacity, "capacity is 1 to 1048576"),
+        (ConfigFault::Intake, "intake is 1 to 4096"),
+        (ConfigFault::Appliers, "appliers is 1 to 16"),
+    ] {
+        let said = format!(in alloc; "{fault}")?;
+        assert_eq!(rt; said.as_str(), text);
+    }
+    Ok(())
+}

@@ -1,7 +1,8 @@
-//! Readers and writers that fail.
+//! Readers and writers that fail, that interrupt, and that wait for answers.
 
 use super::*;
 use crate::fault::ScriptFault;
+use std::cell::Cell;
 use std::io;
 use std::io::{ErrorKind, Read, Write};
 
@@ -47,13 +48,110 @@ impl Write for Full {
     }
 }
 
-// The run stopped so. Where memory ran out before, for the run or for the list that takes its answers, that is
+// A reader and a writer that interrupt each call before they do it.
+#[derive(Drop)]
+struct Hasty<T> {
+    inner: T,
+    again: bool,
+}
+
+impl<T> Hasty<T> {
+    fn new(inner: T) -> Hasty<T> {
+        Hasty {
+            inner,
+            again: false,
+        }
+    }
+
+    fn calm(&mut self) -> io::Result<()> {
+        self.again = !self.again;
+        if self.again {
+            return Err(io::Error::from(ErrorKind::Interrupted));
+        }
+        Ok(())
+    }
+}
+
+impl<T: Read> Read for Hasty<T> {
+    fn read(&mut self, buf: &mut [u8]) -> io::Result<usize> {
+        self.calm()?;
+        self.inner.read(buf)
+    }
+}
+
+impl<T: Write> Write for Hasty<T> {
+    fn write(&mut self, buf: &[u8]) -> io::Result<usize> {
+        self.calm()?;
+        self.inner.write(buf)
+    }
+
+    fn flush(&mut self) -> io::Result<()> {
+        self.calm()?;
+        self.inner.flush()
+    }
+}
+
+// A reader of one line at a time, which gives the next one only when the answers to those before are handed on.
+#[derive(Drop)]
+struct Asking<'a> {
+    lines: &'a [&'a [u8]],
+    asked: usize,
+    answered: &'a Cell<usize>,
+}
+
+impl Read for Asking<'_> {
+    fn read(&mut self, buf: &mut [u8]) -> io::Result<usize> {
+        if self.answered.get() != self.asked {
+            return Err(io::Error::from(ErrorKind::WouldBlock));
+        }
+        let Some(line) = self.lines.get(self.asked) else {
+            return Ok(0);
+        };
+        self.asked += 1;
+        let mut rest: &[u8] = line;
+        rest.read(buf)
+    }
+}
+
+// A writer that holds lines back until it is flushed.
+#[derive(Drop)]
+struct Telling<'a> {
+    lines: usize,
+    answered: &'a Cell<usize>,
+}
+
+impl Write for Telling<'_> {
+    fn write(&mut self, buf: &[u8]) -> io::Result<usize> {
+        for byte in buf {
+            if *byte == b'\n' {
+                self.lines = self.lines.saturating_add(1);
+            }
+        }
+        Ok(buf.len())
+    }
+
+    fn flush(&mut self) -> io::Result<()> {
+        self.answered.set(self.lines);
+        Ok(())
+    }
+}
+
+// The run stopped with this text. Where memory ran out before, for the run or for the list that takes its answers, that is
 // handed up.
-fn stopped(rt: &impl Abort, run: Result<(), ScriptFault>, want: ScriptFault) -> Result<(), Fail> {
-    if run != Err(want) && (run == Err(ScriptFault::Memory) || run == Err(ScriptFault::Write)) {
+fn stopped(
+    rt: &impl Abort,
+    alloc: Global,
+    run: Result<(), ScriptFault>,
+    want: &str,
+) -> Result<(), Fail> {
+    let Err(fault) = run else {
+        return Err("the script ended")?;
+    };
+    let text = format!(in alloc; "{fault}")?;
+    if text.as_str() != want && matches!(&fault, ScriptFault::Memory | ScriptFault::Write(_)) {
         return Err("out of memory")?;
     }
-    assert!(rt; run == Err(want));
+    assert_eq!(rt; text.as_str(), want);
     Ok(())
 }
 
@@ -66,14 +164,61 @@ fn stops(rt: HostRuntime) -> Result<(), Fail> {
         rest: b"publisher\nturn\ntur",
     };
     let read = run_script(alloc, &mut failing, &mut written, config);
-    stopped(&rt, read, ScriptFault::Read)?;
+    stopped(&rt, alloc, read, "read fault: timed out")?;
     assert!(rt; written.as_slice() == b"publisher 0\nidle\n".as_slice());
     let mut script: &[u8] = b"publisher\n";
     let full = run_script(alloc, &mut script, &mut Full, config);
-    stopped(&rt, full, ScriptFault::Write)?;
+    stopped(&rt, alloc, full, "write fault: write zero")?;
     let mut nothing = Vec::new(alloc);
     let endless = run_script(alloc, &mut Unending, &mut nothing, config);
-    stopped(&rt, endless, ScriptFault::Endless)?;
+    stopped(
+        &rt,
+        alloc,
+        endless,
+        "script too long: more than 16777216 bytes",
+    )?;
     assert!(rt; nothing.is_empty());
+    let memory = format!(in alloc; "{}", ScriptFault::Memory)?;
+    assert_eq!(rt; memory.as_str(), "out of memory");
+    Ok(())
+}
+
+#[test]
+fn what_is_interrupted_is_tried_again(rt: HostRuntime) -> Result<(), Fail> {
+    let alloc = rt.alloc();
+    let script: &[u8] = b"publisher\nturn\n";
+    let mut reader = Hasty::new(script);
+    let mut writer = Hasty::new(Vec::new(alloc));
+    run_script(alloc, &mut reader, &mut writer, Config::standard())?;
+    assert!(rt; writer.inner.as_slice() == b"publisher 0\nidle\n".as_slice());
+    Ok(())
+}
+
+#[test]
+fn lines_are_answered_before_the_next_read(rt: HostRuntime) -> Result<(), Fail> {
+    let alloc = rt.alloc();
+    let answered = Cell::new(0);
+    let lines: [&[u8]; 4] = [b"publisher\n", b"turn\n", b"reset 0\n", b"turn\n"];
+    let mut reader = Asking {
+        lines: &lines,
+        asked: 0,
+        answered: &answered,
+    };
+    let mut writer = Telling {
+        lines: 0,
+        answered: &answered,
+    };
+    run_script(alloc, &mut reader, &mut writer, Config::standard())?;
+    assert_eq!(rt; answered.get(), 4);
+    // the answer to a last line without its end is handed on too
+    let last: [&[u8]; 1] = [b"turn"];
+    let rest = Cell::new(0);
+    let mut writer = Telling {
+        lines: 0,
+        answered: &rest,
+    };
+    let mut reader: &[u8] = last[0];
+    run_script(alloc, &mut reader, &mut writer, Config::standard())?;
+    assert_eq!(rt; rest.get(), 1);
     Ok(())
 }

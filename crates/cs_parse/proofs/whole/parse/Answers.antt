@@ -1,4 +1,4 @@
-use Rattle.std.proofs.Common.{Ok, Err, sym, subst, ◌∙◌, arith}
+use Rattle.std.proofs.Common.{Ok, Err, sym, ap, subst, ◌∙◌, arith}
 use Rattle.std.proofs.lemmas.Result.{err_from_is_err_and}
 use Rattle.cs_model.specs.Text.{Spells}
 use Rattle.cs_parse.proofs.TextLaws.{answer_takes, only_one, none_missed}
@@ -15,7 +15,7 @@ pub returns-clause-only : goal.returns-clause-only
 returns-clause-only c = λ changeset h. c.from_seq.ensures ∙ only_one c.args.text.now c.in_ok-sections.sections changeset c.in_ok-sections.ensures h
 
 pub returns-clause-the_fault : goal.returns-clause-the_fault
-returns-clause-the_fault c = λ fault h. fault_told c.args.text.now (Ok c.in_ok-sections.sections) fault (λ i. omega (arith, c.type_inv.text i)) c.in_ok-sections.ensures h
+returns-clause-the_fault c = λ fault h. ap (λ s. Ok s) c.from_seq.ensures ∙ fault_told c.args.text.now (Ok c.in_ok-sections.sections) fault (λ i. omega (arith, c.type_inv.text i)) c.in_ok-sections.ensures h
 
 pub returns-in_err-sections-clause-faulty : goal.returns-in_err-sections-clause-faulty
 returns-in_err-sections-clause-faulty c =

@@ -1,7 +1,7 @@
 use Rattle.std.proofs.Common.{◌≡◌, ◌≤◌, length}
 use Rattle.rb_run.specs.Output.{place_at}
-use Rattle.rb_run.proofs.ScriptLaws.{Progress}
-use Rattle.rb_run.proofs.script.run_script.Given as goal
+use Rattle.rb_run.proofs.EndLaws.{Progress}
+use Rattle.rb_run.proofs.script.answer_all.Given as goal
 
 -- each turn has read a byte at least, and no more than the limit
 abbrev pub invariant-loop : goal.invariant-loop

@@ -1,0 +1,85 @@
+#!/bin/sh
+# Checks that memory is given back: by both exports for C at every call, and by the program at its end. It prints the numbers.
+#   sh checks/leaks.sh        needs gcc, and what `rt run` and `rt lib` leave (README.md)
+# RT names the prover's command where it isn't `rt`.
+cd "$(dirname "$0")/.." || exit 2
+: "${RT:=rt}"
+program=crates/rb_run/out/rb_run library=crates/changeset_c/out/libchangeset_c.a
+for made in $program $library; do
+    [ -e $made ] || { echo "no $made: see README.md" >&2; exit 2; }
+done
+work=$(mktemp -d) || exit 2
+trap 'rm -rf "$work"' EXIT
+bad=0
+
+# the toolchain's three functions between the library and malloc
+heap="$(dirname "$($RT doc)")/c/liblibc_c.a"
+gcc -O2 -Wall -Wextra -I include checks/leaks.c checks/count.c $library "$heap" -o "$work/leaks" &&
+    gcc -O2 -Wall -Wextra -shared -fPIC checks/count.c -o "$work/count.so" || exit 2
+
+# told NAME COMMAND..: prints a check's line.
+told() {
+    name=$1
+    shift
+    if "$@"; then
+        echo "ok $name"
+    else
+        echo "FAILED $name"
+        bad=1
+    fi
+}
+
+told 'the exports give back what they take' "$work/leaks"
+
+# all_kinds ROUNDS: a script whose rounds apply a row, meet a conflict twice, and make three faults and other refusals
+all_kinds() {
+    awk -v rounds="$1" 'BEGIN {
+        print "table 540201007400\npublisher\nsubscribe 0"
+        for (i = 1; i <= rounds; i++) {
+            row = sprintf("120001%016x030178", i)
+            print "feed 0 540201007400\nfeed 0 " row "\nend 0\nend 0\nsend 0\nturn\ntake 0 0\naccept " 2 * i - 1
+            print "feed 0 02\nfeed 0 54\nend 0\nreset 0\nfeed 0 5401017500\nend 0\nreset 0"
+            print "feed 0 540201007400" row "\nend 0\nsend 0\nturn\ntake 0 0\naccept " 2 * i "\naccept " 2 * i
+            print "entry " i "\nsubscribe " i "\nrows " i "\nturn\ntable 54\n-"
+        }
+        print "rows 0"
+    }'
+}
+
+# nothing_kept ROUNDS: a script whose rounds leave nothing behind
+nothing_kept() {
+    awk -v rounds="$1" 'BEGIN {
+        print "table 540201007400\npublisher\nsubscribe 0"
+        for (i = 1; i <= rounds; i++) {
+            print "feed 0 540201007400120001000000000000000103017812\nend 0\nreset 0\nfeed 0 02\nfeed 0 54\nend 0\nreset 0"
+            print "feed 0 5401017500\nend 0\nreset 0\nsend 0\nturn\ntake 0 0\naccept 1\nentry 1\nrows 0\nrows 1\ntable 54\n-"
+        }
+    }'
+}
+
+# measure SCRIPT ROUNDS: keeps the answers, and the number of bytes in use at the end and at most
+measure() {
+    "$1" "$2" >"$work/script"
+    COUNT_TELL=1 LD_PRELOAD="$work/count.so" "$program" script <"$work/script" >"$work/out" 2>"$work/err"
+    echo "$1, $2 rounds, status $?: $(cat "$work/err")"
+    left=$(sed -n 's/^in use \([0-9]*\),.*/\1/p' "$work/err")
+    most=$(sed -n 's/.*at most \([0-9]*\),.*/\1/p' "$work/err")
+}
+
+# have NUMBER BEGINNING: so many answers begin so.
+have() { told "$1 answers '$2'" test "$(grep -c "^$2" "$work/out")" -eq "$1"; }
+
+measure all_kinds 100
+left_of_100=$left
+measure all_kinds 1000
+have 1000 accepted
+have 2000 'refused Conflict'
+have 3000 fault
+told 'as much in use at the end of both' test -n "$left" -a "$left" = "$left_of_100"
+
+measure nothing_kept 100
+left_of_100=$left most_of_100=$most
+measure nothing_kept 1000
+told 'as much in use at the end of both' test -n "$left" -a "$left" = "$left_of_100"
+told 'as much in use at most' test -n "$most" -a "$most" = "$most_of_100"
+exit $bad

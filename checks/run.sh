@@ -1,0 +1,212 @@
+#!/bin/sh
+# Checks the program from outside: its statuses, what it prints on which stream, and when. One line for each check.
+#   sh checks/run.sh        needs the program as `rt run` leaves it (README.md)
+cd "$(dirname "$0")/.." || exit 2
+program=crates/rb_run/out/rb_run
+[ -x "$program" ] || { echo "no program at $program: see README.md" >&2; exit 2; }
+work=$(mktemp -d) || exit 2
+trap 'rm -rf "$work"' EXIT
+out=$work/out err=$work/err why='' bad=0
+
+# run INPUT WORDS..: runs the program to its end, and keeps what it printed and its status, which is 124 where it hangs.
+run() {
+    input=$1
+    shift
+    timeout 60 "$program" "$@" <"$input" >"$out" 2>"$err"
+    status=$?
+}
+
+# need WHAT COMMAND..: where the command fails, that is what is wrong.
+need() {
+    what=$1
+    shift
+    "$@" || why="$why${why:+, }$what"
+}
+
+need_status() { need "status $status" test "$status" -eq "$1"; }
+need_nothing() { need "$1 isn't empty" test ! -s "$work/$1"; }
+need_text() { need "out is '$(head -c 60 "$out")'" test "$(cat "$out")" = "$1"; }
+need_line() { need "$1 is '$(head -c 200 "$work/$1")'" fits "$work/$1" "$2"; }
+
+# fits FILE PATTERN: the file is one line of this pattern.
+fits() {
+    case $(cat "$1") in $2) test "$(wc -l <"$1")" -eq 1 ;; *) false ;; esac
+}
+
+# end NAME: prints the check's line.
+end() {
+    if [ -z "$why" ]; then
+        echo "ok $1"
+    else
+        echo "FAILED $1: $why"
+        bad=1
+    fi
+    why=''
+}
+
+run examples/first.script script
+need_status 0
+need 'other answers' cmp -s "$out" examples/first.answers
+need_nothing err
+end 'first.script'
+
+# The command line.
+
+# refused NAME WORDS..: a command line that the program doesn't take
+refused() {
+    name=$1
+    shift
+    run /dev/null "$@"
+    need_status 2
+    need_nothing out
+    need 'err is empty' test -s "$err"
+    need "err is '$(head -n 1 "$err")'" test -z "$(grep 'out of memory' "$err")"
+    end "$name"
+}
+
+run /dev/null
+need 'no usage on standard error' grep -q Usage "$err"
+refused 'no words'
+refused 'an unknown option' --nonsense
+refused 'an unknown option of script' script --nonsense
+refused 'an unknown subcommand' nonsense
+refused 'a word too many' script nonsense
+refused 'a word that is no UTF-8' "$(printf '\377')"
+
+run /dev/null --version
+need_status 0
+need_line out 'rb_run ?*'
+need_nothing err
+end '--version'
+
+run /dev/null --help
+need_status 0
+need 'out is empty' test -s "$out"
+need_nothing err
+end '--help'
+
+run /dev/null script --help
+need_status 0
+need_nothing err
+need "no word of '< FILE'" grep -q '< FILE' "$out"
+need "no word of statuses" grep -qi status "$out"
+for line in table publisher feed reset end send turn subscribe take accept entry rows; do
+    need "no word of '$line'" grep -qw "$line" "$out"
+done
+end 'script --help'
+
+# Where reading or writing fails, or too much comes.
+
+run / script
+need_status 1
+need_nothing out
+need_line err 'rb_run: read fault: ?*'
+end 'a folder as standard input'
+
+timeout 60 "$program" script <examples/first.script >/dev/full 2>"$err"
+status=$?
+need_status 1
+need_line err 'rb_run: write fault: ?*'
+end 'a full disk'
+
+timeout 60 "$program" --help >/dev/full 2>"$err"
+status=$?
+need_status 1
+need_line err 'rb_run: write fault: ?*'
+end '--help on a full disk'
+
+# ten million bytes, of two million lines
+yes turn | head -c 10000000 >"$work/long"
+{
+    timeout 60 "$program" script <"$work/long" 2>"$err"
+    echo $? >"$work/status"
+} | head -c 1 >/dev/null
+status=$(cat "$work/status")
+need_status 1
+need_line err 'rb_run: write fault: ?*'
+end 'a closed pipe'
+
+# a line and empty ones, which have no answer
+{
+    echo publisher
+    head -c 16777206 /dev/zero | tr '\0' '\n'
+} >"$work/script"
+run "$work/script" script
+need_status 0
+need_text 'publisher 0'
+need_nothing err
+end 'a script of 16,777,216 bytes'
+
+echo >>"$work/script"
+run "$work/script" script
+need_status 1
+need_text 'publisher 0'
+need_line err 'rb_run: script too long*'
+end 'a script of 16,777,217 bytes'
+
+# Answers come while the input stays open.
+
+# start SECONDS: starts the program on a fifo, which descriptor 3 keeps open. It is killed after so many seconds.
+start() {
+    rm -f "$work/in"
+    mkfifo "$work/in"
+    timeout -s KILL "$1" "$program" script <"$work/in" >"$out" 2>"$err" &
+    process=$!
+    exec 3>"$work/in"
+}
+
+# over: closes the input, and waits for the program's end.
+over() {
+    exec 3>&-
+    wait $process 2>"$work/killed"
+    status=$?
+}
+
+# write TEXT: in a shell of its own, which dies alone where nobody reads any more
+write() { (printf '%b' "$1" >&3); }
+
+# soon TEXT: this is the output within five seconds.
+soon() {
+    tries=50
+    until test "$(cat "$out")" = "$1"; do
+        tries=$((tries - 1))
+        test $tries -gt 0 || return 1
+        sleep 0.1
+    done
+}
+
+start 60
+write 'publisher\n'
+need 'no answer while the input is open' soon 'publisher 0'
+write 'tur'
+sleep 1
+need_text 'publisher 0'
+write 'n\n'
+need 'no answer to a line that came in two parts' soon "publisher 0
+idle"
+over
+need_status 0
+need_nothing err
+end 'answers before the next read'
+
+start 2
+write 'publisher\n'
+sleep 3
+over
+need_status 137
+need_text 'publisher 0'
+end 'an answered line, and then a kill'
+
+# Speed.
+
+now() { echo $(($(date +%s%N) / 1000000)); }
+
+begun=$(now)
+run "$work/long" script
+took=$(($(now) - begun))
+need_status 0
+need "only $(wc -l <"$out") answers" test "$(wc -l <"$out")" -eq 2000000
+need 'too slow' test $took -lt 10000
+end "10 MB of lines in less than 10 s ($took ms)"
+
+exit $bad

@@ -1,0 +1,9 @@
+-- Conflicts as SQLite numbers them.
+use Rattle.std.specs.Prelude.{ℕ}
+use Rattle.cs_apply.specs.declared.conflict.ConflictKind.{ConflictKind}
+use Rattle.cs_apply.specs.declared.conflict.ConflictKind.TheVariants.{Data, NotFound, Conflict}
+
+abbrev pub code_of : ConflictKind → ℕ
+code_of Data = 1
+code_of NotFound = 2
+code_of Conflict = 3
