@@ -4,7 +4,8 @@ ghost use Rattle.changeset_c.specs.Says.{CheckSays, CanonicalSays, KeptBut};
 
 use crate::kinds::kind_number;
 use cs_parse::{ParseError, count_changes, parse};
-use cs_write::{text_is_no_longer, write_to};
+use cs_write::laws::text_is_no_longer;
+use cs_write::write_to;
 use std::alloc::Global;
 
 // the text spells no changeset

@@ -11,7 +11,7 @@ ghost use Rattle.cs_write.specs.Text.{text_of};
 ghost use Rattle.changeset_c.specs.Says.{CheckSays, CanonicalSays, IsNumber, IsFaultAt, KeptBut};
 
 use crate::answers::{canonical, check};
-use cs_parse::every_text;
+use cs_parse::laws::every_text;
 use std::alloc::Global;
 
 /// How many changes the text spells; or -1, with the place and the kind's number of its one fault. It takes no memory.

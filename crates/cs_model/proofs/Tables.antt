@@ -3,7 +3,7 @@ use Rattle.std.proofs.Common.{◌≡◌, List, [], ◌∷◌, ◌++◌, Option, 
 use Rattle.std.specs.Option.{option_or}
 use Rattle.std.proofs.lemmas.List.{append-nil}
 use Rattle.cs_model.specs.declared.shape.Shape.{Shape}
-use Rattle.cs_model.specs.declared.schema.SchemaFault.{SchemaFault}
+use Rattle.cs_model.specs.declared.schema.TableFault.{TableFault}
 use Rattle.cs_model.specs.Schema.{table_refusal, tables_refusal, IsSchema}
 
 or_assoc : {A : Type 0} (a b c : Option A) → option_or (option_or a b) c ≡ option_or a (option_or b c)
@@ -24,5 +24,5 @@ tables_refusal-append earlier (x ∷ xs) ys =
 pub IsSchema-push : (tables : List Shape) (table : Shape) → IsSchema tables → table_refusal tables table ≡ None → IsSchema (tables ++ table ∷ [])
 IsSchema-push tables table good new =
     tables_refusal-append [] tables (table ∷ [])
-    ∙ ap (λ (o : Option SchemaFault). option_or o (option_or (table_refusal tables table) None)) good
+    ∙ ap (λ (o : Option TableFault). option_or o (option_or (table_refusal tables table) None)) good
     ∙ or_none (table_refusal tables table) ∙ new

@@ -1,6 +1,6 @@
 -- Which shapes, changes and changesets there are.
 use Rattle.std.specs.Prelude.{◌≡◌, ℕ, ◌<◌, ◌≤◌, true, List, [], ◌∷◌, length, map, nat_lt, FitsSigned}
-use Rattle.std.specs.List.{list_any, list_all, AllByRecursion}
+use Rattle.std.specs.List.{list_any, list_all, flat_map, AllByRecursion}
 use Rattle.std.specs.Int.{w64}
 use Rattle.cs_model.specs.declared.value.Value.{Value}
 use Rattle.cs_model.specs.declared.value.Value.TheVariants.{Integer, Text, Blob, Null}
@@ -60,3 +60,7 @@ IsSection section = IsShape section.shape × AllByRecursion (IsChange section.sh
 -- a changeset is its sections, in order
 abbrev pub IsChangeset : List Section → Type 0
 IsChangeset sections = AllByRecursion IsSection sections
+
+-- the changes of all sections, in order
+abbrev pub all_changes : List Section → List Change
+all_changes sections = flat_map (λ section. section.changes) sections

@@ -1,3 +1,4 @@
+pub mod Bytes
 pub mod Rule
 pub mod Changeset
 pub mod Varint

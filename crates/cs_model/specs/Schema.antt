@@ -5,8 +5,10 @@ use Rattle.std.specs.Option.{option_or}
 use Rattle.std.specs.Cmp.Lexicographic.{pointwise}
 use Rattle.cs_model.specs.declared.shape.Shape.{Shape}
 use Rattle.cs_model.specs.declared.change.Section.{Section}
-use Rattle.cs_model.specs.declared.schema.SchemaFault.{SchemaFault}
-use Rattle.cs_model.specs.declared.schema.SchemaFault.TheVariants.{DuplicateTable, BadShape, UnknownTable, ShapeDiffers}
+use Rattle.cs_model.specs.declared.schema.TableFault.{TableFault}
+use Rattle.cs_model.specs.declared.schema.TableFault.TheVariants.{DuplicateTable, BadShape}
+use Rattle.cs_model.specs.declared.schema.SectionFault.{SectionFault}
+use Rattle.cs_model.specs.declared.schema.SectionFault.TheVariants.{UnknownTable, ShapeDiffers}
 use Rattle.cs_model.specs.declared.schema.SchemaError.{SchemaError}
 use Rattle.cs_model.specs.declared.schema.SchemaError.TheVariants.{Fault, Memory}
 
@@ -32,14 +34,14 @@ table_index tables shape = position (λ table. same_shape table shape) tables
 
 -- The answer for these sections: the first whose shape is that of no table is refused, as unknown where no
 -- table has its name either.
-abbrev pub refusal_at : List Shape → ℕ → Option Section → SchemaFault
+abbrev pub refusal_at : List Shape → ℕ → Option Section → SectionFault
 refusal_at tables i None = UnknownTable i
 refusal_at tables i (Some section) = if has_name tables section.shape.name then ShapeDiffers i else UnknownTable i
 
 abbrev pub first_outside : List Shape → List Section → Option ℕ
 first_outside tables sections = position (λ section. not (has_shape tables section.shape)) sections
 
-abbrev pub refusal_of : List Shape → List Section → Option SchemaFault
+abbrev pub refusal_of : List Shape → List Section → Option SectionFault
 refusal_of tables sections =
     option_map (λ i. refusal_at tables i (slice_get sections i)) (first_outside tables sections)
 
@@ -57,14 +59,14 @@ is_shape shape = are_flags shape.flags && is_name shape.name
 
 -- The answer for a table behind earlier ones: its name must be new, its shape one that a table may have, and its
 -- place below 1,024.
-abbrev pub table_refusal : List Shape → Shape → Option SchemaFault
+abbrev pub table_refusal : List Shape → Shape → Option TableFault
 table_refusal earlier shape =
     if has_name earlier shape.name then Some (DuplicateTable (length earlier))
     else if is_shape shape && nat_lt (length earlier) 1024 then None
     else Some (BadShape (length earlier))
 
 -- The answer for a list of tables: the first that is refused behind those before it.
-abbrev pub tables_refusal : List Shape → List Shape → Option SchemaFault
+abbrev pub tables_refusal : List Shape → List Shape → Option TableFault
 tables_refusal earlier [] = None
 tables_refusal earlier (shape ∷ shapes) =
     option_or (table_refusal earlier shape) (tables_refusal (earlier ++ shape ∷ []) shapes)
@@ -74,6 +76,6 @@ abbrev pub IsSchema : List Shape → Type 0
 IsSchema tables = tables_refusal [] tables ≡ None
 
 -- an error of adding a table: the refusal, or want of memory where there is none
-abbrev pub Refuses : SchemaError → Option SchemaFault → Type 0
+abbrev pub Refuses : SchemaError → Option TableFault → Type 0
 Refuses (Fault fault) refusal = refusal ≡ Some fault
 Refuses Memory refusal = refusal ≡ None

@@ -7,6 +7,7 @@ mod change;
 mod changeset;
 mod copy;
 mod field;
+pub mod laws;
 mod origin;
 mod row_key;
 mod schema;
@@ -20,12 +21,12 @@ pub use changeset::Changeset;
 pub use copy::CopyIn;
 pub use field::{field_push, value_push};
 pub use origin::Origin;
-pub use row_key::{RowKey, order_of_keys};
-pub use schema::{RefusedTables, Schema, SchemaError, SchemaFault};
+pub use row_key::RowKey;
+pub use schema::{RefusedTables, Schema, SchemaError, SectionFault, TableFault};
 pub use seq::{Octets, Row, Seq};
 pub use shape::Shape;
 pub use value::{Field, Value};
-pub use varint::{varint_push, varint_read, varint_shortest, varint_spelled};
+pub use varint::{varint_push, varint_read};
 
 #[cfg(test)]
 mod tests;

@@ -1,7 +1,6 @@
 //! The key of a row.
 
 ghost use Rattle.std.specs.Prelude.{◌≡◌, IfOk, length};
-ghost use Rattle.cs_model.specs.Key.{row_key_cmp};
 ghost use Rattle.cs_model.specs.Changeset.{IsChange};
 ghost use Rattle.cs_model.specs.KeyBytes.{key_bytes, key_record};
 
@@ -11,7 +10,6 @@ use crate::seq::{Octets, Seq};
 use crate::shape::Shape;
 use crate::value::Field;
 use std::alloc::{AllocError, Global};
-use std::cmp::Ordering;
 
 /// Which row of which table. Keys go by the table, then by their bytes as unsigned bytes.
 #[derive(Debug, Drop, PartialEq, Eq, PartialOrd, Ord, Hash)]
@@ -39,13 +37,6 @@ impl RowKey {
         let bytes = key_bytes_of(alloc, &shape.flags, record_of(change))?;
         Ok(RowKey { table, bytes })
     }
-}
-
-/// Which of two keys comes first, as `cmp` says: by the table, then by the bytes, which are unsigned.
-pub fn order_of_keys(first: &RowKey, second: &RowKey) -> Ordering
-    ensures { result ≡ row_key_cmp first.now second.now }
-{
-    first.cmp(second)
 }
 
 // the record that a change finds its row by

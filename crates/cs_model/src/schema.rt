@@ -11,35 +11,45 @@ use crate::copy::CopyIn;
 use crate::shape::Shape;
 use std::alloc::{AllocError, AllocFailed, Global};
 use std::marker::Model;
+use thiserror::Error;
 
-/// Why a schema or a changeset is refused.
-#[derive(Clone, Copy, Debug, PartialEq, Eq)]
-pub enum SchemaFault {
-    /// `Schema::new` and `Schema::add`: an earlier table has the name of the table at this place.
+/// Why `Schema::new` and `Schema::add` take no table, which leaves all as it was. The place is counted from 0.
+#[derive(Clone, Copy, Debug, PartialEq, Eq, Error)]
+pub enum TableFault {
+    /// An earlier table has the name of the table at this place.
+    #[error("table {0} has the name of an earlier one")]
     DuplicateTable(usize),
-    /// `Schema::new` and `Schema::add`: the table at this place has no column, more than 2,000, no key column
-    /// or a bad name, or 1,024 tables stand before it.
+    /// The table at this place has no column, more than 2,000, no key column or a bad name, or 1,024 tables stand before it.
+    #[error("table {0} has a shape that no table may have, or is one too many")]
     BadShape(usize),
-    /// `Schema::admits`: no table has the name of the section at this place.
+}
+
+/// Why `Schema::admits` refuses a changeset, which it leaves as it is. The place is counted from 0.
+#[derive(Clone, Copy, Debug, PartialEq, Eq, Error)]
+pub enum SectionFault {
+    /// No table has the name of the section at this place.
+    #[error("section {0} is of an unknown table")]
     UnknownTable(usize),
-    /// `Schema::admits`: the table of that name has another column count or other key bytes than the section
-    /// at this place.
+    /// The table of that name has another column count or other key bytes than the section at this place.
+    #[error("section {0} has another shape than its table")]
     ShapeDiffers(usize),
 }
 
 /// Tables that are no schema, with the first fault.
 #[derive(Debug, Drop)]
 pub struct RefusedTables {
-    pub fault: SchemaFault,
+    pub fault: TableFault,
     pub tables: Vec<Shape>,
 }
 
-/// Why `Schema::add` adds nothing.
-#[derive(Debug, Drop)]
+/// Why `Schema::add` adds nothing, which leaves the schema as it was.
+#[derive(Debug, Drop, Error)]
 pub enum SchemaError {
     /// The table is refused.
-    Fault(SchemaFault),
+    #[error(transparent)]
+    Fault(TableFault),
     /// Memory ran out.
+    #[error("out of memory")]
     Memory,
 }
 
@@ -120,7 +130,7 @@ impl Schema {
 
     /// Whether each section of a changeset has the shape of a table. Refuses the first that hasn't, as
     /// `UnknownTable` or `ShapeDiffers`.
-    pub fn admits(&self, changeset: &Changeset) -> Result<(), SchemaFault>
+    pub fn admits(&self, changeset: &Changeset) -> Result<(), SectionFault>
         ensures ok { OnOk result (refusal_of self.now changeset.now ≡ None) }
         ensures refused { IfErr result (λ fault. refusal_of self.now changeset.now ≡ Some fault) }
     {
@@ -128,9 +138,9 @@ impl Schema {
         match first_without_table(&self.tables, sections) {
             None => Ok(()),
             Some(i) if knows_name(&self.tables, &sections[i].shape.name) => {
-                Err(SchemaFault::ShapeDiffers(i))
+                Err(SectionFault::ShapeDiffers(i))
             }
-            Some(i) => Err(SchemaFault::UnknownTable(i)),
+            Some(i) => Err(SectionFault::UnknownTable(i)),
         }
     }
 }
@@ -195,19 +205,19 @@ fn name_stands(name: &[u8]) -> bool
 }
 
 // why a table can't stand behind these
-fn refusal(earlier: &[Shape], table: &Shape) -> Option<SchemaFault>
+fn refusal(earlier: &[Shape], table: &Shape) -> Option<TableFault>
     ensures { result ≡ table_refusal earlier.now table.now }
 {
     if knows_name(earlier, &table.name) {
-        return Some(SchemaFault::DuplicateTable(earlier.len()));
+        return Some(TableFault::DuplicateTable(earlier.len()));
     }
     if flags_stand(&table.flags) && name_stands(&table.name) && earlier.len() < 1024 {
         return None;
     }
-    Some(SchemaFault::BadShape(earlier.len()))
+    Some(TableFault::BadShape(earlier.len()))
 }
 
-fn first_refusal(tables: &[Shape]) -> Option<SchemaFault>
+fn first_refusal(tables: &[Shape]) -> Option<TableFault>
     ensures { result ≡ tables_refusal [] tables.now }
 {
     for (i, table) in tables.iter().enumerate() {

@@ -1,13 +1,13 @@
 //! A list that contracts see as a list.
 
-ghost use Rattle.std.specs.Prelude.{◌≡◌, ◌++◌, OnOk, OnErr};
+ghost use Rattle.std.specs.Prelude.{◌≡◌, ◌++◌, IfOk, OnOk, OnErr, length, ◌==◌};
 ghost use Rattle.std.specs.Cmp.{on_equiv, on_total, on_po, on_per};
 ghost use Rattle.std.specs.Cmp.Lexicographic.{pointwise, slice_cmp, slice_partial_cmp, lists_per, lists_equiv, lists_po, lists_total, lists_agrees, lists_ties};
 ghost use Rattle.std.specs.Hash as fed;
 ghost use Rattle.std.specs.Hash.{items_Alike};
 
 use crate::value::Value;
-use std::alloc::AllocError;
+use std::alloc::{AllocError, Global};
 use std::cmp::Ordering;
 use std::hash::{Hash, Hasher};
 use std::marker::Model;
@@ -48,9 +48,30 @@ impl<T> Seq<T> {
         let Seq { items } = self;
         items
     }
+
+    /// How many values it has.
+    pub fn len(&self) -> usize
+        ensures { result ≡ length self.now }
+    {
+        self.items.as_slice().len()
+    }
+
+    /// Whether it has none.
+    pub fn is_empty(&self) -> bool
+        ensures { result ≡ (length self.now == 0) }
+    {
+        self.items.as_slice().is_empty()
+    }
 }
 
 impl<T: Copy> Seq<T> {
+    /// A list of copies of these values.
+    pub fn from_slice(alloc: Global, values: &[T]) -> Result<Seq<T>, AllocError>
+        ensures { IfOk result (λ copy. copy ≡ values.now) }
+    {
+        Ok(Seq::from_vec(Vec::from_slice(alloc, values)?))
+    }
+
     /// Adds copies of values at the end. An `Err` leaves the list as it was.
     pub fn extend_from_slice(&mut self, values: &[T]) -> Result<(), AllocError>
         ensures ok { OnOk result (self.new ≡ self.old ++ values.now) }

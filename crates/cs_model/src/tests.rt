@@ -6,7 +6,8 @@ ghost use Rattle.cs_model.specs.Changeset.{AreRecords, IsChange, IsSection};
 ghost use Rattle.cs_model.specs.declared.value.Value.TheVariants.{Integer, Text};
 ghost use Rattle.cs_model.specs.declared.value.Field.TheVariants.{Is};
 
-use crate::SchemaFault::{BadShape, DuplicateTable, ShapeDiffers, UnknownTable};
+use crate::SectionFault::{ShapeDiffers, UnknownTable};
+use crate::TableFault::{BadShape, DuplicateTable};
 use crate::*;
 use std::alloc::{AllocError, Global};
 use std::fmt::Debug;
@@ -241,7 +242,7 @@ fn makes(
     rt: &impl Abort,
     alloc: Global,
     tables: Vec<Shape>,
-    want: Result<(), SchemaFault>,
+    want: Result<(), TableFault>,
 ) -> Result<(), Fail> {
     let given = Shape::copy_all(alloc, &tables)?;
     let mut earlier = Shape::copy_all(alloc, &tables)?;
@@ -389,4 +390,27 @@ fn exact_copies(rt: HostRuntime) -> Result<(), Fail> {
     let y = Value::Blob(octets(alloc, b"y")?);
     let row: Row = Seq::from_vec(vec![in alloc; Value::Integer(-1), x, y, Value::Null]?);
     Ok(copies(&rt, alloc, &row)?)
+}
+
+#[test]
+fn faults_say_which_table_or_section(rt: HostRuntime) -> Result<(), Fail> {
+    let alloc = rt.alloc();
+    let duplicate = format!(in alloc; "{}", SchemaError::Fault(DuplicateTable(2)))?;
+    assert_eq!(rt;
+        duplicate.as_str(),
+        "table 2 has the name of an earlier one"
+    );
+    let shape = format!(in alloc; "{}", BadShape(2))?;
+    assert_eq!(rt;
+        shape.as_str(),
+        "table 2 has a shape that no table may have, or is one too many"
+    );
+    let unknown = format!(in alloc; "{}", UnknownTable(0))?;
+    assert_eq!(rt; unknown.as_str(), "section 0 is of an unknown table");
+    let differs = format!(in alloc; "{}", ShapeDiffers(0))?;
+    assert_eq!(rt;
+        differs.as_str(),
+        "section 0 has another shape than its table"
+    );
+    Ok(())
 }

@@ -1,6 +1,6 @@
 //! Varints: the spelling of counts and lengths, one to nine bytes.
 
-ghost use Rattle.std.specs.Prelude.{◌≡◌, ℕ, ◌^◌, ◌<◌, ◌≤◌, ◌++◌, List, length, take, get_or, OnOk, OnErr, IfSome, Some};
+ghost use Rattle.std.specs.Prelude.{◌≡◌, ℕ, ◌≤◌, ◌++◌, length, take, OnOk, OnErr, IfSome, Some};
 ghost use Rattle.cs_model.specs.Varint.{IsVarint, varint};
 
 use std::alloc::AllocError;
@@ -55,13 +55,3 @@ pub fn varint_push(out: &mut Vec<u8>, value: u64) -> Result<(), AllocError>
     }
     out.extend_from_slice(&text[start..])
 }
-
-/// What `varint_push` writes spells its number.
-pub fn varint_spelled()
-    ensures { (n : ℕ) → n < 2 ^ 64 → IsVarint (varint n) n }
-{}
-
-/// No spelling of a number is shorter than the one that `varint_push` writes.
-pub fn varint_shortest()
-    ensures { (bytes : List ℕ) (n : ℕ) → ((i : ℕ) → get_or bytes i 0 < 256) → IsVarint bytes n → length (varint n) ≤ length bytes }
-{}

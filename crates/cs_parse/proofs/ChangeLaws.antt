@@ -14,7 +14,8 @@ use Rattle.cs_parse.specs.declared.fault.FaultKind.TheVariants.{Patchset, BadOpe
 use Rattle.cs_parse.specs.declared.stop.Refusal.{Refusal}
 use Rattle.cs_parse.specs.declared.stop.Refusal.TheVariants.{Bad}
 use Rattle.cs_parse.specs.Reading.{◌>>=◌, record_at, records_at, marked_at, op_of, operated, change_at, ends_section, changes_at}
-use Rattle.cs_parse.proofs.Steps.{IsBytes, Takes, back_fits, bind_ok, done, ok_is, chosen}
+use Rattle.cs_model.specs.Bytes.{AreBytes}
+use Rattle.cs_parse.proofs.Steps.{Takes, back_fits, bind_ok, done, ok_is, chosen}
 use Rattle.cs_parse.proofs.FieldLaws.{record_takes, record_again}
 use Rattle.cs_parse.proofs.ManyLaws.{IsReader, TakesEach, many_takes, many_again}
 
@@ -39,7 +40,7 @@ Records = (List Field × List Field) × List ℕ
 abbrev TakesRecords : List ℕ → Op → List ℕ → Records → Type 0
 TakesRecords flags op bytes x = Takes (SpellsRecords flags op) bytes x
 
-pub records_take : (flags : List ℕ) (op : Op) (bytes : List ℕ) (x : Records) → IsBytes bytes → records_at flags op bytes ≡ Ok x → TakesRecords flags op bytes x
+pub records_take : (flags : List ℕ) (op : Op) (bytes : List ℕ) (x : Records) → AreBytes bytes → records_at flags op bytes ≡ Ok x → TakesRecords flags op bytes x
 unfolding records_at
 records_take flags Insert bytes x fits e =
     let a = bind_ok (record_at (map row_rule flags) bytes) (λ row. done (([], row.0), row.1)) x e in
@@ -99,7 +100,7 @@ mark_is mark false h = ap (λ m. not (m == 0)) h
 abbrev pub marked : Op → ℕ → Records → Result (Change × List ℕ) Refusal
 marked op mark records = done (made op (not (mark == 0)) records.0.0 records.0.1, records.1)
 
-marked_takes : (flags : List ℕ) (op : Op) (bytes : List ℕ) (x : Change × List ℕ) → IsBytes bytes → marked_at flags op bytes ≡ Ok x → Takes SpellsChange (op_byte op ∷ bytes) x × IsChangeBy flags x.0
+marked_takes : (flags : List ℕ) (op : Op) (bytes : List ℕ) (x : Change × List ℕ) → AreBytes bytes → marked_at flags op bytes ≡ Ok x → Takes SpellsChange (op_byte op ∷ bytes) x × IsChangeBy flags x.0
 unfolding marked_at
 marked_takes flags op [] x fits e = absurd cc
 marked_takes flags op (mark ∷ rest) x fits e =
@@ -129,13 +130,13 @@ op_is byte op e = elim (chosen (byte == 18) (Some Insert) (cond (byte == 23) (So
   ]
 ]
 
-operated_takes : (flags : List ℕ) (o : Option Op) (byte : ℕ) (rest : List ℕ) (x : Change × List ℕ) → IsBytes rest → op_of byte ≡ o → operated flags o byte rest ≡ Ok x → Takes SpellsChange (byte ∷ rest) x × IsChangeBy flags x.0
+operated_takes : (flags : List ℕ) (o : Option Op) (byte : ℕ) (rest : List ℕ) (x : Change × List ℕ) → AreBytes rest → op_of byte ≡ o → operated flags o byte rest ≡ Ok x → Takes SpellsChange (byte ∷ rest) x × IsChangeBy flags x.0
 operated_takes flags (Some op) byte rest x fits is e = subst (λ b. Takes SpellsChange (b ∷ rest) x × IsChangeBy flags x.0) (sym (op_is byte op is)) (marked_takes flags op rest x fits e)
 operated_takes flags None byte rest x fits is e =
     let none : Err (Bad (suc (length rest)) (cond (byte == 80) Patchset BadOperation)) ≡ done x = e in
     absurd cc
 
-pub change_takes : (flags bytes : List ℕ) (x : Change × List ℕ) → IsBytes bytes → change_at flags bytes ≡ Ok x → Takes SpellsChange bytes x × IsChangeBy flags x.0
+pub change_takes : (flags bytes : List ℕ) (x : Change × List ℕ) → AreBytes bytes → change_at flags bytes ≡ Ok x → Takes SpellsChange bytes x × IsChangeBy flags x.0
 unfolding change_at
 change_takes flags [] x fits e = absurd cc
 change_takes flags (byte ∷ rest) x fits e = operated_takes flags (op_of byte) byte rest x (λ i. fits (suc i)) refl e
@@ -189,7 +190,7 @@ change_reader flags = record {
   follows = λ text change rest h. tt;
 }
 
-pub changes_take : (flags bytes : List ℕ) (x : List Change × List ℕ) → IsBytes bytes → changes_at flags bytes ≡ Ok x → TakesEach ends_section SpellsChange (IsChangeBy flags) bytes x
+pub changes_take : (flags bytes : List ℕ) (x : List Change × List ℕ) → AreBytes bytes → changes_at flags bytes ≡ Ok x → TakesEach ends_section SpellsChange (IsChangeBy flags) bytes x
 unfolding changes_at
 changes_take flags bytes x fits e = many_takes ends_section (change_at flags) SpellsChange (IsChangeBy flags) IsAny (change_reader flags) (length bytes) bytes x fits (omega arith) e
 

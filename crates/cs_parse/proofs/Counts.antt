@@ -8,7 +8,8 @@ use Rattle.cs_model.specs.Changeset.{most_bytes}
 use Rattle.cs_model.specs.Text.{SpellsEach, SpellsChange, SpellsSection, Spells}
 use Rattle.cs_parse.specs.Count.{counted, changes_in}
 use Rattle.cs_parse.specs.Reading.{section_at}
-use Rattle.cs_parse.proofs.Steps.{IsBytes, back_fits}
+use Rattle.cs_model.specs.Bytes.{AreBytes}
+use Rattle.cs_parse.proofs.Steps.{back_fits}
 use Rattle.cs_parse.proofs.TextLaws.{section_reader}
 use Rattle.cs_parse.proofs.Skims.{size, counted_value}
 
@@ -44,7 +45,7 @@ few_changes text sections h =
     omega (arith, fit, h.within_limit)
 
 -- a section that is counted takes a byte at least for each change
-pub counted_fits : (bytes : List ℕ) (k : ℕ) (after : List ℕ) → IsBytes bytes → counted size (section_at bytes) ≡ Ok (k, after) → IsBytes after × (k + length after ≤ length bytes)
+pub counted_fits : (bytes : List ℕ) (k : ℕ) (after : List ℕ) → AreBytes bytes → counted size (section_at bytes) ≡ Ok (k, after) → AreBytes after × (k + length after ≤ length bytes)
 counted_fits bytes k after fits h =
     let v = counted_value size (section_at bytes) k after h in
     let t = (section_reader.takes bytes (v.0, after) fits v.1).0 in

@@ -7,11 +7,12 @@ use Rattle.std.proofs.lemmas.List.{append-nil}
 use Rattle.std.proofs.lemmas.List.Folds.{list_all-append}
 use Rattle.cs_parse.specs.declared.fault.FaultKind.{FaultKind}
 use Rattle.cs_parse.specs.Place.{Place, wrong}
-use Rattle.cs_parse.specs.Fault.{are_bytes}
+use Rattle.cs_parse.proofs.Steps.{are_bytes}
 use Rattle.cs_parse.specs.declared.stop.Refusal.{Refusal}
 use Rattle.cs_parse.specs.declared.stop.Refusal.TheVariants.{Short, Bad}
 use Rattle.cs_parse.specs.Reading.{◌>>=◌}
-use Rattle.cs_parse.proofs.Steps.{IsBytes, Takes, back_fits, bind_ok, done, ok_is}
+use Rattle.cs_model.specs.Bytes.{AreBytes}
+use Rattle.cs_parse.proofs.Steps.{Takes, back_fits, bind_ok, done, ok_is}
 
 -- some text that begins so is whole
 pub record Completes {A : Type 0} (T : List ℕ → A → Type 0) (front : List ℕ) : Type 0 where
@@ -37,11 +38,11 @@ pub record Stopped {A : Type 0} (T : List ℕ → A → Type 0) (S : List ℕ �
 -- that it stands, and where the bytes end too early they can be gone on with.
 pub record Exact {A : Type 0} (read : List ℕ → Result (A × List ℕ) Refusal) (T : List ℕ → A → Type 0) (S : List ℕ → Place → Type 0) : Type 0 where
   pub begins : Completes T []
-  pub takes : (bytes : List ℕ) (x : A × List ℕ) → IsBytes bytes → read bytes ≡ Ok x → Takes T bytes x
+  pub takes : (bytes : List ℕ) (x : A × List ℕ) → AreBytes bytes → read bytes ≡ Ok x → Takes T bytes x
   pub again : (text : List ℕ) (a : A) (rest : List ℕ) → T text a → read (text ++ rest) ≡ Ok (a, rest)
-  pub stops : (bytes : List ℕ) (left : ℕ) (kind : FaultKind) → IsBytes bytes → read bytes ≡ Err (Bad left kind) → Stopped T S bytes left kind
+  pub stops : (bytes : List ℕ) (left : ℕ) (kind : FaultKind) → AreBytes bytes → read bytes ≡ Err (Bad left kind) → Stopped T S bytes left kind
   pub places : (front : List ℕ) (place : Place) (byte : ℕ) (kind : FaultKind) (more : List ℕ) → S front place → wrong place byte ≡ Some kind → read (front ++ byte ∷ more) ≡ Err (Bad (suc (length more)) kind)
-  pub completes : (bytes : List ℕ) → IsBytes bytes → read bytes ≡ Err Short → Completes T bytes
+  pub completes : (bytes : List ℕ) → AreBytes bytes → read bytes ≡ Err Short → Completes T bytes
 
 pub are_bytes-append : (a b : List ℕ) → are_bytes a → are_bytes b → are_bytes (a ++ b)
 are_bytes-append a b h k = list_all-append (λ byte. nat_lt byte 256) a b ∙ and_from (list_all (λ byte. nat_lt byte 256) a) (list_all (λ byte. nat_lt byte 256) b) h k
@@ -128,7 +129,7 @@ module _ {A B : Type 0} (read : List ℕ → Result (A × List ℕ) Refusal) (ne
   seq_behind : (text : List ℕ) (a : A) (front : List ℕ) → T text a → Completes (U a) front → Completes (SeqText T U) (text ++ front)
   seq_behind text a front h c = record { more = c.more; bytes = c.bytes; value = c.value; whole = (a, text, front ++ c.more, append_assoc text front c.more, h, c.whole) }
 
-  seq_takes : (bytes : List ℕ) (x : B × List ℕ) → IsBytes bytes → seq read next bytes ≡ Ok x → Takes (SeqText T U) bytes x
+  seq_takes : (bytes : List ℕ) (x : B × List ℕ) → AreBytes bytes → seq read next bytes ≡ Ok x → Takes (SeqText T U) bytes x
   seq_takes bytes x fits e =
       let a = bind_ok (read bytes) (λ x. next x.0 x.1) x e in
       let t = first.takes bytes a.0 fits a.1 in
@@ -142,7 +143,7 @@ module _ {A B : Type 0} (read : List ℕ → Result (A × List ℕ) Refusal) (ne
       ∙ ap (λ r. r >>= λ x. next x.0 x.1) (first.again h.1 h.0 (h.2 ++ rest) h.4)
       ∙ (second h.1 h.0 h.4).again h.2 b rest h.5
 
-  seq_stops : (bytes : List ℕ) (left : ℕ) (kind : FaultKind) → IsBytes bytes → seq read next bytes ≡ Err (Bad left kind) → Stopped (SeqText T U) (SeqPlace T S P) bytes left kind
+  seq_stops : (bytes : List ℕ) (left : ℕ) (kind : FaultKind) → AreBytes bytes → seq read next bytes ≡ Err (Bad left kind) → Stopped (SeqText T U) (SeqPlace T S P) bytes left kind
   seq_stops bytes left kind fits e = elim (bind_err (read bytes) (λ x. next x.0 x.1) (Bad left kind) e) as (λ w. Stopped (SeqText T U) (SeqPlace T S P) bytes left kind) [
     | inl h ↦
         let s = first.stops bytes left kind fits h in
@@ -161,7 +162,7 @@ module _ {A B : Type 0} (read : List ℕ → Result (A × List ℕ) Refusal) (ne
       ∙ ap (λ r. r >>= λ x. next x.0 x.1) (first.again h.1 h.0 (h.2 ++ byte ∷ more) h.4)
       ∙ (second h.1 h.0 h.4).places h.2 place byte kind more h.5 w
 
-  seq_completes : (bytes : List ℕ) → IsBytes bytes → seq read next bytes ≡ Err Short → Completes (SeqText T U) bytes
+  seq_completes : (bytes : List ℕ) → AreBytes bytes → seq read next bytes ≡ Err Short → Completes (SeqText T U) bytes
   seq_completes bytes fits e = elim (bind_err (read bytes) (λ x. next x.0 x.1) Short e) as (λ w. Completes (SeqText T U) bytes) [
     | inl h ↦ seq_begun bytes (first.completes bytes fits h)
     | inr h ↦

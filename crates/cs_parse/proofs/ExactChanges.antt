@@ -12,11 +12,12 @@ use Rattle.cs_parse.specs.declared.fault.FaultKind.{FaultKind}
 use Rattle.cs_parse.specs.declared.fault.FaultKind.TheVariants.{Patchset, BadOperation}
 use Rattle.cs_parse.specs.Place.{Place, Between, goes_on, wrong}
 use Rattle.cs_parse.specs.Stands.{InRecord, InRecords, AtChange}
-use Rattle.cs_parse.specs.Fault.{are_bytes}
+use Rattle.cs_parse.proofs.Steps.{are_bytes}
 use Rattle.cs_parse.specs.declared.stop.Refusal.{Refusal}
 use Rattle.cs_parse.specs.declared.stop.Refusal.TheVariants.{Short, Bad}
 use Rattle.cs_parse.specs.Reading.{◌>>=◌, record_at, records_at, marked_at, op_of, operated, change_at, ends_section}
-use Rattle.cs_parse.proofs.Steps.{IsBytes, Takes, done, ok_is, chosen}
+use Rattle.cs_model.specs.Bytes.{AreBytes}
+use Rattle.cs_parse.proofs.Steps.{Takes, done, ok_is, chosen}
 use Rattle.cs_parse.proofs.ChangeLaws.{IsChangeBy, SpellsRecords, made, mark_spells, op_is, by_byte, op_no_header}
 use Rattle.cs_parse.proofs.Exact.{Completes, Stopped, Exact, Nowhere, SeqText, SeqPlace, seq, seq_exact, mapped_exact, renamed, same_reader}
 use Rattle.cs_parse.proofs.ExactFields.{RecordText, record_exact}
@@ -230,7 +231,7 @@ wrong_is byte kind w = elim (chosen (byte == 80) (Some Patchset) (cond (goes_on 
 
 -- ---- the faults of a change
 
-operated_stops : (flags : List ℕ) (o : Option Op) (byte : ℕ) (rest : List ℕ) (left : ℕ) (kind : FaultKind) → IsBytes rest → op_of byte ≡ o → (byte == 84) ≡ false → operated flags o byte rest ≡ Err (Bad left kind)
+operated_stops : (flags : List ℕ) (o : Option Op) (byte : ℕ) (rest : List ℕ) (left : ℕ) (kind : FaultKind) → AreBytes rest → op_of byte ≡ o → (byte == 84) ≡ false → operated flags o byte rest ≡ Err (Bad left kind)
     → Stopped (ChangeText flags) (AtChange flags) (byte ∷ rest) left kind
 operated_stops flags (Some op) byte rest left kind fits is no_header e =
     let s = (marked_exact flags op).stops rest left kind fits e in
@@ -251,16 +252,16 @@ operated_stops flags None byte rest left kind fits is no_header e =
     let same : begins_none byte ≡ kind = cc e in
     record { front = []; byte = byte; back = rest; place = Between; parts = refl; left_is = len; alive = some_change flags; stands = inl (refl, refl); is_wrong = wrong_between byte is no_header ∙ ap (λ k. Some k) same }
 
-pub change_stops : (flags bytes : List ℕ) (left : ℕ) (kind : FaultKind) → ends_section bytes ≡ false → IsBytes bytes → change_at flags bytes ≡ Err (Bad left kind) → Stopped (ChangeText flags) (AtChange flags) bytes left kind
+pub change_stops : (flags bytes : List ℕ) (left : ℕ) (kind : FaultKind) → ends_section bytes ≡ false → AreBytes bytes → change_at flags bytes ≡ Err (Bad left kind) → Stopped (ChangeText flags) (AtChange flags) bytes left kind
 unfolding change_at
 change_stops flags [] left kind more fits e = absurd (cc more)
 change_stops flags (byte ∷ rest) left kind more fits e = operated_stops flags (op_of byte) byte rest left kind (λ i. fits (suc i)) refl more e
 
-operated_completes : (flags : List ℕ) (o : Option Op) (byte : ℕ) (rest : List ℕ) → IsBytes rest → op_of byte ≡ o → operated flags o byte rest ≡ Err Short → Completes (ChangeText flags) (byte ∷ rest)
+operated_completes : (flags : List ℕ) (o : Option Op) (byte : ℕ) (rest : List ℕ) → AreBytes rest → op_of byte ≡ o → operated flags o byte rest ≡ Err Short → Completes (ChangeText flags) (byte ∷ rest)
 operated_completes flags (Some op) byte rest fits is e = change_begun flags op byte rest (op_is byte op is) ((marked_exact flags op).completes rest fits e)
 operated_completes flags None byte rest fits is e = absurd (cc e)
 
-pub change_completes : (flags bytes : List ℕ) → IsBytes bytes → change_at flags bytes ≡ Err Short → Completes (ChangeText flags) bytes
+pub change_completes : (flags bytes : List ℕ) → AreBytes bytes → change_at flags bytes ≡ Err Short → Completes (ChangeText flags) bytes
 unfolding change_at
 change_completes flags [] fits e = some_change flags
 change_completes flags (byte ∷ rest) fits e = operated_completes flags (op_of byte) byte rest (λ i. fits (suc i)) refl e

@@ -7,7 +7,7 @@ use Rattle.std.proofs.lemmas.List.Folds.{list_any-append}
 use Rattle.cs_parse.specs.declared.fault.FaultKind.{FaultKind}
 use Rattle.cs_parse.specs.declared.fault.FaultKind.TheVariants.{NoKey}
 use Rattle.cs_parse.specs.Place.{Place, LastKey, wrong}
-use Rattle.cs_parse.specs.Fault.{are_bytes}
+use Rattle.cs_parse.proofs.Steps.{are_bytes}
 use Rattle.cs_parse.specs.declared.stop.Refusal.{Refusal}
 use Rattle.cs_parse.specs.declared.stop.Refusal.TheVariants.{Short, Bad}
 use Rattle.cs_parse.specs.Reading.{refuse, flags_at}

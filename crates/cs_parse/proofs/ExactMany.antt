@@ -9,7 +9,8 @@ use Rattle.cs_parse.specs.Place.{Place, wrong}
 use Rattle.cs_parse.specs.declared.stop.Refusal.{Refusal}
 use Rattle.cs_parse.specs.declared.stop.Refusal.TheVariants.{Short, Bad}
 use Rattle.cs_parse.specs.Reading.{◌>>=◌, many_at}
-use Rattle.cs_parse.proofs.Steps.{IsBytes, back_fits, done}
+use Rattle.cs_model.specs.Bytes.{AreBytes}
+use Rattle.cs_parse.proofs.Steps.{back_fits, done}
 use Rattle.cs_parse.proofs.Loops.{then_others, rest_of, many_more, many_done}
 use Rattle.cs_parse.proofs.ManyLaws.{IsReader}
 use Rattle.cs_parse.proofs.Exact.{Completes, Stopped, bind_err}
@@ -28,11 +29,11 @@ ManyPlace {A} Spelling IsItem S front place = (whole : List ℕ) × (xs : List A
 -- What is asked of an item's reader, where the items aren't over and what is left may follow.
 pub record IsExact {A : Type 0} (over : List ℕ → Bool) (read : List ℕ → Result (A × List ℕ) Refusal) (Spelling : List ℕ → A → Type 0) (IsItem : A → Type 0) (Follows : List ℕ → Type 0) (S : List ℕ → Place → Type 0) : Type 0 where
   pub reader : IsReader over read Spelling IsItem Follows
-  pub leaves : (bytes : List ℕ) (x : A × List ℕ) → Follows bytes → IsBytes bytes → read bytes ≡ Ok x → Follows x.1
-  pub stops : (bytes : List ℕ) (left : ℕ) (kind : FaultKind) → over bytes ≡ false → Follows bytes → IsBytes bytes → read bytes ≡ Err (Bad left kind) → Stopped (ItemText Spelling IsItem) S bytes left kind
+  pub leaves : (bytes : List ℕ) (x : A × List ℕ) → Follows bytes → AreBytes bytes → read bytes ≡ Ok x → Follows x.1
+  pub stops : (bytes : List ℕ) (left : ℕ) (kind : FaultKind) → over bytes ≡ false → Follows bytes → AreBytes bytes → read bytes ≡ Err (Bad left kind) → Stopped (ItemText Spelling IsItem) S bytes left kind
   pub places : (front : List ℕ) (place : Place) (byte : ℕ) (kind : FaultKind) (more : List ℕ) → S front place → wrong place byte ≡ Some kind
       → (over (front ++ byte ∷ more) ≡ false) × Follows (front ++ byte ∷ more) × (read (front ++ byte ∷ more) ≡ Err (Bad (suc (length more)) kind))
-  pub completes : (bytes : List ℕ) → over bytes ≡ false → Follows bytes → IsBytes bytes → read bytes ≡ Err Short → Completes (ItemText Spelling IsItem) bytes
+  pub completes : (bytes : List ℕ) → over bytes ≡ false → Follows bytes → AreBytes bytes → read bytes ≡ Err Short → Completes (ItemText Spelling IsItem) bytes
 
 module _ {A : Type 0} (over : List ℕ → Bool) (read : List ℕ → Result (A × List ℕ) Refusal) (Spelling : List ℕ → A → Type 0) (IsItem : A → Type 0) (Follows : List ℕ → Type 0) (S : List ℕ → Place → Type 0)
     (exact : IsExact over read Spelling IsItem Follows S) where
@@ -48,7 +49,7 @@ module _ {A : Type 0} (over : List ℕ → Bool) (read : List ℕ → Result (A 
   less_fuel : (fuel : ℕ) (bytes text rest : List ℕ) (a : A) → length bytes ≤ suc fuel → bytes ≡ text ++ rest → Spelling text a → length rest ≤ fuel
   less_fuel fuel bytes text rest a enough parts h = omega (arith, ap length parts, length-append text rest, exact.reader.long text a h)
 
-  pub many_stops : (fuel : ℕ) (bytes : List ℕ) (left : ℕ) (kind : FaultKind) → length bytes ≤ fuel → Follows bytes → IsBytes bytes → many_at over read fuel bytes ≡ Err (Bad left kind)
+  pub many_stops : (fuel : ℕ) (bytes : List ℕ) (left : ℕ) (kind : FaultKind) → length bytes ≤ fuel → Follows bytes → AreBytes bytes → many_at over read fuel bytes ≡ Err (Bad left kind)
       → Stopped (ManyText Spelling IsItem) (ManyPlace Spelling IsItem S) bytes left kind
   many_stops zero bytes left kind enough follows fits e = absurd (cc (sym (many_done over read zero bytes (inr refl)) ∙ e))
   many_stops (suc fuel) bytes left kind enough follows fits e =
@@ -82,7 +83,7 @@ module _ {A : Type 0} (over : List ℕ → Bool) (read : List ℕ → Result (A 
         ]
       ]
 
-  pub many_completes : (fuel : ℕ) (bytes : List ℕ) → length bytes ≤ fuel → Follows bytes → IsBytes bytes → many_at over read fuel bytes ≡ Err Short → Completes (ManyText Spelling IsItem) bytes
+  pub many_completes : (fuel : ℕ) (bytes : List ℕ) → length bytes ≤ fuel → Follows bytes → AreBytes bytes → many_at over read fuel bytes ≡ Err Short → Completes (ManyText Spelling IsItem) bytes
   many_completes zero bytes enough follows fits e = absurd (cc (sym (many_done over read zero bytes (inr refl)) ∙ e))
   many_completes (suc fuel) bytes enough follows fits e =
       elim (cases_Bool (over bytes)) as (λ w. Completes (ManyText Spelling IsItem) bytes) [

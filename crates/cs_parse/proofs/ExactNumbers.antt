@@ -6,7 +6,7 @@ use Rattle.cs_parse.specs.declared.fault.FaultKind.{FaultKind}
 use Rattle.cs_parse.specs.declared.fault.FaultKind.TheVariants.{Columns, ValueTooLong}
 use Rattle.cs_parse.specs.Place.{Place, InColumns, InLength, factor, outside, leaves_none, wrong}
 use Rattle.cs_parse.specs.Stands.{Unfinished}
-use Rattle.cs_parse.specs.Fault.{are_bytes}
+use Rattle.cs_parse.proofs.Steps.{are_bytes}
 use Rattle.cs_parse.specs.declared.stop.Refusal.TheVariants.{Short, Bad}
 use Rattle.cs_parse.specs.Reading.{within, number_at, columns_at, length_at}
 use Rattle.cs_parse.proofs.Steps.{chosen}

@@ -12,7 +12,8 @@ use Rattle.cs_parse.specs.Place.{Place, wrong}
 use Rattle.cs_parse.specs.Stands.{AtChange, InSection}
 use Rattle.cs_parse.specs.declared.stop.Refusal.TheVariants.{Short, Bad}
 use Rattle.cs_parse.specs.Reading.{◌>>=◌, change_at, ends_section, changes_at, header_at, section_at, is_empty}
-use Rattle.cs_parse.proofs.Steps.{IsBytes, back_fits, bind_ok, ok_is}
+use Rattle.cs_model.specs.Bytes.{AreBytes}
+use Rattle.cs_parse.proofs.Steps.{back_fits, bind_ok, ok_is}
 use Rattle.cs_parse.proofs.HeaderLaws.{header_again}
 use Rattle.cs_parse.proofs.ChangeLaws.{IsChangeBy, IsAny, change_reader, changes_take}
 use Rattle.cs_parse.proofs.TextLaws.{sectioned, changes_behind, nothing_taken, CanFollow, marked_again, section_reader}
@@ -40,11 +41,11 @@ change_exact flags = record {
   completes = λ bytes more follows fits e. change_completes flags bytes fits e;
 }
 
-changes_stops : (flags bytes : List ℕ) (left : ℕ) (kind : FaultKind) → IsBytes bytes → changes_at flags bytes ≡ Err (Bad left kind) → Stopped (ChangesText flags) (ChangesPlace flags) bytes left kind
+changes_stops : (flags bytes : List ℕ) (left : ℕ) (kind : FaultKind) → AreBytes bytes → changes_at flags bytes ≡ Err (Bad left kind) → Stopped (ChangesText flags) (ChangesPlace flags) bytes left kind
 unfolding changes_at
 changes_stops flags bytes left kind fits e = many_stops ends_section (change_at flags) SpellsChange (IsChangeBy flags) IsAny (AtChange flags) (change_exact flags) (length bytes) bytes left kind (omega arith) tt fits e
 
-changes_complete : (flags bytes : List ℕ) → IsBytes bytes → changes_at flags bytes ≡ Err Short → Completes (ChangesText flags) bytes
+changes_complete : (flags bytes : List ℕ) → AreBytes bytes → changes_at flags bytes ≡ Err Short → Completes (ChangesText flags) bytes
 unfolding changes_at
 changes_complete flags bytes fits e = many_completes ends_section (change_at flags) SpellsChange (IsChangeBy flags) IsAny (AtChange flags) (change_exact flags) (length bytes) bytes (omega arith) tt fits e
 
@@ -77,7 +78,7 @@ changes_stand : (header : List ℕ) (shape : Shape) (front : List ℕ) (place : 
 changes_stand header shape front place h (body, changes, part, parts, spelled, stands) =
     inr (record { header = 84 ∷ header; shape = shape; body = body; changes = changes; part = part; parts = ap (λ w. 84 ∷ (header ++ w)) parts; is_header = h.0; is_shape = h.1; is_body = spelled.0; are_changes = spelled.1; stands = stands })
 
-marked_stops : (rest : List ℕ) (left : ℕ) (kind : FaultKind) → IsBytes rest → section_at (84 ∷ rest) ≡ Err (Bad left kind) → Stopped SectionText InSection (84 ∷ rest) left kind
+marked_stops : (rest : List ℕ) (left : ℕ) (kind : FaultKind) → AreBytes rest → section_at (84 ∷ rest) ≡ Err (Bad left kind) → Stopped SectionText InSection (84 ∷ rest) left kind
 marked_stops rest left kind fits e = elim (bind_err (header_at rest) changes_behind (Bad left kind) (sym (marked_again rest) ∙ e)) as (λ w. Stopped SectionText InSection (84 ∷ rest) left kind) [
   | inl h ↦
       let s = header_exact.stops rest left kind fits h in
@@ -104,7 +105,7 @@ marked_stops rest left kind fits e = elim (bind_err (header_at rest) changes_beh
       ]
 ]
 
-marked_completes : (rest : List ℕ) → IsBytes rest → section_at (84 ∷ rest) ≡ Err Short → Completes SectionText (84 ∷ rest)
+marked_completes : (rest : List ℕ) → AreBytes rest → section_at (84 ∷ rest) ≡ Err Short → Completes SectionText (84 ∷ rest)
 marked_completes rest fits e = elim (bind_err (header_at rest) changes_behind Short (sym (marked_again rest) ∙ e)) as (λ w. Completes SectionText (84 ∷ rest)) [
   | inl h ↦ section_begun rest (header_exact.completes rest fits h)
   | inr h ↦
@@ -121,20 +122,20 @@ begins_so : (bytes : List ℕ) → is_empty bytes ≡ false → CanFollow bytes 
 begins_so [] more follows = absurd (cc more)
 begins_so (byte ∷ rest) more follows = (rest, ap (λ b. b ∷ rest) (eqb-true byte 84 follows))
 
-rest_fits : (bytes rest : List ℕ) → bytes ≡ 84 ∷ rest → IsBytes bytes → IsBytes rest
+rest_fits : (bytes rest : List ℕ) → bytes ≡ 84 ∷ rest → AreBytes bytes → AreBytes rest
 rest_fits bytes rest e fits = back_fits bytes (84 ∷ []) rest e fits
 
-section_stops : (bytes : List ℕ) (left : ℕ) (kind : FaultKind) → is_empty bytes ≡ false → CanFollow bytes → IsBytes bytes → section_at bytes ≡ Err (Bad left kind) → Stopped SectionText InSection bytes left kind
+section_stops : (bytes : List ℕ) (left : ℕ) (kind : FaultKind) → is_empty bytes ≡ false → CanFollow bytes → AreBytes bytes → section_at bytes ≡ Err (Bad left kind) → Stopped SectionText InSection bytes left kind
 section_stops bytes left kind more follows fits e =
     let b = begins_so bytes more follows in
     subst (λ w. Stopped SectionText InSection w left kind) (sym b.1) (marked_stops b.0 left kind (rest_fits bytes b.0 b.1 fits) (ap section_at (sym b.1) ∙ e))
 
-section_completes : (bytes : List ℕ) → is_empty bytes ≡ false → CanFollow bytes → IsBytes bytes → section_at bytes ≡ Err Short → Completes SectionText bytes
+section_completes : (bytes : List ℕ) → is_empty bytes ≡ false → CanFollow bytes → AreBytes bytes → section_at bytes ≡ Err Short → Completes SectionText bytes
 section_completes bytes more follows fits e =
     let b = begins_so bytes more follows in
     subst (λ w. Completes SectionText w) (sym b.1) (marked_completes b.0 (rest_fits bytes b.0 b.1 fits) (ap section_at (sym b.1) ∙ e))
 
-marked_leaves : (rest : List ℕ) (x : Section × List ℕ) → IsBytes rest → section_at (84 ∷ rest) ≡ Ok x → CanFollow x.1
+marked_leaves : (rest : List ℕ) (x : Section × List ℕ) → AreBytes rest → section_at (84 ∷ rest) ≡ Ok x → CanFollow x.1
 marked_leaves rest x fits e =
     let a = bind_ok (header_at rest) changes_behind x (sym (marked_again rest) ∙ e) in
     let b = bind_ok (changes_at a.0.0.flags a.0.1) (sectioned a.0.0) x a.2 in
@@ -143,7 +144,7 @@ marked_leaves rest x fits e =
     let section : Section = record { shape = a.0.0; changes = b.0.0 } in
     subst (λ (y : Section × List ℕ). CanFollow y.1) (ok_is (section, b.0.1) x b.2) left
 
-section_leaves : (bytes : List ℕ) (x : Section × List ℕ) → CanFollow bytes → IsBytes bytes → section_at bytes ≡ Ok x → CanFollow x.1
+section_leaves : (bytes : List ℕ) (x : Section × List ℕ) → CanFollow bytes → AreBytes bytes → section_at bytes ≡ Ok x → CanFollow x.1
 section_leaves [] x follows fits e = absurd (nothing_taken x e)
 section_leaves (byte ∷ rest) x follows fits e =
     let is = eqb-true byte 84 follows in

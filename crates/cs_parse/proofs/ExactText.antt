@@ -9,11 +9,13 @@ use Rattle.cs_parse.specs.declared.fault.FaultKind.{FaultKind}
 use Rattle.cs_parse.specs.declared.fault.FaultKind.TheVariants.{Patchset, BadMarker}
 use Rattle.cs_parse.specs.Place.{Place, Start, wrong}
 use Rattle.cs_parse.specs.Stands.{BehindSections, InSection, Stands}
-use Rattle.cs_parse.specs.Fault.{are_bytes, Viable}
+use Rattle.cs_parse.specs.Fault.{Viable}
+use Rattle.cs_parse.proofs.Steps.{are_bytes, bytes_from, bytes_to}
 use Rattle.cs_parse.specs.declared.stop.Refusal.{Refusal}
 use Rattle.cs_parse.specs.declared.stop.Refusal.TheVariants.{Short, Bad}
 use Rattle.cs_parse.specs.Reading.{◌>>=◌, refuse, header_at, section_at, is_empty, sections_at, many_at}
-use Rattle.cs_parse.proofs.Steps.{IsBytes, chosen}
+use Rattle.cs_model.specs.Bytes.{AreBytes}
+use Rattle.cs_parse.proofs.Steps.{chosen}
 use Rattle.cs_parse.proofs.Loops.{rest_of, many_more, many_done}
 use Rattle.cs_parse.proofs.TextLaws.{CanFollow, changes_behind, begins_none, section_begins, sections_take, sections_again}
 use Rattle.cs_parse.proofs.Exact.{Completes, Stopped, are_bytes-append}
@@ -71,13 +73,13 @@ stands_behind : (front : List ℕ) (place : Place) → ManyPlace SpellsSection I
 stands_behind front place (whole, sections, part, parts, spelled, stands) =
     inr (record { whole = whole; sections = sections; part = part; parts = parts; spelled = spelled.0; is_changeset = spelled.1; stands = stands })
 
-behind_stops : (text : List ℕ) (left : ℕ) (kind : FaultKind) → CanFollow text → IsBytes text → sections_at text ≡ Err (Bad left kind) → Stopped SectionsText Stands text left kind
+behind_stops : (text : List ℕ) (left : ℕ) (kind : FaultKind) → CanFollow text → AreBytes text → sections_at text ≡ Err (Bad left kind) → Stopped SectionsText Stands text left kind
 unfolding sections_at
 behind_stops text left kind follows fits e =
     let s = many_stops is_empty section_at SpellsSection IsSection CanFollow InSection section_exact (length text) text left kind (omega arith) follows fits e in
     record { front = s.front; byte = s.byte; back = s.back; place = s.place; parts = s.parts; left_is = s.left_is; alive = s.alive; stands = stands_behind s.front s.place s.stands; is_wrong = s.is_wrong }
 
-pub text_stops : (text : List ℕ) (left : ℕ) (kind : FaultKind) → IsBytes text → sections_at text ≡ Err (Bad left kind) → Stopped SectionsText Stands text left kind
+pub text_stops : (text : List ℕ) (left : ℕ) (kind : FaultKind) → AreBytes text → sections_at text ≡ Err (Bad left kind) → Stopped SectionsText Stands text left kind
 text_stops [] left kind fits e =
     let other : nothing_left ≡ Err (Bad left kind) = sym empty_text ∙ e in
     absurd cc
@@ -90,11 +92,11 @@ text_stops (byte ∷ rest) left kind fits e = elim (cases_Bool (byte == 84)) as 
       record { front = []; byte = byte; back = rest; place = Start; parts = refl; left_is = len; alive = no_sections; stands = inl (refl, refl); is_wrong = wrong_first byte other ∙ ap (λ k. Some k) same }
 ]
 
-behind_completes : (text : List ℕ) → CanFollow text → IsBytes text → sections_at text ≡ Err Short → Completes SectionsText text
+behind_completes : (text : List ℕ) → CanFollow text → AreBytes text → sections_at text ≡ Err Short → Completes SectionsText text
 unfolding sections_at
 behind_completes text follows fits e = many_completes is_empty section_at SpellsSection IsSection CanFollow InSection section_exact (length text) text (omega arith) follows fits e
 
-pub text_completes : (text : List ℕ) → IsBytes text → sections_at text ≡ Err Short → Completes SectionsText text
+pub text_completes : (text : List ℕ) → AreBytes text → sections_at text ≡ Err Short → Completes SectionsText text
 text_completes [] fits e = no_sections
 text_completes (byte ∷ rest) fits e = elim (cases_Bool (byte == 84)) as (λ w. Completes SectionsText (byte ∷ rest)) [
   | inl is ↦ behind_completes (byte ∷ rest) is fits e
@@ -120,18 +122,18 @@ text_places front place byte kind more (inr h) w = behind_places front place byt
 -- ---- fronts that can be gone on with
 
 pub viable_by : (text : List ℕ) → Completes SectionsText text → Viable text
-viable_by text c = record { more = c.more; bytes = c.bytes; sections = c.value; is_changeset = c.whole.1; spelled = c.whole.0 }
+viable_by text c = record { more = c.more; bytes = bytes_from c.more c.bytes; sections = c.value; is_changeset = c.whole.1; spelled = c.whole.0 }
 
-pub viable_whole : (text : List ℕ) (x : List Section × List ℕ) → IsBytes text → sections_at text ≡ Ok x → Viable text
+pub viable_whole : (text : List ℕ) (x : List Section × List ℕ) → AreBytes text → sections_at text ≡ Ok x → Viable text
 viable_whole text x fits e =
     let t = sections_take text x fits e in
     let nothing : x.1 ≡ [] = nil_from_length x.1 (eqb-true (length x.1) 0 t.2) in
     let whole : text ++ [] ≡ t.0.text = append-nil text ∙ t.0.parts ∙ ap (λ w. t.0.text ++ w) nothing ∙ append-nil t.0.text in
-    record { more = []; bytes = refl; sections = x.0; is_changeset = t.1; spelled = subst (λ w. SpellsEach SpellsSection w x.0) (sym whole) t.0.spelled }
+    record { more = []; bytes = bytes_from [] refl; sections = x.0; is_changeset = t.1; spelled = subst (λ w. SpellsEach SpellsSection w x.0) (sym whole) t.0.spelled }
 
 pub viable_front : (front back : List ℕ) → are_bytes back → Viable (front ++ back) → Viable front
 viable_front front back fits v =
-    record { more = back ++ v.more; bytes = are_bytes-append back v.more fits v.bytes; sections = v.sections; is_changeset = v.is_changeset; spelled = subst (λ w. SpellsEach SpellsSection w v.sections) (append_assoc front back v.more) v.spelled }
+    record { more = back ++ v.more; bytes = bytes_from (back ++ v.more) (are_bytes-append back v.more fits (bytes_to v.more v.bytes)); sections = v.sections; is_changeset = v.is_changeset; spelled = subst (λ w. SpellsEach SpellsSection w v.sections) (append_assoc front back v.more) v.spelled }
 
 abbrev all_read : List Section → Result (List Section × List ℕ) Refusal
 all_read sections = Ok (sections, [])

@@ -12,26 +12,18 @@ use Rattle.cs_model.specs.Text.{SpellsBytes, SpellsField}
 use Rattle.cs_model.specs.Varint.{IsVarint}
 use Rattle.cs_parse.specs.declared.fault.FaultKind.TheVariants.{BadType, Real}
 use Rattle.cs_parse.specs.Place.{Place, rule_refusal, type_refusal}
-use Rattle.cs_parse.specs.Fault.{are_bytes}
+use Rattle.cs_parse.proofs.Steps.{are_bytes, bytes_from, bytes_to}
 use Rattle.cs_parse.specs.declared.stop.Refusal.{Refusal}
 use Rattle.cs_parse.specs.declared.stop.Refusal.TheVariants.{Short, Bad}
 use Rattle.cs_parse.specs.Reading.{◌>>=◌, length_at, integer_at, counted_at, typed_at}
-use Rattle.cs_parse.proofs.Steps.{IsBytes, Takes, done, ok_is, guard_ok, chosen}
+use Rattle.cs_model.specs.Bytes.{AreBytes}
+use Rattle.cs_parse.proofs.Steps.{Takes, done, ok_is, guard_ok, chosen}
 use Rattle.cs_parse.proofs.NumberLaws.{SpellsInteger, integer_takes, integer_again}
 use Rattle.cs_parse.proofs.FieldLaws.{type_byte}
 use Rattle.cs_parse.proofs.Exact.{Completes, Stopped, Exact, Nowhere, Nothing, SeqText, SeqPlace, seq, are_bytes-append, seq_exact, pure_exact, mapped_exact, renamed}
 use Rattle.cs_parse.proofs.ExactNumbers.{LengthText, InLengthDigits, length_exact}
 
 -- ---- bytes
-
-pub bytes_from : (bytes : List ℕ) → are_bytes bytes → IsBytes bytes
-bytes_from [] h i = subst (λ n. n < 256) (sym (get_or_past [] i 0 (omega arith))) (omega arith)
-bytes_from (byte ∷ bytes) h zero = ltb-true byte 256 (and_parts (ltb byte 256) _ h).0
-bytes_from (byte ∷ bytes) h (suc i) = bytes_from bytes (and_parts (ltb byte 256) _ h).1 i
-
-pub bytes_to : (bytes : List ℕ) → IsBytes bytes → are_bytes bytes
-bytes_to [] fits = refl
-bytes_to (byte ∷ bytes) fits = and_from (ltb byte 256) _ (lt-ltb byte 256 (fits 0)) (bytes_to bytes (λ i. fits (suc i)))
 
 all_zero : (n : ℕ) → are_bytes (replicate n 0)
 all_zero zero = refl
@@ -101,7 +93,7 @@ counted_exact =
 abbrev IntegerText : List ℕ → ℤ → Type 0
 IntegerText text n = SpellsInteger text n × FitsSigned w64 n
 
-integer_goes_on : (bytes : List ℕ) → IsBytes bytes → length bytes < 8 → Completes IntegerText bytes
+integer_goes_on : (bytes : List ℕ) → AreBytes bytes → length bytes < 8 → Completes IntegerText bytes
 unfolding integer_at
 integer_goes_on bytes fits less =
     let zeros = replicate (8 - length bytes) 0 in

@@ -18,15 +18,15 @@ use Rattle.cs_parse.specs.declared.fault.ParseError.TheVariants.{Fault, Memory}
 use Rattle.cs_parse.specs.Answer.{Answers, Tells, IsSpelled, HasChangeset, HasFault}
 use Rattle.cs_parse.specs.Place.{Place, wrong}
 use Rattle.cs_parse.specs.Stands.{Stands}
-use Rattle.cs_parse.specs.Fault.{are_bytes, Viable, IsFirst, AtByte, IsTooLong, IsTruncated, IsFault}
+use Rattle.cs_parse.specs.Fault.{Viable, IsFirst, AtByte, IsTooLong, IsTruncated, IsFault}
+use Rattle.cs_parse.proofs.Steps.{are_bytes, bytes_to}
 use Rattle.cs_parse.specs.declared.stop.Refusal.{Refusal}
 use Rattle.cs_parse.specs.declared.stop.Refusal.TheVariants.{Short, Bad}
 use Rattle.cs_parse.specs.Reading.{sections_at, fault_of, placed, cut, answer_of}
-use Rattle.cs_parse.proofs.Steps.{IsBytes}
+use Rattle.cs_model.specs.Bytes.{AreBytes}
 use Rattle.cs_parse.proofs.NumberLaws.{front_fits}
 use Rattle.cs_parse.proofs.TextLaws.{front_long, answer_takes, answer_again, only_one}
 use Rattle.cs_parse.proofs.Exact.{Stopped}
-use Rattle.cs_parse.proofs.ExactValues.{bytes_to}
 use Rattle.cs_parse.proofs.ExactText.{SectionsText, text_stops, text_completes, text_places, viable_by, viable_whole, viable_front, not_viable}
 
 abbrev Read : Type 0
@@ -58,7 +58,7 @@ module _ (text front : List ℕ) (byte : ℕ) (back : List ℕ) (parts : text �
       let len : length (front ++ byte ∷ []) ≡ suc (length front) = omega (arith, length-append front (byte ∷ [])) in
       ap (take (suc (length front))) (parts ∙ sym (append_assoc front (byte ∷ []) back)) ∙ take_at (front ++ byte ∷ []) back (suc (length front)) len
 
-  first_at : (place : Place) (kind : FaultKind) → IsBytes text → Viable front → Stands front place → wrong place byte ≡ Some kind → IsFirst text (length front)
+  first_at : (place : Place) (kind : FaultKind) → AreBytes text → Viable front → Stands front place → wrong place byte ≡ Some kind → IsFirst text (length front)
   first_at place kind fits alive stands w =
       let bytes = (parts_are_bytes front (byte ∷ back) (subst are_bytes parts (bytes_to text fits))).0 in
       record {
@@ -73,7 +73,7 @@ module _ (text front : List ℕ) (byte : ℕ) (back : List ℕ) (parts : text �
   byte_at : slice_get text (length front) ≡ Some byte
   byte_at = slice_get_read text (length text) (length front) byte refl (omega (arith, ap length parts, length-append front (byte ∷ back))) (sym (ap (λ w. get_or w (length front) byte) parts ∙ get_or-append_seam front byte back byte))
 
-  at_byte : (place : Place) (kind : FaultKind) → IsBytes text → Viable front → Stands front place → wrong place byte ≡ Some kind → length front < most_bytes → AtByte text (record { at = length front; kind = kind })
+  at_byte : (place : Place) (kind : FaultKind) → AreBytes text → Viable front → Stands front place → wrong place byte ≡ Some kind → length front < most_bytes → AtByte text (record { at = length front; kind = kind })
   at_byte place kind fits alive stands w within =
       let front_taken : take (length front) text ≡ front = ap (take (length front)) parts ∙ take_at front (byte ∷ back) (length front) refl in
       record {
@@ -87,7 +87,7 @@ module _ (text front : List ℕ) (byte : ℕ) (back : List ℕ) (parts : text �
       }
 
 -- the reader stopped at a byte of the first bytes
-stopped_at : (text bytes rest : List ℕ) (left : ℕ) (kind : FaultKind) → text ≡ bytes ++ rest → IsBytes text → length bytes ≤ most_bytes → Stopped SectionsText Stands bytes left kind → AtByte text (record { at = length bytes - left; kind = kind })
+stopped_at : (text bytes rest : List ℕ) (left : ℕ) (kind : FaultKind) → text ≡ bytes ++ rest → AreBytes text → length bytes ≤ most_bytes → Stopped SectionsText Stands bytes left kind → AtByte text (record { at = length bytes - left; kind = kind })
 stopped_at text bytes rest left kind parts fits short s =
     let whole : text ≡ s.front ++ s.byte ∷ (s.back ++ rest) = parts ∙ ap (λ w. w ++ rest) s.parts ∙ append_assoc s.front (s.byte ∷ s.back) rest in
     let len : length bytes ≡ length s.front + suc (length s.back) = ap length s.parts ∙ length-append s.front (s.byte ∷ s.back) in
@@ -97,7 +97,7 @@ stopped_at text bytes rest left kind parts fits short s =
 fault_at : (text : List ℕ) (fault : ParseFault) (n : ℕ) (kind : FaultKind) → refusal (record { at = n; kind = kind }) ≡ refusal fault → AtByte text (record { at = n; kind = kind }) → IsFault text fault
 fault_at text fault n kind e h = inl (subst (λ f. AtByte text f) (same_fault (record { at = n; kind = kind }) fault e) h)
 
-fault_long : (text : List ℕ) (fault : ParseFault) → IsBytes text → most_bytes < length text → cut most_bytes (sections_at (take most_bytes text)) ≡ Err fault → IsFault text fault
+fault_long : (text : List ℕ) (fault : ParseFault) → AreBytes text → most_bytes < length text → cut most_bytes (sections_at (take most_bytes text)) ≡ Err fault → IsFault text fault
 fault_long text fault fits long e =
     let front = take most_bytes text in
     let len = front_long most_bytes text long in
@@ -112,7 +112,7 @@ fault_long text fault fits long e =
           fault_at text fault (most_bytes - h.0) h.1 (sym (ap (cut most_bytes) h.2) ∙ e) (subst (λ n. AtByte text (record { at = n - h.0; kind = h.1 })) (sym len) at)
     ]
 
-fault_short : (text : List ℕ) (fault : ParseFault) → IsBytes text → length text ≤ most_bytes → ((sections : List Section) → Spells text sections → ⊥) → placed (length text) (sections_at text) ≡ Err fault → IsFault text fault
+fault_short : (text : List ℕ) (fault : ParseFault) → AreBytes text → length text ≤ most_bytes → ((sections : List Section) → Spells text sections → ⊥) → placed (length text) (sections_at text) ≡ Err fault → IsFault text fault
 fault_short text fault fits short none e = elim (read_ends (sections_at text)) as (λ w. IsFault text fault) [
   | inl h ↦ absurd (cc (sym (ap (placed (length text)) h.1) ∙ e))
   | inr (inl h) ↦
@@ -138,7 +138,7 @@ spells_none text fault e sections h =
     let both : Err fault ≡ Ok sections = sym e ∙ answer_again text sections h in
     absurd cc
 
-pub refused_is_fault : (text : List ℕ) (fault : ParseFault) → IsBytes text → answer_of text ≡ Err fault → IsFault text fault
+pub refused_is_fault : (text : List ℕ) (fault : ParseFault) → AreBytes text → answer_of text ≡ Err fault → IsFault text fault
 refused_is_fault text fault fits e = elim (cases_lt most_bytes (length text)) as (λ w. IsFault text fault) [
   | inl long ↦ fault_long text fault fits long (sym (answer_long text long) ∙ e)
   | inr short ↦ fault_short text fault fits short (spells_none text fault e) (sym (answer_short text short) ∙ e)
@@ -170,12 +170,12 @@ fault_read text fault h = elim (cases_lt most_bytes (length text)) as (λ w. ans
       answer_short text short ∙ ap (placed (length text)) r.1 ∙ ap (λ k. Err (record { at = k; kind = fault.kind })) r.2
 ]
 
-viable_read : (bytes : List ℕ) (left : ℕ) (kind : FaultKind) → IsBytes bytes → Viable bytes → sections_at bytes ≡ Err (Bad left kind) → ⊥
+viable_read : (bytes : List ℕ) (left : ℕ) (kind : FaultKind) → AreBytes bytes → Viable bytes → sections_at bytes ≡ Err (Bad left kind) → ⊥
 viable_read bytes left kind fits v e =
     let s = text_stops bytes left kind fits e in
     not_viable s.front s.place s.byte kind s.back s.stands s.is_wrong (subst (λ w. Viable w) s.parts v)
 
-long_read : (text : List ℕ) (fault : ParseFault) → IsBytes text → IsTooLong text fault → answer_of text ≡ Err fault
+long_read : (text : List ℕ) (fault : ParseFault) → AreBytes text → IsTooLong text fault → answer_of text ≡ Err fault
 long_read text fault fits h =
     let front = take most_bytes text in
     let long = h.long in
@@ -187,17 +187,17 @@ long_read text fault fits h =
       | inr (inr k) ↦ absurd (viable_read front k.0 k.1 front_bytes h.so_far k.2)
     ]
 
-spelled_read : (text : List ℕ) (x : List Section × List ℕ) → IsBytes text → length text ≤ most_bytes → sections_at text ≡ Ok x → Spells text x.0
+spelled_read : (text : List ℕ) (x : List Section × List ℕ) → AreBytes text → length text ≤ most_bytes → sections_at text ≡ Ok x → Spells text x.0
 spelled_read text x fits short e = answer_takes text x.0 fits (answer_short text short ∙ ap (placed (length text)) e)
 
-short_read : (text : List ℕ) (fault : ParseFault) → IsBytes text → IsTruncated text fault → answer_of text ≡ Err fault
+short_read : (text : List ℕ) (fault : ParseFault) → AreBytes text → IsTruncated text fault → answer_of text ≡ Err fault
 short_read text fault fits h = answer_short text h.within_limit ∙ elim (read_ends (sections_at text)) as (λ w. placed (length text) (sections_at text) ≡ Err fault) [
   | inl k ↦ absurd (h.spells_none k.0.0 (spelled_read text k.0 fits h.within_limit k.1))
   | inr (inl k) ↦ ap (placed (length text)) k ∙ ap (λ f. Err f) (sym h.same)
   | inr (inr k) ↦ absurd (viable_read text k.0 k.1 fits h.so_far k.2)
 ]
 
-pub fault_is_refused : (text : List ℕ) (fault : ParseFault) → IsBytes text → IsFault text fault → answer_of text ≡ Err fault
+pub fault_is_refused : (text : List ℕ) (fault : ParseFault) → AreBytes text → IsFault text fault → answer_of text ≡ Err fault
 fault_is_refused text fault fits (inl h) = fault_read text fault h
 fault_is_refused text fault fits (inr (inl h)) = long_read text fault fits h
 fault_is_refused text fault fits (inr (inr h)) = short_read text fault fits h
@@ -211,21 +211,21 @@ answer_ends (Err fault) = inr (fault, refl)
 not_ok : (fault : ParseFault) → IsOk (refusal fault) → ⊥
 not_ok fault h = false≢true h
 
-pub error_tells : (text : List ℕ) (e : ParseError) → IsBytes text → Answers (Err e) (answer_of text) → Tells e text
+pub error_tells : (text : List ℕ) (e : ParseError) → AreBytes text → Answers (Err e) (answer_of text) → Tells e text
 error_tells text (Fault fault) fits given = refused_is_fault text fault fits given
 error_tells text Memory fits given = elim (answer_ends (answer_of text)) as (λ w. IsSpelled text) [
   | inl h ↦ (h.0, answer_takes text h.0 fits h.1)
   | inr h ↦ absurd (not_ok h.0 (subst (λ (r : Result (List Section) ParseFault). IsOk r) h.1 given))
 ]
 
-pub fault_told : (text : List ℕ) (result : Result (List Section) ParseError) (fault : ParseFault) → IsBytes text → Answers result (answer_of text) → IsFault text fault → result ≡ Err (Fault fault)
+pub fault_told : (text : List ℕ) (result : Result (List Section) ParseError) (fault : ParseFault) → AreBytes text → Answers result (answer_of text) → IsFault text fault → result ≡ Err (Fault fault)
 fault_told text (Ok found) fault fits given h =
     let both : refusal fault ≡ Ok found = sym (fault_is_refused text fault fits h) ∙ given in
     absurd cc
 fault_told text (Err (Fault told)) fault fits given h = ap (λ f. Err (Fault f)) (same_fault told fault (sym given ∙ fault_is_refused text fault fits h))
 fault_told text (Err Memory) fault fits given h = absurd (not_ok fault (subst (λ (r : Result (List Section) ParseFault). IsOk r) (fault_is_refused text fault fits h) given))
 
-pub text_has : (text : List ℕ) → IsBytes text → HasChangeset text ⊎ HasFault text
+pub text_has : (text : List ℕ) → AreBytes text → HasChangeset text ⊎ HasFault text
 text_has text fits = elim (answer_ends (answer_of text)) as (λ w. HasChangeset text ⊎ HasFault text) [
   | inl h ↦ inl (record {
     sections = h.0;

@@ -11,7 +11,8 @@ use Rattle.cs_parse.specs.declared.fault.FaultKind.TheVariants.{BadType, Real}
 use Rattle.cs_parse.specs.declared.stop.Refusal.{Refusal}
 use Rattle.cs_parse.specs.Reading.{◌>>=◌, typed_at, unless_refused, field_at, record_at, integer_at, counted_at}
 use Rattle.cs_parse.specs.Place.{rule_refusal, type_refusal}
-use Rattle.cs_parse.proofs.Steps.{IsBytes, Takes, back_fits, bind_ok, done, ok_is, unless_ok}
+use Rattle.cs_model.specs.Bytes.{AreBytes}
+use Rattle.cs_parse.proofs.Steps.{Takes, back_fits, bind_ok, done, ok_is, unless_ok}
 use Rattle.cs_parse.proofs.NumberLaws.{integer_takes, integer_again, counted_takes, counted_again}
 
 -- the type byte of a field
@@ -78,7 +79,7 @@ Reads rule bytes x = Takes SpellsField bytes x × IsField x.0 × (meets rule x.0
 abbrev integer_behind : List ℕ → Result (Field × List ℕ) Refusal
 integer_behind rest = integer_at rest >>= λ number. Ok (Is (Integer number.0), number.1)
 
-typed_takes : (rule : Rule) (byte : ℕ) (rest : List ℕ) (x : Field × List ℕ) → IsBytes rest → type_refusal rule byte ≡ None → typed_at byte rest ≡ Ok x → Reads rule (byte ∷ rest) x
+typed_takes : (rule : Rule) (byte : ℕ) (rest : List ℕ) (x : Field × List ℕ) → AreBytes rest → type_refusal rule byte ≡ None → typed_at byte rest ≡ Ok x → Reads rule (byte ∷ rest) x
 unfolding typed_at
 typed_takes rule zero rest x fits none e =
     subst (λ (y : Field × List ℕ). Reads rule (0 ∷ rest) y) (ok_is (Undefined, rest) x e) (record { text = 0 ∷ []; parts = refl; spelled = refl }, tt, follows rule Undefined none)
@@ -102,7 +103,7 @@ typed_takes rule (suc (suc (suc (suc (suc (suc byte)))))) rest x fits none e =
     let refused : Some BadType ≡ None = sym (ap (λ b. cond b (Some BadType) (cond (eqb (suc (suc (suc (suc (suc (suc byte)))))) 2) (Some Real) (rule_refusal rule (suc (suc (suc (suc (suc (suc byte))))))))) large) ∙ none in
     absurd cc
 
-pub field_takes : (rule : Rule) (bytes : List ℕ) (x : Field × List ℕ) → IsBytes bytes → field_at rule bytes ≡ Ok x → Reads rule bytes x
+pub field_takes : (rule : Rule) (bytes : List ℕ) (x : Field × List ℕ) → AreBytes bytes → field_at rule bytes ≡ Ok x → Reads rule bytes x
 unfolding field_at
 field_takes rule [] x fits e = absurd cc
 field_takes rule (byte ∷ rest) x fits e =
@@ -129,7 +130,7 @@ field_again rule text field rest h valid follows_it =
 
 -- ---- records
 
-pub record_takes : (rules : List Rule) (bytes : List ℕ) (x : List Field × List ℕ) → IsBytes bytes → record_at rules bytes ≡ Ok x → Takes (SpellsEach SpellsField) bytes x × Obeys rules x.0
+pub record_takes : (rules : List Rule) (bytes : List ℕ) (x : List Field × List ℕ) → AreBytes bytes → record_at rules bytes ≡ Ok x → Takes (SpellsEach SpellsField) bytes x × Obeys rules x.0
 unfolding record_at
 record_takes [] bytes x fits e = subst (λ (y : List Field × List ℕ). Takes (SpellsEach SpellsField) bytes y × Obeys [] y.0) (ok_is ([], bytes) x e) (record { text = []; parts = refl; spelled = refl }, tt)
 record_takes (rule ∷ rules) bytes x fits e =

@@ -6,7 +6,8 @@ use Rattle.std.proofs.lemmas.List.{nil_from_length, length-append}
 use Rattle.cs_model.specs.Text.{SpellsEach}
 use Rattle.cs_parse.specs.declared.stop.Refusal.{Refusal}
 use Rattle.cs_parse.specs.Reading.{◌>>=◌, many_at}
-use Rattle.cs_parse.proofs.Steps.{IsBytes, Takes, back_fits, bind_ok, done, ok_is}
+use Rattle.cs_model.specs.Bytes.{AreBytes}
+use Rattle.cs_parse.proofs.Steps.{Takes, back_fits, bind_ok, done, ok_is}
 use Rattle.cs_parse.proofs.Loops.{then_others, rest_of, many_more, many_done}
 
 -- An item's reader: where the items are over, what is read was spelled so, and what is spelled so is read where what
@@ -14,7 +15,7 @@ use Rattle.cs_parse.proofs.Loops.{then_others, rest_of, many_more, many_done}
 pub record IsReader {A : Type 0} (over : List ℕ → Bool) (read : List ℕ → Result (A × List ℕ) Refusal) (Spelling : List ℕ → A → Type 0) (IsItem : A → Type 0) (Follows : List ℕ → Type 0) : Type 0 where
   pub at_end : over [] ≡ true
   pub long : (text : List ℕ) (a : A) → Spelling text a → 0 < length text
-  pub takes : (bytes : List ℕ) (x : A × List ℕ) → IsBytes bytes → read bytes ≡ Ok x → Takes Spelling bytes x × IsItem x.0
+  pub takes : (bytes : List ℕ) (x : A × List ℕ) → AreBytes bytes → read bytes ≡ Ok x → Takes Spelling bytes x × IsItem x.0
   pub again : (text : List ℕ) (a : A) (rest : List ℕ) → Spelling text a → IsItem a → Follows rest → read (text ++ rest) ≡ Ok (a, rest)
   pub goes_on : (text : List ℕ) (a : A) (rest : List ℕ) → Spelling text a → over (text ++ rest) ≡ false
   pub follows : (text : List ℕ) (a : A) (rest : List ℕ) → Spelling text a → Follows (text ++ rest)
@@ -26,7 +27,7 @@ none_taken : {A : Type 0} (over : List ℕ → Bool) (Spelling : List ℕ → A 
 none_taken over Spelling IsItem bytes x ended e = subst (λ y. TakesEach over Spelling IsItem bytes y) (ok_is ([], bytes) x e) (record { text = []; parts = refl; spelled = refl }, tt, ended)
 
 pub many_takes : {A : Type 0} (over : List ℕ → Bool) (read : List ℕ → Result (A × List ℕ) Refusal) (Spelling : List ℕ → A → Type 0) (IsItem : A → Type 0) (Follows : List ℕ → Type 0) → IsReader over read Spelling IsItem Follows
-    → (fuel : ℕ) (bytes : List ℕ) (x : List A × List ℕ) → IsBytes bytes → length bytes ≤ fuel → many_at over read fuel bytes ≡ Ok x → TakesEach over Spelling IsItem bytes x
+    → (fuel : ℕ) (bytes : List ℕ) (x : List A × List ℕ) → AreBytes bytes → length bytes ≤ fuel → many_at over read fuel bytes ≡ Ok x → TakesEach over Spelling IsItem bytes x
 many_takes over read Spelling IsItem Follows reader zero bytes x fits enough e =
     let ended : over bytes ≡ true = ap over (nil_from_length bytes (omega arith)) ∙ reader.at_end in
     none_taken over Spelling IsItem bytes x ended (sym (many_done over read zero bytes (inl ended)) ∙ e)

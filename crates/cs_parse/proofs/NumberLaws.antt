@@ -14,7 +14,8 @@ use Rattle.cs_parse.specs.declared.stop.Refusal.{Refusal}
 use Rattle.cs_parse.specs.declared.stop.Refusal.TheVariants.{Short, Bad}
 use Rattle.cs_parse.specs.Reading.{◌>>=◌, within, number_at, columns_at, length_at, integer_at, counted_at}
 use Rattle.cs_parse.specs.Place.{factor}
-use Rattle.cs_parse.proofs.Steps.{IsBytes, Takes, bind_ok, done, ok_is, guard_ok, chosen}
+use Rattle.cs_model.specs.Bytes.{AreBytes}
+use Rattle.cs_parse.proofs.Steps.{Takes, bind_ok, done, ok_is, guard_ok, chosen}
 use Rattle.cs_parse.proofs.Numbers.{goes, number_short, number_more, number_last, number_ends, number_goes}
 
 within_ok : (least most : ℕ) (kind : FaultKind) (n : ℕ) (rest : List ℕ) (x : ℕ × List ℕ) → within least most kind n rest ≡ Ok x → ((n, rest) ≡ x) × (least ≤ n) × (n ≤ most)
@@ -138,24 +139,24 @@ counted_again text bytes rest h top =
 abbrev pub SpellsInteger : List ℕ → ℤ → Type 0
 SpellsInteger text number = text ≡ to_be_bytes w64 (cast_unsigned w64 number)
 
-pub front_fits : (n : ℕ) (bytes : List ℕ) → n ≤ length bytes → IsBytes bytes → IsBytes (take n bytes)
+pub front_fits : (n : ℕ) (bytes : List ℕ) → n ≤ length bytes → AreBytes bytes → AreBytes (take n bytes)
 front_fits n bytes within fits i =
     elim (cases_lt i n) as (λ w. get_or (take n bytes) i 0 < 256) [
       | inl lt ↦ rw (get_or-take n bytes i 0 lt) (fits i)
       | inr le ↦ rw (get_or_past (take n bytes) i 0 (omega (arith, length-take n bytes))) (omega arith)
     ]
 
-number_below : (bytes : List ℕ) → IsBytes bytes → from_be_bytes w64 bytes < 2 ^ 64
+number_below : (bytes : List ℕ) → AreBytes bytes → from_be_bytes w64 bytes < 2 ^ 64
 number_below bytes fits = omega (arith, fits 0, fits 1, fits 2, fits 3, fits 4, fits 5, fits 6, fits 7)
 
-pub integer_takes : (bytes : List ℕ) (x : ℤ × List ℕ) → IsBytes bytes → integer_at bytes ≡ Ok x → Takes SpellsInteger bytes x × FitsSigned w64 x.0
+pub integer_takes : (bytes : List ℕ) (x : ℤ × List ℕ) → AreBytes bytes → integer_at bytes ≡ Ok x → Takes SpellsInteger bytes x × FitsSigned w64 x.0
 unfolding integer_at
 integer_takes bytes x fits e =
     let front = take 8 bytes in
     let n = from_be_bytes w64 front in
     let g = guard_ok (ltb (length bytes) 8) Short (Ok (cast_signed w64 n, drop 8 bytes)) x e in
     let long : 8 ≤ length bytes = ltb-false _ _ g.0 in
-    let eight : IsBytes front = front_fits 8 bytes long fits in
+    let eight : AreBytes front = front_fits 8 bytes long fits in
     let back : to_be_bytes w64 n ≡ front = be_bytes_8 front n (omega (arith, length-take 8 bytes)) eight refl in
     let same : cast_unsigned w64 (cast_signed w64 n) ≡ n = of_z-to_z w64 n (number_below front eight) in
     let spelled : SpellsInteger front (cast_signed w64 n) = sym (ap (λ k. to_be_bytes w64 k) same ∙ back) in

@@ -18,7 +18,8 @@ use Rattle.cs_parse.specs.Stands.{Stands}
 use Rattle.cs_parse.specs.Fault.{Viable, IsFirst, IsFault}
 use Rattle.cs_parse.specs.Reading.{answer_of}
 use Rattle.cs_parse.specs.Pieces.{may_be_mended, lasting, fault_in, behind, taken, IsLasting, GoesOn, TellsLasting, joined, kept, Fed}
-use Rattle.cs_parse.proofs.Steps.{IsBytes, back_fits}
+use Rattle.cs_model.specs.Bytes.{AreBytes}
+use Rattle.cs_parse.proofs.Steps.{back_fits, bytes_from}
 use Rattle.cs_parse.proofs.NumberLaws.{front_fits}
 use Rattle.cs_parse.proofs.TextLaws.{answer_takes}
 use Rattle.cs_parse.proofs.FaultLaws.{refused_is_fault, fault_is_refused}
@@ -86,7 +87,7 @@ mended_or_not false = inr refl
 some_is : (a b : ParseFault) → Some a ≡ Some b → a ≡ b
 some_is a b e = cc
 
-pub lasting_is : (text : List ℕ) (fault : ParseFault) → IsBytes text → fault_in text ≡ Some fault → IsLasting text fault
+pub lasting_is : (text : List ℕ) (fault : ParseFault) → AreBytes text → fault_in text ≡ Some fault → IsLasting text fault
 lasting_is text fault fits e = elim (cases (answer_of text)) as (λ w. IsLasting text fault) [
   | inl h ↦
       let none : None ≡ Some fault = sym (ap lasting h.1) ∙ e in
@@ -101,14 +102,14 @@ lasting_is text fault fits e = elim (cases (answer_of text)) as (λ w. IsLasting
   ]
 ]
 
-pub is_lasting : (text : List ℕ) (fault : ParseFault) → IsBytes text → IsLasting text fault → fault_in text ≡ Some fault
+pub is_lasting : (text : List ℕ) (fault : ParseFault) → AreBytes text → IsLasting text fault → fault_in text ≡ Some fault
 is_lasting text fault fits h = ap lasting (fault_is_refused text fault fits h.0) ∙ told fault false h.1
 
-pub goes_on : (text : List ℕ) → IsBytes text → fault_in text ≡ None → GoesOn text
+pub goes_on : (text : List ℕ) → AreBytes text → fault_in text ≡ None → GoesOn text
 goes_on text fits e = elim (cases (answer_of text)) as (λ w. GoesOn text) [
   | inl h ↦
       let s = answer_takes text h.0 fits h.1 in
-      record { within_limit = s.within_limit; viable = record { more = []; bytes = refl; sections = h.0; is_changeset = s.is_changeset; spelled = subst (λ w. SpellsEach SpellsSection w h.0) (sym (append-nil text)) s.sections } }
+      record { within_limit = s.within_limit; viable = record { more = []; bytes = bytes_from [] refl; sections = h.0; is_changeset = s.is_changeset; spelled = subst (λ w. SpellsEach SpellsSection w h.0) (sym (append-nil text)) s.sections } }
   | inr h ↦ elim (mended_or_not (may_be_mended h.0.kind)) as (λ w. GoesOn text) [
     | inl m ↦ mended text h.0 m (refused_is_fault text h.0 fits h.1)
     | inr n ↦
@@ -124,10 +125,10 @@ goes_on text fits e = elim (cases (answer_of text)) as (λ w. GoesOn text) [
 
 -- ---- behind more bytes
 
-front_of : (front back : List ℕ) → IsBytes (front ++ back) → IsBytes front
+front_of : (front back : List ℕ) → AreBytes (front ++ back) → AreBytes front
 front_of front back fits =
     let n = length front in
-    subst (λ w. IsBytes w) (take-append-le n front back (omega arith) ∙ take_all n front (omega arith)) (front_fits n (front ++ back) (omega (arith, length-append front back)) fits)
+    subst (λ w. AreBytes w) (take-append-le n front back (omega arith) ∙ take_all n front (omega arith)) (front_fits n (front ++ back) (omega (arith, length-append front back)) fits)
 
 take_same : (n : ℕ) (text more : List ℕ) → n ≤ length text → take n (text ++ more) ≡ take n text
 take_same n text more le = take-append-le n text more le
@@ -169,28 +170,28 @@ told_or_not None = inl refl
 told_or_not (Some fault) = inr (fault, refl)
 
 -- bytes of a text without a piece in its middle
-without : (text piece rest : List ℕ) → IsBytes (text ++ (piece ++ rest)) → IsBytes (text ++ rest)
+without : (text piece rest : List ℕ) → AreBytes (text ++ (piece ++ rest)) → AreBytes (text ++ rest)
 without text piece rest fits i = elim (cases_lt i (length text)) as (λ w. get_or (text ++ rest) i 0 < 256) [
   | inl less ↦ subst (λ n. n < 256) (get_or_append_left text (piece ++ rest) 0 i less ∙ sym (get_or_append_left text rest 0 i less)) (fits i)
   | inr past ↦
-      let back : IsBytes rest = back_fits (piece ++ rest) piece rest refl (back_fits (text ++ (piece ++ rest)) text (piece ++ rest) refl fits) in
+      let back : AreBytes rest = back_fits (piece ++ rest) piece rest refl (back_fits (text ++ (piece ++ rest)) text (piece ++ rest) refl fits) in
       let at : length text + (i - length text) ≡ i = omega (arith, past) in
       subst (λ n. n < 256) (sym (get_or-append-add text rest (i - length text) 0) ∙ ap (λ k. get_or (text ++ rest) k 0) at) (back (i - length text))
 ]
 
 -- What the bytes kept of pieces are answered is what all of them are answered.
-pub kept_is_joined : (text : List ℕ) (pieces : List (List ℕ)) → IsBytes (text ++ joined pieces) → answer_of (kept text pieces) ≡ answer_of (text ++ joined pieces)
+pub kept_is_joined : (text : List ℕ) (pieces : List (List ℕ)) → AreBytes (text ++ joined pieces) → answer_of (kept text pieces) ≡ answer_of (text ++ joined pieces)
 kept_is_joined text [] fits = ap answer_of (sym (append-nil text))
 kept_is_joined text (piece ∷ pieces) fits =
     let regrouped : (text ++ piece) ++ joined pieces ≡ text ++ (piece ++ joined pieces) = append_assoc text piece (joined pieces) in
     elim (told_or_not (fault_in text)) as (λ w. answer_of (kept (taken text piece) pieces) ≡ answer_of (text ++ (piece ++ joined pieces))) [
       | inl none ↦
           ap (λ o. answer_of (kept (behind o text piece) pieces)) none
-          ∙ kept_is_joined (text ++ piece) pieces (subst (λ w. IsBytes w) (sym regrouped) fits) ∙ ap answer_of regrouped
+          ∙ kept_is_joined (text ++ piece) pieces (subst (λ w. AreBytes w) (sym regrouped) fits) ∙ ap answer_of regrouped
       | inr some ↦
           let fault = some.0 in
           let h = lasting_is text fault (front_of text (piece ++ joined pieces) fits) some.1 in
-          let rest : IsBytes (text ++ joined pieces) = without text piece (joined pieces) fits in
+          let rest : AreBytes (text ++ joined pieces) = without text piece (joined pieces) fits in
           ap (λ o. answer_of (kept (behind o text piece) pieces)) some.1
           ∙ kept_is_joined text pieces rest
           ∙ fault_is_refused (text ++ joined pieces) fault rest (fault_stays text (joined pieces) fault h)
@@ -199,12 +200,12 @@ kept_is_joined text (piece ∷ pieces) fits =
 
 -- ---- for the parser
 
-pub feed_tells : (result : Result (Unit {0}) ParseError) (old piece new : List ℕ) → IsBytes new → Fed result old piece new → IfErr result (λ e. TellsLasting e new)
+pub feed_tells : (result : Result (Unit {0}) ParseError) (old piece new : List ℕ) → AreBytes new → Fed result old piece new → IfErr result (λ e. TellsLasting e new)
 feed_tells (Ok done) old piece new fits h = tt
 feed_tells (Err (Fault fault)) old piece new fits h = lasting_is new fault fits (ap fault_in h.1 ∙ h.0)
 feed_tells (Err Memory) old piece new fits h = tt
 
-pub feed_goes : (result : Result (Unit {0}) ParseError) (old piece new : List ℕ) → IsBytes new → Fed result old piece new → OnOk result (GoesOn new)
+pub feed_goes : (result : Result (Unit {0}) ParseError) (old piece new : List ℕ) → AreBytes new → Fed result old piece new → OnOk result (GoesOn new)
 feed_goes (Ok done) old piece new fits h = goes_on new fits (ap fault_in h.1 ∙ h.0)
 feed_goes (Err (Fault fault)) old piece new fits h = tt
 feed_goes (Err Memory) old piece new fits h = tt

@@ -1,12 +1,27 @@
 -- What a reader took from the front, and the steps by which the laws of reading go.
-use Rattle.std.proofs.Common.{◌≡◌, ℕ, ◌+◌, ◌<◌, ◌⊎◌, inl, inr, Bool, true, false, cond, List, ◌++◌, length, get_or, Option, Some, None, Result, Ok, Err, refl, subst}
+use Rattle.std.proofs.Common.{◌≡◌, ℕ, zero, suc, ◌+◌, ◌<◌, ◌⊎◌, inl, inr, [], ◌∷◌, sym, arith, ltb, Bool, true, false, cond, List, ◌++◌, length, get_or, Option, Some, None, Result, Ok, Err, refl, subst}
 use Rattle.std.proofs.lemmas.List.{get_or-append-add}
+use Rattle.std.specs.Prelude.{nat_lt}
+use Rattle.std.specs.List.{list_all}
+use Rattle.std.proofs.lemmas.Bool.{and_from, and_parts, lt-ltb, ltb-true}
+use Rattle.std.proofs.lemmas.List.{get_or_past}
+use Rattle.cs_model.specs.Bytes.{AreBytes}
 use Rattle.cs_parse.specs.declared.fault.FaultKind.{FaultKind}
 use Rattle.cs_parse.specs.declared.stop.Refusal.{Refusal}
 use Rattle.cs_parse.specs.Reading.{◌>>=◌, unless_refused}
 
-abbrev pub IsBytes : List ℕ → Type 0
-IsBytes bytes = (i : ℕ) → get_or bytes i 0 < 256
+-- the same as AreBytes, as a test
+abbrev pub are_bytes : List ℕ → Type 0
+are_bytes bytes = list_all (λ byte. nat_lt byte 256) bytes ≡ true
+
+pub bytes_from : (bytes : List ℕ) → are_bytes bytes → AreBytes bytes
+bytes_from [] h i = subst (λ n. n < 256) (sym (get_or_past [] i 0 (omega arith))) (omega arith)
+bytes_from (byte ∷ bytes) h zero = ltb-true byte 256 (and_parts (ltb byte 256) _ h).0
+bytes_from (byte ∷ bytes) h (suc i) = bytes_from bytes (and_parts (ltb byte 256) _ h).1 i
+
+pub bytes_to : (bytes : List ℕ) → AreBytes bytes → are_bytes bytes
+bytes_to [] fits = refl
+bytes_to (byte ∷ bytes) fits = and_from (ltb byte 256) _ (lt-ltb byte 256 (fits 0)) (bytes_to bytes (λ i. fits (suc i)))
 
 -- the bytes are a spelling of what was read, and then those that are left
 pub record Takes {A : Type 0} (Spelling : List ℕ → A → Type 0) (bytes : List ℕ) (x : A × List ℕ) : Type 0 where
@@ -14,7 +29,7 @@ pub record Takes {A : Type 0} (Spelling : List ℕ → A → Type 0) (bytes : Li
   pub parts : bytes ≡ text ++ x.1
   pub spelled : Spelling text x.0
 
-pub back_fits : (bytes front back : List ℕ) → bytes ≡ front ++ back → IsBytes bytes → IsBytes back
+pub back_fits : (bytes front back : List ℕ) → bytes ≡ front ++ back → AreBytes bytes → AreBytes back
 back_fits bytes front back e fits i = subst (λ n. n < 256) (get_or-append-add front back i 0) (subst (λ w. get_or w (length front + i) 0 < 256) e (fits (length front + i)))
 
 -- the value of a step that did not fail

@@ -17,7 +17,8 @@ use Rattle.cs_parse.specs.Answer.{IsRead, Answers}
 use Rattle.cs_parse.specs.declared.stop.Refusal.{Refusal}
 use Rattle.cs_parse.specs.declared.stop.Refusal.TheVariants.{Bad}
 use Rattle.cs_parse.specs.Reading.{◌>>=◌, refuse, ends_section, changes_at, header_at, shape_at, section_at, is_empty, sections_at, many_at, placed, cut, answer_of}
-use Rattle.cs_parse.proofs.Steps.{IsBytes, Takes, back_fits, bind_ok, done, ok_is, chosen}
+use Rattle.cs_model.specs.Bytes.{AreBytes}
+use Rattle.cs_parse.proofs.Steps.{Takes, back_fits, bind_ok, done, ok_is, chosen}
 use Rattle.cs_parse.proofs.ManyLaws.{IsReader, TakesEach, many_takes, many_again}
 use Rattle.cs_parse.proofs.HeaderLaws.{header_takes, header_again}
 use Rattle.cs_parse.proofs.ChangeLaws.{changes_take, changes_again}
@@ -30,7 +31,7 @@ sectioned shape changes = Ok (record { shape = shape; changes = changes.0 }, cha
 abbrev pub changes_behind : Shape × List ℕ → Result (Section × List ℕ) Refusal
 changes_behind shape = changes_at shape.0.flags shape.1 >>= sectioned shape.0
 
-marked_takes : (rest : List ℕ) (x : Section × List ℕ) → IsBytes rest → (header_at rest >>= changes_behind) ≡ Ok x → Takes SpellsSection (84 ∷ rest) x × IsSection x.0
+marked_takes : (rest : List ℕ) (x : Section × List ℕ) → AreBytes rest → (header_at rest >>= changes_behind) ≡ Ok x → Takes SpellsSection (84 ∷ rest) x × IsSection x.0
 marked_takes rest x fits e =
     let a = bind_ok (header_at rest) changes_behind x e in
     let b = bind_ok (changes_at a.0.0.flags a.0.1) (sectioned a.0.0) x a.2 in
@@ -58,7 +59,7 @@ pub nothing_taken : (x : Section × List ℕ) → section_at [] ≡ Ok x → ⊥
 unfolding section_at shape_at
 nothing_taken x e = absurd (cc e)
 
-section_takes : (bytes : List ℕ) (x : Section × List ℕ) → IsBytes bytes → section_at bytes ≡ Ok x → Takes SpellsSection bytes x × IsSection x.0
+section_takes : (bytes : List ℕ) (x : Section × List ℕ) → AreBytes bytes → section_at bytes ≡ Ok x → Takes SpellsSection bytes x × IsSection x.0
 section_takes [] x fits e = absurd (nothing_taken x e)
 section_takes (byte ∷ rest) x fits e =
     elim (chosen (byte == 84) (header_at rest >>= changes_behind) (refuse (begins_none byte) rest) (Ok x) (sym (section_begins byte rest) ∙ e)) as (λ w. Takes SpellsSection (byte ∷ rest) x × IsSection x.0) [
@@ -102,7 +103,7 @@ section_reader = record {
   follows = λ text section rest h. ap ends_section (section_text text section rest h);
 }
 
-pub sections_take : (bytes : List ℕ) (x : List Section × List ℕ) → IsBytes bytes → sections_at bytes ≡ Ok x → TakesEach is_empty SpellsSection IsSection bytes x
+pub sections_take : (bytes : List ℕ) (x : List Section × List ℕ) → AreBytes bytes → sections_at bytes ≡ Ok x → TakesEach is_empty SpellsSection IsSection bytes x
 unfolding sections_at
 sections_take bytes x fits e = many_takes is_empty section_at SpellsSection IsSection CanFollow section_reader (length bytes) bytes x fits (omega arith) e
 
@@ -130,7 +131,7 @@ abbrev answered : ℕ → List ℕ → Answer
 answered most text = cond (ltb most (length text)) (cut most (sections_at (take most text))) (placed (length text) (sections_at text))
 
 -- the same over any limit, whose number is then not computed
-answered_takes : (most : ℕ) (text : List ℕ) (sections : List Section) → IsBytes text → answered most text ≡ Ok sections → IsChangeset sections × (length text ≤ most) × SpellsEach SpellsSection text sections
+answered_takes : (most : ℕ) (text : List ℕ) (sections : List Section) → AreBytes text → answered most text ≡ Ok sections → IsChangeset sections × (length text ≤ most) × SpellsEach SpellsSection text sections
 answered_takes most text sections fits e =
     elim (chosen (ltb most (length text)) (cut most (sections_at (take most text))) (placed (length text) (sections_at text)) (Ok sections) e) as (λ w. IsChangeset sections × (length text ≤ most) × SpellsEach SpellsSection text sections) [
       | inl long ↦ absurd (cut_fails most (sections_at (take most text)) sections long.1)
@@ -147,7 +148,7 @@ answered_again most text sections valid within h =
     ap (λ b. cond b (cut most (sections_at (take most text))) (placed (length text) (sections_at text))) (le-ltb most (length text) within)
     ∙ ap (placed (length text)) (sections_again text sections h valid)
 
-pub answer_takes : (text : List ℕ) (sections : List Section) → IsBytes text → answer_of text ≡ Ok sections → Spells text sections
+pub answer_takes : (text : List ℕ) (sections : List Section) → AreBytes text → answer_of text ≡ Ok sections → Spells text sections
 unfolding answer_of
 answer_takes text sections fits e =
     let t = answered_takes most_bytes text sections fits e in

@@ -1,7 +1,7 @@
 -- How many changes a text spells.
 use Rattle.std.specs.Prelude.{◌≡◌, ℕ, List, length, Result, Ok, Err}
-use Rattle.std.specs.List.{flat_map}
 use Rattle.cs_model.specs.declared.change.Section.{Section}
+use Rattle.cs_model.specs.Changeset.{all_changes}
 use Rattle.cs_model.specs.Text.{Spells}
 use Rattle.cs_parse.specs.declared.fault.ParseFault.{ParseFault}
 use Rattle.cs_parse.specs.declared.stop.Refusal.{Refusal}
@@ -9,7 +9,7 @@ use Rattle.cs_parse.specs.Reading.{◌>>=◌}
 
 -- how many changes a changeset has
 abbrev pub changes_in : List Section → ℕ
-changes_in sections = length (flat_map (λ section. section.changes) sections)
+changes_in sections = length (all_changes sections)
 
 -- the text spells a changeset of so many changes
 pub record HasChanges (text : List ℕ) (count : ℕ) : Type 0 where

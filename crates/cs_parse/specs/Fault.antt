@@ -1,6 +1,6 @@
 -- The fault of a text.
-use Rattle.std.specs.Prelude.{◌≡◌, ℕ, suc, ◌<◌, ◌≤◌, ◌⊎◌, true, List, ◌++◌, length, take, slice_get, Some, nat_lt}
-use Rattle.std.specs.List.{list_all}
+use Rattle.std.specs.Prelude.{◌≡◌, ℕ, suc, ◌<◌, ◌≤◌, ◌⊎◌, List, ◌++◌, length, take, slice_get, Some}
+use Rattle.cs_model.specs.Bytes.{AreBytes}
 use Rattle.cs_model.specs.declared.change.Section.{Section}
 use Rattle.cs_model.specs.Changeset.{IsChangeset, most_bytes}
 use Rattle.cs_model.specs.Text.{SpellsEach, SpellsSection, Spells}
@@ -9,13 +9,10 @@ use Rattle.cs_parse.specs.declared.fault.ParseFault.{ParseFault}
 use Rattle.cs_parse.specs.Place.{Place, wrong}
 use Rattle.cs_parse.specs.Stands.{Stands}
 
-abbrev pub are_bytes : List ℕ → Type 0
-are_bytes text = list_all (λ byte. nat_lt byte 256) text ≡ true
-
 -- Some text that begins so is that of a changeset, the limit on the whole set aside.
 pub record Viable (text : List ℕ) : Type 0 where
   pub more : List ℕ
-  pub bytes : are_bytes more
+  pub bytes : AreBytes more
   pub sections : List Section
   pub is_changeset : IsChangeset sections
   pub spelled : SpellsEach SpellsSection (text ++ more) sections

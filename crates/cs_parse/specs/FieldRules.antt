@@ -19,8 +19,3 @@ rule_of reader.Neither = PairedWith Undefined
 -- a column's rule by its key byte, where a column outside the key has this one
 abbrev pub column_rule : Rule → ℕ → Rule
 column_rule outside flag = if flag == 0 then outside else Key
-
--- whether a field has a value
-abbrev pub is_value : Field → Bool
-is_value Undefined = false
-is_value (Is value) = true

@@ -13,22 +13,8 @@ use Rattle.cs_parse.specs.Reading.{answer_of}
 
 -- whether more bytes may mend a fault: that the text ends too early
 abbrev pub may_be_mended : FaultKind → Bool
-may_be_mended kind.BadMarker = false
-may_be_mended kind.Patchset = false
-may_be_mended kind.Columns = false
-may_be_mended kind.NoKey = false
-may_be_mended kind.EmptyName = false
-may_be_mended kind.NameTooLong = false
-may_be_mended kind.BadOperation = false
-may_be_mended kind.BadType = false
-may_be_mended kind.Real = false
-may_be_mended kind.UndefinedField = false
-may_be_mended kind.KeyMissing = false
-may_be_mended kind.KeyChanged = false
-may_be_mended kind.OneSided = false
-may_be_mended kind.ValueTooLong = false
-may_be_mended kind.TooLong = false
 may_be_mended kind.Truncated = true
+may_be_mended kind = false
 
 -- the fault that no more bytes mend
 abbrev pub lasting : Result (List Section) ParseFault → Option ParseFault

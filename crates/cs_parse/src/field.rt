@@ -1,7 +1,8 @@
 //! Fields. Their readers are inlined: there is one for each column of each change, and a call costs more than most fields.
 
 ghost use Rattle.std.specs.Prelude.{◌≡◌, IfOk, length};
-ghost use Rattle.cs_parse.specs.FieldRules.{rule_of, is_value};
+ghost use Rattle.cs_model.specs.Rule.{is_defined};
+ghost use Rattle.cs_parse.specs.FieldRules.{rule_of};
 ghost use Rattle.cs_parse.specs.Reading.{Reads, Gives, counted_at, typed_at, field_at};
 ghost use Rattle.cs_parse.specs.Standing.{field_seen};
 
@@ -28,7 +29,7 @@ pub enum FieldRef<'a> {
 
 impl FieldRef<'_> {
     pub fn has_value(self) -> bool
-        ensures { result ≡ is_value (field_seen self.entry) }
+        ensures { result ≡ is_defined (field_seen self.entry) }
     {
         !matches!(self, FieldRef::Undefined)
     }

@@ -7,6 +7,7 @@ mod change;
 mod fault;
 mod field;
 mod header;
+pub mod laws;
 mod number;
 mod pieces;
 mod record;
@@ -17,8 +18,8 @@ mod stop;
 mod whole;
 
 pub use fault::{FaultKind, ParseError, ParseFault};
-pub use pieces::{PieceParser, feeding_tells_faults, pieces_are_joined};
-pub use whole::{count_changes, every_text, parse, reading_is_spelling, refusing_is_fault};
+pub use pieces::PieceParser;
+pub use whole::{count_changes, parse};
 
 #[cfg(test)]
 mod tests;

@@ -1,8 +1,9 @@
 //! A text that comes in pieces.
 
-ghost use Rattle.std.specs.Prelude.{◌≡◌, ◌++◌, [], IfOk, IfErr, OnOk, ℕ, ◌<◌, ◌↔◌, List, Some, get_or};
+ghost use Rattle.std.specs.Prelude.{◌≡◌, ◌++◌, [], IfOk, IfErr, OnOk, ℕ, Some};
 ghost use Rattle.cs_parse.specs.Reading.{answer_of};
-ghost use Rattle.cs_parse.specs.Pieces.{lasting, fault_in, offset_of, Fed, IsLasting, TellsLasting, GoesOn, joined, kept};
+ghost use Rattle.cs_parse.specs.Pieces.{lasting, fault_in, offset_of, Fed, IsLasting, TellsLasting, GoesOn};
+ghost use Rattle.cs_model.specs.Bytes.{AreBytes};
 ghost use Rattle.cs_parse.specs.Fault.{IsFault};
 ghost use Rattle.cs_parse.specs.declared.fault.ParseFault.{ParseFault};
 ghost use Rattle.cs_model.specs.Text.{Spells};
@@ -26,14 +27,15 @@ pub struct PieceParser {
 }
 
 impl Model for PieceParser {
-    ghost use Rattle.std.specs.Prelude.{◌≡◌, ◌<◌, ℕ, List, get_or};
+    ghost use Rattle.std.specs.Prelude.{◌≡◌, ℕ, List};
+    ghost use Rattle.cs_model.specs.Bytes.{AreBytes};
     ghost use Rattle.cs_parse.specs.Reading.{answer_of};
 
     ghost Value = { List ℕ };
 
     ghost view = { λ p. p.text.items };
 
-    ghost invariant = { λ p. (answer_of p.text.items ≡ p.answer) × ((i : ℕ) → get_or p.text.items i 0 < 256) };
+    ghost invariant = { λ p. (answer_of p.text.items ≡ p.answer) × AreBytes p.text.items };
 }
 
 impl PieceParser {
@@ -67,8 +69,8 @@ impl PieceParser {
     // the same, as the answer is determined by the text
     fn fed(&mut self, alloc: Global, piece: &[u8]) -> Result<(), ParseError>
         ensures fed { Fed result self.old piece.now self.new }
-        ensures old_bytes { (i : ℕ) → get_or self.old i 0 < 256 }
-        ensures bytes { (i : ℕ) → get_or self.new i 0 < 256 }
+        ensures old_bytes { AreBytes self.old }
+        ensures bytes { AreBytes self.new }
         ensures again { (fault : ParseFault) → fault_in self.old ≡ Some fault → result ≡ Err (ParseError.Fault fault) }
     {
         if let Some(fault) = lasting_of(&self.answer) {
@@ -137,15 +139,3 @@ fn lasting_of(answer: &Result<Changeset, ParseFault>) -> Option<ParseFault>
         },
     }
 }
-
-/// However a text was cut into pieces, the bytes kept of them are answered as the whole text is.
-pub fn pieces_are_joined()
-    ensures { (pieces : List (List ℕ)) → ((i : ℕ) → get_or (joined pieces) i 0 < 256)
-        → answer_of (kept [] pieces) ≡ answer_of (joined pieces) }
-{}
-
-/// The fault that feeding tells is the one of the text that no more bytes mend.
-pub fn feeding_tells_faults()
-    ensures { (text : List ℕ) (fault : ParseFault) → ((i : ℕ) → get_or text i 0 < 256)
-        → (fault_in text ≡ Some fault) ↔ IsLasting text fault }
-{}

@@ -2,7 +2,8 @@
 
 ghost use Rattle.std.specs.Prelude.{◌≡◌, map};
 ghost use Rattle.cs_model.specs.Rule.{new_rules};
-ghost use Rattle.cs_parse.specs.FieldRules.{rule_of, column_rule, is_value};
+ghost use Rattle.cs_model.specs.Rule.{is_defined};
+ghost use Rattle.cs_parse.specs.FieldRules.{rule_of, column_rule};
 ghost use Rattle.cs_parse.specs.Reading.{Gives, record_at, records_at};
 
 use crate::field::field_of;
@@ -31,7 +32,7 @@ fn record_of<'a>(
 }
 
 fn has_value(field: &Field) -> bool
-    ensures { result ≡ is_value field.now }
+    ensures { result ≡ is_defined field.now }
 {
     matches!(field, Field::Is(_))
 }

@@ -3,7 +3,8 @@
 ghost use Rattle.std.specs.Prelude.{◌≡◌, ℕ};
 ghost use Rattle.cs_model.specs.Rule.{new_rule};
 ghost use Rattle.cs_model.specs.declared.value.Field.{Field};
-ghost use Rattle.cs_parse.specs.FieldRules.{rule_of, column_rule, is_value};
+ghost use Rattle.cs_model.specs.Rule.{is_defined};
+ghost use Rattle.cs_parse.specs.FieldRules.{rule_of, column_rule};
 ghost use Rattle.cs_parse.specs.Place.{type_refusal};
 
 use crate::fault::FaultKind;
@@ -34,7 +35,7 @@ pub fn rule_by_flag(flag: u8, outside: FieldRule) -> FieldRule
 
 /// A column's rule in an UPDATE's new record, by its key byte and whether its field in the old record has a value.
 pub fn rule_by_old(flag: u8, has_value: bool) -> FieldRule
-    ensures { (byte : ℕ) (old : Field) → is_value old ≡ has_value → type_refusal (rule_of result) byte ≡ type_refusal (new_rule flag old) byte }
+    ensures { (byte : ℕ) (old : Field) → is_defined old ≡ has_value → type_refusal (rule_of result) byte ≡ type_refusal (new_rule flag old) byte }
 {
     if flag != 0 {
         return FieldRule::Blank;

@@ -314,3 +314,39 @@ fn longer_texts(rt: HostRuntime) -> Result<(), Fail> {
     assert_eq!(rt; fault(alloc, &text)?, (0, BadMarker));
     Ok(())
 }
+
+#[test]
+fn faults_say_what_is_wrong(rt: HostRuntime) -> Result<(), Fail> {
+    let alloc = rt.alloc();
+    for (kind, text) in [
+        (BadMarker, "the first byte begins no changeset"),
+        (Patchset, "a patchset begins here, which isn't read"),
+        (Columns, "a table has no column, or more than 2,000"),
+        (NoKey, "no column of a table is in its key"),
+        (EmptyName, "a table's name is empty"),
+        (NameTooLong, "a table's name is longer than 1,024 bytes"),
+        (BadOperation, "neither a change nor a header begins here"),
+        (BadType, "no field has this type"),
+        (Real, "a REAL value, which isn't read"),
+        (
+            UndefinedField,
+            "a field of an INSERT or a DELETE has no value",
+        ),
+        (KeyMissing, "a key column has no value, or is NULL"),
+        (KeyChanged, "an UPDATE gives a key column a new value"),
+        (
+            OneSided,
+            "a column of an UPDATE has a value in one of its records only",
+        ),
+        (ValueTooLong, "a value is longer than 16,777,216 bytes"),
+        (TooLong, "the text is longer than 16,777,216 bytes"),
+        (Truncated, "the text ends inside a header or a change"),
+    ] {
+        let said = format!(in alloc; "{kind}")?;
+        assert_eq!(rt; said.as_str(), text);
+    }
+    let error = ParseError::from(ParseFault { at: 7, kind: Real });
+    let said = format!(in alloc; "{error}")?;
+    assert_eq!(rt; said.as_str(), "a REAL value, which isn't read, at byte 7");
+    Ok(())
+}

@@ -1,12 +1,12 @@
 //! Whole texts.
 
-ghost use Rattle.std.specs.Prelude.{◌≡◌, ◌<◌, ◌≤◌, ◌↔◌, ◌⊎◌, ℕ, List, IfOk, IfErr, Ok, Err, get_or, length};
+ghost use Rattle.std.specs.Prelude.{◌≡◌, ◌≤◌, List, IfOk, IfErr, Ok, Err, length};
 ghost use Rattle.cs_parse.specs.declared.fault.ParseFault.{ParseFault};
 ghost use Rattle.cs_parse.specs.Fault.{IsFault};
 ghost use Rattle.cs_model.specs.declared.change.Section.{Section};
 ghost use Rattle.cs_model.specs.Text.{Spells};
 ghost use Rattle.cs_model.specs.Changeset.{most_bytes};
-ghost use Rattle.cs_parse.specs.Answer.{IsRead, Answers, Tells, HasChangeset, HasFault};
+ghost use Rattle.cs_parse.specs.Answer.{IsRead, Answers, Tells};
 ghost use Rattle.cs_parse.specs.Count.{changes_in, counted_answer, HasChanges};
 ghost use Rattle.cs_parse.specs.Reading.{answer_of, fault_of, sections_at, placed, cut};
 
@@ -134,20 +134,3 @@ pub fn count_changes(text: &[u8]) -> Result<usize, ParseFault>
 {
     counted(text)
 }
-
-/// What reading a text gives is what the text spells.
-pub fn reading_is_spelling()
-    ensures { (text : List ℕ) (changeset : List Section) → ((i : ℕ) → get_or text i 0 < 256)
-        → (answer_of text ≡ Ok changeset) ↔ Spells text changeset }
-{}
-
-/// What reading a text refuses is the text's fault.
-pub fn refusing_is_fault()
-    ensures { (text : List ℕ) (fault : ParseFault) → ((i : ℕ) → get_or text i 0 < 256)
-        → (answer_of text ≡ Err fault) ↔ IsFault text fault }
-{}
-
-/// Each text either spells a changeset and has no fault, or it has one fault and spells none.
-pub fn every_text()
-    ensures { (text : List ℕ) → ((i : ℕ) → get_or text i 0 < 256) → HasChangeset text ⊎ HasFault text }
-{}

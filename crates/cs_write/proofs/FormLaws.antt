@@ -8,7 +8,8 @@ use Rattle.cs_model.specs.declared.change.Change.{Change}
 use Rattle.cs_model.specs.declared.change.Section.{Section}
 use Rattle.cs_model.specs.Schema.{same_shape, has_shape}
 use Rattle.cs_model.specs.Changeset.{IsShape, IsChange, IsSection, IsChangeset}
-use Rattle.cs_write.specs.Canon.{Group, with_shape, by_shape, all_changes, joined, has_changes, canon_of, canon}
+use Rattle.cs_model.specs.Changeset.{all_changes}
+use Rattle.cs_write.specs.Canon.{Group, with_shape, by_shape, joined, has_changes, canon_of, canon}
 use Rattle.cs_write.proofs.Shapes.{shape_is}
 use Rattle.cs_write.proofs.GroupLaws.{begun, by_shape-cons}
 

@@ -15,7 +15,8 @@ use Rattle.cs_model.specs.Schema.{same_shape}
 use Rattle.cs_model.specs.Varint.{IsVarint, varint}
 use Rattle.cs_model.specs.FieldBytes.{field_bytes}
 use Rattle.cs_model.specs.Text.{SpellsBytes, SpellsField, SpellsEach, SpellsChange, SpellsHeader, SpellsSection, Spells}
-use Rattle.cs_write.specs.Canon.{Group, by_shape, all_changes, joined, has_changes, canon}
+use Rattle.cs_model.specs.Changeset.{all_changes}
+use Rattle.cs_write.specs.Canon.{Group, by_shape, joined, has_changes, canon}
 use Rattle.cs_write.specs.Text.{header_text, record_text, change_text, changes_text, section_text, sections_text, text_of}
 use Rattle.cs_write.specs.Groups.{added, group_text, groups_text}
 use Rattle.cs_write.proofs.Shapes.{shape_is}

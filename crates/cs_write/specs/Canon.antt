@@ -1,9 +1,8 @@
 -- The canonical form of a changeset.
 use Rattle.std.specs.Prelude.{ℕ, Bool, List, [], ◌∷◌, length, map, filter, nat_lt, if◌then◌else◌}
-use Rattle.std.specs.List.{flat_map}
 use Rattle.cs_model.specs.declared.shape.Shape.{Shape}
-use Rattle.cs_model.specs.declared.change.Change.{Change}
 use Rattle.cs_model.specs.declared.change.Section.{Section}
+use Rattle.cs_model.specs.Changeset.{all_changes}
 use Rattle.cs_model.specs.Schema.{same_shape, has_shape}
 
 -- A shape with sections that have it.
@@ -21,10 +20,6 @@ by_shape earlier [] = []
 by_shape earlier (section ∷ sections) =
     if has_shape earlier section.shape then by_shape earlier sections
     else (section.shape, section ∷ with_shape section.shape sections) ∷ by_shape (section.shape ∷ earlier) sections
-
--- the changes of these sections, in order
-abbrev pub all_changes : List Section → List Change
-all_changes sections = flat_map (λ section. section.changes) sections
 
 -- one section for a group
 abbrev pub joined : Group → Section

@@ -1,7 +1,8 @@
 //! The canonical form.
 
 ghost use Rattle.std.specs.Prelude.{◌≡◌, ◌++◌, IfOk, OnOk};
-ghost use Rattle.cs_write.specs.Canon.{canon, canon_of, all_changes, has_changes};
+ghost use Rattle.cs_model.specs.Changeset.{all_changes};
+ghost use Rattle.cs_write.specs.Canon.{canon, canon_of, has_changes};
 ghost use Rattle.cs_write.specs.Seen.{seen, sections_of};
 
 use crate::groups::{Groups, groups_of};

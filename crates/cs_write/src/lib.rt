@@ -6,7 +6,7 @@
 
 mod form;
 mod groups;
-mod laws;
+pub mod laws;
 mod length;
 mod pushing;
 #[cfg(test)]
@@ -14,5 +14,4 @@ mod tests;
 mod text;
 
 pub use form::canonical;
-pub use laws::{read_is_spelled_again, text_is_no_longer, text_spells_form};
 pub use text::{write, write_to};

@@ -1,7 +1,7 @@
 //! The canonical text.
 
 ghost use Rattle.std.specs.Prelude.{◌≡◌, ◌++◌, ◌≤◌, ◌^◌, length, nat_lt, IfOk, OnErr, OnOk};
-ghost use Rattle.cs_write.specs.Canon.{all_changes};
+ghost use Rattle.cs_model.specs.Changeset.{all_changes};
 ghost use Rattle.cs_write.specs.Buffer.{given};
 ghost use Rattle.cs_write.specs.Lengths.{held};
 ghost use Rattle.cs_write.specs.Text.{changes_text, text_of};
@@ -108,9 +108,8 @@ fn bytes_of(alloc: Global, groups: &Groups, len: usize) -> Result<Vec<u8>, Alloc
     Ok(out)
 }
 
-/// The canonical text of a changeset: that of `canonical`, with shortest varints and indirect bytes 0 and 1. Nothing of
-/// the changeset is copied besides. `AllocError` where
-/// memory runs out.
+/// The canonical text of a changeset: that of `canonical`, with shortest varints and indirect bytes 0 and 1. Nothing of the
+/// changeset is copied besides. `AllocError` where memory runs out.
 pub fn write(alloc: Global, changeset: &Changeset) -> Result<Bytes, AllocError>
     ensures { IfOk result (λ text. text ≡ text_of changeset.now) }
 {

@@ -4,8 +4,8 @@ use Rattle.std.specs.Prelude.{slice_get}
 use Rattle.std.proofs.lemmas.Bool.{leb-false, eqb-true}
 use Rattle.std.specs.declared.alloc.AllocError.{AllocError}
 use Rattle.cs_model.specs.declared.change.Section.{Section}
-use Rattle.cs_model.specs.declared.schema.SchemaFault.{SchemaFault}
-use Rattle.cs_model.specs.declared.schema.SchemaFault.TheVariants.{DuplicateTable, BadShape, UnknownTable, ShapeDiffers}
+use Rattle.cs_model.specs.declared.schema.SectionFault.{SectionFault}
+use Rattle.cs_model.specs.declared.schema.SectionFault.TheVariants.{UnknownTable, ShapeDiffers}
 use Rattle.cs_model.specs.declared.shape.Shape.{Shape}
 use Rattle.cs_model.specs.Schema.{refusal_of}
 use Rattle.cs_parse.specs.declared.fault.ParseFault.{ParseFault}
@@ -87,7 +87,7 @@ keeps_reset : (s : ℕ) (old : State) (p : ℕ) (o : Option Publisher) → Keeps
 keeps_reset s old p None = still s old _ old (λ s c e. absurd cc) (omega arith)
 keeps_reset s old p (Some q) = still s old _ _ (λ s c e. absurd cc) (omega arith)
 
-keeps_admitted : (s : ℕ) (old : State) (p : ℕ) (q : Publisher) (c : List Section) (o : Option SchemaFault) → Keeps s old (admitted old p q c o).0 (admitted old p q c o).1
+keeps_admitted : (s : ℕ) (old : State) (p : ℕ) (q : Publisher) (c : List Section) (o : Option SectionFault) → Keeps s old (admitted old p q c o).0 (admitted old p q c o).1
 keeps_admitted s old p q c None = still s old _ _ (λ s c e. absurd cc) (omega arith)
 keeps_admitted s old p q c (Some fault) = still s old _ old (λ s c e. absurd cc) (omega arith)
 

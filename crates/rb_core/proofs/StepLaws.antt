@@ -4,7 +4,7 @@ use Rattle.std.specs.Prelude.{slice_get, MatchOption, MatchResult, ◌↔◌, If
 use Rattle.std.proofs.lemmas.List.{get_or_append_left, get_or_past}
 use Rattle.std.proofs.lemmas.Bool.{cases_lt, ltb-true, ltb-false, leb-true, leb-false}
 use Rattle.cs_model.specs.declared.change.Section.{Section}
-use Rattle.cs_model.specs.declared.schema.SchemaFault.{SchemaFault}
+use Rattle.cs_model.specs.declared.schema.SectionFault.{SectionFault}
 use Rattle.cs_model.specs.Schema.{refusal_of}
 use Rattle.cs_model.specs.Text.{Spells}
 use Rattle.cs_parse.specs.declared.fault.ParseFault.{ParseFault}
@@ -26,7 +26,8 @@ use Rattle.rb_core.specs.declared.parts.Subscription.{Subscription}
 use Rattle.rb_core.specs.declared.parts.Handed.{Handed}
 use Rattle.rb_core.specs.State.{State}
 use Rattle.rb_core.specs.Outcome.{outcome, fed_reply, fed_stream, fed, reset, ended, parsed, admitted, sent, staged_of, turned, taken, numbered, delivered, reached, opened, accepted, subscribe_outcome, fault_refusal, with_publisher, with_subscription, with_accepted}
-use Rattle.rb_core.specs.Step.{Refuses, AreBytes, Feeds, Stays, Adds, Stages, Reads, SubscribeStep, Applies, Step}
+use Rattle.cs_model.specs.Bytes.{AreBytes}
+use Rattle.rb_core.specs.Step.{Refuses, Feeds, Stays, Adds, Stages, Reads, SubscribeStep, Applies, Step}
 use Rattle.rb_core.specs.Run.{Answer}
 
 -- a relation between a reply and a world, of an outcome
@@ -35,7 +36,7 @@ Of R x = R x.0 x.1
 
 -- what is read is what is spelled
 abbrev pub ReadingIsSpelling : Type 0
-ReadingIsSpelling = (text : List ℕ) (changeset : List Section) → ((i : ℕ) → get_or text i 0 < 256) → (answer_of text ≡ Ok changeset) ↔ Spells text changeset
+ReadingIsSpelling = (text : List ℕ) (changeset : List Section) → AreBytes text → (answer_of text ≡ Ok changeset) ↔ Spells text changeset
 
 step_if : (R : Reply → State → Type 0) (b : Bool) (x y : Reply × State) → (b ≡ true → Of R x) → (b ≡ false → Of R y) → Of R (cond b x y)
 step_if R true x y left right = left refl
@@ -49,11 +50,11 @@ set-found (y ∷ xs) (suc i) x found = ap (λ zs. y ∷ zs) (set-found xs i x fo
 
 -- the fault that feeding tells is the text's fault that no more bytes mend
 abbrev pub FeedingTells : Type 0
-FeedingTells = (text : List ℕ) (fault : ParseFault) → ((i : ℕ) → get_or text i 0 < 256) → (fault_in text ≡ Some fault) ↔ IsLasting text fault
+FeedingTells = (text : List ℕ) (fault : ParseFault) → AreBytes text → (fault_in text ≡ Some fault) ↔ IsLasting text fault
 
 -- the fault of a text is what reading it answers
 abbrev pub FaultsAreTold : Type 0
-FaultsAreTold = (text : List ℕ) (fault : ParseFault) → ((i : ℕ) → get_or text i 0 < 256) → IsFault text fault → answer_of text ≡ Err fault
+FaultsAreTold = (text : List ℕ) (fault : ParseFault) → AreBytes text → IsFault text fault → answer_of text ≡ Err fault
 
 -- what feeding does where a publisher is found
 abbrev Fed : State → ℕ → Publisher → List ℕ → Reply → State → Type 0
@@ -112,7 +113,7 @@ step_reset : (old : State) (p : ℕ) (o : Option Publisher)
 step_reset old p None = (refl, refl)
 step_reset old p (Some q) = (refl, refl)
 
-step_admitted : (old : State) (p : ℕ) (q : Publisher) (changeset : List Section) (o : Option SchemaFault)
+step_admitted : (old : State) (p : ℕ) (q : Publisher) (changeset : List Section) (o : Option SectionFault)
     → Of (λ given new. MatchOption o ((given ≡ reply.Staged) × (new ≡ with_publisher old p (record q { stream = []; staged = Some changeset })))
     (λ fault. Refuses old (fault_refusal fault) given new)) (admitted old p q changeset o)
 step_admitted old p q changeset None = (refl, refl)

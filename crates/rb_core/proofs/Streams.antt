@@ -3,7 +3,7 @@ use Rattle.std.proofs.Common.{◌≡◌, ℕ, zero, suc, ◌<◌, Bool, true, fa
 use Rattle.std.specs.Prelude.{slice_get, slice_set}
 use Rattle.std.specs.List.{AllByRecursion}
 use Rattle.cs_model.specs.declared.change.Section.{Section}
-use Rattle.cs_model.specs.declared.schema.SchemaFault.{SchemaFault}
+use Rattle.cs_model.specs.declared.schema.SectionFault.{SectionFault}
 use Rattle.cs_model.specs.Schema.{refusal_of}
 use Rattle.cs_model.specs.declared.shape.Shape.{Shape}
 use Rattle.cs_parse.specs.declared.fault.ParseFault.{ParseFault}
@@ -20,7 +20,7 @@ use Rattle.rb_core.specs.declared.reply.Reply.{Reply}
 use Rattle.rb_core.specs.Outcome.{numbered, with_publisher, fed, reset, admitted, parsed, ended, staged_of, sent, turned, subscribe_outcome, taken, opened, reached, delivered, outcome}
 use Rattle.rb_core.specs.Run.{Answer, Stepped, Run, FeedsBytes, HasBytes}
 use Rattle.rb_core.specs.State.{State, empty_world}
-use Rattle.rb_core.specs.Step.{AreBytes}
+use Rattle.cs_model.specs.Bytes.{AreBytes}
 
 -- ---- lists
 
@@ -71,7 +71,7 @@ reset_keeps : (old : State) (p : ℕ) (found : Option Publisher) → Kept old �
 reset_keeps old p None kept = kept
 reset_keeps old p (Some q) kept = publisher_keeps old p (record q { stream = [] }) kept no_bytes
 
-admitted_keeps : (old : State) (p : ℕ) (q : Publisher) (changeset : List Section) (fault : Option SchemaFault) → Kept old → Kept (admitted old p q changeset fault).1
+admitted_keeps : (old : State) (p : ℕ) (q : Publisher) (changeset : List Section) (fault : Option SectionFault) → Kept old → Kept (admitted old p q changeset fault).1
 admitted_keeps old p q changeset None kept = publisher_keeps old p (record q { stream = []; staged = Some changeset }) kept no_bytes
 admitted_keeps old p q changeset (Some fault) kept = kept
 

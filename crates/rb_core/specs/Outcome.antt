@@ -1,8 +1,8 @@
 -- What an event does: the reply, and the world after it.
 use Rattle.std.specs.Prelude.{ℕ, zero, suc, ◌+◌, ◌-◌, Bool, List, [], ◌∷◌, ◌++◌, length, Option, Some, None, Result, Ok, Err, slice_get, slice_set, nat_lt, nat_le, if◌then◌else◌}
 use Rattle.cs_model.specs.declared.change.Section.{Section}
-use Rattle.cs_model.specs.declared.schema.SchemaFault.{SchemaFault}
-use Rattle.cs_model.specs.declared.schema.SchemaFault.TheVariants.{DuplicateTable, BadShape, UnknownTable as Unknown, ShapeDiffers as Differs}
+use Rattle.cs_model.specs.declared.schema.SectionFault.{SectionFault}
+use Rattle.cs_model.specs.declared.schema.SectionFault.TheVariants.{UnknownTable as Unknown, ShapeDiffers as Differs}
 use Rattle.cs_model.specs.Schema.{refusal_of}
 use Rattle.cs_parse.specs.declared.fault.ParseFault.{ParseFault}
 use Rattle.cs_parse.specs.Reading.{answer_of}
@@ -67,13 +67,11 @@ abbrev pub reset_outcome : State → ℕ → Reply × State
 reset_outcome old p = reset old p (slice_get old.publishers p)
 
 -- End: what the stream spells is staged where the schema admits it, and the stream is empty; else it stays.
-abbrev pub fault_refusal : SchemaFault → Refusal
-fault_refusal (DuplicateTable i) = refusal.UnknownTable i
-fault_refusal (BadShape i) = refusal.UnknownTable i
+abbrev pub fault_refusal : SectionFault → Refusal
 fault_refusal (Unknown i) = refusal.UnknownTable i
 fault_refusal (Differs i) = refusal.ShapeDiffers i
 
-abbrev pub admitted : State → ℕ → Publisher → List Section → Option SchemaFault → Reply × State
+abbrev pub admitted : State → ℕ → Publisher → List Section → Option SectionFault → Reply × State
 admitted old p publisher changeset None = (reply.Staged, with_publisher old p (record publisher { stream = []; staged = Some changeset }))
 admitted old p publisher changeset (Some fault) = refused old (fault_refusal fault)
 

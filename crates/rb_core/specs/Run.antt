@@ -8,7 +8,7 @@ use Rattle.rb_core.specs.declared.reply.Reply.{Reply}
 use Rattle.rb_core.specs.declared.reply.Reply.TheVariants as reply
 use Rattle.rb_core.specs.State.{State}
 use Rattle.rb_core.specs.Outcome.{outcome}
-use Rattle.rb_core.specs.Step.{AreBytes}
+use Rattle.cs_model.specs.Bytes.{AreBytes}
 
 -- what an event is answered: a reply, or that memory ran out
 abbrev pub Answer : Type 0

@@ -1,6 +1,7 @@
 -- What an event may be answered, and what it changes: a relation by cases of what is found.
-use Rattle.std.specs.Prelude.{◌≡◌, ℕ, ◌+◌, ◌<◌, ◌≤◌, ◌⊎◌, List, [], ◌∷◌, ◌++◌, length, get_or, Option, Some, None, MatchOption, MatchResult, slice_get}
+use Rattle.std.specs.Prelude.{◌≡◌, ℕ, ◌+◌, ◌<◌, ◌≤◌, ◌⊎◌, List, [], ◌∷◌, ◌++◌, length, Option, Some, None, MatchOption, MatchResult, slice_get}
 use Rattle.cs_model.specs.declared.change.Section.{Section}
+use Rattle.cs_model.specs.Bytes.{AreBytes}
 use Rattle.cs_model.specs.Schema.{refusal_of}
 use Rattle.cs_model.specs.Text.{Spells}
 use Rattle.cs_parse.specs.declared.fault.ParseFault.{ParseFault}
@@ -28,10 +29,6 @@ abbrev pub PublisherStep : State → Reply → State → Type 0
 PublisherStep old given new =
     (given ≡ reply.Publisher (length old.publishers))
     × (new ≡ record old { publishers = old.publishers ++ record { stream = []; staged = None; sent = 0 } ∷ [] })
-
--- a stream is of bytes
-abbrev pub AreBytes : List ℕ → Type 0
-AreBytes stream = (i : ℕ) → get_or stream i 0 < 256
 
 -- a stream with a fault that no more bytes mend answers it, and nothing changes
 abbrev pub Stays : State → Publisher → Reply → State → Type 0

@@ -6,6 +6,7 @@
 mod config;
 mod entry;
 mod event;
+pub mod laws;
 mod parts;
 mod publishing;
 mod reply;
@@ -20,5 +21,5 @@ pub use entry::{Entry, Item};
 pub use event::Event;
 pub use parts::{Handed, Publisher, Subscription};
 pub use reply::{Refusal, Reply};
-pub use runs::{accepted_numbers_rise, outcome_is_step, run, streams_are_bytes};
+pub use runs::run;
 pub use world::World;

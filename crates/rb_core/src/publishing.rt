@@ -9,7 +9,7 @@ use crate::entry::{Entry, Item};
 use crate::parts::Publisher;
 use crate::reply::{Refusal, Reply};
 use crate::world::{World, refused};
-use cs_model::{Changeset, SchemaFault};
+use cs_model::{Changeset, SectionFault};
 use cs_parse::{ParseError, ParseFault, PieceParser};
 use cs_write::write;
 use std::alloc::{AllocError, Global};
@@ -148,13 +148,12 @@ fn spelled(stream: &PieceParser) -> Result<&Changeset, ParseFault>
     stream.finish()
 }
 
-// The first two faults are those of a schema, and don't come here.
-fn refusal_for(fault: SchemaFault) -> Refusal
+// what `end` answers of a section that isn't admitted
+fn refusal_for(fault: SectionFault) -> Refusal
     ensures { result ≡ fault_refusal fault }
 {
     match fault {
-        SchemaFault::DuplicateTable(i) | SchemaFault::BadShape(i) | SchemaFault::UnknownTable(i) =>
-            { Refusal::UnknownTable(i as u64) }
-        SchemaFault::ShapeDiffers(i) => Refusal::ShapeDiffers(i as u64),
+        SectionFault::UnknownTable(i) => Refusal::UnknownTable(i as u64),
+        SectionFault::ShapeDiffers(i) => Refusal::ShapeDiffers(i as u64),
     }
 }

@@ -4,7 +4,7 @@ use Rattle.std.specs.List.{AllByRecursion}
 use Rattle.std.proofs.lemmas.List.{append-nil}
 use Rattle.std.proofs.lemmas.Bool.{lt-ltb, ltb-true, ltb-false}
 use Rattle.cs_model.specs.declared.shape.Shape.{Shape}
-use Rattle.cs_model.specs.declared.schema.SchemaFault.{SchemaFault}
+use Rattle.cs_model.specs.declared.schema.TableFault.{TableFault}
 use Rattle.cs_model.specs.Schema.{table_refusal}
 use Rattle.cs_parse.specs.Reading.{answer_of}
 use Rattle.rb_core.specs.declared.config.Config.{Config}
@@ -175,7 +175,7 @@ abbrev FromTables : Config → List Shape → Option Event → Stage → Type 0
 FromTables config tables None next = ((more : List Shape) × (next ≡ Tables more)) ⊎ (next ≡ Running (empty_world config tables))
 FromTables config tables (Some event) next = next ≡ Running (outcome (empty_world config tables) event).1
 
-added_from_tables : (tables : List Shape) (shape : Shape) (o : Option SchemaFault) → (more : List Shape) × ((table_added tables shape o).1 ≡ Tables more)
+added_from_tables : (tables : List Shape) (shape : Shape) (o : Option TableFault) → (more : List Shape) × ((table_added tables shape o).1 ≡ Tables more)
 added_from_tables tables shape None = (tables ++ shape ∷ [], refl)
 added_from_tables tables shape (Some fault) = (tables, refl)
 

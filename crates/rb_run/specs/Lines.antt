@@ -6,8 +6,8 @@ use Rattle.cs_model.specs.declared.change.Change.{Change}
 use Rattle.cs_model.specs.declared.change.Section.{Section}
 use Rattle.cs_model.specs.declared.value.Value.{Value}
 use Rattle.cs_model.specs.declared.row_key.RowKey.{RowKey}
-use Rattle.cs_model.specs.declared.schema.SchemaFault.{SchemaFault}
-use Rattle.cs_model.specs.declared.schema.SchemaFault.TheVariants.{DuplicateTable, BadShape, UnknownTable, ShapeDiffers}
+use Rattle.cs_model.specs.declared.schema.TableFault.{TableFault}
+use Rattle.cs_model.specs.declared.schema.TableFault.TheVariants.{DuplicateTable, BadShape}
 use Rattle.cs_model.specs.Schema.{table_refusal}
 use Rattle.cs_parse.specs.declared.fault.ParseFault.{ParseFault}
 use Rattle.cs_parse.specs.Reading.{answer_of}
@@ -48,13 +48,11 @@ header_of_answer (Ok sections) = header_of_sections sections
 header_of_answer (Err fault) = None
 
 -- `table`: one more table, where no line has come that fits another form
-abbrev pub bad_table : SchemaFault → List ℕ
+abbrev pub bad_table : TableFault → List ℕ
 bad_table (DuplicateTable i) = codes "refused DuplicateTable"
 bad_table (BadShape i) = codes "refused BadShape"
-bad_table (UnknownTable i) = codes "refused BadShape"
-bad_table (ShapeDiffers i) = codes "refused BadShape"
 
-abbrev pub table_added : List Shape → Shape → Option SchemaFault → List ℕ × Stage
+abbrev pub table_added : List Shape → Shape → Option TableFault → List ℕ × Stage
 table_added tables shape None = (codes "ok", Tables (tables ++ shape ∷ []))
 table_added tables shape (Some fault) = (bad_table fault, Tables tables)
 

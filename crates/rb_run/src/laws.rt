@@ -8,7 +8,7 @@ ghost use Rattle.rb_run.specs.declared.lines.Stage.TheVariants.{Tables};
 ghost use Rattle.rb_run.specs.Output.{answers};
 ghost use Rattle.rb_run.specs.Script.{IsLine, ended_lines, lines_answers, lines_replies};
 
-use rb_core::accepted_numbers_rise;
+use rb_core::laws::accepted_numbers_rise;
 
 /// What is written for a script is the answers to its lines, one after another, the last of which lacks its end.
 pub fn lines_are_answered()

@@ -9,7 +9,7 @@ ghost use Rattle.rb_run.specs.Lines.{line_answer, form_answer, line_of, world_of
 use crate::forms::Form;
 use crate::reading::form;
 use crate::texts::{text_of, text_of_entry, text_of_refusal, text_of_rows};
-use cs_model::{Changeset, Schema, SchemaError, SchemaFault, Shape};
+use cs_model::{Changeset, Schema, SchemaError, Shape, TableFault};
 use cs_parse::{ParseError, parse};
 use rb_core::{Config, Event, Refusal, World};
 use std::alloc::{AllocError, Global};
@@ -144,7 +144,7 @@ fn add_table(
 {
     let text = match schema.add(shape) {
         Ok(()) => "ok",
-        Err(SchemaError::Fault(SchemaFault::DuplicateTable(_))) => "refused DuplicateTable",
+        Err(SchemaError::Fault(TableFault::DuplicateTable(_))) => "refused DuplicateTable",
         Err(SchemaError::Fault(_)) => "refused BadShape",
         Err(SchemaError::Memory) => return Err(AllocError),
     };

@@ -79,3 +79,18 @@ fn skipped_sections_count(rt: HostRuntime) -> Result<(), Fail> {
     }
     Ok(())
 }
+
+#[test]
+fn conflicts_say_what_is_wrong(rt: HostRuntime) -> Result<(), Fail> {
+    let alloc = rt.alloc();
+    for (kind, text) in [
+        (Data, "change 3: the row has other values"),
+        (NotFound, "change 3: there is no such row"),
+        (Conflict, "change 3: the row is there already"),
+    ] {
+        let error = conflict(3, kind);
+        let said = format!(in alloc; "{error}")?;
+        assert_eq!(rt; said.as_str(), text);
+    }
+    Ok(())
+}

@@ -1,5 +1,5 @@
 use Rattle.std.proofs.Common.{◌≡◌, ◌++◌, drop}
-use Rattle.cs_write.specs.Canon.{all_changes}
+use Rattle.cs_model.specs.Changeset.{all_changes}
 use Rattle.cs_write.specs.Seen.{sections_of}
 use Rattle.cs_write.proofs.form.changes_of.Given as goal
 

@@ -1,5 +1,6 @@
 use Rattle.std.proofs.Common.{cond, [], length, sym, ap, ◌∙◌, arith, length-append}
-use Rattle.cs_write.specs.Canon.{joined, all_changes}
+use Rattle.cs_model.specs.Changeset.{all_changes}
+use Rattle.cs_write.specs.Canon.{joined}
 use Rattle.cs_write.specs.Lengths.{held}
 use Rattle.cs_write.specs.Seen.{sections_of}
 use Rattle.cs_write.specs.Text.{header_text, changes_text, section_text}

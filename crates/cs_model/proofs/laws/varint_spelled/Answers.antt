@@ -1,5 +1,5 @@
 use Rattle.cs_model.proofs.VarintLemmas.{spelled}
-use Rattle.cs_model.proofs.varint.varint_spelled.Goals as goal
+use Rattle.cs_model.proofs.laws.varint_spelled.Goals as goal
 
 pub returns : goal.returns
 returns c = spelled

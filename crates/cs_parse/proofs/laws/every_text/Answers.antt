@@ -1,5 +1,5 @@
 use Rattle.cs_parse.proofs.FaultLaws.{text_has}
-use Rattle.cs_parse.proofs.whole.every_text.Goals as goal
+use Rattle.cs_parse.proofs.laws.every_text.Goals as goal
 
 pub returns : goal.returns
 returns c = text_has

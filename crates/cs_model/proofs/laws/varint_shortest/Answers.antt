@@ -1,5 +1,5 @@
 use Rattle.cs_model.proofs.VarintLemmas.{shortest}
-use Rattle.cs_model.proofs.varint.varint_shortest.Goals as goal
+use Rattle.cs_model.proofs.laws.varint_shortest.Goals as goal
 
 pub returns : goal.returns
 returns c = shortest

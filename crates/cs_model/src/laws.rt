@@ -1,0 +1,26 @@
+//! Laws: public functions that do nothing, whose contracts say what holds of the definitions. Who needs one calls it.
+
+ghost use Rattle.std.specs.Prelude.{◌≡◌, ℕ, ◌^◌, ◌<◌, ◌≤◌, List, length};
+ghost use Rattle.cs_model.specs.Bytes.{AreBytes};
+ghost use Rattle.cs_model.specs.Key.{row_key_cmp};
+ghost use Rattle.cs_model.specs.Varint.{IsVarint, varint};
+
+use crate::row_key::RowKey;
+use std::cmp::Ordering;
+
+/// What `varint_push` writes spells its number.
+pub fn varint_spelled()
+    ensures { (n : ℕ) → n < 2 ^ 64 → IsVarint (varint n) n }
+{}
+
+/// No spelling of a number is shorter than the one that `varint_push` writes.
+pub fn varint_shortest()
+    ensures { (bytes : List ℕ) (n : ℕ) → AreBytes bytes → IsVarint bytes n → length (varint n) ≤ length bytes }
+{}
+
+/// Which of two keys comes first, as `cmp` says: by the table, then by the bytes, which are unsigned.
+pub fn order_of_keys(first: &RowKey, second: &RowKey) -> Ordering
+    ensures { result ≡ row_key_cmp first.now second.now }
+{
+    first.cmp(second)
+}

@@ -1,0 +1,40 @@
+//! Laws: public functions that do nothing, whose contracts say what holds of every text. Who needs one calls it.
+
+ghost use Rattle.std.specs.Prelude.{◌≡◌, ◌↔◌, ◌⊎◌, [], ℕ, List, Ok, Err, Some};
+ghost use Rattle.cs_model.specs.Bytes.{AreBytes};
+ghost use Rattle.cs_model.specs.declared.change.Section.{Section};
+ghost use Rattle.cs_model.specs.Text.{Spells};
+ghost use Rattle.cs_parse.specs.declared.fault.ParseFault.{ParseFault};
+ghost use Rattle.cs_parse.specs.Answer.{HasChangeset, HasFault};
+ghost use Rattle.cs_parse.specs.Fault.{IsFault};
+ghost use Rattle.cs_parse.specs.Pieces.{fault_in, IsLasting, joined, kept};
+ghost use Rattle.cs_parse.specs.Reading.{answer_of};
+
+/// What reading a text gives is what the text spells.
+pub fn reading_is_spelling()
+    ensures { (text : List ℕ) (changeset : List Section) → AreBytes text
+        → (answer_of text ≡ Ok changeset) ↔ Spells text changeset }
+{}
+
+/// What reading a text refuses is the text's fault.
+pub fn refusing_is_fault()
+    ensures { (text : List ℕ) (fault : ParseFault) → AreBytes text
+        → (answer_of text ≡ Err fault) ↔ IsFault text fault }
+{}
+
+/// Each text either spells a changeset and has no fault, or it has one fault and spells none.
+pub fn every_text()
+    ensures { (text : List ℕ) → AreBytes text → HasChangeset text ⊎ HasFault text }
+{}
+
+/// However a text was cut into pieces, the bytes kept of them are answered as the whole text is.
+pub fn pieces_are_joined()
+    ensures { (pieces : List (List ℕ)) → AreBytes (joined pieces)
+        → answer_of (kept [] pieces) ≡ answer_of (joined pieces) }
+{}
+
+/// The fault that feeding tells is the one of the text that no more bytes mend.
+pub fn feeding_tells_faults()
+    ensures { (text : List ℕ) (fault : ParseFault) → AreBytes text
+        → (fault_in text ≡ Some fault) ↔ IsLasting text fault }
+{}
