@@ -1,3 +1,4 @@
 pub mod Tables
 pub mod Keys
 pub mod VarintLemmas
+pub mod PackedLaws

@@ -1,5 +1,5 @@
 -- Varints: reading them by recursion, filling them from the back, and the two laws of the spelling.
-use Rattle.std.proofs.Common.{◌≡◌, ℕ, zero, suc, ◌+◌, ◌-◌, ◌*◌, ◌/◌, ◌%◌, ◌^◌, ◌<◌, ◌≤◌, ◌⊎◌, inl, inr, Bool, true, false, cond, ltb, leb, Option, Some, None, List, [], ◌∷◌, ◌++◌, length, take, drop, get_or, refl, sym, ap, subst, ◌∙◌, arith}
+use Rattle.std.proofs.Common.{◌≡◌, ℕ, zero, suc, ◌+◌, ◌-◌, ◌*◌, ◌/◌, ◌%◌, ◌^◌, ◌<◌, ◌≤◌, ◌⊎◌, inl, inr, Bool, true, false, cond, ltb, leb, Option, Some, None, IfSome, List, [], ◌∷◌, ◌++◌, length, take, drop, get_or, refl, sym, ap, subst, ◌∙◌, arith}
 use Rattle.std.proofs.Math.Nat.{pow-le-pow_right}
 use Rattle.std.proofs.lemmas.Nat.{div_below, mul-le}
 use Rattle.std.proofs.lemmas.Grind.{pow_more}
@@ -7,17 +7,12 @@ use Rattle.std.proofs.lemmas.List.{append_assoc, drop_more, length-append, lengt
 use Rattle.std.proofs.lemmas.Bool.Decides.{nat_tests}
 use Rattle.std.proofs.str.Laws.{order}
 use Rattle.cs_model.specs.Varint.{EndsVarint, IsVarint, groups, short_groups, varint}
+use Rattle.cs_model.specs.Packed.{read_from}
 
 pow_suc : (k : ℕ) → 128 ^ suc k ≡ 128 ^ k * 128
 pow_suc k = ap (λ i. 128 ^ i) (omega arith) ∙ pow_more 128 k
 
 -- ---- reading
-
--- the number that is read, and how many bytes in all, where `read` bytes before these gave `high`
-abbrev pub read_from : ℕ → ℕ → ℕ → List ℕ → Option (ℕ × ℕ)
-read_from left high read [] = None
-read_from zero high read (b ∷ bytes) = Some (256 * high + b, read + 1)
-read_from (suc left) high read (b ∷ bytes) = cond (ltb b 128) (Some (128 * high + b, read + 1)) (read_from left (128 * high + (b - 128)) (read + 1) bytes)
 
 read_ends : (left high read b : ℕ) (bytes : List ℕ) → b < 128 → read_from (suc left) high read (b ∷ bytes) ≡ Some (128 * high + b, read + 1)
 read_ends left high read b bytes small = grind (arith, nat_tests)
@@ -256,3 +251,24 @@ shortest (b ∷ bytes) n small h = elim (bounded 8 0 (b ∷ bytes) n small h) as
       let below : n < 128 ^ suc (length bytes) = omega (arith, less.1) in
       length_short n (length bytes) (value_below n (suc (length bytes)) less.0 below) below
 ]
+
+-- ---- reading what is written
+
+pub found_all : (bytes : List ℕ) (out : Option (ℕ × ℕ)) → out ≡ read_from 8 0 0 bytes → IfSome out (λ found. (found.1 ≤ length bytes) × IsVarint (take found.1 bytes) found.0)
+found_all bytes None e = tt
+found_all bytes (Some found) e = found_of bytes found e
+
+-- a spelling is read, whatever stands behind it
+pub read_back : (left high read : ℕ) (text : List ℕ) (n : ℕ) (rest : List ℕ) (k : ℕ) → k ≡ read + length text → EndsVarint left high text n → read_from left high read (text ++ rest) ≡ Some (n, k)
+read_back left high read [] n rest k e h = absurd h
+read_back zero high read (b ∷ text) n rest k e h =
+    let one : k ≡ read + 1 = omega (arith, ap length h.0) in
+    let value : 256 * high + b ≡ n = sym h.1 in
+    cc
+read_back (suc left) high read (b ∷ text) n rest k e (inl h) =
+    let one : k ≡ read + 1 = omega (arith, ap length h.1) in
+    let value : 128 * high + b ≡ n = sym h.2 in
+    let ends = read_ends left high read b (text ++ rest) h.0 in
+    cc
+read_back (suc left) high read (b ∷ text) n rest k e (inr h) =
+    read_goes left high read b (text ++ rest) h.0 ∙ read_back left (128 * high + (b - 128)) (read + 1) text n rest k (omega (arith, e)) h.1

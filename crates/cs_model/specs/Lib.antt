@@ -7,3 +7,5 @@ pub mod FieldBytes
 pub mod KeyBytes
 pub mod Key
 pub mod Schema
+pub mod Seen
+pub mod Packed

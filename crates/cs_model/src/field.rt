@@ -50,8 +50,8 @@ fn add_value(out: &mut Vec<u8>, value: &Value) -> Result<(), AllocError>
     Ok(())
 }
 
-// a type byte, a length and the bytes
-fn add_counted(out: &mut Vec<u8>, kind: u8, bytes: &[u8]) -> Result<(), AllocError>
+/// Adds a type byte, a length and the bytes. It may stop in between.
+pub fn add_counted(out: &mut Vec<u8>, kind: u8, bytes: &[u8]) -> Result<(), AllocError>
     ensures ok { OnOk result (out.new.items ≡ out.old.items ++ kind ∷ (varint (length bytes.now) ++ bytes.now)) }
     ensures adds { take (length out.old.items) out.new.items ≡ out.old.items }
 {

@@ -2,6 +2,7 @@
 
 ghost use Rattle.std.specs.Prelude.{◌≡◌, ℕ, ◌≤◌, ◌++◌, length, take, OnOk, OnErr, IfSome, Some};
 ghost use Rattle.cs_model.specs.Varint.{IsVarint, varint};
+ghost use Rattle.cs_model.specs.Packed.{read_from};
 
 use std::alloc::AllocError;
 
@@ -10,6 +11,14 @@ use std::alloc::AllocError;
 pub fn varint_read(bytes: &[u8]) -> Option<(u64, usize)>
     ensures found { IfSome result (λ found. (found.1 ≤ length bytes.now) × IsVarint (take found.1 bytes.now) found.0) }
     ensures only { (n len : ℕ) → len ≤ length bytes.now → IsVarint (take len bytes.now) n → result ≡ Some (n, len) }
+{
+    varint_first(bytes)
+}
+
+/// The same, said by what it reads.
+pub fn varint_first(bytes: &[u8]) -> Option<(u64, usize)>
+    ensures reads { result ≡ read_from 8 0 0 bytes.now }
+    ensures within { IfSome result (λ found. found.1 ≤ length bytes.now) }
 {
     let mut value: u64 = 0;
     let mut read: usize = 0;

@@ -1,6 +1,6 @@
 use Rattle.std.proofs.Common.{◌≡◌, ◌-◌, ◌^◌, ◌<◌, ◌≤◌, drop}
-use Rattle.cs_model.proofs.VarintLemmas.{read_from}
-use Rattle.cs_model.proofs.varint.varint_read.Given as goal
+use Rattle.cs_model.specs.Packed.{read_from}
+use Rattle.cs_model.proofs.varint.varint_first.Given as goal
 
 abbrev pub invariant-loop-byte : goal.invariant-loop-byte
 invariant-loop-byte l = record {

@@ -1,0 +1,15 @@
+-- What is read where it stands in bytes, seen as what it says.
+use Rattle.cs_model.specs.declared.value.Value.TheVariants as value
+use Rattle.cs_model.specs.declared.value.Field.{Field}
+use Rattle.cs_model.specs.declared.value.Field.TheVariants.{Is}
+use Rattle.cs_model.specs.declared.value.Field.TheVariants as field
+use Rattle.cs_model.specs.declared.field_ref.FieldRef.{FieldRef}
+use Rattle.cs_model.specs.declared.field_ref.FieldRef.TheVariants.{Undefined, Integer, Text, Blob, Null}
+
+-- the field that stands there
+abbrev pub field_seen : FieldRef → Field
+field_seen Undefined = field.Undefined
+field_seen (Integer n) = Is (value.Integer n)
+field_seen (Text bytes) = Is (value.Text bytes.now)
+field_seen (Blob bytes) = Is (value.Blob bytes.now)
+field_seen Null = Is value.Null

@@ -1,0 +1,130 @@
+//! The fields that bytes say, one after another. They are read inline: there is one for each column of each change,
+//! and a call costs more than most fields.
+
+ghost use Rattle.std.specs.Prelude.{◌≡◌, ◌∷◌, [], MatchOption};
+ghost use Rattle.cs_model.specs.Packed.{counted_in, typed_in, unpacked};
+ghost use Rattle.cs_model.specs.Seen.{field_seen};
+
+use crate::field_ref::FieldRef;
+use crate::varint::varint_first;
+use std::iter::Iterator;
+use std::marker::Model;
+
+/// What is left of bytes, for whoever goes over a record's fields. Contracts see the list of fields that the bytes
+/// say, and any bytes say some.
+#[derive(Drop)]
+pub struct Fields<'a> {
+    rest: &'a [u8],
+}
+
+impl<'a> Model for Fields<'a> {
+    ghost use Rattle.std.specs.Prelude.{List};
+    ghost use Rattle.cs_model.specs.declared.value.Field.{Field};
+    ghost use Rattle.cs_model.specs.Packed.{unpacked};
+
+    ghost Value = { List Field };
+
+    ghost view = { λ f. unpacked f.rest.now };
+}
+
+impl<'a> Fields<'a> {
+    /// The fields from the first byte on.
+    #[inline(always)]
+    pub fn of(bytes: &'a [u8]) -> Fields<'a>
+        ensures { result ≡ unpacked bytes.now }
+    {
+        Fields { rest: bytes }
+    }
+
+    /// The bytes of the fields that are left.
+    #[inline(always)]
+    pub fn rest(&self) -> &'a [u8]
+        ensures { unpacked result.now ≡ self.now }
+    {
+        self.rest
+    }
+}
+
+impl<'a> Iterator for Fields<'a> {
+    ghost use Rattle.std.specs.Iterator.{YieldsFirstBy, item_count};
+    ghost use Rattle.cs_model.specs.Seen.{field_seen};
+
+    type Item = FieldRef<'a>;
+
+    ghost next_gives = { YieldsFirstBy field_seen (λ s. s) };
+
+    ghost remaining = { item_count (λ s. s) };
+
+    #[inline(always)]
+    fn next(&mut self) -> Option<FieldRef<'a>> {
+        let (field, after) = first_of(self.rest)?;
+        self.rest = after;
+        Some(field)
+    }
+}
+
+// a length and that many bytes, and the bytes behind them
+#[tactic(auto, unfolding(crate::specs::Packed::counted_in))]
+fn counted_of(bytes: &[u8]) -> (&[u8], &[u8])
+    ensures bytes { result.0.now ≡ (counted_in bytes.now).0 }
+    ensures rest { result.1.now ≡ (counted_in bytes.now).1 }
+{
+    let Some((len, read)) = varint_first(bytes) else {
+        return (bytes, &[]);
+    };
+    let behind = &bytes[read..];
+    if (behind.len() as u64) < len {
+        return (behind, &[]);
+    }
+    behind.split_at(len as usize)
+}
+
+// a number in eight bytes, or NULL where there are fewer, and the bytes behind it
+#[tactic(auto, unfolding(crate::specs::Packed::typed_in))]
+#[inline(always)]
+fn integer_of(rest: &[u8]) -> (FieldRef, &[u8])
+    ensures field { field_seen result.0 ≡ (typed_in 1 rest.now).0 }
+    ensures rest { result.1.now ≡ (typed_in 1 rest.now).1 }
+{
+    if rest.len() < 8 {
+        return (FieldRef::Null, rest);
+    }
+    let (front, after) = rest.split_at(8);
+    let number = i64::from_be_bytes([
+        front[0], front[1], front[2], front[3], front[4], front[5], front[6], front[7],
+    ]);
+    (FieldRef::Integer(number), after)
+}
+
+/// The field behind its type byte, and the bytes behind it.
+#[tactic(auto, unfolding(crate::specs::Packed::typed_in))]
+#[inline(always)]
+pub fn typed_of(byte: u8, rest: &[u8]) -> (FieldRef, &[u8])
+    ensures field { field_seen result.0 ≡ (typed_in byte rest.now).0 }
+    ensures rest { result.1.now ≡ (typed_in byte rest.now).1 }
+{
+    match byte {
+        0 => (FieldRef::Undefined, rest),
+        1 => integer_of(rest),
+        3 => {
+            let (bytes, after) = counted_of(rest);
+            (FieldRef::Text(bytes), after)
+        }
+        4 => {
+            let (bytes, after) = counted_of(rest);
+            (FieldRef::Blob(bytes), after)
+        }
+        _ => (FieldRef::Null, rest),
+    }
+}
+
+// the first of the fields that bytes say, and the bytes behind it
+#[inline(always)]
+fn first_of(bytes: &[u8]) -> Option<(FieldRef, &[u8])>
+    ensures { MatchOption result (unpacked bytes.now ≡ []) (λ x. unpacked bytes.now ≡ field_seen x.0 ∷ unpacked x.1.now) }
+{
+    let Some((&byte, rest)) = bytes.split_first() else {
+        return None;
+    };
+    Some(typed_of(byte, rest))
+}
