@@ -9,3 +9,4 @@ pub mod Key
 pub mod Schema
 pub mod Seen
 pub mod Packed
+pub mod PackedChanges

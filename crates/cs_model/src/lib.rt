@@ -4,6 +4,7 @@
 #![tactic(auto)]
 
 mod change;
+mod change_ref;
 mod changeset;
 mod copy;
 mod field;
@@ -20,6 +21,7 @@ mod value;
 mod varint;
 
 pub use change::{Change, Op, Section};
+pub use change_ref::{ChangeRef, ChangeRefs, RecordRef};
 pub use changeset::Changeset;
 pub use copy::CopyIn;
 pub use field::{field_push, value_push};

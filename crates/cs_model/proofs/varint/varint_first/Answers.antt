@@ -1,6 +1,5 @@
-use Rattle.std.proofs.Common.{◌≡◌, ◌<◌, ◌+◌, ◌*◌, get_or, length, drop, [], Some, None, sym, arith}
+use Rattle.std.proofs.Common.{◌≡◌, ◌<◌, get_or, length, drop, [], arith}
 use Rattle.std.proofs.lemmas.List.{drop_all}
-use Rattle.cs_model.specs.Packed.{read_from}
 use Rattle.cs_model.proofs.VarintLemmas.{turn_last, turn_ends, value_below}
 use Rattle.cs_model.proofs.varint.varint_first.Goals as goal
 

@@ -1,0 +1,174 @@
+-- Changes as bytes: what the bytes of changes say is the changes.
+use Rattle.std.proofs.Common.{◌≡◌, ℕ, zero, suc, ◌+◌, ◌-◌, ◌<◌, ◌≤◌, Bool, true, false, not, eqb, List, [], ◌∷◌, ◌++◌, length, refl, sym, ap, subst, ◌∙◌, arith}
+use Rattle.std.specs.List.{AllByRecursion}
+use Rattle.std.proofs.lemmas.List.{append_assoc, append-nil}
+use Rattle.cs_model.specs.declared.value.Field.{Field}
+use Rattle.cs_model.specs.declared.change.Op.{Op}
+use Rattle.cs_model.specs.declared.change.Op.TheVariants.{Insert, Update, Delete}
+use Rattle.cs_model.specs.declared.change.Change.{Change}
+use Rattle.cs_model.specs.FieldBytes.{field_bytes}
+use Rattle.cs_model.specs.Text.{op_byte}
+use Rattle.cs_model.specs.Packed.{packed, Fits, typed_in}
+use Rattle.cs_model.specs.PackedChanges.{mark, change_bytes, changes_bytes, Long, Fit, change_of, PacksAll, some_in, op_in, records_by, changes_said, unpacked_changes}
+use Rattle.cs_model.proofs.PackedLaws.{typed_back}
+use Rattle.cs_model.proofs.CutLaws.{some_no_longer}
+
+-- ---- going past so many fields
+
+-- no bytes are left
+some_of_none : (n : ℕ) → (some_in n []).1 ≡ []
+unfolding some_in
+some_of_none zero = refl
+some_of_none (suc n) = refl
+
+pub skip_end : (n : ℕ) (rest total : List ℕ) → length rest ≡ 0 → (some_in n rest).1 ≡ total → rest ≡ total
+skip_end n [] total none e = sym (some_of_none n) ∙ e
+skip_end n (b ∷ rest) total none e = absurd (omega (arith, none))
+
+some_zero : (bytes : List ℕ) → (some_in 0 bytes).1 ≡ bytes
+unfolding some_in
+some_zero bytes = refl
+
+-- no fields are left
+pub skip_done : (columns i : ℕ) (rest total : List ℕ) → columns ≤ i → (some_in (columns - i) rest).1 ≡ total → rest ≡ total
+skip_done columns i rest total done e =
+    let none : columns - i ≡ 0 = omega arith in
+    sym (some_zero rest) ∙ (rw none at e)
+
+some_more : (n byte : ℕ) (behind : List ℕ) → (some_in (suc n) (byte ∷ behind)).1 ≡ (some_in n (typed_in byte behind).1).1
+unfolding some_in
+some_more n byte behind = refl
+
+-- a field more
+pub skip_goes : (columns i : ℕ) (rest behind : List ℕ) (byte : ℕ) (after total : List ℕ) → i < columns → rest ≡ byte ∷ behind → after ≡ (typed_in byte behind).1
+    → (some_in (columns - i) rest).1 ≡ total → (some_in (columns - (i + 1)) after).1 ≡ total
+skip_goes columns i rest behind byte after total more is_rest is_after e =
+    let one : columns - i ≡ suc (columns - (i + 1)) = omega arith in
+    rw is_after (sym (some_more (columns - (i + 1)) byte behind) ∙ (rw (one, is_rest) at e))
+
+-- ---- one change, and the others
+
+records_no_longer : (n : ℕ) (op : Op) (indirect : Bool) (bytes : List ℕ) → length (records_by n op indirect bytes).1 ≤ length bytes
+records_no_longer n Insert indirect bytes = some_no_longer n bytes
+records_no_longer n Update indirect bytes = omega (arith, some_no_longer n bytes, some_no_longer n (some_in n bytes).1)
+records_no_longer n Delete indirect bytes = some_no_longer n bytes
+
+none_said : (n fuel : ℕ) → changes_said n fuel [] ≡ []
+unfolding changes_said
+none_said n zero = refl
+none_said n (suc fuel) = refl
+
+one_said : (n fuel op : ℕ) → changes_said n fuel (op ∷ []) ≡ []
+unfolding changes_said
+one_said n zero op = refl
+one_said n (suc fuel) op = refl
+
+enough : (n fuel more : ℕ) (bytes : List ℕ) → length bytes ≤ fuel → length bytes ≤ more → changes_said n fuel bytes ≡ changes_said n more bytes
+unfolding changes_said
+enough n fuel more [] p q = none_said n fuel ∙ sym (none_said n more)
+enough n fuel more (op ∷ []) p q = one_said n fuel op ∙ sym (one_said n more op)
+enough n zero more (op ∷ (m ∷ rest)) p q = absurd (omega (arith, p))
+enough n (suc fuel) zero (op ∷ (m ∷ rest)) p q = absurd (omega (arith, q))
+enough n (suc fuel) (suc more) (op ∷ (m ∷ rest)) p q =
+    let less = records_no_longer n (op_in op) (not (eqb m 0)) rest in
+    ap (λ (cs : List Change). (records_by n (op_in op) (not (eqb m 0)) rest).0 ∷ cs) (enough n fuel more (records_by n (op_in op) (not (eqb m 0)) rest).1 (omega arith) (omega arith))
+
+pub changes_none : (n : ℕ) (bytes : List ℕ) → length bytes ≡ 0 → unpacked_changes n bytes ≡ []
+unfolding unpacked_changes changes_said
+changes_none n bytes none = rw none refl
+
+one_byte : (n op : ℕ) → unpacked_changes n (op ∷ []) ≡ []
+unfolding unpacked_changes
+one_byte n op = one_said n 1 op
+
+pub changes_short : (n : ℕ) (bytes : List ℕ) (op : ℕ) (rest : List ℕ) → bytes ≡ op ∷ rest → length rest ≡ 0 → unpacked_changes n bytes ≡ []
+changes_short n bytes op [] whole none = rw whole (one_byte n op)
+changes_short n bytes op (m ∷ rest) whole none = absurd (omega (arith, none))
+
+first_said : (n op m : ℕ) (rest : List ℕ) → unpacked_changes n (op ∷ (m ∷ rest)) ≡ (records_by n (op_in op) (not (eqb m 0)) rest).0 ∷ unpacked_changes n (records_by n (op_in op) (not (eqb m 0)) rest).1
+unfolding unpacked_changes changes_said
+first_said n op m rest =
+    let after = (records_by n (op_in op) (not (eqb m 0)) rest).1 in
+    let less = records_no_longer n (op_in op) (not (eqb m 0)) rest in
+    ap (λ (cs : List Change). (records_by n (op_in op) (not (eqb m 0)) rest).0 ∷ cs) (enough n (suc (length rest)) (length after) after (omega arith) (omega arith))
+
+pub changes_first : (n : ℕ) (bytes behind : List ℕ) (op m : ℕ) (rest : List ℕ) (c : Change) (after : List ℕ) → bytes ≡ op ∷ behind → behind ≡ m ∷ rest
+    → c ≡ (records_by n (op_in op) (not (eqb m 0)) rest).0 → after ≡ (records_by n (op_in op) (not (eqb m 0)) rest).1 → unpacked_changes n bytes ≡ c ∷ unpacked_changes n after
+changes_first n bytes behind op m rest c after whole next one others = rw (whole, next, one, others) (first_said n op m rest)
+
+-- ---- what is written is read
+
+abbrev then_some : ℕ → Field × List ℕ → List Field × List ℕ
+then_some n x = (x.0 ∷ (some_in n x.1).0, (some_in n x.1).1)
+
+some_step : (n byte : ℕ) (rest : List ℕ) → some_in (suc n) (byte ∷ rest) ≡ then_some n (typed_in byte rest)
+unfolding some_in
+some_step n byte rest = refl
+
+some_none : (bytes : List ℕ) → some_in 0 bytes ≡ ([], bytes)
+unfolding some_in
+some_none bytes = refl
+
+pub some_back : (fields : List Field) (rest : List ℕ) → AllByRecursion Fits fields → some_in (length fields) (packed fields ++ rest) ≡ (fields, rest)
+some_back [] rest fit = some_none rest
+some_back (f ∷ fs) rest fit =
+    let others = packed fs ++ rest in
+    let a = typed_back f others fit.0 in
+    ap (λ (w : List ℕ). some_in (suc (length fs)) w) (append_assoc (field_bytes f) (packed fs) rest ∙ a.whole)
+    ∙ (some_step (length fs) a.byte a.body ∙ (ap (λ (x : Field × List ℕ). then_some (length fs) x) a.reads ∙ ap (λ (x : List Field × List ℕ). (f ∷ x.0, x.1)) (some_back fs rest fit.1)))
+
+some_of : (n : ℕ) (fields : List Field) (rest : List ℕ) → length fields ≡ n → AllByRecursion Fits fields → some_in n (packed fields ++ rest) ≡ (fields, rest)
+some_of n fields rest long fit = subst (λ (k : ℕ). some_in k (packed fields ++ rest) ≡ (fields, rest)) long (some_back fields rest fit)
+
+pub records_back : (n : ℕ) (op : Op) (indirect : Bool) (before after : List Field) (rest : List ℕ) → Long n op before after → AllByRecursion Fits before → AllByRecursion Fits after
+    → records_by n op indirect ((packed before ++ packed after) ++ rest) ≡ (change_of op indirect before after, rest)
+records_back n Insert indirect before after rest long p q =
+    rw long.0 (ap (λ (x : List Field × List ℕ). (change_of Insert indirect [] x.0, x.1)) (some_of n after rest long.1 q))
+records_back n Update indirect before after rest long p q =
+    let one = some_of n before (packed after ++ rest) long.0 p in
+    let other = some_of n after rest long.1 q in
+    rw append_assoc (
+    ap (λ (x : List Field × List ℕ). (change_of Update indirect x.0 (some_in n x.1).0, (some_in n x.1).1)) one
+    ∙ ap (λ (x : List Field × List ℕ). (change_of Update indirect before x.0, x.1)) other)
+records_back n Delete indirect before after rest long p q =
+    rw (long.1, append-nil) (ap (λ (x : List Field × List ℕ). (change_of Delete indirect x.0 [], x.1)) (some_of n before rest long.0 p))
+
+op_back : (op : Op) → op_in (op_byte op) ≡ op
+op_back Insert = refl
+op_back Update = refl
+op_back Delete = refl
+
+mark_back : (b : Bool) → not (eqb (mark b) 0) ≡ b
+mark_back true = refl
+mark_back false = refl
+
+change_back : (n : ℕ) (c : Change) (rest : List ℕ) → Fit n c → unpacked_changes n (change_bytes c ++ rest) ≡ c ∷ unpacked_changes n rest
+change_back n c rest fit =
+    let body = (packed c.before ++ packed c.after) ++ rest in
+    let said : records_by n (op_in (op_byte c.op)) (not (eqb (mark c.indirect) 0)) body ≡ (c, rest) =
+    rw (op_back c.op, mark_back c.indirect) (records_back n c.op c.indirect c.before c.after rest fit.long fit.before fit.after) in
+    changes_first n (change_bytes c ++ rest) (mark c.indirect ∷ body) (op_byte c.op) (mark c.indirect) body c rest refl refl (sym (ap (λ (x : Change × List ℕ). x.0) said)) (sym (ap (λ (x : Change × List ℕ). x.1) said))
+
+pub packed_again : (n : ℕ) (changes : List Change) → AllByRecursion (Fit n) changes → unpacked_changes n (changes_bytes changes) ≡ changes
+packed_again n [] fit = changes_none n [] refl
+packed_again n (c ∷ cs) fit = change_back n c (changes_bytes cs) fit.0 ∙ ap (λ (ds : List Change). c ∷ ds) (packed_again n cs fit.1)
+
+-- ---- what is made packs what it was made of
+
+pub made : (n : ℕ) (bytes : List ℕ) (changes : List Change) → bytes ≡ changes_bytes changes → AllByRecursion (Fit n) changes → (unpacked_changes n bytes ≡ changes) × PacksAll n bytes (unpacked_changes n bytes)
+made n bytes changes parts fit =
+    let says : unpacked_changes n bytes ≡ changes = rw parts (packed_again n changes fit) in
+    (says, subst (λ (cs : List Change). PacksAll n bytes cs) (sym says) (record { parts = parts; fit = fit }))
+
+fit_push : (n : ℕ) (cs : List Change) (c : Change) → AllByRecursion (Fit n) cs → Fit n c → AllByRecursion (Fit n) (cs ++ c ∷ [])
+fit_push n [] c h p = (p, tt)
+fit_push n (d ∷ ds) c h p = (h.0, fit_push n ds c h.1 p)
+
+bytes_push : (cs : List Change) (c : Change) → changes_bytes (cs ++ c ∷ []) ≡ changes_bytes cs ++ change_bytes c
+bytes_push [] c = append-nil (change_bytes c)
+bytes_push (d ∷ ds) c = ap (λ (w : List ℕ). change_bytes d ++ w) (bytes_push ds c) ∙ sym (append_assoc (change_bytes d) (changes_bytes ds) (change_bytes c))
+
+pub pushed : (n : ℕ) (old new : List ℕ) (c : Change) → Fit n c → PacksAll n old (unpacked_changes n old) → new ≡ old ++ change_bytes c
+    → (unpacked_changes n new ≡ unpacked_changes n old ++ c ∷ []) × PacksAll n new (unpacked_changes n new)
+pushed n old new c fits packs added =
+    made n new (unpacked_changes n old ++ c ∷ []) (added ∙ (ap (λ (w : List ℕ). w ++ change_bytes c) packs.parts ∙ sym (bytes_push (unpacked_changes n old) c))) (fit_push n (unpacked_changes n old) c packs.fit fits)

@@ -1,0 +1,194 @@
+//! The changes that bytes say, one after another, for a table with a known number of columns.
+
+ghost use Rattle.std.specs.Prelude.{◌≡◌, ◌∷◌, ◌++◌, [], MatchOption, OnOk, OnErr, not, nat_eq, ◌≤◌, length, take};
+ghost use Rattle.std.specs.List.{AllByRecursion};
+ghost use Rattle.cs_model.specs.Packed.{packed, unpacked, Fits};
+ghost use Rattle.cs_model.specs.PackedChanges.{change_bytes, changes_bytes, change_of, mark, Fit, some_in, op_in, records_by, unpacked_changes};
+ghost use Rattle.cs_model.specs.Seen.{change_seen};
+
+use crate::change::Op;
+use crate::fields::{Fields, typed_of};
+use std::iter::Iterator;
+use std::marker::Model;
+
+/// A record where it stands. Contracts see the list of its fields.
+#[derive(Drop)]
+pub struct RecordRef<'a> {
+    bytes: &'a [u8],
+}
+
+impl<'a> Model for RecordRef<'a> {
+    ghost use Rattle.std.specs.Prelude.{List};
+    ghost use Rattle.cs_model.specs.declared.value.Field.{Field};
+    ghost use Rattle.cs_model.specs.Packed.{unpacked};
+
+    ghost Value = { List Field };
+
+    ghost view = { λ r. unpacked r.bytes.now };
+}
+
+impl<'a> RecordRef<'a> {
+    /// Its fields, in column order.
+    #[inline(always)]
+    pub fn fields(&self) -> Fields<'a>
+        ensures { result ≡ self.now }
+    {
+        Fields::of(self.bytes)
+    }
+
+    /// The bytes that it stands in.
+    #[inline(always)]
+    pub fn bytes(&self) -> &'a [u8]
+        ensures { unpacked result.now ≡ self.now }
+    {
+        self.bytes
+    }
+}
+
+/// A change where it stands.
+#[derive(Drop)]
+pub struct ChangeRef<'a> {
+    /// What it does.
+    pub op: Op,
+    /// Whether a trigger or a foreign key action made it, and not the application itself.
+    pub indirect: bool,
+    /// The old record, without fields in an INSERT.
+    pub before: RecordRef<'a>,
+    /// The new record, without fields in a DELETE.
+    pub after: RecordRef<'a>,
+}
+
+/// What is left of bytes, for whoever goes over the changes of a table. Contracts see the list of changes that the
+/// bytes say, and any bytes say some.
+#[derive(Drop)]
+pub struct ChangeRefs<'a> {
+    columns: usize,
+    rest: &'a [u8],
+}
+
+impl<'a> Model for ChangeRefs<'a> {
+    ghost use Rattle.std.specs.Prelude.{List};
+    ghost use Rattle.cs_model.specs.declared.change.Change.{Change};
+    ghost use Rattle.cs_model.specs.PackedChanges.{unpacked_changes};
+
+    ghost Value = { List Change };
+
+    ghost view = { λ c. unpacked_changes c.columns c.rest.now };
+}
+
+impl<'a> ChangeRefs<'a> {
+    /// The changes from the first byte on, of a table with so many columns.
+    #[inline(always)]
+    pub fn of(columns: usize, bytes: &'a [u8]) -> ChangeRefs<'a>
+        ensures { result ≡ unpacked_changes columns bytes.now }
+    {
+        ChangeRefs {
+            columns,
+            rest: bytes,
+        }
+    }
+}
+
+impl<'a> Iterator for ChangeRefs<'a> {
+    ghost use Rattle.std.specs.Iterator.{YieldsFirstBy, item_count};
+    ghost use Rattle.cs_model.specs.Seen.{change_seen};
+
+    type Item = ChangeRef<'a>;
+
+    ghost next_gives = { YieldsFirstBy change_seen (λ s. s) };
+
+    ghost remaining = { item_count (λ s. s) };
+
+    fn next(&mut self) -> Option<ChangeRef<'a>> {
+        let (change, after) = first_of(self.columns, self.rest)?;
+        self.rest = after;
+        Some(change)
+    }
+}
+
+// what is behind so many fields, or as many as there are
+fn behind(columns: usize, bytes: &[u8]) -> &[u8]
+    ensures { result.now ≡ (some_in columns bytes.now).1 }
+{
+    let mut rest = bytes;
+    for i in 0..columns {
+        let Some((&byte, after)) = rest.split_first() else {
+            return rest;
+        };
+        let (_, next) = typed_of(byte, after);
+        rest = next;
+    }
+    rest
+}
+
+// a record of so many fields, and the bytes behind it
+fn record_of(columns: usize, bytes: &[u8]) -> (RecordRef, &[u8])
+    ensures record { result.0 ≡ (some_in columns bytes.now).0 }
+    ensures rest { result.1.now ≡ (some_in columns bytes.now).1 }
+{
+    let rest = behind(columns, bytes);
+    let (front, _) = bytes.split_at(bytes.len() - rest.len());
+    (RecordRef { bytes: front }, rest)
+}
+
+// a record without fields
+fn no_record<'a>() -> RecordRef<'a>
+    ensures { result ≡ [] }
+{
+    RecordRef { bytes: &[] }
+}
+
+// the operation that a byte says
+fn op_of(byte: u8) -> Op
+    ensures { result ≡ op_in byte }
+{
+    match byte {
+        18 => Op::Insert,
+        23 => Op::Update,
+        _ => Op::Delete,
+    }
+}
+
+// the change with this operation whose records stand in bytes, and the bytes behind it
+fn records_of(columns: usize, op: Op, indirect: bool, bytes: &[u8]) -> (ChangeRef, &[u8])
+    ensures change { change_seen result.0 ≡ (records_by columns op indirect bytes.now).0 }
+    ensures rest { result.1.now ≡ (records_by columns op indirect bytes.now).1 }
+{
+    let (before, after, rest) = match op {
+        Op::Insert => {
+            let (after, rest) = record_of(columns, bytes);
+            (no_record(), after, rest)
+        }
+        Op::Update => {
+            let (before, behind) = record_of(columns, bytes);
+            let (after, rest) = record_of(columns, behind);
+            (before, after, rest)
+        }
+        Op::Delete => {
+            let (before, rest) = record_of(columns, bytes);
+            (before, no_record(), rest)
+        }
+    };
+    (
+        ChangeRef {
+            op,
+            indirect,
+            before,
+            after,
+        },
+        rest,
+    )
+}
+
+// the first of the changes that bytes say, and the bytes behind it
+fn first_of(columns: usize, bytes: &[u8]) -> Option<(ChangeRef, &[u8])>
+    ensures { MatchOption result (unpacked_changes columns bytes.now ≡ []) (λ x. unpacked_changes columns bytes.now ≡ change_seen x.0 ∷ unpacked_changes columns x.1.now) }
+{
+    let Some((&op, behind)) = bytes.split_first() else {
+        return None;
+    };
+    let Some((&mark, rest)) = behind.split_first() else {
+        return None;
+    };
+    Some(records_of(columns, op_of(op), mark != 0, rest))
+}
