@@ -172,3 +172,6 @@ pub pushed : (n : ℕ) (old new : List ℕ) (c : Change) → Fit n c → PacksAl
     → (unpacked_changes n new ≡ unpacked_changes n old ++ c ∷ []) × PacksAll n new (unpacked_changes n new)
 pushed n old new c fits packs added =
     made n new (unpacked_changes n old ++ c ∷ []) (added ∙ (ap (λ (w : List ℕ). w ++ change_bytes c) packs.parts ∙ sym (bytes_push (unpacked_changes n old) c))) (fit_push n (unpacked_changes n old) c packs.fit fits)
+
+pub empty : (n : ℕ) (bytes : List ℕ) → bytes ≡ [] → (unpacked_changes n bytes ≡ []) × PacksAll n bytes (unpacked_changes n bytes)
+empty n bytes none = made n bytes [] none tt

@@ -1,7 +1,8 @@
 -- Records as bytes: what a record's bytes say is the record.
-use Rattle.std.proofs.Common.{◌≡◌, ℕ, ℤ, zero, suc, ◌^◌, ◌<◌, ◌≤◌, Bool, true, false, cond, eqb, ltb, Option, Some, None, List, [], ◌∷◌, ◌++◌, length, drop, refl, sym, ap, subst, ◌∙◌, arith, FitsSigned}
+use Rattle.std.proofs.Common.{◌≡◌, ℕ, ℤ, zero, suc, ◌^◌, ◌<◌, ◌≤◌, Bool, true, false, cond, eqb, ltb, Option, Some, None, List, [], ◌∷◌, ◌++◌, length, drop, refl, sym, ap, subst, ◌∙◌, arith, FitsSigned, ◌↔◌}
 use Rattle.std.specs.Int.{w64, from_be_bytes, to_be_bytes, cast_signed, cast_unsigned}
 use Rattle.std.specs.List.{AllByRecursion}
+use Rattle.std.specs.Cmp.Lexicographic.{same_text, nat_list_eq_equiv}
 use Rattle.std.proofs.Math.Seq.{take-append_seam, drop-append_seam}
 use Rattle.std.proofs.lemmas.Bool.{le-ltb}
 use Rattle.std.proofs.lemmas.Int.{ints, to_z-of_z}
@@ -12,6 +13,7 @@ use Rattle.cs_model.specs.declared.value.Field.{Field}
 use Rattle.cs_model.specs.declared.value.Field.TheVariants.{Undefined, Is}
 use Rattle.cs_model.specs.FieldBytes.{field_bytes}
 use Rattle.cs_model.specs.Varint.{varint}
+use Rattle.cs_model.specs.Schema.{same_bytes}
 use Rattle.cs_model.specs.Packed.{packed, IsLength, Fits, Packs, read_from, counted_by, counted_in, integer_by, typed_in, fields_in, unpacked}
 use Rattle.cs_model.proofs.VarintLemmas.{read_back, spelled}
 
@@ -163,3 +165,13 @@ pushed old new f fits packs added =
 
 pub empty : (bytes : List ℕ) → bytes ≡ [] → (unpacked bytes ≡ []) × Packs bytes (unpacked bytes)
 empty bytes none = made bytes [] none tt
+
+-- ---- the same bytes are the same fields
+
+pub same_records : (a b : List ℕ) (r : Bool) → Packs a (unpacked a) → Packs b (unpacked b) → r ≡ same_bytes a b → (r ≡ true) ↔ (unpacked a ≡ unpacked b)
+same_records a b r p q e = (
+  λ told. ap unpacked (same_text a b (sym told ∙ e)),
+  λ same.
+      let bytes : a ≡ b = p.parts ∙ ap packed same ∙ sym q.parts in
+      e ∙ ap (λ (w : List ℕ). same_bytes a w) (sym bytes) ∙ nat_list_eq_equiv.refl a,
+)

@@ -5,6 +5,7 @@
 
 mod change;
 mod change_ref;
+mod changes;
 mod changeset;
 mod copy;
 mod field;
@@ -22,13 +23,14 @@ mod varint;
 
 pub use change::{Change, Op, Section};
 pub use change_ref::{ChangeRef, ChangeRefs, RecordRef};
+pub use changes::{Changes, change_push, fields_again, packed_again};
 pub use changeset::Changeset;
 pub use copy::CopyIn;
 pub use field::{field_push, value_push};
 pub use field_ref::{FieldRef, field_push_ref};
 pub use fields::Fields;
 pub use origin::Origin;
-pub use record::Record;
+pub use record::{Record, same_fields};
 pub use row_key::RowKey;
 pub use schema::{RefusedTables, Schema, SchemaError, SectionFault, TableFault};
 pub use seq::{Octets, Row, Seq};

@@ -1,7 +1,12 @@
 //! Records in memory of their own.
 
-ghost use Rattle.std.specs.Prelude.{◌≡◌, ◌++◌, ◌∷◌, [], OnOk, OnErr};
-ghost use Rattle.cs_model.specs.Packed.{packed};
+ghost use Rattle.std.specs.Prelude.{◌≡◌, ◌++◌, ◌∷◌, [], OnOk, OnErr, ◌↔◌, IsTrue};
+ghost use Rattle.std.specs.List.{AllByRecursion};
+ghost use Rattle.std.specs.Cmp;
+ghost use Rattle.std.specs.Cmp.{on_per, on_equiv};
+ghost use Rattle.std.specs.Cmp.Lexicographic.{nat_list_eq_equiv};
+ghost use Rattle.cs_model.specs.Schema.{same_bytes};
+ghost use Rattle.cs_model.specs.Packed.{packed, Fits};
 ghost use Rattle.cs_model.specs.Seen.{field_seen};
 
 use crate::copy::CopyIn;
@@ -57,7 +62,8 @@ impl Record {
 
     /// Its canonical bytes.
     pub fn bytes(&self) -> &[u8]
-        ensures { result.now ≡ packed self.now }
+        ensures bytes { result.now ≡ packed self.now }
+        ensures fit { AllByRecursion Fits self.now }
     {
         &self.bytes
     }
@@ -69,4 +75,26 @@ impl CopyIn for Record {
             bytes: Vec::from_slice(alloc, &self.bytes)?,
         })
     }
+}
+
+/// Two records are equal when their bytes are, and so when their fields are.
+impl PartialEq for Record {
+    ghost eq = { λ a b. same_bytes (packed a) (packed b) };
+
+    ghost laws = { on_per packed (Cmp.partial_equiv_from_equiv nat_list_eq_equiv) };
+
+    fn eq(&self, other: &Self) -> bool {
+        self.bytes == other.bytes
+    }
+}
+
+impl Eq for Record {
+    ghost laws = { on_equiv packed nat_list_eq_equiv };
+}
+
+/// Whether two records have the same fields, as `==` says.
+pub fn same_fields(first: &Record, second: &Record) -> bool
+    ensures { IsTrue result ↔ (first.now ≡ second.now) }
+{
+    first.bytes == second.bytes
 }
