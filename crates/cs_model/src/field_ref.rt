@@ -10,7 +10,7 @@ use crate::field::add_counted;
 use std::alloc::AllocError;
 
 /// A field where it stands, for whoever reads a record without a copy of its texts.
-#[derive(Clone, Copy, Debug)]
+#[derive(Clone, Copy, Debug, PartialEq, Eq)]
 pub enum FieldRef<'a> {
     /// No value.
     Undefined,

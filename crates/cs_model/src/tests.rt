@@ -14,6 +14,8 @@ use std::fmt::Debug;
 use std::process::Abort;
 use std::test::Fail;
 
+mod packed;
+
 fn octets(alloc: Global, bytes: &[u8]) -> Result<Octets, AllocError>
     ensures { IfOk result (λ copy. copy ≡ bytes.now) }
 {
