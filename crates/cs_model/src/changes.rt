@@ -1,4 +1,4 @@
-//! Changes in one piece of memory, and the laws of what bytes say.
+//! Changes in one piece of memory.
 
 ghost use Rattle.std.specs.Prelude.{◌≡◌, ℕ, List, [], ◌∷◌, ◌++◌, OnOk, OnErr, length, take};
 ghost use Rattle.std.specs.List.{AllByRecursion};
@@ -143,13 +143,3 @@ fn byte_of(op: Op) -> u8
         Op::Delete => 9,
     }
 }
-
-/// The bytes of fields that fit say these fields.
-pub fn fields_again()
-    ensures { (fields : List Field) → AllByRecursion Fits fields → unpacked (packed fields) ≡ fields }
-{}
-
-/// The bytes of changes that fit say these changes.
-pub fn packed_again()
-    ensures { (n : ℕ) (changes : List Change) → AllByRecursion (Fit n) changes → unpacked_changes n (changes_bytes changes) ≡ changes }
-{}

@@ -1,8 +1,14 @@
-//! Laws: public functions that do nothing, whose contracts say what holds of the definitions. Who needs one calls it.
+//! Laws: public functions whose contracts say what holds of the definitions. Who needs one calls it. Those without operands do
+//! nothing.
 
 ghost use Rattle.std.specs.Prelude.{◌≡◌, ℕ, ◌^◌, ◌<◌, ◌≤◌, List, length};
+ghost use Rattle.std.specs.List.{AllByRecursion};
+ghost use Rattle.cs_model.specs.declared.value.Field.{Field};
+ghost use Rattle.cs_model.specs.declared.change.Change.{Change};
 ghost use Rattle.cs_model.specs.Bytes.{AreBytes};
 ghost use Rattle.cs_model.specs.Key.{row_key_cmp};
+ghost use Rattle.cs_model.specs.Packed.{Fits, packed, unpacked};
+ghost use Rattle.cs_model.specs.PackedChanges.{Fit, changes_bytes, unpacked_changes};
 ghost use Rattle.cs_model.specs.Varint.{IsVarint, varint};
 
 use crate::row_key::RowKey;
@@ -24,3 +30,13 @@ pub fn order_of_keys(first: &RowKey, second: &RowKey) -> Ordering
 {
     first.cmp(second)
 }
+
+/// The bytes of fields that fit say these fields.
+pub fn fields_again()
+    ensures { (fields : List Field) → AllByRecursion Fits fields → unpacked (packed fields) ≡ fields }
+{}
+
+/// The bytes of changes that fit say these changes.
+pub fn packed_again()
+    ensures { (n : ℕ) (changes : List Change) → AllByRecursion (Fit n) changes → unpacked_changes n (changes_bytes changes) ≡ changes }
+{}

@@ -23,7 +23,7 @@ mod varint;
 
 pub use change::{Change, Op, Section};
 pub use change_ref::{ChangeRef, ChangeRefs, RecordRef};
-pub use changes::{Changes, change_push, fields_again, packed_again};
+pub use changes::{Changes, change_push};
 pub use changeset::Changeset;
 pub use copy::CopyIn;
 pub use field::{field_push, value_push};

@@ -1,5 +1,5 @@
 use Rattle.cs_model.proofs.PackedChangeLaws.{packed_again}
-use Rattle.cs_model.proofs.changes.packed_again.Goals as goal
+use Rattle.cs_model.proofs.laws.packed_again.Goals as goal
 
 pub returns : goal.returns
 returns c = packed_again

@@ -1,5 +1,5 @@
 use Rattle.cs_model.proofs.PackedLaws.{packed_unpacked}
-use Rattle.cs_model.proofs.changes.fields_again.Goals as goal
+use Rattle.cs_model.proofs.laws.fields_again.Goals as goal
 
 pub returns : goal.returns
 returns c = packed_unpacked
