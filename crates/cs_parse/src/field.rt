@@ -1,39 +1,15 @@
 //! Fields. Their readers are inlined: there is one for each column of each change, and a call costs more than most fields.
 
 ghost use Rattle.std.specs.Prelude.{◌≡◌, IfOk, length};
-ghost use Rattle.cs_model.specs.Rule.{is_defined};
+ghost use Rattle.cs_model.specs.Seen.{field_seen};
 ghost use Rattle.cs_parse.specs.FieldRules.{rule_of};
 ghost use Rattle.cs_parse.specs.Reading.{Reads, Gives, counted_at, typed_at, field_at};
-ghost use Rattle.cs_parse.specs.Standing.{field_seen};
 
 use crate::number::{integer_of, length_of};
 use crate::rule::{FieldRule, type_fault};
 use crate::stop::{Refusal, Stop};
-use cs_model::{Field, Octets, Seq, Value};
+use cs_model::{Field, FieldRef, Octets, Seq, Value};
 use std::alloc::{AllocError, Global};
-
-/// A field whose bytes stand in the text.
-#[derive(Clone, Copy)]
-pub enum FieldRef<'a> {
-    /// No value.
-    Undefined,
-    /// An INTEGER.
-    Integer(i64),
-    /// A TEXT's bytes.
-    Text(&'a [u8]),
-    /// A BLOB's bytes.
-    Blob(&'a [u8]),
-    /// NULL.
-    Null,
-}
-
-impl FieldRef<'_> {
-    pub fn has_value(self) -> bool
-        ensures { result ≡ is_defined (field_seen self.entry) }
-    {
-        !matches!(self, FieldRef::Undefined)
-    }
-}
 
 // a length, and that many bytes
 #[tactic(auto, unfolding(crate::specs::Reading::counted_at))]

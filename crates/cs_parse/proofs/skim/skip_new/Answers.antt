@@ -6,7 +6,7 @@ use Rattle.cs_model.specs.Rule.{old_rule, new_rule, new_rules}
 use Rattle.cs_parse.specs.declared.stop.Refusal.{Refusal}
 use Rattle.cs_parse.specs.FieldRules.{rule_of}
 use Rattle.cs_parse.specs.Reading.{field_at, record_at}
-use Rattle.cs_parse.specs.Standing.{field_seen}
+use Rattle.cs_model.specs.Seen.{field_seen}
 use Rattle.cs_parse.specs.Count.{behind}
 use Rattle.cs_parse.proofs.Steps.{done}
 use Rattle.cs_parse.proofs.Loops.{same_field}
