@@ -1,9 +1,8 @@
 -- What the reader's rules stand for.
-use Rattle.std.specs.Prelude.{ℕ, Bool, ◌==◌, if◌then◌else◌}
-use Rattle.cs_model.specs.declared.value.Field.{Field}
+use Rattle.std.specs.Prelude.{ℕ, ◌==◌, if◌then◌else◌}
 use Rattle.cs_model.specs.declared.value.Value.TheVariants.{Null}
 use Rattle.cs_model.specs.declared.value.Field.TheVariants.{Undefined, Is}
-use Rattle.cs_model.specs.Rule.{Rule, Key, Given, Open, Blank, PairedWith, is_defined}
+use Rattle.cs_model.specs.Rule.{Rule, Key, Given, Open, Blank, PairedWith}
 use Rattle.cs_parse.specs.declared.rule.FieldRule.{FieldRule}
 use Rattle.cs_parse.specs.declared.rule.FieldRule.TheVariants as reader
 
