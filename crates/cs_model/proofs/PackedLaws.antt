@@ -1,5 +1,5 @@
 -- Records as bytes: what a record's bytes say is the record.
-use Rattle.std.proofs.Common.{◌≡◌, ℕ, ℤ, zero, suc, ◌^◌, ◌<◌, ◌≤◌, Bool, true, false, cond, eqb, ltb, Option, Some, None, List, [], ◌∷◌, ◌++◌, length, drop, refl, sym, ap, subst, ◌∙◌, arith, FitsSigned, ◌↔◌}
+use Rattle.std.proofs.Common.{◌≡◌, ℕ, ℤ, zero, suc, ◌+◌, ◌*◌, ◌^◌, ◌<◌, ◌≤◌, Bool, true, false, cond, eqb, ltb, Option, Some, None, List, [], ◌∷◌, ◌++◌, length, take, drop, refl, sym, ap, subst, ◌∙◌, arith, FitsSigned, ◌↔◌}
 use Rattle.std.specs.Int.{w64, from_be_bytes, to_be_bytes, cast_signed, cast_unsigned}
 use Rattle.std.specs.List.{AllByRecursion}
 use Rattle.std.specs.Cmp.Lexicographic.{same_text, nat_list_eq_equiv}
@@ -15,7 +15,7 @@ use Rattle.cs_model.specs.FieldBytes.{field_bytes}
 use Rattle.cs_model.specs.Varint.{varint}
 use Rattle.cs_model.specs.Schema.{same_bytes}
 use Rattle.cs_model.specs.Packed.{packed, IsLength, Fits, Packs, read_from, counted_by, counted_in, integer_by, typed_in, fields_in, unpacked}
-use Rattle.cs_model.proofs.VarintLemmas.{read_back, spelled}
+use Rattle.cs_model.proofs.VarintLemmas.{read_ends, read_back, spelled}
 
 -- ---- what is behind a field is no longer than what the field was read from
 
@@ -70,6 +70,13 @@ first_in byte rest =
 pub unpacked_first : (bytes : List ℕ) (byte : ℕ) (rest : List ℕ) (field : Field) (after : List ℕ) → bytes ≡ byte ∷ rest → field ≡ (typed_in byte rest).0 → after ≡ (typed_in byte rest).1
     → unpacked bytes ≡ field ∷ unpacked after
 unpacked_first bytes byte rest field after whole one others = rw (whole, one, others) (first_in byte rest)
+
+-- a length of one byte
+pub counted_one : (bytes : List ℕ) (len n : ℕ) (behind : List ℕ) → bytes ≡ len ∷ behind → len < 128 → n ≡ len → counted_in bytes ≡ (take n behind, drop n behind)
+unfolding counted_in
+counted_one bytes len n behind whole small same =
+    let value : 128 * 0 + len ≡ n = omega arith in
+    ap counted_in whole ∙ (ap (λ (o : Option (ℕ × ℕ)). counted_by (len ∷ behind) o) (read_ends 7 0 0 len behind small) ∙ ap (λ (k : ℕ). (take k behind, drop k behind)) value)
 
 -- ---- what is written is read
 

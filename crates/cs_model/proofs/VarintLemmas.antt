@@ -14,7 +14,7 @@ pow_suc k = ap (λ i. 128 ^ i) (omega arith) ∙ pow_more 128 k
 
 -- ---- reading
 
-read_ends : (left high read b : ℕ) (bytes : List ℕ) → b < 128 → read_from (suc left) high read (b ∷ bytes) ≡ Some (128 * high + b, read + 1)
+pub read_ends : (left high read b : ℕ) (bytes : List ℕ) → b < 128 → read_from (suc left) high read (b ∷ bytes) ≡ Some (128 * high + b, read + 1)
 read_ends left high read b bytes small = grind (arith, nat_tests)
 
 read_goes : (left high read b : ℕ) (bytes : List ℕ) → 128 ≤ b → read_from (suc left) high read (b ∷ bytes) ≡ read_from left (128 * high + (b - 128)) (read + 1) bytes

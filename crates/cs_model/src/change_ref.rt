@@ -1,9 +1,8 @@
 //! The changes that bytes say, one after another, for a table with a known number of columns.
 
-ghost use Rattle.std.specs.Prelude.{◌≡◌, ◌∷◌, ◌++◌, [], MatchOption, OnOk, OnErr, not, nat_eq, ◌≤◌, length, take};
-ghost use Rattle.std.specs.List.{AllByRecursion};
-ghost use Rattle.cs_model.specs.Packed.{packed, unpacked, Fits};
-ghost use Rattle.cs_model.specs.PackedChanges.{change_bytes, changes_bytes, change_of, mark, Fit, some_in, op_in, records_by, unpacked_changes};
+ghost use Rattle.std.specs.Prelude.{◌≡◌, ◌∷◌, [], MatchOption};
+ghost use Rattle.cs_model.specs.Packed.{unpacked};
+ghost use Rattle.cs_model.specs.PackedChanges.{some_in, op_in, records_by, unpacked_changes};
 ghost use Rattle.cs_model.specs.Seen.{change_seen};
 
 use crate::change::Op;

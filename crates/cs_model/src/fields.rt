@@ -1,7 +1,7 @@
 //! The fields that bytes say, one after another. They are read inline: there is one for each column of each change,
 //! and a call costs more than most fields.
 
-ghost use Rattle.std.specs.Prelude.{◌≡◌, ◌∷◌, [], MatchOption};
+ghost use Rattle.std.specs.Prelude.{◌≡◌, ◌∷◌, [], take, drop, MatchOption};
 ghost use Rattle.cs_model.specs.Packed.{counted_in, typed_in, unpacked};
 ghost use Rattle.cs_model.specs.Seen.{field_seen};
 
@@ -64,19 +64,42 @@ impl<'a> Iterator for Fields<'a> {
 }
 
 // a length and that many bytes, and the bytes behind them
-#[tactic(auto, unfolding(crate::specs::Packed::counted_in))]
+#[inline(always)]
 fn counted_of(bytes: &[u8]) -> (&[u8], &[u8])
+    ensures bytes { result.0.now ≡ (counted_in bytes.now).0 }
+    ensures rest { result.1.now ≡ (counted_in bytes.now).1 }
+{
+    // nearly all lengths take one byte
+    if let Some((&len, behind)) = bytes.split_first() {
+        if len < 128 {
+            return so_many(u64::from(len), behind);
+        }
+    }
+    long_counted_of(bytes)
+}
+
+// the same, for a length of any number of bytes
+#[tactic(auto, unfolding(crate::specs::Packed::counted_in))]
+fn long_counted_of(bytes: &[u8]) -> (&[u8], &[u8])
     ensures bytes { result.0.now ≡ (counted_in bytes.now).0 }
     ensures rest { result.1.now ≡ (counted_in bytes.now).1 }
 {
     let Some((len, read)) = varint_first(bytes) else {
         return (bytes, &[]);
     };
-    let behind = &bytes[read..];
-    if (behind.len() as u64) < len {
-        return (behind, &[]);
+    so_many(len, &bytes[read..])
+}
+
+// so many bytes, or as many as there are, and the bytes behind them
+#[inline(always)]
+fn so_many(len: u64, bytes: &[u8]) -> (&[u8], &[u8])
+    ensures front { result.0.now ≡ take len bytes.now }
+    ensures rest { result.1.now ≡ drop len bytes.now }
+{
+    if (bytes.len() as u64) < len {
+        return (bytes, &[]);
     }
-    behind.split_at(len as usize)
+    bytes.split_at(len as usize)
 }
 
 // a number in eight bytes, or NULL where there are fewer, and the bytes behind it

@@ -1,6 +1,6 @@
 //! Records in memory of their own.
 
-ghost use Rattle.std.specs.Prelude.{◌≡◌, ◌++◌, ◌∷◌, [], OnOk, OnErr, ◌↔◌, IsTrue};
+ghost use Rattle.std.specs.Prelude.{◌≡◌, ◌++◌, ◌∷◌, [], IfOk, OnOk, OnErr, ◌↔◌, IsTrue};
 ghost use Rattle.std.specs.List.{AllByRecursion};
 ghost use Rattle.std.specs.Cmp;
 ghost use Rattle.std.specs.Cmp.{on_per, on_equiv};
@@ -9,6 +9,7 @@ ghost use Rattle.cs_model.specs.Schema.{same_bytes};
 ghost use Rattle.cs_model.specs.Packed.{packed, Fits};
 ghost use Rattle.cs_model.specs.Seen.{field_seen};
 
+use crate::change_ref::RecordRef;
 use crate::copy::CopyIn;
 use crate::field_ref::{FieldRef, field_push_ref};
 use crate::fields::Fields;
@@ -41,6 +42,27 @@ impl Record {
         Record {
             bytes: Vec::new(alloc),
         }
+    }
+
+    /// The fields of a record that stands in bytes, in one new piece of memory.
+    pub fn copy_of(alloc: Global, from: &RecordRef) -> Result<Record, AllocError>
+        ensures { IfOk result (λ copy. copy ≡ from.now) }
+    {
+        // a record's own bytes are as many as its copy's
+        let mut copy = Record::with_capacity(alloc, from.bytes().len())?;
+        for field in from.fields() {
+            copy.push(field)?;
+        }
+        Ok(copy)
+    }
+
+    /// No fields, and room for so many bytes.
+    pub fn with_capacity(alloc: Global, bytes: usize) -> Result<Record, AllocError>
+        ensures { IfOk result (λ made. made ≡ []) }
+    {
+        Ok(Record {
+            bytes: Vec::with_capacity(alloc, bytes)?,
+        })
     }
 
     /// One field more, behind the others. An `Err` leaves the record as it was.

@@ -124,6 +124,8 @@ fn each_operation(rt: HostRuntime) -> Result<(), Fail> {
         assert_eq!(rt; change.indirect, indirect);
         gives(&rt, change.before.fields(), before);
         gives(&rt, change.after.fields(), after);
+        let copied = Record::copy_of(alloc, &change.after)?;
+        assert_eq!(rt; copied.bytes(), change.after.bytes());
     }
     assert!(rt; seen.next().is_none());
     Ok(())
