@@ -1,15 +1,17 @@
 -- Changes as bytes: what the bytes of changes say is the changes.
-use Rattle.std.proofs.Common.{◌≡◌, ℕ, zero, suc, ◌+◌, ◌-◌, ◌<◌, ◌≤◌, Bool, true, false, not, eqb, List, [], ◌∷◌, ◌++◌, length, refl, sym, ap, subst, ◌∙◌, arith}
+use Rattle.std.proofs.Common.{◌≡◌, ℕ, zero, suc, ◌+◌, ◌-◌, ◌<◌, ◌≤◌, Bool, true, false, not, eqb, List, [], ◌∷◌, ◌++◌, length, take, refl, sym, ap, subst, ◌∙◌, arith}
 use Rattle.std.specs.List.{AllByRecursion}
-use Rattle.std.proofs.lemmas.List.{append_assoc, append-nil}
+use Rattle.std.proofs.Math.Seq.{take-append_seam}
+use Rattle.std.proofs.lemmas.List.{append_assoc, append-nil, length-append}
 use Rattle.cs_model.specs.declared.value.Field.{Field}
 use Rattle.cs_model.specs.declared.change.Op.{Op}
 use Rattle.cs_model.specs.declared.change.Op.TheVariants.{Insert, Update, Delete}
 use Rattle.cs_model.specs.declared.change.Change.{Change}
 use Rattle.cs_model.specs.FieldBytes.{field_bytes}
 use Rattle.cs_model.specs.Text.{op_byte}
-use Rattle.cs_model.specs.Packed.{packed, Fits, typed_in}
-use Rattle.cs_model.specs.PackedChanges.{mark, change_bytes, changes_bytes, Long, Fit, change_of, PacksAll, some_in, op_in, records_by, changes_said, unpacked_changes}
+use Rattle.cs_model.specs.Packed.{packed, unpacked, Fits, Packs, typed_in}
+use Rattle.cs_model.specs.PackedChanges.{mark, change_bytes, changes_bytes, Long, Fit, change_of, PacksAll, some_in, op_in, records_by, changes_said, unpacked_changes, Begins, BeginsChange}
+use Rattle.cs_model.proofs.PackedLaws as records
 use Rattle.cs_model.proofs.PackedLaws.{typed_back}
 use Rattle.cs_model.proofs.CutLaws.{some_no_longer}
 
@@ -175,3 +177,67 @@ pushed n old new c fits packs added =
 
 pub empty : (n : ℕ) (bytes : List ℕ) → bytes ≡ [] → (unpacked_changes n bytes ≡ []) × PacksAll n bytes (unpacked_changes n bytes)
 empty n bytes none = made n bytes [] none tt
+
+-- ---- a change's own bytes, where the bytes are those of changes
+
+pub own_packs : (n : ℕ) (bytes rest front : List ℕ) (k : ℕ) → Begins n bytes → rest ≡ (some_in n bytes).1 → k ≡ length bytes - length rest → front ≡ take k bytes → Packs front (unpacked front)
+own_packs n bytes rest front k b is_rest is_k is_front =
+    let said : some_in n bytes ≡ (b.fields, b.rest) = ap (λ (w : List ℕ). some_in n w) b.parts ∙ some_of n b.fields b.rest b.long b.fit in
+    let left : rest ≡ b.rest = is_rest ∙ ap (λ (x : List Field × List ℕ). x.1) said in
+    let len : k ≡ length (packed b.fields) = omega (arith, ap length left, ap length b.parts, length-append (packed b.fields) b.rest) in
+    let same : front ≡ packed b.fields = is_front ∙ ap (λ (w : List ℕ). take k w) b.parts ∙ rw len (take-append_seam (packed b.fields) b.rest) in
+    (records.made front b.fields same b.fit).1
+
+-- behind the old record of an UPDATE is its new one
+pub begins_after : (n : ℕ) (op : Op) (bytes after : List ℕ) → BeginsChange n op bytes → op ≡ Update → after ≡ (some_in n bytes).1 → Begins n after
+begins_after n op bytes after b is e =
+    let long : Long n Update b.before b.after = subst (λ (o : Op). Long n o b.before b.after) is b.long in
+    let said : some_in n bytes ≡ (b.before, packed b.after ++ b.rest) =
+    ap (λ (w : List ℕ). some_in n w) (b.parts ∙ append_assoc (packed b.before) (packed b.after) b.rest) ∙ some_of n b.before (packed b.after ++ b.rest) long.0 b.before_fit in
+    record { fields = b.after; rest = b.rest; long = long.1; fit = b.after_fit; parts = e ∙ ap (λ (x : List Field × List ℕ). x.1) said }
+
+-- the first change, of which two bytes are read, and the others
+record First (n op m : ℕ) (rest : List ℕ) : Type 0 where
+  pub change : Change
+  pub others : List Change
+  pub is_op : op ≡ op_byte change.op
+  pub parts : rest ≡ (packed change.before ++ packed change.after) ++ changes_bytes others
+  pub fit : Fit n change
+  pub others_fit : AllByRecursion (Fit n) others
+
+first : (n : ℕ) (bytes behind rest : List ℕ) (op m : ℕ) (cs : List Change) → PacksAll n bytes cs → bytes ≡ op ∷ behind → behind ≡ m ∷ rest → First n op m rest
+first n bytes behind rest op m [] packs whole next =
+    let none : [] ≡ op ∷ behind = sym packs.parts ∙ whole in
+    absurd cc
+first n bytes behind rest op m (c ∷ cs) packs whole next =
+    let body = (packed c.before ++ packed c.after) ++ changes_bytes cs in
+    let same : op ∷ (m ∷ rest) ≡ op_byte c.op ∷ (mark c.indirect ∷ body) = ap (λ (w : List ℕ). op ∷ w) (sym next) ∙ (sym whole ∙ packs.parts) in
+    let is_op : op ≡ op_byte c.op = cc in
+    let parts : rest ≡ body = cc in
+    record { change = c; others = cs; is_op = is_op; parts = parts; fit = packs.fit.0; others_fit = packs.fit.1 }
+
+first_op : (n op m : ℕ) (rest : List ℕ) (o : Op) (f : First n op m rest) → o ≡ op_in op → o ≡ f.change.op
+first_op n op m rest o f is = is ∙ (ap op_in f.is_op ∙ op_back f.change.op)
+
+pub begins_change : (n : ℕ) (bytes behind rest : List ℕ) (op m : ℕ) (o : Op) → PacksAll n bytes (unpacked_changes n bytes) → bytes ≡ op ∷ behind → behind ≡ m ∷ rest → o ≡ op_in op → BeginsChange n o rest
+begins_change n bytes behind rest op m o packs whole next is =
+    let f = first n bytes behind rest op m (unpacked_changes n bytes) packs whole next in
+    record {
+      before = f.change.before;
+      after = f.change.after;
+      rest = changes_bytes f.others;
+      long = subst (λ (p : Op). Long n p f.change.before f.change.after) (sym (first_op n op m rest o f is)) f.fit.long;
+      before_fit = f.fit.before;
+      after_fit = f.fit.after;
+      parts = f.parts;
+    }
+
+pub rest_packs : (n : ℕ) (bytes behind rest : List ℕ) (op m : ℕ) (o : Op) (indirect : Bool) (after : List ℕ) → PacksAll n bytes (unpacked_changes n bytes) → bytes ≡ op ∷ behind → behind ≡ m ∷ rest → o ≡ op_in op
+    → after ≡ (records_by n o indirect rest).1 → PacksAll n after (unpacked_changes n after)
+rest_packs n bytes behind rest op m o indirect after packs whole next is e =
+    let f = first n bytes behind rest op m (unpacked_changes n bytes) packs whole next in
+    let read : records_by n f.change.op indirect rest ≡ (change_of f.change.op indirect f.change.before f.change.after, changes_bytes f.others) =
+    ap (λ (w : List ℕ). records_by n f.change.op indirect w) f.parts ∙ records_back n f.change.op indirect f.change.before f.change.after (changes_bytes f.others) f.fit.long f.fit.before f.fit.after in
+    let left : after ≡ changes_bytes f.others =
+    e ∙ (ap (λ (p : Op). (records_by n p indirect rest).1) (first_op n op m rest o f is) ∙ ap (λ (x : Change × List ℕ). x.1) read) in
+    (made n after f.others left f.others_fit).1

@@ -42,6 +42,24 @@ pub record PacksAll (n : ℕ) (bytes : List ℕ) (changes : List Change) : Type 
   pub parts : bytes ≡ changes_bytes changes
   pub fit : AllByRecursion (Fit n) changes
 
+-- the bytes begin with those of so many fields
+pub record Begins (n : ℕ) (bytes : List ℕ) : Type 0 where
+  pub fields : List Field
+  pub rest : List ℕ
+  pub long : length fields ≡ n
+  pub fit : AllByRecursion Fits fields
+  pub parts : bytes ≡ packed fields ++ rest
+
+-- the bytes begin with those of a change's records
+pub record BeginsChange (n : ℕ) (op : Op) (bytes : List ℕ) : Type 0 where
+  pub before : List Field
+  pub after : List Field
+  pub rest : List ℕ
+  pub long : Long n op before after
+  pub before_fit : AllByRecursion Fits before
+  pub after_fit : AllByRecursion Fits after
+  pub parts : bytes ≡ (packed before ++ packed after) ++ rest
+
 -- ---- what bytes say: every list of bytes says some changes, and only of changes' bytes it matters which
 
 -- so many fields, or as many as there are, and what is behind them

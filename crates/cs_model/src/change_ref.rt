@@ -1,8 +1,10 @@
-//! The changes that bytes say, one after another, for a table with a known number of columns.
+//! The changes that stand in bytes, one after another, for a table with a known number of columns. The bytes are the
+//! canonical ones, and so are those of each record, which can be copied without a look at its fields.
 
-ghost use Rattle.std.specs.Prelude.{◌≡◌, ◌∷◌, [], MatchOption};
-ghost use Rattle.cs_model.specs.Packed.{unpacked};
-ghost use Rattle.cs_model.specs.PackedChanges.{some_in, op_in, records_by, unpacked_changes};
+ghost use Rattle.std.specs.Prelude.{◌≡◌, ◌∷◌, [], IfSome, MatchOption};
+ghost use Rattle.std.specs.List.{AllByRecursion};
+ghost use Rattle.cs_model.specs.Packed.{packed, unpacked, Fits};
+ghost use Rattle.cs_model.specs.PackedChanges.{some_in, op_in, records_by, unpacked_changes, PacksAll, Begins, BeginsChange};
 ghost use Rattle.cs_model.specs.Seen.{change_seen};
 
 use crate::change::Op;
@@ -19,11 +21,13 @@ pub struct RecordRef<'a> {
 impl<'a> Model for RecordRef<'a> {
     ghost use Rattle.std.specs.Prelude.{List};
     ghost use Rattle.cs_model.specs.declared.value.Field.{Field};
-    ghost use Rattle.cs_model.specs.Packed.{unpacked};
+    ghost use Rattle.cs_model.specs.Packed.{unpacked, Packs};
 
     ghost Value = { List Field };
 
     ghost view = { λ r. unpacked r.bytes.now };
+
+    ghost invariant = { λ r. Packs r.bytes.now (unpacked r.bytes.now) };
 }
 
 impl<'a> RecordRef<'a> {
@@ -35,10 +39,11 @@ impl<'a> RecordRef<'a> {
         Fields::of(self.bytes)
     }
 
-    /// The bytes that it stands in.
+    /// Its canonical bytes.
     #[inline(always)]
     pub fn bytes(&self) -> &'a [u8]
-        ensures { unpacked result.now ≡ self.now }
+        ensures bytes { result.now ≡ packed self.now }
+        ensures fit { AllByRecursion Fits self.now }
     {
         self.bytes
     }
@@ -57,8 +62,7 @@ pub struct ChangeRef<'a> {
     pub after: RecordRef<'a>,
 }
 
-/// What is left of bytes, for whoever goes over the changes of a table. Contracts see the list of changes that the
-/// bytes say, and any bytes say some.
+/// What is left of changes' bytes, for whoever goes over the changes of a table. Contracts see the list of changes.
 #[derive(Drop)]
 pub struct ChangeRefs<'a> {
     columns: usize,
@@ -68,17 +72,20 @@ pub struct ChangeRefs<'a> {
 impl<'a> Model for ChangeRefs<'a> {
     ghost use Rattle.std.specs.Prelude.{List};
     ghost use Rattle.cs_model.specs.declared.change.Change.{Change};
-    ghost use Rattle.cs_model.specs.PackedChanges.{unpacked_changes};
+    ghost use Rattle.cs_model.specs.PackedChanges.{unpacked_changes, PacksAll};
 
     ghost Value = { List Change };
 
     ghost view = { λ c. unpacked_changes c.columns c.rest.now };
+
+    ghost invariant = { λ c. PacksAll c.columns c.rest.now (unpacked_changes c.columns c.rest.now) };
 }
 
 impl<'a> ChangeRefs<'a> {
     /// The changes from the first byte on, of a table with so many columns.
     #[inline(always)]
     pub fn of(columns: usize, bytes: &'a [u8]) -> ChangeRefs<'a>
+        requires { PacksAll columns bytes.now (unpacked_changes columns bytes.now) }
         ensures { result ≡ unpacked_changes columns bytes.now }
     {
         ChangeRefs {
@@ -122,6 +129,7 @@ fn behind(columns: usize, bytes: &[u8]) -> &[u8]
 
 // a record of so many fields, and the bytes behind it
 fn record_of(columns: usize, bytes: &[u8]) -> (RecordRef, &[u8])
+    requires { Begins columns bytes.now }
     ensures record { result.0 ≡ (some_in columns bytes.now).0 }
     ensures rest { result.1.now ≡ (some_in columns bytes.now).1 }
 {
@@ -150,6 +158,7 @@ fn op_of(byte: u8) -> Op
 
 // the change with this operation whose records stand in bytes, and the bytes behind it
 fn records_of(columns: usize, op: Op, indirect: bool, bytes: &[u8]) -> (ChangeRef, &[u8])
+    requires { BeginsChange columns op bytes.now }
     ensures change { change_seen result.0 ≡ (records_by columns op indirect bytes.now).0 }
     ensures rest { result.1.now ≡ (records_by columns op indirect bytes.now).1 }
 {
@@ -181,7 +190,9 @@ fn records_of(columns: usize, op: Op, indirect: bool, bytes: &[u8]) -> (ChangeRe
 
 // the first of the changes that bytes say, and the bytes behind it
 fn first_of(columns: usize, bytes: &[u8]) -> Option<(ChangeRef, &[u8])>
-    ensures { MatchOption result (unpacked_changes columns bytes.now ≡ []) (λ x. unpacked_changes columns bytes.now ≡ change_seen x.0 ∷ unpacked_changes columns x.1.now) }
+    requires { PacksAll columns bytes.now (unpacked_changes columns bytes.now) }
+    ensures rest { IfSome result (λ x. PacksAll columns x.1.now (unpacked_changes columns x.1.now)) }
+    ensures first { MatchOption result (unpacked_changes columns bytes.now ≡ []) (λ x. unpacked_changes columns bytes.now ≡ change_seen x.0 ∷ unpacked_changes columns x.1.now) }
 {
     let Some((&op, behind)) = bytes.split_first() else {
         return None;

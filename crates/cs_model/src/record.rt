@@ -48,12 +48,9 @@ impl Record {
     pub fn copy_of(alloc: Global, from: &RecordRef) -> Result<Record, AllocError>
         ensures { IfOk result (λ copy. copy ≡ from.now) }
     {
-        // a record's own bytes are as many as its copy's
-        let mut copy = Record::with_capacity(alloc, from.bytes().len())?;
-        for field in from.fields() {
-            copy.push(field)?;
-        }
-        Ok(copy)
+        Ok(Record {
+            bytes: Vec::from_slice(alloc, from.bytes())?,
+        })
     }
 
     /// No fields, and room for so many bytes.

@@ -1,6 +1,9 @@
 use Rattle.std.proofs.Common.{[], refl}
-use Rattle.cs_model.proofs.PackedLaws.{unpacked_none}
+use Rattle.cs_model.proofs.PackedLaws.{empty}
 use Rattle.cs_model.proofs.change_ref.no_record.Goals as goal
 
+pub invariant_of-result : goal.invariant_of-result
+invariant_of-result c = (empty [] refl).1
+
 pub returns : goal.returns
-returns c = unpacked_none [] refl
+returns c = (empty [] refl).0

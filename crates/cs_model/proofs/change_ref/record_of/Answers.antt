@@ -1,4 +1,5 @@
 use Rattle.std.proofs.Common.{length, ◌-◌, ap, refl, arith}
+use Rattle.cs_model.proofs.PackedChangeLaws.{own_packs}
 use Rattle.cs_model.proofs.CutLaws.{own_front, some_no_longer}
 use Rattle.cs_model.proofs.change_ref.record_of.Goals as goal
 
@@ -7,3 +8,6 @@ overflow_sub-bytes c = omega (arith, ap length c.behind-rest.ensures, some_no_lo
 
 pub returns-clause-record : goal.returns-clause-record
 returns-clause-record c = own_front c.args.columns c.args.bytes.now c.behind-rest.result.now c.split_at.result.0.now (length c.args.bytes.now - length c.behind-rest.result.now) c.behind-rest.ensures refl c.split_at.ensures.front
+
+pub invariant_of-result : goal.invariant_of-result
+invariant_of-result c = own_packs c.args.columns c.args.bytes.now c.behind-rest.result.now c.split_at.result.0.now (length c.args.bytes.now - length c.behind-rest.result.now) c.requires c.behind-rest.ensures refl c.split_at.ensures.front
