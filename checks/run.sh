@@ -106,8 +106,16 @@ end 'a folder as standard input'
 timeout 60 "$program" script <examples/first.script >/dev/full 2>"$err"
 status=$?
 need_status 1
-need_line err 'rb_run: write fault: ?*'
+need_line err 'rb_run: write fault: No space left*'
 end 'a full disk'
+
+# the answer to a last line without its end is written last of all
+printf publisher >"$work/unended"
+timeout 60 "$program" script <"$work/unended" >/dev/full 2>"$err"
+status=$?
+need_status 1
+need_line err 'rb_run: write fault: No space left*'
+end 'a full disk for the last line alone'
 
 timeout 60 "$program" --help >/dev/full 2>"$err"
 status=$?

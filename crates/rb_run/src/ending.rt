@@ -1,7 +1,7 @@
 //! How the program ends.
 
 ghost use Rattle.std.specs.Prelude.{◌≡◌};
-ghost use Rattle.rb_run.specs.Endings.{status_of};
+ghost use Rattle.rb_run.specs.Endings.{ending_of, status_of};
 
 use crate::fault::ScriptFault;
 
@@ -17,6 +17,16 @@ pub enum Ending {
 }
 
 impl Ending {
+    /// How it ends behind a script that ended so.
+    pub fn of(script: Result<(), ScriptFault>) -> Ending
+        ensures { result ≡ ending_of script }
+    {
+        match script {
+            Ok(()) => Ending::Done,
+            Err(fault) => Ending::Stopped(fault),
+        }
+    }
+
     /// The status: 0, 1 or 2.
     pub fn status(&self) -> u8
         ensures { result ≡ status_of self.now }

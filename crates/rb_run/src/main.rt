@@ -84,10 +84,7 @@ fn scripted(rt: &HostRuntime, alloc: Global) -> Ending {
     let Ok(mut writer) = BufWriter::with_capacity(alloc, 65_536, rt.stdout()) else {
         return Ending::Stopped(ScriptFault::Memory);
     };
-    match run_script(alloc, &mut reader, &mut writer, Config::standard()) {
-        Ok(()) => Ending::Done,
-        Err(fault) => Ending::Stopped(fault),
-    }
+    Ending::of(run_script(alloc, &mut reader, &mut writer, Config::standard()))
 }
 
 #[cfg(test)]

@@ -9,6 +9,7 @@ use std::test::Fail;
 mod changes;
 mod cuts;
 mod faults;
+mod large;
 mod lines;
 mod program;
 mod recorded;

@@ -100,5 +100,10 @@ fn swept_when_more_than_half_are_empty(rt: HostRuntime) -> Result<(), Fail> {
     let left = rows(alloc, 17, 32)?;
     applies(&rt, alloc, &mut tables, &one, Ok(&left))?;
     assert_eq!(rt; tables.places(), 15);
+    // and counted anew behind a sweep
+    let next = [Delete(17, b'x', b'z')];
+    let left = rows(alloc, 18, 32)?;
+    applies(&rt, alloc, &mut tables, &next, Ok(&left))?;
+    assert_eq!(rt; tables.places(), 15);
     Ok(())
 }

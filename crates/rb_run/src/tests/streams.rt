@@ -136,6 +136,52 @@ impl Write for Telling<'_> {
     }
 }
 
+// A writer whose writes fail, or whose flushes do behind so many.
+#[derive(Drop)]
+struct Broken {
+    writes: bool,
+    flushes: usize,
+}
+
+impl Write for Broken {
+    fn write(&mut self, buf: &[u8]) -> io::Result<usize> {
+        if self.writes {
+            return Err(io::Error::from(ErrorKind::TimedOut));
+        }
+        Ok(buf.len())
+    }
+
+    fn flush(&mut self) -> io::Result<()> {
+        if self.flushes == 0 {
+            return Err(io::Error::from(ErrorKind::TimedOut));
+        }
+        self.flushes -= 1;
+        Ok(())
+    }
+}
+
+// A reader without an end, of a line with an answer and many without, whose first piece is shorter than the others.
+#[derive(Drop)]
+struct Turning {
+    begun: bool,
+}
+
+impl Read for Turning {
+    fn read(&mut self, buf: &mut [u8]) -> io::Result<usize> {
+        for byte in buf.iter_mut() {
+            *byte = b'\n';
+        }
+        for (byte, letter) in buf.iter_mut().zip(b"turn") {
+            *byte = *letter;
+        }
+        if self.begun {
+            return Ok(buf.len());
+        }
+        self.begun = true;
+        Ok(buf.len().min(100))
+    }
+}
+
 // The run stopped with this text. Where memory ran out before, for the run or for the list that takes its answers, that is
 // handed up.
 fn stopped(
@@ -220,5 +266,33 @@ fn lines_are_answered_before_the_next_read(rt: HostRuntime) -> Result<(), Fail> 
     let mut reader: &[u8] = last[0];
     run_script(alloc, &mut reader, &mut writer, Config::standard())?;
     assert_eq!(rt; rest.get(), 1);
+    Ok(())
+}
+
+#[test]
+fn write_faults_carry_their_reason(rt: HostRuntime) -> Result<(), Fail> {
+    let alloc = rt.alloc();
+    // no write, no flush before the first read, and none behind the last answer
+    for (writes, flushes) in [(true, 9), (false, 0), (false, 2)] {
+        let mut script: &[u8] = b"turn";
+        let mut writer = Broken { writes, flushes };
+        let run = run_script(alloc, &mut script, &mut writer, Config::standard());
+        stopped(&rt, alloc, run, "write fault: timed out")?;
+    }
+    Ok(())
+}
+
+#[test]
+fn answers_are_handed_on_behind_a_fault(rt: HostRuntime) -> Result<(), Fail> {
+    let alloc = rt.alloc();
+    let answered = Cell::new(0);
+    let mut writer = Telling {
+        lines: 0,
+        answered: &answered,
+    };
+    let mut reader = Turning { begun: false };
+    let run = run_script(alloc, &mut reader, &mut writer, Config::standard());
+    stopped(&rt, alloc, run, "script too long: more than 16777216 bytes")?;
+    assert_eq!(rt; answered.get(), 257);
     Ok(())
 }
