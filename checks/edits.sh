@@ -1,5 +1,5 @@
 #!/bin/sh
-# Tries the edits that the gate leaves out, those in crates/NAME/must-fail/on-demand: the prover must refuse each. It works on
+# Tries the edits that the gate leaves out, those in crates/NAME/on-demand: the prover must refuse each. It works on
 # a clone of the last commit, and costs a check of the crate for each edit, 20 to 80 seconds of processor time.
 #   sh checks/edits.sh NAME..        needs the prover's command `rt`
 cd "$(dirname "$0")/.." || exit 2
@@ -8,6 +8,6 @@ trap 'rm -rf "$work"' EXIT
 git clone -q . "$work/clone" && cd "$work/clone" || exit 2
 for name in "$@"; do
     rm -f "crates/$name/must-fail/"*.edit
-    mv "crates/$name/must-fail/on-demand/"*.edit "crates/$name/must-fail/" || exit 2
+    mv "crates/$name/on-demand/"*.edit "crates/$name/must-fail/" || exit 2
 done
 rt must-fail "$@"

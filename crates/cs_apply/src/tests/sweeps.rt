@@ -81,8 +81,29 @@ fn halves(
     Ok(())
 }
 
-// Empty places are counted: those that are filled again don't count, nor those of a changeset that was taken back; and
-// they are swept as soon as they are more than half.
+// Deletes one row more, behind which these are left, in so many places.
+fn deletes(
+    rt: &impl Abort,
+    alloc: Global,
+    tables: &mut Tables,
+    number: i64,
+    places: usize,
+) -> Result<(), Fail> {
+    let left = rows(alloc, number.saturating_add(1), 32)?;
+    let one = [Delete(number, b'x', b'z')];
+    applies(rt, alloc, tables, &one, Ok(&left))?;
+    assert_eq!(rt; tables.places(), places);
+    Ok(())
+}
+
+// Deletes a row twice, which is taken back.
+fn deletes_twice(rt: &impl Abort, alloc: Global, tables: &mut Tables) -> Result<(), Fail> {
+    let twice = [Delete(0, b'x', b'z'), Delete(0, b'x', b'z')];
+    applies(rt, alloc, tables, &twice, Err(conflict(1, NotFound)))
+}
+
+// Empty places are counted: those that are filled again don't count, nor those of a changeset that was taken back; they
+// are swept as soon as they are more than half, and counted anew behind a sweep.
 #[test]
 fn swept_when_more_than_half_are_empty(rt: HostRuntime) -> Result<(), Fail> {
     let alloc = rt.alloc();
@@ -93,17 +114,8 @@ fn swept_when_more_than_half_are_empty(rt: HostRuntime) -> Result<(), Fail> {
         halves(&rt, alloc, &mut tables, true, &half)?;
         halves(&rt, alloc, &mut tables, false, &all)?;
     }
-    let twice = [Delete(0, b'x', b'z'), Delete(0, b'x', b'z')];
-    applies(&rt, alloc, &mut tables, &twice, Err(conflict(1, NotFound)))?;
+    deletes_twice(&rt, alloc, &mut tables)?;
     halves(&rt, alloc, &mut tables, true, &half)?;
-    let one = [Delete(16, b'x', b'z')];
-    let left = rows(alloc, 17, 32)?;
-    applies(&rt, alloc, &mut tables, &one, Ok(&left))?;
-    assert_eq!(rt; tables.places(), 15);
-    // and counted anew behind a sweep
-    let next = [Delete(17, b'x', b'z')];
-    let left = rows(alloc, 18, 32)?;
-    applies(&rt, alloc, &mut tables, &next, Ok(&left))?;
-    assert_eq!(rt; tables.places(), 15);
-    Ok(())
+    deletes(&rt, alloc, &mut tables, 16, 15)?;
+    deletes(&rt, alloc, &mut tables, 17, 15)
 }
