@@ -1,6 +1,6 @@
 -- What the numbers that the exports answer say of a text: 0 or more, -1 (`negsuc 0`) or -2 (`negsuc 1`).
 use Rattle.std.specs.Prelude.{◌≡◌, ℕ, suc, zero, ℤ, pos, negsuc, List, length}
-use Rattle.cs_model.specs.declared.change.Section.{Section}
+use Rattle.cs_model.specs.Section.{Section}
 use Rattle.cs_model.specs.Text.{Spells}
 use Rattle.cs_parse.specs.declared.fault.ParseFault.{ParseFault}
 use Rattle.cs_parse.specs.Fault.{IsFault}

@@ -2,7 +2,7 @@
 //! allocator takes no place among the arguments.
 
 ghost use Rattle.std.specs.Prelude.{◌≡◌, List, pos, negsuc, length};
-ghost use Rattle.cs_model.specs.declared.change.Section.{Section};
+ghost use Rattle.cs_model.specs.Section.{Section};
 ghost use Rattle.cs_model.specs.Text.{Spells};
 ghost use Rattle.cs_parse.specs.declared.fault.ParseFault.{ParseFault};
 ghost use Rattle.cs_parse.specs.Count.{changes_in};

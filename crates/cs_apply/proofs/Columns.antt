@@ -1,80 +1,197 @@
--- Rows and records, one column more at a time.
-use Rattle.std.proofs.Common.{◌≡◌, ℕ, zero, suc, ◌<◌, ◌≤◌, true, false, List, [], ◌∷◌, length, take, drop, get_or, set, min, refl, sym, ap, ◌∙◌, arith}
-use Rattle.std.proofs.Math.ListN.{drop_of_length-le}
-use Rattle.std.proofs.lemmas.List.{drop_more}
+-- Rows and records, column by column and as bytes.
+use Rattle.std.proofs.Common.{◌≡◌, ◌<◌, ℕ, ℤ, Bool, true, false, cond, eqb, inl, inr, List, [], ◌∷◌, ◌++◌, length, map, drop, take, Option, Some, None, refl, sym, ap, ◌∙◌, append_assoc}
+use Rattle.std.specs.Prelude.{◌&&◌, MatchOption}
+use Rattle.std.specs.Option.{option_map}
+use Rattle.std.specs.Ordering.{int_eq}
+use Rattle.std.specs.List.{list_all, AllByRecursion}
+use Rattle.std.specs.Cmp.Lexicographic.{pointwise, same_text, nat_list_eq_equiv}
+use Rattle.std.proofs.lemmas.Bool.{cases_Bool, and_parts, and_from, false≢true}
+use Rattle.std.proofs.lemmas.Bool.Decides.{Decides-int_eq, Decides-eqb}
+use Rattle.std.proofs.lemmas.Slice.Eq.{starts_is}
 use Rattle.cs_model.specs.declared.value.Value.{Value}
+use Rattle.cs_model.specs.declared.value.Value.TheVariants.{Integer, Text, Blob, Null}
 use Rattle.cs_model.specs.declared.value.Field.{Field}
 use Rattle.cs_model.specs.declared.value.Field.TheVariants.{Undefined, Is}
-use Rattle.cs_apply.specs.Effect.{rest_agrees, updated_field, updated}
-use Rattle.cs_apply.specs.Steps.{replaced_field, replaced}
+use Rattle.cs_model.specs.FieldBytes.{field_bytes}
+use Rattle.std.proofs.lemmas.List.{append-nil, drop_more}
+use Rattle.cs_model.specs.Packed.{packed, fields_in, unpacked, Fits}
+use Rattle.cs_model.specs.Row.{row_fields, values_of}
+use Rattle.cs_model.specs.Rule.{Given, Key, is_defined, is_key_value, row_rule, meets}
+use Rattle.cs_model.specs.Changeset.{Obeys}
+use Rattle.cs_apply.specs.Effect.{same_value, agrees, all_agree, rest_agrees, updated_field, updated}
+use Rattle.cs_apply.specs.Steps.{chosen, merged, field_agrees, fields_agree}
 
-none_disagrees : (flags : List ℕ) (row : List Value) → rest_agrees flags [] row ≡ true
-none_disagrees [] row = refl
-none_disagrees (flag ∷ flags) row = refl
+-- ---- a row's record in the place of the row
 
--- no field more
-pub fields_end : (flags : List ℕ) (fields : List Field) (row : List Value) (i : ℕ) → length fields ≤ i
-    → rest_agrees (drop i flags) (drop i fields) (drop i row) ≡ true
-fields_end flags fields row i le =
-    ap (λ (fs : List Field). rest_agrees (drop i flags) fs (drop i row)) (drop_of_length-le fields le) ∙ none_disagrees (drop i flags) (drop i row)
+field_agrees_is : (field : Field) (value : Value) → field_agrees field (Is value) ≡ agrees field value
+field_agrees_is Undefined value = refl
+field_agrees_is (Is old) value = refl
 
--- no value more
-pub row_ends : (flags : List ℕ) (fields : List Field) (row : List Value) (i : ℕ) → i < length flags → i < length fields → length row ≤ i
-    → rest_agrees (drop i flags) (drop i fields) (drop i row) ≡ false
-row_ends flags fields row i a b le = rw (drop_more flags i 0 a, drop_more fields i Undefined b, drop_of_length-le row le) refl
+all_past : (flags : List ℕ) (values : List Field) → fields_agree flags [] values ≡ true
+all_past [] values = refl
+all_past (flag ∷ flags) values = refl
 
--- no column has changed places
-pub replaced_none : (fields : List Field) → replaced fields [] ≡ fields
-replaced_none [] = refl
-replaced_none (field ∷ fields) = refl
+pub rest_agrees_is : (flags : List ℕ) (fields : List Field) (row : List Value) → fields_agree flags fields (row_fields row) ≡ rest_agrees flags fields row
+rest_agrees_is [] fields row = refl
+rest_agrees_is (flag ∷ flags) [] row = refl
+rest_agrees_is (flag ∷ flags) (field ∷ fields) [] = refl
+rest_agrees_is (flag ∷ flags) (field ∷ fields) (value ∷ row) =
+    let rest = rest_agrees_is flags fields row in
+    λ i. cond (eqb flag 0) (field_agrees_is field value i && rest i) (rest i)
 
--- a column that is to be exchanged next is as it was
-pub value_kept : (fields : List Field) (row : List Value) (i : ℕ) (value : Value) → i < length fields → get_or (updated (take i fields) row) i value ≡ get_or row i value
-value_kept fields row zero value lt = refl
-value_kept [] row (suc i) value lt = absurd (omega arith)
-value_kept (field ∷ fields) [] (suc i) value lt = refl
-value_kept (field ∷ fields) (x ∷ row) (suc i) value lt = value_kept fields row i value (omega arith)
+-- the columns end
+pub no_field : (flags : List ℕ) (i : ℕ) (fields values : List Field) (total : Bool) → fields ≡ [] → fields_agree (drop i flags) fields values ≡ total → true ≡ total
+no_field flags i fields values total none so_far = sym (all_past (drop i flags) values) ∙ (ap (λ (fs : List Field). fields_agree (drop i flags) fs values) (sym none) ∙ so_far)
 
-pub field_kept : (fields : List Field) (row : List Value) (i : ℕ) (field : Field) → i < length row → get_or (replaced fields (take i row)) i field ≡ get_or fields i field
-field_kept [] row i field lt = refl
-field_kept (f ∷ fields) row zero field lt = refl
-field_kept (f ∷ fields) [] (suc i) field lt = absurd (omega arith)
-field_kept (f ∷ fields) (x ∷ row) (suc i) field lt = field_kept fields row i field (omega arith)
+pub no_value : (flags : List ℕ) (i : ℕ) (field : Field) (rest fields values : List Field) (total : Bool) → i < length flags → fields ≡ field ∷ rest → values ≡ [] → fields_agree (drop i flags) fields values ≡ total → false ≡ total
+no_value flags i field rest fields values total lt some none so_far = sym (λ k. fields_agree (drop_more flags i 0 lt k) (some k) (none k)) ∙ so_far
 
--- one column more changes places
-pub updated_more : (fields : List Field) (row : List Value) (i : ℕ) (field : Field) (value : Value) → i < length fields → i < length row
-    → set (updated (take i fields) row) i (updated_field (get_or fields i field) (get_or row i value)) ≡ updated (take (suc i) fields) row
-updated_more [] row i field value lt lt2 = absurd (omega arith)
-updated_more (f ∷ fields) [] i field value lt lt2 = absurd (omega arith)
-updated_more (f ∷ fields) (x ∷ row) zero field value lt lt2 = refl
-updated_more (f ∷ fields) (x ∷ row) (suc i) field value lt lt2 = ap (λ (r : List Value). updated_field f x ∷ r) (updated_more fields row i field value (omega arith) (omega arith))
+chosen_is : (field : Field) (value : Value) → chosen (Some field) (Is value) ≡ Is (updated_field field value)
+chosen_is Undefined value = refl
+chosen_is (Is new) value = refl
 
-pub replaced_more : (fields : List Field) (row : List Value) (i : ℕ) (field : Field) (value : Value) → i < length fields → i < length row
-    → set (replaced fields (take i row)) i (replaced_field (get_or fields i field) (get_or row i value)) ≡ replaced fields (take (suc i) row)
-replaced_more [] row i field value lt lt2 = absurd (omega arith)
-replaced_more (f ∷ fields) [] i field value lt lt2 = absurd (omega arith)
-replaced_more (f ∷ fields) (x ∷ row) zero field value lt lt2 = ap (λ (r : List Field). replaced_field f x ∷ r) (sym (replaced_none fields))
-replaced_more (f ∷ fields) (x ∷ row) (suc i) field value lt lt2 = ap (λ (r : List Field). replaced_field f x ∷ r) (replaced_more fields row i field value (omega arith) (omega arith))
+merged_none : (row : List Value) → values_of (merged [] (row_fields row)) ≡ row
+merged_none [] = refl
+merged_none (value ∷ row) = ap (λ (r : List Value). value ∷ r) (merged_none row)
 
--- no column more
-pub updated_all : (fields : List Field) (row : List Value) (i : ℕ) → min (length fields) (length row) ≤ i → updated (take i fields) row ≡ updated fields row
-updated_all [] row zero le = refl
-updated_all [] row (suc i) le = refl
-updated_all (f ∷ fields) [] zero le = refl
-updated_all (f ∷ fields) [] (suc i) le = refl
-updated_all (f ∷ fields) (x ∷ row) zero le = absurd (omega arith)
-updated_all (f ∷ fields) (x ∷ row) (suc i) le = ap (λ (r : List Value). updated_field f x ∷ r) (updated_all fields row i (omega arith))
+pub updated_is : (fields : List Field) (row : List Value) → values_of (merged fields (row_fields row)) ≡ updated fields row
+updated_is [] row = merged_none row
+updated_is (field ∷ fields) [] = refl
+updated_is (field ∷ fields) (value ∷ row) =
+    ap (λ (f : Field). values_of (f ∷ merged fields (row_fields row))) (chosen_is field value) ∙ ap (λ (r : List Value). updated_field field value ∷ r) (updated_is fields row)
 
-pub replaced_all : (fields : List Field) (row : List Value) (i : ℕ) → min (length fields) (length row) ≤ i → replaced fields (take i row) ≡ replaced fields row
-replaced_all [] row i le = refl
-replaced_all (f ∷ fields) [] zero le = refl
-replaced_all (f ∷ fields) [] (suc i) le = refl
-replaced_all (f ∷ fields) (x ∷ row) zero le = absurd (omega arith)
-replaced_all (f ∷ fields) (x ∷ row) (suc i) le = ap (λ (r : List Field). replaced_field f x ∷ r) (replaced_all fields row i (omega arith))
+-- ---- one column more
 
--- what was exchanged is exchanged back
-pub exchanged_back : (fields : List Field) (row : List Value) → updated (replaced fields row) (updated fields row) ≡ row
-exchanged_back [] row = refl
-exchanged_back (field ∷ fields) [] = refl
-exchanged_back (Undefined ∷ fields) (value ∷ row) = ap (λ (r : List Value). value ∷ r) (exchanged_back fields row)
-exchanged_back (Is new ∷ fields) (value ∷ row) = ap (λ (r : List Value). value ∷ r) (exchanged_back fields row)
+first_value : (field : Field) (fields : List Field) → values_of (field ∷ fields) ≡ values_of (field ∷ []) ++ values_of fields
+first_value Undefined fields = refl
+first_value (Is value) fields = refl
+
+pub merged_more : (made : List Value) (field : Field) (fields : List Field) (value : Field) (values : List Field) (total : List Value)
+    → made ++ values_of (merged (field ∷ fields) (value ∷ values)) ≡ total → (made ++ values_of (chosen (Some field) value ∷ [])) ++ values_of (merged fields values) ≡ total
+merged_more made field fields value values total so_far =
+    append_assoc made _ _ ∙ (ap (λ (r : List Value). made ++ r) (sym (first_value (chosen (Some field) value) (merged fields values))) ∙ so_far)
+
+pub merged_past : (made : List Value) (value : Field) (values : List Field) (total : List Value)
+    → made ++ values_of (merged [] (value ∷ values)) ≡ total → (made ++ values_of (chosen None value ∷ [])) ++ values_of (merged [] values) ≡ total
+merged_past made value values total so_far =
+    append_assoc made _ _ ∙ (ap (λ (r : List Value). made ++ r) (sym (first_value (chosen None value) (merged [] values))) ∙ so_far)
+
+-- what a cursor over the record gives, and the one behind it
+pub merged_next : (given : Option Field) (made new : List Value) (field value : Field) (old fields all values : List Field) (total : List Value) → MatchOption given ((old ≡ []) × (fields ≡ [])) (λ first. old ≡ first ∷ fields)
+    → all ≡ value ∷ values → field ≡ chosen given value → new ≡ made ++ values_of (field ∷ [])
+    → made ++ values_of (merged old all) ≡ total → new ++ values_of (merged fields values) ≡ total
+merged_next None made new field value old fields all values total next is one added so_far =
+    let before : made ++ values_of (merged [] (value ∷ values)) ≡ total = (λ i. made ++ values_of (merged (sym next.0 i) (sym is i))) ∙ so_far in
+    (λ i. (added ∙ ap (λ (f : Field). made ++ values_of (f ∷ [])) one) i ++ values_of (merged (next.1 i) values)) ∙ merged_past made value values total before
+merged_next (Some first) made new field value old fields all values total next is one added so_far =
+    let before : made ++ values_of (merged (first ∷ fields) (value ∷ values)) ≡ total = (λ i. made ++ values_of (merged (sym next i) (sym is i))) ∙ so_far in
+    (λ i. (added ∙ ap (λ (f : Field). made ++ values_of (f ∷ [])) one) i ++ values_of (merged fields values)) ∙ merged_more made first fields value values total before
+
+-- an option that is seen otherwise
+pub seen_next : {A : Type 0} (see : A → Field) (given : Option A) (old fields : List Field) → MatchOption given ((old ≡ []) × (fields ≡ [])) (λ x. old ≡ see x ∷ fields)
+    → MatchOption (option_map see given) ((old ≡ []) × (fields ≡ [])) (λ first. old ≡ first ∷ fields)
+seen_next see None old fields h = h
+seen_next see (Some x) old fields h = h
+
+-- ---- the same bytes
+
+int_is : (a b : ℤ) → int_eq a b ≡ true → a ≡ b
+int_is a b h = (Decides-int_eq a b).0 h
+
+int_itself : (a : ℤ) → int_eq a a ≡ true
+int_itself a = (Decides-int_eq a a).1 refl
+
+value_is : (a b : Value) → same_value a b ≡ true → a ≡ b
+value_is (Integer a) (Integer b) h = ap (λ (n : ℤ). Integer n) (int_is a b h)
+value_is (Integer a) (Text b) h = absurd (false≢true h)
+value_is (Integer a) (Blob b) h = absurd (false≢true h)
+value_is (Integer a) Null h = absurd (false≢true h)
+value_is (Text a) (Integer b) h = absurd (false≢true h)
+value_is (Text a) (Text b) h = ap (λ (w : List ℕ). Text w) (same_text a b (sym h))
+value_is (Text a) (Blob b) h = absurd (false≢true h)
+value_is (Text a) Null h = absurd (false≢true h)
+value_is (Blob a) (Integer b) h = absurd (false≢true h)
+value_is (Blob a) (Text b) h = absurd (false≢true h)
+value_is (Blob a) (Blob b) h = ap (λ (w : List ℕ). Blob w) (same_text a b (sym h))
+value_is (Blob a) Null h = absurd (false≢true h)
+value_is Null (Integer b) h = absurd (false≢true h)
+value_is Null (Text b) h = absurd (false≢true h)
+value_is Null (Blob b) h = absurd (false≢true h)
+value_is Null Null h = refl
+
+itself : (a : Value) → same_value a a ≡ true
+itself (Integer n) = int_itself n
+itself (Text bytes) = nat_list_eq_equiv.refl bytes
+itself (Blob bytes) = nat_list_eq_equiv.refl bytes
+itself Null = refl
+
+-- a row that begins with a record's fields agrees with it
+front_agrees : (fields : List Field) (row : List Value) (more : List Field) → row_fields row ≡ fields ++ more → all_agree fields row ≡ true
+front_agrees [] row more h = refl
+front_agrees (field ∷ fields) [] more h = absurd cc
+front_agrees (field ∷ fields) (value ∷ row) more h =
+    let first : field ≡ Is value = cc in
+    let others : row_fields row ≡ fields ++ more = cc in
+    and_from (agrees field value) (all_agree fields row) (ap (λ (f : Field). agrees f value) first ∙ itself value) (front_agrees fields row more others)
+
+-- and the other way round, where each field says something
+record FrontOf (fields : List Field) (row : List Value) : Type 0 where
+  pub more : List Value
+  pub parts : row_fields row ≡ fields ++ row_fields more
+
+agrees_front : (fields : List Field) (row : List Value) → list_all is_defined fields ≡ true → all_agree fields row ≡ true → FrontOf fields row
+agrees_front [] row given h = record { more = row; parts = refl }
+agrees_front (field ∷ fields) [] given h = absurd (false≢true h)
+agrees_front (Undefined ∷ fields) (value ∷ row) given h = absurd (false≢true given)
+agrees_front (Is old ∷ fields) (value ∷ row) given h =
+    let parts = and_parts (same_value old value) (all_agree fields row) h in
+    let rest = agrees_front fields row given parts.1 in
+    record { more = rest.more; parts = λ i. Is (sym (value_is old value parts.0) i) ∷ rest.parts i }
+
+packed_more : (fields more : List Field) → packed (fields ++ more) ≡ packed fields ++ packed more
+packed_more [] more = refl
+packed_more (field ∷ fields) more = ap (λ (w : List ℕ). field_bytes field ++ w) (packed_more fields more) ∙ sym (append_assoc (field_bytes field) (packed fields) (packed more))
+
+abbrev pub FieldsFirst : Type 0
+FieldsFirst = (fields : List Field) (rest : List ℕ) → AllByRecursion Fits fields → unpacked (packed fields ++ rest) ≡ fields ++ unpacked rest
+
+row_again : FieldsFirst → (row : List Value) → AllByRecursion Fits (row_fields row) → unpacked (packed (row_fields row)) ≡ row_fields row ++ unpacked []
+row_again first row fit = ap unpacked (sym (append-nil (packed (row_fields row)))) ∙ first (row_fields row) [] fit
+
+unpacked_nothing : unpacked [] ≡ []
+unfolding unpacked fields_in
+unpacked_nothing = refl
+
+pub starts_agree : FieldsFirst → (fields : List Field) (row : List Value) (r : Bool) → list_all is_defined fields ≡ true → AllByRecursion Fits fields → AllByRecursion Fits (row_fields row)
+    → r ≡ pointwise eqb (packed fields) (take (length (packed fields)) (packed (row_fields row))) → r ≡ all_agree fields row
+starts_agree first fields row r given fit row_fit e =
+    let told = starts_is Decides-eqb (packed (row_fields row)) (packed fields) r e in
+    elim (cases_Bool r) [
+      | inl hit ↦
+          let rest = drop (length (packed fields)) (packed (row_fields row)) in
+          let said : row_fields row ≡ fields ++ unpacked rest =
+          sym (row_again first row row_fit ∙ (ap (λ (w : List Field). row_fields row ++ w) unpacked_nothing ∙ append-nil (row_fields row))) ∙ (ap unpacked (told.0 hit) ∙ first fields rest fit) in
+          hit ∙ sym (front_agrees fields row (unpacked rest) said)
+      | inr missed ↦ elim (cases_Bool (all_agree fields row)) [
+        | inl agree ↦
+            let front = agrees_front fields row given agree in
+            absurd (false≢true (sym missed ∙ told.1 (packed (row_fields front.more)) (ap packed front.parts ∙ packed_more fields (row_fields front.more))))
+        | inr other ↦ missed ∙ sym other
+      ]
+    ]
+
+-- ---- the record of a whole row has a value in each column
+
+key_defined : (field : Field) → is_key_value field ≡ true → is_defined field ≡ true
+key_defined Undefined h = absurd (false≢true h)
+key_defined (Is value) h = refl
+
+rule_defined : (b : Bool) (field : Field) → meets (cond b Given Key) field ≡ true → is_defined field ≡ true
+rule_defined true field h = h
+rule_defined false field h = key_defined field h
+
+pub all_defined : (flags : List ℕ) (fields : List Field) → Obeys (map row_rule flags) fields → list_all is_defined fields ≡ true
+all_defined [] [] h = refl
+all_defined [] (field ∷ fields) h = absurd h
+all_defined (flag ∷ flags) [] h = absurd h
+all_defined (flag ∷ flags) (field ∷ fields) h = and_from (is_defined field) (list_all is_defined fields) (rule_defined (eqb flag 0) field h.1) (all_defined flags fields h.2)

@@ -5,44 +5,43 @@ use Rattle.std.specs.Map.{values_of}
 use Rattle.indexmap.specs.Layout.{set_value_at, length-set_value_at}
 use Rattle.cs_model.specs.declared.row_key.RowKey.{RowKey}
 use Rattle.cs_model.specs.declared.value.Value.{Value}
-use Rattle.cs_apply.specs.declared.edit.Edit.{Edit}
 use Rattle.cs_apply.specs.declared.places.Step.{Step}
 use Rattle.cs_apply.specs.declared.places.Places.{Places}
-use Rattle.cs_apply.specs.Steps.{Entries, edited, edited_at, undone, Back}
+use Rattle.cs_apply.specs.Steps.{Entries, set_at, undone, Back}
 
 -- the step that was logged last is taken back first
-pub undone-push : (log : List Step) (step : Step) (es : Entries) → undone (log ++ step ∷ []) es ≡ undone log (edited_at step.place step.back es)
+pub undone-push : (log : List Step) (step : Step) (es : Entries) → undone (log ++ step ∷ []) es ≡ undone log (set_at step.place step.back es)
 undone-push [] step es = refl
-undone-push (s ∷ log) step es = ap (edited_at s.place s.back) (undone-push log step es)
+undone-push (s ∷ log) step es = ap (set_at s.place s.back) (undone-push log step es)
 
--- an edit that gives a place its row again takes a write back
-pub taken_back : (es : Entries) (place : ℕ) (back : Edit) (row new : Option (List Value)) → slice_get (values_of es) place ≡ Some row → edited back new ≡ row
-    → edited_at place back (set_value_at es place new) ≡ es
-taken_back [] place back row new at is = refl
-taken_back (e ∷ es) zero back row new at is = let old : edited back new ≡ e.1 = cc in ap (λ (r : Option (List Value)). (e.0, r) ∷ es) old
-taken_back (e ∷ es) (suc place) back row new at is = ap (λ (l : Entries). e ∷ l) (taken_back es place back row new at is)
+-- the row that a place had takes a write back
+pub taken_back : (es : Entries) (place : ℕ) (row new : Option (List Value)) → slice_get (values_of es) place ≡ Some row
+    → set_at place row (set_value_at es place new) ≡ es
+taken_back [] place row new at = refl
+taken_back (e ∷ es) zero row new at = let old : row ≡ e.1 = cc in ap (λ (r : Option (List Value)). (e.0, r) ∷ es) old
+taken_back (e ∷ es) (suc place) row new at = ap (λ (l : Entries). e ∷ l) (taken_back es place row new at)
 
 -- to take a step back writes at its place, where there is one
-pub edited_value : (es : Entries) (place : ℕ) (edit : Edit) (row : Option (List Value)) → Some row ≡ slice_get (values_of es) place → edited_at place edit es ≡ set_value_at es place (edited edit row)
-edited_value [] place edit row at = refl
-edited_value (e ∷ es) zero edit row at = let same : e.1 ≡ row = cc in λ i. (e.0, edited edit (same i)) ∷ es
-edited_value (e ∷ es) (suc place) edit row at = ap (λ (l : Entries). e ∷ l) (edited_value es place edit row at)
+pub set_value : (es : Entries) (place : ℕ) (row : Option (List Value)) → set_at place row es ≡ set_value_at es place row
+set_value [] place row = refl
+set_value (e ∷ es) zero row = refl
+set_value (e ∷ es) (suc place) row = ap (λ (l : Entries). e ∷ l) (set_value es place row)
 
-pub edited_nothing : (es : Entries) (place : ℕ) (edit : Edit) → None ≡ slice_get (values_of es) place → edited_at place edit es ≡ es
-edited_nothing [] place edit at = refl
-edited_nothing (e ∷ es) zero edit at = cc
-edited_nothing (e ∷ es) (suc place) edit at = ap (λ (l : Entries). e ∷ l) (edited_nothing es place edit at)
+pub set_nothing : (es : Entries) (place : ℕ) (row : Option (List Value)) → None ≡ slice_get (values_of es) place → set_at place row es ≡ es
+set_nothing [] place row at = refl
+set_nothing (e ∷ es) zero row at = cc
+set_nothing (e ∷ es) (suc place) row at = ap (λ (l : Entries). e ∷ l) (set_nothing es place row at)
 
 -- the places in front don't depend on those behind them
-take-edited_at : (n place : ℕ) (edit : Edit) (es : Entries) → take n (edited_at place edit es) ≡ edited_at place edit (take n es)
-take-edited_at zero place edit es = refl
-take-edited_at (suc n) place edit [] = refl
-take-edited_at (suc n) zero edit (e ∷ es) = refl
-take-edited_at (suc n) (suc place) edit (e ∷ es) = ap (λ (l : Entries). e ∷ l) (take-edited_at n place edit es)
+take-set_at : (n place : ℕ) (row : Option (List Value)) (es : Entries) → take n (set_at place row es) ≡ set_at place row (take n es)
+take-set_at zero place row es = refl
+take-set_at (suc n) place row [] = refl
+take-set_at (suc n) zero row (e ∷ es) = refl
+take-set_at (suc n) (suc place) row (e ∷ es) = ap (λ (l : Entries). e ∷ l) (take-set_at n place row es)
 
 take-undone : (n : ℕ) (log : List Step) (es : Entries) → take n (undone log es) ≡ undone log (take n es)
 take-undone n [] es = refl
-take-undone n (step ∷ log) es = take-edited_at n step.place step.back (undone log es) ∙ ap (edited_at step.place step.back) (take-undone n log es)
+take-undone n (step ∷ log) es = take-set_at n step.place step.back (undone log es) ∙ ap (set_at step.place step.back) (take-undone n log es)
 
 pub Back-refl : (a : Places) → Back a a
 Back-refl a = record { grows = omega arith; back = λ n le. refl }
@@ -51,12 +50,12 @@ pub Back-trans : (a b c : Places) → Back a b → Back b c → Back a c
 Back-trans a b c p q = record { grows = omega arith; back = λ n le. q.back n (omega arith) ∙ p.back n le }
 
 -- a write at a place, and the step that takes it back
-pub Back-write : (old new : Places) (place : ℕ) (back : Edit) (row written : Option (List Value)) → new.rows.entries ≡ set_value_at old.rows.entries place written
-    → new.log.items ≡ old.log.items ++ (record { place = place; back = back }) ∷ [] → slice_get (values_of old.rows.entries) place ≡ Some row → edited back written ≡ row → Back old new
-Back-write old new place back row written rows log at is = record {
+pub Back-write : (old new : Places) (place : ℕ) (row written : Option (List Value)) → new.rows.entries ≡ set_value_at old.rows.entries place written
+    → new.log.items ≡ old.log.items ++ (record { place = place; back = row }) ∷ [] → slice_get (values_of old.rows.entries) place ≡ Some row → Back old new
+Back-write old new place row written rows log at = record {
   grows = omega (arith, ap length rows, length-set_value_at old.rows.entries place written);
-  back = λ n le. (λ i. take n (undone (log i) (rows i))) ∙ ap (take n) (undone-push old.log.items (record { place = place; back = back }) (set_value_at old.rows.entries place written)
-      ∙ ap (undone old.log.items) (taken_back old.rows.entries place back row written at is));
+  back = λ n le. (λ i. take n (undone (log i) (rows i))) ∙ ap (take n) (undone-push old.log.items (record { place = place; back = row }) (set_value_at old.rows.entries place written)
+      ∙ ap (undone old.log.items) (taken_back old.rows.entries place row written at));
 }
 
 -- a new place behind the others

@@ -3,7 +3,7 @@ use Rattle.std.proofs.Common.{◌≡◌, ℕ, suc, ◌+◌, ◌<◌, ◌≤◌, 
 use Rattle.std.proofs.Math.ListN.{drop_of_length-le}
 use Rattle.cs_model.specs.declared.shape.Shape.{Shape}
 use Rattle.cs_model.specs.declared.change.Change.{Change}
-use Rattle.cs_model.specs.declared.change.Section.{Section}
+use Rattle.cs_model.specs.Section.{Section}
 use Rattle.cs_apply.specs.declared.conflict.ConflictKind.{ConflictKind}
 use Rattle.cs_apply.specs.declared.conflict.Conflict.{Conflict as Conflicts}
 use Rattle.cs_apply.specs.declared.conflict.ApplyError.{ApplyError}
@@ -17,33 +17,30 @@ use Rattle.cs_apply.specs.Refusal.{Refuses}
 use Rattle.cs_apply.specs.Steps.{Stops, placed, carry, section_from}
 
 -- one change more of a section
-pub next_change : (table : ℕ) (flags : List ℕ) (changes : List Change) (i : ℕ) (change : Change) (at : ℕ) (rows : Rows) → i < length changes → change ≡ get_or changes i change
-    → section_from table flags (drop i changes) at rows
-    ≡ goes_on (λ next after. section_from table flags (drop (i + 1) changes) next after) at (effect table flags rows change)
+pub next_change : (table : ℕ) (flags : List ℕ) (change : Change) (rest changes : List Change) (at : ℕ) (rows : Rows) → changes ≡ change ∷ rest
+    → section_from table flags changes at rows ≡ goes_on (λ next after. section_from table flags rest next after) at (effect table flags rows change)
 unfolding section_from
-next_change table flags changes i change at rows lt is =
-    let e : drop i changes ≡ change ∷ drop (suc i) changes = drop-cons changes i change lt ∙ ap (λ (x : Change). x ∷ drop (suc i) changes) (sym is) in
-    rw (add-one, e) refl
+next_change table flags change rest changes at rows is = rw is refl
 
 -- a change that has its effect is done with
-pub change_done : (table : ℕ) (flags : List ℕ) (changes : List Change) (i : ℕ) (change : Change) (at next : ℕ) (old new : Rows) (all : Result Rows Conflicts) → i < length changes → change ≡ get_or changes i change
-    → next ≡ suc at → effect table flags old change ≡ Ok new → section_from table flags (drop i changes) at old ≡ all → section_from table flags (drop (i + 1) changes) next new ≡ all
-change_done table flags changes i change at next old new all lt is after ok so_far =
-    ap (λ (n : ℕ). section_from table flags (drop (i + 1) changes) n new) after
-    ∙ sym (next_change table flags changes i change at old lt is ∙ ap (goes_on (λ n rows. section_from table flags (drop (i + 1) changes) n rows) at) ok) ∙ so_far
+pub change_done : (table : ℕ) (flags : List ℕ) (change : Change) (rest changes : List Change) (at next : ℕ) (old new : Rows) (all : Result Rows Conflicts) → changes ≡ change ∷ rest
+    → next ≡ suc at → effect table flags old change ≡ Ok new → section_from table flags changes at old ≡ all → section_from table flags rest next new ≡ all
+change_done table flags change rest changes at next old new all is after ok so_far =
+    ap (λ (n : ℕ). section_from table flags rest n new) after
+    ∙ sym (next_change table flags change rest changes at old is ∙ ap (goes_on (λ n rows. section_from table flags rest n rows) at) ok) ∙ so_far
 
 -- a change that stops stops the section
-pub change_stops : (table : ℕ) (flags : List ℕ) (changes : List Change) (i : ℕ) (change : Change) (at : ℕ) (old : Rows) (all : Result Rows Conflicts) (stop : Stop) → i < length changes → change ≡ get_or changes i change
-    → Stops stop (effect table flags old change) → section_from table flags (drop i changes) at old ≡ all → Refuses (placed at stop) all
-change_stops table flags changes i change at old all Memory lt is stops so_far = tt
-change_stops table flags changes i change at old all (Conflict kind) lt is stops so_far =
-    sym so_far ∙ next_change table flags changes i change at old lt is ∙ ap (goes_on (λ next after. section_from table flags (drop (i + 1) changes) next after) at) stops
+pub change_stops : (table : ℕ) (flags : List ℕ) (change : Change) (rest changes : List Change) (at : ℕ) (old : Rows) (all : Result Rows Conflicts) (stop : Stop) → changes ≡ change ∷ rest
+    → Stops stop (effect table flags old change) → section_from table flags changes at old ≡ all → Refuses (placed at stop) all
+change_stops table flags change rest changes at old all Memory is stops so_far = tt
+change_stops table flags change rest changes at old all (Conflict kind) is stops so_far =
+    sym so_far ∙ next_change table flags change rest changes at old is ∙ ap (goes_on (λ next after. section_from table flags rest next after) at) stops
 
 -- no change more
-pub changes_done : (table : ℕ) (flags : List ℕ) (changes : List Change) (i at : ℕ) (rows : Rows) (all : Result Rows Conflicts) → length changes ≤ i
-    → section_from table flags (drop i changes) at rows ≡ all → all ≡ Ok rows
+pub changes_done : (table : ℕ) (flags : List ℕ) (changes : List Change) (at : ℕ) (rows : Rows) (all : Result Rows Conflicts) → changes ≡ []
+    → section_from table flags changes at rows ≡ all → all ≡ Ok rows
 unfolding section_from
-changes_done table flags changes i at rows all le so_far = sym so_far ∙ ap (λ (cs : List Change). section_from table flags cs at rows) (drop_of_length-le changes le)
+changes_done table flags changes at rows all none so_far = sym so_far ∙ ap (λ (cs : List Change). section_from table flags cs at rows) none
 
 module _ (schema : List Shape) (kept : List Bool) where
   -- an answer, and what comes after it

@@ -12,6 +12,7 @@ use Rattle.cs_model.specs.declared.change.Change.{Change}
 use Rattle.cs_model.specs.declared.row_key.RowKey.{RowKey}
 use Rattle.cs_model.specs.Schema.{same_bytes}
 use Rattle.cs_model.specs.Key.{key_of}
+use Rattle.cs_model.specs.Row.{values_of}
 use Rattle.cs_apply.specs.declared.conflict.ConflictKind.{ConflictKind}
 use Rattle.cs_apply.specs.declared.conflict.ConflictKind.TheVariants.{Data, NotFound, Conflict}
 use Rattle.cs_apply.specs.State.{Rows}
@@ -34,12 +35,6 @@ same_value Null (Integer b) = false
 same_value Null (Text b) = false
 same_value Null (Blob b) = false
 same_value Null Null = true
-
--- the values that a record's fields say, in column order
-abbrev pub values_of : List Field → List Value
-values_of [] = []
-values_of (Undefined ∷ fields) = values_of fields
-values_of (Is value ∷ fields) = value ∷ values_of fields
 
 -- whether a field that says something says what the row has
 abbrev pub agrees : Field → Value → Bool

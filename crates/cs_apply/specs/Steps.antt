@@ -1,5 +1,5 @@
 -- What the steps of `apply` give: one edit of a place, one change, and the changes of one section.
-use Rattle.std.specs.Prelude.{◌≡◌, ℕ, zero, suc, ◌≤◌, Bool, true, ◌==◌, if◌then◌else◌, List, [], ◌∷◌, length, take, Option, None, Some, Result, Ok, Err}
+use Rattle.std.specs.Prelude.{◌≡◌, ℕ, zero, suc, ◌≤◌, Bool, true, false, ◌&&◌, ◌==◌, if◌then◌else◌, List, [], ◌∷◌, length, take, Option, None, Some, Result, Ok, Err}
 use Rattle.std.specs.FinMap as map
 use Rattle.cs_model.specs.declared.change.Change.{Change}
 use Rattle.cs_model.specs.declared.value.Value.{Value}
@@ -12,12 +12,10 @@ use Rattle.cs_apply.specs.declared.conflict.ApplyError.{ApplyError}
 use Rattle.cs_apply.specs.declared.conflict.ApplyError.TheVariants as error
 use Rattle.cs_apply.specs.declared.stop.Stop.{Stop}
 use Rattle.cs_apply.specs.declared.stop.Stop.TheVariants.{Conflict, Memory}
-use Rattle.cs_apply.specs.declared.edit.Edit.{Edit}
-use Rattle.cs_apply.specs.declared.edit.Edit.TheVariants.{Set, Exchange}
 use Rattle.cs_apply.specs.declared.places.Step.{Step}
 use Rattle.cs_apply.specs.declared.places.Places.{Places}
 use Rattle.cs_apply.specs.State.{Rows}
-use Rattle.cs_apply.specs.Effect.{effect, agrees, updated}
+use Rattle.cs_apply.specs.Effect.{effect, same_value}
 use Rattle.cs_apply.specs.Single.{goes_on}
 
 -- a stop of the change at this place, as an error of `apply`
@@ -50,36 +48,42 @@ abbrev pub put : Rows → RowKey → Option (List Value) → Rows
 put rows key None = map.remove rows key
 put rows key (Some row) = map.insert rows key row
 
--- the row of a place after an edit
-abbrev pub edited : Edit → Option (List Value) → Option (List Value)
-edited (Set new) row = new
-edited (Exchange fields) None = None
-edited (Exchange fields) (Some row) = Some (updated fields row)
-
--- whether a field agrees with the row's value, or stands in a key column
-abbrev pub column_agrees : ℕ → Field → Value → Bool
-column_agrees flag field value = if flag == 0 then agrees field value else true
-
--- an UPDATE's fields once they have taken the values that a row had
-abbrev pub replaced_field : Field → Value → Field
-replaced_field Undefined value = Undefined
-replaced_field (Is new) value = Is value
-
-abbrev pub replaced : List Field → List Value → List Field
-replaced [] row = []
-replaced (field ∷ fields) [] = field ∷ fields
-replaced (field ∷ fields) (value ∷ row) = replaced_field field value ∷ replaced fields row
-
--- the places after an edit of one, where there is one at this index
-abbrev pub edited_at : ℕ → Edit → Entries → Entries
-edited_at place edit [] = []
-edited_at zero edit (e ∷ es) = (e.0, edited edit e.1) ∷ es
-edited_at (suc place) edit (e ∷ es) = e ∷ edited_at place edit es
+-- the places with this row, or none, at one of them, where there is one at this index
+abbrev pub set_at : ℕ → Option (List Value) → Entries → Entries
+set_at place row [] = []
+set_at zero row (e ∷ es) = (e.0, row) ∷ es
+set_at (suc place) row (e ∷ es) = e ∷ set_at place row es
 
 -- the places once steps are taken back, the last of them first
 abbrev pub undone : List Step → Entries → Entries
 undone [] es = es
-undone (step ∷ log) es = edited_at step.place step.back (undone log es)
+undone (step ∷ log) es = set_at step.place step.back (undone log es)
+
+-- whether a field says the same as another, or nothing
+abbrev pub field_agrees : Field → Field → Bool
+field_agrees Undefined value = true
+field_agrees (Is old) Undefined = false
+field_agrees (Is old) (Is value) = same_value old value
+
+-- the same for the columns outside the key of a record and a row's record
+abbrev pub fields_agree : List ℕ → List Field → List Field → Bool
+fields_agree [] fields values = true
+fields_agree (flag ∷ flags) [] values = true
+fields_agree (flag ∷ flags) (field ∷ fields) [] = false
+fields_agree (flag ∷ flags) (field ∷ fields) (value ∷ values) =
+    if flag == 0 then field_agrees field value && fields_agree flags fields values else fields_agree flags fields values
+
+-- the field of a record that says something, or else the row's own
+abbrev pub chosen : Option Field → Field → Field
+chosen None value = value
+chosen (Some Undefined) value = value
+chosen (Some (Is new)) value = Is new
+
+-- a row's record with the fields that say something in the place of its own
+abbrev pub merged : List Field → List Field → List Field
+merged fields [] = []
+merged [] (value ∷ values) = chosen None value ∷ merged [] values
+merged (field ∷ fields) (value ∷ values) = chosen (Some field) value ∷ merged fields values
 
 -- What the log takes back gives the places that were there before, in front of those that are new.
 pub record Back (old new : Places) : Type 0 where

@@ -1,36 +1,41 @@
 //! Changes: one, those of a section, and all. What is done before a conflict is logged by `Places`, which takes
 //! it back.
 
-ghost use Rattle.std.specs.Prelude.{◌≡◌, ◌+◌, ◌<◌, ◌^◌, Ok, OnOk, IfErr, length};
+ghost use Rattle.std.specs.Prelude.{◌≡◌, ◌+◌, ◌<◌, ◌^◌, Ok, OnOk, IfErr, length, true};
 ghost use Rattle.std.specs.FinMap as map;
+ghost use Rattle.std.specs.List.{list_all};
 ghost use Rattle.cs_model.specs.Changeset.{IsChange, IsSection, IsChangeset};
-ghost use Rattle.cs_apply.specs.Effect.{values_of, inserted, deleted, changed, effect};
+ghost use Rattle.cs_model.specs.Row.{values_of};
+ghost use Rattle.cs_model.specs.Rule.{is_defined};
+ghost use Rattle.cs_model.specs.Seen.{change_seen};
+ghost use Rattle.cs_apply.specs.Effect.{inserted, deleted, changed, effect};
 ghost use Rattle.cs_apply.specs.Single.{changes_of, single_from};
 ghost use Rattle.cs_apply.specs.State.{compatible};
 ghost use Rattle.cs_apply.specs.Steps.{rows_of, section_from, Back, Stops};
 ghost use Rattle.cs_apply.specs.Refusal.{Refuses};
 
 use crate::conflict::{ApplyError, ConflictKind};
-use crate::edit::Edit;
 use crate::places::Places;
-use crate::row::{all_agree, rest_agrees, row_of};
+use crate::row::{all_agree, rest_agrees, updated};
 use crate::stop::Stop;
-use cs_model::{Change, CopyIn, Field, Op, RowKey, Schema, Section, Seq, Shape};
+use cs_model::{ChangeRef, Op, RecordRef, Row, RowKey, Schema, Section, Shape};
 use std::alloc::Global;
 
 // INSERT: the key has no row, and gets the one that the new record says. An `Err` of this and the next two leaves
 // the rows as they were.
-fn insert(places: &mut Places, alloc: Global, key: RowKey, after: &[Field]) -> Result<(), Stop>
+fn insert(places: &mut Places, alloc: Global, key: RowKey, after: &RecordRef) -> Result<(), Stop>
+    requires { list_all is_defined after.now ≡ true }
     ensures ok { OnOk result (inserted (rows_of places.old.rows.entries) key (values_of after.now) (map.get (rows_of places.old.rows.entries) key) ≡ Ok (rows_of places.new.rows.entries)) }
     ensures back { Back places.old places.new }
     ensures refused { IfErr result (λ stop. Stops stop (inserted (rows_of places.old.rows.entries) key (values_of after.now) (map.get (rows_of places.old.rows.entries) key))) }
 {
-    let row = row_of(alloc, after)?;
+    let row = Row::copy_of(alloc, after)?;
     places.insert(key, row)
 }
 
 // DELETE: the row is there, is what the old record says, and goes.
-fn delete(places: &mut Places, key: &RowKey, before: &[Field]) -> Result<(), Stop>
+fn delete(places: &mut Places, key: &RowKey, before: &RecordRef) -> Result<(), Stop>
+    requires { list_all is_defined before.now ≡ true }
     ensures ok { OnOk result (deleted (rows_of places.old.rows.entries) key.now before.now (map.get (rows_of places.old.rows.entries) key.now) ≡ Ok (rows_of places.new.rows.entries)) }
     ensures back { Back places.old places.new }
     ensures refused { IfErr result (λ stop. Stops stop (deleted (rows_of places.old.rows.entries) key.now before.now (map.get (rows_of places.old.rows.entries) key.now))) }
@@ -41,18 +46,17 @@ fn delete(places: &mut Places, key: &RowKey, before: &[Field]) -> Result<(), Sto
     if !all_agree(before, row) {
         return Err(Stop::Conflict(ConflictKind::Data));
     }
-    Ok(places.edit(place, Edit::Set(None))?)
+    Ok(places.set(place, None)?)
 }
 
-// UPDATE: the row is there, is what the old record says outside the key, and gets what the new one says. Only
-// the new record is copied, and not the row.
+// UPDATE: the row is there, is what the old record says outside the key, and gets what the new one says.
 fn update(
     places: &mut Places,
     alloc: Global,
     key: &RowKey,
     flags: &[u8],
-    before: &[Field],
-    after: &Seq<Field>,
+    before: &RecordRef,
+    after: &RecordRef,
 ) -> Result<(), Stop>
     ensures ok { OnOk result (changed (rows_of places.old.rows.entries) key.now flags.now before.now after.now (map.get (rows_of places.old.rows.entries) key.now) ≡ Ok (rows_of places.new.rows.entries)) }
     ensures back { Back places.old places.new }
@@ -64,8 +68,8 @@ fn update(
     if !rest_agrees(flags, before, row) {
         return Err(Stop::Conflict(ConflictKind::Data));
     }
-    let fields = after.copy_in(alloc)?;
-    Ok(places.edit(place, Edit::Exchange(fields))?)
+    let new = updated(alloc, after, row)?;
+    Ok(places.set(place, Some(new))?)
 }
 
 // Applies one change of a table that is kept. An `Err` leaves the rows as they were.
@@ -74,12 +78,12 @@ fn change_row(
     alloc: Global,
     table: usize,
     shape: &Shape,
-    change: &Change,
+    change: &ChangeRef,
 ) -> Result<(), Stop>
-    requires { IsChange shape.now change.now }
-    ensures ok { OnOk result (effect table shape.now.flags (rows_of places.old.rows.entries) change.now ≡ Ok (rows_of places.new.rows.entries)) }
+    requires { IsChange shape.now (change_seen change.now) }
+    ensures ok { OnOk result (effect table shape.now.flags (rows_of places.old.rows.entries) (change_seen change.now) ≡ Ok (rows_of places.new.rows.entries)) }
     ensures back { Back places.old places.new }
-    ensures refused { IfErr result (λ stop. Stops stop (effect table shape.now.flags (rows_of places.old.rows.entries) change.now)) }
+    ensures refused { IfErr result (λ stop. Stops stop (effect table shape.now.flags (rows_of places.old.rows.entries) (change_seen change.now))) }
 {
     let key = RowKey::of(alloc, table, shape, change)?;
     match change.op {
@@ -111,10 +115,13 @@ fn change_section(
     ensures back { Back places.old places.new }
     ensures refused { IfErr result (λ e. Refuses e (section_from table section.now.shape.flags section.now.changes start (rows_of places.old.rows.entries))) }
 {
-    for (i, change) in section.changes.iter().enumerate() {
-        if let Err(stop) = change_row(places, alloc, table, &section.shape, change) {
-            return Err(stop.at(start + i));
+    let shape = section.shape();
+    let mut position = start;
+    for change in section.changes().iter() {
+        if let Err(stop) = change_row(places, alloc, table, shape, &change) {
+            return Err(stop.at(position));
         }
+        position += 1;
     }
     Ok(())
 }
@@ -148,11 +155,10 @@ pub(crate) fn change_all(
     let mut start: usize = 0;
     for section in sections {
         // no memory holds more changes than a `usize` counts
-        let changes: &[Change] = &section.changes;
-        let Some(end) = start.checked_add(changes.len()) else {
+        let Some(end) = start.checked_add(section.changes().len()) else {
             return Err(ApplyError::Memory);
         };
-        if let Some(table) = kept_table(schema, kept, &section.shape) {
+        if let Some(table) = kept_table(schema, kept, section.shape()) {
             change_section(places, alloc, table, section, start)?;
         }
         start = end;

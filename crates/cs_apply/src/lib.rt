@@ -4,7 +4,6 @@
 
 mod changes;
 mod conflict;
-mod edit;
 mod places;
 mod row;
 mod stop;

@@ -1,7 +1,7 @@
 //! Places for rows, and a log by which what was done to them is taken back without memory.
 //!
 //! A key that had a row once keeps its place, which may be empty. So while a changeset is applied each place
-//! keeps its index: a DELETE moves the row out of its place into the log, and to move it back needs no room.
+//! keeps its index: a change moves the old row out of its place into the log, and to move it back needs no room.
 
 ghost use Rattle.std.specs.Prelude.{◌≡◌, ℕ, [], length, take, map as list_map, Option, List, Some, Ok, slice_get, IfSome, IfOk, IfErr, OnOk};
 ghost use Rattle.std.specs.Option.{option_map};
@@ -9,21 +9,21 @@ ghost use Rattle.std.specs.FinMap as map;
 ghost use Rattle.cs_model.specs.declared.value.Value.{Value};
 ghost use Rattle.cs_model.specs.declared.row_key.RowKey.{RowKey};
 ghost use Rattle.cs_apply.specs.Effect.{inserted};
-ghost use Rattle.cs_apply.specs.Steps.{filled, rows_of, put, edited, edited_at, undone, Back, Stops};
+ghost use Rattle.cs_apply.specs.Steps.{filled, rows_of, put, set_at, undone, Back, Stops};
 
 use crate::conflict::ConflictKind;
-use crate::edit::Edit;
 use crate::stop::Stop;
 use cs_model::{Row, RowKey};
 use indexmap::IndexMap;
 use indexmap::map::Entry;
 use std::alloc::{AllocError, Global};
+use std::mem::replace;
 
-/// A step that was taken: the index of its place, and what takes it back.
+/// A step that was taken: the index of its place, and the row that was there before, if there was one.
 #[derive(Debug, Drop)]
 pub(crate) struct Step {
     place: usize,
-    back: Edit,
+    back: Option<Row>,
 }
 
 /// Places, and the steps of the changeset that is being applied.
@@ -91,14 +91,14 @@ impl Places {
         Ok(pairs)
     }
 
-    /// Does an edit at a place, and logs what takes it back. An `Err` leaves the rows as they were.
-    pub(crate) fn edit(&mut self, place: usize, edit: Edit) -> Result<(), AllocError>
-        ensures ok { OnOk result ((key : RowKey) (row : Option (List Value)) → slice_get self.old.rows.entries place ≡ Some (key, row) → rows_of self.new.rows.entries ≡ put (rows_of self.old.rows.entries) key (edited edit row)) }
+    /// Puts a row at a place, or none, and logs the one that was there. An `Err` leaves the rows as they were.
+    pub(crate) fn set(&mut self, place: usize, row: Option<Row>) -> Result<(), AllocError>
+        ensures ok { OnOk result ((key : RowKey) (old : Option (List Value)) → slice_get self.old.rows.entries place ≡ Some (key, old) → rows_of self.new.rows.entries ≡ put (rows_of self.old.rows.entries) key row) }
         ensures back { Back self.old self.new }
     {
         self.log.reserve(1)?;
-        if let Some(row) = self.rows.get_index_mut(place) {
-            let back = edit.perform(row);
+        if let Some(found) = self.rows.get_index_mut(place) {
+            let back = replace(found, row);
             self.log.push_reserved(Step { place, back });
         }
         Ok(())
@@ -123,7 +123,7 @@ impl Places {
                 place.index()
             }
         };
-        Ok(self.edit(place, Edit::Set(Some(row)))?)
+        Ok(self.set(place, Some(row))?)
     }
 
     /// Takes back all that was logged, and cuts the places to this many. It needs no memory.
@@ -139,11 +139,12 @@ impl Places {
 
     // Takes one step back.
     fn step_back(&mut self, step: Step)
-        ensures rows { self.new.rows.entries ≡ edited_at step.place step.back self.old.rows.entries }
+        ensures rows { self.new.rows.entries ≡ set_at step.place step.back self.old.rows.entries }
         ensures log { self.new.log.items ≡ self.old.log.items }
     {
-        if let Some(row) = self.rows.get_index_mut(step.place) {
-            step.back.perform(row);
+        let Step { place, back } = step;
+        if let Some(found) = self.rows.get_index_mut(place) {
+            *found = back;
         }
     }
 
@@ -166,9 +167,8 @@ impl Places {
 fn counted(mut empty: usize, log: &[Step]) -> usize {
     for step in log {
         match &step.back {
-            Edit::Set(Some(_)) => empty = empty.saturating_add(1),
-            Edit::Set(None) => empty = empty.saturating_sub(1),
-            Edit::Exchange(_) => {}
+            Some(_) => empty = empty.saturating_add(1),
+            None => empty = empty.saturating_sub(1),
         }
     }
     empty

@@ -1,101 +1,73 @@
-//! Rows and records: what a record says of a row, and what an UPDATE makes of it.
+//! Rows and records: what a record says of a row, and what an UPDATE makes of it. Both are gone over by their cursors, so
+//! that nothing is copied but the new row.
 
-ghost use Rattle.std.specs.Prelude.{◌≡◌, IfOk};
-ghost use Rattle.cs_apply.specs.Effect.{values_of, agrees, all_agree, rest_agrees, updated_field, updated};
-ghost use Rattle.cs_apply.specs.Steps.{column_agrees, replaced_field, replaced};
+ghost use Rattle.std.specs.Prelude.{◌≡◌, IfOk, true};
+ghost use Rattle.std.specs.List.{list_all};
+ghost use Rattle.std.specs.Option.{option_map};
+ghost use Rattle.cs_model.specs.Rule.{is_defined};
+ghost use Rattle.cs_model.specs.Seen.{field_seen};
+ghost use Rattle.cs_apply.specs.Effect.{all_agree, rest_agrees, updated};
+ghost use Rattle.cs_apply.specs.Steps.{chosen, field_agrees};
 
-use cs_model::{CopyIn, Field, Row, Seq, Value};
+use cs_model::laws::fields_first;
+use cs_model::{FieldRef, RecordRef, Row};
 use std::alloc::{AllocError, Global};
-use std::mem::swap;
 
-/// The values that a record's fields say, in column order, copied. `AllocError` where memory runs out.
-pub(crate) fn row_of(alloc: Global, fields: &[Field]) -> Result<Row, AllocError>
-    ensures { IfOk result (λ row. row ≡ values_of fields.now) }
+/// Whether each field of a record, all of which have a value, says the row's: then the row's bytes begin with the record's.
+pub(crate) fn all_agree(record: &RecordRef, row: &Row) -> bool
+    requires { list_all is_defined record.now ≡ true }
+    ensures { result ≡ all_agree record.now row.now }
 {
-    let mut values = Vec::with_capacity(alloc, fields.len())?;
-    for field in fields {
-        if let Field::Is(value) = field {
-            values.push(value.copy_in(alloc)?)?;
-        }
-    }
-    Ok(Seq::from_vec(values))
+    fields_first();
+    row.bytes().starts_with(record.bytes())
 }
 
-// Whether a field says this value, or nothing.
-fn agrees(field: &Field, value: &Value) -> bool
-    ensures { result ≡ agrees field.now value.now }
+// whether a field says the same as one that has a value, or nothing
+fn agrees(field: FieldRef, value: FieldRef) -> bool
+    ensures { result ≡ field_agrees (field_seen field.entry) (field_seen value.entry) }
 {
-    match field {
-        Field::Undefined => true,
-        Field::Is(old) => old == value,
-    }
-}
-
-/// Whether each field says the row's value, or nothing.
-pub(crate) fn all_agree(fields: &[Field], row: &[Value]) -> bool
-    ensures { result ≡ all_agree fields.now row.now }
-{
-    for (i, field) in fields.iter().enumerate() {
-        if i >= row.len() || !agrees(field, &row[i]) {
-            return false;
-        }
-    }
-    true
-}
-
-// The same as `agrees`, key columns set aside.
-fn column_agrees(flag: u8, field: &Field, value: &Value) -> bool
-    ensures { result ≡ column_agrees flag field.now value.now }
-{
-    flag > 0 || agrees(field, value)
+    !field.has_value() || field == value
 }
 
 /// Whether each field outside the key says the row's value, or nothing.
-pub(crate) fn rest_agrees(flags: &[u8], fields: &[Field], row: &[Value]) -> bool
-    ensures { result ≡ rest_agrees flags.now fields.now row.now }
+pub(crate) fn rest_agrees(flags: &[u8], record: &RecordRef, row: &Row) -> bool
+    ensures { result ≡ rest_agrees flags.now record.now row.now }
 {
-    for (i, flag) in flags.iter().enumerate() {
-        if i >= fields.len() {
+    let mut fields = record.fields();
+    let mut values = row.fields();
+    for flag in flags {
+        let Some(field) = fields.next() else {
             return true;
-        }
-        if i >= row.len() {
+        };
+        let Some(value) = values.next() else {
             return false;
-        }
-        if !column_agrees(*flag, &fields[i], &row[i]) {
+        };
+        if *flag == 0 && !agrees(field, value) {
             return false;
         }
     }
     true
 }
 
-// The value and the one that the field says change places.
-fn exchange_value(value: &mut Value, field: &mut Field)
-    ensures value { value.new ≡ updated_field field.old value.old }
-    ensures field { field.new ≡ replaced_field field.old value.old }
+// the field of a record that says something, or else the row's own
+fn chosen<'a>(field: Option<FieldRef<'a>>, value: FieldRef<'a>) -> FieldRef<'a>
+    ensures { field_seen result ≡ chosen (option_map field_seen field.entry) (field_seen value.entry) }
 {
-    if let Field::Is(new) = field {
-        swap(new, value);
+    match field {
+        Some(field) if field.has_value() => field,
+        _ => value,
     }
 }
 
-// Each value and the one that its field says change places.
-fn exchange_values(values: &mut [Value], fields: &mut [Field])
-    ensures values { values.new ≡ updated fields.old values.old }
-    ensures fields { fields.new ≡ replaced fields.old values.old }
+/// The row with the values that the record says in the place of its own. `AllocError` where memory runs out.
+pub(crate) fn updated(alloc: Global, record: &RecordRef, row: &Row) -> Result<Row, AllocError>
+    ensures { IfOk result (λ new. new ≡ updated record.now row.now) }
 {
-    for i in 0..fields.len().min(values.len()) {
-        exchange_value(&mut values[i], &mut fields[i]);
+    let mut new = Row::with_capacity(alloc, row.bytes().len())?;
+    let mut fields = record.fields();
+    for value in row.fields() {
+        new.push(chosen(fields.next(), value))?;
     }
-}
-
-/// The row with the values that the fields say, and the fields with the row's own in those columns. To do it
-/// again takes it back. Values are moved and none is copied.
-pub(crate) fn exchange(row: Row, fields: Seq<Field>) -> (Row, Seq<Field>)
-    ensures row { result.0 ≡ updated fields row }
-    ensures fields { result.1 ≡ replaced fields row }
-{
-    let mut values = row.into_vec();
-    let mut fields = fields.into_vec();
-    exchange_values(&mut values, &mut fields);
-    (Seq::from_vec(values), Seq::from_vec(fields))
+    new.shrink_to_fit();
+    Ok(new)
 }

@@ -2,5 +2,10 @@ pub mod Tables
 pub mod Keys
 pub mod VarintLemmas
 pub mod PackedLaws
+pub mod RowLaws
 pub mod CutLaws
 pub mod PackedChangeLaws
+pub mod FitLaws
+pub mod CountLaws
+pub mod SaidLaws
+pub mod CanonicalLaws

@@ -1,6 +1,7 @@
 -- Changes as bytes: what the bytes of changes say is the changes.
 use Rattle.std.proofs.Common.{◌≡◌, ℕ, zero, suc, ◌+◌, ◌-◌, ◌<◌, ◌≤◌, Bool, true, false, not, eqb, List, [], ◌∷◌, ◌++◌, length, take, refl, sym, ap, subst, ◌∙◌, arith}
-use Rattle.std.specs.List.{AllByRecursion}
+use Rattle.std.specs.List.{AllByRecursion, flat_map}
+use Rattle.std.proofs.Math.Dec.{eqb-suc-zero}
 use Rattle.std.proofs.Math.Seq.{take-append_seam}
 use Rattle.std.proofs.lemmas.List.{append_assoc, append-nil, length-append}
 use Rattle.cs_model.specs.declared.value.Field.{Field}
@@ -8,11 +9,11 @@ use Rattle.cs_model.specs.declared.change.Op.{Op}
 use Rattle.cs_model.specs.declared.change.Op.TheVariants.{Insert, Update, Delete}
 use Rattle.cs_model.specs.declared.change.Change.{Change}
 use Rattle.cs_model.specs.FieldBytes.{field_bytes}
-use Rattle.cs_model.specs.Text.{op_byte}
+use Rattle.cs_model.specs.Text.{op_byte, SpellsEach, SpellsField, SpellsIndirect, SpellsChange}
 use Rattle.cs_model.specs.Packed.{packed, unpacked, Fits, Packs, typed_in}
 use Rattle.cs_model.specs.PackedChanges.{mark, change_bytes, changes_bytes, Long, Fit, change_of, PacksAll, some_in, op_in, records_by, changes_said, unpacked_changes, Begins, BeginsChange}
 use Rattle.cs_model.proofs.PackedLaws as records
-use Rattle.cs_model.proofs.PackedLaws.{typed_back}
+use Rattle.cs_model.proofs.PackedLaws.{typed_back, own_field}
 use Rattle.cs_model.proofs.CutLaws.{some_no_longer}
 
 -- ---- going past so many fields
@@ -37,20 +38,29 @@ skip_done columns i rest total done e =
     let none : columns - i ≡ 0 = omega arith in
     sym (some_zero rest) ∙ (rw none at e)
 
-some_more : (n byte : ℕ) (behind : List ℕ) → (some_in (suc n) (byte ∷ behind)).1 ≡ (some_in n (typed_in byte behind).1).1
+-- one field, and those behind it
+abbrev pub then_some : ℕ → Field × List ℕ → List Field × List ℕ
+then_some n x = (x.0 ∷ (some_in n x.1).0, (some_in n x.1).1)
+
+some_step : (n byte : ℕ) (rest : List ℕ) → some_in (suc n) (byte ∷ rest) ≡ then_some n (typed_in byte rest)
 unfolding some_in
-some_more n byte behind = refl
+some_step n byte rest = refl
 
 -- a field more
+pub some_reads : (columns i : ℕ) (rest behind : List ℕ) (byte : ℕ) (f : Field) (after : List ℕ) → i < columns → rest ≡ byte ∷ behind → f ≡ (typed_in byte behind).0 → after ≡ (typed_in byte behind).1
+    → some_in (columns - i) rest ≡ then_some (columns - (i + 1)) (f, after)
+some_reads columns i rest behind byte f after more is_rest is_field is_after =
+    let one : columns - i ≡ suc (columns - (i + 1)) = omega arith in
+    rw (is_field, is_after, one, is_rest) (some_step (columns - (i + 1)) byte behind)
+
 pub skip_goes : (columns i : ℕ) (rest behind : List ℕ) (byte : ℕ) (after total : List ℕ) → i < columns → rest ≡ byte ∷ behind → after ≡ (typed_in byte behind).1
     → (some_in (columns - i) rest).1 ≡ total → (some_in (columns - (i + 1)) after).1 ≡ total
 skip_goes columns i rest behind byte after total more is_rest is_after e =
-    let one : columns - i ≡ suc (columns - (i + 1)) = omega arith in
-    rw is_after (sym (some_more (columns - (i + 1)) byte behind) ∙ (rw (one, is_rest) at e))
+    sym (ap (λ (x : List Field × List ℕ). x.1) (some_reads columns i rest behind byte (typed_in byte behind).0 after more is_rest refl is_after)) ∙ e
 
 -- ---- one change, and the others
 
-records_no_longer : (n : ℕ) (op : Op) (indirect : Bool) (bytes : List ℕ) → length (records_by n op indirect bytes).1 ≤ length bytes
+pub records_no_longer : (n : ℕ) (op : Op) (indirect : Bool) (bytes : List ℕ) → length (records_by n op indirect bytes).1 ≤ length bytes
 records_no_longer n Insert indirect bytes = some_no_longer n bytes
 records_no_longer n Update indirect bytes = omega (arith, some_no_longer n bytes, some_no_longer n (some_in n bytes).1)
 records_no_longer n Delete indirect bytes = some_no_longer n bytes
@@ -100,60 +110,80 @@ changes_first n bytes behind op m rest c after whole next one others = rw (whole
 
 -- ---- what is written is read
 
-abbrev then_some : ℕ → Field × List ℕ → List Field × List ℕ
-then_some n x = (x.0 ∷ (some_in n x.1).0, (some_in n x.1).1)
-
-some_step : (n byte : ℕ) (rest : List ℕ) → some_in (suc n) (byte ∷ rest) ≡ then_some n (typed_in byte rest)
-unfolding some_in
-some_step n byte rest = refl
-
 some_none : (bytes : List ℕ) → some_in 0 bytes ≡ ([], bytes)
 unfolding some_in
 some_none bytes = refl
 
-pub some_back : (fields : List Field) (rest : List ℕ) → AllByRecursion Fits fields → some_in (length fields) (packed fields ++ rest) ≡ (fields, rest)
-some_back [] rest fit = some_none rest
-some_back (f ∷ fs) rest fit =
-    let others = packed fs ++ rest in
-    let a = typed_back f others fit.0 in
-    ap (λ (w : List ℕ). some_in (suc (length fs)) w) (append_assoc (field_bytes f) (packed fs) rest ∙ a.whole)
-    ∙ (some_step (length fs) a.byte a.body ∙ (ap (λ (x : Field × List ℕ). then_some (length fs) x) a.reads ∙ ap (λ (x : List Field × List ℕ). (f ∷ x.0, x.1)) (some_back fs rest fit.1)))
+some_back : (fields : List Field) (text rest : List ℕ) → SpellsEach SpellsField text fields → AllByRecursion Fits fields → some_in (length fields) (text ++ rest) ≡ (fields, rest)
+some_back [] text rest spells fit = ap (λ (w : List ℕ). some_in 0 (w ++ rest)) spells ∙ some_none rest
+some_back (f ∷ fs) text rest spells fit =
+    let front = spells.0 in
+    let others = spells.1 ++ rest in
+    let a = typed_back f front others spells.3 fit.0 in
+    ap (λ (w : List ℕ). some_in (suc (length fs)) w) (ap (λ (w : List ℕ). w ++ rest) spells.2 ∙ (append_assoc front spells.1 rest ∙ a.whole))
+    ∙ (some_step (length fs) a.byte a.body ∙ (ap (λ (x : Field × List ℕ). then_some (length fs) x) a.reads ∙ ap (λ (x : List Field × List ℕ). (f ∷ x.0, x.1)) (some_back fs spells.1 rest spells.4 fit.1)))
 
-some_of : (n : ℕ) (fields : List Field) (rest : List ℕ) → length fields ≡ n → AllByRecursion Fits fields → some_in n (packed fields ++ rest) ≡ (fields, rest)
-some_of n fields rest long fit = subst (λ (k : ℕ). some_in k (packed fields ++ rest) ≡ (fields, rest)) long (some_back fields rest fit)
+some_of : (n : ℕ) (fields : List Field) (text rest : List ℕ) → length fields ≡ n → SpellsEach SpellsField text fields → AllByRecursion Fits fields → some_in n (text ++ rest) ≡ (fields, rest)
+some_of n fields text rest long spells fit = subst (λ (k : ℕ). some_in k (text ++ rest) ≡ (fields, rest)) long (some_back fields text rest spells fit)
 
-pub records_back : (n : ℕ) (op : Op) (indirect : Bool) (before after : List Field) (rest : List ℕ) → Long n op before after → AllByRecursion Fits before → AllByRecursion Fits after
-    → records_by n op indirect ((packed before ++ packed after) ++ rest) ≡ (change_of op indirect before after, rest)
-records_back n Insert indirect before after rest long p q =
-    rw long.0 (ap (λ (x : List Field × List ℕ). (change_of Insert indirect [] x.0, x.1)) (some_of n after rest long.1 q))
-records_back n Update indirect before after rest long p q =
-    let one = some_of n before (packed after ++ rest) long.0 p in
-    let other = some_of n after rest long.1 q in
+no_fields : (text : List ℕ) (fields : List Field) → SpellsEach SpellsField text fields → fields ≡ [] → text ≡ []
+no_fields text fields spells none = subst (λ (fs : List Field). SpellsEach SpellsField text fs) none spells
+
+records_back : (n : ℕ) (op : Op) (indirect : Bool) (before after : List Field) (old new rest : List ℕ) → Long n op before after → SpellsEach SpellsField old before → SpellsEach SpellsField new after → AllByRecursion Fits before → AllByRecursion Fits after
+    → records_by n op indirect ((old ++ new) ++ rest) ≡ (change_of op indirect before after, rest)
+records_back n Insert indirect before after old new rest long k l p q =
+    let none = no_fields old before k long.0 in
+    rw (long.0, none) (ap (λ (x : List Field × List ℕ). (change_of Insert indirect [] x.0, x.1)) (some_of n after new rest long.1 l q))
+records_back n Update indirect before after old new rest long k l p q =
+    let one = some_of n before old (new ++ rest) long.0 k p in
+    let other = some_of n after new rest long.1 l q in
     rw append_assoc (
     ap (λ (x : List Field × List ℕ). (change_of Update indirect x.0 (some_in n x.1).0, (some_in n x.1).1)) one
     ∙ ap (λ (x : List Field × List ℕ). (change_of Update indirect before x.0, x.1)) other)
-records_back n Delete indirect before after rest long p q =
-    rw (long.1, append-nil) (ap (λ (x : List Field × List ℕ). (change_of Delete indirect x.0 [], x.1)) (some_of n before rest long.0 p))
+records_back n Delete indirect before after old new rest long k l p q =
+    let none = no_fields new after l long.1 in
+    rw (long.1, none, append-nil) (ap (λ (x : List Field × List ℕ). (change_of Delete indirect x.0 [], x.1)) (some_of n before old rest long.0 k p))
 
 op_back : (op : Op) → op_in (op_byte op) ≡ op
 op_back Insert = refl
 op_back Update = refl
 op_back Delete = refl
 
-mark_back : (b : Bool) → not (eqb (mark b) 0) ≡ b
-mark_back true = refl
-mark_back false = refl
+indirect_back : (byte : ℕ) (indirect : Bool) → SpellsIndirect byte indirect → not (eqb byte 0) ≡ indirect
+indirect_back zero true spells = absurd (spells refl)
+indirect_back (suc byte) true spells = ap not (eqb-suc-zero byte)
+indirect_back byte false spells = rw spells refl
 
-change_back : (n : ℕ) (c : Change) (rest : List ℕ) → Fit n c → unpacked_changes n (change_bytes c ++ rest) ≡ c ∷ unpacked_changes n rest
-change_back n c rest fit =
-    let body = (packed c.before ++ packed c.after) ++ rest in
-    let said : records_by n (op_in (op_byte c.op)) (not (eqb (mark c.indirect) 0)) body ≡ (c, rest) =
-    rw (op_back c.op, mark_back c.indirect) (records_back n c.op c.indirect c.before c.after rest fit.long fit.before fit.after) in
-    changes_first n (change_bytes c ++ rest) (mark c.indirect ∷ body) (op_byte c.op) (mark c.indirect) body c rest refl refl (sym (ap (λ (x : Change × List ℕ). x.0) said)) (sym (ap (λ (x : Change × List ℕ). x.1) said))
+change_back : (n : ℕ) (c : Change) (text rest : List ℕ) → SpellsChange text c → Fit n c → unpacked_changes n (text ++ rest) ≡ c ∷ unpacked_changes n rest
+change_back n c text rest s fit =
+    let body = (s.old ++ s.new) ++ rest in
+    let said : records_by n (op_in (op_byte c.op)) (not (eqb s.byte 0)) body ≡ (c, rest) =
+    rw (op_back c.op, indirect_back s.byte c.indirect s.is_indirect) (records_back n c.op c.indirect c.before c.after s.old s.new rest fit.long s.is_old s.is_new fit.before fit.after) in
+    changes_first n (text ++ rest) (s.byte ∷ body) (op_byte c.op) s.byte body c rest (ap (λ (w : List ℕ). w ++ rest) s.parts) refl (sym (ap (λ (x : Change × List ℕ). x.0) said)) (sym (ap (λ (x : Change × List ℕ). x.1) said))
+
+pub spelled_said : (n : ℕ) (text : List ℕ) (changes : List Change) → SpellsEach SpellsChange text changes → AllByRecursion (Fit n) changes → unpacked_changes n text ≡ changes
+spelled_said n text [] spells fit = changes_none n text (ap length spells)
+spelled_said n text (c ∷ cs) spells fit =
+    ap (λ (w : List ℕ). unpacked_changes n w) spells.2 ∙ (change_back n c spells.0 spells.1 spells.3 fit.0 ∙ ap (λ (ds : List Change). c ∷ ds) (spelled_said n spells.1 cs spells.4 fit.1))
+
+-- ---- canonical bytes are a spelling
+
+own_each : {A : Type 0} (bytes : A → List ℕ) (Spelling : List ℕ → A → Type 0) (P : A → Type 0) → ((x : A) → P x → Spelling (bytes x) x) → (xs : List A) → AllByRecursion P xs → SpellsEach Spelling (flat_map bytes xs) xs
+own_each bytes Spelling P own [] all = refl
+own_each bytes Spelling P own (x ∷ xs) all = (bytes x, flat_map bytes xs, refl, own x all.0, own_each bytes Spelling P own xs all.1)
+
+own_fields : (fields : List Field) → AllByRecursion Fits fields → SpellsEach SpellsField (packed fields) fields
+own_fields fields fit = own_each field_bytes SpellsField Fits own_field fields fit
+
+own_indirect : (indirect : Bool) → SpellsIndirect (mark indirect) indirect
+own_indirect true = λ none. omega (arith, none)
+own_indirect false = refl
+
+own_change : (n : ℕ) (c : Change) → Fit n c → SpellsChange (change_bytes c) c
+own_change n c fit = record { byte = mark c.indirect; old = packed c.before; new = packed c.after; parts = refl; is_indirect = own_indirect c.indirect; is_old = own_fields c.before fit.before; is_new = own_fields c.after fit.after }
 
 pub packed_again : (n : ℕ) (changes : List Change) → AllByRecursion (Fit n) changes → unpacked_changes n (changes_bytes changes) ≡ changes
-packed_again n [] fit = changes_none n [] refl
-packed_again n (c ∷ cs) fit = change_back n c (changes_bytes cs) fit.0 ∙ ap (λ (ds : List Change). c ∷ ds) (packed_again n cs fit.1)
+packed_again n changes fit = spelled_said n (changes_bytes changes) changes (own_each change_bytes SpellsChange (Fit n) (own_change n) changes fit) fit
 
 -- ---- what is made packs what it was made of
 
@@ -162,19 +192,6 @@ made n bytes changes parts fit =
     let says : unpacked_changes n bytes ≡ changes = rw parts (packed_again n changes fit) in
     (says, subst (λ (cs : List Change). PacksAll n bytes cs) (sym says) (record { parts = parts; fit = fit }))
 
-fit_push : (n : ℕ) (cs : List Change) (c : Change) → AllByRecursion (Fit n) cs → Fit n c → AllByRecursion (Fit n) (cs ++ c ∷ [])
-fit_push n [] c h p = (p, tt)
-fit_push n (d ∷ ds) c h p = (h.0, fit_push n ds c h.1 p)
-
-bytes_push : (cs : List Change) (c : Change) → changes_bytes (cs ++ c ∷ []) ≡ changes_bytes cs ++ change_bytes c
-bytes_push [] c = append-nil (change_bytes c)
-bytes_push (d ∷ ds) c = ap (λ (w : List ℕ). change_bytes d ++ w) (bytes_push ds c) ∙ sym (append_assoc (change_bytes d) (changes_bytes ds) (change_bytes c))
-
-pub pushed : (n : ℕ) (old new : List ℕ) (c : Change) → Fit n c → PacksAll n old (unpacked_changes n old) → new ≡ old ++ change_bytes c
-    → (unpacked_changes n new ≡ unpacked_changes n old ++ c ∷ []) × PacksAll n new (unpacked_changes n new)
-pushed n old new c fits packs added =
-    made n new (unpacked_changes n old ++ c ∷ []) (added ∙ (ap (λ (w : List ℕ). w ++ change_bytes c) packs.parts ∙ sym (bytes_push (unpacked_changes n old) c))) (fit_push n (unpacked_changes n old) c packs.fit fits)
-
 pub empty : (n : ℕ) (bytes : List ℕ) → bytes ≡ [] → (unpacked_changes n bytes ≡ []) × PacksAll n bytes (unpacked_changes n bytes)
 empty n bytes none = made n bytes [] none tt
 
@@ -182,7 +199,7 @@ empty n bytes none = made n bytes [] none tt
 
 pub own_packs : (n : ℕ) (bytes rest front : List ℕ) (k : ℕ) → Begins n bytes → rest ≡ (some_in n bytes).1 → k ≡ length bytes - length rest → front ≡ take k bytes → Packs front (unpacked front)
 own_packs n bytes rest front k b is_rest is_k is_front =
-    let said : some_in n bytes ≡ (b.fields, b.rest) = ap (λ (w : List ℕ). some_in n w) b.parts ∙ some_of n b.fields b.rest b.long b.fit in
+    let said : some_in n bytes ≡ (b.fields, b.rest) = ap (λ (w : List ℕ). some_in n w) b.parts ∙ some_of n b.fields (packed b.fields) b.rest b.long (own_fields b.fields b.fit) b.fit in
     let left : rest ≡ b.rest = is_rest ∙ ap (λ (x : List Field × List ℕ). x.1) said in
     let len : k ≡ length (packed b.fields) = omega (arith, ap length left, ap length b.parts, length-append (packed b.fields) b.rest) in
     let same : front ≡ packed b.fields = is_front ∙ ap (λ (w : List ℕ). take k w) b.parts ∙ rw len (take-append_seam (packed b.fields) b.rest) in
@@ -193,7 +210,7 @@ pub begins_after : (n : ℕ) (op : Op) (bytes after : List ℕ) → BeginsChange
 begins_after n op bytes after b is e =
     let long : Long n Update b.before b.after = subst (λ (o : Op). Long n o b.before b.after) is b.long in
     let said : some_in n bytes ≡ (b.before, packed b.after ++ b.rest) =
-    ap (λ (w : List ℕ). some_in n w) (b.parts ∙ append_assoc (packed b.before) (packed b.after) b.rest) ∙ some_of n b.before (packed b.after ++ b.rest) long.0 b.before_fit in
+    ap (λ (w : List ℕ). some_in n w) (b.parts ∙ append_assoc (packed b.before) (packed b.after) b.rest) ∙ some_of n b.before (packed b.before) (packed b.after ++ b.rest) long.0 (own_fields b.before b.before_fit) b.before_fit in
     record { fields = b.after; rest = b.rest; long = long.1; fit = b.after_fit; parts = e ∙ ap (λ (x : List Field × List ℕ). x.1) said }
 
 -- the first change, of which two bytes are read, and the others
@@ -237,7 +254,7 @@ pub rest_packs : (n : ℕ) (bytes behind rest : List ℕ) (op m : ℕ) (o : Op) 
 rest_packs n bytes behind rest op m o indirect after packs whole next is e =
     let f = first n bytes behind rest op m (unpacked_changes n bytes) packs whole next in
     let read : records_by n f.change.op indirect rest ≡ (change_of f.change.op indirect f.change.before f.change.after, changes_bytes f.others) =
-    ap (λ (w : List ℕ). records_by n f.change.op indirect w) f.parts ∙ records_back n f.change.op indirect f.change.before f.change.after (changes_bytes f.others) f.fit.long f.fit.before f.fit.after in
+    ap (λ (w : List ℕ). records_by n f.change.op indirect w) f.parts ∙ records_back n f.change.op indirect f.change.before f.change.after (packed f.change.before) (packed f.change.after) (changes_bytes f.others) f.fit.long (own_fields f.change.before f.fit.before) (own_fields f.change.after f.fit.after) f.fit.before f.fit.after in
     let left : after ≡ changes_bytes f.others =
     e ∙ (ap (λ (p : Op). (records_by n p indirect rest).1) (first_op n op m rest o f is) ∙ ap (λ (x : Change × List ℕ). x.1) read) in
     (made n after f.others left f.others_fit).1

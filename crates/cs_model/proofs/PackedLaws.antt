@@ -12,6 +12,7 @@ use Rattle.cs_model.specs.declared.value.Value.TheVariants.{Integer, Text, Blob,
 use Rattle.cs_model.specs.declared.value.Field.{Field}
 use Rattle.cs_model.specs.declared.value.Field.TheVariants.{Undefined, Is}
 use Rattle.cs_model.specs.FieldBytes.{field_bytes}
+use Rattle.cs_model.specs.Text.{SpellsBytes, SpellsField}
 use Rattle.cs_model.specs.Varint.{varint}
 use Rattle.cs_model.specs.Schema.{same_bytes}
 use Rattle.cs_model.specs.Packed.{packed, IsLength, Fits, Packs, read_from, counted_by, counted_in, integer_by, typed_in, fields_in, unpacked}
@@ -92,12 +93,11 @@ counted_at : (text bytes rest : List ℕ) → counted_by (text ++ (bytes ++ rest
 counted_at text bytes rest =
     rw (drop-append_seam text (bytes ++ rest), take-append_seam bytes rest, drop-append_seam bytes rest) refl
 
-counted_back : (bytes rest : List ℕ) → IsLength (length bytes) → counted_in ((varint (length bytes) ++ bytes) ++ rest) ≡ (bytes, rest)
+counted_back : (text bytes rest : List ℕ) → SpellsBytes text bytes → counted_in (text ++ rest) ≡ (bytes, rest)
 unfolding counted_in
-counted_back bytes rest fits =
-    let text = varint (length bytes) in
-    let number : read_from 8 0 0 (text ++ (bytes ++ rest)) ≡ Some (length bytes, length text) = read_back 8 0 0 text (length bytes) (bytes ++ rest) (length text) (omega arith) (spelled (length bytes) (length_fits (length bytes) fits)) in
-    rw (append_assoc text bytes rest, number) (counted_at text bytes rest)
+counted_back text bytes rest s =
+    let number : read_from 8 0 0 (s.count ++ (bytes ++ rest)) ≡ Some (length bytes, length s.count) = read_back 8 0 0 s.count (length bytes) (bytes ++ rest) (length s.count) (omega arith) s.is_count in
+    rw (s.parts, append_assoc s.count bytes rest, number) (counted_at s.count bytes rest)
 
 integer_found : (text rest : List ℕ) (n : ℤ) → length text ≡ 8 → cast_signed w64 (from_be_bytes w64 text) ≡ n → integer_by (ltb (length (text ++ rest)) 8) (text ++ rest) ≡ (Is (Integer n), rest)
 integer_found text rest n len value =
@@ -112,13 +112,13 @@ unfolding typed_in
 integer_back n rest fits =
     integer_found (to_be_bytes w64 (cast_unsigned w64 n)) rest n refl (ap (λ k. cast_signed w64 k) (from_be_bytes-to_be_bytes_8 (cast_unsigned w64 n) (unsigned_below n fits)) ∙ to_z-of_z w64 n fits)
 
-text_back : (bytes rest : List ℕ) → IsLength (length bytes) → typed_in 3 ((varint (length bytes) ++ bytes) ++ rest) ≡ (Is (Text bytes), rest)
+text_back : (text bytes rest : List ℕ) → SpellsBytes text bytes → typed_in 3 (text ++ rest) ≡ (Is (Text bytes), rest)
 unfolding typed_in
-text_back bytes rest fits = ap (λ (x : List ℕ × List ℕ). (Is (Text x.0), x.1)) (counted_back bytes rest fits)
+text_back text bytes rest spells = ap (λ (x : List ℕ × List ℕ). (Is (Text x.0), x.1)) (counted_back text bytes rest spells)
 
-blob_back : (bytes rest : List ℕ) → IsLength (length bytes) → typed_in 4 ((varint (length bytes) ++ bytes) ++ rest) ≡ (Is (Blob bytes), rest)
+blob_back : (text bytes rest : List ℕ) → SpellsBytes text bytes → typed_in 4 (text ++ rest) ≡ (Is (Blob bytes), rest)
 unfolding typed_in
-blob_back bytes rest fits = ap (λ (x : List ℕ × List ℕ). (Is (Blob x.0), x.1)) (counted_back bytes rest fits)
+blob_back text bytes rest spells = ap (λ (x : List ℕ × List ℕ). (Is (Blob x.0), x.1)) (counted_back text bytes rest spells)
 
 none_back : (rest : List ℕ) → typed_in 0 rest ≡ (Undefined, rest)
 unfolding typed_in
@@ -128,28 +128,43 @@ null_back : (rest : List ℕ) → typed_in 5 rest ≡ (Is Null, rest)
 unfolding typed_in
 null_back rest = refl
 
--- a field's bytes, behind which others stand, are a type byte and what is read to this field
-pub record Again (f : Field) (rest : List ℕ) : Type 0 where
+-- a text that spells a field, behind which others stand, is a type byte and what is read to this field
+pub record Again (f : Field) (text rest : List ℕ) : Type 0 where
   pub byte : ℕ
   pub body : List ℕ
-  pub whole : field_bytes f ++ rest ≡ byte ∷ body
+  pub whole : text ++ rest ≡ byte ∷ body
   pub reads : typed_in byte body ≡ (f, rest)
 
-pub typed_back : (f : Field) (rest : List ℕ) → Fits f → Again f rest
-typed_back Undefined rest fits = record { byte = 0; body = rest; whole = refl; reads = none_back rest }
-typed_back (Is (Integer n)) rest fits = record { byte = 1; body = to_be_bytes w64 (cast_unsigned w64 n) ++ rest; whole = refl; reads = integer_back n rest fits }
-typed_back (Is (Text bytes)) rest fits = record { byte = 3; body = (varint (length bytes) ++ bytes) ++ rest; whole = refl; reads = text_back bytes rest fits }
-typed_back (Is (Blob bytes)) rest fits = record { byte = 4; body = (varint (length bytes) ++ bytes) ++ rest; whole = refl; reads = blob_back bytes rest fits }
-typed_back (Is Null) rest fits = record { byte = 5; body = rest; whole = refl; reads = null_back rest }
+pub typed_back : (f : Field) (text rest : List ℕ) → SpellsField text f → Fits f → Again f text rest
+typed_back Undefined text rest spells fits = record { byte = 0; body = rest; whole = ap (λ (w : List ℕ). w ++ rest) spells; reads = none_back rest }
+typed_back (Is (Integer n)) text rest spells fits = record { byte = 1; body = to_be_bytes w64 (cast_unsigned w64 n) ++ rest; whole = ap (λ (w : List ℕ). w ++ rest) spells; reads = integer_back n rest fits }
+typed_back (Is (Text bytes)) text rest spells fits = record { byte = 3; body = spells.0 ++ rest; whole = ap (λ (w : List ℕ). w ++ rest) spells.1; reads = text_back spells.0 bytes rest spells.2 }
+typed_back (Is (Blob bytes)) text rest spells fits = record { byte = 4; body = spells.0 ++ rest; whole = ap (λ (w : List ℕ). w ++ rest) spells.1; reads = blob_back spells.0 bytes rest spells.2 }
+typed_back (Is Null) text rest spells fits = record { byte = 5; body = rest; whole = ap (λ (w : List ℕ). w ++ rest) spells; reads = null_back rest }
+
+-- a field's own bytes spell it
+own_length : (bytes : List ℕ) → IsLength (length bytes) → SpellsBytes (varint (length bytes) ++ bytes) bytes
+own_length bytes fits = record { count = varint (length bytes); parts = refl; is_count = spelled (length bytes) (length_fits (length bytes) fits) }
+
+pub own_field : (f : Field) → Fits f → SpellsField (field_bytes f) f
+own_field Undefined fits = refl
+own_field (Is (Integer n)) fits = refl
+own_field (Is (Text bytes)) fits = (varint (length bytes) ++ bytes, refl, own_length bytes fits)
+own_field (Is (Blob bytes)) fits = (varint (length bytes) ++ bytes, refl, own_length bytes fits)
+own_field (Is Null) fits = refl
 
 field_back : (f : Field) (rest : List ℕ) → Fits f → unpacked (field_bytes f ++ rest) ≡ f ∷ unpacked rest
 field_back f rest fits =
-    let a = typed_back f rest fits in
+    let a = typed_back f (field_bytes f) rest (own_field f fits) fits in
     unpacked_first (field_bytes f ++ rest) a.byte a.body f rest a.whole (sym (ap (λ (x : Field × List ℕ). x.0) a.reads)) (sym (ap (λ (x : Field × List ℕ). x.1) a.reads))
 
 pub packed_unpacked : (fields : List Field) → AllByRecursion Fits fields → unpacked (packed fields) ≡ fields
 packed_unpacked [] fit = unpacked_none [] refl
 packed_unpacked (f ∷ fs) fit = field_back f (packed fs) fit.0 ∙ ap (λ (gs : List Field). f ∷ gs) (packed_unpacked fs fit.1)
+
+pub packed_first : (fields : List Field) (rest : List ℕ) → AllByRecursion Fits fields → unpacked (packed fields ++ rest) ≡ fields ++ unpacked rest
+packed_first [] rest fit = refl
+packed_first (f ∷ fs) rest fit = ap unpacked (append_assoc (field_bytes f) (packed fs) rest) ∙ field_back f (packed fs ++ rest) fit.0 ∙ ap (λ (gs : List Field). f ∷ gs) (packed_first fs rest fit.1)
 
 -- ---- what is made packs what it was made of
 
@@ -158,11 +173,11 @@ made bytes fields parts fit =
     let says : unpacked bytes ≡ fields = rw parts (packed_unpacked fields fit) in
     (says, subst (λ (fs : List Field). Packs bytes fs) (sym says) (record { parts = parts; fit = fit }))
 
-fit_push : (fs : List Field) (f : Field) → AllByRecursion Fits fs → Fits f → AllByRecursion Fits (fs ++ f ∷ [])
+pub fit_push : (fs : List Field) (f : Field) → AllByRecursion Fits fs → Fits f → AllByRecursion Fits (fs ++ f ∷ [])
 fit_push [] f h p = (p, tt)
 fit_push (g ∷ gs) f h p = (h.0, fit_push gs f h.1 p)
 
-packed_push : (fs : List Field) (f : Field) → packed (fs ++ f ∷ []) ≡ packed fs ++ field_bytes f
+pub packed_push : (fs : List Field) (f : Field) → packed (fs ++ f ∷ []) ≡ packed fs ++ field_bytes f
 packed_push [] f = append-nil (field_bytes f)
 packed_push (g ∷ gs) f = ap (λ (w : List ℕ). field_bytes g ++ w) (packed_push gs f) ∙ sym (append_assoc (field_bytes g) (packed gs) (field_bytes f))
 

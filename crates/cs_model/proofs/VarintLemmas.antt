@@ -1,9 +1,10 @@
 -- Varints: reading them by recursion, filling them from the back, and the two laws of the spelling.
-use Rattle.std.proofs.Common.{◌≡◌, ℕ, zero, suc, ◌+◌, ◌-◌, ◌*◌, ◌/◌, ◌%◌, ◌^◌, ◌<◌, ◌≤◌, ◌⊎◌, inl, inr, Bool, true, false, cond, leb, Option, Some, None, IfSome, List, [], ◌∷◌, ◌++◌, length, take, drop, get_or, refl, sym, ap, subst, ◌∙◌, arith}
+use Rattle.std.proofs.Common.{◌≡◌, ℕ, zero, suc, ◌+◌, ◌-◌, ◌*◌, ◌/◌, ◌%◌, ◌^◌, ◌<◌, ◌≤◌, ◌⊎◌, inl, inr, Bool, true, false, cond, leb, Option, Some, None, IfSome, MatchOption, Bor, nat_eq, List, [], ◌∷◌, ◌++◌, length, take, drop, get_or, refl, sym, ap, subst, ◌∙◌, arith}
 use Rattle.std.proofs.Math.Nat.{pow-le-pow_right}
 use Rattle.std.proofs.lemmas.Nat.{div_below, mul-le}
 use Rattle.std.proofs.lemmas.Grind.{pow_more}
-use Rattle.std.proofs.lemmas.List.{append_assoc, drop_more, length-append, length-take-le}
+use Rattle.std.proofs.lemmas.List.{append_assoc, drop_more, length-append, length-take-le, take-append-drop}
+use Rattle.std.specs.Cmp.Lexicographic.{pointwise, same_text}
 use Rattle.std.proofs.lemmas.Bool.Decides.{nat_tests}
 use Rattle.std.proofs.str.Laws.{order}
 use Rattle.cs_model.specs.Varint.{EndsVarint, IsVarint, groups, short_groups, varint}
@@ -109,9 +110,12 @@ none_short (suc start) zero none = refl
 none_short (suc start) (suc rest) none = absurd (omega (arith, none))
 
 -- no turn is left
-pub unfilled_none : (n start rest : ℕ) → (start ≡ 0) ⊎ ((n < 2 ^ 56) × (rest ≡ 0)) → unfilled (leb (2 ^ 56) n) start rest ≡ []
+unfilled_none : (n start rest : ℕ) → (start ≡ 0) ⊎ ((n < 2 ^ 56) × (rest ≡ 0)) → unfilled (leb (2 ^ 56) n) start rest ≡ []
 unfilled_none n start rest (inl front) = none_at (leb (2 ^ 56) n) start rest front
 unfilled_none n start rest (inr done) = grind (arith, nat_tests, none_short start rest done.1)
+
+pub unfilled_end : (n start rest : ℕ) (text whole : List ℕ) → (start ≡ 0) ⊎ ((n < 2 ^ 56) × (rest ≡ 0)) → unfilled (leb (2 ^ 56) n) start rest ++ text ≡ whole → text ≡ whole
+unfilled_end n start rest text whole done filled = sym (ap (λ (t : List ℕ). t ++ text) (unfilled_none n start rest done)) ∙ filled
 
 pub varint_whole : (n : ℕ) → 2 ^ 56 ≤ n → groups 8 (n / 256) ++ (n % 256) ∷ [] ≡ varint n
 unfolding varint
@@ -272,3 +276,11 @@ read_back (suc left) high read (b ∷ text) n rest k e (inl h) =
     cc
 read_back (suc left) high read (b ∷ text) n rest k e (inr h) =
     read_goes left high read b (text ++ rest) h.0 ∙ read_back left (128 * high + (b - 128)) (read + 1) text n rest k (omega (arith, e)) h.1
+
+-- ---- a text that begins with a spelling
+
+pub stripped : (out : Option (Bor (List ℕ))) (bytes front : List ℕ) → MatchOption out (pointwise nat_eq (take (length front) bytes) front ≡ false) (λ x. (pointwise nat_eq (take (length front) bytes) front ≡ true) × (x.now ≡ drop (length front) bytes) × (length x.now + length front ≡ length bytes))
+    → IfSome out (λ rest. bytes ≡ front ++ rest.now)
+stripped None bytes front h = tt
+stripped (Some rest) bytes front h =
+    sym (take-append-drop (length front) bytes) ∙ (ap (λ (w : List ℕ). w ++ drop (length front) bytes) (same_text _ _ (sym h.0)) ∙ ap (λ (w : List ℕ). front ++ w) (sym h.1))

@@ -1,5 +1,6 @@
 pub mod Bytes
 pub mod Rule
+pub mod Section
 pub mod Changeset
 pub mod Varint
 pub mod Text
@@ -9,4 +10,6 @@ pub mod Key
 pub mod Schema
 pub mod Seen
 pub mod Packed
+pub mod Row
 pub mod PackedChanges
+pub mod Canonical

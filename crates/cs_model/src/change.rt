@@ -1,7 +1,9 @@
-//! Changes, and the sections in which they stand.
+//! Changes.
+
+ghost use Rattle.std.specs.Prelude.{◌≡◌};
+ghost use Rattle.cs_model.specs.Text.{op_byte};
 
 use crate::seq::Seq;
-use crate::shape::Shape;
 use crate::value::Field;
 
 /// What a change does to its row.
@@ -10,6 +12,19 @@ pub enum Op {
     Insert,
     Update,
     Delete,
+}
+
+impl Op {
+    /// The byte that a change with this operation begins with: `SQLITE_INSERT`, `SQLITE_UPDATE` or `SQLITE_DELETE`.
+    pub fn byte(self) -> u8
+        ensures { result ≡ op_byte self }
+    {
+        match self {
+            Op::Insert => 18,
+            Op::Update => 23,
+            Op::Delete => 9,
+        }
+    }
 }
 
 /// One change of one row.
@@ -23,13 +38,4 @@ pub struct Change {
     pub before: Seq<Field>,
     /// The new record: one field per column in an INSERT or an UPDATE, empty in a DELETE.
     pub after: Seq<Field>,
-}
-
-/// The changes of one table that stand together.
-#[derive(Debug, Drop, PartialEq, Eq)]
-pub struct Section {
-    /// The table.
-    pub shape: Shape,
-    /// Its changes, in order.
-    pub changes: Seq<Change>,
 }

@@ -84,7 +84,7 @@ impl<'a> Model for ChangeRefs<'a> {
 impl<'a> ChangeRefs<'a> {
     /// The changes from the first byte on, of a table with so many columns.
     #[inline(always)]
-    pub fn of(columns: usize, bytes: &'a [u8]) -> ChangeRefs<'a>
+    pub(crate) fn of(columns: usize, bytes: &'a [u8]) -> ChangeRefs<'a>
         requires { PacksAll columns bytes.now (unpacked_changes columns bytes.now) }
         ensures { result ≡ unpacked_changes columns bytes.now }
     {
@@ -145,8 +145,8 @@ fn no_record<'a>() -> RecordRef<'a>
     RecordRef { bytes: &[] }
 }
 
-// the operation that a byte says
-fn op_of(byte: u8) -> Op
+/// The operation that a byte says.
+pub(crate) fn op_of(byte: u8) -> Op
     ensures { result ≡ op_in byte }
 {
     match byte {

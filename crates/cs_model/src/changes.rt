@@ -1,14 +1,17 @@
 //! Changes in one piece of memory.
 
-ghost use Rattle.std.specs.Prelude.{◌≡◌, ℕ, List, [], ◌∷◌, ◌++◌, OnOk, OnErr, length, take};
+ghost use Rattle.std.specs.Prelude.{◌≡◌, ◌==◌, [], ◌∷◌, ◌++◌, OnOk, OnErr, length, take};
+ghost use Rattle.std.specs.Cmp;
+ghost use Rattle.std.specs.Cmp.{on_per, on_equiv};
+ghost use Rattle.std.specs.Cmp.Lexicographic.{pointwise, lists_per, lists_equiv, nat_list_eq_equiv};
 ghost use Rattle.std.specs.List.{AllByRecursion};
-ghost use Rattle.cs_model.specs.declared.value.Field.{Field};
-ghost use Rattle.cs_model.specs.declared.change.Change.{Change};
 ghost use Rattle.cs_model.specs.Text.{op_byte};
-ghost use Rattle.cs_model.specs.Packed.{packed, unpacked, Fits};
-ghost use Rattle.cs_model.specs.PackedChanges.{mark, change_bytes, changes_bytes, change_of, Long, Fit, unpacked_changes};
+ghost use Rattle.cs_model.specs.Packed.{Fits};
+ghost use Rattle.cs_model.specs.PackedChanges.{mark, change_bytes, changes_bytes, changes_parts, change_of, Long, Fit, unpacked_changes};
+ghost use Rattle.cs_model.specs.Schema.{same_bytes};
 
-use crate::change::Op;
+use crate::canonical::text_push;
+use crate::change::{Change, Op};
 use crate::change_ref::ChangeRefs;
 use crate::copy::CopyIn;
 use crate::record::Record;
@@ -19,11 +22,13 @@ use std::marker::Model;
 #[derive(Debug, Drop)]
 pub struct Changes {
     columns: usize,
+    // how many changes there are
+    count: usize,
     bytes: Vec<u8>,
 }
 
 impl Model for Changes {
-    ghost use Rattle.std.specs.Prelude.{ℕ, List};
+    ghost use Rattle.std.specs.Prelude.{◌≡◌, ℕ, List, length};
     ghost use Rattle.cs_model.specs.declared.change.Change.{Change};
     ghost use Rattle.cs_model.specs.PackedChanges.{unpacked_changes, PacksAll};
 
@@ -31,7 +36,7 @@ impl Model for Changes {
 
     ghost view = { λ c. (c.columns, unpacked_changes c.columns c.bytes.items) };
 
-    ghost invariant = { λ c. PacksAll c.columns c.bytes.items (unpacked_changes c.columns c.bytes.items) };
+    ghost invariant = { λ c. PacksAll c.columns c.bytes.items (unpacked_changes c.columns c.bytes.items) × (c.count ≡ length (unpacked_changes c.columns c.bytes.items)) };
 }
 
 impl Changes {
@@ -42,6 +47,7 @@ impl Changes {
     {
         Changes {
             columns,
+            count: 0,
             bytes: Vec::new(alloc),
         }
     }
@@ -60,6 +66,44 @@ impl Changes {
         ensures err { OnErr result (self.new.1 ≡ self.old.1) }
     {
         change_push(&mut self.bytes, op, indirect, before, after)?;
+        self.count += 1;
+        Ok(())
+    }
+
+    /// The same, of a change in memory of its own.
+    pub fn push_change(&mut self, alloc: Global, change: &Change) -> Result<(), AllocError>
+        requires { Long self.old.0 change.now.op change.now.before change.now.after }
+        ensures columns { self.new.0 ≡ self.old.0 }
+        ensures ok { OnOk result (self.new.1 ≡ self.old.1 ++ change.now ∷ []) }
+        ensures err { OnErr result (self.new.1 ≡ self.old.1) }
+    {
+        let before = Record::of(alloc, &change.before)?;
+        let after = Record::of(alloc, &change.after)?;
+        self.push(change.op, change.indirect, &before, &after)
+    }
+
+    /// The changes of another list, of as many columns, behind these, in one copy. An `Err` leaves the changes as they were.
+    pub fn append(&mut self, others: &Changes) -> Result<(), AllocError>
+        requires { others.now.0 ≡ self.old.0 }
+        ensures columns { self.new.0 ≡ self.old.0 }
+        ensures ok { OnOk result (self.new.1 ≡ self.old.1 ++ others.now.1) }
+        ensures err { OnErr result (self.new.1 ≡ self.old.1) }
+    {
+        self.bytes.extend_from_slice(&others.bytes)?;
+        self.count += others.count;
+        Ok(())
+    }
+
+    /// The changes that a text says, behind these: in one copy where the text is canonical, and else respelled. The text is
+    /// of whole changes, as `laws::spelled_is_said` says. An `Err` leaves the changes as they were.
+    pub fn append_text(&mut self, text: &[u8]) -> Result<(), AllocError>
+        requires { AllByRecursion (Fit self.old.0) (unpacked_changes self.old.0 text.now) }
+        ensures columns { self.new.0 ≡ self.old.0 }
+        ensures ok { OnOk result (self.new.1 ≡ self.old.1 ++ unpacked_changes self.old.0 text.now) }
+        ensures err { OnErr result (self.new.1 ≡ self.old.1) }
+    {
+        let count = text_push(&mut self.bytes, self.columns, text)?;
+        self.count += count;
         Ok(())
     }
 
@@ -70,15 +114,30 @@ impl Changes {
         self.columns
     }
 
+    /// How many changes there are.
+    pub fn len(&self) -> usize
+        ensures { result ≡ length self.now.1 }
+    {
+        self.count
+    }
+
+    /// Whether there are none.
+    pub fn is_empty(&self) -> bool
+        ensures { result ≡ (length self.now.1 == 0) }
+    {
+        self.count == 0
+    }
+
     /// The changes, in order.
     #[inline(always)]
     pub fn iter(&self) -> ChangeRefs<'_>
-        ensures { result ≡ self.now.1 }
+        ensures changes { result ≡ self.now.1 }
+        ensures fit { AllByRecursion (Fit self.now.0) self.now.1 }
     {
         ChangeRefs::of(self.columns, &self.bytes)
     }
 
-    /// Their bytes, one change after another.
+    /// Their canonical bytes, those of one change after another.
     pub fn bytes(&self) -> &[u8]
         ensures { result.now ≡ changes_bytes self.now.1 }
     {
@@ -90,9 +149,25 @@ impl CopyIn for Changes {
     fn copy_in(&self, alloc: Global) -> Result<Changes, AllocError> {
         Ok(Changes {
             columns: self.columns,
+            count: self.count,
             bytes: Vec::from_slice(alloc, &self.bytes)?,
         })
     }
+}
+
+/// Two lists are equal when they are of as many columns and their bytes are the same, and so when their changes are.
+impl PartialEq for Changes {
+    ghost eq = { λ a b. pointwise same_bytes (changes_parts a) (changes_parts b) };
+
+    ghost laws = { on_per changes_parts (lists_per (Cmp.partial_equiv_from_equiv nat_list_eq_equiv)) };
+
+    fn eq(&self, other: &Self) -> bool {
+        self.columns == other.columns && self.bytes == other.bytes
+    }
+}
+
+impl Eq for Changes {
+    ghost laws = { on_equiv changes_parts (lists_equiv nat_list_eq_equiv) };
 }
 
 /// Adds a change's bytes to the end of `out`, and nothing else. An `Err` leaves `out` as it was.
@@ -127,19 +202,8 @@ fn add_change(
     ensures ok { OnOk result (out.new.items ≡ out.old.items ++ op_byte op ∷ mark indirect ∷ (before.now ++ after.now)) }
     ensures adds { take (length out.old.items) out.new.items ≡ out.old.items }
 {
-    out.push(byte_of(op))?;
+    out.push(op.byte())?;
     out.push(u8::from(indirect))?;
     out.extend_from_slice(before)?;
     out.extend_from_slice(after)
-}
-
-// the byte of an operation
-fn byte_of(op: Op) -> u8
-    ensures { result ≡ op_byte op }
-{
-    match op {
-        Op::Insert => 18,
-        Op::Update => 23,
-        Op::Delete => 9,
-    }
 }

@@ -3,8 +3,8 @@
 ghost use Rattle.std.specs.Prelude.{◌≡◌};
 ghost use Rattle.cs_model.specs.Changeset.{IsChangeset};
 
-use crate::change::Section;
 use crate::copy::CopyIn;
+use crate::section::Section;
 use crate::seq::Seq;
 use std::alloc::{AllocError, Global};
 use std::marker::Model;
@@ -17,7 +17,7 @@ pub struct Changeset {
 
 impl Model for Changeset {
     ghost use Rattle.std.specs.Prelude.{List};
-    ghost use Rattle.cs_model.specs.declared.change.Section.{Section};
+    ghost use Rattle.cs_model.specs.Section.{Section};
     ghost use Rattle.cs_model.specs.Changeset.{IsChangeset};
 
     ghost Value = { List Section };

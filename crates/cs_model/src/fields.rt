@@ -35,14 +35,6 @@ impl<'a> Fields<'a> {
     {
         Fields { rest: bytes }
     }
-
-    /// The bytes of the fields that are left.
-    #[inline(always)]
-    pub fn rest(&self) -> &'a [u8]
-        ensures { unpacked result.now ≡ self.now }
-    {
-        self.rest
-    }
 }
 
 impl<'a> Iterator for Fields<'a> {

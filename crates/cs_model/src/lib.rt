@@ -3,6 +3,7 @@
 //! there are, and which texts spell one.
 #![tactic(auto)]
 
+mod canonical;
 mod change;
 mod change_ref;
 mod changes;
@@ -14,26 +15,30 @@ mod fields;
 pub mod laws;
 mod origin;
 mod record;
+mod row;
 mod row_key;
 mod schema;
+mod section;
 mod seq;
 mod shape;
 mod value;
 mod varint;
 
-pub use change::{Change, Op, Section};
+pub use change::{Change, Op};
 pub use change_ref::{ChangeRef, ChangeRefs, RecordRef};
-pub use changes::{Changes, change_push};
+pub use changes::Changes;
 pub use changeset::Changeset;
 pub use copy::CopyIn;
-pub use field::{field_push, value_push};
-pub use field_ref::{FieldRef, field_push_ref};
+pub use field::field_push;
+pub use field_ref::FieldRef;
 pub use fields::Fields;
 pub use origin::Origin;
-pub use record::{Record, same_fields};
+pub use record::Record;
+pub use row::Row;
 pub use row_key::RowKey;
 pub use schema::{RefusedTables, Schema, SchemaError, SectionFault, TableFault};
-pub use seq::{Octets, Row, Seq};
+pub use section::Section;
+pub use seq::{Octets, Seq};
 pub use shape::Shape;
 pub use value::{Field, Value};
 pub use varint::{varint_push, varint_read};

@@ -1,6 +1,6 @@
 //! Records in memory of their own.
 
-ghost use Rattle.std.specs.Prelude.{◌≡◌, ◌++◌, ◌∷◌, [], IfOk, OnOk, OnErr, ◌↔◌, IsTrue};
+ghost use Rattle.std.specs.Prelude.{◌≡◌, ◌++◌, ◌∷◌, [], IfOk, OnOk, OnErr};
 ghost use Rattle.std.specs.List.{AllByRecursion};
 ghost use Rattle.std.specs.Cmp;
 ghost use Rattle.std.specs.Cmp.{on_per, on_equiv};
@@ -11,8 +11,10 @@ ghost use Rattle.cs_model.specs.Seen.{field_seen};
 
 use crate::change_ref::RecordRef;
 use crate::copy::CopyIn;
-use crate::field_ref::{FieldRef, field_push_ref};
+use crate::field::field_push;
+use crate::field_ref::FieldRef;
 use crate::fields::Fields;
+use crate::value::Field;
 use std::alloc::{AllocError, Global};
 use std::marker::Model;
 
@@ -53,13 +55,15 @@ impl Record {
         })
     }
 
-    /// No fields, and room for so many bytes.
-    pub fn with_capacity(alloc: Global, bytes: usize) -> Result<Record, AllocError>
-        ensures { IfOk result (λ made. made ≡ []) }
+    /// A record of these fields.
+    pub fn of(alloc: Global, fields: &[Field]) -> Result<Record, AllocError>
+        ensures { IfOk result (λ made. made ≡ fields.now) }
     {
-        Ok(Record {
-            bytes: Vec::with_capacity(alloc, bytes)?,
-        })
+        let mut record = Record::new(alloc);
+        for field in fields {
+            record.push(field.as_ref())?;
+        }
+        Ok(record)
     }
 
     /// One field more, behind the others. An `Err` leaves the record as it was.
@@ -67,7 +71,7 @@ impl Record {
         ensures ok { OnOk result (self.new ≡ self.old ++ field_seen field.entry ∷ []) }
         ensures err { OnErr result (self.new ≡ self.old) }
     {
-        field_push_ref(&mut self.bytes, field)?;
+        field_push(&mut self.bytes, field)?;
         Ok(())
     }
 
@@ -109,11 +113,4 @@ impl PartialEq for Record {
 
 impl Eq for Record {
     ghost laws = { on_equiv packed nat_list_eq_equiv };
-}
-
-/// Whether two records have the same fields, as `==` says.
-pub fn same_fields(first: &Record, second: &Record) -> bool
-    ensures { IsTrue result ↔ (first.now ≡ second.now) }
-{
-    first.bytes == second.bytes
 }

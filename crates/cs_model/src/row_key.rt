@@ -1,14 +1,13 @@
 //! The key of a row.
 
-ghost use Rattle.std.specs.Prelude.{◌≡◌, IfOk, length};
-ghost use Rattle.cs_model.specs.Changeset.{IsChange};
+ghost use Rattle.std.specs.Prelude.{◌≡◌, IfOk};
 ghost use Rattle.cs_model.specs.KeyBytes.{key_bytes, key_record};
 
-use crate::change::{Change, Op};
+use crate::change::Op;
+use crate::change_ref::{ChangeRef, RecordRef};
 use crate::field::field_push;
 use crate::seq::{Octets, Seq};
 use crate::shape::Shape;
-use crate::value::Field;
 use std::alloc::{AllocError, Global};
 
 /// Which row of which table. Keys go by the table, then by their bytes as unsigned bytes.
@@ -22,6 +21,7 @@ pub struct RowKey {
 
 impl RowKey {
     ghost use Rattle.cs_model.specs.Key.{key_of};
+    ghost use Rattle.cs_model.specs.Seen.{change_seen};
 
     /// The key of the row that a change is about: the old record's, or the new one's of an INSERT. `table` is
     /// the table's place in the schema, and `shape` its shape.
@@ -29,10 +29,9 @@ impl RowKey {
         alloc: Global,
         table: usize,
         shape: &Shape,
-        change: &Change,
+        change: &ChangeRef,
     ) -> Result<RowKey, AllocError>
-        requires { IsChange shape.now change.now }
-        ensures { IfOk result (λ key. key ≡ key_of table shape.now.flags change.now) }
+        ensures { IfOk result (λ key. key ≡ key_of table shape.now.flags (change_seen change.now)) }
     {
         let bytes = key_bytes_of(alloc, &shape.flags, record_of(change))?;
         Ok(RowKey { table, bytes })
@@ -40,7 +39,7 @@ impl RowKey {
 }
 
 // the record that a change finds its row by
-fn record_of(change: &Change) -> &[Field]
+fn record_of<'a>(change: &'a ChangeRef) -> &'a RecordRef<'a>
     ensures { result.now ≡ key_record change.now.op change.now.before change.now.after }
 {
     match change.op {
@@ -50,15 +49,18 @@ fn record_of(change: &Change) -> &[Field]
 }
 
 // the canonical bytes of the fields in key columns
-fn key_bytes_of(alloc: Global, flags: &[u8], fields: &[Field]) -> Result<Octets, AllocError>
-    requires { length fields.now ≡ length flags.now }
-    ensures { IfOk result (λ bytes. bytes ≡ key_bytes flags.now fields.now) }
+fn key_bytes_of(alloc: Global, flags: &[u8], from: &RecordRef) -> Result<Octets, AllocError>
+    ensures { IfOk result (λ bytes. bytes ≡ key_bytes flags.now from.now) }
 {
     // room for two numbers or a short text
     let mut bytes = Vec::with_capacity(alloc, 24)?;
-    for (i, flag) in flags.iter().enumerate() {
+    let mut fields = from.fields();
+    for flag in flags {
+        let Some(field) = fields.next() else {
+            break;
+        };
         if *flag > 0 {
-            field_push(&mut bytes, &fields[i])?;
+            field_push(&mut bytes, field)?;
         }
     }
     Ok(Seq::from_vec(bytes))

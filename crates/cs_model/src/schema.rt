@@ -5,9 +5,9 @@ ghost use Rattle.std.specs.List.{list_any, list_all};
 ghost use Rattle.cs_model.specs.Schema.{has_name, has_shape, table_index, are_flags, is_name, first_outside, table_refusal, tables_refusal, refusal_of, same_bytes, same_shape, Refuses};
 ghost use Rattle.cs_model.specs.declared.schema.SchemaError.TheVariants.{Memory};
 
-use crate::change::Section;
 use crate::changeset::Changeset;
 use crate::copy::CopyIn;
+use crate::section::Section;
 use crate::shape::Shape;
 use std::alloc::{AllocError, AllocFailed, Global};
 use std::marker::Model;
@@ -137,7 +137,7 @@ impl Schema {
         let sections = changeset.sections();
         match first_without_table(&self.tables, sections) {
             None => Ok(()),
-            Some(i) if knows_name(&self.tables, &sections[i].shape.name) => {
+            Some(i) if knows_name(&self.tables, &sections[i].shape().name) => {
                 Err(SectionFault::ShapeDiffers(i))
             }
             Some(i) => Err(SectionFault::UnknownTable(i)),
@@ -177,7 +177,7 @@ fn first_without_table(tables: &[Shape], sections: &[Section]) -> Option<usize>
 {
     sections
         .iter()
-        .position(|section| !has_table(tables, &section.shape))
+        .position(|section| !has_table(tables, section.shape()))
 }
 
 fn flags_stand(flags: &[u8]) -> bool

@@ -6,7 +6,6 @@ ghost use Rattle.std.specs.Cmp.Lexicographic.{pointwise, slice_cmp, slice_partia
 ghost use Rattle.std.specs.Hash as fed;
 ghost use Rattle.std.specs.Hash.{items_Alike};
 
-use crate::value::Value;
 use std::alloc::{AllocError, Global};
 use std::cmp::Ordering;
 use std::hash::{Hash, Hasher};
@@ -21,9 +20,6 @@ pub struct Seq<T> {
 
 /// A text or blob as its bytes.
 pub type Octets = Seq<u8>;
-
-/// A row: one value per column.
-pub type Row = Seq<Value>;
 
 impl<T> Model for Seq<T> {
     ghost use Rattle.std.specs.Prelude.{List};

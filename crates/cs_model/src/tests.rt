@@ -1,20 +1,23 @@
 //! Values from outside: the format's own rules, and by hand what they give.
 
-ghost use Rattle.std.specs.Prelude.{◌≡◌, ◌<◌, ◌∷◌, [], IfOk};
-ghost use Rattle.std.specs.List.{AllByRecursion};
-ghost use Rattle.cs_model.specs.Changeset.{AreRecords, IsChange, IsSection};
+ghost use Rattle.std.specs.Prelude.{◌≡◌, ◌∷◌, [], IfOk};
+ghost use Rattle.cs_model.specs.Changeset.{AreRecords};
+ghost use Rattle.cs_model.specs.PackedChanges.{Long};
+ghost use Rattle.cs_model.specs.Seen.{field_seen};
 ghost use Rattle.cs_model.specs.declared.value.Value.TheVariants.{Integer, Text};
 ghost use Rattle.cs_model.specs.declared.value.Field.TheVariants.{Is};
 
-use crate::SectionFault::{ShapeDiffers, UnknownTable};
-use crate::TableFault::{BadShape, DuplicateTable};
 use crate::*;
 use std::alloc::{AllocError, Global};
 use std::fmt::Debug;
 use std::process::Abort;
 use std::test::Fail;
 
+mod lists;
 mod packed;
+mod rows;
+mod schemas;
+mod sections;
 
 fn octets(alloc: Global, bytes: &[u8]) -> Result<Octets, AllocError>
     ensures { IfOk result (λ copy. copy ≡ bytes.now) }
@@ -22,7 +25,7 @@ fn octets(alloc: Global, bytes: &[u8]) -> Result<Octets, AllocError>
     Ok(Seq::from_vec(Vec::from_slice(alloc, bytes)?))
 }
 
-fn shape(alloc: Global, name: &[u8], flags: &[u8]) -> Result<Shape, AllocError>
+fn table_shape(alloc: Global, name: &[u8], flags: &[u8]) -> Result<Shape, AllocError>
     ensures name { IfOk result (λ shape. shape.name ≡ name.now) }
     ensures flags { IfOk result (λ shape. shape.flags ≡ flags.now) }
 {
@@ -49,9 +52,28 @@ fn record(alloc: Global, first: Field, second: Field) -> Result<Seq<Field>, Allo
     Ok(Seq::from_vec(vec![in alloc; first, second]?))
 }
 
+// the same, as bytes
+fn pair(alloc: Global, first: FieldRef, second: FieldRef) -> Result<Record, AllocError>
+    ensures { IfOk result (λ made. made ≡ field_seen first.entry ∷ (field_seen second.entry ∷ [])) }
+{
+    let mut record = Record::new(alloc);
+    record.push(first)?;
+    record.push(second)?;
+    Ok(record)
+}
+
+// the cursor gives these fields and no other
+fn gives(rt: &impl Abort, mut fields: Fields, wanted: &[FieldRef]) {
+    for field in wanted {
+        assert_eq!(rt; fields.next(), Some(*field));
+    }
+    assert_eq!(rt; fields.next(), None);
+}
+
 // A change of the row with key 7, of two columns. Its text is `w` before and `x` after.
-fn change(alloc: Global, op: Op) -> Result<Change, AllocError>
-    ensures { IfOk result (λ change. AreRecords (1 ∷ 0 ∷ []) change.op change.before change.after) }
+fn one_change(alloc: Global, op: Op) -> Result<Change, AllocError>
+    ensures records { IfOk result (λ change. AreRecords (1 ∷ 0 ∷ []) change.op change.before change.after) }
+    ensures long { IfOk result (λ change. Long 2 change.op change.before change.after) }
 {
     let none: Seq<Field> = Seq::from_vec(Vec::new(alloc));
     let before = record(alloc, number(7), text(alloc, b"w")?)?;
@@ -66,28 +88,6 @@ fn change(alloc: Global, op: Op) -> Result<Change, AllocError>
         before,
         after,
     })
-}
-
-// a section of the table of this name, whose key bytes are 1 and this second one
-fn section(alloc: Global, name: u8, second: u8, changes: Vec<Change>) -> Result<Section, AllocError>
-    requires named { 0 < name }
-    requires fit { AllByRecursion (λ change. AreRecords (1 ∷ second ∷ []) change.op change.before change.after) changes.items }
-    ensures { IfOk result IsSection }
-{
-    Ok(Section {
-        shape: shape(alloc, &[name], &[1, second])?,
-        changes: Seq::from_vec(changes),
-    })
-}
-
-// sections without changes
-fn changeset(rt: &impl Abort, alloc: Global, shapes: &[(u8, u8)]) -> Result<Changeset, AllocError> {
-    let mut sections = Vec::new(alloc);
-    for (name, second) in shapes {
-        assert!(rt; 0 < *name);
-        sections.push(section(alloc, *name, *second, Vec::new(alloc))?)?;
-    }
-    Ok(Changeset::from_seq(Seq::from_vec(sections)))
 }
 
 #[test]
@@ -148,7 +148,7 @@ fn pushes(
     back: &[u8],
 ) -> Result<(), Fail> {
     let mut out = Vec::from_slice(alloc, b"ab")?;
-    let pushed = field_push(&mut out, field);
+    let pushed = field_push(&mut out, field.as_ref());
     if pushed.is_err() {
         assert_eq!(rt; out.as_slice(), b"ab".as_slice());
     }
@@ -157,11 +157,6 @@ fn pushes(
         .strip_prefix(b"ab")
         .ok_or("the bytes before are changed")?;
     assert_eq!(rt; added.strip_prefix(front), Some(back), "{field:?}");
-    if let Field::Is(value) = field {
-        let mut alone = Vec::new(alloc);
-        value_push(&mut alone, value)?;
-        assert_eq!(rt; alone.as_slice(), added);
-    }
     Ok(())
 }
 
@@ -183,12 +178,16 @@ fn has_key(
     rt: &impl Abort,
     alloc: Global,
     shape: &Shape,
+    columns: usize,
     change: &Change,
     want: &[u8],
 ) -> Result<(), Fail>
-    requires { IsChange shape.now change.now }
+    requires { Long columns change.now.op change.now.before change.now.after }
 {
-    let key = RowKey::of(alloc, 3, shape, change)?;
+    let mut changes = Changes::new(alloc, columns);
+    changes.push_change(alloc, change)?;
+    let first = changes.iter().next().ok_or("no change")?;
+    let key = RowKey::of(alloc, 3, shape, &first)?;
     assert_eq!(rt; key.table, 3);
     assert_eq!(rt; &key.bytes[..], want, "{change:?}");
     Ok(())
@@ -197,12 +196,12 @@ fn has_key(
 #[test]
 fn keys(rt: HostRuntime) -> Result<(), Fail> {
     let alloc = rt.alloc();
-    let pair = shape(alloc, b"t", &[1, 0])?;
+    let pair = table_shape(alloc, b"t", &[1, 0])?;
     for op in [Op::Insert, Op::Update, Op::Delete] {
-        let change = change(alloc, op)?;
-        has_key(&rt, alloc, &pair, &change, &[1, 0, 0, 0, 0, 0, 0, 0, 7])?;
+        let change = one_change(alloc, op)?;
+        has_key(&rt, alloc, &pair, 2, &change, &[1, 0, 0, 0, 0, 0, 0, 0, 7])?;
     }
-    let three = shape(alloc, b"t", &[2, 0, 1])?;
+    let three = table_shape(alloc, b"t", &[2, 0, 1])?;
     let before = vec![in alloc; number(-2), Field::Is(Value::Null), text(alloc, b"x")?]?;
     let delete = Change {
         op: Op::Delete,
@@ -211,7 +210,7 @@ fn keys(rt: HostRuntime) -> Result<(), Fail> {
         after: Seq::from_vec(Vec::new(alloc)),
     };
     let want = [1, 255, 255, 255, 255, 255, 255, 255, 0xfe, 3, 1, b'x'];
-    has_key(&rt, alloc, &three, &delete, &want)?;
+    has_key(&rt, alloc, &three, 3, &delete, &want)?;
     // in ascending order: by the table first, then by the bytes as unsigned ones
     let mut last = RowKey {
         table: 0,
@@ -238,126 +237,11 @@ fn keys(rt: HostRuntime) -> Result<(), Fail> {
     Ok(())
 }
 
-// Whether a schema is made of tables, and whether the last of them may be added to one of the others. Refused
-// tables come back.
-fn makes(
-    rt: &impl Abort,
-    alloc: Global,
-    tables: Vec<Shape>,
-    want: Result<(), TableFault>,
-) -> Result<(), Fail> {
-    let given = Shape::copy_all(alloc, &tables)?;
-    let mut earlier = Shape::copy_all(alloc, &tables)?;
-    let last = earlier.pop().ok_or("no table")?;
-    let made = match Schema::new(tables) {
-        Ok(schema) => {
-            assert_eq!(rt; schema.tables(), given.as_slice());
-            Ok(())
-        }
-        Err(refused) => {
-            assert_eq!(rt; refused.tables.as_slice(), given.as_slice());
-            Err(refused.fault)
-        }
-    };
-    assert_eq!(rt; made, want, "{given:?}");
-    let mut schema = Schema::new(earlier).ok().ok_or("no schema")?;
-    let added = match schema.add(last) {
-        Ok(()) => Ok(()),
-        Err(SchemaError::Fault(fault)) => Err(fault),
-        Err(SchemaError::Memory) => {
-            assert_eq!(rt; schema.tables().len() + 1, given.len());
-            return Err("memory")?;
-        }
-    };
-    assert_eq!(rt; added, want, "{given:?}");
-    let count = if added.is_ok() {
-        given.len()
-    } else {
-        given.len() - 1
-    };
-    assert_eq!(rt; schema.tables(), &given[..count]);
-    Ok(())
-}
-
 #[test]
-fn schemas(rt: HostRuntime) -> Result<(), Fail> {
-    let alloc = rt.alloc();
-    let wide = vec![in alloc; 1u8; 2001]?;
-    let name = vec![in alloc; b'n'; 1025]?;
-    for (name, flags, want) in [
-        (&b"u"[..], &[0u8, 255][..], Ok(())),
-        (&b"T"[..], &wide[..2000], Ok(())),
-        (&name[..1024], &[1][..], Ok(())),
-        (&b"t"[..], &[1][..], Err(DuplicateTable(1))),
-        (&b"t"[..], &[][..], Err(DuplicateTable(1))),
-        (&b"u"[..], &[][..], Err(BadShape(1))),
-        (&b"u"[..], &wide[..], Err(BadShape(1))),
-        (&b"u"[..], &[0, 0][..], Err(BadShape(1))),
-        (&b""[..], &[1][..], Err(BadShape(1))),
-        (&name[..], &[1][..], Err(BadShape(1))),
-        (&b"u\x00"[..], &[1][..], Err(BadShape(1))),
-    ] {
-        let tables = vec![in alloc; shape(alloc, b"t", &[1, 0])?, shape(alloc, name, flags)?]?;
-        makes(&rt, alloc, tables, want)?;
-    }
-    // the first that is refused is named
-    let both = vec![in alloc; shape(alloc, b"", &[1])?, shape(alloc, b"", &[1])?]?;
-    let refused = Schema::new(both).err().ok_or("a schema of bad tables")?;
-    assert_eq!(rt; refused.fault, BadShape(0));
-    // 1,025 names
-    let mut many = Vec::new(alloc);
-    for high in 1..=5u8 {
-        for low in 1..=205u8 {
-            many.push(shape(alloc, &[high, low], &[1])?)?;
-        }
-    }
-    makes(
-        &rt,
-        alloc,
-        Shape::copy_all(alloc, &many)?,
-        Err(BadShape(1024)),
-    )?;
-    many.truncate(1024);
-    makes(&rt, alloc, Shape::copy_all(alloc, &many)?, Ok(()))?;
-    many.push(shape(alloc, &[1, 1], &[1])?)?;
-    makes(&rt, alloc, many, Err(DuplicateTable(1024)))
-}
-
-#[test]
-fn admits(rt: HostRuntime) -> Result<(), Fail> {
-    let alloc = rt.alloc();
-    let mut schema = Schema::empty(alloc);
-    assert!(rt; schema.tables().is_empty());
-    schema.add(shape(alloc, b"t", &[1, 0])?)?;
-    schema.add(shape(alloc, b"u", &[1, 1])?)?;
-    for (shapes, want) in [
-        (&[][..], Ok(())),
-        (&[(b'u', 1), (b't', 0), (b'u', 1)][..], Ok(())),
-        (&[(b't', 0), (b'x', 0), (b't', 1)][..], Err(UnknownTable(1))),
-        (
-            &[(b'u', 1), (b't', 0), (b'u', 2), (b'x', 0)][..],
-            Err(ShapeDiffers(2)),
-        ),
-    ] {
-        let changeset = changeset(&rt, alloc, shapes)?;
-        assert_eq!(rt; schema.admits(&changeset), want, "{shapes:?}");
-    }
-    for (name, flags, place) in [
-        (b"t", [1, 0], Some(0)),
-        (b"u", [1, 1], Some(1)),
-        (b"u", [1, 0], None),
-        (b"x", [1, 1], None),
-    ] {
-        assert_eq!(rt;
-            schema.table(&shape(alloc, name, &flags)?),
-            place,
-            "{name:?}"
-        );
-    }
-    let copy = schema.copy_in(alloc)?;
-    assert_eq!(rt; copy.tables(), schema.tables());
-    assert_eq!(rt; copy.tables().len(), 2);
-    Ok(())
+fn bytes_of_operations(rt: HostRuntime) {
+    assert_eq!(rt; Op::Insert.byte(), 18);
+    assert_eq!(rt; Op::Update.byte(), 23);
+    assert_eq!(rt; Op::Delete.byte(), 9);
 }
 
 fn copies<T: CopyIn + PartialEq + Debug>(
@@ -367,52 +251,5 @@ fn copies<T: CopyIn + PartialEq + Debug>(
 ) -> Result<(), AllocError> {
     let copy = original.copy_in(alloc)?;
     assert_eq!(rt; &copy, original);
-    Ok(())
-}
-
-#[test]
-fn exact_copies(rt: HostRuntime) -> Result<(), Fail> {
-    let alloc = rt.alloc();
-    let insert = change(alloc, Op::Insert)?;
-    let update = change(alloc, Op::Update)?;
-    let delete = change(alloc, Op::Delete)?;
-    let changes = vec![in alloc; insert, update, delete]?;
-    let sections = vec![in alloc;
-        section(alloc, b't', 0, changes)?,
-        section(alloc, b'u', 1, Vec::new(alloc))?,
-    ]?;
-    let changeset = Changeset::from_seq(Seq::from_vec(sections));
-    let copy = changeset.copy_in(alloc)?;
-    assert_eq!(rt; copy.sections(), changeset.sections());
-    assert_eq!(rt; copy.sections().len(), 2);
-    assert_eq!(rt; copy.sections()[0].changes[..].len(), 3);
-    assert_eq!(rt; copy.into_seq(), changeset.into_seq());
-    copies(&rt, alloc, &shape(alloc, b"t", &[1, 0])?)?;
-    let x = Value::Text(octets(alloc, b"x")?);
-    let y = Value::Blob(octets(alloc, b"y")?);
-    let row: Row = Seq::from_vec(vec![in alloc; Value::Integer(-1), x, y, Value::Null]?);
-    Ok(copies(&rt, alloc, &row)?)
-}
-
-#[test]
-fn faults_say_which_table_or_section(rt: HostRuntime) -> Result<(), Fail> {
-    let alloc = rt.alloc();
-    let duplicate = format!(in alloc; "{}", SchemaError::Fault(DuplicateTable(2)))?;
-    assert_eq!(rt;
-        duplicate.as_str(),
-        "table 2 has the name of an earlier one"
-    );
-    let shape = format!(in alloc; "{}", BadShape(2))?;
-    assert_eq!(rt;
-        shape.as_str(),
-        "table 2 has a shape that no table may have, or is one too many"
-    );
-    let unknown = format!(in alloc; "{}", UnknownTable(0))?;
-    assert_eq!(rt; unknown.as_str(), "section 0 is of an unknown table");
-    let differs = format!(in alloc; "{}", ShapeDiffers(0))?;
-    assert_eq!(rt;
-        differs.as_str(),
-        "section 0 has another shape than its table"
-    );
     Ok(())
 }

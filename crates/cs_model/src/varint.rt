@@ -1,6 +1,6 @@
 //! Varints: the spelling of counts and lengths, one to nine bytes.
 
-ghost use Rattle.std.specs.Prelude.{◌≡◌, ℕ, ◌≤◌, ◌++◌, length, take, OnOk, OnErr, IfSome, Some};
+ghost use Rattle.std.specs.Prelude.{◌≡◌, ℕ, ◌≤◌, ◌++◌, length, take, drop, OnOk, OnErr, IfSome, Some};
 ghost use Rattle.cs_model.specs.Varint.{IsVarint, varint};
 ghost use Rattle.cs_model.specs.Packed.{read_from};
 
@@ -46,6 +46,24 @@ pub fn varint_push(out: &mut Vec<u8>, value: u64) -> Result<(), AllocError>
         out.push(value as u8)?;
         return Ok(());
     }
+    // added in one piece: where memory runs out nothing of it is added
+    let (text, start) = varint_of(value);
+    out.extend_from_slice(&text[start..])
+}
+
+/// The bytes behind the shortest varint of `value`, where `bytes` begin with it.
+pub(crate) fn varint_strip(bytes: &[u8], value: u64) -> Option<&[u8]>
+    ensures { IfSome result (λ rest. bytes.now ≡ varint value ++ rest.now) }
+{
+    let (text, start) = varint_of(value);
+    bytes.strip_prefix(&text[start..])
+}
+
+// The shortest varint of a number, from this place on.
+fn varint_of(value: u64) -> ([u8; 9], usize)
+    ensures place { result.1 ≤ 9 }
+    ensures text { drop result.1 result.0 ≡ varint value }
+{
     // from 2^56 on all nine bytes are taken, and the last of them has eight bits of the value
     let whole = value >= 1 << 56;
     let (mut rest, last) = if whole {
@@ -53,7 +71,7 @@ pub fn varint_push(out: &mut Vec<u8>, value: u64) -> Result<(), AllocError>
     } else {
         (value / 128, value % 128)
     };
-    // filled from the back, and added in one piece: where memory runs out nothing of it is added
+    // filled from the back
     let mut text = [0u8; 9];
     text[8] = last as u8;
     let mut start: usize = 8;
@@ -62,5 +80,5 @@ pub fn varint_push(out: &mut Vec<u8>, value: u64) -> Result<(), AllocError>
         text[start] = 128 + (rest % 128) as u8;
         rest /= 128;
     }
-    out.extend_from_slice(&text[start..])
+    (text, start)
 }

@@ -4,7 +4,7 @@ use Rattle.std.proofs.lemmas.Bool.{eqb-true, ne_eqb}
 use Rattle.std.proofs.lemmas.List.{append-nil}
 use Rattle.cs_model.specs.declared.shape.Shape.{Shape}
 use Rattle.cs_model.specs.declared.change.Change.{Change}
-use Rattle.cs_model.specs.declared.change.Section.{Section}
+use Rattle.cs_model.specs.Section.{Section}
 use Rattle.cs_model.specs.Changeset.{IsSection}
 use Rattle.cs_model.specs.Text.{SpellsChange, SpellsSection}
 use Rattle.cs_parse.specs.declared.fault.FaultKind.{FaultKind}

@@ -1,8 +1,8 @@
 -- The faults of values are exact.
 use Rattle.std.proofs.Common.{◌≡◌, ℕ, ℤ, zero, suc, ◌-◌, ◌<◌, ◌≤◌, ◌⊎◌, inl, inr, true, false, cond, ltb, eqb, List, [], ◌∷◌, ◌++◌, length, take, drop, replicate, Some, None, Result, Ok, Err, refl, sym, ap, subst, ◌∙◌, arith, FitsSigned}
 use Rattle.std.specs.Int.{w64, from_be_bytes, cast_signed}
-use Rattle.std.proofs.lemmas.Bool.{ltb-true, ltb-false, le-ltb, lt-ltb, and_from, and_parts, cases_lt}
-use Rattle.std.proofs.lemmas.List.{take_at, drop_at, drop_all, take-append-drop, append-nil, length-append, length-take, length-replicate, get_or_past}
+use Rattle.std.proofs.lemmas.Bool.{ltb-true, ltb-false, le-ltb, lt-ltb, cases_lt}
+use Rattle.std.proofs.lemmas.List.{take_at, drop_at, drop_all, take-append-drop, append-nil, length-append, length-take, length-replicate}
 use Rattle.cs_model.specs.declared.value.Value.TheVariants.{Integer, Text, Blob, Null}
 use Rattle.cs_model.specs.declared.value.Field.{Field}
 use Rattle.cs_model.specs.declared.value.Field.TheVariants.{Undefined, Is}

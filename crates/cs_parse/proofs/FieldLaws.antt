@@ -1,5 +1,5 @@
 -- Fields and records: what is read was spelled so, and what is spelled so is read.
-use Rattle.std.proofs.Common.{◌≡◌, ℕ, zero, suc, true, cond, eqb, ltb, List, [], ◌∷◌, ◌++◌, Some, None, Result, Ok, refl, sym, ap, subst, ◌∙◌, append_assoc, arith}
+use Rattle.std.proofs.Common.{◌≡◌, ℕ, zero, suc, true, cond, eqb, ltb, List, [], ◌∷◌, ◌++◌, Some, None, Ok, refl, sym, ap, subst, ◌∙◌, append_assoc, arith}
 use Rattle.std.proofs.lemmas.Bool.{lt-ltb}
 use Rattle.cs_model.specs.declared.value.Value.TheVariants.{Integer, Text, Blob, Null}
 use Rattle.cs_model.specs.declared.value.Field.{Field}
@@ -8,7 +8,6 @@ use Rattle.cs_model.specs.Rule.{Rule, Key, Given, Open, Blank, PairedWith, meets
 use Rattle.cs_model.specs.Changeset.{IsField, Obeys}
 use Rattle.cs_model.specs.Text.{SpellsField, SpellsEach}
 use Rattle.cs_parse.specs.declared.fault.FaultKind.TheVariants.{BadType, Real}
-use Rattle.cs_parse.specs.declared.stop.Refusal.{Refusal}
 use Rattle.cs_parse.specs.Reading.{◌>>=◌, typed_at, unless_refused, field_at, record_at, integer_at, counted_at}
 use Rattle.cs_parse.specs.Place.{rule_refusal, type_refusal}
 use Rattle.cs_model.specs.Bytes.{AreBytes}
@@ -75,9 +74,6 @@ follows (PairedWith (Is old)) (Is value) h = refl
 -- a field that follows its rule, and its spelling
 abbrev Reads : Rule → List ℕ → Field × List ℕ → Type 0
 Reads rule bytes x = Takes SpellsField bytes x × IsField x.0 × (meets rule x.0 ≡ true)
-
-abbrev integer_behind : List ℕ → Result (Field × List ℕ) Refusal
-integer_behind rest = integer_at rest >>= λ number. Ok (Is (Integer number.0), number.1)
 
 typed_takes : (rule : Rule) (byte : ℕ) (rest : List ℕ) (x : Field × List ℕ) → AreBytes rest → type_refusal rule byte ≡ None → typed_at byte rest ≡ Ok x → Reads rule (byte ∷ rest) x
 unfolding typed_at

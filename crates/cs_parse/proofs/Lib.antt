@@ -19,6 +19,7 @@ pub mod ExactMany
 pub mod TextLaws
 pub mod Skims
 pub mod Counts
+pub mod Fronts
 pub mod ExactSections
 pub mod ExactText
 pub mod FaultLaws

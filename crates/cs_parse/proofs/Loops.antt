@@ -1,13 +1,12 @@
 -- Reading items one after the other, as a loop does.
 use Rattle.std.proofs.Common.{◌≡◌, ℕ, zero, suc, ◌-◌, ◌+◌, ◌<◌, ◌⊎◌, inl, inr, Bool, true, false, cond, List, [], ◌∷◌, ◌++◌, Result, Ok, Err, refl, sym, ap, ◌∙◌, append_assoc, arith}
 use Rattle.std.proofs.lemmas.List.{append-nil}
-use Rattle.cs_model.specs.declared.value.Field.{Field}
 use Rattle.cs_model.specs.Rule.{Rule}
 use Rattle.cs_parse.specs.Place.{type_refusal}
 use Rattle.cs_parse.specs.declared.stop.Stop.{Stop}
 use Rattle.cs_parse.specs.declared.stop.Stop.TheVariants as stops
 use Rattle.cs_parse.specs.declared.stop.Refusal.{Refusal}
-use Rattle.cs_parse.specs.Reading.{◌>>=◌, Fails, many_at, typed_at, unless_refused, field_at, record_at}
+use Rattle.cs_parse.specs.Reading.{◌>>=◌, Fails, many_at, typed_at, unless_refused, field_at}
 
 -- what was read before, and what is still read
 abbrev pub with_front : {A : Type 0} → List A → Result (List A × List ℕ) Refusal → Result (List A × List ℕ) Refusal
@@ -70,35 +69,10 @@ pub many_is_done : {A : Type 0} (over : List ℕ → Bool) (read : List ℕ → 
 many_is_done over read front count i bytes total done so_far =
     sym so_far ∙ ap (λ r. with_front front r) (many_done over read (count - i) bytes done) ∙ ap (λ xs. Ok (xs, bytes)) (append-nil front)
 
--- ---- record_at
-
-abbrev fields_of : List Rule → Field × List ℕ → Result (List Field × List ℕ) Refusal
-fields_of rules first = then_others first.0 (record_at rules first.1)
-
-fields_step : (front : List Field) (rule : Rule) (rules : List Rule) (bytes : List ℕ) (total : Result (List Field × List ℕ) Refusal)
-    → with_front front (record_at (rule ∷ rules) bytes) ≡ total → with_front front (field_at rule bytes >>= fields_of rules) ≡ total
-unfolding record_at
-fields_step front rule rules bytes total so_far = so_far
+-- ---- fields
 
 -- rules that refuse the same bytes read the same
 pub same_field : (a b : Rule) (bytes : List ℕ) → ((byte : ℕ) → type_refusal a byte ≡ type_refusal b byte) → field_at a bytes ≡ field_at b bytes
 unfolding field_at
 same_field a b [] h = refl
 same_field a b (byte ∷ rest) h = ap (λ o. unless_refused o rest (typed_at byte rest)) (h byte)
-
-pub fields_go_on : (front : List Field) (rule : Rule) (rules : List Rule) (bytes : List ℕ) (first : Field) (after : List ℕ) (total : Result (List Field × List ℕ) Refusal) → field_at rule bytes ≡ Ok (first, after)
-    → with_front front (record_at (rule ∷ rules) bytes) ≡ total → with_front (front ++ first ∷ []) (record_at rules after) ≡ total
-fields_go_on front rule rules bytes first after total h so_far =
-    let one = ap (λ r. with_front front (r >>= fields_of rules)) h in
-    sym (one ∙ regroup front first (record_at rules after)) ∙ fields_step front rule rules bytes total so_far
-
-pub fields_end : (e : Stop) (front : List Field) (rule : Rule) (rules : List Rule) (bytes : List ℕ) (total : Result (List Field × List ℕ) Refusal) → Fails e (field_at rule bytes)
-    → with_front front (record_at (rule ∷ rules) bytes) ≡ total → Fails e total
-fields_end e front rule rules bytes total h so_far =
-    failed e (field_at rule bytes) (λ x. with_front front (fields_of rules x)) total h
-    (sym (joined (field_at rule bytes) (fields_of rules) (λ x. Ok (front ++ x.0, x.1))) ∙ fields_step front rule rules bytes total so_far)
-
-pub fields_are_done : (front : List Field) (bytes : List ℕ) (total : Result (List Field × List ℕ) Refusal)
-    → with_front front (record_at [] bytes) ≡ total → total ≡ Ok (front, bytes)
-unfolding record_at
-fields_are_done front bytes total so_far = sym so_far ∙ ap (λ xs. Ok (xs, bytes)) (append-nil front)

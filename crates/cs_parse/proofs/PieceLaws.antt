@@ -2,7 +2,7 @@
 use Rattle.std.proofs.Common.{◌≡◌, ℕ, suc, ◌+◌, ◌-◌, ◌<◌, ◌≤◌, ◌⊎◌, inl, inr, Bool, true, false, cond, List, [], ◌∷◌, ◌++◌, length, take, get_or, Option, Some, None, Result, Ok, Err, slice_get, refl, sym, ap, subst, ◌∙◌, append_assoc, arith, zero}
 use Rattle.std.proofs.lemmas.Bool.{false≢true, cases_lt}
 use Rattle.std.proofs.lemmas.List.{append-nil, take-append-le, take_all, length-append, get_or_append_left, get_or-append-add}
-use Rattle.cs_model.specs.declared.change.Section.{Section}
+use Rattle.cs_model.specs.Section.{Section}
 use Rattle.cs_model.specs.declared.value.Field.TheVariants.{Undefined, Is}
 use Rattle.cs_model.specs.Rule.{Rule, Key, Given, Open, Blank, PairedWith}
 use Rattle.cs_model.specs.Changeset.{most_bytes}

@@ -3,10 +3,8 @@ use Rattle.std.proofs.Common.{◌≡◌, ℕ, suc, ◌-◌, ◌+◌, ◌<◌, �
 use Rattle.std.proofs.lemmas.List.{length-append}
 use Rattle.std.specs.List.{flat_map}
 use Rattle.cs_model.specs.declared.value.Field.{Field}
-use Rattle.cs_model.specs.declared.shape.Shape.{Shape}
-use Rattle.cs_model.specs.declared.change.Change.{Change}
 use Rattle.cs_model.specs.declared.change.Op.TheVariants.{Update}
-use Rattle.cs_model.specs.declared.change.Section.{Section}
+use Rattle.cs_model.specs.Section.{Section}
 use Rattle.cs_model.specs.Rule.{Rule, old_rule, new_rules}
 use Rattle.cs_parse.specs.declared.stop.Refusal.{Refusal}
 use Rattle.cs_parse.specs.Reading.{◌>>=◌, many_at, field_at, record_at, records_at}
@@ -153,7 +151,3 @@ size section = length section.changes
 
 pub sizes : IsSum changes_in size
 sizes = record { none = refl; more = λ section sections. length-append section.changes (flat_map (λ s. s.changes) sections) }
-
-pub section_counts : (shape : Shape) (r : Result (List Change × List ℕ) Refusal) → counted size (r >>= λ changes. Ok (record { shape = shape; changes = changes.0 }, changes.1)) ≡ counted length r
-section_counts shape (Ok x) = refl
-section_counts shape (Err e) = refl

@@ -5,7 +5,7 @@ use Rattle.std.proofs.lemmas.Bool.{eqb-true, ltb-false, le-ltb, lt-ltb, ne_eqb}
 use Rattle.std.proofs.lemmas.List.{append-nil, nil_from_length, length-append, length-take}
 use Rattle.cs_model.specs.declared.shape.Shape.{Shape}
 use Rattle.cs_model.specs.declared.change.Change.{Change}
-use Rattle.cs_model.specs.declared.change.Section.{Section}
+use Rattle.cs_model.specs.Section.{Section}
 use Rattle.cs_model.specs.Changeset.{IsSection, IsChangeset, most_bytes}
 use Rattle.cs_model.specs.Text.{SpellsEach, SpellsSection, Spells}
 use Rattle.cs_parse.specs.declared.fault.FaultKind.{FaultKind}

@@ -1,6 +1,6 @@
 -- How many changes a text spells.
 use Rattle.std.specs.Prelude.{◌≡◌, ℕ, List, length, Result, Ok, Err}
-use Rattle.cs_model.specs.declared.change.Section.{Section}
+use Rattle.cs_model.specs.Section.{Section}
 use Rattle.cs_model.specs.Changeset.{all_changes}
 use Rattle.cs_model.specs.Text.{Spells}
 use Rattle.cs_parse.specs.declared.fault.ParseFault.{ParseFault}

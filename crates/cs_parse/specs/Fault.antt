@@ -1,7 +1,7 @@
 -- The fault of a text.
 use Rattle.std.specs.Prelude.{◌≡◌, ℕ, suc, ◌<◌, ◌≤◌, ◌⊎◌, List, ◌++◌, length, take, slice_get, Some}
 use Rattle.cs_model.specs.Bytes.{AreBytes}
-use Rattle.cs_model.specs.declared.change.Section.{Section}
+use Rattle.cs_model.specs.Section.{Section}
 use Rattle.cs_model.specs.Changeset.{IsChangeset, most_bytes}
 use Rattle.cs_model.specs.Text.{SpellsEach, SpellsSection, Spells}
 use Rattle.cs_parse.specs.declared.fault.FaultKind.TheVariants.{TooLong, Truncated}

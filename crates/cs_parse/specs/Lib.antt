@@ -4,6 +4,6 @@ pub mod Fault
 pub mod Answer
 pub mod FieldRules
 pub mod Reading
-pub mod Standing
+pub mod Seen
 pub mod Count
 pub mod Pieces

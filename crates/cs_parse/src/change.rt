@@ -1,18 +1,20 @@
 //! Changes.
 
-ghost use Rattle.std.specs.Prelude.{◌≡◌, ◌==◌, length, if◌then◌else◌};
+ghost use Rattle.std.specs.Prelude.{◌≡◌, ◌==◌, length, if◌then◌else◌, IfOk};
 ghost use Rattle.cs_parse.specs.declared.fault.FaultKind.TheVariants.{Patchset, BadOperation};
 ghost use Rattle.cs_parse.specs.declared.stop.Refusal.TheVariants.{Bad};
-ghost use Rattle.cs_parse.specs.Reading.{Gives, op_of, marked_at, change_at, ends_section, changes_at, many_at};
+ghost use Rattle.cs_parse.specs.Count.{behind, counted};
+ghost use Rattle.cs_parse.specs.Reading.{Reads, Gives, op_of, marked_at, change_at, ends_section, changes_at, many_at};
 
 use crate::fault::FaultKind;
-use crate::record::records_of;
+use crate::record::skip_records;
 use crate::stop::{Refusal, Stop};
-use cs_model::{Change, Op};
+use cs_model::laws::{changes_fit, spelled_is_said};
+use cs_model::{Changes, Op};
 use std::alloc::Global;
 
-/// The operation of a byte.
-pub fn op_by_byte(byte: u8) -> Option<Op>
+// the operation of a byte
+fn op_by_byte(byte: u8) -> Option<Op>
     ensures { result ≡ op_of byte }
 {
     match byte {
@@ -23,31 +25,19 @@ pub fn op_by_byte(byte: u8) -> Option<Op>
     }
 }
 
-// a change behind its operation byte
+// the bytes behind a change whose operation byte was read
 #[tactic(auto, unfolding(crate::specs::Reading::marked_at))]
-fn marked_of<'a>(
-    alloc: Global,
-    flags: &[u8],
-    op: Op,
-    bytes: &'a [u8],
-) -> Result<(Change, &'a [u8]), Stop>
-    ensures { Gives (λ x. (x.0, x.1.now)) result (marked_at flags.now op bytes.now) }
+fn skip_marked<'a>(flags: &[u8], op: Op, bytes: &'a [u8]) -> Result<&'a [u8], Refusal>
+    ensures { Reads (λ rest. rest.now) result (behind (marked_at flags.now op bytes.now)) }
 {
-    let Some((&mark, rest)) = bytes.split_first() else {
-        return Err(Stop::Refused(Refusal::Short));
+    let Some((_, rest)) = bytes.split_first() else {
+        return Err(Refusal::Short);
     };
-    let ((before, after), rest) = records_of(alloc, flags, op, rest)?;
-    let change = Change {
-        op,
-        indirect: mark != 0,
-        before,
-        after,
-    };
-    Ok((change, rest))
+    skip_records(flags, op, rest)
 }
 
-/// Why no change begins with this byte, which is the first of `left` bytes.
-pub fn no_change(byte: u8, left: usize) -> Refusal
+// why no change begins with this byte, which is the first of `left` bytes
+fn no_change(byte: u8, left: usize) -> Refusal
     ensures { result ≡ Bad left (if byte == 80 then Patchset else BadOperation) }
 {
     let kind = if byte == 0x50 {
@@ -58,22 +48,22 @@ pub fn no_change(byte: u8, left: usize) -> Refusal
     Refusal::Bad { left, kind }
 }
 
-// a change of a table with these key bytes
+// the bytes behind a change
 #[tactic(auto, unfolding(crate::specs::Reading::change_at))]
-fn change_of<'a>(alloc: Global, flags: &[u8], bytes: &'a [u8]) -> Result<(Change, &'a [u8]), Stop>
-    ensures { Gives (λ x. (x.0, x.1.now)) result (change_at flags.now bytes.now) }
+fn skip_change<'a>(flags: &[u8], bytes: &'a [u8]) -> Result<&'a [u8], Refusal>
+    ensures { Reads (λ rest. rest.now) result (behind (change_at flags.now bytes.now)) }
 {
     let Some((&byte, rest)) = bytes.split_first() else {
-        return Err(Stop::Refused(Refusal::Short));
+        return Err(Refusal::Short);
     };
     match op_by_byte(byte) {
-        Some(op) => marked_of(alloc, flags, op, rest),
-        None => Err(Stop::Refused(no_change(byte, bytes.len()))),
+        Some(op) => skip_marked(flags, op, rest),
+        None => Err(no_change(byte, bytes.len())),
     }
 }
 
-/// Whether no change of a section follows.
-pub fn is_over(bytes: &[u8]) -> bool
+// whether no change of a section follows
+fn is_over(bytes: &[u8]) -> bool
     ensures { result ≡ ends_section bytes.now }
 {
     match bytes {
@@ -82,24 +72,38 @@ pub fn is_over(bytes: &[u8]) -> bool
     }
 }
 
-/// A section's changes, up to the next header or the end.
-pub fn changes_of<'a>(
-    alloc: Global,
-    flags: &[u8],
-    bytes: &'a [u8],
-) -> Result<(Vec<Change>, &'a [u8]), Stop>
-    ensures { Gives (λ x. (x.0.items, x.1.now)) result (changes_at flags.now bytes.now) }
+/// How many changes a section has, up to the next header or the end, and the bytes behind them.
+pub fn changes_counted<'a>(flags: &[u8], bytes: &'a [u8]) -> Result<(usize, &'a [u8]), Refusal>
+    ensures { Reads (λ x. (x.0, x.1.now)) result (counted length (changes_at flags.now bytes.now)) }
 {
-    let mut changes = Vec::new(alloc);
+    let mut count: usize = 0;
     let mut rest = bytes;
     // each turn takes a byte at least
     for _ in 0..bytes.len() {
         if is_over(rest) {
             break;
         }
-        let (change, after) = change_of(alloc, flags, rest)?;
-        changes.push(change)?;
-        rest = after;
+        rest = skip_change(flags, rest)?;
+        count += 1;
     }
+    Ok((count, rest))
+}
+
+/// A section's changes, up to the next header or the end. Their bytes are gone over first, so that they are copied as a
+/// whole, and memory is taken once.
+pub fn changes_of<'a>(
+    alloc: Global,
+    flags: &[u8],
+    bytes: &'a [u8],
+) -> Result<(Changes, &'a [u8]), Stop>
+    ensures read { Gives (λ x. (x.0.1, x.1.now)) result (changes_at flags.now bytes.now) }
+    ensures columns { IfOk result (λ x. x.0.0 ≡ length flags.now) }
+{
+    let (_, rest) = changes_counted(flags, bytes)?;
+    let (text, _) = bytes.split_at(bytes.len() - rest.len());
+    changes_fit();
+    spelled_is_said();
+    let mut changes = Changes::new(alloc, flags.len());
+    changes.append_text(text)?;
     Ok((changes, rest))
 }

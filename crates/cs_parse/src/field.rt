@@ -1,15 +1,14 @@
 //! Fields. Their readers are inlined: there is one for each column of each change, and a call costs more than most fields.
 
-ghost use Rattle.std.specs.Prelude.{◌≡◌, IfOk, length};
+ghost use Rattle.std.specs.Prelude.{◌≡◌, length};
 ghost use Rattle.cs_model.specs.Seen.{field_seen};
 ghost use Rattle.cs_parse.specs.FieldRules.{rule_of};
-ghost use Rattle.cs_parse.specs.Reading.{Reads, Gives, counted_at, typed_at, field_at};
+ghost use Rattle.cs_parse.specs.Reading.{Reads, counted_at, typed_at, field_at};
 
 use crate::number::{integer_of, length_of};
 use crate::rule::{FieldRule, type_fault};
-use crate::stop::{Refusal, Stop};
-use cs_model::{Field, FieldRef, Octets, Seq, Value};
-use std::alloc::{AllocError, Global};
+use crate::stop::Refusal;
+use cs_model::FieldRef;
 
 // a length, and that many bytes
 #[tactic(auto, unfolding(crate::specs::Reading::counted_at))]
@@ -63,33 +62,4 @@ pub fn field_in(rule: FieldRule, bytes: &[u8]) -> Result<(FieldRef, &[u8]), Refu
         });
     }
     typed_of(byte, rest)
-}
-
-fn octets(alloc: Global, bytes: &[u8]) -> Result<Octets, AllocError>
-    ensures { IfOk result (λ copy. copy ≡ bytes.now) }
-{
-    Ok(Seq::from_vec(Vec::from_slice(alloc, bytes)?))
-}
-
-// the field with bytes of its own
-#[inline(always)]
-fn owned(alloc: Global, field: FieldRef) -> Result<Field, AllocError>
-    ensures { IfOk result (λ copy. copy ≡ field_seen field.entry) }
-{
-    Ok(match field {
-        FieldRef::Undefined => Field::Undefined,
-        FieldRef::Integer(number) => Field::Is(Value::Integer(number)),
-        FieldRef::Text(bytes) => Field::Is(Value::Text(octets(alloc, bytes)?)),
-        FieldRef::Blob(bytes) => Field::Is(Value::Blob(octets(alloc, bytes)?)),
-        FieldRef::Null => Field::Is(Value::Null),
-    })
-}
-
-/// A field under a rule. Its bytes have come before memory is taken for them.
-#[inline(always)]
-pub fn field_of(alloc: Global, rule: FieldRule, bytes: &[u8]) -> Result<(Field, &[u8]), Stop>
-    ensures { Gives (λ x. (x.0, x.1.now)) result (field_at (rule_of rule) bytes.now) }
-{
-    let (field, rest) = field_in(rule, bytes)?;
-    Ok((owned(alloc, field)?, rest))
 }

@@ -3,7 +3,7 @@
 ghost use Rattle.std.specs.Prelude.{◌≡◌, ◌==◌, ◌<◌, length, nat_lt, position, IfOk, IfSome};
 ghost use Rattle.std.specs.List.{list_any};
 ghost use Rattle.cs_parse.specs.Reading.{Reads, flags_at, letters_at, name_at, header_at};
-ghost use Rattle.cs_parse.specs.Standing.{shape_seen};
+ghost use Rattle.cs_parse.specs.Seen.{shape_seen};
 
 use crate::fault::FaultKind;
 use crate::number::columns_of;

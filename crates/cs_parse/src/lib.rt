@@ -13,7 +13,6 @@ mod pieces;
 mod record;
 mod rule;
 mod section;
-mod skim;
 mod stop;
 mod whole;
 

@@ -77,9 +77,7 @@ impl PieceParser {
             return Err(ParseError::Fault(fault));
         }
         let start = self.text.len();
-        if self.text.extend_from_slice(piece).is_err() {
-            return Err(ParseError::Memory);
-        }
+        self.text.extend_from_slice(piece)?;
         let answer = match parse(alloc, &self.text) {
             Ok(changeset) => Ok(changeset),
             Err(ParseError::Fault(fault)) => Err(fault),

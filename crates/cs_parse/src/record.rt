@@ -1,85 +1,57 @@
-//! Records.
+//! Records. They are read where they stand: whoever keeps them copies their bytes behind it.
 
-ghost use Rattle.std.specs.Prelude.{◌≡◌, map};
-ghost use Rattle.cs_model.specs.Rule.{new_rules};
-ghost use Rattle.cs_model.specs.Rule.{is_defined};
+ghost use Rattle.std.specs.Prelude.{◌≡◌, ℕ, List, Ok, map};
+ghost use Rattle.cs_model.specs.declared.value.Field.{Field};
+ghost use Rattle.cs_model.specs.Rule.{old_rule, new_rules};
+ghost use Rattle.cs_parse.specs.Count.{behind};
 ghost use Rattle.cs_parse.specs.FieldRules.{rule_of, column_rule};
-ghost use Rattle.cs_parse.specs.Reading.{Gives, record_at, records_at};
+ghost use Rattle.cs_parse.specs.Reading.{Reads, record_at, records_at};
 
-use crate::field::field_of;
+use crate::field::field_in;
 use crate::rule::{FieldRule, rule_by_flag, rule_by_old};
-use crate::stop::Stop;
-use cs_model::{Field, Op, Seq};
-use std::alloc::Global;
+use crate::stop::Refusal;
+use cs_model::Op;
 
-// A field for each column, where those outside the key have this rule.
-fn record_of<'a>(
-    alloc: Global,
-    outside: FieldRule,
-    flags: &[u8],
-    bytes: &'a [u8],
-) -> Result<(Vec<Field>, &'a [u8]), Stop>
-    ensures { Gives (λ x. (x.0.items, x.1.now)) result (record_at (map (column_rule (rule_of outside)) flags.now) bytes.now) }
+// the bytes behind a record, where the columns outside the key have this rule
+fn skip_record<'a>(outside: FieldRule, flags: &[u8], bytes: &'a [u8]) -> Result<&'a [u8], Refusal>
+    ensures { Reads (λ rest. rest.now) result (behind (record_at (map (column_rule (rule_of outside)) flags.now) bytes.now)) }
 {
-    let mut fields = Vec::with_capacity(alloc, flags.len())?;
     let mut rest = bytes;
     for &flag in flags {
-        let (field, after) = field_of(alloc, rule_by_flag(flag, outside), rest)?;
-        fields.push(field)?;
+        let (_, after) = field_in(rule_by_flag(flag, outside), rest)?;
         rest = after;
     }
-    Ok((fields, rest))
+    Ok(rest)
 }
 
-fn has_value(field: &Field) -> bool
-    ensures { result ≡ is_defined field.now }
+// The bytes behind an UPDATE's new record. Its rules come from the old one, which begins at `old` and is read again, field
+// by field beside the new one.
+fn skip_new<'a>(flags: &[u8], old: &[u8], bytes: &'a [u8]) -> Result<&'a [u8], Refusal>
+    ensures { (before : List Field) (left : List ℕ) → record_at (map old_rule flags.now) old.now ≡ Ok (before, left)
+        → Reads (λ rest. rest.now) result (behind (record_at (new_rules flags.now before) bytes.now)) }
 {
-    matches!(field, Field::Is(_))
-}
-
-// An UPDATE's new record, behind its old one.
-fn new_of<'a>(
-    alloc: Global,
-    flags: &[u8],
-    before: &[Field],
-    bytes: &'a [u8],
-) -> Result<(Vec<Field>, &'a [u8]), Stop>
-    ensures { Gives (λ x. (x.0.items, x.1.now)) result (record_at (new_rules flags.now before.now) bytes.now) }
-{
-    let mut fields = Vec::with_capacity(alloc, flags.len())?;
+    let mut old_rest = old;
     let mut rest = bytes;
-    for (&flag, old) in flags.iter().zip(before) {
-        let (field, after) = field_of(alloc, rule_by_old(flag, has_value(old)), rest)?;
-        fields.push(field)?;
+    for &flag in flags {
+        let (field, old_after) = field_in(rule_by_flag(flag, FieldRule::Open), old_rest)?;
+        let (_, after) = field_in(rule_by_old(flag, field.has_value()), rest)?;
+        old_rest = old_after;
         rest = after;
     }
-    Ok((fields, rest))
+    Ok(rest)
 }
 
-/// A change's old record and its new one, of which an INSERT has no old one and a DELETE no new one.
+/// The bytes behind a change's records, of which an INSERT has no old one and a DELETE no new one.
 #[tactic(auto, unfolding(crate::specs::Reading::records_at))]
-pub fn records_of<'a>(
-    alloc: Global,
-    flags: &[u8],
-    op: Op,
-    bytes: &'a [u8],
-) -> Result<((Seq<Field>, Seq<Field>), &'a [u8]), Stop>
-    ensures { Gives (λ x. (x.0, x.1.now)) result (records_at flags.now op bytes.now) }
+pub fn skip_records<'a>(flags: &[u8], op: Op, bytes: &'a [u8]) -> Result<&'a [u8], Refusal>
+    ensures { Reads (λ rest. rest.now) result (behind (records_at flags.now op bytes.now)) }
 {
-    let none = Seq::from_vec(Vec::new(alloc));
     match op {
-        Op::Insert => {
-            let (row, rest) = record_of(alloc, FieldRule::Given, flags, bytes)?;
-            Ok(((none, Seq::from_vec(row)), rest))
-        }
+        Op::Insert => skip_record(FieldRule::Given, flags, bytes),
         Op::Update => {
-            let (old, rest) = record_of(alloc, FieldRule::Open, flags, bytes)?;
-            let (new, rest) = new_of(alloc, flags, &old, rest)?;
-            Ok(((Seq::from_vec(old), Seq::from_vec(new)), rest))
+            let rest = skip_record(FieldRule::Open, flags, bytes)?;
+            skip_new(flags, bytes, rest)
         }
-        Op::Delete => {
-            let (row, rest) = record_of(alloc, FieldRule::Given, flags, bytes)?;
-            Ok(((Seq::from_vec(row), none), rest))
-        }
+        Op::Delete => skip_record(FieldRule::Given, flags, bytes),
     }
 }

@@ -1,16 +1,20 @@
 //! Texts and what they spell, by the format and not by this program.
 
+ghost use Rattle.std.specs.Prelude.{◌≡◌, [], length, IfOk};
+ghost use Rattle.cs_model.specs.PackedChanges.{Long};
+
 use super::*;
 use crate::fault::FaultKind::{
     BadMarker, BadOperation, BadType, Columns, EmptyName, KeyChanged, KeyMissing, NameTooLong,
     NoKey, OneSided, Patchset, Real, TooLong, Truncated, UndefinedField, ValueTooLong,
 };
-use cs_model::{Change, Field, Octets, Op, Section, Seq, Shape, Value};
+use cs_model::{Change, Changes, Field, Op, Section, Seq, Shape, Value};
 use std::alloc::{AllocError, Global};
 use std::process::Abort;
 use std::test::*;
 
 mod cuts;
+mod spellings;
 
 // the header of a table `t` with two columns, of which the first is its key
 const HEADER: [u8; 6] = [0x54, 2, 1, 0, 0x74, 0];
@@ -25,23 +29,27 @@ const LOOSE: [u8; 22] = [
     0x54, 0x80, 2, 1, 0, 0x74, 0, 0x12, 5, 1, 0, 0, 0, 0, 0, 0, 0, 1, 3, 0x80, 1, 0x78,
 ];
 
-fn octets(alloc: Global, bytes: &[u8]) -> Result<Octets, AllocError> {
-    Ok(Seq::from_vec(Vec::from_slice(alloc, bytes)?))
+// a record: 1 in the key column or nothing, and this text in the other or nothing
+fn fields(alloc: Global, has_key: bool, text: Option<&[u8]>) -> Result<Seq<Field>, AllocError>
+    ensures { IfOk result (λ fields. length fields ≡ 2) }
+{
+    let key = if has_key {
+        Field::Is(Value::Integer(1))
+    } else {
+        Field::Undefined
+    };
+    let other = match text {
+        Some(bytes) => Field::Is(Value::Text(Seq::from_slice(alloc, bytes)?)),
+        None => Field::Undefined,
+    };
+    Ok(Seq::from_vec(vec![in alloc; key, other]?))
 }
 
-// a record: 1 in the key column or nothing, and this text in the other or nothing
-fn fields(alloc: Global, has_key: bool, text: Option<&[u8]>) -> Result<Vec<Field>, AllocError> {
-    let mut fields = Vec::new(alloc);
-    if has_key {
-        fields.push(Field::Is(Value::Integer(1)))?;
-    } else {
-        fields.push(Field::Undefined)?;
-    }
-    match text {
-        Some(bytes) => fields.push(Field::Is(Value::Text(octets(alloc, bytes)?)))?,
-        None => fields.push(Field::Undefined)?,
-    }
-    Ok(fields)
+// a record that a change doesn't have
+fn no_fields(alloc: Global) -> Seq<Field>
+    ensures { result ≡ [] }
+{
+    Seq::from_vec(Vec::new(alloc))
 }
 
 // the section of the table in HEADER with this one change
@@ -49,24 +57,24 @@ fn section(
     alloc: Global,
     op: Op,
     indirect: bool,
-    before: Vec<Field>,
-    after: Vec<Field>,
-) -> Result<Section, AllocError> {
-    let shape = Shape {
-        name: octets(alloc, b"t")?,
-        flags: octets(alloc, &[1, 0])?,
-    };
-    let mut changes = Vec::new(alloc);
-    changes.push(Change {
+    before: Seq<Field>,
+    after: Seq<Field>,
+) -> Result<Section, AllocError>
+    requires { Long 2 op before after }
+{
+    let change = Change {
         op,
         indirect,
-        before: Seq::from_vec(before),
-        after: Seq::from_vec(after),
-    })?;
-    Ok(Section {
-        shape,
-        changes: Seq::from_vec(changes),
-    })
+        before,
+        after,
+    };
+    let mut changes = Changes::new(alloc, 2);
+    changes.push_change(alloc, &change)?;
+    let shape = Shape {
+        name: Seq::from_slice(alloc, b"t")?,
+        flags: Seq::from_slice(alloc, &[1, 0])?,
+    };
+    Ok(Section::new(shape, changes))
 }
 
 // whether a text is read as this section alone, which has one change
@@ -87,7 +95,7 @@ fn is_section(alloc: Global, text: &[u8], expected: &Section) -> Result<bool, Fa
 // whether a text is read as the section with one INSERT of 1 and this text
 fn is_insert(alloc: Global, text: &[u8], indirect: bool, value: &[u8]) -> Result<bool, Fail> {
     let row = fields(alloc, true, Some(value))?;
-    let expected = section(alloc, Op::Insert, indirect, Vec::new(alloc), row)?;
+    let expected = section(alloc, Op::Insert, indirect, no_fields(alloc), row)?;
     is_section(alloc, text, &expected)
 }
 
@@ -156,7 +164,7 @@ fn deletes(rt: HostRuntime) -> Result<(), Fail> {
     let alloc = rt.alloc();
     let change = [9, 0, 1, 0, 0, 0, 0, 0, 0, 0, 1, 3, 1, 0x78];
     let row = fields(alloc, true, Some(b"x"))?;
-    let expected = section(alloc, Op::Delete, false, row, Vec::new(alloc))?;
+    let expected = section(alloc, Op::Delete, false, row, no_fields(alloc))?;
     assert!(rt; is_section(alloc, &joined(alloc, &HEADER, &change)?, &expected)?);
     Ok(())
 }
@@ -173,7 +181,7 @@ fn many_changes(rt: HostRuntime) -> Result<(), Fail> {
     match parse(alloc, &text) {
         Ok(read) => match read.sections() {
             [first, second] => {
-                assert_eq!(rt; first.changes[..].len(), 3);
+                assert_eq!(rt; first.changes().len(), 3);
                 assert!(rt; *first == *second);
             }
             _ => Err("not two sections")?,

@@ -3,7 +3,7 @@
 ghost use Rattle.std.specs.Prelude.{◌≡◌, ◌≤◌, List, IfOk, IfErr, Ok, Err, length};
 ghost use Rattle.cs_parse.specs.declared.fault.ParseFault.{ParseFault};
 ghost use Rattle.cs_parse.specs.Fault.{IsFault};
-ghost use Rattle.cs_model.specs.declared.change.Section.{Section};
+ghost use Rattle.cs_model.specs.Section.{Section};
 ghost use Rattle.cs_model.specs.Text.{Spells};
 ghost use Rattle.cs_model.specs.Changeset.{most_bytes};
 ghost use Rattle.cs_parse.specs.Answer.{IsRead, Answers, Tells};
@@ -11,8 +11,7 @@ ghost use Rattle.cs_parse.specs.Count.{changes_in, counted_answer, HasChanges};
 ghost use Rattle.cs_parse.specs.Reading.{answer_of, fault_of, sections_at, placed, cut};
 
 use crate::fault::{FaultKind, ParseError, ParseFault};
-use crate::section::sections_of;
-use crate::skim::sections_counted;
+use crate::section::{sections_counted, sections_of};
 use crate::stop::{Refusal, Stop};
 use cs_model::{Changeset, Section, Seq};
 use std::alloc::Global;

@@ -1,17 +1,17 @@
 -- The canonical form of a changeset is one.
-use Rattle.std.proofs.Common.{◌≡◌, Bool, true, false, cond, inl, inr, List, [], ◌∷◌, ◌++◌, map, refl, sym, ap, subst, ◌∙◌}
+use Rattle.std.proofs.Common.{◌≡◌, Bool, true, false, cond, inl, inr, List, [], ◌∷◌, ◌++◌, length, map, refl, sym, ap, subst}
 use Rattle.std.specs.Prelude.{filter}
-use Rattle.std.specs.List.{AllByRecursion, flat_map}
+use Rattle.std.specs.List.{AllByRecursion}
 use Rattle.std.proofs.lemmas.Bool.{cases_Bool}
 use Rattle.cs_model.specs.declared.shape.Shape.{Shape}
-use Rattle.cs_model.specs.declared.change.Change.{Change}
-use Rattle.cs_model.specs.declared.change.Section.{Section}
+use Rattle.cs_model.specs.Section.{Section}
 use Rattle.cs_model.specs.Schema.{same_shape, has_shape}
-use Rattle.cs_model.specs.Changeset.{IsShape, IsChange, IsSection, IsChangeset}
+use Rattle.cs_model.specs.Changeset.{IsChange, IsSection, IsChangeset}
 use Rattle.cs_model.specs.Changeset.{all_changes}
-use Rattle.cs_write.specs.Canon.{Group, with_shape, by_shape, joined, has_changes, canon_of, canon}
+use Rattle.cs_write.specs.Canon.{with_shape, by_shape, joined, has_changes, canon}
+use Rattle.cs_write.specs.Groups.{HasColumns, IsAlike}
 use Rattle.cs_write.proofs.Shapes.{shape_is}
-use Rattle.cs_write.proofs.GroupLaws.{begun, by_shape-cons}
+use Rattle.cs_write.proofs.GroupLaws.{begun}
 
 chosen : {A : Type 0} (P : A → Type 0) (b : Bool) (x : A) (xs : List A) → P x → AllByRecursion P xs → AllByRecursion P (cond b (x ∷ xs) xs)
 chosen P true x xs h k = (h, k)
@@ -54,3 +54,23 @@ grouped_fit earlier (s ∷ ss) h =
 
 pub canon_fits : (sections : List Section) → IsChangeset sections → IsChangeset (canon sections)
 canon_fits sections h = filtered IsSection has_changes (map joined (by_shape [] sections)) (grouped_fit [] sections h)
+
+-- ---- groups are of sections with as many columns
+
+shaped : (shape : Shape) (ss : List Section) → AllByRecursion (HasColumns (length shape.flags)) (with_shape shape ss)
+shaped shape [] = tt
+shaped shape (s ∷ ss) =
+    elim (cases_Bool (same_shape s.shape shape)) [
+      | inl is ↦ subst (λ b. AllByRecursion (HasColumns (length shape.flags)) (cond b (s ∷ with_shape shape ss) (with_shape shape ss))) (sym is) (ap (λ (w : Shape). length w.flags) (shape_is s.shape shape is), shaped shape ss)
+      | inr other ↦ subst (λ b. AllByRecursion (HasColumns (length shape.flags)) (cond b (s ∷ with_shape shape ss) (with_shape shape ss))) (sym other) (shaped shape ss)
+    ]
+
+begun_alike : (b : Bool) (earlier : List Shape) (s : Section) (ss : List Section) → AllByRecursion IsAlike (by_shape earlier ss) → AllByRecursion IsAlike (by_shape (s.shape ∷ earlier) ss)
+    → AllByRecursion IsAlike (begun b earlier s ss)
+begun_alike true earlier s ss old new = old
+begun_alike false earlier s ss old new = ((refl, shaped s.shape ss), new)
+
+pub groups_alike : (earlier : List Shape) (ss : List Section) → AllByRecursion IsAlike (by_shape earlier ss)
+unfolding by_shape
+groups_alike earlier [] = tt
+groups_alike earlier (s ∷ ss) = begun_alike (has_shape earlier s.shape) earlier s ss (groups_alike earlier ss) (groups_alike (s.shape ∷ earlier) ss)

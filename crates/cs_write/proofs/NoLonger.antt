@@ -10,14 +10,16 @@ use Rattle.cs_model.specs.declared.value.Field.{Field}
 use Rattle.cs_model.specs.declared.value.Field.TheVariants.{Undefined, Is}
 use Rattle.cs_model.specs.declared.shape.Shape.{Shape}
 use Rattle.cs_model.specs.declared.change.Change.{Change}
-use Rattle.cs_model.specs.declared.change.Section.{Section}
+use Rattle.cs_model.specs.Section.{Section}
 use Rattle.cs_model.specs.Schema.{same_shape}
 use Rattle.cs_model.specs.Varint.{IsVarint, varint}
 use Rattle.cs_model.specs.FieldBytes.{field_bytes}
 use Rattle.cs_model.specs.Text.{SpellsBytes, SpellsField, SpellsEach, SpellsChange, SpellsHeader, SpellsSection, Spells}
 use Rattle.cs_model.specs.Changeset.{all_changes}
 use Rattle.cs_write.specs.Canon.{Group, by_shape, joined, has_changes, canon}
-use Rattle.cs_write.specs.Text.{header_text, record_text, change_text, changes_text, section_text, sections_text, text_of}
+use Rattle.cs_model.specs.Packed.{packed}
+use Rattle.cs_model.specs.PackedChanges.{change_bytes, changes_bytes}
+use Rattle.cs_write.specs.Text.{header_text, section_text, sections_text, text_of}
 use Rattle.cs_write.specs.Groups.{added, group_text, groups_text}
 use Rattle.cs_write.proofs.Shapes.{shape_is}
 use Rattle.cs_write.proofs.GroupLaws.{by_shape-more, none_grouped}
@@ -62,12 +64,12 @@ field_least shortest text (Is (Text bytes)) are h = omega (arith, ap length h.1,
 field_least shortest text (Is (Blob bytes)) are h = omega (arith, ap length h.1, counted shortest h.0 bytes (back_bytes (4 ∷ []) h.0 (subst AreBytes h.1 are)) h.2)
 field_least shortest text (Is Null) are h = omega (arith, ap length h)
 
-change_least : AreShortest → (text : List ℕ) (change : Change) → AreBytes text → SpellsChange text change → length (change_text change) ≤ length text
+change_least : AreShortest → (text : List ℕ) (change : Change) → AreBytes text → SpellsChange text change → length (change_bytes change) ≤ length text
 change_least shortest text change are h =
     let both : AreBytes (h.old ++ h.new) = λ i. subst AreBytes h.parts are (suc (suc i)) in
     let old = each SpellsField field_bytes (field_least shortest) h.old change.before (front_bytes h.old h.new both) h.is_old in
     let new = each SpellsField field_bytes (field_least shortest) h.new change.after (back_bytes h.old h.new both) h.is_new in
-    omega (arith, old, new, ap length h.parts, length-append h.old h.new, length-append (record_text change.before) (record_text change.after))
+    omega (arith, old, new, ap length h.parts, length-append h.old h.new, length-append (packed change.before) (packed change.after))
 
 header_least : AreShortest → (text : List ℕ) (shape : Shape) → AreBytes text → SpellsHeader text shape → length (header_text shape) ≤ length text
 header_least shortest text shape are h =
@@ -80,8 +82,8 @@ section_least : AreShortest → (text : List ℕ) (section : Section) → AreByt
 section_least shortest text section are h =
     let both = subst AreBytes h.parts are in
     let header = header_least shortest h.header section.shape (front_bytes h.header h.body both) h.is_header in
-    let body = each SpellsChange change_text (change_least shortest) h.body section.changes (back_bytes h.header h.body both) h.is_body in
-    omega (arith, header, body, ap length h.parts, length-append h.header h.body, length-append (header_text section.shape) (changes_text section.changes))
+    let body = each SpellsChange change_bytes (change_least shortest) h.body section.changes (back_bytes h.header h.body both) h.is_body in
+    omega (arith, header, body, ap length h.parts, length-append h.header h.body, length-append (header_text section.shape) (changes_bytes section.changes))
 
 -- ---- grouping
 
@@ -89,25 +91,25 @@ flat_length : {A : Type 0} (text : A → List ℕ) (xs ys : List A) → length (
 flat_length text xs ys = ap length (flat_map-append text xs ys) ∙ length-append (flat_map text xs) (flat_map text ys)
 
 -- the changes of one section more
-one_more : (ss : List Section) (s : Section) → length (changes_text (all_changes (ss ++ s ∷ []))) ≡ length (changes_text (all_changes ss)) + length (changes_text s.changes)
-one_more [] s = omega (arith, ap (λ cs. length (changes_text cs)) (append-nil s.changes))
-one_more (t ∷ ss) s = omega (arith, flat_length change_text t.changes (all_changes (ss ++ s ∷ [])), flat_length change_text t.changes (all_changes ss), one_more ss s)
+one_more : (ss : List Section) (s : Section) → length (changes_bytes (all_changes (ss ++ s ∷ []))) ≡ length (changes_bytes (all_changes ss)) + length (changes_bytes s.changes)
+one_more [] s = omega (arith, ap (λ cs. length (changes_bytes cs)) (append-nil s.changes))
+one_more (t ∷ ss) s = omega (arith, flat_length change_bytes t.changes (all_changes (ss ++ s ∷ [])), flat_length change_bytes t.changes (all_changes ss), one_more ss s)
 
 -- a group's text, where this says whether it has a change
 abbrev text_if : Bool → Group → List ℕ
 text_if b g = cond b (section_text (joined g)) []
 
-at_most : (b : Bool) (g : Group) → length (text_if b g) ≤ length (header_text g.0) + length (changes_text (all_changes g.1))
-at_most true g = omega (arith, length-append (header_text g.0) (changes_text (all_changes g.1)))
+at_most : (b : Bool) (g : Group) → length (text_if b g) ≤ length (header_text g.0) + length (changes_bytes (all_changes g.1))
+at_most true g = omega (arith, length-append (header_text g.0) (changes_bytes (all_changes g.1)))
 at_most false g = omega arith
 
-none_is_empty : (changes : List Change) → nat_lt 0 (length changes) ≡ false → length (changes_text changes) ≡ 0
+none_is_empty : (changes : List Change) → nat_lt 0 (length changes) ≡ false → length (changes_bytes changes) ≡ 0
 none_is_empty [] h = refl
 none_is_empty (c ∷ changes) h = absurd (omega (arith, ltb-false 0 (length (c ∷ changes)) h))
 
 -- what a group's text has is its changes at least
-at_least : (b : Bool) (g : Group) → has_changes (joined g) ≡ b → length (changes_text (all_changes g.1)) ≤ length (text_if b g)
-at_least true g h = omega (arith, length-append (header_text g.0) (changes_text (all_changes g.1)))
+at_least : (b : Bool) (g : Group) → has_changes (joined g) ≡ b → length (changes_bytes (all_changes g.1)) ≤ length (text_if b g)
+at_least true g h = omega (arith, length-append (header_text g.0) (changes_bytes (all_changes g.1)))
 at_least false g h = omega (arith, none_is_empty (all_changes g.1) h)
 
 -- A section joins a group: the group's header is as long as that of the section, so where the group had no text
@@ -118,12 +120,12 @@ joins_least g s hit =
     let most = at_most (has_changes (joined more)) more in
     let least = at_least (has_changes (joined g)) g refl in
     let header : length (header_text s.shape) ≡ length (header_text g.0) = ap (λ (w : Shape). length (header_text w)) (shape_is s.shape g.0 hit) in
-    omega (arith, most, least, header, one_more g.1 s, length-append (header_text s.shape) (changes_text s.changes))
+    omega (arith, most, least, header, one_more g.1 s, length-append (header_text s.shape) (changes_bytes s.changes))
 
 first_least : (s : Section) → length (group_text (s.shape, s ∷ [])) ≤ length (section_text s)
 first_least s =
     let first : Group = (s.shape, s ∷ []) in
-    omega (arith, at_most (has_changes (joined first)) first, one_more [] s, length-append (header_text s.shape) (changes_text s.changes))
+    omega (arith, at_most (has_changes (joined first)) first, one_more [] s, length-append (header_text s.shape) (changes_bytes s.changes))
 
 added_least : (groups : List Group) (s : Section) → length (groups_text (added groups s)) ≤ length (groups_text groups) + length (section_text s)
 added_least [] s = omega (arith, first_least s, length-append (group_text (s.shape, s ∷ [])) [])

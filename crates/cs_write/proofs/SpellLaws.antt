@@ -1,5 +1,5 @@
 -- The canonical text spells the canonical form.
-use Rattle.std.proofs.Common.{◌≡◌, ℕ, ◌<◌, ◌≤◌, ◌^◌, Bool, true, false, List, [], ◌∷◌, ◌++◌, length, map, refl, sym, ap, subst, ◌∙◌, append_assoc, arith}
+use Rattle.std.proofs.Common.{◌≡◌, ℕ, ◌<◌, ◌≤◌, ◌^◌, Bool, true, false, List, [], ◌∷◌, ◌++◌, length, map, refl, ap, append_assoc, arith}
 use Rattle.std.specs.List.{AllByRecursion, flat_map}
 use Rattle.cs_model.specs.declared.value.Value.TheVariants.{Integer, Text, Blob, Null}
 use Rattle.cs_model.specs.declared.value.Field.{Field}
@@ -8,14 +8,16 @@ use Rattle.cs_model.specs.declared.shape.Shape.{Shape}
 use Rattle.cs_model.specs.declared.change.Op.{Op}
 use Rattle.cs_model.specs.declared.change.Op.TheVariants.{Insert, Update, Delete}
 use Rattle.cs_model.specs.declared.change.Change.{Change}
-use Rattle.cs_model.specs.declared.change.Section.{Section}
+use Rattle.cs_model.specs.Section.{Section}
 use Rattle.cs_model.specs.Rule.{Rule, row_rule, old_rule, new_rules}
 use Rattle.cs_model.specs.Varint.{IsVarint, varint}
 use Rattle.cs_model.specs.FieldBytes.{field_bytes}
-use Rattle.cs_model.specs.Changeset.{IsField, Obeys, AreRecords, IsChange, IsShape, IsSection, IsChangeset, most_bytes}
-use Rattle.cs_model.specs.Text.{SpellsField, SpellsEach, SpellsIndirect, SpellsChange, SpellsHeader, SpellsSection, Spells}
+use Rattle.cs_model.specs.Changeset.{IsField, Obeys, AreRecords, IsChange, IsSection, IsChangeset, most_bytes}
+use Rattle.cs_model.specs.Text.{SpellsField, SpellsEach, SpellsIndirect, SpellsChange, SpellsSection, Spells}
 use Rattle.cs_write.specs.Canon.{canon}
-use Rattle.cs_write.specs.Text.{header_text, indirect_byte, record_text, change_text, changes_text, section_text, sections_text, text_of}
+use Rattle.cs_model.specs.Packed.{packed}
+use Rattle.cs_model.specs.PackedChanges.{mark, change_bytes, changes_bytes}
+use Rattle.cs_write.specs.Text.{header_text, section_text, text_of}
 use Rattle.cs_write.proofs.FormLaws.{canon_fits}
 
 abbrev pub AreSpelled : Type 0
@@ -47,17 +49,17 @@ records_of flags Insert before after h = (nothing before h.0, fields_of (map row
 records_of flags Update before after h = (fields_of (map old_rule flags) before h.0, fields_of (new_rules flags before) after h.1)
 records_of flags Delete before after h = (fields_of (map row_rule flags) before h.0, nothing after h.1)
 
-indirect_spelled : (indirect : Bool) → SpellsIndirect (indirect_byte indirect) indirect
+indirect_spelled : (indirect : Bool) → SpellsIndirect (mark indirect) indirect
 indirect_spelled true = λ e. absurd cc
 indirect_spelled false = refl
 
-change_spelled : AreSpelled → (shape : Shape) (change : Change) → IsChange shape change → SpellsChange (change_text change) change
+change_spelled : AreSpelled → (shape : Shape) (change : Change) → IsChange shape change → SpellsChange (change_bytes change) change
 change_spelled spelled shape change h =
     let records = records_of shape.flags change.op change.before change.after h in
     record {
-      byte = indirect_byte change.indirect;
-      old = record_text change.before;
-      new = record_text change.after;
+      byte = mark change.indirect;
+      old = packed change.before;
+      new = packed change.after;
       parts = refl;
       is_indirect = indirect_spelled change.indirect;
       is_old = each SpellsField field_bytes IsField (field_spelled spelled) change.before records.0;
@@ -71,10 +73,10 @@ section_spelled : AreSpelled → (section : Section) → IsSection section → S
 section_spelled spelled section h =
     record {
       header = header_text section.shape;
-      body = changes_text section.changes;
+      body = changes_bytes section.changes;
       parts = refl;
       is_header = record { count = varint (length section.shape.flags); parts = header_is (varint (length section.shape.flags)) section.shape.flags section.shape.name; is_count = spelled (length section.shape.flags) (omega (arith, h.0.not_more_columns)) };
-      is_body = each SpellsChange change_text (IsChange section.shape) (change_spelled spelled section.shape) section.changes h.1;
+      is_body = each SpellsChange change_bytes (IsChange section.shape) (change_spelled spelled section.shape) section.changes h.1;
     }
 
 pub text_spelled : AreSpelled → (sections : List Section) → IsChangeset sections → length (text_of sections) ≤ most_bytes → Spells (text_of sections) (canon sections)

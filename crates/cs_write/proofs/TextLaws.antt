@@ -1,8 +1,6 @@
 -- Writing group by group gives the text of the canonical form.
-use Rattle.std.proofs.Common.{◌≡◌, Bool, true, false, cond, List, [], ◌∷◌, ◌++◌, map, refl, sym, ap, ◌∙◌}
-use Rattle.std.specs.Prelude.{filter}
-use Rattle.std.specs.List.{flat_map}
-use Rattle.cs_model.specs.declared.change.Section.{Section}
+use Rattle.std.proofs.Common.{◌≡◌, Bool, true, false, cond, List, [], ◌∷◌, ◌++◌, refl, ap, ◌∙◌}
+use Rattle.cs_model.specs.Section.{Section}
 use Rattle.cs_write.specs.Canon.{Group, joined, has_changes, canon_of}
 use Rattle.cs_write.specs.Text.{section_text, sections_text}
 use Rattle.cs_write.specs.Groups.{group_text, groups_text}

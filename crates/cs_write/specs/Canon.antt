@@ -1,7 +1,7 @@
 -- The canonical form of a changeset.
-use Rattle.std.specs.Prelude.{ℕ, Bool, List, [], ◌∷◌, length, map, filter, nat_lt, if◌then◌else◌}
+use Rattle.std.specs.Prelude.{Bool, List, [], ◌∷◌, length, map, filter, nat_lt, if◌then◌else◌}
 use Rattle.cs_model.specs.declared.shape.Shape.{Shape}
-use Rattle.cs_model.specs.declared.change.Section.{Section}
+use Rattle.cs_model.specs.Section.{Section}
 use Rattle.cs_model.specs.Changeset.{all_changes}
 use Rattle.cs_model.specs.Schema.{same_shape, has_shape}
 

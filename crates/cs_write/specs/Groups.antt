@@ -1,9 +1,7 @@
 -- What the steps of grouping and writing give.
-use Rattle.std.specs.Prelude.{ℕ, List, [], ◌∷◌, ◌++◌, length, map, if◌then◌else◌, nat_lt}
-use Rattle.std.specs.List.{flat_map}
-use Rattle.std.specs.Borrow.{Bor}
-use Rattle.cs_model.specs.declared.shape.Shape.{Shape}
-use Rattle.cs_model.specs.declared.change.Section.{Section}
+use Rattle.std.specs.Prelude.{ℕ, List, [], ◌∷◌, ◌++◌, length, ◌≡◌, if◌then◌else◌}
+use Rattle.std.specs.List.{AllByRecursion, flat_map}
+use Rattle.cs_model.specs.Section.{Section}
 use Rattle.cs_model.specs.Schema.{same_shape}
 use Rattle.cs_write.specs.Canon.{Group, joined, has_changes}
 use Rattle.cs_write.specs.Text.{section_text}
@@ -20,3 +18,11 @@ group_text group = if has_changes (joined group) then section_text (joined group
 
 abbrev pub groups_text : List Group → List ℕ
 groups_text groups = flat_map group_text groups
+
+-- a section of a table with so many columns
+abbrev pub HasColumns : ℕ → Section → Type 0
+HasColumns columns section = length section.shape.flags ≡ columns
+
+-- the sections of a group have as many columns as its shape
+abbrev pub IsAlike : Group → Type 0
+IsAlike group = AllByRecursion (HasColumns (length group.0.flags)) group.1

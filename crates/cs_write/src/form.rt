@@ -1,46 +1,40 @@
 //! The canonical form.
 
-ghost use Rattle.std.specs.Prelude.{◌≡◌, ◌++◌, IfOk, OnOk};
+ghost use Rattle.std.specs.Prelude.{◌≡◌, IfOk};
+ghost use Rattle.std.specs.List.{AllByRecursion};
 ghost use Rattle.cs_model.specs.Changeset.{all_changes};
-ghost use Rattle.cs_write.specs.Canon.{canon, canon_of, has_changes};
+ghost use Rattle.cs_write.specs.Canon.{canon, canon_of};
+ghost use Rattle.cs_write.specs.Groups.{HasColumns, IsAlike};
 ghost use Rattle.cs_write.specs.Seen.{seen, sections_of};
 
 use crate::groups::{Groups, groups_of};
-use cs_model::{Change, Changeset, CopyIn, Section, Seq};
+use cs_model::{Changes, Changeset, CopyIn, Section, Seq};
 use std::alloc::{AllocError, Global};
 
-// Adds copies of these changes at the end.
-fn add_changes(alloc: Global, out: &mut Vec<Change>, changes: &[Change]) -> Result<(), AllocError>
-    ensures ok { OnOk result (out.new.items ≡ out.old.items ++ changes.now) }
+// the changes of these sections, one after another
+fn changes_of(alloc: Global, columns: usize, sections: &[&Section]) -> Result<Changes, AllocError>
+    requires { AllByRecursion (HasColumns columns) (sections_of sections.now) }
+    ensures changes { IfOk result (λ changes. changes.1 ≡ all_changes (sections_of sections.now)) }
+    ensures columns { IfOk result (λ changes. changes.0 ≡ columns) }
 {
-    for change in changes {
-        out.push(change.copy_in(alloc)?)?;
-    }
-    Ok(())
-}
-
-// the changes of these sections, copied
-fn changes_of(alloc: Global, sections: &[&Section]) -> Result<Seq<Change>, AllocError>
-    ensures { IfOk result (λ changes. changes ≡ all_changes (sections_of sections.now)) }
-{
-    let mut changes = Vec::new(alloc);
+    let mut changes = Changes::new(alloc, columns);
     for section in sections {
-        add_changes(alloc, &mut changes, &section.changes)?;
+        changes.append(section.changes())?;
     }
-    Ok(Seq::from_vec(changes))
+    Ok(changes)
 }
 
 // one section for each group that has a change
 fn form_of(alloc: Global, groups: &Groups) -> Result<Vec<Section>, AllocError>
+    requires { AllByRecursion IsAlike (seen groups.now.entries) }
     ensures { IfOk result (λ sections. sections.items ≡ canon_of (seen groups.now.entries)) }
 {
     let mut form = Vec::new(alloc);
     for (shape, sections) in groups.iter() {
-        let changes = changes_of(alloc, sections)?;
-        let items: &[Change] = &changes;
-        if !items.is_empty() {
+        let changes = changes_of(alloc, shape.flags.len(), sections)?;
+        if !changes.is_empty() {
             let shape = shape.copy_in(alloc)?;
-            form.push(Section { shape, changes })?;
+            form.push(Section::new(shape, changes))?;
         }
     }
     Ok(form)

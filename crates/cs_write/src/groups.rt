@@ -16,13 +16,14 @@ pub type Groups<'a> = IndexMap<Shape, Vec<&'a Section>>;
 fn add<'a>(alloc: Global, groups: &mut Groups<'a>, section: &'a Section) -> Result<(), AllocError>
     ensures ok { OnOk result (seen groups.new.entries ≡ added (seen groups.old.entries) section.now) }
 {
-    if let Some(place) = groups.get_index_of(&section.shape) {
+    let shape = section.shape();
+    if let Some(place) = groups.get_index_of(shape) {
         if let Some(group) = groups.get_index_mut(place) {
             group.push(section)?;
         }
         return Ok(());
     }
-    let shape = section.shape.copy_in(alloc)?;
+    let shape = shape.copy_in(alloc)?;
     let mut group = Vec::new(alloc);
     group.push(section)?;
     groups.insert(shape, group)?;

@@ -3,7 +3,7 @@
 
 ghost use Rattle.std.specs.Prelude.{ℕ, ◌≤◌, List, length};
 ghost use Rattle.cs_model.specs.Bytes.{AreBytes};
-ghost use Rattle.cs_model.specs.declared.change.Section.{Section};
+ghost use Rattle.cs_model.specs.Section.{Section};
 ghost use Rattle.cs_model.specs.Changeset.{IsChangeset, most_bytes};
 ghost use Rattle.cs_model.specs.Text.{Spells};
 ghost use Rattle.cs_write.specs.Canon.{canon};

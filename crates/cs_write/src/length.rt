@@ -5,9 +5,11 @@ ghost use Rattle.std.specs.Prelude.{◌≡◌, ℕ, ◌+◌, ◌≤◌, length};
 ghost use Rattle.cs_model.specs.Varint.{varint};
 ghost use Rattle.cs_model.specs.FieldBytes.{field_bytes};
 ghost use Rattle.cs_write.specs.Lengths.{held};
-ghost use Rattle.cs_write.specs.Text.{header_text, record_text, change_text, changes_text};
+ghost use Rattle.cs_model.specs.Packed.{packed};
+ghost use Rattle.cs_model.specs.PackedChanges.{change_bytes, changes_bytes};
+ghost use Rattle.cs_write.specs.Text.{header_text};
 
-use cs_model::{Change, Field, Shape, Value};
+use cs_model::{Changes, Shape};
 
 /// Two lengths together.
 #[tactic(auto, using(crate::proofs::Held::holding))]
@@ -34,52 +36,12 @@ fn varint_len(n: u64) -> usize
     len
 }
 
-// a length behind a type byte, and so many bytes
-#[tactic(auto, using(crate::proofs::Held::holding))]
-fn counted_len(bytes: &[u8]) -> Option<usize>
-    ensures { result ≡ held (1 + length (varint (length bytes.now)) + length bytes.now) }
-{
-    bytes.len().checked_add(1 + varint_len(bytes.len() as u64))
-}
-
-#[tactic(auto, using(crate::proofs::Held::holding))]
-fn field_len(field: &Field) -> Option<usize>
-    ensures { result ≡ held (length (field_bytes field.now)) }
-{
-    match field {
-        Field::Undefined | Field::Is(Value::Null) => Some(1),
-        Field::Is(Value::Integer(_)) => Some(9),
-        Field::Is(Value::Text(bytes)) => counted_len(bytes),
-        Field::Is(Value::Blob(bytes)) => counted_len(bytes),
-    }
-}
-
-fn record_len(fields: &[Field]) -> Option<usize>
-    ensures { result ≡ held (length (record_text fields.now)) }
-{
-    let mut len = Some(0);
-    for field in fields {
-        len = plus(len, field_len(field));
-    }
-    len
-}
-
-fn change_len(change: &Change) -> Option<usize>
-    ensures { result ≡ held (length (change_text change.now)) }
-{
-    let records = plus(record_len(&change.before), record_len(&change.after));
-    plus(records, Some(2))
-}
-
 /// How many bytes these changes have.
-pub fn changes_len(changes: &[Change]) -> Option<usize>
-    ensures { result ≡ held (length (changes_text changes.now)) }
+#[tactic(auto, using(crate::proofs::Held::holding))]
+pub fn changes_len(changes: &Changes) -> Option<usize>
+    ensures { result ≡ held (length (changes_bytes changes.now.1)) }
 {
-    let mut len = Some(0);
-    for change in changes {
-        len = plus(len, change_len(change));
-    }
-    len
+    Some(changes.bytes().len())
 }
 
 /// How many bytes this header has.

@@ -1,11 +1,13 @@
-//! Changes as canonical bytes. Each of these adds to the end of `out`; an `Err` may leave part of it there.
+//! Headers and changes as canonical bytes. Each of these adds to the end of `out`; an `Err` may leave part of it there.
 
 ghost use Rattle.std.specs.Prelude.{◌≡◌, ◌++◌, ◌<◌, ◌^◌, OnOk, length};
 ghost use Rattle.std.specs.List.{flat_map};
 ghost use Rattle.cs_model.specs.Text.{op_byte};
-ghost use Rattle.cs_write.specs.Text.{header_text, indirect_byte, record_text, change_text, changes_text};
+ghost use Rattle.cs_model.specs.Packed.{packed};
+ghost use Rattle.cs_model.specs.PackedChanges.{mark, change_bytes, changes_bytes};
+ghost use Rattle.cs_write.specs.Text.{header_text};
 
-use cs_model::{Change, Field, Op, Shape, field_push, varint_push};
+use cs_model::{Changes, Shape, varint_push};
 use std::alloc::AllocError;
 
 /// A header.
@@ -21,43 +23,9 @@ pub fn push_header(out: &mut Vec<u8>, shape: &Shape) -> Result<(), AllocError>
     Ok(())
 }
 
-/// The byte of an operation.
-pub fn op_code(op: Op) -> u8
-    ensures { result ≡ op_byte op }
+/// Changes, one after another, in one copy.
+pub fn push_changes(out: &mut Vec<u8>, changes: &Changes) -> Result<(), AllocError>
+    ensures ok { OnOk result (out.new.items ≡ out.old.items ++ changes_bytes changes.now.1) }
 {
-    match op {
-        Op::Insert => 0x12,
-        Op::Update => 0x17,
-        Op::Delete => 0x09,
-    }
-}
-
-// a record
-fn push_record(out: &mut Vec<u8>, fields: &[Field]) -> Result<(), AllocError>
-    ensures ok { OnOk result (out.new.items ≡ out.old.items ++ record_text fields.now) }
-{
-    for field in fields {
-        field_push(out, field)?;
-    }
-    Ok(())
-}
-
-// a change
-fn push_change(out: &mut Vec<u8>, change: &Change) -> Result<(), AllocError>
-    ensures ok { OnOk result (out.new.items ≡ out.old.items ++ change_text change.now) }
-{
-    out.push(op_code(change.op))?;
-    out.push(u8::from(change.indirect))?;
-    push_record(out, &change.before)?;
-    push_record(out, &change.after)
-}
-
-/// Changes, one after another.
-pub fn push_changes(out: &mut Vec<u8>, changes: &[Change]) -> Result<(), AllocError>
-    ensures ok { OnOk result (out.new.items ≡ out.old.items ++ changes_text changes.now) }
-{
-    for change in changes {
-        push_change(out, change)?;
-    }
-    Ok(())
+    out.extend_from_slice(changes.bytes())
 }

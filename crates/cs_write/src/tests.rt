@@ -1,11 +1,12 @@
 ghost use Rattle.std.specs.Prelude.{◌≡◌, ◌<◌, ◌∷◌, [], IfOk};
 ghost use Rattle.std.specs.List.{AllByRecursion};
 ghost use Rattle.cs_model.specs.Changeset.{AreRecords, IsSection, IsChangeset};
+ghost use Rattle.cs_model.specs.PackedChanges.{Long};
 ghost use Rattle.cs_model.specs.declared.value.Value.TheVariants.{Integer, Text};
 ghost use Rattle.cs_model.specs.declared.value.Field.TheVariants.{Undefined, Is};
 
 use crate::{canonical, write, write_to};
-use cs_model::{Change, Changeset, Field, Op, Section, Seq, Shape, Value};
+use cs_model::{Change, Changes, Changeset, Field, Op, Section, Seq, Shape, Value};
 use std::alloc::{AllocError, Global};
 use std::process::Abort;
 use std::test::Fail;
@@ -36,7 +37,8 @@ fn record(alloc: Global, key: Field, value: Field) -> Result<Seq<Field>, AllocEr
 
 // what the tests write of a row: INSERT, UPDATE of its text to `z`, DELETE
 fn change(alloc: Global, op: Op, key: i64, byte: u8) -> Result<Change, AllocError>
-    ensures { IfOk result (λ c. AreRecords (1 ∷ 0 ∷ []) c.op c.before c.after) }
+    ensures records { IfOk result (λ c. AreRecords (1 ∷ 0 ∷ []) c.op c.before c.after) }
+    ensures long { IfOk result (λ c. Long 2 c.op c.before c.after) }
 {
     let number = Field::Is(Value::Integer(key));
     let row = record(alloc, number, text(alloc, byte)?)?;
@@ -68,14 +70,11 @@ fn section(alloc: Global, name: u8, rows: &[(Op, i64, u8)]) -> Result<Section, A
     ensures { IfOk result IsSection }
 {
     let shape = shape(alloc, name)?;
-    let mut changes = Vec::new(alloc);
+    let mut changes = Changes::new(alloc, 2);
     for (op, key, byte) in rows {
-        changes.push(change(alloc, *op, *key, *byte)?)?;
+        changes.push_change(alloc, &change(alloc, *op, *key, *byte)?)?;
     }
-    Ok(Section {
-        shape,
-        changes: Seq::from_vec(changes),
-    })
+    Ok(Section::new(shape, changes))
 }
 
 fn number(out: &mut Vec<u8>, key: i64) -> Result<(), AllocError> {
@@ -160,14 +159,10 @@ fn lengths_are_shortest(rt: HostRuntime) -> Result<(), Fail> {
         before: Seq::from_vec(before),
         after: Seq::from_vec(Vec::new(alloc)),
     };
-    let changes = Seq::from_vec(vec![in alloc; change]?);
-    writes(
-        &rt,
-        alloc,
-        vec![in alloc; Section { shape, changes }]?,
-        &want,
-        1,
-    )
+    let mut changes = Changes::new(alloc, 2);
+    changes.push_change(alloc, &change)?;
+    let section = Section::new(shape, changes);
+    writes(&rt, alloc, vec![in alloc; section]?, &want, 1)
 }
 
 // Writes the changeset to a buffer of sevens as long as this one, which it must give, with the length of its text.

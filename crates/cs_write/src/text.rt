@@ -4,7 +4,8 @@ ghost use Rattle.std.specs.Prelude.{◌≡◌, ◌++◌, ◌≤◌, ◌^◌, len
 ghost use Rattle.cs_model.specs.Changeset.{all_changes};
 ghost use Rattle.cs_write.specs.Buffer.{given};
 ghost use Rattle.cs_write.specs.Lengths.{held};
-ghost use Rattle.cs_write.specs.Text.{changes_text, text_of};
+ghost use Rattle.cs_model.specs.PackedChanges.{changes_bytes};
+ghost use Rattle.cs_write.specs.Text.{text_of};
 ghost use Rattle.cs_write.specs.Groups.{group_text, groups_text};
 ghost use Rattle.cs_write.specs.Seen.{seen, sections_of};
 
@@ -12,7 +13,7 @@ use crate::groups::{Groups, groups_of};
 use crate::length::{changes_len, header_len, plus};
 use crate::pushing::{push_changes, push_header};
 use bytes::Bytes;
-use cs_model::{Change, Changeset, Section, Shape};
+use cs_model::{Changeset, Section, Shape};
 use std::alloc::{AllocError, Global};
 
 // whether these sections have a change
@@ -20,8 +21,7 @@ fn any_change(sections: &[&Section]) -> bool
     ensures { result ≡ nat_lt 0 (length (all_changes (sections_of sections.now))) }
 {
     for section in sections {
-        let changes: &[Change] = &section.changes;
-        if !changes.is_empty() {
+        if !section.changes().is_empty() {
             return true;
         }
     }
@@ -30,11 +30,11 @@ fn any_change(sections: &[&Section]) -> bool
 
 // how many bytes the changes of these sections have
 fn sections_len(sections: &[&Section]) -> Option<usize>
-    ensures { result ≡ held (length (changes_text (all_changes (sections_of sections.now)))) }
+    ensures { result ≡ held (length (changes_bytes (all_changes (sections_of sections.now)))) }
 {
     let mut len = Some(0);
     for section in sections {
-        len = plus(len, changes_len(&section.changes));
+        len = plus(len, changes_len(section.changes()));
     }
     len
 }
@@ -62,10 +62,10 @@ fn groups_len(groups: &Groups) -> Option<usize>
 
 // the changes of these sections
 fn push_sections(out: &mut Vec<u8>, sections: &[&Section]) -> Result<(), AllocError>
-    ensures ok { OnOk result (out.new.items ≡ out.old.items ++ changes_text (all_changes (sections_of sections.now))) }
+    ensures ok { OnOk result (out.new.items ≡ out.old.items ++ changes_bytes (all_changes (sections_of sections.now))) }
 {
     for section in sections {
-        push_changes(out, &section.changes)?;
+        push_changes(out, section.changes())?;
     }
     Ok(())
 }

@@ -3,7 +3,7 @@ use Rattle.std.proofs.Common.{◌≡◌, ℕ, zero, suc, ◌+◌, ◌<◌, ◌�
 use Rattle.std.specs.Prelude.{slice_get}
 use Rattle.std.proofs.lemmas.Bool.{leb-false, eqb-true}
 use Rattle.std.specs.declared.alloc.AllocError.{AllocError}
-use Rattle.cs_model.specs.declared.change.Section.{Section}
+use Rattle.cs_model.specs.Section.{Section}
 use Rattle.cs_model.specs.declared.schema.SectionFault.{SectionFault}
 use Rattle.cs_model.specs.declared.schema.SectionFault.TheVariants.{UnknownTable, ShapeDiffers}
 use Rattle.cs_model.specs.declared.shape.Shape.{Shape}

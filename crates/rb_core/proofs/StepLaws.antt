@@ -3,7 +3,7 @@ use Rattle.std.proofs.Common.{◌≡◌, ℕ, zero, suc, ◌+◌, ◌<◌, ◌�
 use Rattle.std.specs.Prelude.{slice_get, MatchOption, MatchResult, ◌↔◌, IfOk}
 use Rattle.std.proofs.lemmas.List.{get_or_append_left, get_or_past}
 use Rattle.std.proofs.lemmas.Bool.{cases_lt, ltb-true, ltb-false, leb-true, leb-false}
-use Rattle.cs_model.specs.declared.change.Section.{Section}
+use Rattle.cs_model.specs.Section.{Section}
 use Rattle.cs_model.specs.declared.schema.SectionFault.{SectionFault}
 use Rattle.cs_model.specs.Schema.{refusal_of}
 use Rattle.cs_model.specs.Text.{Spells}

@@ -1,6 +1,6 @@
 -- What an event does: the reply, and the world after it.
 use Rattle.std.specs.Prelude.{ℕ, zero, suc, ◌+◌, ◌-◌, Bool, List, [], ◌∷◌, ◌++◌, length, Option, Some, None, Result, Ok, Err, slice_get, slice_set, nat_lt, nat_le, if◌then◌else◌}
-use Rattle.cs_model.specs.declared.change.Section.{Section}
+use Rattle.cs_model.specs.Section.{Section}
 use Rattle.cs_model.specs.declared.schema.SectionFault.{SectionFault}
 use Rattle.cs_model.specs.declared.schema.SectionFault.TheVariants.{UnknownTable as Unknown, ShapeDiffers as Differs}
 use Rattle.cs_model.specs.Schema.{refusal_of}

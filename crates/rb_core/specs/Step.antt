@@ -1,6 +1,6 @@
 -- What an event may be answered, and what it changes: a relation by cases of what is found.
 use Rattle.std.specs.Prelude.{◌≡◌, ℕ, ◌+◌, ◌<◌, ◌≤◌, ◌⊎◌, List, [], ◌∷◌, ◌++◌, length, Option, Some, None, MatchOption, MatchResult, slice_get}
-use Rattle.cs_model.specs.declared.change.Section.{Section}
+use Rattle.cs_model.specs.Section.{Section}
 use Rattle.cs_model.specs.Bytes.{AreBytes}
 use Rattle.cs_model.specs.Schema.{refusal_of}
 use Rattle.cs_model.specs.Text.{Spells}

@@ -4,7 +4,7 @@ ghost use Rattle.std.specs.Prelude.{◌<◌, ◌^◌};
 
 use super::*;
 use cs_apply::{Conflict, ConflictKind};
-use cs_model::{Octets, RowKey, Schema, Seq, Shape, Value};
+use cs_model::{FieldRef, Octets, RowKey, Schema, Seq, Shape};
 use cs_parse::{FaultKind, ParseFault};
 use std::alloc::{AllocError, Global};
 use std::process::Abort;
@@ -93,17 +93,16 @@ fn has_the_row(
         table: 0,
         bytes: octets(alloc, &bytes)?,
     };
-    let text = Value::Text(octets(alloc, b"x")?);
     let Some(rows) = world.rows(alloc, subscription)? else {
         return Err("no such subscription")?;
     };
     assert_eq!(rt; rows.len(), 1);
     for (key, row) in rows {
         assert!(rt; *key == wanted);
-        let fields: &[Value] = row;
-        assert_eq!(rt; fields.len(), 2);
-        assert_eq!(rt; fields.first(), Some(&Value::Integer(1)));
-        assert_eq!(rt; fields.last(), Some(&text));
+        let mut fields = row.fields();
+        assert_eq!(rt; fields.next(), Some(FieldRef::Integer(1)));
+        assert_eq!(rt; fields.next(), Some(FieldRef::Text(b"x")));
+        assert_eq!(rt; fields.next(), None);
     }
     Ok(())
 }

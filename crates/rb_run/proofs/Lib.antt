@@ -3,3 +3,4 @@ pub mod StreamLaws
 pub mod ScriptLaws
 pub mod EndLaws
 pub mod LineLaws
+pub mod RowTexts

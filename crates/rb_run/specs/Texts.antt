@@ -5,7 +5,8 @@ use Rattle.std.specs.Fmt.{decimal}
 use Rattle.hex.specs.Hex.{encode_lower}
 use Rattle.cs_model.specs.declared.value.Value.{Value}
 use Rattle.cs_model.specs.declared.row_key.RowKey.{RowKey}
-use Rattle.cs_model.specs.FieldBytes.{value_bytes}
+use Rattle.cs_model.specs.declared.value.Field.{Field}
+use Rattle.cs_model.specs.FieldBytes.{value_bytes, field_bytes}
 use Rattle.cs_parse.specs.declared.fault.FaultKind.{FaultKind}
 use Rattle.cs_parse.specs.declared.fault.FaultKind.TheVariants as kind
 use Rattle.cs_parse.specs.declared.fault.ParseFault.{ParseFault}
@@ -80,6 +81,10 @@ entry_text n item =
 -- a value behind a space, as its canonical bytes in hexadecimal
 abbrev pub value_text : Value → List ℕ
 value_text value = 32 ∷ encode_lower (value_bytes value)
+
+-- the same of a field that has a value
+abbrev pub field_text : Field → List ℕ
+field_text field = 32 ∷ encode_lower (field_bytes field)
 
 -- a row: its table's place, and its values
 abbrev pub row_text : RowKey × List Value → List ℕ

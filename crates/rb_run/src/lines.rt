@@ -169,9 +169,9 @@ fn header_of(changeset: Changeset) -> Option<Shape>
     if sections.len() != 1 {
         return None;
     }
-    let section = sections.pop()?;
-    if section.changes.is_empty() {
-        Some(section.shape)
+    let (shape, changes) = sections.pop()?.into_parts();
+    if changes.is_empty() {
+        Some(shape)
     } else {
         None
     }

@@ -2,9 +2,10 @@
 
 ghost use Rattle.std.specs.Prelude.{◌≡◌, ◌++◌, IfOk, OnOk, codes, length, map as list_map, string_bytes};
 ghost use Rattle.std.specs.List.{flat_map};
-ghost use Rattle.rb_run.specs.Texts.{kind_name, refusal_text, reply_text, bytes_word, entry_text, value_text, row_text, rows_text};
+ghost use Rattle.cs_model.specs.Seen.{field_seen};
+ghost use Rattle.rb_run.specs.Texts.{kind_name, refusal_text, reply_text, bytes_word, entry_text, field_text, row_text, rows_text};
 
-use cs_model::{Field, Row, RowKey, Value, value_push};
+use cs_model::{FieldRef, Row, RowKey, field_push};
 use cs_parse::FaultKind;
 use rb_core::{Entry, Refusal, Reply};
 use std::alloc::{AllocError, Global};
@@ -130,18 +131,18 @@ fn add_row(alloc: Global, text: &mut Vec<u8>, key: &RowKey, row: &Row) -> Result
 {
     let table = key.table;
     text.extend_from_slice(format!(in alloc; "row {table}")?.as_bytes())?;
-    for value in row.iter() {
-        add_value(alloc, text, value)?;
+    for value in row.fields() {
+        add_field(alloc, text, value)?;
     }
     text.push(b'\n')?;
     Ok(())
 }
 
-fn add_value(alloc: Global, text: &mut Vec<u8>, value: &Value) -> Result<(), AllocError>
-    ensures { OnOk result (text.new.items ≡ text.old.items ++ value_text value.now) }
+fn add_field(alloc: Global, text: &mut Vec<u8>, field: FieldRef) -> Result<(), AllocError>
+    ensures { OnOk result (text.new.items ≡ text.old.items ++ field_text (field_seen field.entry)) }
 {
     let mut bytes = Vec::new(alloc);
-    value_push(&mut bytes, value)?;
+    field_push(&mut bytes, field)?;
     text.push(b' ')?;
     text.extend_from_slice(hex::encode(alloc, bytes)?.as_bytes())
 }

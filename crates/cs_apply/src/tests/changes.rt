@@ -2,7 +2,7 @@
 
 use super::fixture::Do::{Delete, Insert, Update};
 use super::fixture::{applies, held, key, tables, tables_with};
-use cs_model::Value;
+use cs_model::FieldRef;
 use std::test::Fail;
 
 #[test]
@@ -77,8 +77,11 @@ fn a_row_has_its_values(rt: HostRuntime) -> Result<(), Fail> {
     let alloc = rt.alloc();
     let tables = tables_with(alloc, &[(7, b'x', b'z')])?;
     let key = key(alloc, 7)?;
-    let row: &[Value] = tables.row(&key).ok_or("no row")?;
-    assert_eq!(rt; row.len(), 3);
-    assert_eq!(rt; row[0], Value::Integer(7));
+    let row = tables.row(&key).ok_or("no row")?;
+    let mut fields = row.fields();
+    assert_eq!(rt; fields.next(), Some(FieldRef::Integer(7)));
+    assert_eq!(rt; fields.next(), Some(FieldRef::Text(b"x")));
+    assert_eq!(rt; fields.next(), Some(FieldRef::Text(b"z")));
+    assert_eq!(rt; fields.next(), None);
     Ok(())
 }

@@ -6,10 +6,14 @@ ghost use Rattle.cs_model.specs.Rule.{meets};
 ghost use Rattle.cs_model.specs.declared.value.Value.TheVariants.{Integer, Text};
 ghost use Rattle.cs_model.specs.declared.value.Field.TheVariants.{Is};
 ghost use Rattle.cs_model.specs.Rule.{PairedWith};
+ghost use Rattle.cs_model.specs.PackedChanges.{Long};
 ghost use Rattle.cs_model.specs.Changeset.{AreRecords, IsField, IsSection, IsChangeset};
 
 use crate::{ApplyError, Conflict, ConflictKind, Tables};
-use cs_model::{Change, Changeset, Field, Octets, Op, RowKey, Schema, Section, Seq, Shape, Value};
+use cs_model::{
+    Change, Changes, Changeset, Field, FieldRef, Octets, Op, RowKey, Schema, Section, Seq, Shape,
+    Value,
+};
 use std::alloc::{AllocError, Global};
 use std::process::Abort;
 use std::test::Fail;
@@ -76,7 +80,8 @@ fn pair(alloc: Global, bytes: Option<(u8, u8)>) -> Result<(Field, Field), AllocE
 }
 
 fn change(alloc: Global, what: Do) -> Result<Change, AllocError>
-    ensures { IfOk result (λ c. AreRecords (1 ∷ 0 ∷ 0 ∷ []) c.op c.before c.after) }
+    ensures records { IfOk result (λ c. AreRecords (1 ∷ 0 ∷ 0 ∷ []) c.op c.before c.after) }
+    ensures long { IfOk result (λ c. Long 3 c.op c.before c.after) }
 {
     let none: Seq<Field> = Seq::from_vec(Vec::new(alloc));
     let (op, before, after) = match what {
@@ -107,14 +112,11 @@ pub(super) fn section(alloc: Global, name: u8, all: &[Do]) -> Result<Section, Al
     ensures { IfOk result IsSection }
 {
     let shape = shape(alloc, name, 0)?;
-    let mut changes = Vec::new(alloc);
+    let mut changes = Changes::new(alloc, 3);
     for what in all {
-        changes.push(change(alloc, *what)?)?;
+        changes.push_change(alloc, &change(alloc, *what)?)?;
     }
-    Ok(Section {
-        shape,
-        changes: Seq::from_vec(changes),
-    })
+    Ok(Section::new(shape, changes))
 }
 
 /// Empty tables `t` and `o`, which are kept, and `n`, which isn't. The shape of `o` isn't that of its changes.
@@ -150,19 +152,21 @@ pub(super) fn key(alloc: Global, number: i64) -> Result<RowKey, AllocError> {
     })
 }
 
-fn byte(value: &Value) -> u8 {
-    let Value::Text(bytes) = value else {
-        return 0;
-    };
-    bytes.first().copied().unwrap_or(0)
+fn byte(field: Option<FieldRef>) -> u8 {
+    match field {
+        Some(FieldRef::Text(bytes)) => bytes.first().copied().unwrap_or(0),
+        _ => 0,
+    }
 }
 
 /// All rows, in order.
 pub(super) fn held(alloc: Global, tables: &Tables) -> Result<Vec<Held>, AllocError> {
     let mut all = Vec::new(alloc);
     for (_, row) in tables.rows_in_order(alloc)? {
-        if let [Value::Integer(key), v, w] = &row[..] {
-            all.push((*key, byte(v), byte(w)))?;
+        let mut fields = row.fields();
+        if let Some(FieldRef::Integer(key)) = fields.next() {
+            let v = byte(fields.next());
+            all.push((key, v, byte(fields.next())))?;
         }
     }
     Ok(all)

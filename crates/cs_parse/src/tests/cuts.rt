@@ -74,8 +74,7 @@ fn cuts_leave_no_trace(rt: HostRuntime) -> Result<(), Fail> {
         };
         let mut changes = 0_usize;
         for section in changeset.sections() {
-            let items: &[Change] = &section.changes;
-            changes = changes.wrapping_add(items.len());
+            changes = changes.wrapping_add(section.changes().len());
         }
         assert_eq!(rt; changes, 4);
     }

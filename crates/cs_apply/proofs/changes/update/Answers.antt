@@ -11,9 +11,8 @@ returns-clause-ok c =
     let key = c.args.key.now in
     let after = c.args.after.now in
     let row = c.in-Some.row.now in
-    let agrees : rest_agrees c.args.flags.now c.args.before.now row ≡ true =
-    ap (rest_agrees c.args.flags.now c.args.before.now) (sym c.deref.ensures) ∙ sym c.if-not-rest_agrees.ensures in
-    let done = c.in_ok-edit.ensures.ok key (Some row) c.in-Some.ensures.place in
+    let agrees : rest_agrees c.args.flags.now c.args.before.now row ≡ true = sym c.if-not-rest_agrees.ensures in
+    let done = c.in_ok-set.ensures.ok key (Some row) c.in-Some.ensures.place in
     ap (changed rows key c.args.flags.now c.args.before.now after) (sym c.in-Some.ensures.row)
     ∙ (λ i. if agrees i then Ok (map.insert rows key (updated after row)) else Err Data)
-    ∙ ap Ok (sym (done ∙ ap (λ fields. map.insert rows key (updated fields row)) c.in_ok-fields.ensures))
+    ∙ ap Ok (sym (done ∙ ap (λ new. map.insert rows key new) c.in_ok-new.ensures))

@@ -1,4 +1,4 @@
-use Rattle.std.proofs.Common.{◌≡◌, ◌+◌, ◌-◌, ◌<◌, ◌/◌, ◌^◌, length, sym, ap, ◌∙◌, arith}
+use Rattle.std.proofs.Common.{◌≡◌, ◌+◌, ◌-◌, ◌/◌, length, ap, ◌∙◌, arith}
 use Rattle.cs_model.specs.Varint.{short_groups}
 use Rattle.cs_write.proofs.Lengths.{nine, shorter, one_more, no_more, one_left, turns_left, less_left}
 use Rattle.cs_write.proofs.length.varint_len.Goals as goal

@@ -1,4 +1,4 @@
-use Rattle.std.proofs.Common.{◌≡◌, ℕ, ◌<◌, true, List, ◌∷◌, ◌++◌, [], sym, ap, subst, refl, arith}
+use Rattle.std.proofs.Common.{◌≡◌, ℕ, ◌<◌, true, List, ◌∷◌, ◌++◌, [], sym, ap, ◌∙◌, subst, refl, arith}
 use Rattle.std.specs.Prelude.{nat_lt, ◌&&◌}
 use Rattle.std.specs.List.{AllByRecursion}
 use Rattle.std.proofs.lemmas.Bool.Decides.{nat_tests}
@@ -25,13 +25,15 @@ fits shape name is_name is_flags lt = record {
 }
 
 pub loop-op-preserved : goal.loop-op-preserved
-loop-op-preserved c =
-    rw c.in_ok-push.ensures.items (pushed (λ (x : Change). AreRecords (1 ∷ 0 ∷ []) x.op x.before x.after) c.loop-op.changes.items c.in_ok-change.field-0 c.loop-op.invariant c.in_ok-change.ensures)
+loop-op-preserved c = record {
+  columns = c.push_change.ensures.columns ∙ c.loop-op.invariant.columns;
+  fit = rw c.in_ok-push_change.ensures.ok (pushed (λ (x : Change). AreRecords (1 ∷ 0 ∷ []) x.op x.before x.after) c.loop-op.changes.1 c.in_ok-change.field-0 c.loop-op.invariant.fit c.in_ok-change.ensures.records);
+}
 
 pub returns : goal.returns
 returns c =
     let shape = c.in_ok-shape.ensures in
-    rw c.from_vec.ensures (
+    rw c.new.ensures (
       fits c.in_ok-shape.shape c.args.name shape.0 shape.1 c.requires,
-      subst (λ (flags : List ℕ). AllByRecursion (λ (x : Change). AreRecords flags x.op x.before x.after) c.loop-op.changes.items) (sym shape.1) c.loop-op.invariant,
+      subst (λ (flags : List ℕ). AllByRecursion (λ (x : Change). AreRecords flags x.op x.before x.after) c.loop-op.changes.1) (sym shape.1) c.loop-op.invariant.fit,
     )

@@ -3,7 +3,8 @@ use Rattle.cs_model.specs.Changeset.{all_changes}
 use Rattle.cs_write.specs.Canon.{joined}
 use Rattle.cs_write.specs.Lengths.{held}
 use Rattle.cs_write.specs.Seen.{sections_of}
-use Rattle.cs_write.specs.Text.{header_text, changes_text, section_text}
+use Rattle.cs_model.specs.PackedChanges.{changes_bytes}
+use Rattle.cs_write.specs.Text.{header_text, section_text}
 use Rattle.cs_write.proofs.Held.{held-small}
 use Rattle.cs_write.proofs.text.group_len.Goals as goal
 
@@ -18,5 +19,5 @@ returns c =
     let shape = c.args.shape.now in
     let sections = sections_of c.args.sections.now in
     c.plus.ensures _ _ c.header_len.ensures c.sections_len.ensures
-    ∙ ap held (sym (length-append (header_text shape) (changes_text (all_changes sections))))
+    ∙ ap held (sym (length-append (header_text shape) (changes_bytes (all_changes sections))))
     ∙ ap (λ b. held (length (cond b (section_text (joined (shape, sections))) []))) c.if-not-any_change.ensures

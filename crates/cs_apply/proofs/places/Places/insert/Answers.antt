@@ -52,5 +52,5 @@ returns-clause-ok c =
     let here : c.index-place.result ≡ position_or_len (same_key c.args.key) (keys_of es) = c.index-place.ensures ∙ index in
     let at : slice_get c.self-in-Occupied-1.given.0.entries c.index-place.result ≡ Some (c.args.key, None) =
     (λ i. slice_get (rows i) (here i)) ∙ at_position es c.args.key None found in
-    put_again es c.edit.new.self.rows.entries c.args.key c.args.row e.unique found
-    (c.in_ok-edit.ensures.ok c.args.key None at ∙ ap (λ l. put (rows_of l) c.args.key (Some c.args.row)) rows)
+    put_again es c.set.new.self.rows.entries c.args.key c.args.row e.unique found
+    (c.in_ok-set.ensures.ok c.args.key None at ∙ ap (λ l. put (rows_of l) c.args.key (Some c.args.row)) rows)

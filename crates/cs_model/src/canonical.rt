@@ -1,0 +1,193 @@
+//! Whether the bytes of changes are canonical, and how they are made so. A text may spell a length with zeros in front, and
+//! an indirect change with any byte but zero.
+
+ghost use Rattle.std.specs.Prelude.{◌≡◌, ◌++◌, IfOk, IfSome, OnOk, OnErr, length, take, drop};
+ghost use Rattle.cs_model.specs.Canonical.{StartsCounted, StartsField, StartsRecord, StartsChange};
+ghost use Rattle.cs_model.specs.Packed.{packed};
+ghost use Rattle.cs_model.specs.PackedChanges.{change_bytes, changes_bytes, some_in, records_by, unpacked_changes, PacksAll};
+
+use crate::change::Op;
+use crate::change_ref::op_of;
+use crate::field::field_push;
+use crate::fields::typed_of;
+use crate::varint::{varint_first, varint_strip};
+use std::alloc::AllocError;
+
+/// Adds the canonical bytes of the changes that bytes say to the end of `out`, and tells how many they are: in one copy where
+/// the bytes are canonical, and else respelled. An `Err` leaves `out` as it was.
+pub fn text_push(out: &mut Vec<u8>, columns: usize, bytes: &[u8]) -> Result<usize, AllocError>
+    ensures ok { OnOk result (out.new.items ≡ out.old.items ++ changes_bytes (unpacked_changes columns bytes.now)) }
+    ensures count { IfOk result (λ n. n ≡ length (unpacked_changes columns bytes.now)) }
+    ensures err { OnErr result (out.new.items ≡ out.old.items) }
+{
+    let Some(count) = canonical_count(columns, bytes) else {
+        return push_said(out, columns, bytes);
+    };
+    out.extend_from_slice(bytes)?;
+    Ok(count)
+}
+
+// how many changes bytes say, where they are the canonical ones of these changes
+fn canonical_count(columns: usize, bytes: &[u8]) -> Option<usize>
+    ensures packs { IfSome result (λ n. PacksAll columns bytes.now (unpacked_changes columns bytes.now)) }
+    ensures count { IfSome result (λ n. n ≡ length (unpacked_changes columns bytes.now)) }
+{
+    let mut count: usize = 0;
+    let mut rest = bytes;
+    // each turn takes two bytes at least
+    for _ in 0..bytes.len() {
+        if rest.is_empty() {
+            break;
+        }
+        rest = behind_change(columns, rest)?;
+        count += 1;
+    }
+    Some(count)
+}
+
+// The same as `text_push`, field by field.
+fn push_said(out: &mut Vec<u8>, columns: usize, bytes: &[u8]) -> Result<usize, AllocError>
+    ensures ok { OnOk result (out.new.items ≡ out.old.items ++ changes_bytes (unpacked_changes columns bytes.now)) }
+    ensures count { IfOk result (λ n. n ≡ length (unpacked_changes columns bytes.now)) }
+    ensures err { OnErr result (out.new.items ≡ out.old.items) }
+{
+    let start = out.len();
+    let added = add_said(out, columns, bytes);
+    if added.is_err() {
+        out.truncate(start);
+    }
+    added
+}
+
+// the bytes behind the first change, where its own are canonical
+fn behind_change(columns: usize, bytes: &[u8]) -> Option<&[u8]>
+    ensures { IfSome result (λ rest. StartsChange columns bytes.now rest.now) }
+{
+    let (&op, behind) = bytes.split_first()?;
+    let (&mark, fields) = behind.split_first()?;
+    if mark > 1 {
+        return None;
+    }
+    match op {
+        18 | 9 => behind_record(columns, fields),
+        23 => behind_record(columns, behind_record(columns, fields)?),
+        _ => None,
+    }
+}
+
+// the bytes behind so many fields, where their own are canonical
+fn behind_record(columns: usize, bytes: &[u8]) -> Option<&[u8]>
+    ensures { IfSome result (λ rest. StartsRecord columns bytes.now rest.now) }
+{
+    let mut rest = bytes;
+    for _ in 0..columns {
+        rest = behind_field(rest)?;
+    }
+    Some(rest)
+}
+
+// the bytes behind the first field, where its own are canonical
+#[inline(always)]
+fn behind_field(bytes: &[u8]) -> Option<&[u8]>
+    ensures { IfSome result (λ rest. StartsField bytes.now rest.now) }
+{
+    let (&kind, rest) = bytes.split_first()?;
+    match kind {
+        0 | 5 => Some(rest),
+        1 if rest.len() >= 8 => Some(&rest[8..]),
+        3 | 4 => behind_counted(rest),
+        _ => None,
+    }
+}
+
+// the bytes behind a length and so many bytes, where the length is the shortest varint
+#[inline(always)]
+fn behind_counted(bytes: &[u8]) -> Option<&[u8]>
+    ensures { IfSome result (λ rest. StartsCounted bytes.now rest.now) }
+{
+    let (&len, behind) = bytes.split_first()?;
+    // nearly all lengths take one byte
+    if len < 128 {
+        return behind_so_many(u64::from(len), behind);
+    }
+    let (len, _) = varint_first(bytes)?;
+    let behind = varint_strip(bytes, len)?;
+    behind_so_many(len, behind)
+}
+
+// the bytes behind so many
+#[inline(always)]
+fn behind_so_many(len: u64, bytes: &[u8]) -> Option<&[u8]>
+    ensures { IfSome result (λ rest. (length (take len bytes.now) ≡ len) × (rest.now ≡ drop len bytes.now)) }
+{
+    if (bytes.len() as u64) < len {
+        return None;
+    }
+    Some(&bytes[len as usize..])
+}
+
+// The same as `push_said`, which may stop in between.
+fn add_said(out: &mut Vec<u8>, columns: usize, bytes: &[u8]) -> Result<usize, AllocError>
+    ensures ok { OnOk result (out.new.items ≡ out.old.items ++ changes_bytes (unpacked_changes columns bytes.now)) }
+    ensures count { IfOk result (λ n. n ≡ length (unpacked_changes columns bytes.now)) }
+    ensures adds { take (length out.old.items) out.new.items ≡ out.old.items }
+{
+    out.reserve(bytes.len())?;
+    let mut count: usize = 0;
+    let mut rest = bytes;
+    // each turn takes two bytes at least
+    for _ in 0..bytes.len() {
+        let Some((&op, behind)) = rest.split_first() else {
+            break;
+        };
+        let Some((&mark, fields)) = behind.split_first() else {
+            break;
+        };
+        rest = add_change(out, columns, op_of(op), mark != 0, fields)?;
+        count += 1;
+    }
+    Ok(count)
+}
+
+// Adds the canonical bytes of the change with this operation whose records stand in bytes, and gives the bytes behind it.
+fn add_change<'a>(
+    out: &mut Vec<u8>,
+    columns: usize,
+    op: Op,
+    indirect: bool,
+    bytes: &'a [u8],
+) -> Result<&'a [u8], AllocError>
+    ensures ok { OnOk result (out.new.items ≡ out.old.items ++ change_bytes (records_by columns op indirect bytes.now).0) }
+    ensures rest { IfOk result (λ rest. rest.now ≡ (records_by columns op indirect bytes.now).1) }
+    ensures adds { take (length out.old.items) out.new.items ≡ out.old.items }
+{
+    out.push(op.byte())?;
+    out.push(u8::from(indirect))?;
+    let rest = add_fields(out, columns, bytes)?;
+    match op {
+        Op::Insert | Op::Delete => Ok(rest),
+        Op::Update => add_fields(out, columns, rest),
+    }
+}
+
+// Adds the canonical bytes of so many fields, or of as many as there are, and gives the bytes behind them.
+fn add_fields<'a>(
+    out: &mut Vec<u8>,
+    columns: usize,
+    bytes: &'a [u8],
+) -> Result<&'a [u8], AllocError>
+    ensures ok { OnOk result (out.new.items ≡ out.old.items ++ packed (some_in columns bytes.now).0) }
+    ensures rest { IfOk result (λ rest. rest.now ≡ (some_in columns bytes.now).1) }
+    ensures adds { take (length out.old.items) out.new.items ≡ out.old.items }
+{
+    let mut rest = bytes;
+    for _ in 0..columns {
+        let Some((&kind, behind)) = rest.split_first() else {
+            break;
+        };
+        let (field, after) = typed_of(kind, behind);
+        field_push(out, field)?;
+        rest = after;
+    }
+    Ok(rest)
+}

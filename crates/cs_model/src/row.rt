@@ -1,0 +1,117 @@
+//! Rows in memory of their own.
+
+ghost use Rattle.std.specs.Prelude.{◌≡◌, ◌++◌, ◌∷◌, [], IfOk, OnOk, OnErr, true};
+ghost use Rattle.std.specs.List.{AllByRecursion, list_all};
+ghost use Rattle.std.specs.Cmp;
+ghost use Rattle.std.specs.Cmp.{on_per, on_equiv};
+ghost use Rattle.std.specs.Cmp.Lexicographic.{nat_list_eq_equiv};
+ghost use Rattle.cs_model.specs.Packed.{packed, Fits};
+ghost use Rattle.cs_model.specs.Row.{row_fields, values_of};
+ghost use Rattle.cs_model.specs.Rule.{is_defined};
+ghost use Rattle.cs_model.specs.Schema.{same_bytes};
+ghost use Rattle.cs_model.specs.Seen.{field_seen};
+
+use crate::change_ref::RecordRef;
+use crate::copy::CopyIn;
+use crate::field::field_push;
+use crate::field_ref::FieldRef;
+use crate::fields::Fields;
+use std::alloc::{AllocError, Global};
+use std::marker::Model;
+
+/// A row: one value per column, as canonical bytes in one piece of memory. Contracts see the list of values.
+#[derive(Debug, Drop)]
+pub struct Row {
+    bytes: Vec<u8>,
+}
+
+impl Model for Row {
+    ghost use Rattle.cs_model.specs.Packed.{unpacked, Packs};
+    ghost use Rattle.cs_model.specs.Row.{Values, row_fields, values_of};
+
+    ghost Value = { Values };
+
+    ghost view = { λ r. values_of (unpacked r.bytes.items) };
+
+    ghost invariant = { λ r. Packs r.bytes.items (row_fields (values_of (unpacked r.bytes.items))) };
+}
+
+impl Row {
+    /// A row without values, with room for so many bytes.
+    pub fn with_capacity(alloc: Global, bytes: usize) -> Result<Row, AllocError>
+        ensures { IfOk result (λ row. row ≡ []) }
+    {
+        Ok(Row {
+            bytes: Vec::with_capacity(alloc, bytes)?,
+        })
+    }
+
+    /// The row that a record says whose fields all have a value, in one copy.
+    pub fn copy_of(alloc: Global, from: &RecordRef) -> Result<Row, AllocError>
+        requires { list_all is_defined from.now ≡ true }
+        ensures { IfOk result (λ row. row ≡ values_of from.now) }
+    {
+        Ok(Row {
+            bytes: Vec::from_slice(alloc, from.bytes())?,
+        })
+    }
+
+    /// The field's value behind the others, or nothing where it has none. An `Err` leaves the row as it was.
+    pub fn push(&mut self, field: FieldRef) -> Result<(), AllocError>
+        ensures ok { OnOk result (self.new ≡ self.old ++ values_of (field_seen field.entry ∷ [])) }
+        ensures err { OnErr result (self.new ≡ self.old) }
+    {
+        if !field.has_value() {
+            return Ok(());
+        }
+        field_push(&mut self.bytes, field)?;
+        Ok(())
+    }
+
+    /// Gives memory back that it has beyond its bytes.
+    pub fn shrink_to_fit(&mut self)
+        ensures { self.new ≡ self.old }
+    {
+        self.bytes.shrink_to_fit();
+    }
+
+    /// Its values, in column order.
+    #[inline(always)]
+    pub fn fields(&self) -> Fields<'_>
+        ensures { result ≡ row_fields self.now }
+    {
+        Fields::of(&self.bytes)
+    }
+
+    /// Its canonical bytes, those of one value after another.
+    #[inline(always)]
+    pub fn bytes(&self) -> &[u8]
+        ensures bytes { result.now ≡ packed (row_fields self.now) }
+        ensures fit { AllByRecursion Fits (row_fields self.now) }
+    {
+        &self.bytes
+    }
+}
+
+impl CopyIn for Row {
+    fn copy_in(&self, alloc: Global) -> Result<Row, AllocError> {
+        Ok(Row {
+            bytes: Vec::from_slice(alloc, &self.bytes)?,
+        })
+    }
+}
+
+/// Two rows are equal when their bytes are, and so when their values are.
+impl PartialEq for Row {
+    ghost eq = { λ a b. same_bytes (packed (row_fields a)) (packed (row_fields b)) };
+
+    ghost laws = { on_per (λ row. packed (row_fields row)) (Cmp.partial_equiv_from_equiv nat_list_eq_equiv) };
+
+    fn eq(&self, other: &Self) -> bool {
+        self.bytes == other.bytes
+    }
+}
+
+impl Eq for Row {
+    ghost laws = { on_equiv (λ row. packed (row_fields row)) nat_list_eq_equiv };
+}
