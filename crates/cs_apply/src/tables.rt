@@ -69,7 +69,8 @@ impl Tables {
         self.places.len()
     }
 
-    /// Applies all changes of a changeset, in order. Changes of a table that isn't in the schema, has another
+    /// Applies all changes of a changeset, in order, as `sqlite3changeset_apply` does whose conflict handler answers
+    /// `SQLITE_CHANGESET_ABORT`. Changes of a table that isn't in the schema, has another
     /// shape or isn't kept are passed over, and count for the position. An `Err` is the first conflict, or want
     /// of memory, and leaves the tables as they were.
     pub fn apply(&mut self, alloc: Global, changeset: &Changeset) -> Result<(), ApplyError>

@@ -6,7 +6,7 @@ ghost use Rattle.cs_model.specs.Text.{op_byte};
 use crate::seq::Seq;
 use crate::value::Field;
 
-/// What a change does to its row.
+/// What a change does to its row: the operation that `sqlite3changeset_op` tells.
 #[derive(Clone, Copy, Debug, PartialEq, Eq)]
 pub enum Op {
     Insert,
@@ -27,12 +27,12 @@ impl Op {
     }
 }
 
-/// One change of one row.
+/// One change of one row, as an iterator of `sqlite3changeset_next` gives it.
 #[derive(Debug, Drop, PartialEq, Eq)]
 pub struct Change {
     /// What it does.
     pub op: Op,
-    /// Whether a trigger or a foreign key action made it, and not the application itself.
+    /// Whether a trigger or a foreign key action made it, and not the application itself (`sqlite3session_indirect`).
     pub indirect: bool,
     /// The old record: one field per column in an UPDATE or a DELETE, empty in an INSERT.
     pub before: Seq<Field>,

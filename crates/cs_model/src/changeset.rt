@@ -9,7 +9,7 @@ use crate::seq::Seq;
 use std::alloc::{AllocError, Global};
 use std::marker::Model;
 
-/// A changeset: sections in order, each with changes that fit its table. Contracts see the list of sections.
+/// A changeset ("The Session Extension"): sections in order, each with changes that fit its table. Contracts see the list of sections.
 #[derive(Debug, Drop)]
 pub struct Changeset {
     sections: Seq<Section>,

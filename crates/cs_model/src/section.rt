@@ -13,7 +13,8 @@ use crate::shape::Shape;
 use std::alloc::{AllocError, Global};
 use std::marker::Model;
 
-/// The changes of one table that stand together in a changeset. Contracts see the shape and the list of changes.
+/// The changes of one table that stand together in a changeset, behind one header (the format of changesets in
+/// `sqlite3session.c`). Contracts see the shape and the list of changes.
 #[derive(Debug, Drop)]
 pub struct Section {
     shape: Shape,

@@ -2,7 +2,7 @@
 
 use crate::seq::Octets;
 
-/// A table as a changeset's header names it.
+/// A table as a changeset's header names it: what `sqlite3changeset_op` and `sqlite3changeset_pk` tell of it.
 #[derive(Debug, Drop, PartialEq, Eq, Hash)]
 pub struct Shape {
     /// The table's name, 1 to 1,024 bytes without a zero byte.

@@ -2,7 +2,7 @@
 
 use crate::seq::Octets;
 
-/// A value of a column, as SQLite types it. TEXT is kept as bytes and not checked to be UTF-8; two values are
+/// A value of a column, as SQLite types it ("Datatypes In SQLite", storage classes; REAL is left out). TEXT is kept as bytes and not checked to be UTF-8; two values are
 /// equal when type and bytes are equal.
 #[derive(Debug, Drop, PartialEq, Eq)]
 pub enum Value {
@@ -16,7 +16,7 @@ pub enum Value {
     Null,
 }
 
-/// What a record says of a column.
+/// What a record says of a column, as `sqlite3changeset_old` and `sqlite3changeset_new` tell it.
 #[derive(Debug, Drop, PartialEq, Eq)]
 pub enum Field {
     /// Nothing: an UPDATE leaves the column as it is.

@@ -59,8 +59,8 @@ pub(crate) fn varint_strip(bytes: &[u8], value: u64) -> Option<&[u8]>
     bytes.strip_prefix(&text[start..])
 }
 
-// The shortest varint of a number, from this place on.
-fn varint_of(value: u64) -> ([u8; 9], usize)
+/// The shortest varint of a number: the bytes from this place on.
+pub fn varint_of(value: u64) -> ([u8; 9], usize)
     ensures place { result.1 ≤ 9 }
     ensures text { drop result.1 result.0 ≡ varint value }
 {

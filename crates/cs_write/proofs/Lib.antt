@@ -6,3 +6,4 @@ pub mod TextLaws
 pub mod FormLaws
 pub mod SpellLaws
 pub mod NoLonger
+pub mod Laying

@@ -1,9 +1,10 @@
 //! Sections by their shapes.
 
-ghost use Rattle.std.specs.Prelude.{◌≡◌, [], map as list_map, IfOk, OnOk};
+ghost use Rattle.std.specs.Prelude.{◌≡◌, [], map as list_map, IfOk, OnOk, length, nat_lt};
+ghost use Rattle.cs_model.specs.Changeset.{all_changes};
 ghost use Rattle.cs_write.specs.Canon.{by_shape};
 ghost use Rattle.cs_write.specs.Groups.{added};
-ghost use Rattle.cs_write.specs.Seen.{seen};
+ghost use Rattle.cs_write.specs.Seen.{seen, sections_of};
 
 use cs_model::{CopyIn, Section, Shape};
 use indexmap::IndexMap;
@@ -39,4 +40,16 @@ pub fn groups_of<'a>(alloc: Global, sections: &'a [Section]) -> Result<Groups<'a
         add(alloc, &mut groups, section)?;
     }
     Ok(groups)
+}
+
+/// Whether these sections have a change.
+pub fn any_change(sections: &[&Section]) -> bool
+    ensures { result ≡ nat_lt 0 (length (all_changes (sections_of sections.now))) }
+{
+    for section in sections {
+        if !section.changes().is_empty() {
+            return true;
+        }
+    }
+    false
 }

@@ -8,6 +8,7 @@ mod form;
 mod groups;
 pub mod laws;
 mod length;
+mod placing;
 mod pushing;
 #[cfg(test)]
 mod tests;

@@ -90,7 +90,8 @@ fn first(alloc: Global, name: u8) -> Result<Vec<u8>, AllocError> {
     Ok(out)
 }
 
-// Writes the changeset of these sections, which must give this text, and its canonical form, which must give it too.
+// Writes the changeset of these sections, which must give this text, in a `Vec` and in a buffer, and its canonical form,
+// which must give it too.
 fn writes(
     rt: &impl Abort,
     alloc: Global,
@@ -104,6 +105,7 @@ fn writes(
     let text = write(alloc, &changeset)?;
     let got: &[u8] = &text;
     assert_eq!(rt; got, want);
+    fills(rt, alloc, &changeset, want)?;
     let form = canonical(alloc, &changeset)?;
     assert_eq!(rt; form.sections().len(), count);
     let again = write(alloc, &form)?;

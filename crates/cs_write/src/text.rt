@@ -1,6 +1,6 @@
 //! The canonical text.
 
-ghost use Rattle.std.specs.Prelude.{◌≡◌, ◌++◌, ◌≤◌, ◌^◌, length, nat_lt, IfOk, OnErr, OnOk};
+ghost use Rattle.std.specs.Prelude.{◌≡◌, ◌++◌, ◌≤◌, ◌^◌, length, IfOk, OnErr, OnOk};
 ghost use Rattle.cs_model.specs.Changeset.{all_changes};
 ghost use Rattle.cs_write.specs.Buffer.{given};
 ghost use Rattle.cs_write.specs.Lengths.{held};
@@ -9,24 +9,13 @@ ghost use Rattle.cs_write.specs.Text.{text_of};
 ghost use Rattle.cs_write.specs.Groups.{group_text, groups_text};
 ghost use Rattle.cs_write.specs.Seen.{seen, sections_of};
 
-use crate::groups::{Groups, groups_of};
+use crate::groups::{Groups, any_change, groups_of};
 use crate::length::{changes_len, header_len, plus};
+use crate::placing::put_groups;
 use crate::pushing::{push_changes, push_header};
 use bytes::Bytes;
 use cs_model::{Changeset, Section, Shape};
 use std::alloc::{AllocError, Global};
-
-// whether these sections have a change
-fn any_change(sections: &[&Section]) -> bool
-    ensures { result ≡ nat_lt 0 (length (all_changes (sections_of sections.now))) }
-{
-    for section in sections {
-        if !section.changes().is_empty() {
-            return true;
-        }
-    }
-    false
-}
 
 // how many bytes the changes of these sections have
 fn sections_len(sections: &[&Section]) -> Option<usize>
@@ -120,7 +109,8 @@ pub fn write(alloc: Global, changeset: &Changeset) -> Result<Bytes, AllocError>
 
 /// Writes the canonical text of a changeset to the front of `out`, where there is room for it, and answers its length, in
 /// bytes. Where there is less room nothing is written, so that a call with an empty buffer tells how much is needed.
-/// `AllocError` where memory runs out, which leaves `out` as it was.
+/// The text is made in `out` itself, in no other buffer. `AllocError` where memory runs out, which leaves `out` as it was.
+#[tactic(auto, using(crate::proofs::Laying::laid_first))]
 pub fn write_to(alloc: Global, changeset: &Changeset, out: &mut [u8]) -> Result<usize, AllocError>
     ensures length { IfOk result (λ n. n ≡ length (text_of changeset.now)) }
     ensures written { OnOk result (out.new ≡ given (text_of changeset.now) out.old) }
@@ -132,7 +122,6 @@ pub fn write_to(alloc: Global, changeset: &Changeset, out: &mut [u8]) -> Result<
     if room < len {
         return Ok(len);
     }
-    let text = bytes_of(alloc, &groups, len)?;
-    out[..len].copy_from_slice(&text);
-    Ok(len)
+    // from here on no memory is taken, so that no error leaves part of the text in `out`
+    Ok(put_groups(out, 0, &groups))
 }

@@ -16,6 +16,7 @@ use std::alloc::{AllocError, Global};
 use std::mem;
 
 impl World {
+    /// One publisher more, with an empty stream. It is answered with its number, from 0.
     pub(crate) fn publisher(&mut self, alloc: Global) -> Result<Reply, AllocError>
         ensures ok { IfOk result (λ reply. publisher_outcome self.old ≡ (reply, self.new)) }
         ensures err { OnErr result (self.new ≡ self.old) }
@@ -29,6 +30,8 @@ impl World {
         Ok(Reply::Publisher(number))
     }
 
+    /// The next piece of a publisher's stream. A piece with a fault is answered with it, and so is each one behind it until
+    /// the stream is reset.
     pub(crate) fn feed(
         &mut self,
         alloc: Global,
@@ -50,6 +53,7 @@ impl World {
         }
     }
 
+    /// Empties a publisher's stream; what is staged stays.
     pub(crate) fn reset(&mut self, alloc: Global, publisher: u64) -> Result<Reply, AllocError>
         ensures ok { IfOk result (λ reply. reset_outcome self.old publisher ≡ (reply, self.new)) }
         ensures err { OnErr result (self.new ≡ self.old) }
@@ -63,6 +67,7 @@ impl World {
         Ok(Reply::Reset)
     }
 
+    /// Ends a publisher's stream: the changeset that it spells is staged, where the schema admits it, and a new stream begins.
     pub(crate) fn end(&mut self, alloc: Global, publisher: u64) -> Result<Reply, AllocError>
         ensures ok { IfOk result (λ reply. end_outcome self.old publisher ≡ (reply, self.new)) }
         ensures err { OnErr result (self.new ≡ self.old) }
@@ -92,6 +97,7 @@ impl World {
         }
     }
 
+    /// Puts what a publisher staged at the end of the intake, with its number among that publisher's.
     pub(crate) fn send(&mut self, publisher: u64) -> Result<Reply, AllocError>
         ensures ok { IfOk result (λ reply. send_outcome self.old publisher ≡ (reply, self.new)) }
         ensures err { OnErr result (self.new ≡ self.old) }
@@ -121,6 +127,7 @@ impl World {
         }
     }
 
+    /// Moves the first item of the intake to the end of the sequence, and answers its number, from 1.
     pub(crate) fn turn(&mut self, alloc: Global) -> Result<Reply, AllocError>
         ensures ok { IfOk result (λ reply. turn_outcome self.old ≡ (reply, self.new)) }
         ensures err { OnErr result (self.new ≡ self.old) }

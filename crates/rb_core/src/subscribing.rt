@@ -15,6 +15,7 @@ use cs_model::CopyIn;
 use std::alloc::{AllocError, Global};
 
 impl World {
+    /// One subscription more, of the entries behind number `start`, with empty tables.
     pub(crate) fn subscribe(&mut self, alloc: Global, start: u64) -> Result<Reply, AllocError>
         ensures ok { IfOk result (λ reply. subscribe_outcome self.old start ≡ (reply, self.new)) }
         ensures err { OnErr result (self.new ≡ self.old) }
@@ -37,6 +38,7 @@ impl World {
         })
     }
 
+    /// Hands a subscription the next entry that it wasn't handed yet, as a delivery.
     pub(crate) fn take(&mut self, subscription: u64) -> Result<Reply, AllocError>
         ensures ok { IfOk result (λ reply. take_outcome self.old subscription ≡ (reply, self.new)) }
         ensures err { OnErr result (self.new ≡ self.old) }
@@ -66,6 +68,7 @@ impl World {
         })
     }
 
+    /// Applies a delivery's entry to its subscription's tables.
     pub(crate) fn accept(&mut self, alloc: Global, delivery: u64) -> Result<Reply, AllocError>
         ensures ok { IfOk result (λ reply. accept_outcome self.old delivery ≡ (reply, self.new)) }
         ensures err { OnErr result (self.new ≡ self.old) }

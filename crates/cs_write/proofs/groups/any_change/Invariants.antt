@@ -1,7 +1,7 @@
 use Rattle.std.proofs.Common.{◌≡◌, drop}
 use Rattle.cs_model.specs.Changeset.{all_changes}
 use Rattle.cs_write.specs.Seen.{sections_of}
-use Rattle.cs_write.proofs.text.any_change.Given as goal
+use Rattle.cs_write.proofs.groups.any_change.Given as goal
 
 -- the changes of the sections that are left are all there are
 abbrev pub invariant-loop-section : goal.invariant-loop-section

@@ -1,0 +1,172 @@
+/* Makes the changesets that tables are built, changed and emptied by, and applies them with SQLite.
+ *
+ *   apply make ROWS KIND        writes them on standard output, each behind its length in four bytes
+ *   apply sqlite | lean        reads them from standard input and has SQLite apply them; lean is SQLite without statistics
+ *                              and locks
+ *   apply measure FILE WORDS   runs a command five times with FILE as its standard input, and prints the median of its
+ *                              processor time, in milliseconds, and the most memory that it had, in kilobytes
+ *
+ * SQLite's tables are one WITHOUT ROWID table in memory. */
+#define _DEFAULT_SOURCE
+#define SQLITE_ENABLE_SESSION
+#define SQLITE_ENABLE_PREUPDATE_HOOK
+#include <sqlite3.h>
+
+#include <stdint.h>
+#include <stdio.h>
+#include <stdlib.h>
+#include <string.h>
+#include <sys/resource.h>
+#include <sys/wait.h>
+#include <unistd.h>
+
+enum { INSERT = 18, UPDATE = 23, DELETE = 9 };
+enum { UNDEFINED = 0, INTEGER = 1, TEXT = 3, BLOB = 4 };
+
+/* no changeset is longer than a text may be */
+#define MOST_BYTES 16000000
+
+static void must(int holds, const char *what) {
+    if (holds) return;
+    fprintf(stderr, "apply: %s\n", what);
+    exit(1);
+}
+
+/* ---- making */
+
+struct text {
+    unsigned char *bytes;
+    size_t len;
+};
+
+static void put(struct text *text, int byte) { text->bytes[text->len++] = (unsigned char)byte; }
+
+static void put_integer(struct text *text, uint64_t number) {
+    put(text, INTEGER);
+    for (int shift = 56; shift >= 0; shift -= 8) put(text, (int)(number >> shift & 255));
+}
+
+static void put_bytes(struct text *text, int type, size_t len, int fill) {
+    put(text, type);
+    if (len >= 128) put(text, (int)(128 + len / 128));
+    put(text, (int)(len % 128));
+    memset(text->bytes + text->len, fill, len);
+    text->len += len;
+}
+
+/* `integers`: a key and two numbers. `texts`: a key, a number and a text of 100 bytes. `blob`: a key, a number and a blob of
+ * 4,096 bytes, of which an UPDATE changes the number alone. */
+static void put_value(struct text *text, const char *kind, uint64_t row, int turn) {
+    if (!strcmp(kind, "integers")) put_integer(text, row * 7 + (uint64_t)turn);
+    else if (!strcmp(kind, "texts")) put_bytes(text, TEXT, 100, 'a' + (int)(row % 13) + turn);
+    else put_bytes(text, BLOB, 4096, 'a' + (int)(row % 13));
+}
+
+static void put_change(struct text *text, const char *kind, int op, uint64_t row) {
+    /* in no order of keys */
+    uint64_t key = row * 2654435761u % 4294967296u;
+    int blob = !strcmp(kind, "blobs");
+    put(text, op);
+    put(text, 0);
+    put_integer(text, key);
+    put_integer(text, op == DELETE ? row + 1 : row);
+    if (op == UPDATE && blob) put(text, UNDEFINED);
+    else put_value(text, kind, row, op == DELETE);
+    if (op != UPDATE) return;
+    put(text, UNDEFINED);
+    put_integer(text, row + 1);
+    if (blob) put(text, UNDEFINED);
+    else put_value(text, kind, row, 1);
+}
+
+static void hand_out(struct text *text) {
+    for (int shift = 24; shift >= 0; shift -= 8) putchar((int)(text->len >> shift & 255));
+    must(fwrite(text->bytes, 1, text->len, stdout) == text->len, "write");
+    text->len = 0;
+}
+
+static void put_header(struct text *text) {
+    static const unsigned char header[] = {'T', 3, 1, 0, 0, 'm', 0};
+    memcpy(text->bytes, header, sizeof header);
+    text->len = sizeof header;
+}
+
+static void make(uint64_t rows, const char *kind) {
+    static const int operations[] = {INSERT, UPDATE, DELETE};
+    struct text text = {malloc(MOST_BYTES + 20000), 0};
+    must(text.bytes != NULL, "memory");
+    for (int i = 0; i < 3; i++) {
+        put_header(&text);
+        for (uint64_t row = 0; row < rows; row++) {
+            if (text.len > MOST_BYTES) {
+                hand_out(&text);
+                put_header(&text);
+            }
+            put_change(&text, kind, operations[i], row);
+        }
+        hand_out(&text);
+    }
+}
+
+/* ---- applying */
+
+static int abort_it(void *context, int conflict, sqlite3_changeset_iter *iter) {
+    (void)context, (void)conflict, (void)iter;
+    return SQLITE_CHANGESET_ABORT;
+}
+
+static void apply(void) {
+    sqlite3 *database;
+    must(sqlite3_open(":memory:", &database) == SQLITE_OK, "open");
+    must(sqlite3_exec(database, "CREATE TABLE m(a INTEGER PRIMARY KEY, b, c) WITHOUT ROWID", 0, 0, 0) == SQLITE_OK, "create");
+    unsigned char head[4], *text = malloc(MOST_BYTES + 20000);
+    must(text != NULL, "memory");
+    while (fread(head, 1, 4, stdin) == 4) {
+        size_t len = (size_t)head[0] << 24 | (size_t)head[1] << 16 | (size_t)head[2] << 8 | head[3];
+        must(len <= MOST_BYTES + 20000 && fread(text, 1, len, stdin) == len, "read");
+        must(sqlite3changeset_apply(database, (int)len, text, 0, abort_it, 0) == SQLITE_OK, "conflict");
+    }
+    printf("%ld changes\n", (long)sqlite3_total_changes(database));
+}
+
+/* ---- measuring */
+
+static int by_size(const void *one, const void *other) {
+    double a = *(const double *)one, b = *(const double *)other;
+    return (a > b) - (a < b);
+}
+
+static double milliseconds(struct timeval time) { return (double)time.tv_sec * 1000 + (double)time.tv_usec / 1000; }
+
+static void measure(const char *file, char **words) {
+    double took[5];
+    long most = 0;
+    for (int run = 0; run < 5; run++) {
+        pid_t child = fork();
+        must(child >= 0, "fork");
+        if (child == 0) {
+            must(freopen(file, "r", stdin) && freopen("/dev/null", "w", stdout), "files");
+            execv(words[0], words);
+            _exit(127);
+        }
+        int status;
+        struct rusage usage;
+        must(wait4(child, &status, 0, &usage) == child && status == 0, "the command failed");
+        took[run] = milliseconds(usage.ru_utime) + milliseconds(usage.ru_stime);
+        if (usage.ru_maxrss > most) most = usage.ru_maxrss;
+    }
+    qsort(took, 5, sizeof *took, by_size);
+    printf("%.1f %ld\n", took[2], most);
+}
+
+int main(int count, char **words) {
+    if (count == 4 && !strcmp(words[1], "make")) make(strtoull(words[2], 0, 10), words[3]);
+    else if (count > 3 && !strcmp(words[1], "measure")) measure(words[2], words + 3);
+    else if (count == 2 && !strcmp(words[1], "sqlite")) apply();
+    else if (count == 2 && !strcmp(words[1], "lean")) {
+        must(sqlite3_config(SQLITE_CONFIG_MEMSTATUS, 0) == SQLITE_OK, "statistics");
+        must(sqlite3_config(SQLITE_CONFIG_SINGLETHREAD) == SQLITE_OK, "locks");
+        apply();
+    } else must(0, "make ROWS KIND, sqlite, lean, or measure FILE WORDS");
+    return 0;
+}

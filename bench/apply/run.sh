@@ -1,0 +1,37 @@
+#!/bin/sh
+# Measures `Tables::apply` against `sqlite3changeset_apply` on a database in memory, and prints a table. It works on a copy of
+# the checkout with what was proved there, to which it adds one crate, replay.in. RT names the prover's command where it
+# isn't `rt`.
+set -eu
+cd "$(dirname "$0")/../.."
+: "${RT:=rt}"
+
+for package in gcc libc6-dev libsqlite3-dev; do
+    dpkg -s "$package" >/dev/null 2>&1 || apt-get install -y "$package" >&2
+done
+
+work="$(mktemp -d)"
+trap 'rm -rf "$work"' EXIT
+mkdir "$work/crates"
+for crate in cs_model cs_parse cs_apply; do cp -a "crates/$crate" "$work/crates"; done
+grep -E '^(cs_model|cs_parse|cs_apply):' crates.txt >"$work/crates.txt"
+echo 'replay: cs_model cs_parse cs_apply' >>"$work/crates.txt"
+mkdir -p "$work/crates/replay/src"
+cp bench/apply/replay.in "$work/crates/replay/src/main.rt"
+(cd "$work/crates/replay" && "$RT" run -- apply </dev/null >&2)
+ours="$work/crates/replay/out/replay"
+gcc -O2 -Wall -Wextra bench/apply/apply.c -lsqlite3 -o "$work/apply"
+
+# row FILE WORDS..: the median of the time, and the peak of memory
+row() { "$work/apply" measure "$@"; }
+
+echo "| rows, each inserted, updated and deleted | ours, ms | lean SQLite's, ms | ratio | SQLite's, ms | ratio | ours, MB | SQLite's, MB |"
+echo "|---|--:|--:|--:|--:|--:|--:|--:|"
+for kind in integers texts blobs; do
+    for rows in 1000 10000 100000 1000000; do
+        [ "$kind$rows" = blobs1000000 ] && continue
+        "$work/apply" make "$rows" "$kind" >"$work/input"
+        echo "$rows $kind $(row "$work/input" "$ours" apply) $(row "$work/input" "$work/apply" lean) $(row "$work/input" "$work/apply" sqlite)" |
+            awk '{ printf "| %d rows, %s | %s | %s | %.1f | %s | %.1f | %d | %d |\n", $1, $2, $3, $5, $5 / $3, $7, $7 / $3, $4 / 1024, $6 / 1024 }'
+    done
+done

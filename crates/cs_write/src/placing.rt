@@ -1,0 +1,79 @@
+//! Writing at a place of a buffer that has room. Each of these lays its bytes there, and tells the place behind them. The
+//! other bytes of the buffer stay, and no memory is taken, so that nothing can fail once the first byte is written.
+
+ghost use Rattle.std.specs.Prelude.{◌≡◌, ◌+◌, ◌≤◌, length};
+ghost use Rattle.cs_model.specs.Changeset.{all_changes};
+ghost use Rattle.cs_model.specs.PackedChanges.{changes_bytes};
+ghost use Rattle.cs_write.specs.Buffer.{laid};
+ghost use Rattle.cs_write.specs.Groups.{group_text, groups_text};
+ghost use Rattle.cs_write.specs.Seen.{seen, sections_of};
+ghost use Rattle.cs_write.specs.Text.{header_text};
+
+use crate::groups::{Groups, any_change};
+use cs_model::{Section, Shape, varint_of};
+
+// these bytes, in one copy
+#[tactic(auto, unfolding(crate::specs::Buffer::laid))]
+fn put(out: &mut [u8], at: usize, bytes: &[u8]) -> usize
+    requires { at + length bytes.now ≤ length out.old }
+    ensures end { result ≡ at + length bytes.now }
+    ensures bytes { out.new ≡ laid at bytes.now out.old }
+{
+    let end = at + bytes.len();
+    out[at..end].copy_from_slice(bytes);
+    end
+}
+
+// a header
+fn put_header(out: &mut [u8], at: usize, shape: &Shape) -> usize
+    requires { at + length (header_text shape.now) ≤ length out.old }
+    ensures end { result ≡ at + length (header_text shape.now) }
+    ensures bytes { out.new ≡ laid at (header_text shape.now) out.old }
+{
+    let flags: &[u8] = &shape.flags;
+    let (count, start) = varint_of(flags.len() as u64);
+    let mut end = put(out, at, b"T");
+    end = put(out, end, &count[start..]);
+    end = put(out, end, flags);
+    end = put(out, end, &shape.name);
+    put(out, end, &[0])
+}
+
+// the changes of these sections, each section's in one copy
+fn put_sections(out: &mut [u8], at: usize, sections: &[&Section]) -> usize
+    requires { at + length (changes_bytes (all_changes (sections_of sections.now))) ≤ length out.old }
+    ensures end { result ≡ at + length (changes_bytes (all_changes (sections_of sections.now))) }
+    ensures bytes { out.new ≡ laid at (changes_bytes (all_changes (sections_of sections.now))) out.old }
+{
+    let mut end = at;
+    for section in sections {
+        end = put(out, end, section.changes().bytes());
+    }
+    end
+}
+
+// a group, where it has a change
+fn put_group(out: &mut [u8], at: usize, shape: &Shape, sections: &[&Section]) -> usize
+    requires { at + length (group_text (shape.now, sections_of sections.now)) ≤ length out.old }
+    ensures end { result ≡ at + length (group_text (shape.now, sections_of sections.now)) }
+    ensures bytes { out.new ≡ laid at (group_text (shape.now, sections_of sections.now)) out.old }
+{
+    if !any_change(sections) {
+        return at;
+    }
+    let end = put_header(out, at, shape);
+    put_sections(out, end, sections)
+}
+
+/// All groups, one after another.
+pub fn put_groups(out: &mut [u8], at: usize, groups: &Groups) -> usize
+    requires { at + length (groups_text (seen groups.now.entries)) ≤ length out.old }
+    ensures end { result ≡ at + length (groups_text (seen groups.now.entries)) }
+    ensures bytes { out.new ≡ laid at (groups_text (seen groups.now.entries)) out.old }
+{
+    let mut end = at;
+    for (shape, sections) in groups.iter() {
+        end = put_group(out, end, shape, sections);
+    }
+    end
+}
