@@ -188,12 +188,16 @@ pushed old new f fits packs added =
 pub empty : (bytes : List ℕ) → bytes ≡ [] → (unpacked bytes ≡ []) × Packs bytes (unpacked bytes)
 empty bytes none = made bytes [] none tt
 
--- ---- the same bytes are the same fields
+-- ---- the same bytes say the same
 
-pub same_records : (a b : List ℕ) (r : Bool) → Packs a (unpacked a) → Packs b (unpacked b) → r ≡ same_bytes a b → (r ≡ true) ↔ (unpacked a ≡ unpacked b)
-same_records a b r p q e = (
-  λ told. ap unpacked (same_text a b (sym told ∙ e)),
+pub same_said : {X : Type 0} (said : List ℕ → X) (packs : X → List ℕ) (a b : List ℕ) (r : Bool) → a ≡ packs (said a) → b ≡ packs (said b) → r ≡ same_bytes a b
+    → (r ≡ true) ↔ (said a ≡ said b)
+same_said said packs a b r p q e = (
+  λ told. ap said (same_text a b (sym told ∙ e)),
   λ same.
-      let bytes : a ≡ b = p.parts ∙ ap packed same ∙ sym q.parts in
+      let bytes : a ≡ b = p ∙ ap packs same ∙ sym q in
       e ∙ ap (λ (w : List ℕ). same_bytes a w) (sym bytes) ∙ nat_list_eq_equiv.refl a,
 )
+
+pub same_records : (a b : List ℕ) (r : Bool) → Packs a (unpacked a) → Packs b (unpacked b) → r ≡ same_bytes a b → (r ≡ true) ↔ (unpacked a ≡ unpacked b)
+same_records a b r p q e = same_said unpacked packed a b r p.parts q.parts e

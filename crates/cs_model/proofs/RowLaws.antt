@@ -1,5 +1,5 @@
 -- Rows as bytes: what a row's bytes say is the row.
-use Rattle.std.proofs.Common.{◌≡◌, true, List, [], ◌∷◌, ◌++◌, ℕ, refl, sym, ap, subst, ◌∙◌}
+use Rattle.std.proofs.Common.{◌≡◌, ◌↔◌, Bool, true, List, [], ◌∷◌, ◌++◌, ℕ, refl, sym, ap, subst, ◌∙◌}
 use Rattle.std.specs.List.{AllByRecursion, list_all}
 use Rattle.std.proofs.lemmas.List.{map-append}
 use Rattle.cs_model.specs.declared.value.Value.{Value}
@@ -9,7 +9,8 @@ use Rattle.cs_model.specs.FieldBytes.{field_bytes}
 use Rattle.cs_model.specs.Packed.{packed, Fits, Packs, unpacked}
 use Rattle.cs_model.specs.Row.{row_fields, values_of}
 use Rattle.cs_model.specs.Rule.{is_defined}
-use Rattle.cs_model.proofs.PackedLaws.{packed_unpacked, fit_push, packed_push}
+use Rattle.cs_model.specs.Schema.{same_bytes}
+use Rattle.cs_model.proofs.PackedLaws.{packed_unpacked, fit_push, packed_push, same_said}
 
 -- ---- a row and the record that says it
 
@@ -48,3 +49,7 @@ row_pushed old new (Is v) defined fits packs added =
     let more : row_fields row ++ Is v ∷ [] ≡ row_fields (row ++ v ∷ []) = sym (map-append (λ (value : Value). Is value) row (v ∷ [])) in
     let bytes : new ≡ packed (row_fields row ++ Is v ∷ []) = added ∙ (ap (λ (w : List ℕ). w ++ field_bytes (Is v)) packs.parts ∙ sym (packed_push (row_fields row) (Is v))) in
     row_made new (row ++ v ∷ []) (bytes ∙ ap packed more) (subst (λ (fs : List Field). AllByRecursion Fits fs) more (fit_push (row_fields row) (Is v) packs.fit fits))
+
+pub same_rows : (a b : List ℕ) (r : Bool) → Packs a (row_fields (values_of (unpacked a))) → Packs b (row_fields (values_of (unpacked b))) → r ≡ same_bytes a b
+    → (r ≡ true) ↔ (values_of (unpacked a) ≡ values_of (unpacked b))
+same_rows a b r p q e = same_said (λ (w : List ℕ). values_of (unpacked w)) (λ (row : List Value). packed (row_fields row)) a b r p.parts q.parts e

@@ -1,6 +1,6 @@
 //! Changes in one piece of memory.
 
-ghost use Rattle.std.specs.Prelude.{◌≡◌, ◌==◌, [], ◌∷◌, ◌++◌, OnOk, OnErr, length, take};
+ghost use Rattle.std.specs.Prelude.{◌≡◌, ◌==◌, [], ◌∷◌, ◌++◌, OnOk, OnErr, ◌↔◌, IsTrue, length, take};
 ghost use Rattle.std.specs.Cmp;
 ghost use Rattle.std.specs.Cmp.{on_per, on_equiv};
 ghost use Rattle.std.specs.Cmp.Lexicographic.{pointwise, lists_per, lists_equiv, nat_list_eq_equiv};
@@ -168,6 +168,14 @@ impl PartialEq for Changes {
 
 impl Eq for Changes {
     ghost laws = { on_equiv changes_parts (lists_equiv nat_list_eq_equiv) };
+}
+
+/// Whether two lists are of as many columns and have the same changes. This is what `==` answers, with a contract that says so
+/// of the changes.
+pub fn same_changes(first: &Changes, second: &Changes) -> bool
+    ensures { IsTrue result ↔ (first.now ≡ second.now) }
+{
+    first.columns == second.columns && first.bytes == second.bytes
 }
 
 /// Adds a change's bytes to the end of `out`, and nothing else. An `Err` leaves `out` as it was.

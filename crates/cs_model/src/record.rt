@@ -1,6 +1,6 @@
 //! Records in memory of their own.
 
-ghost use Rattle.std.specs.Prelude.{◌≡◌, ◌++◌, ◌∷◌, [], IfOk, OnOk, OnErr};
+ghost use Rattle.std.specs.Prelude.{◌≡◌, ◌++◌, ◌∷◌, [], IfOk, OnOk, OnErr, ◌↔◌, IsTrue};
 ghost use Rattle.std.specs.List.{AllByRecursion};
 ghost use Rattle.std.specs.Cmp;
 ghost use Rattle.std.specs.Cmp.{on_per, on_equiv};
@@ -113,4 +113,11 @@ impl PartialEq for Record {
 
 impl Eq for Record {
     ghost laws = { on_equiv packed nat_list_eq_equiv };
+}
+
+/// Whether two records have the same fields. This is what `==` answers, with a contract that says so of the fields.
+pub fn same_fields(first: &Record, second: &Record) -> bool
+    ensures { IsTrue result ↔ (first.now ≡ second.now) }
+{
+    first.bytes == second.bytes
 }

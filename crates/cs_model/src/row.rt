@@ -1,6 +1,6 @@
 //! Rows in memory of their own.
 
-ghost use Rattle.std.specs.Prelude.{◌≡◌, ◌++◌, ◌∷◌, [], IfOk, OnOk, OnErr, true};
+ghost use Rattle.std.specs.Prelude.{◌≡◌, ◌++◌, ◌∷◌, [], IfOk, OnOk, OnErr, ◌↔◌, IsTrue, true};
 ghost use Rattle.std.specs.List.{AllByRecursion, list_all};
 ghost use Rattle.std.specs.Cmp;
 ghost use Rattle.std.specs.Cmp.{on_per, on_equiv};
@@ -114,4 +114,11 @@ impl PartialEq for Row {
 
 impl Eq for Row {
     ghost laws = { on_equiv (λ row. packed (row_fields row)) nat_list_eq_equiv };
+}
+
+/// Whether two rows have the same values. This is what `==` answers, with a contract that says so of the values.
+pub fn same_values(first: &Row, second: &Row) -> bool
+    ensures { IsTrue result ↔ (first.now ≡ second.now) }
+{
+    first.bytes == second.bytes
 }

@@ -1,13 +1,13 @@
 //! Sections.
 
-ghost use Rattle.std.specs.Prelude.{◌≡◌, length};
+ghost use Rattle.std.specs.Prelude.{◌≡◌, ◌↔◌, IsTrue, length};
 ghost use Rattle.std.specs.Cmp;
 ghost use Rattle.std.specs.Cmp.{on_per, on_equiv};
 ghost use Rattle.std.specs.Cmp.Lexicographic.{pointwise, lists_per, lists_equiv, nat_list_eq_equiv};
 ghost use Rattle.cs_model.specs.Schema.{same_bytes};
 ghost use Rattle.cs_model.specs.PackedChanges.{section_parts};
 
-use crate::changes::Changes;
+use crate::changes::{Changes, same_changes};
 use crate::copy::CopyIn;
 use crate::shape::Shape;
 use std::alloc::{AllocError, Global};
@@ -87,4 +87,12 @@ impl PartialEq for Section {
 
 impl Eq for Section {
     ghost laws = { on_equiv section_parts (lists_equiv nat_list_eq_equiv) };
+}
+
+/// Whether two sections are of the same table and have the same changes. This is what `==` answers, with a contract that says
+/// so of the changes.
+pub fn same_sections(first: &Section, second: &Section) -> bool
+    ensures { IsTrue result ↔ (first.now ≡ second.now) }
+{
+    first.shape == second.shape && same_changes(&first.changes, &second.changes)
 }

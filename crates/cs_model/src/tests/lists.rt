@@ -37,7 +37,10 @@ fn lists_behind_lists(rt: HostRuntime) -> Result<(), Fail> {
             assert_eq!(rt; changes, before);
         }
         added?;
-        assert_eq!(rt; changes, direct(alloc, all)?);
+        let wanted = direct(alloc, all)?;
+        assert_eq!(rt; changes, wanted);
+        assert!(rt; same_changes(&changes, &wanted));
+        assert!(rt; !same_changes(&changes, &Changes::new(alloc, 2)));
         assert_eq!(rt; changes.len(), all);
         assert_eq!(rt; changes.columns(), 2);
         assert!(rt; !changes.is_empty());

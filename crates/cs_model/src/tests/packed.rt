@@ -42,9 +42,9 @@ fn each_kind_of_field(rt: HostRuntime) -> Result<(), Fail> {
     gives(&rt, Fields::of(bytes), &fields);
     assert!(rt; !Undefined.has_value() && Null.has_value());
     let copy = record.copy_in(alloc)?;
-    assert!(rt; copy == record);
+    assert!(rt; copy == record && same_fields(&copy, &record));
     let other = filled(&rt, alloc, &fields[1..])?;
-    assert!(rt; other != record);
+    assert!(rt; other != record && !same_fields(&other, &record));
     Ok(())
 }
 

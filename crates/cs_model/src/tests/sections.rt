@@ -33,6 +33,7 @@ fn parts_of_sections(rt: HostRuntime) -> Result<(), Fail> {
     ] {
         let other = Section::new(table_shape(alloc, name, &flags)?, single(alloc, indirect)?);
         assert_eq!(rt; section == other, same, "{other:?}");
+        assert_eq!(rt; same_sections(&section, &other), same);
     }
     assert_eq!(rt; section.shape(), &table_shape(alloc, b"t", &[1, 0])?);
     assert_eq!(rt; section.changes(), &single(alloc, false)?);
