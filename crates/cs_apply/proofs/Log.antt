@@ -43,9 +43,6 @@ take-undone : (n : ℕ) (log : List Step) (es : Entries) → take n (undone log 
 take-undone n [] es = refl
 take-undone n (step ∷ log) es = take-set_at n step.place step.back (undone log es) ∙ ap (set_at step.place step.back) (take-undone n log es)
 
-pub Back-refl : (a : Places) → Back a a
-Back-refl a = record { grows = omega arith; back = λ n le. refl }
-
 pub Back-trans : (a b c : Places) → Back a b → Back b c → Back a c
 Back-trans a b c p q = record { grows = omega arith; back = λ n le. q.back n (omega arith) ∙ p.back n le }
 

@@ -137,9 +137,6 @@ starts_both n bytes behind fields new rest op m whole next few is r s =
 
 -- ---- changes, one more at a time
 
-pub none_yet : (n : ℕ) (bytes : List ℕ) → StartsChanges n 0 bytes bytes
-none_yet n bytes = record { changes = []; counted = refl; fit = tt; parts = refl }
-
 pub one_more : (n count : ℕ) (bytes rest after : List ℕ) → StartsChanges n count bytes rest → StartsChange n rest after → StartsChanges n (count + 1) bytes after
 one_more n count bytes rest after s c =
     let all = flat_map-append change_bytes s.changes (c.change ∷ []) ∙ ap (λ (w : List ℕ). changes_bytes s.changes ++ w) (append-nil (change_bytes c.change)) in

@@ -27,8 +27,8 @@ pub fn text_push(out: &mut Vec<u8>, columns: usize, bytes: &[u8]) -> Result<usiz
     Ok(count)
 }
 
-// how many changes bytes say, where they are the canonical ones of these changes
-fn canonical_count(columns: usize, bytes: &[u8]) -> Option<usize>
+/// How many changes bytes say, where they are the canonical ones of these changes, and else `None`.
+pub(crate) fn canonical_count(columns: usize, bytes: &[u8]) -> Option<usize>
     ensures packs { IfSome result (λ n. PacksAll columns bytes.now (unpacked_changes columns bytes.now)) }
     ensures count { IfSome result (λ n. n ≡ length (unpacked_changes columns bytes.now)) }
 {

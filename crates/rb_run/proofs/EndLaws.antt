@@ -12,7 +12,7 @@ use Rattle.rb_run.specs.Lines.{line_answer}
 use Rattle.rb_run.specs.Output.{Place, place_at, opening, written, after, last_answer, answers}
 use Rattle.rb_run.specs.Streams.{AppendsFront}
 use Rattle.rb_run.specs.Ends.{IsAnswered, IsReadInPart, IsOverrun, BreaksOff, IsCutOff, Ends, IsOfReader, IsOfAnswers}
-use Rattle.rb_run.proofs.StreamLaws.{Appends-none, Appends-trans, Appends-Keeps, Consumes-none, Consumes-trans, Consumes-Keeps, appends_front}
+use Rattle.rb_run.proofs.StreamLaws.{Appends-trans, Appends-Keeps, Consumes-none, Consumes-trans, Consumes-Keeps, appends_front}
 use Rattle.rb_run.proofs.ScriptLaws.{Fed, Fed-none, written-append, after-append}
 
 -- ---- pieces of an input
@@ -88,10 +88,6 @@ pub answered_kept : (config : Config) (result : Result (Unit {0}) ScriptFault) (
 answered_kept config (Ok done) r0 r w0 w w' h keeps is = (h.0, h.1, h.2, h.3, Appends-Keeps w0 w w' (answers config h.0) h.4 keeps)
 answered_kept config (Err e) r0 r w0 w w' h keeps is =
     ends_by_answers config e r0 r w0 w' is (h.0, h.1, inr (h.2, h.3, front_kept w0 w w' (answers config h.0) (appends_front w0 w (answers config h.0) h.4) keeps))
-
--- nothing is read yet
-pub cut_at_first : (config : Config) (r w : Option (List ℕ)) → IsCutOff config r r w w
-cut_at_first config r w = ([], Consumes-none r, inl ([], written config opening (take 16777216 []), refl, Appends-none w))
 
 -- what is read so far is answered
 pub cut_between : (config : Config) (r0 r w0 w : Option (List ℕ)) (now : Place) (count : ℕ) → Progress config r0 r w0 w now count → count ≤ 16777216 → IsCutOff config r0 r w0 w

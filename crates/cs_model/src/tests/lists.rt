@@ -3,6 +3,7 @@
 ghost use Rattle.std.specs.Prelude.{◌≡◌, IfOk};
 
 use crate::FieldRef::{Integer, Null, Text};
+use crate::canonical::canonical_count;
 use crate::laws::spelled_is_said;
 use crate::tests::{one_change, pair};
 use crate::*;
@@ -175,4 +176,28 @@ fn text_of_each_operation(rt: HostRuntime) -> Result<(), Fail> {
     assert_eq!(rt; changes.len(), 6);
     assert_eq!(rt; changes.bytes().strip_prefix(wanted), Some(wanted));
     Ok(())
+}
+
+// Bytes that aren't the canonical ones of changes have no count, and are respelled.
+#[test]
+fn canonical_bytes_are_counted(rt: HostRuntime) {
+    for (bytes, count) in [
+        (&b""[..], Some(0)),
+        (&b"\x12\x00\x05\x03\x01a"[..], Some(1)),
+        (&b"\x12\x00\x05\x03\x80\x01a"[..], None),
+        (&b"\x12\x07\x05\x03\x01a"[..], None),
+        (&b"\x12\x00\x05\x03\x02a"[..], None),
+        (&b"\x12\x00\x05"[..], None),
+        (&b"\x11\x00\x05\x05"[..], None),
+        (
+            &b"\x12\x00\x05\x05\x17\x01\x00\x05\x05\x00\x09\x01\x05\x04\x00"[..],
+            Some(3),
+        ),
+        (
+            &b"\x12\x00\x05\x05\x17\x01\x00\x05\x05\x00\x09\x01\x05\x04\x80\x00"[..],
+            None,
+        ),
+    ] {
+        assert_eq!(rt; canonical_count(2, bytes), count, "{bytes:?}");
+    }
 }
