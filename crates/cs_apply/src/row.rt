@@ -14,12 +14,12 @@ use cs_model::{FieldRef, RecordRef, Row};
 use std::alloc::{AllocError, Global};
 
 /// Whether each field of a record, all of which have a value, says the row's: then the row's bytes begin with the record's.
-pub(crate) fn all_agree(record: &RecordRef, row: &Row) -> bool
-    requires { list_all is_defined record.now ≡ true }
-    ensures { result ≡ all_agree record.now row.now }
+pub(crate) fn all_agree(from: &RecordRef, row: &Row) -> bool
+    requires { list_all is_defined from.now ≡ true }
+    ensures { result ≡ all_agree from.now row.now }
 {
     fields_first();
-    row.bytes().starts_with(record.bytes())
+    row.bytes().starts_with(from.bytes())
 }
 
 // whether a field says the same as one that has a value, or nothing
@@ -30,10 +30,10 @@ fn agrees(field: FieldRef, value: FieldRef) -> bool
 }
 
 /// Whether each field outside the key says the row's value, or nothing.
-pub(crate) fn rest_agrees(flags: &[u8], record: &RecordRef, row: &Row) -> bool
-    ensures { result ≡ rest_agrees flags.now record.now row.now }
+pub(crate) fn rest_agrees(flags: &[u8], from: &RecordRef, row: &Row) -> bool
+    ensures { result ≡ rest_agrees flags.now from.now row.now }
 {
-    let mut fields = record.fields();
+    let mut fields = from.fields();
     let mut values = row.fields();
     for flag in flags {
         let Some(field) = fields.next() else {
@@ -60,11 +60,11 @@ fn chosen<'a>(field: Option<FieldRef<'a>>, value: FieldRef<'a>) -> FieldRef<'a>
 }
 
 /// The row with the values that the record says in the place of its own. `AllocError` where memory runs out.
-pub(crate) fn updated(alloc: Global, record: &RecordRef, row: &Row) -> Result<Row, AllocError>
-    ensures { IfOk result (λ new. new ≡ updated record.now row.now) }
+pub(crate) fn updated(alloc: Global, from: &RecordRef, row: &Row) -> Result<Row, AllocError>
+    ensures { IfOk result (λ new. new ≡ updated from.now row.now) }
 {
     let mut new = Row::with_capacity(alloc, row.bytes().len())?;
-    let mut fields = record.fields();
+    let mut fields = from.fields();
     for value in row.fields() {
         new.push(chosen(fields.next(), value))?;
     }

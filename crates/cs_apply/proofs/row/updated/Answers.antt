@@ -8,7 +8,7 @@ use Rattle.cs_apply.proofs.row.updated.Goals as goal
 
 pub loop-value-init : goal.loop-value-init
 loop-value-init c =
-    (λ i. c.in_ok-new.ensures i ++ values_of (merged (c.fields-fields.ensures i) ((c.into_iter-value-iterator.ensures.into_iter_gives ∙ c.fields-value-items.ensures) i))) ∙ updated_is c.args.record.now c.args.row.now
+    (λ i. c.in_ok-new.ensures i ++ values_of (merged (c.fields-fields.ensures i) ((c.into_iter-value-iterator.ensures.into_iter_gives ∙ c.fields-value-items.ensures) i))) ∙ updated_is c.args.from.now c.args.row.now
 
 pub loop-value-preserved : goal.loop-value-preserved
 loop-value-preserved c =
