@@ -1,13 +1,11 @@
 #include "inputs.h"
 
+#include "fields.h"
+
 #include <stdint.h>
 #include <stdio.h>
 #include <stdlib.h>
 #include <string.h>
-
-enum { INSERT = 18, UPDATE = 23, DELETE = 9 };
-/* the types of fields */
-enum { UNDEFINED = 0, INTEGER = 1, TEXT = 3, BLOB = 4 };
 
 /* more than any change of these tables takes */
 #define MOST_OF_A_CHANGE 20000
@@ -20,26 +18,13 @@ static uint64_t next_number(void) {
     return state >> 11;
 }
 
-static unsigned char *put_integer(unsigned char *at, uint64_t number) {
-    *at++ = INTEGER;
-    for (int shift = 56; shift >= 0; shift -= 8) *at++ = (unsigned char)(number >> shift);
-    return at;
-}
-
-/* a length as a varint of one byte or two, and as many bytes */
-static unsigned char *put_bytes(unsigned char *at, int type, size_t len) {
-    *at++ = (unsigned char)type;
-    if (len >= 128) *at++ = (unsigned char)(128 + len / 128);
-    *at++ = (unsigned char)(len % 128);
-    memset(at, 'a' + (int)(next_number() % 26), len);
-    return at + len;
-}
+static int next_letter(void) { return 'a' + (int)(next_number() % 26); }
 
 static int columns_of(enum rows rows) { return rows == INTEGERS ? 4 : 2; }
 
 static unsigned char *put_columns(unsigned char *at, enum rows rows) {
-    if (rows == TEXTS) return put_bytes(at, TEXT, 100);
-    if (rows == BLOBS) return put_bytes(at, BLOB, 4096);
+    if (rows == TEXTS) return put_bytes(at, TEXT, 100, next_letter());
+    if (rows == BLOBS) return put_bytes(at, BLOB, 4096, next_letter());
     for (int column = 1; column < 4; column++) at = put_integer(at, next_number());
     return at;
 }

@@ -10,6 +10,8 @@
 #define _DEFAULT_SOURCE
 #define SQLITE_ENABLE_SESSION
 #define SQLITE_ENABLE_PREUPDATE_HOOK
+#include "../fields.h"
+
 #include <sqlite3.h>
 
 #include <stdint.h>
@@ -19,9 +21,6 @@
 #include <sys/resource.h>
 #include <sys/wait.h>
 #include <unistd.h>
-
-enum { INSERT = 18, UPDATE = 23, DELETE = 9 };
-enum { UNDEFINED = 0, INTEGER = 1, TEXT = 3, BLOB = 4 };
 
 /* no changeset is longer than a text may be */
 #define MOST_BYTES 16000000
@@ -34,77 +33,57 @@ static void must(int holds, const char *what) {
 
 /* ---- making */
 
-struct text {
-    unsigned char *bytes;
-    size_t len;
-};
-
-static void put(struct text *text, int byte) { text->bytes[text->len++] = (unsigned char)byte; }
-
-static void put_integer(struct text *text, uint64_t number) {
-    put(text, INTEGER);
-    for (int shift = 56; shift >= 0; shift -= 8) put(text, (int)(number >> shift & 255));
-}
-
-static void put_bytes(struct text *text, int type, size_t len, int fill) {
-    put(text, type);
-    if (len >= 128) put(text, (int)(128 + len / 128));
-    put(text, (int)(len % 128));
-    memset(text->bytes + text->len, fill, len);
-    text->len += len;
-}
-
-/* `integers`: a key and two numbers. `texts`: a key, a number and a text of 100 bytes. `blob`: a key, a number and a blob of
+/* `integers`: a key and two numbers. `texts`: a key, a number and a text of 100 bytes. `blobs`: a key, a number and a blob of
  * 4,096 bytes, of which an UPDATE changes the number alone. */
-static void put_value(struct text *text, const char *kind, uint64_t row, int turn) {
-    if (!strcmp(kind, "integers")) put_integer(text, row * 7 + (uint64_t)turn);
-    else if (!strcmp(kind, "texts")) put_bytes(text, TEXT, 100, 'a' + (int)(row % 13) + turn);
-    else put_bytes(text, BLOB, 4096, 'a' + (int)(row % 13));
+static unsigned char *put_value(unsigned char *at, const char *kind, uint64_t row, int turn) {
+    if (!strcmp(kind, "integers")) return put_integer(at, row * 7 + (uint64_t)turn);
+    if (!strcmp(kind, "texts")) return put_bytes(at, TEXT, 100, 'a' + (int)(row % 13) + turn);
+    return put_bytes(at, BLOB, 4096, 'a' + (int)(row % 13));
 }
 
-static void put_change(struct text *text, const char *kind, int op, uint64_t row) {
+static unsigned char *put_change(unsigned char *at, const char *kind, int op, uint64_t row) {
     /* in no order of keys */
     uint64_t key = row * 2654435761u % 4294967296u;
     int blob = !strcmp(kind, "blobs");
-    put(text, op);
-    put(text, 0);
-    put_integer(text, key);
-    put_integer(text, op == DELETE ? row + 1 : row);
-    if (op == UPDATE && blob) put(text, UNDEFINED);
-    else put_value(text, kind, row, op == DELETE);
-    if (op != UPDATE) return;
-    put(text, UNDEFINED);
-    put_integer(text, row + 1);
-    if (blob) put(text, UNDEFINED);
-    else put_value(text, kind, row, 1);
+    *at++ = (unsigned char)op;
+    *at++ = 0;
+    at = put_integer(at, key);
+    at = put_integer(at, op == DELETE ? row + 1 : row);
+    if (op == UPDATE && blob) *at++ = UNDEFINED;
+    else at = put_value(at, kind, row, op == DELETE);
+    if (op != UPDATE) return at;
+    *at++ = UNDEFINED;
+    at = put_integer(at, row + 1);
+    if (blob) *at++ = UNDEFINED;
+    else at = put_value(at, kind, row, 1);
+    return at;
 }
 
-static void hand_out(struct text *text) {
-    for (int shift = 24; shift >= 0; shift -= 8) putchar((int)(text->len >> shift & 255));
-    must(fwrite(text->bytes, 1, text->len, stdout) == text->len, "write");
-    text->len = 0;
+static void hand_out(const unsigned char *bytes, size_t len) {
+    for (int shift = 24; shift >= 0; shift -= 8) putchar((int)(len >> shift & 255));
+    must(fwrite(bytes, 1, len, stdout) == len, "write");
 }
 
-static void put_header(struct text *text) {
+static unsigned char *put_header(unsigned char *at) {
     static const unsigned char header[] = {'T', 3, 1, 0, 0, 'm', 0};
-    memcpy(text->bytes, header, sizeof header);
-    text->len = sizeof header;
+    memcpy(at, header, sizeof header);
+    return at + sizeof header;
 }
 
 static void make(uint64_t rows, const char *kind) {
     static const int operations[] = {INSERT, UPDATE, DELETE};
-    struct text text = {malloc(MOST_BYTES + 20000), 0};
-    must(text.bytes != NULL, "memory");
+    unsigned char *bytes = malloc(MOST_BYTES + 20000);
+    must(bytes != NULL, "memory");
     for (int i = 0; i < 3; i++) {
-        put_header(&text);
+        unsigned char *at = put_header(bytes);
         for (uint64_t row = 0; row < rows; row++) {
-            if (text.len > MOST_BYTES) {
-                hand_out(&text);
-                put_header(&text);
+            if (at - bytes > MOST_BYTES) {
+                hand_out(bytes, (size_t)(at - bytes));
+                at = put_header(bytes);
             }
-            put_change(&text, kind, operations[i], row);
+            at = put_change(at, kind, operations[i], row);
         }
-        hand_out(&text);
+        hand_out(bytes, (size_t)(at - bytes));
     }
 }
 
