@@ -8,13 +8,13 @@ use Rattle.cs_apply.specs.declared.conflict.ConflictKind.{ConflictKind}
 use Rattle.cs_apply.specs.declared.conflict.Conflict.{Conflict as Conflicts}
 use Rattle.cs_apply.specs.declared.conflict.ApplyError.{ApplyError}
 use Rattle.cs_apply.specs.declared.conflict.ApplyError.TheVariants as error
-use Rattle.cs_apply.specs.declared.stop.Stop.{Stop}
-use Rattle.cs_apply.specs.declared.stop.Stop.TheVariants.{Conflict, Memory}
+use Rattle.cs_apply.specs.declared.change_error.ChangeError.{ChangeError}
+use Rattle.cs_apply.specs.declared.change_error.ChangeError.TheVariants.{Conflict, Memory}
 use Rattle.cs_apply.specs.State.{Rows, compatible}
 use Rattle.cs_apply.specs.Effect.{effect}
 use Rattle.cs_apply.specs.Single.{goes_on, effect_at, changes_of, single_from}
-use Rattle.cs_apply.specs.Refusal.{Refuses}
-use Rattle.cs_apply.specs.Steps.{Stops, placed, carry, section_from}
+use Rattle.cs_apply.specs.Errors.{TellsConflict, TellsKind, placed}
+use Rattle.cs_apply.specs.Steps.{carry, section_from}
 
 -- one change more of a section
 pub next_change : (table : ℕ) (flags : List ℕ) (change : Change) (rest changes : List Change) (at : ℕ) (rows : Rows) → changes ≡ change ∷ rest
@@ -30,8 +30,8 @@ change_done table flags change rest changes at next old new all is after ok so_f
     ∙ sym (next_change table flags change rest changes at old is ∙ ap (goes_on (λ n rows. section_from table flags rest n rows) at) ok) ∙ so_far
 
 -- a change that stops stops the section
-pub change_stops : (table : ℕ) (flags : List ℕ) (change : Change) (rest changes : List Change) (at : ℕ) (old : Rows) (all : Result Rows Conflicts) (stop : Stop) → changes ≡ change ∷ rest
-    → Stops stop (effect table flags old change) → section_from table flags changes at old ≡ all → Refuses (placed at stop) all
+pub change_stops : (table : ℕ) (flags : List ℕ) (change : Change) (rest changes : List Change) (at : ℕ) (old : Rows) (all : Result Rows Conflicts) (e : ChangeError) → changes ≡ change ∷ rest
+    → TellsKind e (effect table flags old change) → section_from table flags changes at old ≡ all → TellsConflict (placed at e) all
 change_stops table flags change rest changes at old all Memory is stops so_far = tt
 change_stops table flags change rest changes at old all (Conflict kind) is stops so_far =
     sym so_far ∙ next_change table flags change rest changes at old is ∙ ap (goes_on (λ next after. section_from table flags rest next after) at) stops
@@ -88,8 +88,8 @@ module _ (schema : List Shape) (kept : List Bool) where
 
   -- a section that stops stops the changeset
   pub section_stops : (sections : List Section) (k table : ℕ) (section : Section) (at end : ℕ) (old : Rows) (all : Result Rows Conflicts) (e : ApplyError) → k < length sections → section ≡ get_or sections k section
-      → compatible schema kept section.shape ≡ Some table → end ≡ at + length section.changes → Refuses e (section_from table section.shape.flags section.changes at old)
-      → single_from schema kept (changes_of (drop k sections)) at old ≡ all → Refuses e all
+      → compatible schema kept section.shape ≡ Some table → end ≡ at + length section.changes → TellsConflict e (section_from table section.shape.flags section.changes at old)
+      → single_from schema kept (changes_of (drop k sections)) at old ≡ all → TellsConflict e all
   section_stops sections k table section at end old all error.Memory lt is here counted stops so_far = tt
   section_stops sections k table section at end old all (error.Conflict conflict) lt is here counted stops so_far =
       let rest = changes_of (drop (k + 1) sections) in

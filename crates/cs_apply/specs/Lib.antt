@@ -1,6 +1,6 @@
 pub mod Conflict
 pub mod State
+pub mod Errors
 pub mod Effect
 pub mod Single
-pub mod Refusal
 pub mod Steps

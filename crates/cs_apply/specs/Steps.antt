@@ -6,22 +6,12 @@ use Rattle.cs_model.specs.declared.value.Value.{Value}
 use Rattle.cs_model.specs.declared.value.Field.{Field}
 use Rattle.cs_model.specs.declared.value.Field.TheVariants.{Undefined, Is}
 use Rattle.cs_model.specs.declared.row_key.RowKey.{RowKey}
-use Rattle.cs_apply.specs.declared.conflict.ConflictKind.{ConflictKind}
 use Rattle.cs_apply.specs.declared.conflict.Conflict.{Conflict as Conflicts}
-use Rattle.cs_apply.specs.declared.conflict.ApplyError.{ApplyError}
-use Rattle.cs_apply.specs.declared.conflict.ApplyError.TheVariants as error
-use Rattle.cs_apply.specs.declared.stop.Stop.{Stop}
-use Rattle.cs_apply.specs.declared.stop.Stop.TheVariants.{Conflict, Memory}
 use Rattle.cs_apply.specs.declared.places.Step.{Step}
 use Rattle.cs_apply.specs.declared.places.Places.{Places}
 use Rattle.cs_apply.specs.State.{Rows}
 use Rattle.cs_apply.specs.Effect.{effect, same_value}
 use Rattle.cs_apply.specs.Single.{goes_on}
-
--- a stop of the change at this place, as an error of `apply`
-abbrev pub placed : ℕ → Stop → ApplyError
-placed position (Conflict kind) = error.Conflict (record { position = position; kind = kind })
-placed position Memory = error.Memory
 
 -- places as they are kept: keys, and the row of each or none
 abbrev pub Entries : Type 0
@@ -89,11 +79,6 @@ merged (field ∷ fields) (value ∷ values) = chosen (Some field) value ∷ mer
 pub record Back (old new : Places) : Type 0 where
   pub grows : length old.rows.entries ≤ length new.rows.entries
   pub back : (n : ℕ) → n ≤ length old.rows.entries → take n (undone new.log.items new.rows.entries) ≡ take n (undone old.log.items old.rows.entries)
-
--- a stop is the change's conflict, or want of memory
-abbrev pub Stops : Stop → Result Rows ConflictKind → Type 0
-Stops (Conflict kind) answer = answer ≡ Err kind
-Stops Memory answer = Unit {0}
 
 -- the changes of one section of a compatible table, the first of them at this position
 unfoldable pub section_from : ℕ → List ℕ → List Change → ℕ → Rows → Result Rows Conflicts

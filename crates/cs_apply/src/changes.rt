@@ -9,42 +9,47 @@ ghost use Rattle.cs_model.specs.Row.{values_of};
 ghost use Rattle.cs_model.specs.Rule.{is_defined};
 ghost use Rattle.cs_model.specs.Seen.{change_seen};
 ghost use Rattle.cs_apply.specs.Effect.{inserted, deleted, changed, effect};
+ghost use Rattle.cs_apply.specs.Errors.{TellsConflict, TellsKind};
 ghost use Rattle.cs_apply.specs.Single.{changes_of, single_from};
 ghost use Rattle.cs_apply.specs.State.{compatible};
-ghost use Rattle.cs_apply.specs.Steps.{rows_of, section_from, Back, Stops};
-ghost use Rattle.cs_apply.specs.Refusal.{Refuses};
+ghost use Rattle.cs_apply.specs.Steps.{rows_of, section_from, Back};
 
+use crate::change_error::ChangeError;
 use crate::conflict::{ApplyError, ConflictKind};
 use crate::places::Places;
 use crate::row::{all_agree, rest_agrees, updated};
-use crate::stop::Stop;
 use cs_model::{ChangeRef, Op, RecordRef, Row, RowKey, Schema, Section, Shape};
 use std::alloc::Global;
 
 // INSERT: the key has no row, and gets the one that the new record says. An `Err` of this and the next two leaves
 // the rows as they were.
-fn insert(places: &mut Places, alloc: Global, key: RowKey, after: &RecordRef) -> Result<(), Stop>
+fn insert(
+    places: &mut Places,
+    alloc: Global,
+    key: RowKey,
+    after: &RecordRef,
+) -> Result<(), ChangeError>
     requires { list_all is_defined after.now ≡ true }
     ensures ok { OnOk result (inserted (rows_of places.old.rows.entries) key (values_of after.now) (map.get (rows_of places.old.rows.entries) key) ≡ Ok (rows_of places.new.rows.entries)) }
     ensures back { Back places.old places.new }
-    ensures refused { IfErr result (λ stop. Stops stop (inserted (rows_of places.old.rows.entries) key (values_of after.now) (map.get (rows_of places.old.rows.entries) key))) }
+    ensures refused { IfErr result (λ e. TellsKind e (inserted (rows_of places.old.rows.entries) key (values_of after.now) (map.get (rows_of places.old.rows.entries) key))) }
 {
     let row = Row::copy_of(alloc, after)?;
     places.insert(key, row)
 }
 
 // DELETE: the row is there, is what the old record says, and goes.
-fn delete(places: &mut Places, key: &RowKey, before: &RecordRef) -> Result<(), Stop>
+fn delete(places: &mut Places, key: &RowKey, before: &RecordRef) -> Result<(), ChangeError>
     requires { list_all is_defined before.now ≡ true }
     ensures ok { OnOk result (deleted (rows_of places.old.rows.entries) key.now before.now (map.get (rows_of places.old.rows.entries) key.now) ≡ Ok (rows_of places.new.rows.entries)) }
     ensures back { Back places.old places.new }
-    ensures refused { IfErr result (λ stop. Stops stop (deleted (rows_of places.old.rows.entries) key.now before.now (map.get (rows_of places.old.rows.entries) key.now))) }
+    ensures refused { IfErr result (λ e. TellsKind e (deleted (rows_of places.old.rows.entries) key.now before.now (map.get (rows_of places.old.rows.entries) key.now))) }
 {
     let Some((place, row)) = places.find(key) else {
-        return Err(Stop::Conflict(ConflictKind::NotFound));
+        return Err(ChangeError::Conflict(ConflictKind::NotFound));
     };
     if !all_agree(before, row) {
-        return Err(Stop::Conflict(ConflictKind::Data));
+        return Err(ChangeError::Conflict(ConflictKind::Data));
     }
     Ok(places.set(place, None)?)
 }
@@ -57,16 +62,16 @@ fn update(
     flags: &[u8],
     before: &RecordRef,
     after: &RecordRef,
-) -> Result<(), Stop>
+) -> Result<(), ChangeError>
     ensures ok { OnOk result (changed (rows_of places.old.rows.entries) key.now flags.now before.now after.now (map.get (rows_of places.old.rows.entries) key.now) ≡ Ok (rows_of places.new.rows.entries)) }
     ensures back { Back places.old places.new }
-    ensures refused { IfErr result (λ stop. Stops stop (changed (rows_of places.old.rows.entries) key.now flags.now before.now after.now (map.get (rows_of places.old.rows.entries) key.now))) }
+    ensures refused { IfErr result (λ e. TellsKind e (changed (rows_of places.old.rows.entries) key.now flags.now before.now after.now (map.get (rows_of places.old.rows.entries) key.now))) }
 {
     let Some((place, row)) = places.find(key) else {
-        return Err(Stop::Conflict(ConflictKind::NotFound));
+        return Err(ChangeError::Conflict(ConflictKind::NotFound));
     };
     if !rest_agrees(flags, before, row) {
-        return Err(Stop::Conflict(ConflictKind::Data));
+        return Err(ChangeError::Conflict(ConflictKind::Data));
     }
     let new = updated(alloc, after, row)?;
     Ok(places.set(place, Some(new))?)
@@ -79,11 +84,11 @@ fn change_row(
     table: usize,
     shape: &Shape,
     change: &ChangeRef,
-) -> Result<(), Stop>
+) -> Result<(), ChangeError>
     requires { IsChange shape.now (change_seen change.now) }
     ensures ok { OnOk result (effect table shape.now.flags (rows_of places.old.rows.entries) (change_seen change.now) ≡ Ok (rows_of places.new.rows.entries)) }
     ensures back { Back places.old places.new }
-    ensures refused { IfErr result (λ stop. Stops stop (effect table shape.now.flags (rows_of places.old.rows.entries) (change_seen change.now))) }
+    ensures refused { IfErr result (λ e. TellsKind e (effect table shape.now.flags (rows_of places.old.rows.entries) (change_seen change.now))) }
 {
     let key = RowKey::of(alloc, table, shape, change)?;
     match change.op {
@@ -113,13 +118,13 @@ fn change_section(
     requires fits { IsSection section.now }
     ensures ok { OnOk result (section_from table section.now.shape.flags section.now.changes start (rows_of places.old.rows.entries) ≡ Ok (rows_of places.new.rows.entries)) }
     ensures back { Back places.old places.new }
-    ensures refused { IfErr result (λ e. Refuses e (section_from table section.now.shape.flags section.now.changes start (rows_of places.old.rows.entries))) }
+    ensures refused { IfErr result (λ e. TellsConflict e (section_from table section.now.shape.flags section.now.changes start (rows_of places.old.rows.entries))) }
 {
     let shape = section.shape();
     let mut position = start;
     for change in section.changes().iter() {
-        if let Err(stop) = change_row(places, alloc, table, shape, &change) {
-            return Err(stop.at(position));
+        if let Err(error) = change_row(places, alloc, table, shape, &change) {
+            return Err(error.at(position));
         }
         position += 1;
     }
@@ -150,7 +155,7 @@ pub(crate) fn change_all(
     requires { IsChangeset sections.now }
     ensures ok { OnOk result (single_from schema.now kept.now (changes_of sections.now) 0 (rows_of places.old.rows.entries) ≡ Ok (rows_of places.new.rows.entries)) }
     ensures back { Back places.old places.new }
-    ensures refused { IfErr result (λ e. Refuses e (single_from schema.now kept.now (changes_of sections.now) 0 (rows_of places.old.rows.entries))) }
+    ensures refused { IfErr result (λ e. TellsConflict e (single_from schema.now kept.now (changes_of sections.now) 0 (rows_of places.old.rows.entries))) }
 {
     let mut start: usize = 0;
     for section in sections {

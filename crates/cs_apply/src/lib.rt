@@ -2,11 +2,11 @@
 //! tables that a changeset's changes give one at a time, or its first conflict. Theorem: `apply` is `single`.
 #![tactic(auto)]
 
+mod change_error;
 mod changes;
 mod conflict;
 mod places;
 mod row;
-mod stop;
 mod tables;
 #[cfg(test)]
 mod tests;

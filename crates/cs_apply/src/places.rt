@@ -9,10 +9,11 @@ ghost use Rattle.std.specs.FinMap as map;
 ghost use Rattle.cs_model.specs.declared.value.Value.{Value};
 ghost use Rattle.cs_model.specs.declared.row_key.RowKey.{RowKey};
 ghost use Rattle.cs_apply.specs.Effect.{inserted};
-ghost use Rattle.cs_apply.specs.Steps.{filled, rows_of, put, set_at, undone, Back, Stops};
+ghost use Rattle.cs_apply.specs.Errors.{TellsKind};
+ghost use Rattle.cs_apply.specs.Steps.{filled, rows_of, put, set_at, undone, Back};
 
+use crate::change_error::ChangeError;
 use crate::conflict::ConflictKind;
-use crate::stop::Stop;
 use cs_model::{Row, RowKey};
 use indexmap::IndexMap;
 use indexmap::map::Entry;
@@ -105,10 +106,10 @@ impl Places {
     }
 
     /// Puts a row under a key that has none. An `Err` leaves the rows as they were.
-    pub(crate) fn insert(&mut self, key: RowKey, row: Row) -> Result<(), Stop>
+    pub(crate) fn insert(&mut self, key: RowKey, row: Row) -> Result<(), ChangeError>
         ensures ok { OnOk result (inserted (rows_of self.old.rows.entries) key row (map.get (rows_of self.old.rows.entries) key) ≡ Ok (rows_of self.new.rows.entries)) }
         ensures back { Back self.old self.new }
-        ensures refused { IfErr result (λ stop. Stops stop (inserted (rows_of self.old.rows.entries) key row (map.get (rows_of self.old.rows.entries) key))) }
+        ensures refused { IfErr result (λ e. TellsKind e (inserted (rows_of self.old.rows.entries) key row (map.get (rows_of self.old.rows.entries) key))) }
     {
         let place = match self.rows.entry(key)? {
             Entry::Vacant(end) => {
@@ -118,7 +119,7 @@ impl Places {
             }
             Entry::Occupied(place) => {
                 if place.get().is_some() {
-                    return Err(Stop::Conflict(ConflictKind::Conflict));
+                    return Err(ChangeError::Conflict(ConflictKind::Conflict));
                 }
                 place.index()
             }

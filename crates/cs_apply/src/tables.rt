@@ -4,7 +4,7 @@ ghost use Rattle.std.specs.Prelude.{◌≡◌, length, map as list_map, IfOk, If
 ghost use Rattle.std.specs.Option.{option_copied};
 ghost use Rattle.std.specs.FinMap as map;
 ghost use Rattle.cs_apply.specs.Single.{single};
-ghost use Rattle.cs_apply.specs.Refusal.{Refuses};
+ghost use Rattle.cs_apply.specs.Errors.{TellsConflict};
 
 use crate::changes::change_all;
 use crate::conflict::ApplyError;
@@ -75,7 +75,7 @@ impl Tables {
     /// of memory, and leaves the tables as they were.
     pub fn apply(&mut self, alloc: Global, changeset: &Changeset) -> Result<(), ApplyError>
         ensures ok { OnOk result (single self.old changeset.now ≡ Ok self.new) }
-        ensures refused { IfErr result (λ e. Refuses e (single self.old changeset.now)) }
+        ensures refused { IfErr result (λ e. TellsConflict e (single self.old changeset.now)) }
         ensures err { OnErr result (self.new ≡ self.old) }
     {
         let places = self.places.len();

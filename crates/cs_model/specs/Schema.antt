@@ -75,7 +75,7 @@ tables_refusal earlier (shape ∷ shapes) =
 abbrev pub IsSchema : List Shape → Type 0
 IsSchema tables = tables_refusal [] tables ≡ None
 
--- an error of adding a table: the refusal, or want of memory where there is none
-abbrev pub Refuses : SchemaError → Option TableFault → Type 0
-Refuses (Fault fault) refusal = refusal ≡ Some fault
-Refuses Memory refusal = refusal ≡ None
+-- an error of adding a table tells its refusal, or that memory ran out where there is none
+abbrev pub TellsRefusal : SchemaError → Option TableFault → Type 0
+TellsRefusal (Fault fault) refusal = refusal ≡ Some fault
+TellsRefusal Memory refusal = refusal ≡ None

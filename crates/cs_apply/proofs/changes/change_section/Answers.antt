@@ -32,7 +32,7 @@ pub returns-in-Err-clause-refused : goal.returns-in-Err-clause-refused
 returns-in-Err-clause-refused c =
     let s = c.args.section.now in
     let refused = rw c.shape-shape.ensures at c.in-Err.ensures.refused in
-    rw c.at.ensures (change_stops c.args.table s.shape.flags (change_seen c.in-Some.change) c.next.new.self c.loop-change.change-iterator c.loop-change.position (rows_of c.loop-change.places.rows.entries) _ c.in-Err.stop c.in-Some.ensures.steps refused c.loop-change.invariant.so_far)
+    rw c.at.ensures (change_stops c.args.table s.shape.flags (change_seen c.in-Some.change) c.next.new.self c.loop-change.change-iterator c.loop-change.position (rows_of c.loop-change.places.rows.entries) _ c.in-Err.error c.in-Some.ensures.steps refused c.loop-change.invariant.so_far)
 
 pub returns-clause-ok : goal.returns-clause-ok
 returns-clause-ok c =

@@ -1,0 +1,24 @@
+-- What errors tell, of a changeset and of one change.
+use Rattle.std.specs.Prelude.{◌≡◌, ℕ, Result, Err}
+use Rattle.cs_apply.specs.declared.conflict.ConflictKind.{ConflictKind}
+use Rattle.cs_apply.specs.declared.conflict.Conflict.{Conflict}
+use Rattle.cs_apply.specs.declared.conflict.ApplyError.{ApplyError}
+use Rattle.cs_apply.specs.declared.conflict.ApplyError.TheVariants as apply
+use Rattle.cs_apply.specs.declared.change_error.ChangeError.{ChangeError}
+use Rattle.cs_apply.specs.declared.change_error.ChangeError.TheVariants as change
+use Rattle.cs_apply.specs.State.{Rows}
+
+-- an error of `apply` tells the first conflict, or that memory ran out
+abbrev pub TellsConflict : {A : Type 0} → ApplyError → Result A Conflict → Type 0
+TellsConflict (apply.Conflict conflict) answer = answer ≡ Err conflict
+TellsConflict apply.Memory answer = Unit {0}
+
+-- an error of one change tells the kind of its conflict, or that memory ran out
+abbrev pub TellsKind : ChangeError → Result Rows ConflictKind → Type 0
+TellsKind (change.Conflict kind) answer = answer ≡ Err kind
+TellsKind change.Memory answer = Unit {0}
+
+-- an error of the change at this place, as one of `apply`
+abbrev pub placed : ℕ → ChangeError → ApplyError
+placed position (change.Conflict kind) = apply.Conflict (record { position = position; kind = kind })
+placed position change.Memory = apply.Memory
