@@ -62,6 +62,19 @@ fn pair(alloc: Global, first: FieldRef, second: FieldRef) -> Result<Record, Allo
     Ok(record)
 }
 
+// so many INSERTs of (NULL, 'w')
+fn inserts(alloc: Global, count: usize, indirect: bool) -> Result<Changes, AllocError>
+    ensures { IfOk result (λ changes. changes.0 ≡ 2) }
+{
+    let new = pair(alloc, FieldRef::Null, FieldRef::Text(b"w"))?;
+    let none = Record::new(alloc);
+    let mut changes = Changes::new(alloc, 2);
+    for _ in 0..count {
+        changes.push(Op::Insert, indirect, &none, &new)?;
+    }
+    Ok(changes)
+}
+
 // the cursor gives these fields and no other
 fn gives(rt: &impl Abort, mut fields: Fields, wanted: &[FieldRef]) {
     for field in wanted {

@@ -1,28 +1,14 @@
 //! Lists of changes, made of others and of texts.
 
-ghost use Rattle.std.specs.Prelude.{◌≡◌, IfOk};
+ghost use Rattle.std.specs.Prelude.{◌≡◌};
 
-use crate::FieldRef::{Integer, Null, Text};
 use crate::canonical::canonical_count;
 use crate::laws::spelled_is_said;
-use crate::tests::{one_change, pair};
+use crate::tests::{inserts, one_change};
 use crate::*;
-use std::alloc::{AllocError, Global};
+use std::alloc::Global;
 use std::process::Abort;
 use std::test::Fail;
-
-// so many direct changes
-fn direct(alloc: Global, count: usize) -> Result<Changes, AllocError>
-    ensures { IfOk result (λ changes. changes.0 ≡ 2) }
-{
-    let new = pair(alloc, Null, Text(b"w"))?;
-    let none = Record::new(alloc);
-    let mut changes = Changes::new(alloc, 2);
-    for _ in 0..count {
-        changes.push(Op::Insert, false, &none, &new)?;
-    }
-    Ok(changes)
-}
 
 #[test]
 fn lists_behind_lists(rt: HostRuntime) -> Result<(), Fail> {
@@ -31,14 +17,14 @@ fn lists_behind_lists(rt: HostRuntime) -> Result<(), Fail> {
     assert!(rt; changes.is_empty());
     assert_eq!(rt; changes.len(), 0);
     for (count, all) in [(1, 1), (0, 1), (2, 3)] {
-        let others = direct(alloc, count)?;
+        let others = inserts(alloc, count, false)?;
         let before = changes.copy_in(alloc)?;
         let added = changes.append(&others);
         if added.is_err() {
             assert_eq!(rt; changes, before);
         }
         added?;
-        let wanted = direct(alloc, all)?;
+        let wanted = inserts(alloc, all, false)?;
         assert_eq!(rt; changes, wanted);
         assert!(rt; same_changes(&changes, &wanted));
         assert!(rt; !same_changes(&changes, &Changes::new(alloc, 2)));
@@ -51,7 +37,7 @@ fn lists_behind_lists(rt: HostRuntime) -> Result<(), Fail> {
 
 #[test]
 fn many_changes(rt: HostRuntime) -> Result<(), Fail> {
-    let changes = direct(rt.alloc(), 70_000)?;
+    let changes = inserts(rt.alloc(), 70_000, false)?;
     assert_eq!(rt; changes.len(), 70_000);
     assert_eq!(rt; changes.bytes().len(), 70_000 * 6);
     Ok(())
@@ -147,7 +133,7 @@ fn lengths_in_texts(rt: HostRuntime) -> Result<(), Fail> {
         let value = vec![in alloc; b'x'; len]?;
         let mut wanted = Vec::from_slice(alloc, canonical)?;
         wanted.extend_from_slice(&value)?;
-        let mut changes = direct(alloc, 1)?;
+        let mut changes = inserts(alloc, 1, false)?;
         spelled(&rt, alloc, &mut changes, mark, count, &value)?;
         assert_eq!(rt; changes.len(), 2);
         assert_eq!(rt;

@@ -4,43 +4,38 @@ ghost use Rattle.std.specs.Prelude.{◌≡◌, ◌<◌, ◌∷◌, [], IfOk};
 ghost use Rattle.cs_model.specs.Changeset.{IsSection};
 ghost use Rattle.cs_model.specs.declared.change.Change.{Change};
 
-use crate::FieldRef::{Integer, Text};
-use crate::tests::{copies, octets, one_change, pair, table_shape};
+use crate::tests::{copies, inserts, octets, one_change, table_shape};
 use crate::*;
 use std::alloc::{AllocError, Global};
 use std::process::Abort;
 use std::test::Fail;
 
-// one change
-fn single(alloc: Global, indirect: bool) -> Result<Changes, AllocError>
-    ensures { IfOk result (λ changes. changes.0 ≡ 2) }
-{
-    let new = pair(alloc, Integer(7), Text(b"w"))?;
-    let mut changes = Changes::new(alloc, 2);
-    changes.push(Op::Insert, indirect, &Record::new(alloc), &new)?;
-    Ok(changes)
-}
-
 #[test]
 fn parts_of_sections(rt: HostRuntime) -> Result<(), Fail> {
     let alloc = rt.alloc();
-    let section = Section::new(table_shape(alloc, b"t", &[1, 0])?, single(alloc, false)?);
+    let section = Section::new(
+        table_shape(alloc, b"t", &[1, 0])?,
+        inserts(alloc, 1, false)?,
+    );
     for (name, flags, indirect, same) in [
         (b"t", [1, 0], false, true),
         (b"u", [1, 0], false, false),
         (b"t", [1, 1], false, false),
         (b"t", [1, 0], true, false),
     ] {
-        let other = Section::new(table_shape(alloc, name, &flags)?, single(alloc, indirect)?);
+        let other = Section::new(
+            table_shape(alloc, name, &flags)?,
+            inserts(alloc, 1, indirect)?,
+        );
         assert_eq!(rt; section == other, same, "{other:?}");
         assert_eq!(rt; same_sections(&section, &other), same);
     }
     assert_eq!(rt; section.shape(), &table_shape(alloc, b"t", &[1, 0])?);
-    assert_eq!(rt; section.changes(), &single(alloc, false)?);
+    assert_eq!(rt; section.changes(), &inserts(alloc, 1, false)?);
     let (shape, changes) = section.into_parts();
     assert_eq!(rt; &shape.name[..], b"t".as_slice());
     assert_eq!(rt; &shape.flags[..], [1, 0].as_slice());
-    assert_eq!(rt; changes, single(alloc, false)?);
+    assert_eq!(rt; changes, inserts(alloc, 1, false)?);
     assert_eq!(rt; changes.columns(), 2);
     Ok(())
 }

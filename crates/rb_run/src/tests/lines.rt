@@ -2,92 +2,59 @@
 
 use super::*;
 
-const STORED_RUN_ONE_PIECE: &[u8] = b"table 540201007400\n\
-    publisher\n\
-    subscribe 0\n\
-    feed 0 5402010074001200010000000000000001030178\n\
-    end 0\n\
-    send 0\n\
-    turn\n\
-    take 0 0\n\
-    accept 1\n\
-    rows 0\n";
-
-const STORED_RUN_ONE_PIECE_ANSWERS: &[u8] = b"ok\n\
-    publisher 0\n\
-    subscriber 0 link 1\n\
-    ok\n\
-    staged\n\
-    sent 1\n\
-    placed 1\n\
-    delivery 1 0 1 1\n\
-    accepted 1\n\
-    rows 1\n\
-    row 0 010000000000000001 030178\n";
-
-const HOSTILE_LINES_LINES: &[u8] = b"table 540201007400\n\
-    publisher\n\
-    subscribe 0\n\
-    feed 0 5\n\
-    take 0\n\
-    take 00 0\n\
-    TAKE 0 0\n\
-    take  0 0\n\
-    feed 0 -\n";
-
-const HOSTILE_LINES_LINES_ANSWERS: &[u8] = b"ok\n\
-    publisher 0\n\
-    subscriber 0 link 1\n\
-    refused Line\n\
-    refused Line\n\
-    refused Line\n\
-    refused Line\n\
-    refused Line\n\
-    ok\n";
-
-const MORE_TABLE_PHASE: &[u8] = b"table\n\
-    table -\n\
-    table 00\n\
-    table 5402010074\n\
-    table 5402010074001200010000000000000001030178\n\
-    table 540201007400540201007400\n\
-    table 540201007400\n\
-    table 540201007400\n\
-    table 5401017400\n\
-    table 5480020100750000\n\
-    table 54800201007500\n\
-    \n\
-    Turn\n\
-    table 5401ff7600\n\
-    feed 9 -\n\
-    table 5401017700\n\
-    table -\n";
-
-const MORE_TABLE_PHASE_ANSWERS: &[u8] = b"refused Line\n\
-    refused BadShape\n\
-    refused BadShape\n\
-    refused BadShape\n\
-    refused BadShape\n\
-    refused BadShape\n\
-    ok\n\
-    refused DuplicateTable\n\
-    refused DuplicateTable\n\
-    refused BadShape\n\
-    ok\n\
-    refused Line\n\
-    ok\n\
-    refused NoPublisher\n\
-    refused Line\n\
-    refused Line\n";
+#[test]
+fn a_changeset_goes_from_its_publisher_to_rows(rt: HostRuntime) -> Result<(), Fail> {
+    let lines = [
+        ("feed 0 5402010074001200010000000000000001030178", "ok"),
+        ("end 0", "staged"),
+        ("send 0", "sent 1"),
+        ("turn", "placed 1"),
+        ("take 0 0", "delivery 1 0 1 1"),
+        ("accept 1", "accepted 1"),
+        ("rows 0", "rows 1\nrow 0 010000000000000001 030178"),
+    ];
+    told(&rt, rt.alloc(), &lines)
+}
 
 #[test]
-fn forms_are_told_apart(rt: HostRuntime) -> Result<(), Fail> {
-    let cases = [
-        (STORED_RUN_ONE_PIECE, STORED_RUN_ONE_PIECE_ANSWERS),
-        (HOSTILE_LINES_LINES, HOSTILE_LINES_LINES_ANSWERS),
-        (MORE_TABLE_PHASE, MORE_TABLE_PHASE_ANSWERS),
+fn lines_of_no_form(rt: HostRuntime) -> Result<(), Fail> {
+    let lines = [
+        ("feed 0 5", "refused Line"),
+        ("take 0", "refused Line"),
+        ("take 00 0", "refused Line"),
+        ("TAKE 0 0", "refused Line"),
+        ("take  0 0", "refused Line"),
+        ("feed 0 -", "ok"),
     ];
-    answered(&rt, rt.alloc(), &cases)
+    told(&rt, rt.alloc(), &lines)
+}
+
+// Tables come first, and a line of another form ends that.
+#[test]
+fn tables_come_first(rt: HostRuntime) -> Result<(), Fail> {
+    let lines = [
+        ("table", "refused Line"),
+        ("table -", "refused BadShape"),
+        ("table 00", "refused BadShape"),
+        ("table 5402010074", "refused BadShape"),
+        (
+            "table 5402010074001200010000000000000001030178",
+            "refused BadShape",
+        ),
+        ("table 540201007400540201007400", "refused BadShape"),
+        ("table 540201007400", "ok"),
+        ("table 540201007400", "refused DuplicateTable"),
+        ("table 5401017400", "refused DuplicateTable"),
+        ("table 5480020100750000", "refused BadShape"),
+        ("table 54800201007500", "ok"),
+        ("", ""),
+        ("Turn", "refused Line"),
+        ("table 5401ff7600", "ok"),
+        ("feed 9 -", "refused NoPublisher"),
+        ("table 5401017700", "refused Line"),
+        ("table -", "refused Line"),
+    ];
+    answered(&rt, rt.alloc(), &lines)
 }
 
 // a line of so many bytes, and its end
