@@ -18,7 +18,8 @@ use Rattle.cs_model.specs.Varint.{varint}
 use Rattle.cs_model.proofs.VarintLemmas.{varint_one}
 use Rattle.cs_model.proofs.PackedLaws.{is_length, fit_push, packed_push}
 use Rattle.cs_model.proofs.PackedChangeLaws.{made}
-use Rattle.cs_model.proofs.CountLaws.{two_bytes_each, all_append}
+use Rattle.cs_model.proofs.CallerLemmas.{all_push}
+use Rattle.cs_model.proofs.CountLaws.{two_bytes_each}
 
 -- ---- a length, and so many bytes
 
@@ -143,7 +144,7 @@ one_more n count bytes rest after s c =
     record {
       changes = s.changes ++ c.change ∷ [];
       counted = omega (arith, s.counted, length-append s.changes (c.change ∷ []));
-      fit = all_append _ s.changes (c.change ∷ []) s.fit (c.fit, tt);
+      fit = all_push _ s.changes c.change s.fit c.fit;
       parts = s.parts ∙ (ap (λ (w : List ℕ). changes_bytes s.changes ++ w) c.parts ∙ (sym (append_assoc (changes_bytes s.changes) (change_bytes c.change) after) ∙ ap (λ (w : List ℕ). w ++ after) (sym all)));
     }
 

@@ -8,16 +8,13 @@ use Rattle.cs_model.specs.declared.change.Op.{Op}
 use Rattle.cs_model.specs.declared.change.Change.{Change}
 use Rattle.cs_model.specs.Packed.{Fits}
 use Rattle.cs_model.specs.PackedChanges.{change_bytes, changes_bytes, Long, Fit, change_of, PacksAll, unpacked_changes}
+use Rattle.cs_model.proofs.CallerLemmas.{all_append}
 use Rattle.cs_model.proofs.PackedChangeLaws.{made}
 
 -- each change takes two bytes at least
 pub two_bytes_each : (changes : List Change) → 2 * length changes ≤ length (changes_bytes changes)
 two_bytes_each [] = omega arith
 two_bytes_each (c ∷ cs) = omega (arith, two_bytes_each cs, length-append (change_bytes c) (changes_bytes cs))
-
-pub all_append : {X : Type 0} (P : X → Type 0) (xs ys : List X) → AllByRecursion P xs → AllByRecursion P ys → AllByRecursion P (xs ++ ys)
-all_append P [] ys p q = q
-all_append P (x ∷ xs) ys p q = (p.0, all_append P xs ys p.1 q)
 
 -- so their number is no more than half of that of their bytes
 pub no_more : (n count : ℕ) (bytes : List ℕ) → PacksAll n bytes (unpacked_changes n bytes) → count ≡ length (unpacked_changes n bytes) → 2 * count ≤ length bytes

@@ -1,3 +1,4 @@
+pub mod CallerLemmas
 pub mod Tables
 pub mod Keys
 pub mod VarintLemmas

@@ -21,6 +21,7 @@ use Rattle.rb_core.specs.Outcome.{numbered, with_publisher, fed, reset, admitted
 use Rattle.rb_core.specs.Run.{Answer, Stepped, Run, FeedsBytes, HasBytes}
 use Rattle.rb_core.specs.State.{State, empty_world}
 use Rattle.cs_model.specs.Bytes.{AreBytes}
+use Rattle.cs_model.proofs.CallerLemmas.{all_push}
 
 -- ---- lists
 
@@ -28,10 +29,6 @@ all_set : {A : Type 0} (P : A → Type 0) (xs : List A) (i : ℕ) (y : A) → Al
 all_set P [] i y all h = tt
 all_set P (x ∷ xs) zero y all h = (h, all.1)
 all_set P (x ∷ xs) (suc i) y all h = (all.0, all_set P xs i y all.1 h)
-
-all_push : {A : Type 0} (P : A → Type 0) (xs : List A) (y : A) → AllByRecursion P xs → P y → AllByRecursion P (xs ++ y ∷ [])
-all_push P [] y all h = (h, tt)
-all_push P (x ∷ xs) y all h = (all.0, all_push P xs y all.1 h)
 
 all_get : {A : Type 0} (P : A → Type 0) (xs : List A) (i : ℕ) (x : A) → AllByRecursion P xs → slice_get xs i ≡ Some x → P x
 all_get P [] i x all e = absurd (cc e)
