@@ -21,9 +21,11 @@ pub extern "C" fn changeset_check(text: &[u8], fault_at: &mut usize, fault_kind:
     // What is answered is so.
     ensures says { CheckSays result fault_at.new fault_kind.new text.now }
     // A text that spells a changeset is answered with its number of changes.
-    ensures only { (changeset : List Section) → Spells text.now changeset → result ≡ pos (changes_in changeset) }
+    ensures only { (changeset : List Section) → Spells text.now changeset
+        → result ≡ pos (changes_in changeset) }
     // A text with a fault is answered with -1 and that fault.
-    ensures the_fault { (fault : ParseFault) → IsFault text.now fault → IsFaultAt result fault_at.new fault_kind.new fault }
+    ensures the_fault { (fault : ParseFault) → IsFault text.now fault
+        → IsFaultAt result fault_at.new fault_kind.new fault }
     ensures same_place { KeptBut result fault_at.old fault_at.new }
     ensures same_kind { KeptBut result fault_kind.old fault_kind.new }
 {
@@ -39,7 +41,8 @@ pub extern "C" fn changeset_canonical(alloc: Global, text: &[u8], out: &mut [u8]
     // What is answered is so, and `out` is as it says.
     ensures says { CanonicalSays result out.old out.new text.now }
     // A text that spells a changeset is answered with the length, unless memory runs out.
-    ensures only { (changeset : List Section) → Spells text.now changeset → IsNumber result (length (text_of changeset)) }
+    ensures only { (changeset : List Section) → Spells text.now changeset
+        → IsNumber result (length (text_of changeset)) }
     // A text with a fault is answered with -1.
     ensures the_fault { (fault : ParseFault) → IsFault text.now fault → result ≡ negsuc 0 }
 {

@@ -4,3 +4,4 @@ pub mod Errors
 pub mod Effect
 pub mod Single
 pub mod Steps
+pub mod Seen

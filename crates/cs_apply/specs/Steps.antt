@@ -33,6 +33,10 @@ filled (e ∷ es) = filled_with e.0 e.1 (filled es)
 abbrev pub rows_of : Entries → Rows
 rows_of es = map.from_entries (filled es)
 
+-- the rows that places hold
+abbrev pub rows_in : Places → Rows
+rows_in places = rows_of places.rows.entries
+
 -- the rows with this row at a key, or without one there
 abbrev pub put : Rows → RowKey → Option (List Value) → Rows
 put rows key None = map.remove rows key

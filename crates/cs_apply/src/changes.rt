@@ -12,7 +12,7 @@ ghost use Rattle.cs_apply.specs.Effect.{inserted, deleted, changed, effect};
 ghost use Rattle.cs_apply.specs.Errors.{TellsConflict, TellsKind};
 ghost use Rattle.cs_apply.specs.Single.{changes_of, single_from};
 ghost use Rattle.cs_apply.specs.State.{compatible};
-ghost use Rattle.cs_apply.specs.Steps.{rows_of, section_from, Back};
+ghost use Rattle.cs_apply.specs.Steps.{rows_in, section_from, Back};
 
 use crate::change_error::ChangeError;
 use crate::conflict::{ApplyError, ConflictKind};
@@ -30,9 +30,12 @@ fn insert(
     after: &RecordRef,
 ) -> Result<(), ChangeError>
     requires { list_all is_defined after.now ≡ true }
-    ensures ok { OnOk result (inserted (rows_of places.old.rows.entries) key (values_of after.now) (map.get (rows_of places.old.rows.entries) key) ≡ Ok (rows_of places.new.rows.entries)) }
+    ensures ok { OnOk result (inserted (rows_in places.old) key (values_of after.now)
+        (map.get (rows_in places.old) key) ≡ Ok (rows_in places.new)) }
     ensures back { Back places.old places.new }
-    ensures refused { IfErr result (λ e. TellsKind e (inserted (rows_of places.old.rows.entries) key (values_of after.now) (map.get (rows_of places.old.rows.entries) key))) }
+    ensures refused { IfErr result (λ e. TellsKind e
+        (inserted (rows_in places.old) key (values_of after.now)
+        (map.get (rows_in places.old) key))) }
 {
     let row = Row::copy_of(alloc, after)?;
     places.insert(key, row)
@@ -41,9 +44,11 @@ fn insert(
 // DELETE: the row is there, is what the old record says, and goes.
 fn delete(places: &mut Places, key: &RowKey, before: &RecordRef) -> Result<(), ChangeError>
     requires { list_all is_defined before.now ≡ true }
-    ensures ok { OnOk result (deleted (rows_of places.old.rows.entries) key.now before.now (map.get (rows_of places.old.rows.entries) key.now) ≡ Ok (rows_of places.new.rows.entries)) }
+    ensures ok { OnOk result (deleted (rows_in places.old) key.now before.now
+        (map.get (rows_in places.old) key.now) ≡ Ok (rows_in places.new)) }
     ensures back { Back places.old places.new }
-    ensures refused { IfErr result (λ e. TellsKind e (deleted (rows_of places.old.rows.entries) key.now before.now (map.get (rows_of places.old.rows.entries) key.now))) }
+    ensures refused { IfErr result (λ e. TellsKind e
+        (deleted (rows_in places.old) key.now before.now (map.get (rows_in places.old) key.now))) }
 {
     let Some((place, row)) = places.find(key) else {
         return Err(ChangeError::Conflict(ConflictKind::NotFound));
@@ -63,9 +68,12 @@ fn update(
     before: &RecordRef,
     after: &RecordRef,
 ) -> Result<(), ChangeError>
-    ensures ok { OnOk result (changed (rows_of places.old.rows.entries) key.now flags.now before.now after.now (map.get (rows_of places.old.rows.entries) key.now) ≡ Ok (rows_of places.new.rows.entries)) }
+    ensures ok { OnOk result (changed (rows_in places.old) key.now flags.now before.now after.now
+        (map.get (rows_in places.old) key.now) ≡ Ok (rows_in places.new)) }
     ensures back { Back places.old places.new }
-    ensures refused { IfErr result (λ e. TellsKind e (changed (rows_of places.old.rows.entries) key.now flags.now before.now after.now (map.get (rows_of places.old.rows.entries) key.now))) }
+    ensures refused { IfErr result (λ e. TellsKind e
+        (changed (rows_in places.old) key.now flags.now before.now after.now
+        (map.get (rows_in places.old) key.now))) }
 {
     let Some((place, row)) = places.find(key) else {
         return Err(ChangeError::Conflict(ConflictKind::NotFound));
@@ -86,9 +94,11 @@ fn change_row(
     change: &ChangeRef,
 ) -> Result<(), ChangeError>
     requires { IsChange shape.now (change_seen change.now) }
-    ensures ok { OnOk result (effect table shape.now.flags (rows_of places.old.rows.entries) (change_seen change.now) ≡ Ok (rows_of places.new.rows.entries)) }
+    ensures ok { OnOk result (effect table shape.now.flags (rows_in places.old)
+        (change_seen change.now) ≡ Ok (rows_in places.new)) }
     ensures back { Back places.old places.new }
-    ensures refused { IfErr result (λ e. TellsKind e (effect table shape.now.flags (rows_of places.old.rows.entries) (change_seen change.now))) }
+    ensures refused { IfErr result (λ e. TellsKind e
+        (effect table shape.now.flags (rows_in places.old) (change_seen change.now))) }
 {
     let key = RowKey::of(alloc, table, shape, change)?;
     match change.op {
@@ -116,9 +126,12 @@ fn change_section(
 ) -> Result<(), ApplyError>
     requires counted { start + length section.now.changes < 2 ^ 64 }
     requires fits { IsSection section.now }
-    ensures ok { OnOk result (section_from table section.now.shape.flags section.now.changes start (rows_of places.old.rows.entries) ≡ Ok (rows_of places.new.rows.entries)) }
+    ensures ok { OnOk result (section_from table section.now.shape.flags section.now.changes start
+        (rows_in places.old) ≡ Ok (rows_in places.new)) }
     ensures back { Back places.old places.new }
-    ensures refused { IfErr result (λ e. TellsConflict e (section_from table section.now.shape.flags section.now.changes start (rows_of places.old.rows.entries))) }
+    ensures refused { IfErr result (λ e. TellsConflict e
+        (section_from table section.now.shape.flags section.now.changes start
+        (rows_in places.old))) }
 {
     let shape = section.shape();
     let mut position = start;
@@ -153,9 +166,11 @@ pub(crate) fn change_all(
     sections: &[Section],
 ) -> Result<(), ApplyError>
     requires { IsChangeset sections.now }
-    ensures ok { OnOk result (single_from schema.now kept.now (changes_of sections.now) 0 (rows_of places.old.rows.entries) ≡ Ok (rows_of places.new.rows.entries)) }
+    ensures ok { OnOk result (single_from schema.now kept.now (changes_of sections.now) 0
+        (rows_in places.old) ≡ Ok (rows_in places.new)) }
     ensures back { Back places.old places.new }
-    ensures refused { IfErr result (λ e. TellsConflict e (single_from schema.now kept.now (changes_of sections.now) 0 (rows_of places.old.rows.entries))) }
+    ensures refused { IfErr result (λ e. TellsConflict e
+        (single_from schema.now kept.now (changes_of sections.now) 0 (rows_in places.old))) }
 {
     let mut start: usize = 0;
     for section in sections {

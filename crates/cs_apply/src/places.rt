@@ -3,14 +3,15 @@
 //! A key that had a row once keeps its place, which may be empty. So while a changeset is applied each place
 //! keeps its index: a change moves the old row out of its place into the log, and to move it back needs no room.
 
-ghost use Rattle.std.specs.Prelude.{◌≡◌, ℕ, [], length, take, map as list_map, Option, List, Some, Ok, slice_get, IfSome, IfOk, IfErr, OnOk};
+ghost use Rattle.std.specs.Prelude.{◌≡◌, [], length, take, Option, List, Some, Ok, slice_get, IfSome, IfOk, IfErr, OnOk};
 ghost use Rattle.std.specs.Option.{option_map};
 ghost use Rattle.std.specs.FinMap as map;
 ghost use Rattle.cs_model.specs.declared.value.Value.{Value};
 ghost use Rattle.cs_model.specs.declared.row_key.RowKey.{RowKey};
 ghost use Rattle.cs_apply.specs.Effect.{inserted};
 ghost use Rattle.cs_apply.specs.Errors.{TellsKind};
-ghost use Rattle.cs_apply.specs.Steps.{filled, rows_of, put, set_at, undone, Back};
+ghost use Rattle.cs_apply.specs.Seen.{listed};
+ghost use Rattle.cs_apply.specs.Steps.{filled, rows_in, put, set_at, undone, Back};
 
 use crate::change_error::ChangeError;
 use crate::conflict::ConflictKind;
@@ -59,8 +60,9 @@ impl Places {
 
     /// The row with this key and the index of its place, where there is one.
     pub(crate) fn find(&self, key: &RowKey) -> Option<(usize, &Row)>
-        ensures row { option_map (λ p. p.1.now) result ≡ map.get (rows_of self.now.rows.entries) key.now }
-        ensures place { IfSome result (λ p. slice_get self.now.rows.entries p.0 ≡ Some (key.now, Some p.1.now)) }
+        ensures row { option_map (λ p. p.1.now) result ≡ map.get (rows_in self.now) key.now }
+        ensures place { IfSome result (λ p. slice_get self.now.rows.entries p.0
+            ≡ Some (key.now, Some p.1.now)) }
     {
         let place = self.rows.get_index_of(key)?;
         let (_, row) = self.rows.get_index(place)?;
@@ -69,7 +71,7 @@ impl Places {
 
     /// All rows with their keys, by table, then by the key's bytes. `AllocError` where memory runs out.
     pub(crate) fn in_order(&self, alloc: Global) -> Result<Vec<(&RowKey, &Row)>, AllocError>
-        ensures { IfOk result (λ pairs. list_map (λ p. (p.0.now, p.1.now)) pairs.items ≡ map.entries (rows_of self.now.rows.entries)) }
+        ensures { IfOk result (λ pairs. listed pairs.items ≡ map.entries (rows_in self.now)) }
     {
         // for its clause that no two keys are equal
         let _places = self.rows.len();
@@ -80,7 +82,7 @@ impl Places {
 
     // The same in the order of the places.
     fn filled(&self, alloc: Global) -> Result<Vec<(&RowKey, &Row)>, AllocError>
-        ensures { IfOk result (λ pairs. list_map (λ p. (p.0.now, p.1.now)) pairs.items ≡ filled self.now.rows.entries) }
+        ensures { IfOk result (λ pairs. listed pairs.items ≡ filled self.now.rows.entries) }
     {
         let mut pairs = Vec::with_capacity(alloc, self.rows.len())?;
         for (key, place) in self.rows.iter() {
@@ -94,7 +96,9 @@ impl Places {
 
     /// Puts a row at a place, or none, and logs the one that was there. An `Err` leaves the rows as they were.
     pub(crate) fn set(&mut self, place: usize, row: Option<Row>) -> Result<(), AllocError>
-        ensures ok { OnOk result ((key : RowKey) (old : Option (List Value)) → slice_get self.old.rows.entries place ≡ Some (key, old) → rows_of self.new.rows.entries ≡ put (rows_of self.old.rows.entries) key row) }
+        ensures ok { OnOk result ((key : RowKey) (old : Option (List Value))
+            → slice_get self.old.rows.entries place ≡ Some (key, old)
+            → rows_in self.new ≡ put (rows_in self.old) key row) }
         ensures back { Back self.old self.new }
     {
         self.log.reserve(1)?;
@@ -107,9 +111,11 @@ impl Places {
 
     /// Puts a row under a key that has none. An `Err` leaves the rows as they were.
     pub(crate) fn insert(&mut self, key: RowKey, row: Row) -> Result<(), ChangeError>
-        ensures ok { OnOk result (inserted (rows_of self.old.rows.entries) key row (map.get (rows_of self.old.rows.entries) key) ≡ Ok (rows_of self.new.rows.entries)) }
+        ensures ok { OnOk result (inserted (rows_in self.old) key row
+            (map.get (rows_in self.old) key) ≡ Ok (rows_in self.new)) }
         ensures back { Back self.old self.new }
-        ensures refused { IfErr result (λ e. TellsKind e (inserted (rows_of self.old.rows.entries) key row (map.get (rows_of self.old.rows.entries) key))) }
+        ensures refused { IfErr result (λ e. TellsKind e
+            (inserted (rows_in self.old) key row (map.get (rows_in self.old) key))) }
     {
         let place = match self.rows.entry(key)? {
             Entry::Vacant(end) => {
@@ -129,7 +135,8 @@ impl Places {
 
     /// Takes back all that was logged, and cuts the places to this many. It needs no memory.
     pub(crate) fn take_back(&mut self, places: usize)
-        ensures rows { self.new.rows.entries ≡ take places (undone self.old.log.items self.old.rows.entries) }
+        ensures rows { self.new.rows.entries
+            ≡ take places (undone self.old.log.items self.old.rows.entries) }
         ensures log { self.new.log.items ≡ [] }
     {
         while let Some(step) = self.log.pop() {
@@ -152,7 +159,7 @@ impl Places {
     /// Keeps all that was done: forgets the log, and drops the empty places once they are the most. So the
     /// deletes since the last sweep pay for the next.
     pub(crate) fn keep(&mut self)
-        ensures rows { rows_of self.new.rows.entries ≡ rows_of self.old.rows.entries }
+        ensures rows { rows_in self.new ≡ rows_in self.old }
         ensures log { self.new.log.items ≡ [] }
     {
         self.empty = counted(self.empty, &self.log);

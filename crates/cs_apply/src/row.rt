@@ -51,7 +51,8 @@ pub(crate) fn rest_agrees(flags: &[u8], from: &RecordRef, row: &Row) -> bool
 
 // the field of a record that says something, or else the row's own
 fn chosen<'a>(field: Option<FieldRef<'a>>, value: FieldRef<'a>) -> FieldRef<'a>
-    ensures { field_seen result ≡ chosen (option_map field_seen field.entry) (field_seen value.entry) }
+    ensures { field_seen result
+        ≡ chosen (option_map field_seen field.entry) (field_seen value.entry) }
 {
     match field {
         Some(field) if field.has_value() => field,

@@ -1,8 +1,9 @@
 //! Tables.
 
-ghost use Rattle.std.specs.Prelude.{◌≡◌, length, map as list_map, IfOk, IfErr, OnOk, OnErr, Ok};
+ghost use Rattle.std.specs.Prelude.{◌≡◌, length, IfOk, IfErr, OnOk, OnErr, Ok};
 ghost use Rattle.std.specs.Option.{option_copied};
 ghost use Rattle.std.specs.FinMap as map;
+ghost use Rattle.cs_apply.specs.Seen.{listed};
 ghost use Rattle.cs_apply.specs.Single.{single};
 ghost use Rattle.cs_apply.specs.Errors.{TellsConflict};
 
@@ -58,7 +59,7 @@ impl Tables {
 
     /// All rows with their keys, by table, then by the key's bytes. `AllocError` where memory runs out.
     pub fn rows_in_order(&self, alloc: Global) -> Result<Vec<(&RowKey, &Row)>, AllocError>
-        ensures { IfOk result (λ rows. list_map (λ p. (p.0.now, p.1.now)) rows.items ≡ map.entries self.now.rows) }
+        ensures { IfOk result (λ rows. listed rows.items ≡ map.entries self.now.rows) }
     {
         self.places.in_order(alloc)
     }

@@ -100,3 +100,7 @@ changes_said n (suc fuel) (op ∷ (byte ∷ rest)) =
 -- the changes that bytes say
 unfoldable pub unpacked_changes : ℕ → List ℕ → List Change
 unpacked_changes n bytes = changes_said n (length bytes) bytes
+
+-- the bytes are the canonical ones of the changes that they say
+abbrev pub AreCanonical : ℕ → List ℕ → Type 0
+AreCanonical n bytes = PacksAll n bytes (unpacked_changes n bytes)

@@ -1,10 +1,11 @@
 //! Whether the bytes of changes are canonical, and how they are made so. A text may spell a length with zeros in front, and
 //! an indirect change with any byte but zero.
 
-ghost use Rattle.std.specs.Prelude.{◌≡◌, ◌++◌, IfOk, IfSome, OnOk, OnErr, length, take, drop};
+ghost use Rattle.std.specs.Prelude.{◌≡◌, IfOk, IfSome, OnErr, length, take, drop};
+ghost use Rattle.cs_model.specs.Bytes.{AddsBytes};
 ghost use Rattle.cs_model.specs.Canonical.{StartsCounted, StartsField, StartsRecord, StartsChange};
 ghost use Rattle.cs_model.specs.Packed.{packed};
-ghost use Rattle.cs_model.specs.PackedChanges.{change_bytes, changes_bytes, some_in, records_by, unpacked_changes, PacksAll};
+ghost use Rattle.cs_model.specs.PackedChanges.{change_bytes, changes_bytes, some_in, records_by, unpacked_changes, AreCanonical};
 
 use crate::change::Op;
 use crate::change_ref::op_of;
@@ -16,7 +17,8 @@ use std::alloc::AllocError;
 /// Adds the canonical bytes of the changes that bytes say to the end of `out`, and tells how many they are: in one copy where
 /// the bytes are canonical, and else respelled. An `Err` leaves `out` as it was.
 pub fn text_push(out: &mut Vec<u8>, columns: usize, bytes: &[u8]) -> Result<usize, AllocError>
-    ensures ok { OnOk result (out.new.items ≡ out.old.items ++ changes_bytes (unpacked_changes columns bytes.now)) }
+    ensures ok { AddsBytes result out.old out.new
+        (changes_bytes (unpacked_changes columns bytes.now)) }
     ensures count { IfOk result (λ n. n ≡ length (unpacked_changes columns bytes.now)) }
     ensures err { OnErr result (out.new.items ≡ out.old.items) }
 {
@@ -29,7 +31,7 @@ pub fn text_push(out: &mut Vec<u8>, columns: usize, bytes: &[u8]) -> Result<usiz
 
 /// How many changes bytes say, where they are the canonical ones of these changes, and else `None`.
 pub(crate) fn canonical_count(columns: usize, bytes: &[u8]) -> Option<usize>
-    ensures packs { IfSome result (λ n. PacksAll columns bytes.now (unpacked_changes columns bytes.now)) }
+    ensures packs { IfSome result (λ n. AreCanonical columns bytes.now) }
     ensures count { IfSome result (λ n. n ≡ length (unpacked_changes columns bytes.now)) }
 {
     let mut count: usize = 0;
@@ -47,7 +49,8 @@ pub(crate) fn canonical_count(columns: usize, bytes: &[u8]) -> Option<usize>
 
 // The same as `text_push`, field by field.
 fn push_said(out: &mut Vec<u8>, columns: usize, bytes: &[u8]) -> Result<usize, AllocError>
-    ensures ok { OnOk result (out.new.items ≡ out.old.items ++ changes_bytes (unpacked_changes columns bytes.now)) }
+    ensures ok { AddsBytes result out.old out.new
+        (changes_bytes (unpacked_changes columns bytes.now)) }
     ensures count { IfOk result (λ n. n ≡ length (unpacked_changes columns bytes.now)) }
     ensures err { OnErr result (out.new.items ≡ out.old.items) }
 {
@@ -118,7 +121,8 @@ fn behind_counted(bytes: &[u8]) -> Option<&[u8]>
 // the bytes behind so many
 #[inline(always)]
 fn behind_so_many(len: u64, bytes: &[u8]) -> Option<&[u8]>
-    ensures { IfSome result (λ rest. (length (take len bytes.now) ≡ len) × (rest.now ≡ drop len bytes.now)) }
+    ensures { IfSome result (λ rest. (length (take len bytes.now) ≡ len)
+        × (rest.now ≡ drop len bytes.now)) }
 {
     if (bytes.len() as u64) < len {
         return None;
@@ -128,7 +132,8 @@ fn behind_so_many(len: u64, bytes: &[u8]) -> Option<&[u8]>
 
 // The same as `push_said`, which may stop in between.
 fn add_said(out: &mut Vec<u8>, columns: usize, bytes: &[u8]) -> Result<usize, AllocError>
-    ensures ok { OnOk result (out.new.items ≡ out.old.items ++ changes_bytes (unpacked_changes columns bytes.now)) }
+    ensures ok { AddsBytes result out.old out.new
+        (changes_bytes (unpacked_changes columns bytes.now)) }
     ensures count { IfOk result (λ n. n ≡ length (unpacked_changes columns bytes.now)) }
     ensures adds { take (length out.old.items) out.new.items ≡ out.old.items }
 {
@@ -157,7 +162,8 @@ fn add_change<'a>(
     indirect: bool,
     bytes: &'a [u8],
 ) -> Result<&'a [u8], AllocError>
-    ensures ok { OnOk result (out.new.items ≡ out.old.items ++ change_bytes (records_by columns op indirect bytes.now).0) }
+    ensures ok { AddsBytes result out.old out.new
+        (change_bytes (records_by columns op indirect bytes.now).0) }
     ensures rest { IfOk result (λ rest. rest.now ≡ (records_by columns op indirect bytes.now).1) }
     ensures adds { take (length out.old.items) out.new.items ≡ out.old.items }
 {
@@ -176,7 +182,7 @@ fn add_fields<'a>(
     columns: usize,
     bytes: &'a [u8],
 ) -> Result<&'a [u8], AllocError>
-    ensures ok { OnOk result (out.new.items ≡ out.old.items ++ packed (some_in columns bytes.now).0) }
+    ensures ok { AddsBytes result out.old out.new (packed (some_in columns bytes.now).0) }
     ensures rest { IfOk result (λ rest. rest.now ≡ (some_in columns bytes.now).1) }
     ensures adds { take (length out.old.items) out.new.items ≡ out.old.items }
 {

@@ -4,7 +4,7 @@
 ghost use Rattle.std.specs.Prelude.{◌≡◌, ◌∷◌, [], IfSome, MatchOption};
 ghost use Rattle.std.specs.List.{AllByRecursion};
 ghost use Rattle.cs_model.specs.Packed.{packed, unpacked, Fits};
-ghost use Rattle.cs_model.specs.PackedChanges.{some_in, op_in, records_by, unpacked_changes, PacksAll, Begins, BeginsChange};
+ghost use Rattle.cs_model.specs.PackedChanges.{some_in, op_in, records_by, unpacked_changes, AreCanonical, Begins, BeginsChange};
 ghost use Rattle.cs_model.specs.Seen.{change_seen};
 
 use crate::change::Op;
@@ -72,20 +72,20 @@ pub struct ChangeRefs<'a> {
 impl<'a> Model for ChangeRefs<'a> {
     ghost use Rattle.std.specs.Prelude.{List};
     ghost use Rattle.cs_model.specs.declared.change.Change.{Change};
-    ghost use Rattle.cs_model.specs.PackedChanges.{unpacked_changes, PacksAll};
+    ghost use Rattle.cs_model.specs.PackedChanges.{unpacked_changes, AreCanonical};
 
     ghost Value = { List Change };
 
     ghost view = { λ c. unpacked_changes c.columns c.rest.now };
 
-    ghost invariant = { λ c. PacksAll c.columns c.rest.now (unpacked_changes c.columns c.rest.now) };
+    ghost invariant = { λ c. AreCanonical c.columns c.rest.now };
 }
 
 impl<'a> ChangeRefs<'a> {
     /// The changes from the first byte on, of a table with so many columns.
     #[inline(always)]
     pub(crate) fn of(columns: usize, bytes: &'a [u8]) -> ChangeRefs<'a>
-        requires { PacksAll columns bytes.now (unpacked_changes columns bytes.now) }
+        requires { AreCanonical columns bytes.now }
         ensures { result ≡ unpacked_changes columns bytes.now }
     {
         ChangeRefs {
@@ -190,9 +190,11 @@ fn records_of(columns: usize, op: Op, indirect: bool, bytes: &[u8]) -> (ChangeRe
 
 // the first of the changes that bytes say, and the bytes behind it
 fn first_of(columns: usize, bytes: &[u8]) -> Option<(ChangeRef, &[u8])>
-    requires { PacksAll columns bytes.now (unpacked_changes columns bytes.now) }
-    ensures rest { IfSome result (λ x. PacksAll columns x.1.now (unpacked_changes columns x.1.now)) }
-    ensures first { MatchOption result (unpacked_changes columns bytes.now ≡ []) (λ x. unpacked_changes columns bytes.now ≡ change_seen x.0 ∷ unpacked_changes columns x.1.now) }
+    requires { AreCanonical columns bytes.now }
+    ensures rest { IfSome result (λ x. AreCanonical columns x.1.now) }
+    ensures first { MatchOption result (unpacked_changes columns bytes.now ≡ [])
+        (λ x. unpacked_changes columns bytes.now
+        ≡ change_seen x.0 ∷ unpacked_changes columns x.1.now) }
 {
     let Some((&op, behind)) = bytes.split_first() else {
         return None;

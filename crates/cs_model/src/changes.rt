@@ -5,6 +5,7 @@ ghost use Rattle.std.specs.Cmp;
 ghost use Rattle.std.specs.Cmp.{on_per, on_equiv};
 ghost use Rattle.std.specs.Cmp.Lexicographic.{pointwise, lists_per, lists_equiv, nat_list_eq_equiv};
 ghost use Rattle.std.specs.List.{AllByRecursion};
+ghost use Rattle.cs_model.specs.Bytes.{AddsBytes};
 ghost use Rattle.cs_model.specs.Text.{op_byte};
 ghost use Rattle.cs_model.specs.Packed.{Fits};
 ghost use Rattle.cs_model.specs.PackedChanges.{mark, change_bytes, changes_bytes, changes_parts, change_of, Long, Fit, unpacked_changes};
@@ -30,13 +31,13 @@ pub struct Changes {
 impl Model for Changes {
     ghost use Rattle.std.specs.Prelude.{◌≡◌, ℕ, List, length};
     ghost use Rattle.cs_model.specs.declared.change.Change.{Change};
-    ghost use Rattle.cs_model.specs.PackedChanges.{unpacked_changes, PacksAll};
+    ghost use Rattle.cs_model.specs.PackedChanges.{unpacked_changes, AreCanonical};
 
     ghost Value = { ℕ × List Change };
 
     ghost view = { λ c. (c.columns, unpacked_changes c.columns c.bytes.items) };
 
-    ghost invariant = { λ c. PacksAll c.columns c.bytes.items (unpacked_changes c.columns c.bytes.items) × (c.count ≡ length (unpacked_changes c.columns c.bytes.items)) };
+    ghost invariant = { λ c. AreCanonical c.columns c.bytes.items × (c.count ≡ length (unpacked_changes c.columns c.bytes.items)) };
 }
 
 impl Changes {
@@ -62,7 +63,8 @@ impl Changes {
     ) -> Result<(), AllocError>
         requires { Long self.old.0 op before.now after.now }
         ensures columns { self.new.0 ≡ self.old.0 }
-        ensures ok { OnOk result (self.new.1 ≡ self.old.1 ++ change_of op indirect before.now after.now ∷ []) }
+        ensures ok { OnOk result (self.new.1
+            ≡ self.old.1 ++ change_of op indirect before.now after.now ∷ []) }
         ensures err { OnErr result (self.new.1 ≡ self.old.1) }
     {
         change_push(&mut self.bytes, op, indirect, before, after)?;
@@ -186,7 +188,8 @@ pub fn change_push(
     before: &Record,
     after: &Record,
 ) -> Result<(), AllocError>
-    ensures ok { OnOk result (out.new.items ≡ out.old.items ++ change_bytes (change_of op indirect before.now after.now)) }
+    ensures ok { AddsBytes result out.old out.new
+        (change_bytes (change_of op indirect before.now after.now)) }
     ensures err { OnErr result (out.new.items ≡ out.old.items) }
     ensures before { AllByRecursion Fits before.now }
     ensures after { AllByRecursion Fits after.now }
@@ -207,7 +210,8 @@ fn add_change(
     before: &[u8],
     after: &[u8],
 ) -> Result<(), AllocError>
-    ensures ok { OnOk result (out.new.items ≡ out.old.items ++ op_byte op ∷ mark indirect ∷ (before.now ++ after.now)) }
+    ensures ok { AddsBytes result out.old out.new
+        (op_byte op ∷ mark indirect ∷ (before.now ++ after.now)) }
     ensures adds { take (length out.old.items) out.new.items ≡ out.old.items }
 {
     out.push(op.byte())?;

@@ -1,6 +1,7 @@
 //! Fields as canonical bytes.
 
-ghost use Rattle.std.specs.Prelude.{◌≡◌, ◌++◌, ◌∷◌, OnOk, OnErr, length, take};
+ghost use Rattle.std.specs.Prelude.{◌≡◌, ◌++◌, ◌∷◌, OnErr, length, take};
+ghost use Rattle.cs_model.specs.Bytes.{AddsBytes};
 ghost use Rattle.cs_model.specs.FieldBytes.{field_bytes};
 ghost use Rattle.cs_model.specs.Packed.{Fits, IsLength};
 ghost use Rattle.cs_model.specs.Seen.{field_seen};
@@ -13,7 +14,7 @@ use std::alloc::AllocError;
 /// Adds a field's canonical bytes to the end of `out`, and nothing else: its type, then a number in eight
 /// bytes, or the shortest length and the bytes. An `Err` leaves `out` as it was.
 pub fn field_push(out: &mut Vec<u8>, field: FieldRef) -> Result<(), AllocError>
-    ensures ok { OnOk result (out.new.items ≡ out.old.items ++ field_bytes (field_seen field.entry)) }
+    ensures ok { AddsBytes result out.old out.new (field_bytes (field_seen field.entry)) }
     ensures err { OnErr result (out.new.items ≡ out.old.items) }
     ensures fits { Fits (field_seen field.entry) }
 {
@@ -27,7 +28,7 @@ pub fn field_push(out: &mut Vec<u8>, field: FieldRef) -> Result<(), AllocError>
 
 // The same, which may stop in between.
 fn add_field(out: &mut Vec<u8>, field: FieldRef) -> Result<(), AllocError>
-    ensures ok { OnOk result (out.new.items ≡ out.old.items ++ field_bytes (field_seen field.entry)) }
+    ensures ok { AddsBytes result out.old out.new (field_bytes (field_seen field.entry)) }
     ensures adds { take (length out.old.items) out.new.items ≡ out.old.items }
     ensures fits { Fits (field_seen field.entry) }
 {
@@ -52,7 +53,8 @@ fn add_field(out: &mut Vec<u8>, field: FieldRef) -> Result<(), AllocError>
 
 // Adds a type byte, a length and the bytes. It may stop in between.
 fn add_counted(out: &mut Vec<u8>, kind: u8, bytes: &[u8]) -> Result<(), AllocError>
-    ensures ok { OnOk result (out.new.items ≡ out.old.items ++ kind ∷ (varint (length bytes.now) ++ bytes.now)) }
+    ensures ok { AddsBytes result out.old out.new
+        (kind ∷ (varint (length bytes.now) ++ bytes.now)) }
     ensures adds { take (length out.old.items) out.new.items ≡ out.old.items }
 {
     out.push(kind)?;

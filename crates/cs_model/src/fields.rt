@@ -136,7 +136,8 @@ pub fn typed_of(byte: u8, rest: &[u8]) -> (FieldRef, &[u8])
 // the first of the fields that bytes say, and the bytes behind it
 #[inline(always)]
 fn first_of(bytes: &[u8]) -> Option<(FieldRef, &[u8])>
-    ensures { MatchOption result (unpacked bytes.now ≡ []) (λ x. unpacked bytes.now ≡ field_seen x.0 ∷ unpacked x.1.now) }
+    ensures { MatchOption result (unpacked bytes.now ≡ [])
+        (λ x. unpacked bytes.now ≡ field_seen x.0 ∷ unpacked x.1.now) }
 {
     let Some((&byte, rest)) = bytes.split_first() else {
         return None;

@@ -24,7 +24,8 @@ pub fn varint_spelled()
 
 /// No spelling of a number is shorter than the one that `varint_push` writes.
 pub fn varint_shortest()
-    ensures { (bytes : List ℕ) (n : ℕ) → AreBytes bytes → IsVarint bytes n → length (varint n) ≤ length bytes }
+    ensures { (bytes : List ℕ) (n : ℕ) → AreBytes bytes → IsVarint bytes n
+        → length (varint n) ≤ length bytes }
 {}
 
 /// Which of two keys comes first, as `cmp` says: by the table, then by the bytes, which are unsigned.
@@ -36,26 +37,30 @@ pub fn order_of_keys(first: &RowKey, second: &RowKey) -> Ordering
 
 /// The bytes of fields that fit say these fields.
 pub fn fields_again()
-    ensures { (fields : List Field) → AllByRecursion Fits fields → unpacked (packed fields) ≡ fields }
+    ensures { (fields : List Field) → AllByRecursion Fits fields
+        → unpacked (packed fields) ≡ fields }
 {}
 
 /// Bytes that begin with those of fields that fit say these fields first.
 pub fn fields_first()
-    ensures { (fields : List Field) (rest : List ℕ) → AllByRecursion Fits fields → unpacked (packed fields ++ rest) ≡ fields ++ unpacked rest }
+    ensures { (fields : List Field) (rest : List ℕ) → AllByRecursion Fits fields
+        → unpacked (packed fields ++ rest) ≡ fields ++ unpacked rest }
 {}
 
 /// The bytes of changes that fit say these changes.
 pub fn packed_again()
-    ensures { (n : ℕ) (changes : List Change) → AllByRecursion (Fit n) changes → unpacked_changes n (changes_bytes changes) ≡ changes }
+    ensures { (n : ℕ) (changes : List Change) → AllByRecursion (Fit n) changes
+        → unpacked_changes n (changes_bytes changes) ≡ changes }
 {}
 
 /// A text of changes says the changes that it spells, whichever way their lengths are spelled.
 pub fn spelled_is_said()
-    ensures { (n : ℕ) (text : List ℕ) (changes : List Change) → SpellsEach SpellsChange text changes → AllByRecursion (Fit n) changes
-        → unpacked_changes n text ≡ changes }
+    ensures { (n : ℕ) (text : List ℕ) (changes : List Change) → SpellsEach SpellsChange text changes
+        → AllByRecursion (Fit n) changes → unpacked_changes n text ≡ changes }
 {}
 
 /// A change of a table has as many columns as the table, and canonical bytes.
 pub fn changes_fit()
-    ensures { (shape : Shape) (change : Change) → IsChange shape change → Fit (length shape.flags) change }
+    ensures { (shape : Shape) (change : Change) → IsChange shape change
+        → Fit (length shape.flags) change }
 {}

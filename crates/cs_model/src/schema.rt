@@ -93,8 +93,10 @@ impl Schema {
     /// The schema of these tables, without a copy. Refuses the first table whose name an earlier one has
     /// (`DuplicateTable`) or whose shape no table may have (`BadShape`), and hands all of them back.
     pub fn new(tables: Vec<Shape>) -> Result<Schema, RefusedTables>
-        ensures ok { IfOk result (λ schema. (schema ≡ tables.items) × (tables_refusal [] tables.items ≡ None)) }
-        ensures refused { IfErr result (λ e. (tables_refusal [] tables.items ≡ Some e.fault) × (e.tables.items ≡ tables.items)) }
+        ensures ok { IfOk result (λ schema. (schema ≡ tables.items)
+            × (tables_refusal [] tables.items ≡ None)) }
+        ensures refused { IfErr result (λ e. (tables_refusal [] tables.items ≡ Some e.fault)
+            × (e.tables.items ≡ tables.items)) }
     {
         match first_refusal(&tables) {
             Some(fault) => Err(RefusedTables { fault, tables }),
@@ -104,7 +106,8 @@ impl Schema {
 
     /// Adds a table at the end. Refuses as `new` does; an `Err` leaves the schema as it was.
     pub fn add(&mut self, table: Shape) -> Result<(), SchemaError>
-        ensures ok { OnOk result ((self.new ≡ self.old ++ table ∷ []) × (table_refusal self.old table ≡ None)) }
+        ensures ok { OnOk result ((self.new ≡ self.old ++ table ∷ [])
+            × (table_refusal self.old table ≡ None)) }
         ensures refused { IfErr result (λ e. TellsRefusal e (table_refusal self.old table)) }
         ensures err { OnErr result (self.new ≡ self.old) }
     {

@@ -85,8 +85,8 @@ fn gives(rt: &impl Abort, mut fields: Fields, wanted: &[FieldRef]) {
 
 // A change of the row with key 7, of two columns. Its text is `w` before and `x` after.
 fn one_change(alloc: Global, op: Op) -> Result<Change, AllocError>
-    ensures records { IfOk result (λ change. AreRecords (1 ∷ 0 ∷ []) change.op change.before change.after) }
-    ensures long { IfOk result (λ change. Long 2 change.op change.before change.after) }
+    ensures records { IfOk result (λ c. AreRecords (1 ∷ 0 ∷ []) c.op c.before c.after) }
+    ensures long { IfOk result (λ c. Long 2 c.op c.before c.after) }
 {
     let none: Seq<Field> = Seq::from_vec(Vec::new(alloc));
     let before = record(alloc, number(7), text(alloc, b"w")?)?;

@@ -1,6 +1,7 @@
 //! Varints: the spelling of counts and lengths, one to nine bytes.
 
-ghost use Rattle.std.specs.Prelude.{◌≡◌, ℕ, ◌≤◌, ◌++◌, length, take, drop, OnOk, OnErr, IfSome, Some};
+ghost use Rattle.std.specs.Prelude.{◌≡◌, ℕ, ◌≤◌, ◌++◌, length, take, drop, OnErr, IfSome, Some};
+ghost use Rattle.cs_model.specs.Bytes.{AddsBytes};
 ghost use Rattle.cs_model.specs.Varint.{IsVarint, varint};
 ghost use Rattle.cs_model.specs.Packed.{read_from};
 
@@ -9,8 +10,10 @@ use std::alloc::AllocError;
 /// Reads the varint that begins `bytes`: its value, and the number of bytes that it takes. Longer spellings
 /// than the shortest are read too. `None` where the bytes end before a varint does.
 pub fn varint_read(bytes: &[u8]) -> Option<(u64, usize)>
-    ensures found { IfSome result (λ found. (found.1 ≤ length bytes.now) × IsVarint (take found.1 bytes.now) found.0) }
-    ensures only { (n len : ℕ) → len ≤ length bytes.now → IsVarint (take len bytes.now) n → result ≡ Some (n, len) }
+    ensures found { IfSome result (λ found. (found.1 ≤ length bytes.now)
+        × IsVarint (take found.1 bytes.now) found.0) }
+    ensures only { (n len : ℕ) → len ≤ length bytes.now → IsVarint (take len bytes.now) n
+        → result ≡ Some (n, len) }
 {
     varint_first(bytes)
 }
@@ -38,7 +41,7 @@ pub fn varint_first(bytes: &[u8]) -> Option<(u64, usize)>
 
 /// Adds the shortest varint of `value` to the end of `out`. An `Err` leaves `out` as it was.
 pub fn varint_push(out: &mut Vec<u8>, value: u64) -> Result<(), AllocError>
-    ensures ok { OnOk result (out.new.items ≡ out.old.items ++ varint value) }
+    ensures ok { AddsBytes result out.old out.new (varint value) }
     ensures err { OnErr result (out.new.items ≡ out.old.items) }
 {
     if value < 128 {

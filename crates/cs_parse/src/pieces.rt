@@ -61,7 +61,8 @@ impl PieceParser {
         // Where none is told, the text goes on.
         ensures going { OnOk result (GoesOn self.new) }
         // A fault that was told before is told again.
-        ensures again { (fault : ParseFault) → IsLasting self.old fault → result ≡ Err (ParseError.Fault fault) }
+        ensures again { (fault : ParseFault) → IsLasting self.old fault
+            → result ≡ Err (ParseError.Fault fault) }
     {
         self.fed(alloc, piece)
     }
@@ -71,7 +72,8 @@ impl PieceParser {
         ensures fed { Fed result self.old piece.now self.new }
         ensures old_bytes { AreBytes self.old }
         ensures bytes { AreBytes self.new }
-        ensures again { (fault : ParseFault) → fault_in self.old ≡ Some fault → result ≡ Err (ParseError.Fault fault) }
+        ensures again { (fault : ParseFault) → fault_in self.old ≡ Some fault
+            → result ≡ Err (ParseError.Fault fault) }
     {
         if let Some(fault) = lasting_of(&self.answer) {
             return Err(ParseError::Fault(fault));

@@ -14,7 +14,8 @@ use cs_model::Op;
 
 // the bytes behind a record, where the columns outside the key have this rule
 fn skip_record<'a>(outside: FieldRule, flags: &[u8], bytes: &'a [u8]) -> Result<&'a [u8], Refusal>
-    ensures { Reads (λ rest. rest.now) result (behind (record_at (map (column_rule (rule_of outside)) flags.now) bytes.now)) }
+    ensures { Reads (λ rest. rest.now) result
+        (behind (record_at (map (column_rule (rule_of outside)) flags.now) bytes.now)) }
 {
     let mut rest = bytes;
     for &flag in flags {
@@ -27,8 +28,10 @@ fn skip_record<'a>(outside: FieldRule, flags: &[u8], bytes: &'a [u8]) -> Result<
 // The bytes behind an UPDATE's new record. Its rules come from the old one, which begins at `old` and is read again, field
 // by field beside the new one.
 fn skip_new<'a>(flags: &[u8], old: &[u8], bytes: &'a [u8]) -> Result<&'a [u8], Refusal>
-    ensures { (before : List Field) (left : List ℕ) → record_at (map old_rule flags.now) old.now ≡ Ok (before, left)
-        → Reads (λ rest. rest.now) result (behind (record_at (new_rules flags.now before) bytes.now)) }
+    ensures { (before : List Field) (left : List ℕ)
+        → record_at (map old_rule flags.now) old.now ≡ Ok (before, left)
+        → Reads (λ rest. rest.now) result
+        (behind (record_at (new_rules flags.now before) bytes.now)) }
 {
     let mut old_rest = old;
     let mut rest = bytes;

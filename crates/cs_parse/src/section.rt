@@ -66,7 +66,8 @@ pub fn sections_of(alloc: Global, bytes: &[u8]) -> Result<(Vec<Section>, &[u8]),
 // how many changes the next section has, and the bytes behind it
 #[tactic(auto, unfolding(crate::specs::Reading::section_at))]
 fn section_counted(bytes: &[u8]) -> Result<(usize, &[u8]), Refusal>
-    ensures { Reads (λ x. (x.0, x.1.now)) result (counted (λ section. length section.changes) (section_at bytes.now)) }
+    ensures { Reads (λ x. (x.0, x.1.now)) result
+        (counted (λ section. length section.changes) (section_at bytes.now)) }
 {
     let (shape, rest) = shape_in(bytes)?;
     changes_counted(shape.flags, rest)

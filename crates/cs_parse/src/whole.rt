@@ -91,11 +91,13 @@ pub fn parse(alloc: Global, text: &[u8]) -> Result<Changeset, ParseError>
     // What is read is spelled so.
     ensures found { IfOk result (λ changeset. Spells text.now changeset) }
     // What is spelled so is read, unless memory runs out.
-    ensures only { (changeset : List Section) → Spells text.now changeset → IsRead result changeset }
+    ensures only { (changeset : List Section) → Spells text.now changeset
+        → IsRead result changeset }
     // What is told is the text's fault; or memory ran out, and the text spells a changeset.
     ensures faulty { IfErr result (λ error. Tells error text.now) }
     // The text's fault is told, whether there is memory or not.
-    ensures the_fault { (fault : ParseFault) → IsFault text.now fault → result ≡ Err (ParseError.Fault fault) }
+    ensures the_fault { (fault : ParseFault) → IsFault text.now fault
+        → result ≡ Err (ParseError.Fault fault) }
     // And the answer is determined by the text.
     ensures exact { Answers result (answer_of text.now) }
 {
@@ -123,7 +125,8 @@ pub fn count_changes(text: &[u8]) -> Result<usize, ParseFault>
     // What is counted is spelled so.
     ensures found { IfOk result (λ count. HasChanges text.now count) }
     // What is spelled so is counted.
-    ensures only { (changeset : List Section) → Spells text.now changeset → result ≡ Ok (changes_in changeset) }
+    ensures only { (changeset : List Section) → Spells text.now changeset
+        → result ≡ Ok (changes_in changeset) }
     // What is told is the text's fault.
     ensures faulty { IfErr result (λ fault. IsFault text.now fault) }
     // The text's fault is told.

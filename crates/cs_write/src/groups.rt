@@ -1,6 +1,6 @@
 //! Sections by their shapes.
 
-ghost use Rattle.std.specs.Prelude.{◌≡◌, [], map as list_map, IfOk, OnOk, length, nat_lt};
+ghost use Rattle.std.specs.Prelude.{◌≡◌, [], IfOk, OnOk, length, nat_lt};
 ghost use Rattle.cs_model.specs.Changeset.{all_changes};
 ghost use Rattle.cs_write.specs.Canon.{by_shape};
 ghost use Rattle.cs_write.specs.Groups.{added};
@@ -15,7 +15,8 @@ pub type Groups<'a> = IndexMap<Shape, Vec<&'a Section>>;
 
 // Adds a section to the group of its shape, or as the first of a new one.
 fn add<'a>(alloc: Global, groups: &mut Groups<'a>, section: &'a Section) -> Result<(), AllocError>
-    ensures ok { OnOk result (seen groups.new.entries ≡ added (seen groups.old.entries) section.now) }
+    ensures ok { OnOk result (seen groups.new.entries
+        ≡ added (seen groups.old.entries) section.now) }
 {
     let shape = section.shape();
     if let Some(place) = groups.get_index_of(shape) {

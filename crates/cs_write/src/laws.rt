@@ -13,8 +13,8 @@ use cs_model::laws::{varint_shortest, varint_spelled};
 
 /// What `write` gives spells what `canonical` gives, where it is within the limit of a text.
 pub fn text_spells_form()
-    ensures { (sections : List Section) → IsChangeset sections → length (text_of sections) ≤ most_bytes
-        → Spells (text_of sections) (canon sections) }
+    ensures { (sections : List Section) → IsChangeset sections
+        → length (text_of sections) ≤ most_bytes → Spells (text_of sections) (canon sections) }
 {
     varint_spelled();
 }

@@ -3,10 +3,8 @@
 
 ghost use Rattle.std.specs.Prelude.{◌≡◌, ℕ, ◌+◌, ◌≤◌, length};
 ghost use Rattle.cs_model.specs.Varint.{varint};
-ghost use Rattle.cs_model.specs.FieldBytes.{field_bytes};
 ghost use Rattle.cs_write.specs.Lengths.{held};
-ghost use Rattle.cs_model.specs.Packed.{packed};
-ghost use Rattle.cs_model.specs.PackedChanges.{change_bytes, changes_bytes};
+ghost use Rattle.cs_model.specs.PackedChanges.{changes_bytes};
 ghost use Rattle.cs_write.specs.Text.{header_text};
 
 use cs_model::{Changes, Shape};

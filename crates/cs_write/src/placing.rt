@@ -2,11 +2,9 @@
 //! other bytes of the buffer stay, and no memory is taken, so that nothing can fail once the first byte is written.
 
 ghost use Rattle.std.specs.Prelude.{◌≡◌, ◌+◌, ◌≤◌, length};
-ghost use Rattle.cs_model.specs.Changeset.{all_changes};
-ghost use Rattle.cs_model.specs.PackedChanges.{changes_bytes};
 ghost use Rattle.cs_write.specs.Buffer.{laid};
 ghost use Rattle.cs_write.specs.Groups.{group_text, groups_text};
-ghost use Rattle.cs_write.specs.Seen.{seen, sections_of};
+ghost use Rattle.cs_write.specs.Seen.{bodies, seen, sections_of};
 ghost use Rattle.cs_write.specs.Text.{header_text};
 
 use crate::groups::{Groups, any_change};
@@ -41,9 +39,9 @@ fn put_header(out: &mut [u8], at: usize, shape: &Shape) -> usize
 
 // the changes of these sections, each section's in one copy
 fn put_sections(out: &mut [u8], at: usize, sections: &[&Section]) -> usize
-    requires { at + length (changes_bytes (all_changes (sections_of sections.now))) ≤ length out.old }
-    ensures end { result ≡ at + length (changes_bytes (all_changes (sections_of sections.now))) }
-    ensures bytes { out.new ≡ laid at (changes_bytes (all_changes (sections_of sections.now))) out.old }
+    requires { at + length (bodies sections.now) ≤ length out.old }
+    ensures end { result ≡ at + length (bodies sections.now) }
+    ensures bytes { out.new ≡ laid at (bodies sections.now) out.old }
 {
     let mut end = at;
     for section in sections {

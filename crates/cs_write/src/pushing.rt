@@ -1,10 +1,8 @@
 //! Headers and changes as canonical bytes. Each of these adds to the end of `out`; an `Err` may leave part of it there.
 
-ghost use Rattle.std.specs.Prelude.{◌≡◌, ◌++◌, ◌<◌, ◌^◌, OnOk, length};
-ghost use Rattle.std.specs.List.{flat_map};
-ghost use Rattle.cs_model.specs.Text.{op_byte};
-ghost use Rattle.cs_model.specs.Packed.{packed};
-ghost use Rattle.cs_model.specs.PackedChanges.{mark, change_bytes, changes_bytes};
+ghost use Rattle.std.specs.Prelude.{◌<◌};
+ghost use Rattle.cs_model.specs.Bytes.{AddsBytes};
+ghost use Rattle.cs_model.specs.PackedChanges.{changes_bytes};
 ghost use Rattle.cs_write.specs.Text.{header_text};
 
 use cs_model::{Changes, Shape, varint_push};
@@ -12,7 +10,7 @@ use std::alloc::AllocError;
 
 /// A header.
 pub fn push_header(out: &mut Vec<u8>, shape: &Shape) -> Result<(), AllocError>
-    ensures ok { OnOk result (out.new.items ≡ out.old.items ++ header_text shape.now) }
+    ensures ok { AddsBytes result out.old out.new (header_text shape.now) }
 {
     let flags: &[u8] = &shape.flags;
     out.push(b'T')?;
@@ -25,7 +23,7 @@ pub fn push_header(out: &mut Vec<u8>, shape: &Shape) -> Result<(), AllocError>
 
 /// Changes, one after another, in one copy.
 pub fn push_changes(out: &mut Vec<u8>, changes: &Changes) -> Result<(), AllocError>
-    ensures ok { OnOk result (out.new.items ≡ out.old.items ++ changes_bytes changes.now.1) }
+    ensures ok { AddsBytes result out.old out.new (changes_bytes changes.now.1) }
 {
     out.extend_from_slice(changes.bytes())
 }

@@ -1,13 +1,12 @@
 //! The canonical text.
 
-ghost use Rattle.std.specs.Prelude.{◌≡◌, ◌++◌, ◌≤◌, ◌^◌, length, IfOk, OnErr, OnOk};
-ghost use Rattle.cs_model.specs.Changeset.{all_changes};
+ghost use Rattle.std.specs.Prelude.{◌≡◌, ◌≤◌, ◌^◌, length, IfOk, OnErr, OnOk};
+ghost use Rattle.cs_model.specs.Bytes.{AddsBytes};
 ghost use Rattle.cs_write.specs.Buffer.{given};
 ghost use Rattle.cs_write.specs.Lengths.{held};
-ghost use Rattle.cs_model.specs.PackedChanges.{changes_bytes};
 ghost use Rattle.cs_write.specs.Text.{text_of};
 ghost use Rattle.cs_write.specs.Groups.{group_text, groups_text};
-ghost use Rattle.cs_write.specs.Seen.{seen, sections_of};
+ghost use Rattle.cs_write.specs.Seen.{bodies, seen, sections_of};
 
 use crate::groups::{Groups, any_change, groups_of};
 use crate::length::{changes_len, header_len, plus};
@@ -19,7 +18,7 @@ use std::alloc::{AllocError, Global};
 
 // how many bytes the changes of these sections have
 fn sections_len(sections: &[&Section]) -> Option<usize>
-    ensures { result ≡ held (length (changes_bytes (all_changes (sections_of sections.now)))) }
+    ensures { result ≡ held (length (bodies sections.now)) }
 {
     let mut len = Some(0);
     for section in sections {
@@ -51,7 +50,7 @@ fn groups_len(groups: &Groups) -> Option<usize>
 
 // the changes of these sections
 fn push_sections(out: &mut Vec<u8>, sections: &[&Section]) -> Result<(), AllocError>
-    ensures ok { OnOk result (out.new.items ≡ out.old.items ++ changes_bytes (all_changes (sections_of sections.now))) }
+    ensures ok { AddsBytes result out.old out.new (bodies sections.now) }
 {
     for section in sections {
         push_changes(out, section.changes())?;
@@ -61,7 +60,8 @@ fn push_sections(out: &mut Vec<u8>, sections: &[&Section]) -> Result<(), AllocEr
 
 // a group, where it has a change
 fn push_group(out: &mut Vec<u8>, shape: &Shape, sections: &[&Section]) -> Result<(), AllocError>
-    ensures ok { OnOk result (out.new.items ≡ out.old.items ++ group_text (shape.now, sections_of sections.now)) }
+    ensures ok { AddsBytes result out.old out.new
+        (group_text (shape.now, sections_of sections.now)) }
 {
     if !any_change(sections) {
         return Ok(());

@@ -1,5 +1,6 @@
 -- The ranges of a world's limits.
 use Rattle.std.specs.Prelude.{ℕ, Bool, ◌&&◌, not, nat_le, Option, Some, None, if◌then◌else◌}
+use Rattle.rb_core.specs.declared.config.Config.{Config}
 use Rattle.rb_core.specs.declared.config.ConfigFault.{ConfigFault}
 use Rattle.rb_core.specs.declared.config.ConfigFault.TheVariants.{Batch, Window, Timeout, Capacity, Intake, Appliers}
 
@@ -17,3 +18,7 @@ first_out_of_range batch window timeout capacity intake appliers =
     else if not (is_in 4096 intake) then Some Intake
     else if not (is_in 16 appliers) then Some Appliers
     else None
+
+-- the same of limits that stand together
+abbrev pub first_fault : Config → Option ConfigFault
+first_fault c = first_out_of_range c.batch c.window c.timeout c.capacity c.intake c.appliers

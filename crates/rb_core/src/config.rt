@@ -1,7 +1,7 @@
 //! The limits of a world.
 
-ghost use Rattle.std.specs.Prelude.{◌≡◌, IfOk, IfErr, IsOk, Ok, Err};
-ghost use Rattle.rb_core.specs.Limits.{is_in, first_out_of_range};
+ghost use Rattle.std.specs.Prelude.{◌≡◌, IfOk, IfErr, Ok, Err};
+ghost use Rattle.rb_core.specs.Limits.{is_in, first_out_of_range, first_fault};
 
 use thiserror::Error;
 
@@ -49,9 +49,17 @@ impl Config {
         intake: u64,
         appliers: u64,
     ) -> Result<Config, ConfigFault>
-        ensures ok { IfOk result (λ config. (config ≡ record { batch = batch; window = window; timeout = timeout; capacity = capacity; intake = intake; appliers = appliers })
+        ensures ok { IfOk result (λ config. (config ≡ record {
+          batch = batch;
+          window = window;
+          timeout = timeout;
+          capacity = capacity;
+          intake = intake;
+          appliers = appliers;
+        })
             × (first_out_of_range batch window timeout capacity intake appliers ≡ None)) }
-        ensures refused { IfErr result (λ fault. first_out_of_range batch window timeout capacity intake appliers ≡ Some fault) }
+        ensures refused { IfErr result (λ fault.
+            first_out_of_range batch window timeout capacity intake appliers ≡ Some fault) }
     {
         let config = Config {
             batch,
@@ -70,8 +78,15 @@ impl Config {
     /// The limits where none are asked for: batch 16, window 4, timeout 10, capacity 65,536, intake 64 and one
     /// applier.
     pub fn standard() -> Config
-        ensures value { result ≡ record { batch = 16; window = 4; timeout = 10; capacity = 65536; intake = 64; appliers = 1 } }
-        ensures valid { first_out_of_range result.batch result.window result.timeout result.capacity result.intake result.appliers ≡ None }
+        ensures value { result ≡ record {
+          batch = 16;
+          window = 4;
+          timeout = 10;
+          capacity = 65536;
+          intake = 64;
+          appliers = 1;
+        } }
+        ensures valid { first_fault result ≡ None }
     {
         Config {
             batch: 16,
@@ -84,7 +99,7 @@ impl Config {
     }
 
     fn first_fault(&self) -> Option<ConfigFault>
-        ensures { result ≡ first_out_of_range self.now.batch self.now.window self.now.timeout self.now.capacity self.now.intake self.now.appliers }
+        ensures { result ≡ first_fault self.now }
     {
         if !within(self.batch, 256) {
             Some(ConfigFault::Batch)

@@ -15,20 +15,24 @@ use cs_parse::laws::{feeding_tells_faults, reading_is_spelling, refusing_is_faul
 
 /// In every run from an empty world the numbers that a subscription accepted rise strictly.
 pub fn accepted_numbers_rise()
-    ensures { (config : Config) (schema : List Shape) (events : List Event) (answers : List Answer) (new : State) (s : ℕ)
+    ensures { (config : Config) (schema : List Shape) (events : List Event)
+        (answers : List Answer) (new : State) (s : ℕ)
         → Run (empty_world config schema) events answers new → RiseAbove 0 (accepted_by s answers) }
 {}
 
 /// In every run of events that feed bytes, from an empty world, each publisher's stream is of bytes. So each of its steps tells
 /// faults and changesets as `Step` says of such streams.
 pub fn streams_are_bytes()
-    ensures { (config : Config) (schema : List Shape) (events : List Event) (answers : List Answer) (new : State)
-        → AllByRecursion FeedsBytes events → Run (empty_world config schema) events answers new → AllByRecursion HasBytes new.publishers }
+    ensures { (config : Config) (schema : List Shape) (events : List Event)
+        (answers : List Answer) (new : State)
+        → AllByRecursion FeedsBytes events → Run (empty_world config schema) events answers new
+        → AllByRecursion HasBytes new.publishers }
 {}
 
 /// What an event does, as a function, is one of the steps that the relation allows.
 pub fn outcome_is_step()
-    ensures { (old : State) (event : Event) (given : Reply) (new : State) → outcome old event ≡ (given, new) → Step old event given new }
+    ensures { (old : State) (event : Event) (given : Reply) (new : State)
+        → outcome old event ≡ (given, new) → Step old event given new }
 {
     reading_is_spelling();
     refusing_is_fault();

@@ -38,7 +38,8 @@ impl World {
         publisher: u64,
         bytes: &[u8],
     ) -> Result<Reply, AllocError>
-        ensures ok { IfOk result (λ reply. feed_outcome self.old publisher bytes.now ≡ (reply, self.new)) }
+        ensures ok { IfOk result (λ reply.
+            feed_outcome self.old publisher bytes.now ≡ (reply, self.new)) }
         ensures err { OnErr result (self.new ≡ self.old) }
     {
         let p = publisher as usize;

@@ -98,7 +98,9 @@ fn accept_entry(
     entry: &Entry,
     handed: Handed,
 ) -> Result<Reply, AllocError>
-    ensures ok { IfOk result (λ reply. accepted handed subscription.old (single subscription.old.tables entry.now.body) ≡ (reply, subscription.new)) }
+    ensures ok { IfOk result (λ reply.
+        accepted handed subscription.old (single subscription.old.tables entry.now.body)
+        ≡ (reply, subscription.new)) }
     ensures err { OnErr result (subscription.new ≡ subscription.old) }
 {
     match subscription.tables.apply(alloc, &entry.item().body) {

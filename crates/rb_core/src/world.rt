@@ -1,8 +1,9 @@
 //! The world.
 
-ghost use Rattle.std.specs.Prelude.{◌≡◌, map as list_map, IfOk, OnErr, slice_get, Option};
+ghost use Rattle.std.specs.Prelude.{◌≡◌, IfOk, OnErr, slice_get, Option};
 ghost use Rattle.std.specs.Option.{option_map, option_copied};
 ghost use Rattle.std.specs.FinMap as map;
+ghost use Rattle.cs_apply.specs.Seen.{listed};
 ghost use Rattle.rb_core.specs.State.{empty_world};
 ghost use Rattle.rb_core.specs.Outcome.{outcome, numbered};
 ghost use Rattle.rb_core.specs.Step.{Step};
@@ -120,8 +121,9 @@ impl World {
         alloc: Global,
         subscription: u64,
     ) -> Result<Option<Vec<(&RowKey, &Row)>>, AllocError>
-        ensures { IfOk result (λ rows. option_map (λ v. list_map (λ p. (p.0.now, p.1.now)) v.items) rows
-            ≡ option_map (λ q. map.entries q.tables.rows) (slice_get self.now.subscriptions subscription)) }
+        ensures { IfOk result (λ rows. option_map (λ v. listed v.items) rows
+            ≡ option_map (λ q. map.entries q.tables.rows)
+            (slice_get self.now.subscriptions subscription)) }
     {
         match self.subscriptions.get(subscription as usize) {
             None => Ok(None),

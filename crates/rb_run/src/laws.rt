@@ -12,13 +12,16 @@ use rb_core::laws::accepted_numbers_rise;
 
 /// What is written for a script is the answers to its lines, one after another, the last of which lacks its end.
 pub fn lines_are_answered()
-    ensures { (config : Config) (lines : List (List ℕ)) (last : List ℕ) → AllByRecursion IsLine lines → IsLine last
-        → answers config (ended_lines lines ++ last) ≡ lines_answers config (Tables []) (lines ++ last ∷ []) }
+    ensures { (config : Config) (lines : List (List ℕ)) (last : List ℕ)
+        → AllByRecursion IsLine lines → IsLine last
+        → answers config (ended_lines lines ++ last)
+        ≡ lines_answers config (Tables []) (lines ++ last ∷ []) }
 {}
 
 /// In the answers to the lines of a script the numbers that a subscription accepted rise strictly.
 pub fn accepted_lines_rise()
-    ensures { (config : Config) (lines : List (List ℕ)) (s : ℕ) → RiseAbove 0 (accepted_by s (lines_replies config (Tables []) lines)) }
+    ensures { (config : Config) (lines : List (List ℕ)) (s : ℕ)
+        → RiseAbove 0 (accepted_by s (lines_replies config (Tables []) lines)) }
 {
     accepted_numbers_rise();
 }

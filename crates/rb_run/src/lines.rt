@@ -124,7 +124,8 @@ fn rows(alloc: Global, world: &World, subscription: u64) -> Result<Vec<u8>, Allo
 }
 
 fn table(alloc: Global, stage: Stage, bytes: &[u8]) -> Result<(Vec<u8>, Stage), AllocError>
-    ensures { IfOk result (λ given. with_line_end (table_answer stage bytes.now) ≡ (given.0.items, given.1)) }
+    ensures { IfOk result (λ given. with_line_end (table_answer stage bytes.now)
+        ≡ (given.0.items, given.1)) }
 {
     match stage {
         Stage::Running(world) => Ok((text_line(alloc, "refused Line")?, Stage::Running(world))),
@@ -140,7 +141,9 @@ fn add_table(
     mut schema: Schema,
     shape: Shape,
 ) -> Result<(Vec<u8>, Stage), AllocError>
-    ensures { IfOk result (λ given. with_line_end (table_added schema shape (table_refusal schema shape)) ≡ (given.0.items, given.1)) }
+    ensures { IfOk result (λ given.
+        with_line_end (table_added schema shape (table_refusal schema shape))
+        ≡ (given.0.items, given.1)) }
 {
     let text = match schema.add(shape) {
         Ok(()) => "ok",

@@ -36,7 +36,8 @@ pub fn run_script<R: Read, W: Write>(
     config: Config,
 ) -> Result<(), ScriptFault>
     // What is written is the answers to what is read: to all of it, or, after a fault, as far as the fault lets them be.
-    ensures { Ends config result (R.remaining reader.old) (R.remaining reader.new) (W.contents writer.old) (W.contents writer.new) }
+    ensures { Ends config result (R.remaining reader.old) (R.remaining reader.new)
+        (W.contents writer.old) (W.contents writer.new) }
 {
     let answered = answer_all(alloc, reader, writer, config);
     let handed_on = hand_on(writer);
@@ -53,7 +54,8 @@ fn answer_all<R: Read, W: Write>(
     writer: &mut W,
     config: Config,
 ) -> Result<(), ScriptFault>
-    ensures { Ends config result (R.remaining reader.old) (R.remaining reader.new) (W.contents writer.old) (W.contents writer.new) }
+    ensures { Ends config result (R.remaining reader.old) (R.remaining reader.new)
+        (W.contents writer.old) (W.contents writer.new) }
 {
     let mut buffer = zeros(alloc, PIECE)?;
     let piece = buffer.as_mut_slice();
@@ -98,7 +100,8 @@ fn read_piece<R: Read>(reader: &mut R, piece: &mut [u8]) -> Result<usize, Script
     requires { 0 < length piece.old }
     ensures length { length piece.new ≡ length piece.old }
     ensures bound { IfOk result (λ n. n ≤ length piece.new) }
-    ensures bytes { IfOk result (λ n. Consumes (R.remaining reader.old) (R.remaining reader.new) (take n piece.new)) }
+    ensures bytes { IfOk result (λ n. Consumes (R.remaining reader.old) (R.remaining reader.new)
+        (take n piece.new)) }
     ensures end { IfOk result (λ n. n ≡ 0 → IsAtEnd (R.remaining reader.new)) }
     ensures err { OnErr result (Keeps (R.remaining reader.old) (R.remaining reader.new)) }
     ensures fault { IfErr result IsOfReader }
@@ -128,9 +131,11 @@ fn feed<W: Write>(
     bytes: &[u8],
     writer: &mut W,
 ) -> Result<(Stage, Vec<u8>), ScriptFault>
-    ensures ok { IfOk result (λ next. Appends (W.contents writer.old) (W.contents writer.new) (written config (place_at stage line.items) bytes.now)
+    ensures ok { IfOk result (λ next. Appends (W.contents writer.old) (W.contents writer.new)
+        (written config (place_at stage line.items) bytes.now)
         × (place_at next.0 next.1.items ≡ after config (place_at stage line.items) bytes.now)) }
-    ensures err { OnErr result (AppendsFront (W.contents writer.old) (W.contents writer.new) (written config (place_at stage line.items) bytes.now)) }
+    ensures err { OnErr result (AppendsFront (W.contents writer.old) (W.contents writer.new)
+        (written config (place_at stage line.items) bytes.now)) }
     ensures faults { IfErr result IsOfAnswers }
 {
     let mut stage = stage;
@@ -164,9 +169,11 @@ fn answer_to<W: Write>(
     line: &[u8],
     writer: &mut W,
 ) -> Result<Stage, ScriptFault>
-    ensures ok { IfOk result (λ next. Appends (W.contents writer.old) (W.contents writer.new) (line_answer config stage line.now).0
+    ensures ok { IfOk result (λ next. Appends (W.contents writer.old) (W.contents writer.new)
+        (line_answer config stage line.now).0
         × (next ≡ (line_answer config stage line.now).1)) }
-    ensures err { OnErr result (AppendsFront (W.contents writer.old) (W.contents writer.new) (line_answer config stage line.now).0) }
+    ensures err { OnErr result (AppendsFront (W.contents writer.old) (W.contents writer.new)
+        (line_answer config stage line.now).0) }
     ensures faults { IfErr result IsOfAnswers }
 {
     let (text, next) = answer(alloc, config, stage, line)?;

@@ -1,7 +1,7 @@
 //! Answers as text.
 
-ghost use Rattle.std.specs.Prelude.{◌≡◌, ◌++◌, IfOk, OnOk, codes, length, map as list_map, string_bytes};
-ghost use Rattle.std.specs.List.{flat_map};
+ghost use Rattle.std.specs.Prelude.{◌≡◌, ◌++◌, IfOk, OnOk, string_bytes};
+ghost use Rattle.cs_apply.specs.Seen.{listed};
 ghost use Rattle.cs_model.specs.Seen.{field_seen};
 ghost use Rattle.rb_run.specs.Texts.{kind_name, refusal_text, reply_text, bytes_word, entry_text, field_text, row_text, rows_text};
 
@@ -115,7 +115,7 @@ fn add_word(alloc: Global, text: &mut Vec<u8>, bytes: &[u8]) -> Result<(), Alloc
 /// The text of rows with their keys: how many, and each on a line of its own. `AllocError` where memory runs
 /// out.
 pub fn text_of_rows(alloc: Global, rows: &[(&RowKey, &Row)]) -> Result<Vec<u8>, AllocError>
-    ensures { IfOk result (λ text. text.items ≡ rows_text (list_map (λ p. (p.0.now, p.1.now)) rows.now)) }
+    ensures { IfOk result (λ text. text.items ≡ rows_text (listed rows.now)) }
 {
     let count = rows.len();
     let mut text = Vec::new(alloc);

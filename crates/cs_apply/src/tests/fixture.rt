@@ -60,7 +60,8 @@ fn record(alloc: Global, key: Field, v: Field, w: Field) -> Result<Seq<Field>, A
 
 // The record of a whole row.
 fn whole(alloc: Global, key: i64, v: u8, w: u8) -> Result<Seq<Field>, AllocError>
-    ensures { IfOk result (λ fields. fields ≡ Is (Integer key) ∷ Is (Text (v ∷ [])) ∷ Is (Text (w ∷ [])) ∷ []) }
+    ensures { IfOk result (λ fields. fields
+        ≡ Is (Integer key) ∷ Is (Text (v ∷ [])) ∷ Is (Text (w ∷ [])) ∷ []) }
 {
     let v = text(alloc, v)?;
     let w = text(alloc, w)?;

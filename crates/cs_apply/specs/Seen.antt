@@ -1,0 +1,8 @@
+-- Keys and rows where they stand, seen as keys and rows.
+use Rattle.std.specs.Prelude.{List, map}
+use Rattle.std.specs.Borrow.{Bor}
+use Rattle.cs_model.specs.declared.value.Value.{Value}
+use Rattle.cs_model.specs.declared.row_key.RowKey.{RowKey}
+
+abbrev pub listed : List (Bor RowKey × Bor (List Value)) → List (RowKey × List Value)
+listed rows = map (λ p. (p.0.now, p.1.now)) rows
