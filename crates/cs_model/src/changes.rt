@@ -8,7 +8,7 @@ ghost use Rattle.std.specs.List.{AllByRecursion};
 ghost use Rattle.cs_model.specs.Bytes.{AddsBytes};
 ghost use Rattle.cs_model.specs.Text.{op_byte};
 ghost use Rattle.cs_model.specs.Packed.{Fits};
-ghost use Rattle.cs_model.specs.PackedChanges.{mark, change_bytes, changes_bytes, changes_parts, change_of, Long, Fit, unpacked_changes};
+ghost use Rattle.cs_model.specs.PackedChanges.{mark, change_bytes, changes_bytes, changes_parts, change_of, Long, Fit, unpacked_changes, AreCanonical};
 ghost use Rattle.cs_model.specs.Schema.{same_bytes};
 
 use crate::canonical::text_push;
@@ -106,6 +106,19 @@ impl Changes {
     {
         let count = text_push(&mut self.bytes, self.columns, text)?;
         self.count += count;
+        Ok(())
+    }
+
+    /// The same, of a text that is known to be canonical and to have so many changes: one copy, without a look at its bytes.
+    pub fn append_canonical(&mut self, text: &[u8], changes: usize) -> Result<(), AllocError>
+        requires canonical { AreCanonical self.old.0 text.now }
+        requires count { changes ≡ length (unpacked_changes self.old.0 text.now) }
+        ensures columns { self.new.0 ≡ self.old.0 }
+        ensures ok { OnOk result (self.new.1 ≡ self.old.1 ++ unpacked_changes self.old.0 text.now) }
+        ensures err { OnErr result (self.new.1 ≡ self.old.1) }
+    {
+        self.bytes.extend_from_slice(text)?;
+        self.count += changes;
         Ok(())
     }
 

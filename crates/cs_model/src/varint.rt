@@ -55,7 +55,7 @@ pub fn varint_push(out: &mut Vec<u8>, value: u64) -> Result<(), AllocError>
 }
 
 /// The bytes behind the shortest varint of `value`, where `bytes` begin with it.
-pub(crate) fn varint_strip(bytes: &[u8], value: u64) -> Option<&[u8]>
+pub fn varint_strip(bytes: &[u8], value: u64) -> Option<&[u8]>
     ensures { IfSome result (λ rest. bytes.now ≡ varint value ++ rest.now) }
 {
     let (text, start) = varint_of(value);

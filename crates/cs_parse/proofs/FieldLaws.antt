@@ -75,7 +75,7 @@ follows (PairedWith (Is old)) (Is value) h = refl
 abbrev Reads : Rule → List ℕ → Field × List ℕ → Type 0
 Reads rule bytes x = Takes SpellsField bytes x × IsField x.0 × (meets rule x.0 ≡ true)
 
-typed_takes : (rule : Rule) (byte : ℕ) (rest : List ℕ) (x : Field × List ℕ) → AreBytes rest → type_refusal rule byte ≡ None → typed_at byte rest ≡ Ok x → Reads rule (byte ∷ rest) x
+pub typed_takes : (rule : Rule) (byte : ℕ) (rest : List ℕ) (x : Field × List ℕ) → AreBytes rest → type_refusal rule byte ≡ None → typed_at byte rest ≡ Ok x → Reads rule (byte ∷ rest) x
 unfolding typed_at
 typed_takes rule zero rest x fits none e =
     subst (λ (y : Field × List ℕ). Reads rule (0 ∷ rest) y) (ok_is (Undefined, rest) x e) (record { text = 0 ∷ []; parts = refl; spelled = refl }, tt, follows rule Undefined none)

@@ -19,6 +19,7 @@ pub mod ExactMany
 pub mod TextLaws
 pub mod Skims
 pub mod Counts
+pub mod CanonicalLaws
 pub mod Fronts
 pub mod ExactSections
 pub mod ExactText

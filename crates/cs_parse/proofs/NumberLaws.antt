@@ -24,7 +24,7 @@ within_ok least most kind n rest x e =
     let tests = or_parts (ltb n least) (ltb most n) g.0 in
     (ok_is (n, rest) x g.1, ltb-false n least tests.0, ltb-false most n tests.1)
 
-within_again : (least most : ℕ) (kind : FaultKind) (n : ℕ) (rest : List ℕ) → least ≤ n → n ≤ most → within least most kind n rest ≡ Ok (n, rest)
+pub within_again : (least most : ℕ) (kind : FaultKind) (n : ℕ) (rest : List ℕ) → least ≤ n → n ≤ most → within least most kind n rest ≡ Ok (n, rest)
 within_again least most kind n rest low high = rw (le-ltb n least low, le-ltb most n high) refl
 
 -- a number within its limits, and its spelling

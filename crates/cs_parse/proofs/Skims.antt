@@ -32,10 +32,10 @@ behind_value (Err d) rest h = absurd cc
 
 -- ---- fields
 
-abbrev fields_of : List Rule → Field × List ℕ → Result (List Field × List ℕ) Refusal
+abbrev pub fields_of : List Rule → Field × List ℕ → Result (List Field × List ℕ) Refusal
 fields_of rules first = then_others first.0 (record_at rules first.1)
 
-record_more : (rule : Rule) (rules : List Rule) (bytes : List ℕ) → record_at (rule ∷ rules) bytes ≡ (field_at rule bytes >>= fields_of rules)
+pub record_more : (rule : Rule) (rules : List Rule) (bytes : List ℕ) → record_at (rule ∷ rules) bytes ≡ (field_at rule bytes >>= fields_of rules)
 unfolding record_at
 record_more rule rules bytes = refl
 

@@ -6,4 +6,5 @@ pub mod FieldRules
 pub mod Reading
 pub mod Seen
 pub mod Count
+pub mod Canonical
 pub mod Pieces

@@ -1,17 +1,22 @@
 //! Changes.
 
-ghost use Rattle.std.specs.Prelude.{◌≡◌, ◌==◌, length, if◌then◌else◌, IfOk};
+ghost use Rattle.std.specs.Prelude.{◌≡◌, ◌==◌, ◌∷◌, ◌++◌, length, if◌then◌else◌, IfOk, OnOk, IsTrue};
+ghost use Rattle.std.specs.List.{AllByRecursion};
+ghost use Rattle.cs_model.specs.Text.{op_byte};
+ghost use Rattle.cs_model.specs.PackedChanges.{change_bytes, changes_bytes, Fit, unpacked_changes, AreCanonical};
 ghost use Rattle.cs_parse.specs.declared.fault.FaultKind.TheVariants.{Patchset, BadOperation};
 ghost use Rattle.cs_parse.specs.declared.stop.Refusal.TheVariants.{Bad};
+ghost use Rattle.cs_parse.specs.Canonical.{IsCanonical};
 ghost use Rattle.cs_parse.specs.Count.{behind, counted};
 ghost use Rattle.cs_parse.specs.Reading.{Reads, Gives, op_of, marked_at, change_at, ends_section, changes_at, many_at};
 
+use crate::canonical::both;
 use crate::fault::FaultKind;
 use crate::record::skip_records;
 use crate::stop::{Refusal, Stop};
 use cs_model::laws::{changes_fit, spelled_is_said};
 use cs_model::{Changes, Op};
-use std::alloc::Global;
+use std::alloc::{AllocError, Global};
 
 // the operation of a byte
 fn op_by_byte(byte: u8) -> Option<Op>
@@ -25,15 +30,18 @@ fn op_by_byte(byte: u8) -> Option<Op>
     }
 }
 
-// the bytes behind a change whose operation byte was read
+// The bytes behind a change whose operation byte was read, and whether its own are the canonical ones.
 #[tactic(auto, unfolding(crate::specs::Reading::marked_at))]
-fn skip_marked<'a>(flags: &[u8], op: Op, bytes: &'a [u8]) -> Result<&'a [u8], Refusal>
-    ensures { Reads (λ rest. rest.now) result (behind (marked_at flags.now op bytes.now)) }
+fn skip_marked<'a>(flags: &[u8], op: Op, bytes: &'a [u8]) -> Result<(&'a [u8], bool), Refusal>
+    ensures read { Reads (λ x. x.0.now) result (behind (marked_at flags.now op bytes.now)) }
+    ensures canonical { IfOk result (λ x. IsTrue x.1
+        → IsCanonical change_bytes (op_byte op ∷ bytes.now) (marked_at flags.now op bytes.now)) }
 {
-    let Some((_, rest)) = bytes.split_first() else {
+    let Some((&mark, rest)) = bytes.split_first() else {
         return Err(Refusal::Short);
     };
-    skip_records(flags, op, rest)
+    let (rest, canonical) = skip_records(flags, op, rest)?;
+    Ok((rest, both(mark <= 1, canonical)))
 }
 
 // why no change begins with this byte, which is the first of `left` bytes
@@ -48,10 +56,12 @@ fn no_change(byte: u8, left: usize) -> Refusal
     Refusal::Bad { left, kind }
 }
 
-// the bytes behind a change
+// the bytes behind a change, and whether its own are the canonical ones
 #[tactic(auto, unfolding(crate::specs::Reading::change_at))]
-fn skip_change<'a>(flags: &[u8], bytes: &'a [u8]) -> Result<&'a [u8], Refusal>
-    ensures { Reads (λ rest. rest.now) result (behind (change_at flags.now bytes.now)) }
+fn skip_change<'a>(flags: &[u8], bytes: &'a [u8]) -> Result<(&'a [u8], bool), Refusal>
+    ensures read { Reads (λ x. x.0.now) result (behind (change_at flags.now bytes.now)) }
+    ensures canonical { IfOk result (λ x. IsTrue x.1
+        → IsCanonical change_bytes bytes.now (change_at flags.now bytes.now)) }
 {
     let Some((&byte, rest)) = bytes.split_first() else {
         return Err(Refusal::Short);
@@ -72,21 +82,51 @@ fn is_over(bytes: &[u8]) -> bool
     }
 }
 
-/// How many changes a section has, up to the next header or the end, and the bytes behind them.
-pub fn changes_counted<'a>(flags: &[u8], bytes: &'a [u8]) -> Result<(usize, &'a [u8]), Refusal>
-    ensures { Reads (λ x. (x.0, x.1.now)) result (counted length (changes_at flags.now bytes.now)) }
+/// How many changes a section has, up to the next header or the end, the bytes behind them, and whether their own are the
+/// canonical ones.
+pub fn changes_counted<'a>(
+    flags: &[u8],
+    bytes: &'a [u8],
+) -> Result<(usize, &'a [u8], bool), Refusal>
+    ensures read { Reads (λ x. (x.0, x.1.now)) result (counted length (changes_at flags.now bytes.now)) }
+    ensures canonical { IfOk result (λ x. IsTrue x.2
+        → IsCanonical changes_bytes bytes.now (changes_at flags.now bytes.now)) }
 {
     let mut count: usize = 0;
     let mut rest = bytes;
+    let mut canonical = true;
     // each turn takes a byte at least
     for _ in 0..bytes.len() {
         if is_over(rest) {
             break;
         }
-        rest = skip_change(flags, rest)?;
+        let (after, one) = skip_change(flags, rest)?;
+        canonical = both(canonical, one);
+        rest = after;
         count += 1;
     }
-    Ok((count, rest))
+    Ok((count, rest, canonical))
+}
+
+// Adds the changes that a text says: in one copy where it is known to be canonical, and else respelled.
+fn copy_changes(
+    changes: &mut Changes,
+    text: &[u8],
+    count: usize,
+    canonical: bool,
+) -> Result<(), AllocError>
+    requires fit { AllByRecursion (Fit changes.old.0) (unpacked_changes changes.old.0 text.now) }
+    requires count { count ≡ length (unpacked_changes changes.old.0 text.now) }
+    requires canonical { IsTrue canonical → AreCanonical changes.old.0 text.now }
+    ensures columns { changes.new.0 ≡ changes.old.0 }
+    ensures ok { OnOk result (changes.new.1
+        ≡ changes.old.1 ++ unpacked_changes changes.old.0 text.now) }
+{
+    if canonical {
+        changes.append_canonical(text, count)
+    } else {
+        changes.append_text(text)
+    }
 }
 
 /// A section's changes, up to the next header or the end. Their bytes are gone over first, so that they are copied as a
@@ -99,11 +139,11 @@ pub fn changes_of<'a>(
     ensures read { Gives (λ x. (x.0.1, x.1.now)) result (changes_at flags.now bytes.now) }
     ensures columns { IfOk result (λ x. x.0.0 ≡ length flags.now) }
 {
-    let (_, rest) = changes_counted(flags, bytes)?;
+    let (count, rest, canonical) = changes_counted(flags, bytes)?;
     let (text, _) = bytes.split_at(bytes.len() - rest.len());
     changes_fit();
     spelled_is_said();
     let mut changes = Changes::new(alloc, flags.len());
-    changes.append_text(text)?;
+    copy_changes(&mut changes, text, count, canonical)?;
     Ok((changes, rest))
 }

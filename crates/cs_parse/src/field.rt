@@ -1,56 +1,71 @@
 //! Fields. Their readers are inlined: there is one for each column of each change, and a call costs more than most fields.
 
-ghost use Rattle.std.specs.Prelude.{◌≡◌, length};
+ghost use Rattle.std.specs.Prelude.{◌≡◌, ◌++◌, length, IfOk, IsTrue};
+ghost use Rattle.cs_model.specs.FieldBytes.{field_bytes};
 ghost use Rattle.cs_model.specs.Seen.{field_seen};
+ghost use Rattle.cs_parse.specs.Canonical.{counted_bytes, HasShortest};
 ghost use Rattle.cs_parse.specs.FieldRules.{rule_of};
 ghost use Rattle.cs_parse.specs.Reading.{Reads, counted_at, typed_at, field_at};
 
+use crate::canonical::both;
 use crate::number::{integer_of, length_of};
 use crate::rule::{FieldRule, type_fault};
 use crate::stop::Refusal;
 use cs_model::FieldRef;
 
-// a length, and that many bytes
+// A length, and that many bytes, and whether these are the canonical ones, as those before them are.
 #[tactic(auto, unfolding(crate::specs::Reading::counted_at))]
-fn counted_of(bytes: &[u8]) -> Result<(&[u8], &[u8]), Refusal>
-    ensures { Reads (λ x. (x.0.now, x.1.now)) result (counted_at bytes.now) }
+#[inline(always)]
+fn counted_of(bytes: &[u8], canonical: bool) -> Result<(&[u8], &[u8], bool), Refusal>
+    ensures read { Reads (λ x. (x.0.now, x.1.now)) result (counted_at bytes.now) }
+    ensures canonical { IfOk result (λ x. IsTrue x.2
+        → IsTrue canonical × (bytes.now ≡ counted_bytes x.0.now ++ x.1.now)) }
 {
-    let (len, rest) = length_of(bytes)?;
+    let (len, rest, shortest) = length_of(bytes)?;
     if rest.len() < len {
         return Err(Refusal::Short);
     }
-    Ok(rest.split_at(len))
+    let (value, after) = rest.split_at(len);
+    Ok((value, after, both(canonical, shortest)))
 }
 
-// a field behind its type byte, which isn't refused
+// A field behind its type byte, which isn't refused. Only what has a length can be spelled in several ways.
 #[tactic(auto, unfolding(crate::specs::Reading::typed_at))]
 #[inline(always)]
-fn typed_of(byte: u8, rest: &[u8]) -> Result<(FieldRef, &[u8]), Refusal>
-    ensures { Reads (λ x. (field_seen x.0, x.1.now)) result (typed_at byte rest.now) }
+fn typed_of(byte: u8, rest: &[u8], canonical: bool) -> Result<(FieldRef, &[u8], bool), Refusal>
+    ensures read { Reads (λ x. (field_seen x.0, x.1.now)) result (typed_at byte rest.now) }
+    ensures canonical { IfOk result (λ x. IsTrue x.2
+        → IsTrue canonical × HasShortest (field_seen x.0) rest.now x.1.now) }
 {
     match byte {
-        0 => Ok((FieldRef::Undefined, rest)),
+        0 => Ok((FieldRef::Undefined, rest, canonical)),
         1 => {
             let (number, rest) = integer_of(rest)?;
-            Ok((FieldRef::Integer(number), rest))
+            Ok((FieldRef::Integer(number), rest, canonical))
         }
         3 => {
-            let (bytes, rest) = counted_of(rest)?;
-            Ok((FieldRef::Text(bytes), rest))
+            let (bytes, rest, canonical) = counted_of(rest, canonical)?;
+            Ok((FieldRef::Text(bytes), rest, canonical))
         }
         4 => {
-            let (bytes, rest) = counted_of(rest)?;
-            Ok((FieldRef::Blob(bytes), rest))
+            let (bytes, rest, canonical) = counted_of(rest, canonical)?;
+            Ok((FieldRef::Blob(bytes), rest, canonical))
         }
-        _ => Ok((FieldRef::Null, rest)),
+        _ => Ok((FieldRef::Null, rest, canonical)),
     }
 }
 
-/// A field under a rule, where it stands.
+/// A field under a rule, where it stands, and whether its bytes are the canonical ones, as those before it are.
 #[tactic(auto, unfolding(crate::specs::Reading::field_at))]
 #[inline(always)]
-pub fn field_in(rule: FieldRule, bytes: &[u8]) -> Result<(FieldRef, &[u8]), Refusal>
-    ensures { Reads (λ x. (field_seen x.0, x.1.now)) result (field_at (rule_of rule) bytes.now) }
+pub fn field_in(
+    rule: FieldRule,
+    bytes: &[u8],
+    canonical: bool,
+) -> Result<(FieldRef, &[u8], bool), Refusal>
+    ensures read { Reads (λ x. (field_seen x.0, x.1.now)) result (field_at (rule_of rule) bytes.now) }
+    ensures canonical { IfOk result (λ x. IsTrue x.2
+        → IsTrue canonical × (bytes.now ≡ field_bytes (field_seen x.0) ++ x.1.now)) }
 {
     let Some((&byte, rest)) = bytes.split_first() else {
         return Err(Refusal::Short);
@@ -61,5 +76,5 @@ pub fn field_in(rule: FieldRule, bytes: &[u8]) -> Result<(FieldRef, &[u8]), Refu
             kind,
         });
     }
-    typed_of(byte, rest)
+    typed_of(byte, rest, canonical)
 }

@@ -3,6 +3,7 @@
 //! says; and how a text was cut into pieces makes no difference.
 #![tactic(auto)]
 
+mod canonical;
 mod change;
 mod fault;
 mod field;

@@ -1,11 +1,14 @@
 //! Numbers: varints within limits, and INTEGER values.
 
-ghost use Rattle.std.specs.Prelude.{◌≡◌, ◌≤◌, ◌*◌, length, nat_eq};
+ghost use Rattle.std.specs.Prelude.{◌≡◌, ◌≤◌, ◌*◌, ◌++◌, length, nat_eq, IfOk, IsTrue};
+ghost use Rattle.cs_model.specs.Varint.{varint};
 ghost use Rattle.cs_parse.specs.Place.{factor};
 ghost use Rattle.cs_parse.specs.Reading.{Reads, within, number_at, columns_at, length_at, integer_at};
 
 use crate::fault::FaultKind;
 use crate::stop::Refusal;
+use cs_model::laws::varint_spelled;
+use cs_model::varint_strip;
 
 // a number whose last byte stands before `rest`
 fn limited(
@@ -67,13 +70,31 @@ pub fn columns_of(bytes: &[u8]) -> Result<(usize, &[u8]), Refusal>
     Ok((count as usize, rest))
 }
 
-/// How many bytes a value has, at most 16,777,216.
+/// How many bytes a value has, at most 16,777,216, and whether this is spelled in the fewest bytes.
+#[inline(always)]
+pub fn length_of(bytes: &[u8]) -> Result<(usize, &[u8], bool), Refusal>
+    ensures read { Reads (λ x. (x.0, x.1.now)) result (length_at bytes.now) }
+    ensures canonical { IfOk result (λ x. IsTrue x.2 → bytes.now ≡ varint x.0 ++ x.1.now) }
+{
+    // nearly all lengths take one byte
+    if let Some((&byte, rest)) = bytes.split_first() {
+        if byte < 128 {
+            return Ok((usize::from(byte), rest, true));
+        }
+    }
+    long_length_of(bytes)
+}
+
+// the same, for a length of any number of bytes
 #[tactic(auto, unfolding(crate::specs::Reading::length_at))]
-pub fn length_of(bytes: &[u8]) -> Result<(usize, &[u8]), Refusal>
-    ensures { Reads (λ x. (x.0, x.1.now)) result (length_at bytes.now) }
+fn long_length_of(bytes: &[u8]) -> Result<(usize, &[u8], bool), Refusal>
+    ensures read { Reads (λ x. (x.0, x.1.now)) result (length_at bytes.now) }
+    ensures canonical { IfOk result (λ x. IsTrue x.2 → bytes.now ≡ varint x.0 ++ x.1.now) }
 {
     let (len, rest) = number_of(bytes, 0, 16_777_216, FaultKind::ValueTooLong)?;
-    Ok((len as usize, rest))
+    varint_spelled();
+    let shortest = varint_strip(bytes, len);
+    Ok((len as usize, rest, shortest.is_some()))
 }
 
 /// An INTEGER's eight bytes.

@@ -70,7 +70,8 @@ fn section_counted(bytes: &[u8]) -> Result<(usize, &[u8]), Refusal>
         (counted (λ section. length section.changes) (section_at bytes.now)) }
 {
     let (shape, rest) = shape_in(bytes)?;
-    changes_counted(shape.flags, rest)
+    let (count, rest, _) = changes_counted(shape.flags, rest)?;
+    Ok((count, rest))
 }
 
 /// How many changes a text has, and the bytes behind it, of which there are none.

@@ -1,0 +1,28 @@
+-- Bytes that are the canonical ones of what is read from them.
+use Rattle.std.specs.Prelude.{◌≡◌, ℕ, List, ◌++◌, length, Result, Ok}
+use Rattle.cs_model.specs.Varint.{varint}
+use Rattle.cs_model.specs.declared.value.Value.TheVariants.{Integer, Text, Blob, Null}
+use Rattle.cs_model.specs.declared.value.Field.{Field}
+use Rattle.cs_model.specs.declared.value.Field.TheVariants.{Undefined, Is}
+use Rattle.cs_model.specs.Packed.{packed}
+use Rattle.cs_parse.specs.declared.stop.Refusal.{Refusal}
+
+-- a length in its shortest spelling, and that many bytes
+abbrev pub counted_bytes : List ℕ → List ℕ
+counted_bytes bytes = varint (length bytes) ++ bytes
+
+-- what is behind a type byte begins with the shortest spelling of a TEXT or BLOB; other fields have only one
+abbrev pub HasShortest : Field → List ℕ → List ℕ → Type 0
+HasShortest Undefined bytes rest = Unit {0}
+HasShortest (Is (Integer number)) bytes rest = Unit {0}
+HasShortest (Is (Text value)) bytes rest = bytes ≡ counted_bytes value ++ rest
+HasShortest (Is (Blob value)) bytes rest = bytes ≡ counted_bytes value ++ rest
+HasShortest (Is Null) bytes rest = Unit {0}
+
+-- The bytes begin with the canonical ones of what is read from them, where it is read.
+abbrev pub IsCanonical : {A : Type 0} → (A → List ℕ) → List ℕ → Result (A × List ℕ) Refusal → Type 0
+IsCanonical own bytes read = (x : _ × List ℕ) → read ≡ Ok x → bytes ≡ own x.0 ++ x.1
+
+-- the canonical bytes of a change's two records
+abbrev pub both_packed : List Field × List Field → List ℕ
+both_packed records = packed records.0 ++ packed records.1
