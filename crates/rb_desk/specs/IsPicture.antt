@@ -1,0 +1,90 @@
+-- What a picture keeps.
+use Rattle.std.specs.Prelude.{◌≡◌, ℕ, suc, ◌+◌, ◌<◌, ◌≤◌, Bool, true, false, List, [], ◌∷◌, length, IfSome, Option, Some, None, slice_get, ◌==◌}
+use Rattle.std.specs.List.{filter, AllByRecursion}
+use Rattle.rb_desk.specs.declared.span.Span.{Span}
+use Rattle.rb_desk.specs.declared.span.Status.{Status}
+use Rattle.rb_desk.specs.declared.span.Status.TheVariants.{Ready, InFlight, Settled}
+use Rattle.rb_desk.specs.Limits.{Limits, first_out_of_range}
+use Rattle.rb_desk.specs.Spans.{is_ready, is_fresh, is_out, is_out_as, is_settled, beginning, how_many_out}
+use Rattle.rb_desk.specs.Picture.{Picture, Subscription}
+use Rattle.rb_desk.specs.Calls.{is_span}
+
+-- the limits are in their ranges
+abbrev pub AreInRange : Limits → Type 0
+AreInRange c = first_out_of_range c.batch c.window c.timeout c.capacity c.intake c.appliers ≡ None
+
+-- spans partition the numbers from low to high: each follows the one before it, and each has a number
+abbrev pub Partition : ℕ → List Span → ℕ → Type 0
+Partition low [] high = suc high ≡ low
+Partition low (p ∷ rest) high = (p.first ≡ low) × (p.first ≤ p.last) × Partition (suc p.last) rest high
+
+-- a span has no more than batch numbers; where it was taken, its numbers were offered; where it is out, its delivery's number
+-- was given
+abbrev pub IsOffered : ℕ → ℕ → Span → Type 0
+IsOffered offered next p = (is_fresh p.status ≡ false → p.last ≤ offered) × IsNumbered next p.status
+  where
+    IsNumbered : ℕ → Status → Type 0
+    IsNumbered next (Ready taken) = Unit {0}
+    IsNumbered next (InFlight number moment) = number < next
+    IsNumbered next Settled = Unit {0}
+
+pub record IsGoodSpan (batch offered next : ℕ) (p : Span) : Type 0 where
+  pub short : p.last < p.first + batch
+  pub handed_out : IsOffered offered next p
+
+-- the first span isn't settled
+abbrev pub StartsUnsettled : List Span → Type 0
+StartsUnsettled [] = Unit {0}
+StartsUnsettled (p ∷ rest) = is_settled p.status ≡ false
+
+-- a subscription: the start isn't behind the floor, nor the floor behind what was offered, nor this behind the front; its link
+-- was given; a closed one has no spans, and those of another one partition the numbers from its floor to the front, the first
+-- of them isn't settled, and no more are out than the window holds
+pub record IsGoodSubscription (p : Picture) (q : Subscription) : Type 0 where
+  pub begins : q.start ≤ q.floor
+  pub reaches : q.floor ≤ q.offered
+  pub placed : q.offered ≤ p.front
+  pub linked : q.link < p.next_link
+  pub has_none : q.closed ≡ true → q.spans ≡ []
+  pub parts : q.closed ≡ false → Partition (suc q.floor) q.spans p.front
+  pub unsettled : StartsUnsettled q.spans
+  pub good : AllByRecursion (IsGoodSpan p.limits.batch q.offered p.next_delivery) q.spans
+  pub few : how_many_out q.spans ≤ p.limits.window
+
+-- how often a span stands in an order
+abbrev pub how_often : ℕ → ℕ → List (ℕ × ℕ) → ℕ
+how_often s first order = length (filter (is_span s first) order)
+
+-- 1 where the subscription has a span of that status that begins with this number, else 0
+abbrev pub one_if : Bool → ℕ
+one_if true = 1
+one_if false = 0
+
+abbrev pub span_there : (Status → Bool) → Option Span → ℕ
+span_there test None = 0
+span_there test (Some p) = one_if (test p.status)
+
+abbrev pub stands_there : (Status → Bool) → ℕ → Option Subscription → ℕ
+stands_there test first None = 0
+stands_there test first (Some q) = span_there test (beginning first q.spans)
+
+-- how many subscriptions have this link, and how many spans are out as this delivery
+abbrev pub links_of : ℕ → List Subscription → ℕ
+links_of link subs = length (filter (λ q. q.link == link) subs)
+
+abbrev pub out_in : ℕ → List Subscription → ℕ
+out_in d [] = 0
+out_in d (q ∷ rest) = length (filter (λ p. is_out_as d p.status) q.spans) + out_in d rest
+
+-- A picture: its limits are in their ranges and the front within the capacity; the closing number is the front; each
+-- subscription is good; no two have one link, and no two spans are out as one delivery; a ready span stands once in the ready
+-- order and nothing else does, and a span that is out once in the in-flight order and nothing else does.
+pub record IsPicture (p : Picture) : Type 0 where
+  pub in_range : AreInRange p.limits
+  pub within : p.front ≤ p.limits.capacity
+  pub closed : IfSome p.closing (λ last. last ≡ p.front)
+  pub good : AllByRecursion (IsGoodSubscription p) p.subscriptions
+  pub links : (link : ℕ) → links_of link p.subscriptions ≤ 1
+  pub deliveries : (d : ℕ) → out_in d p.subscriptions ≤ 1
+  pub ready : (s first : ℕ) → how_often s first p.ready ≡ stands_there is_ready first (slice_get p.subscriptions s)
+  pub out : (s first : ℕ) → how_often s first p.in_flight ≡ stands_there is_out first (slice_get p.subscriptions s)

@@ -1,0 +1,124 @@
+-- How a desk keeps the spans of one subscription. Those that were never taken follow from where they begin, since they are what
+-- is left of one cutting, grown by every placement; so only those that were taken are kept, each with its ticket.
+use Rattle.std.specs.Prelude.{◌≡◌, ℕ, suc, ◌≤◌, ◌<◌, Bool, true, false, ◌||◌, ◌&&◌, List, [], ◌∷◌, ◌++◌, map, Option, Some, None, ◌==◌, nat_lt, nat_le, if◌then◌else◌, refl}
+use Rattle.std.specs.Coded.{Coded, code_by, coded×, coded_list, coded_ℕ}
+use Rattle.rb_desk.specs.contracts.ticket.Held as held
+use Rattle.rb_desk.specs.contracts.ticket.Ticket as ticket
+use Rattle.rb_desk.specs.declared.ticket.Ticket.{Ticket}
+use Rattle.rb_desk.specs.declared.ticket.Held.{Held}
+use Rattle.rb_desk.specs.declared.span.Span.{Span}
+use Rattle.rb_desk.specs.declared.span.Status.{Status}
+use Rattle.rb_desk.specs.declared.span.Status.TheVariants.{Ready, Settled}
+use Rattle.rb_desk.specs.Spans.{cut, is_ready, is_settled}
+
+-- A lane: the floor, the spans that were taken before, the number that the first span never taken begins with, and the
+-- ticket of the cutting.
+pub record Kept : Type 0 where
+  pub floor : ℕ
+  pub held : List Held
+  pub next : ℕ
+  pub cutting : Ticket
+
+-- a lane is stored as its parts
+abbrev pub kept_code : Coded Kept
+kept_code =
+    code_by (ℕ × (List Held × (ℕ × Ticket))) (coded× coded_ℕ (coded× (coded_list held.the_row.coded) (coded× coded_ℕ ticket.the_row.coded)))
+    (λ k. (k.floor, (k.held, (k.next, k.cutting)))) (λ p. record { floor = p.0; held = p.1.0; next = p.1.1.0; cutting = p.1.1.1 }) (λ _. refl)
+
+-- a ticket is drawn before another: with a smaller front, or with the same and in an earlier turn
+abbrev pub earlier : Ticket → Ticket → Bool
+earlier a b = nat_lt a.front b.front || ((a.front == b.front) && nat_lt a.turn b.turn)
+
+-- the ticket of a span never taken: the cutting's, where it had numbers then, else that of its first number's placement
+abbrev pub birth : Ticket → ℕ → Ticket
+birth cutting first = if nat_le first cutting.front then cutting else record { front = first; turn = 0 }
+
+abbrev pub with_birth : Ticket → Span → Held
+with_birth cutting p = record { span = p; ticket = birth cutting p.first }
+
+abbrev pub ticketed : Ticket → List Span → List Held
+ticketed cutting = map (with_birth cutting)
+
+-- all spans of a lane, with their tickets, and without them
+abbrev pub lane_held : ℕ → ℕ → Kept → List Held
+lane_held batch front kept = kept.held ++ ticketed kept.cutting (cut batch kept.next front)
+
+abbrev pub spans_of : List Held → List Span
+spans_of = map (λ h. h.span)
+
+abbrev pub lane_spans : ℕ → ℕ → Kept → List Span
+lane_spans batch front kept = spans_of (lane_held batch front kept)
+
+-- the ready one with the first ticket, the first of them where two have the same
+abbrev pub better : Option Held → Option Held → Option Held
+better None b = b
+better (Some a) None = Some a
+better (Some a) (Some b) = if earlier b.ticket a.ticket then Some b else Some a
+
+abbrev pub if_ready : Held → Option Held
+if_ready h = if is_ready h.span.status then Some h else None
+
+abbrev pub least : List Held → Option Held
+least [] = None
+least (h ∷ rest) = better (if_ready h) (least rest)
+
+-- the one that begins with this number becomes so
+abbrev pub stated : ℕ → Status → Ticket → Held → Held
+stated first status ticket h = if h.span.first == first then record { span = record h.span { status = status }; ticket = ticket } else h
+
+abbrev pub restated : ℕ → Status → Ticket → List Held → List Held
+restated first status ticket = map (stated first status ticket)
+
+-- while the first span is settled, the floor rises to its last number and it goes
+abbrev pub risen : ℕ → List Held → ℕ × List Held
+risen floor [] = (floor, [])
+risen floor (h ∷ rest) = if is_settled h.span.status then risen h.span.last rest else (floor, h ∷ rest)
+
+-- the spans follow one another without a gap from this number on, up to the next one
+abbrev pub Joins : ℕ → List Held → ℕ → Type 0
+Joins low [] next = next ≡ low
+Joins low (h ∷ rest) next = (h.span.first ≡ low) × (h.span.first ≤ h.span.last) × Joins (suc h.span.last) rest next
+
+-- a lane's spans follow one another behind its floor
+abbrev pub AreJoined : Kept → Type 0
+AreJoined kept = Joins (suc kept.floor) kept.held kept.next
+
+-- the lane after its subscription cuts behind a cursor
+abbrev pub cut_lane : ℕ → Ticket → Kept
+cut_lane cursor ticket = record { floor = cursor; held = []; next = suc cursor; cutting = ticket }
+
+-- a span that was taken before becomes so; the first one that wasn't does; the floor rises
+abbrev pub restated_lane : Kept → ℕ → Status → Ticket → Kept
+restated_lane kept first status ticket = record kept { held = restated first status ticket kept.held }
+
+abbrev pub pushed_lane : Kept → Span → Status → Kept
+pushed_lane kept span status = record kept { held = kept.held ++ record { span = record span { status = status }; ticket = kept.cutting } ∷ []; next = suc span.last }
+
+abbrev pub raised_lane : Kept → ℕ × List Held → Kept
+raised_lane kept rest = record kept { floor = rest.0; held = rest.1 }
+
+-- after a span was handed over, went back, was settled
+abbrev pub handed_lane : Kept → Span → Status → Kept
+handed_lane kept span status = if span.first == kept.next then pushed_lane kept span status else restated_lane kept span.first status kept.cutting
+
+abbrev pub returned_lane : Kept → ℕ → Ticket → Kept
+returned_lane kept first ticket = restated_lane kept first (Ready true) ticket
+
+abbrev pub settled_lane : Kept → ℕ → Kept
+settled_lane kept first = raised_lane kept (risen kept.floor (restated first Settled kept.cutting kept.held))
+
+-- a batch is of 1 to 256 numbers, and no more than 1,048,576 are placed
+abbrev pub AreLimited : ℕ → ℕ → Type 0
+AreLimited batch front = (1 ≤ batch) × (batch ≤ 256) × (front ≤ 1048576)
+
+-- a span has a number, and its last one has a next one
+abbrev pub IsSpan : Span → Type 0
+IsSpan span = (span.first ≤ span.last) × (span.last < 18446744073709551615)
+
+-- whether a lane has no span
+abbrev pub is_none_left : Kept → ℕ → Bool
+is_none_left kept front = is_none kept.held && nat_lt front kept.next
+  where
+    is_none : List Held → Bool
+    is_none [] = true
+    is_none (h ∷ rest) = false

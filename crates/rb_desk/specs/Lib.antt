@@ -1,0 +1,12 @@
+pub mod Limits
+pub mod Spans
+pub mod Picture
+pub mod Calls
+pub mod Answers
+pub mod Lanes
+pub mod Orders
+pub mod Shown
+pub mod Expiry
+pub mod Steps
+pub mod IsPicture
+pub mod Rows

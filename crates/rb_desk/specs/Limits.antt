@@ -1,0 +1,39 @@
+-- The limits of a broker, and their ranges.
+use Rattle.std.specs.Prelude.{ℕ, Bool, ◌&&◌, not, nat_le, Option, Some, None, if◌then◌else◌, refl}
+use Rattle.std.specs.Coded.{Coded, code_by, coded×, coded_ℕ}
+use Rattle.rb_desk.specs.declared.config.ConfigFault.{ConfigFault}
+use Rattle.rb_desk.specs.declared.config.ConfigFault.TheVariants.{Batch, Window, Timeout, Capacity, Intake, Appliers}
+
+-- The limits: the most numbers in a delivery, the most deliveries in flight to a subscription, after how many moments a
+-- delivery expires, the most entries of the sequence, the most changesets that wait to be placed, how many workers apply
+-- a changeset.
+pub record Limits : Type 0 where
+  pub batch : ℕ
+  pub window : ℕ
+  pub timeout : ℕ
+  pub capacity : ℕ
+  pub intake : ℕ
+  pub appliers : ℕ
+
+-- limits are stored as their numbers
+abbrev pub limits_code : Coded Limits
+limits_code =
+    code_by (ℕ × (ℕ × (ℕ × (ℕ × (ℕ × ℕ))))) (coded× coded_ℕ (coded× coded_ℕ (coded× coded_ℕ (coded× coded_ℕ (coded× coded_ℕ coded_ℕ)))))
+    (λ c. (c.batch, (c.window, (c.timeout, (c.capacity, (c.intake, c.appliers))))))
+    (λ p. record { batch = p.0; window = p.1.0; timeout = p.1.1.0; capacity = p.1.1.1.0; intake = p.1.1.1.1.0; appliers = p.1.1.1.1.1 })
+    (λ _. refl)
+
+-- whether a number is at least 1 and at most this
+abbrev pub is_in : ℕ → ℕ → Bool
+is_in most n = nat_le 1 n && nat_le n most
+
+-- the first operand that is out of its range
+abbrev pub first_out_of_range : ℕ → ℕ → ℕ → ℕ → ℕ → ℕ → Option ConfigFault
+first_out_of_range batch window timeout capacity intake appliers =
+    if not (is_in 256 batch) then Some Batch
+    else if not (is_in 64 window) then Some Window
+    else if not (is_in 1000000000 timeout) then Some Timeout
+    else if not (is_in 1048576 capacity) then Some Capacity
+    else if not (is_in 4096 intake) then Some Intake
+    else if not (is_in 16 appliers) then Some Appliers
+    else None

@@ -1,0 +1,79 @@
+-- Worked rows, read off the definitions: what calls answer one after another.
+use Rattle.std.specs.Prelude.{◌≡◌, [], ◌∷◌, Ok, Err, refl}
+use Rattle.rb_desk.specs.declared.refusal.Refusal.TheVariants as refusal
+use Rattle.rb_desk.specs.declared.step.Step.TheVariants.{Subscribe, Take, Ack, Nack, Reconnect, Place, Close}
+use Rattle.rb_desk.specs.Limits.{Limits}
+use Rattle.rb_desk.specs.Picture.{Picture}
+use Rattle.rb_desk.specs.Spans.{cut}
+use Rattle.rb_desk.specs.Calls.{subscribe, take, take_any, ack, nack, expire, reconnect, prepare, place, close}
+use Rattle.rb_desk.specs.Steps.{after, replay}
+
+-- batches of one number and two deliveries in flight; batches of up to 256
+abbrev two_in_flight : Limits
+two_in_flight = record { batch = 1; window = 2; timeout = 10; capacity = 9; intake = 1; appliers = 1 }
+
+abbrev large_batches : Limits
+large_batches = record { batch = 256; window = 4; timeout = 10; capacity = 9; intake = 1; appliers = 1 }
+
+-- three numbers are placed, and two are taken
+abbrev two_taken : Picture
+two_taken = replay two_in_flight (Subscribe 0 ∷ Place ∷ Place ∷ Place ∷ Take 0 1 0 0 ∷ Take 0 1 0 0 ∷ [])
+
+-- the window is full; an ack asks that all is accepted, and one of the second delivery doesn't raise the floor past the first
+pub window : (take two_taken 0 1 0 0).0 ≡ Err refusal.WindowFull
+unfolding subscribe take prepare place after cut
+window = refl
+
+pub not_accepted : (ack two_taken 0 1 1 0).0 ≡ Err (refusal.NotAccepted 0)
+unfolding subscribe take ack prepare place after cut
+not_accepted = refl
+
+pub floor_stays : (ack two_taken 0 1 2 2).0 ≡ Ok 0
+unfolding subscribe take ack prepare place after cut
+floor_stays = refl
+
+pub floor_rises : (ack (after two_taken (Ack 0 1 2 2)) 0 1 1 2).0 ≡ Ok 2
+unfolding subscribe take ack prepare place after cut
+floor_rises = refl
+
+-- what went back waits behind the rest
+pub behind_the_rest : (take_any (after two_taken (Nack 0 1 2)) 0).0 ≡ Ok (record { number = 3; sub = 0; link = 1; first = 3; last = 3 })
+unfolding subscribe take take_any nack prepare place after cut
+behind_the_rest = refl
+
+-- a delivery expires at its moment, and not before
+abbrev one_taken : Picture
+one_taken = replay large_batches (Subscribe 0 ∷ Place ∷ Take 0 1 0 5 ∷ [])
+
+pub not_due : (expire one_taken 14).0 ≡ 0
+unfolding subscribe take expire prepare place after cut
+not_due = refl
+
+pub due : (expire one_taken 15).0 ≡ 1
+unfolding subscribe take expire prepare place after cut
+due = refl
+
+-- a span that was taken isn't lengthened, and a reconnect cuts anew
+abbrev taken_and_placed : Picture
+taken_and_placed = replay large_batches (Subscribe 0 ∷ Place ∷ Take 0 1 0 0 ∷ Place ∷ Place ∷ [])
+
+pub not_lengthened : (take taken_and_placed 0 1 0 0).0 ≡ Ok (record { number = 2; sub = 0; link = 1; first = 2; last = 3 })
+unfolding subscribe take prepare place after cut
+not_lengthened = refl
+
+pub cut_anew : (take (after taken_and_placed (Reconnect 0 0)) 0 2 0 0).0 ≡ Ok (record { number = 2; sub = 0; link = 2; first = 1; last = 3 })
+unfolding subscribe take reconnect prepare place after cut
+cut_anew = refl
+
+pub stale : (take (after taken_and_placed (Reconnect 0 0)) 0 1 0 0).0 ≡ Err refusal.StaleLink
+unfolding subscribe take reconnect prepare place after cut
+stale = refl
+
+-- after a close what is placed can still be taken; then the subscription is drained
+pub goes_on : (take (replay large_batches (Subscribe 0 ∷ Place ∷ Close ∷ [])) 0 1 0 0).0 ≡ Ok (record { number = 1; sub = 0; link = 1; first = 1; last = 1 })
+unfolding subscribe take prepare place close after cut
+goes_on = refl
+
+pub drained : (take (replay large_batches (Subscribe 0 ∷ Place ∷ Close ∷ Take 0 1 0 0 ∷ Ack 0 1 1 1 ∷ [])) 0 1 1 0).0 ≡ Err (refusal.Drained 1)
+unfolding subscribe take ack prepare place close after cut
+drained = refl

@@ -1,0 +1,130 @@
+-- The picture that a desk shows, and what its fields keep.
+use Rattle.std.specs.Prelude.{◌≡◌, ℕ, suc, ◌+◌, ◌<◌, ◌≤◌, max, Bool, true, false, not, ◌&&◌, ◌==◌, nat_lt, None, List, [], ◌∷◌, ◌++◌, map, ◌⊎◌, Option, Some, slice_get, if◌then◌else◌}
+use Rattle.std.specs.List.{AllByRecursion}
+use Rattle.std.specs.Option.{option_map}
+use Rattle.rb_desk.specs.declared.ticket.Ticket.{Ticket}
+use Rattle.rb_desk.specs.declared.ticket.Held.{Held}
+use Rattle.rb_desk.specs.declared.span.Span.{Span}
+use Rattle.rb_desk.specs.declared.span.Status.{Status}
+use Rattle.rb_desk.specs.declared.span.Status.TheVariants.{Ready, InFlight, Settled}
+use Rattle.rb_desk.specs.declared.refusal.Refusal.{Refusal}
+use Rattle.rb_desk.specs.declared.refusal.Refusal.TheVariants.{Empty, Drained}
+use Rattle.rb_desk.specs.declared.sub.Sub.{Sub}
+use Rattle.rb_desk.specs.Spans.{cut, is_fresh, is_ready, how_many_out, out_as}
+use Rattle.rb_desk.specs.Lanes.{AreJoined, earlier, least, cut_lane, handed_lane, returned_lane, settled_lane, Kept, lane_held, spans_of}
+use Rattle.rb_desk.specs.Orders.{order, ready_at, out_at}
+use Rattle.rb_desk.specs.Limits.{Limits}
+use Rattle.rb_desk.specs.Picture.{Picture, Subscription}
+
+-- the spans of a subscription: a closed one has none
+abbrev pub sub_held : ℕ → ℕ → Sub → List Held
+sub_held batch front sub = if sub.closed then [] else lane_held batch front sub.lane
+
+abbrev pub shown_sub : ℕ → ℕ → Sub → Subscription
+shown_sub batch front sub = record {
+  start = sub.start;
+  floor = sub.lane.floor;
+  offered = sub.offered;
+  link = sub.link;
+  closed = sub.closed;
+  spans = spans_of (sub_held batch front sub);
+}
+
+abbrev pub shown : Limits → ℕ → Option ℕ → ℕ → ℕ → ℕ → List Sub → Picture
+shown limits front closing clock next_link next_delivery subs = record {
+  limits = limits;
+  front = front;
+  closing = closing;
+  clock = clock;
+  next_link = next_link;
+  next_delivery = next_delivery;
+  subscriptions = map (shown_sub limits.batch front) subs;
+  ready = order ready_at (map (sub_held limits.batch front) subs);
+  in_flight = order out_at (map (sub_held limits.batch front) subs);
+}
+
+-- the limits are in their ranges, and the front within the capacity
+abbrev pub IsWithin : Limits → ℕ → Type 0
+IsWithin limits front = (1 ≤ limits.batch) × (limits.batch ≤ 256) × (limits.capacity ≤ 1048576) × (front ≤ limits.capacity)
+
+-- a ticket was drawn by now: no later front, no later turn
+abbrev pub IsDrawn : ℕ → ℕ → Ticket → Type 0
+IsDrawn front turn ticket = (ticket.front ≤ front) × (ticket.turn ≤ turn)
+
+-- a delivery's number was given
+abbrev pub IsGiven : ℕ → Status → Type 0
+IsGiven next (Ready taken) = Unit {0}
+IsGiven next (InFlight number moment) = number < next
+IsGiven next Settled = Unit {0}
+
+-- the numbers of those that are out were given, and there are turns for as many numbers
+abbrev pub AreGiven : ℕ → ℕ → List Held → Type 0
+AreGiven next turn held = AllByRecursion (λ h. IsGiven next h.span.status) held × (turn + next < 18446744073709551616)
+
+-- a span that is kept was taken before; its ticket was drawn, and its delivery's number given
+abbrev pub IsKnown : ℕ → ℕ → ℕ → Held → Type 0
+IsKnown front turn next h = (is_fresh h.span.status ≡ false) × IsDrawn front turn h.ticket × IsGiven next h.span.status
+
+-- what a desk keeps of a subscription belongs to its front, its turns and its deliveries
+pub record Belongs (front turn number : ℕ) (sub : Sub) : Type 0 where
+  pub is_offered : sub.offered ≤ front
+  pub is_next : sub.lane.next ≤ suc front
+  pub is_drawn : IsDrawn front turn sub.lane.cutting
+  pub are_known : AllByRecursion (IsKnown front turn number) sub.lane.held
+
+-- ---- what a call makes of a subscription
+
+abbrev pub handed_sub : Sub → Span → ℕ → ℕ → Sub
+handed_sub sub span number clock = record sub { offered = max sub.offered span.last; lane = handed_lane sub.lane span (InFlight number clock) }
+
+abbrev pub returned_sub : Sub → ℕ → Ticket → Sub
+returned_sub sub first ticket = record sub { lane = returned_lane sub.lane first ticket }
+
+abbrev pub settled_sub : Sub → ℕ → Sub
+settled_sub sub first = record sub { lane = settled_lane sub.lane first }
+
+abbrev pub new_sub : ℕ → ℕ → Ticket → Sub
+new_sub start link ticket = record { start = start; offered = start; link = link; closed = false; lane = cut_lane start ticket }
+
+abbrev pub reconnected_sub : Sub → ℕ → ℕ → Ticket → Sub
+reconnected_sub sub cursor link ticket = record sub { link = link; lane = cut_lane cursor ticket }
+
+abbrev pub closed_sub : Sub → Sub
+closed_sub sub = record sub { closed = true; lane = cut_lane sub.lane.floor sub.lane.cutting }
+
+-- the span is one that was taken before, and is ready; or the first one that wasn't
+abbrev pub IsHeld : Kept → Span → Type 0
+IsHeld kept span = (front : List Held) × (h : Held) × (back : List Held) × (kept.held ≡ front ++ h ∷ back) × (h.span ≡ span)
+
+abbrev pub MayGo : ℕ → ℕ → Kept → Span → Type 0
+MayGo batch front kept span = (IsHeld kept span × (is_ready span.status ≡ true)) ⊎ (slice_get (cut batch kept.next front) 0 ≡ Some span)
+
+-- why nothing is handed over, by whether a span is left
+abbrev pub why_none : ℕ → Bool → ℕ → Option ℕ → Refusal
+why_none front none_left cursor None = Empty front
+why_none front none_left cursor (Some last) = if none_left && (cursor == last) then Drained last else Empty front
+
+-- the span that is out as this delivery
+abbrev pub sub_out_as : ℕ → Sub → Option Span
+sub_out_as d sub = if sub.closed then None else out_as d (spans_of sub.lane.held)
+
+-- the span of a subscription that may be handed over before its others, and the first of all, with its subscription's number
+abbrev pub next_to_go : ℕ → ℕ → ℕ → Sub → Option Held
+next_to_go window batch front sub =
+    if not sub.closed && nat_lt (how_many_out (spans_of sub.lane.held)) window then least (lane_held batch front sub.lane) else None
+
+abbrev pub span_to_go : ℕ × Held → ℕ × Span
+span_to_go c = (c.0, c.1.span)
+
+abbrev pub ahead : Option (ℕ × Held) → Option (ℕ × Held) → Option (ℕ × Held)
+ahead None b = b
+ahead (Some a) None = Some a
+ahead (Some a) (Some b) = if earlier b.1.ticket a.1.ticket then Some b else Some a
+
+abbrev pub first_to_go : ℕ → ℕ → ℕ → ℕ → List Sub → Option (ℕ × Held)
+first_to_go window batch front s [] = None
+first_to_go window batch front s (sub ∷ rest) = ahead (option_map (λ h. (s, h)) (next_to_go window batch front sub)) (first_to_go window batch front (suc s) rest)
+
+-- the spans of the subscription with this number follow one another
+abbrev pub IsJoinedAt : List Sub → ℕ → Type 0
+IsJoinedAt subs s = (sub : Sub) × (slice_get subs s ≡ Some sub) × AreJoined sub.lane

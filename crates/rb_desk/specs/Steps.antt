@@ -1,0 +1,72 @@
+-- Calls one after another.
+use Rattle.std.specs.Prelude.{ℕ, List, [], ◌∷◌, Option, Some, None, Result, Ok, Err}
+use Rattle.rb_desk.specs.declared.refusal.Refusal.{Refusal}
+use Rattle.rb_desk.specs.declared.delivery.Delivery.{Delivery}
+use Rattle.rb_desk.specs.declared.step.Step.{Step}
+use Rattle.rb_desk.specs.declared.step.Step.TheVariants.{Subscribe, Take, TakeAny, Ack, Nack, Expire, Reconnect, Unsubscribe, Place, Close}
+use Rattle.rb_desk.specs.Limits.{Limits}
+use Rattle.rb_desk.specs.Picture.{Picture, opening}
+use Rattle.rb_desk.specs.Calls.{subscribe, take, take_any, ack, nack, expire, reconnect, unsubscribe, prepare, place, close}
+
+-- a placement that isn't prepared changes nothing
+abbrev pub placed_if : Picture → Result ℕ Refusal → Picture
+placed_if old (Ok number) = place old
+placed_if old (Err why) = old
+
+-- the picture after a step; a refused one changes nothing
+unfoldable pub after : Picture → Step → Picture
+after old (Subscribe start) = (subscribe old start).1
+after old (Take s link cursor now) = (take old s link cursor now).1
+after old (TakeAny now) = (take_any old now).1
+after old (Ack s link delivery cursor) = (ack old s link delivery cursor).1
+after old (Nack s link delivery) = (nack old s link delivery).1
+after old (Expire now) = (expire old now).1
+after old (Reconnect s cursor) = (reconnect old s cursor).1
+after old (Unsubscribe s link) = (unsubscribe old s link).1
+after old Place = placed_if old (prepare old)
+after old Close = (close old).1
+
+-- the picture after a list of steps
+abbrev pub replayed : Picture → List Step → Picture
+replayed p [] = p
+replayed p (step ∷ steps) = replayed (after p step) steps
+
+abbrev pub replay : Limits → List Step → Picture
+replay limits steps = replayed (opening limits) steps
+
+-- the link and the delivery's number that a step gives, where it gives one
+abbrev pub second_of : Result (ℕ × ℕ) Refusal → Option ℕ
+second_of (Ok pair) = Some pair.1
+second_of (Err why) = None
+
+abbrev pub link_of : Result ℕ Refusal → Option ℕ
+link_of (Ok link) = Some link
+link_of (Err why) = None
+
+abbrev pub number_of : Result Delivery Refusal → Option ℕ
+number_of (Ok delivery) = Some delivery.number
+number_of (Err why) = None
+
+abbrev pub link_given : Picture → Step → Option ℕ
+link_given old (Subscribe start) = second_of (subscribe old start).0
+link_given old (Take s link cursor now) = None
+link_given old (TakeAny now) = None
+link_given old (Ack s link delivery cursor) = None
+link_given old (Nack s link delivery) = None
+link_given old (Expire now) = None
+link_given old (Reconnect s cursor) = link_of (reconnect old s cursor).0
+link_given old (Unsubscribe s link) = None
+link_given old Place = None
+link_given old Close = None
+
+abbrev pub number_given : Picture → Step → Option ℕ
+number_given old (Subscribe start) = None
+number_given old (Take s link cursor now) = number_of (take old s link cursor now).0
+number_given old (TakeAny now) = number_of (take_any old now).0
+number_given old (Ack s link delivery cursor) = None
+number_given old (Nack s link delivery) = None
+number_given old (Expire now) = None
+number_given old (Reconnect s cursor) = None
+number_given old (Unsubscribe s link) = None
+number_given old Place = None
+number_given old Close = None

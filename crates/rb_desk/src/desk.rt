@@ -1,0 +1,56 @@
+//! The desk.
+
+ghost use Rattle.std.specs.Prelude.{◌≡◌};
+ghost use Rattle.rb_desk.specs.Picture.{opening};
+
+use crate::config::Config;
+use crate::sub::Sub;
+use std::alloc::Global;
+use std::marker::Model;
+
+/// A desk: which numbers wait for which subscriptions, and which are out. Contracts see its picture.
+#[derive(Debug, Drop)]
+pub struct Desk {
+    pub(crate) config: Config,
+    pub(crate) front: u64,
+    pub(crate) closing: Option<u64>,
+    pub(crate) clock: u64,
+    pub(crate) next_link: u64,
+    pub(crate) next_delivery: u64,
+    // how many tickets were drawn besides those of placements
+    pub(crate) turn: u64,
+    pub(crate) subs: Vec<Sub>,
+}
+
+impl Model for Desk {
+    ghost use Rattle.std.specs.List.{AllByRecursion};
+    ghost use Rattle.rb_desk.specs.Picture.{Picture, picture_code};
+    ghost use Rattle.rb_desk.specs.Shown.{shown, IsWithin, Belongs};
+
+    ghost Value = { Picture };
+
+    ghost coded = { picture_code };
+
+    ghost view = { λ d. shown d.config d.front d.closing d.clock d.next_link d.next_delivery d.subs.items };
+
+    ghost invariant = { λ d. IsWithin d.config d.front
+        × AllByRecursion (Belongs d.front d.turn d.next_delivery) d.subs.items };
+}
+
+impl Desk {
+    /// A desk before any call.
+    pub fn new(alloc: Global, config: Config) -> Desk
+        ensures { result ≡ opening config }
+    {
+        Desk {
+            config,
+            front: 0,
+            closing: None,
+            clock: 0,
+            next_link: 1,
+            next_delivery: 1,
+            turn: 0,
+            subs: Vec::new(alloc),
+        }
+    }
+}

@@ -1,0 +1,223 @@
+//! The spans of one subscription. Only those that were taken before are kept; the others follow from where they begin.
+
+ghost use Rattle.std.specs.Prelude.{◌≡◌, ◌<◌, ◌≤◌, slice_get, OnOk, OnErr};
+ghost use Rattle.rb_desk.specs.declared.span.Status.TheVariants.{InFlight};
+ghost use Rattle.rb_desk.specs.Spans.{cut, first_ready, out_as, how_many_out};
+ghost use Rattle.rb_desk.specs.Lanes.{AreJoined, AreLimited, IsSpan, spans_of, lane_held, lane_spans, is_none_left, least, cut_lane, handed_lane, returned_lane, settled_lane, pushed_lane, restated_lane, raised_lane, risen};
+
+use crate::held;
+use crate::span::{Span, Status};
+use crate::ticket::{Held, Ticket, sooner};
+use std::alloc::{AllocError, Global};
+use std::marker::Model;
+
+/// What a desk keeps of a subscription's spans. Contracts see the floor, the spans that were taken before, where the others begin,
+/// and the ticket of the cutting that they are left of.
+#[derive(Debug, Drop)]
+pub(crate) struct Lane {
+    floor: u64,
+    held: Vec<Held>,
+    next: u64,
+    cutting: Ticket,
+    // how many are out, and the first in line of those that are held: both follow from what is held
+    out: u64,
+    first: Option<Held>,
+}
+
+impl Model for Lane {
+    ghost use Rattle.std.specs.Prelude.{◌≡◌, suc};
+    ghost use Rattle.rb_desk.specs.Lanes.{Kept, kept_code, least, spans_of, Joins};
+    ghost use Rattle.rb_desk.specs.Spans.{how_many_out};
+
+    ghost Value = { Kept };
+
+    ghost coded = { kept_code };
+
+    ghost view = { λ l. record { floor = l.floor; held = l.held.items; next = l.next; cutting = l.cutting } };
+
+    ghost invariant = { λ l. (l.out ≡ how_many_out (spans_of l.held.items))
+        × (l.first ≡ least l.held.items) × Joins (suc l.floor) l.held.items l.next };
+}
+
+impl Lane {
+    ghost use Rattle.rb_desk.specs.Shown.{AreGiven};
+    ghost use Rattle.rb_desk.specs.Expiry.{due_held, expired_lane};
+
+    /// The lane of a subscription that begins, or goes on, behind this number.
+    pub(crate) fn behind(alloc: Global, cursor: u64, cutting: Ticket) -> Lane
+        requires { cursor < 18446744073709551615 }
+        ensures { result ≡ cut_lane cursor cutting }
+    {
+        Lane {
+            floor: cursor,
+            held: Vec::new(alloc),
+            next: cursor + 1,
+            cutting,
+            out: 0,
+            first: None,
+        }
+    }
+
+    /// Up to which number all is settled.
+    pub(crate) fn floor(&self) -> u64
+        ensures value { result ≡ self.now.floor }
+        ensures joined { AreJoined self.now }
+    {
+        self.floor
+    }
+
+    /// How many spans are out.
+    pub(crate) fn out(&self) -> u64
+        ensures { result ≡ how_many_out (spans_of self.now.held) }
+    {
+        self.out
+    }
+
+    /// Whether there is no span.
+    pub(crate) fn is_empty(&self, front: u64) -> bool
+        ensures { result ≡ is_none_left self.now front }
+    {
+        self.held.is_empty() && front < self.next
+    }
+
+    /// The ready span with the least numbers.
+    pub(crate) fn first_ready(&self, batch: u64, front: u64) -> Option<Span>
+        requires { AreLimited batch front }
+        ensures value { result ≡ first_ready (lane_spans batch front self.now) }
+        ensures joined { AreJoined self.now }
+    {
+        match held::first_ready(&self.held) {
+            Some(span) => Some(span),
+            None => self.first_fresh(batch, front),
+        }
+    }
+
+    // the first span that was never taken
+    fn first_fresh(&self, batch: u64, front: u64) -> Option<Span>
+        requires { AreLimited batch front }
+        ensures { result ≡ slice_get (cut batch self.now.next front) 0 }
+    {
+        if front < self.next {
+            return None;
+        }
+        Some(Span {
+            first: self.next,
+            last: (self.next + (batch - 1)).min(front),
+            status: Status::Ready { taken: false },
+        })
+    }
+
+    /// The ready span that is first in line, with its ticket.
+    pub(crate) fn first_in_line(&self, batch: u64, front: u64) -> Option<Held>
+        requires { AreLimited batch front }
+        ensures value { result ≡ least (lane_held batch front self.now) }
+        ensures joined { AreJoined self.now }
+    {
+        let fresh = self.cutting.given_to(self.first_fresh(batch, front));
+        sooner(self.first, fresh)
+    }
+
+    /// The span that is out as this delivery.
+    pub(crate) fn out_as(&self, number: u64) -> Option<Span>
+        ensures value { result ≡ out_as number (spans_of self.now.held) }
+        ensures joined { AreJoined self.now }
+    {
+        held::out_as(&self.held, number)
+    }
+
+    /// Hands a ready span over: it is out as this delivery from this moment on.
+    pub(crate) fn hand(&mut self, span: Span, number: u64, moment: u64) -> Result<(), AllocError>
+        requires { IsSpan span }
+        ensures ok { OnOk result (self.new ≡ handed_lane self.old span (InFlight number moment)) }
+        ensures err { OnErr result (self.new ≡ self.old) }
+    {
+        let status = Status::InFlight { number, moment };
+        if span.first == self.next {
+            return self.push(span, status);
+        }
+        self.restate(span.first, status, self.cutting);
+        Ok(())
+    }
+
+    /// Takes a span back: it is ready, and stands in line with this ticket.
+    pub(crate) fn give_back(&mut self, first: u64, ticket: Ticket)
+        ensures { self.new ≡ returned_lane self.old first ticket }
+    {
+        self.restate(first, Status::Ready { taken: true }, ticket);
+    }
+
+    /// Settles a span, and raises the floor over what is settled in front.
+    pub(crate) fn settle(&mut self, first: u64)
+        ensures { self.new ≡ settled_lane self.old first }
+    {
+        self.restate(first, Status::Settled, self.cutting);
+        self.raise();
+    }
+
+    // the first span that was never taken becomes one that was
+    fn push(&mut self, span: Span, status: Status) -> Result<(), AllocError>
+        requires span { IsSpan span }
+        requires first { span.first ≡ self.old.next }
+        ensures ok { OnOk result (self.new ≡ pushed_lane self.old span status) }
+        ensures err { OnErr result (self.new ≡ self.old) }
+    {
+        let ticket = self.cutting;
+        self.held.push(Held {
+            span: Span { status, ..span },
+            ticket,
+        })?;
+        self.next = span.last + 1;
+        self.out = held::how_many_out(&self.held);
+        self.first = held::first_in_line(&self.held);
+        Ok(())
+    }
+
+    // the span that begins with this number has this status, and this ticket
+    fn restate(&mut self, first: u64, status: Status, ticket: Ticket)
+        ensures { self.new ≡ restated_lane self.old first status ticket }
+    {
+        held::restate(&mut self.held, first, status, ticket);
+        self.out = held::how_many_out(&self.held);
+        self.first = held::first_in_line(&self.held);
+    }
+
+    // the floor rises over what is settled in front
+    fn raise(&mut self)
+        ensures { self.new ≡ raised_lane self.old (risen self.old.floor self.old.held) }
+    {
+        let (floor, gone) = held::risen(self.floor, &self.held);
+        self.floor = floor;
+        held::drop_front(&mut self.held, gone);
+        self.out = held::how_many_out(&self.held);
+        self.first = held::first_in_line(&self.held);
+    }
+
+    /// How many spans are due.
+    pub(crate) fn how_many_due(&self, timeout: u64, clock: u64) -> u64
+        ensures value { result ≡ due_held timeout clock self.now.held }
+        ensures joined { AreJoined self.now }
+    {
+        held::how_many_due(&self.held, timeout, clock)
+    }
+
+    /// The spans that are due are ready again, each with a ticket behind `latest`, by its delivery's number, which is below `next`.
+    pub(crate) fn expire(&mut self, timeout: u64, clock: u64, latest: Ticket, next: u64)
+        requires { AreGiven next latest.turn self.old.held }
+        ensures { self.new ≡ expired_lane timeout clock latest self.old }
+    {
+        held::expire(&mut self.held, timeout, clock, latest, next);
+        self.out = held::how_many_out(&self.held);
+        self.first = held::first_in_line(&self.held);
+    }
+
+    /// Lets all spans go; the floor stays.
+    pub(crate) fn clear(&mut self)
+        ensures lane { self.new ≡ cut_lane self.old.floor self.old.cutting }
+        ensures joined { AreJoined self.old }
+    {
+        self.held.clear();
+        self.next = self.floor + 1;
+        self.out = 0;
+        self.first = None;
+    }
+}

@@ -1,0 +1,27 @@
+//! The desk: who is handed which numbers of a sequence, and when a number is done with. Theorem: each call answers, and leaves,
+//! what `specs/Calls.antt` says of the picture that the desk shows.
+#![tactic(auto)]
+
+mod config;
+mod delivery;
+mod desk;
+mod held;
+mod lane;
+mod placing;
+mod refusal;
+mod settling;
+mod span;
+mod step;
+mod sub;
+mod subscribing;
+mod taking;
+#[cfg(test)]
+mod tests;
+mod ticket;
+
+pub use config::{Config, ConfigFault};
+pub use delivery::Delivery;
+pub use desk::Desk;
+pub use refusal::{DeskError, Refusal};
+pub use span::{Span, Status};
+pub use step::Step;

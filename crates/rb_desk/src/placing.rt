@@ -1,0 +1,69 @@
+//! The front of the sequence: numbers placed, and the end.
+
+ghost use Rattle.std.specs.Prelude.{◌≡◌, length, Ok, IsOk};
+ghost use Rattle.rb_desk.specs.Calls.{prepare, place, close};
+
+use crate::desk::Desk;
+use crate::refusal::Refusal;
+
+impl Desk {
+    /// The number that `place` would give now. It changes nothing.
+    ///
+    /// Refuses `Closed` where the sequence is closed, `SequenceFull` where it has as many entries as it may have.
+    #[tactic(auto, unfolding(crate::specs::Calls::prepare))]
+    pub fn prepare(&self) -> Result<u64, Refusal>
+        ensures { result ≡ prepare self.now }
+    {
+        if self.closing.is_some() {
+            return Err(Refusal::Closed);
+        }
+        if self.front >= self.config.capacity() {
+            return Err(Refusal::SequenceFull);
+        }
+        Ok(self.front + 1)
+    }
+
+    /// Places the next number, which it answers: every open subscription has it from now on. It takes no memory, and asks that
+    /// `prepare` would be Ok, as it is after a `prepare` that was and no call since.
+    pub fn place(&mut self) -> u64
+        requires { IsOk (prepare self.old) }
+        ensures number { prepare self.old ≡ Ok result }
+        ensures picture { self.new ≡ place self.old }
+    {
+        self.front += 1;
+        self.front
+    }
+
+    /// Ends placing. Answers the last number placed, now or by an earlier call. All other calls go on.
+    #[tactic(auto, unfolding(crate::specs::Calls::close))]
+    pub fn close(&mut self) -> u64
+        ensures { close self.old ≡ (result, self.new) }
+    {
+        if let Some(last) = self.closing {
+            return last;
+        }
+        self.closing = Some(self.front);
+        self.front
+    }
+
+    /// The last number placed, 0 before the first.
+    pub fn front(&self) -> u64
+        ensures { result ≡ self.now.front }
+    {
+        self.front
+    }
+
+    /// The closing number, where the sequence is closed: the last number that is placed.
+    pub fn closing(&self) -> Option<u64>
+        ensures { result ≡ self.now.closing }
+    {
+        self.closing
+    }
+
+    /// How many subscriptions were made.
+    pub fn made(&self) -> u64
+        ensures { result ≡ length self.now.subscriptions }
+    {
+        self.subs.len() as u64
+    }
+}

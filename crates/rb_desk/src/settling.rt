@@ -1,0 +1,126 @@
+//! Deliveries that come to an end: acknowledged, given back, expired.
+
+ghost use Rattle.std.specs.Prelude.{◌≡◌, ◌+◌, suc, map, IfOk, OnOk, OnErr};
+ghost use Rattle.std.specs.List.{AllByRecursion};
+ghost use Rattle.rb_desk.specs.Calls.{ack, nack, expire};
+ghost use Rattle.rb_desk.specs.Lanes.{AreJoined};
+ghost use Rattle.rb_desk.specs.Shown.{AreGiven};
+ghost use Rattle.rb_desk.specs.Expiry.{all_due, expired_sub, by_number, turns_from};
+ghost use Rattle.rb_desk.specs.Answers.{Answers};
+
+use crate::desk::Desk;
+use crate::refusal::{DeskError, Refusal};
+use crate::sub::{Sub, numbered};
+use crate::subscribing::after;
+use crate::ticket::Ticket;
+use std::alloc::AllocError;
+
+impl Desk {
+    /// Settles a delivery's numbers, all of which the subscriber has accepted: `cursor` is how far. Answers the floor, up to which
+    /// everything is settled now.
+    ///
+    /// Refuses `NoSuch`, `StaleLink`, `NotInFlight`, `NotAccepted`.
+    #[tactic(auto, unfolding(crate::specs::Calls::ack))]
+    pub fn ack(&mut self, sub: u64, link: u64, delivery: u64, cursor: u64) -> Result<u64, Refusal>
+        ensures { ack self.old sub link delivery cursor ≡ (result, self.new) }
+    {
+        let s = sub as usize;
+        let Some(found) = numbered(&self.subs, sub) else {
+            return Err(Refusal::NoSuch);
+        };
+        if found.link != link {
+            return Err(Refusal::StaleLink);
+        }
+        let Some(span) = found.out_as(delivery) else {
+            return Err(Refusal::NotInFlight);
+        };
+        if cursor < span.last {
+            return Err(Refusal::NotAccepted { cursor });
+        }
+        Ok(self.subs[s].settle(span.first))
+    }
+
+    /// Gives a delivery's numbers back: they are ready again, behind all that is.
+    ///
+    /// Refuses `NoSuch`, `StaleLink`, `NotInFlight`.
+    #[tactic(auto, unfolding(crate::specs::Calls::nack))]
+    pub fn nack(&mut self, sub: u64, link: u64, delivery: u64) -> Result<(), DeskError>
+        ensures { Answers result (nack self.old sub link delivery) self.old self.new }
+    {
+        let s = sub as usize;
+        let Some(found) = numbered(&self.subs, sub) else {
+            return Err(DeskError::Refused(Refusal::NoSuch));
+        };
+        if found.link != link {
+            return Err(DeskError::Refused(Refusal::StaleLink));
+        }
+        let Some(span) = found.out_as(delivery) else {
+            return Err(DeskError::Refused(Refusal::NotInFlight));
+        };
+        let front = self.front;
+        let turn = after(self.turn)?;
+        self.subs[s].give_back(span.first, Ticket { front, turn });
+        self.turn = turn;
+        Ok(())
+    }
+
+    /// Gives all deliveries back that were taken `timeout` moments ago or more, in the order that they were taken in. `now` is a
+    /// moment; the clock is the greatest one handed in so far. Answers how many.
+    ///
+    /// Refuses nothing. `AllocError` where there are no numbers left to give, with the desk as it was.
+    #[tactic(auto, unfolding(crate::specs::Calls::expire))]
+    pub fn expire(&mut self, now: u64) -> Result<u64, AllocError>
+        ensures ok { IfOk result (λ many. expire self.old now ≡ (many, self.new)) }
+        ensures err { OnErr result (self.new ≡ self.old) }
+    {
+        let clock = self.clock.max(now);
+        let timeout = self.config.timeout();
+        let many = how_many_due(&self.subs, timeout, clock)?;
+        let next = self.next_delivery;
+        let turn = turn_behind(self.turn, next)?;
+        let latest = Ticket {
+            front: self.front,
+            turn: self.turn,
+        };
+        expire_all(&mut self.subs, timeout, clock, latest, next);
+        self.clock = clock;
+        self.turn = turn;
+        Ok(many)
+    }
+}
+
+// the turn of the last one of those that the deliveries below a number may take
+fn turn_behind(turn: u64, next: u64) -> Result<u64, AllocError>
+    ensures { IfOk result (λ t. t ≡ turn + next) }
+{
+    match turn.checked_add(next) {
+        Some(turn) => Ok(turn),
+        None => Err(AllocError),
+    }
+}
+
+// how many spans are due
+fn how_many_due(subs: &[Sub], timeout: u64, clock: u64) -> Result<u64, AllocError>
+    ensures value { IfOk result (λ many. many ≡ all_due timeout clock subs.now) }
+    ensures joined { OnOk result (AllByRecursion (λ sub. AreJoined sub.lane) subs.now) }
+{
+    let mut many: u64 = 0;
+    for i in 0..subs.len() {
+        match many.checked_add(subs[i].how_many_due(timeout, clock)) {
+            None => return Err(AllocError),
+            Some(sum) => many = sum,
+        }
+    }
+    Ok(many)
+}
+
+// those that are due are ready again
+fn expire_all(subs: &mut Vec<Sub>, timeout: u64, clock: u64, latest: Ticket, next: u64)
+    requires { AllByRecursion (λ sub. AreGiven next latest.turn sub.lane.held) subs.old.items }
+    ensures { subs.new.items
+        ≡ map (expired_sub timeout clock (by_number (turns_from latest.front latest.turn))) subs.old.items }
+{
+    for i in 0..subs.len() {
+        subs[i].expire(timeout, clock, latest, next);
+    }
+}

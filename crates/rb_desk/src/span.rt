@@ -1,0 +1,92 @@
+//! Spans: numbers of the sequence that are handed to a subscription together.
+
+ghost use Rattle.std.specs.Prelude.{◌≡◌};
+ghost use Rattle.rb_desk.specs.Spans.{is_ready, is_out, is_out_as, is_settled, is_due};
+
+/// The numbers from `first` to `last`, and how it stands with them.
+#[derive(Clone, Copy, Debug, PartialEq, Eq)]
+pub struct Span {
+    /// The first number.
+    pub first: u64,
+    /// The last number, at least the first.
+    pub last: u64,
+    /// How it stands with them.
+    pub status: Status,
+}
+
+/// How it stands with the numbers of a span.
+#[derive(Clone, Copy, Debug, PartialEq, Eq)]
+pub enum Status {
+    /// They wait to be taken. `taken` tells whether they were taken before: such a span is never lengthened.
+    Ready { taken: bool },
+    /// They are out as the delivery of this number, taken at this moment.
+    InFlight { number: u64, moment: u64 },
+    /// They are acknowledged.
+    Settled,
+}
+
+impl Status {
+    /// Whether they wait to be taken.
+    pub fn is_ready(self) -> bool
+        ensures { result ≡ is_ready self }
+    {
+        match self {
+            Status::Ready { taken: _ } => true,
+            Status::InFlight {
+                number: _,
+                moment: _,
+            } => false,
+            Status::Settled => false,
+        }
+    }
+
+    /// Whether they are out as a delivery.
+    pub fn is_out(self) -> bool
+        ensures { result ≡ is_out self }
+    {
+        match self {
+            Status::Ready { taken: _ } => false,
+            Status::InFlight {
+                number: _,
+                moment: _,
+            } => true,
+            Status::Settled => false,
+        }
+    }
+
+    /// Whether they are out as the delivery of this number.
+    pub fn is_out_as(self, delivery: u64) -> bool
+        ensures { result ≡ is_out_as delivery self }
+    {
+        match self {
+            Status::Ready { taken: _ } => false,
+            Status::InFlight { number, moment: _ } => number == delivery,
+            Status::Settled => false,
+        }
+    }
+
+    /// Whether they are acknowledged.
+    pub fn is_settled(self) -> bool
+        ensures { result ≡ is_settled self }
+    {
+        match self {
+            Status::Ready { taken: _ } => false,
+            Status::InFlight {
+                number: _,
+                moment: _,
+            } => false,
+            Status::Settled => true,
+        }
+    }
+
+    /// Whether they are out and were taken `timeout` moments or more before this moment.
+    pub fn is_due(self, timeout: u64, clock: u64) -> bool
+        ensures { result ≡ is_due timeout clock self }
+    {
+        match self {
+            Status::Ready { taken: _ } => false,
+            Status::InFlight { number: _, moment } => timeout <= clock.saturating_sub(moment),
+            Status::Settled => false,
+        }
+    }
+}

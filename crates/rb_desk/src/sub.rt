@@ -1,0 +1,143 @@
+//! Subscriptions of a desk.
+
+ghost use Rattle.std.specs.Prelude.{◌≡◌, ◌≤◌, slice_get, OnSome, OnOk, OnErr};
+ghost use Rattle.std.specs.Option.{option_copied, option_map};
+ghost use Rattle.rb_desk.specs.Lanes.{AreJoined, AreLimited, IsSpan, settled_lane};
+
+use crate::lane::Lane;
+use crate::span::Span;
+use crate::ticket::{Held, Ticket};
+use std::alloc::{AllocError, Global};
+
+/// A subscription: the number behind which it began, the greatest number offered, its present link, whether it is closed, and
+/// its spans.
+#[derive(Debug, Drop)]
+pub(crate) struct Sub {
+    pub(crate) start: u64,
+    pub(crate) offered: u64,
+    pub(crate) link: u64,
+    pub(crate) closed: bool,
+    pub(crate) lane: Lane,
+}
+
+impl Sub {
+    ghost use Rattle.rb_desk.specs.Expiry.{due_in, expired_sub, by_number, turns_from};
+    ghost use Rattle.rb_desk.specs.Shown.{AreGiven, new_sub, next_to_go, sub_out_as, handed_sub, returned_sub, settled_sub, reconnected_sub, closed_sub};
+
+    /// A subscription behind this number, under this link. What is placed behind it is cut with this ticket.
+    pub(crate) fn behind(alloc: Global, start: u64, link: u64, ticket: Ticket) -> Sub
+        requires { start ≤ 1048576 }
+        ensures { result ≡ new_sub start link ticket }
+    {
+        Sub {
+            start,
+            offered: start,
+            link,
+            closed: false,
+            lane: Lane::behind(alloc, start, ticket),
+        }
+    }
+
+    /// Hands a span over, as this delivery from this moment on.
+    pub(crate) fn hand(&mut self, span: Span, number: u64, moment: u64) -> Result<(), AllocError>
+        requires { IsSpan span }
+        ensures ok { OnOk result (self.new ≡ handed_sub self.old span number moment) }
+        ensures err { OnErr result (self.new ≡ self.old) }
+    {
+        self.lane.hand(span, number, moment)?;
+        self.offered = self.offered.max(span.last);
+        Ok(())
+    }
+
+    /// Takes a span back: it is ready, and stands in line with this ticket.
+    pub(crate) fn give_back(&mut self, first: u64, ticket: Ticket)
+        ensures { self.new ≡ returned_sub self.old first ticket }
+    {
+        self.lane.give_back(first, ticket);
+    }
+
+    /// Settles a span. Answers the floor, up to which all is settled now.
+    pub(crate) fn settle(&mut self, first: u64) -> u64
+        ensures sub { self.new ≡ settled_sub self.old first }
+        ensures floor { result ≡ (settled_lane self.old.lane first).floor }
+    {
+        self.lane.settle(first);
+        self.lane.floor()
+    }
+
+    /// The span that is out as this delivery.
+    pub(crate) fn out_as(&self, delivery: u64) -> Option<Span>
+        ensures value { result ≡ sub_out_as delivery self.now }
+        ensures joined { OnSome result (AreJoined self.now.lane) }
+    {
+        if self.closed {
+            return None;
+        }
+        self.lane.out_as(delivery)
+    }
+
+    /// The span that may be handed over before its others, where fewer are out than the window holds, and the subscription's
+    /// number.
+    pub(crate) fn next_to_go(
+        &self,
+        sub: u64,
+        window: u64,
+        batch: u64,
+        front: u64,
+    ) -> Option<(u64, Held)>
+        requires { AreLimited batch front }
+        ensures value { result ≡ option_map (λ h. (sub, h)) (next_to_go window batch front self.now) }
+        ensures joined { OnSome result (AreJoined self.now.lane) }
+    {
+        if self.closed || self.lane.out() >= window {
+            return None;
+        }
+        let held = self.lane.first_in_line(batch, front)?;
+        Some((sub, held))
+    }
+
+    /// How many spans are due.
+    pub(crate) fn how_many_due(&self, timeout: u64, clock: u64) -> u64
+        ensures value { result ≡ due_in timeout clock self.now }
+        ensures joined { AreJoined self.now.lane }
+    {
+        let many = self.lane.how_many_due(timeout, clock);
+        if self.closed {
+            return 0;
+        }
+        many
+    }
+
+    /// The spans that are due are ready again, each with a ticket behind `latest`, by its delivery's number, which is below `next`.
+    pub(crate) fn expire(&mut self, timeout: u64, clock: u64, latest: Ticket, next: u64)
+        requires { AreGiven next latest.turn self.old.lane.held }
+        ensures { self.new ≡ expired_sub timeout clock (by_number (turns_from latest.front latest.turn)) self.old }
+    {
+        self.lane.expire(timeout, clock, latest, next);
+    }
+
+    /// Goes on behind this number, under this link. What is placed behind it is cut with this ticket.
+    pub(crate) fn reconnect(&mut self, alloc: Global, cursor: u64, link: u64, ticket: Ticket)
+        requires { cursor ≤ 1048576 }
+        ensures { self.new ≡ reconnected_sub self.old cursor link ticket }
+    {
+        self.link = link;
+        self.lane = Lane::behind(alloc, cursor, ticket);
+    }
+
+    /// Closes it: all its spans go.
+    pub(crate) fn close(&mut self)
+        ensures sub { self.new ≡ closed_sub self.old }
+        ensures joined { AreJoined self.old.lane }
+    {
+        self.closed = true;
+        self.lane.clear();
+    }
+}
+
+/// The subscription with this number.
+pub(crate) fn numbered(subs: &[Sub], sub: u64) -> Option<&Sub>
+    ensures { option_copied result ≡ slice_get subs.now sub }
+{
+    subs.get(sub as usize)
+}

@@ -1,0 +1,100 @@
+//! Subscriptions: made, gone on with, closed.
+
+ghost use Rattle.std.specs.Prelude.{◌≡◌, suc};
+ghost use Rattle.rb_desk.specs.Calls.{subscribe, reconnect, unsubscribe};
+ghost use Rattle.rb_desk.specs.Answers.{Answers, OnlyMemory};
+
+use crate::desk::Desk;
+use crate::refusal::{DeskError, Refusal};
+use crate::sub::{Sub, numbered};
+use crate::ticket::Ticket;
+use std::alloc::Global;
+
+impl Desk {
+    /// One subscription more, of the numbers behind `start`. Answers its number, counted from 0, and its link.
+    ///
+    /// Refuses `StartAhead` where `start` isn't placed yet, `TooMany` where 1,024 subscriptions were made.
+    #[tactic(auto, unfolding(crate::specs::Calls::subscribe))]
+    pub fn subscribe(&mut self, alloc: Global, start: u64) -> Result<(u64, u64), DeskError>
+        ensures { Answers result (subscribe self.old start) self.old self.new }
+    {
+        let front = self.front;
+        if front < start {
+            return Err(DeskError::Refused(Refusal::StartAhead { front }));
+        }
+        if self.subs.len() >= 1_024 {
+            return Err(DeskError::Refused(Refusal::TooMany));
+        }
+        let sub = self.subs.len() as u64;
+        let link = self.next_link;
+        let next_link = after(link)?;
+        let turn = after(self.turn)?;
+        self.subs.reserve(1)?;
+        let made = Sub::behind(alloc, start, link, Ticket { front, turn });
+        self.subs.push_reserved(made);
+        self.next_link = next_link;
+        self.turn = turn;
+        Ok((sub, link))
+    }
+
+    /// Lets a subscription go on behind `cursor`, up to which it has accepted: what was in flight or waited is cut anew. Answers
+    /// its new link; deliveries under the old one are stale.
+    ///
+    /// Refuses `NoSuch`, `Closed`, and `BadCursor` where the cursor isn't between the floor and what was offered.
+    #[tactic(auto, unfolding(crate::specs::Calls::reconnect))]
+    pub fn reconnect(&mut self, alloc: Global, sub: u64, cursor: u64) -> Result<u64, DeskError>
+        ensures { Answers result (reconnect self.old sub cursor) self.old self.new }
+    {
+        let s = sub as usize;
+        let Some(found) = numbered(&self.subs, sub) else {
+            return Err(DeskError::Refused(Refusal::NoSuch));
+        };
+        if found.closed {
+            return Err(DeskError::Refused(Refusal::Closed));
+        }
+        let floor = found.lane.floor();
+        let offered = found.offered;
+        if cursor < floor || offered < cursor {
+            return Err(DeskError::Refused(Refusal::BadCursor { floor, offered }));
+        }
+        let link = self.next_link;
+        let next_link = after(link)?;
+        let turn = after(self.turn)?;
+        let front = self.front;
+        self.subs[s].reconnect(alloc, cursor, link, Ticket { front, turn });
+        self.next_link = next_link;
+        self.turn = turn;
+        Ok(link)
+    }
+
+    /// Closes a subscription: its spans go, and no call hands it anything more.
+    ///
+    /// Refuses `NoSuch`, `StaleLink`, `Closed`.
+    #[tactic(auto, unfolding(crate::specs::Calls::unsubscribe))]
+    pub fn unsubscribe(&mut self, sub: u64, link: u64) -> Result<(), Refusal>
+        ensures { unsubscribe self.old sub link ≡ (result, self.new) }
+    {
+        let s = sub as usize;
+        let Some(found) = numbered(&self.subs, sub) else {
+            return Err(Refusal::NoSuch);
+        };
+        if found.link != link {
+            return Err(Refusal::StaleLink);
+        }
+        if found.closed {
+            return Err(Refusal::Closed);
+        }
+        self.subs[s].close();
+        Ok(())
+    }
+}
+
+/// The number after this one; want of memory where there is none.
+pub(crate) fn after(n: u64) -> Result<u64, DeskError>
+    ensures { OnlyMemory result (λ next. next ≡ suc n) }
+{
+    match n.checked_add(1) {
+        Some(next) => Ok(next),
+        None => Err(DeskError::Memory),
+    }
+}

@@ -1,0 +1,125 @@
+//! Numbers handed to subscriptions.
+
+ghost use Rattle.std.specs.Prelude.{◌≡◌, IfSome};
+ghost use Rattle.rb_desk.specs.Calls.{take, take_any};
+ghost use Rattle.rb_desk.specs.Answers.{Answers};
+ghost use Rattle.std.specs.Option.{option_map};
+ghost use Rattle.rb_desk.specs.Lanes.{AreLimited};
+ghost use Rattle.rb_desk.specs.Shown.{why_none, first_to_go, span_to_go, ahead, IsJoinedAt};
+
+use crate::delivery::Delivery;
+use crate::desk::Desk;
+use crate::refusal::{DeskError, Refusal};
+use crate::span::Span;
+use crate::sub::{Sub, numbered};
+use crate::subscribing::after;
+use crate::ticket::Held;
+
+impl Desk {
+    /// Hands a subscription its ready span with the least numbers, as a delivery that is in flight from now on. `cursor` is how far
+    /// the subscriber has accepted, `now` a moment; the clock is the greatest moment handed in so far.
+    ///
+    /// Refuses `NoSuch`, `StaleLink`, `Closed`, `WindowFull`; where nothing is ready `Drained`, if the sequence is closed and all of
+    /// it is settled, else `Empty`.
+    #[tactic(auto, unfolding(crate::specs::Calls::take))]
+    pub fn take(
+        &mut self,
+        sub: u64,
+        link: u64,
+        cursor: u64,
+        now: u64,
+    ) -> Result<Delivery, DeskError>
+        ensures { Answers result (take self.old sub link cursor now) self.old self.new }
+    {
+        let s = sub as usize;
+        let front = self.front;
+        let Some(found) = numbered(&self.subs, sub) else {
+            return Err(DeskError::Refused(Refusal::NoSuch));
+        };
+        if found.link != link {
+            return Err(DeskError::Refused(Refusal::StaleLink));
+        }
+        if found.closed {
+            return Err(DeskError::Refused(Refusal::Closed));
+        }
+        if found.lane.out() >= self.config.window() {
+            return Err(DeskError::Refused(Refusal::WindowFull));
+        }
+        let Some(span) = found.lane.first_ready(self.config.batch(), front) else {
+            let is_empty = found.lane.is_empty(front);
+            return Err(DeskError::Refused(none_ready(self.closing, front, is_empty, cursor)));
+        };
+        let number = self.next_delivery;
+        let next_delivery = after(number)?;
+        let clock = self.clock.max(now);
+        self.subs[s].hand(span, number, clock)?;
+        self.clock = clock;
+        self.next_delivery = next_delivery;
+        Ok(Delivery::of(number, sub, link, span))
+    }
+
+    /// Hands over the span that is first in the ready order among those of subscriptions with room in their window.
+    ///
+    /// Refuses `Empty` where there is none.
+    #[tactic(auto, unfolding(crate::specs::Calls::take_any))]
+    pub fn take_any(&mut self, now: u64) -> Result<Delivery, DeskError>
+        ensures { Answers result (take_any self.old now) self.old self.new }
+    {
+        let front = self.front;
+        let window = self.config.window();
+        let Some((sub, span)) = first_to_go(&self.subs, window, self.config.batch(), front) else {
+            return Err(DeskError::Refused(Refusal::Empty { front }));
+        };
+        let s = sub as usize;
+        let link = self.subs[s].link;
+        let number = self.next_delivery;
+        let next_delivery = after(number)?;
+        let clock = self.clock.max(now);
+        self.subs[s].hand(span, number, clock)?;
+        self.clock = clock;
+        self.next_delivery = next_delivery;
+        Ok(Delivery::of(number, sub, link, span))
+    }
+}
+
+// the span that may be handed over before all others, and its subscription's number
+fn first_to_go(subs: &[Sub], window: u64, batch: u64, front: u64) -> Option<(u64, Span)>
+    requires { AreLimited batch front }
+    ensures value { result ≡ option_map span_to_go (first_to_go window batch front 0 subs.now) }
+    ensures joined { IfSome result (λ c. IsJoinedAt subs.now c.0) }
+{
+    let mut first: Option<(u64, Held)> = None;
+    for i in 0..subs.len() {
+        first = ahead(first, subs[i].next_to_go(i as u64, window, batch, front));
+    }
+    let (sub, held) = first?;
+    Some((sub, held.span))
+}
+
+// the one that is first in line, the first of them where both have the same ticket
+fn ahead(first: Option<(u64, Held)>, second: Option<(u64, Held)>) -> Option<(u64, Held)>
+    ensures { result ≡ ahead first second }
+{
+    match (first, second) {
+        (None, other) => other,
+        (Some(found), None) => Some(found),
+        (Some(found), Some(other)) => {
+            if other.1.ticket.is_before(found.1.ticket) {
+                return Some(other);
+            }
+            Some(found)
+        }
+    }
+}
+
+// why nothing is handed over
+fn none_ready(closing: Option<u64>, front: u64, is_empty: bool, cursor: u64) -> Refusal
+    ensures { result ≡ why_none front is_empty cursor closing }
+{
+    if let Some(last) = closing {
+        if is_empty && cursor == last {
+            return Refusal::Drained { last };
+        }
+    }
+    Refusal::Empty { front }
+}
