@@ -24,7 +24,7 @@ use Rattle.rb_core.specs.declared.parts.Publisher.{Publisher}
 use Rattle.rb_core.specs.declared.entry.Item.{Item}
 use Rattle.rb_core.specs.declared.parts.Subscription.{Subscription}
 use Rattle.rb_core.specs.declared.parts.Handed.{Handed}
-use Rattle.rb_core.specs.declared.config.Config.{Config}
+use Rattle.rb_desk.specs.Limits.{Limits}
 use Rattle.rb_core.specs.State.{State, empty_world}
 use Rattle.rb_core.specs.Outcome.{outcome, fed_reply, fed, reset, ended, parsed, admitted, sent, staged_of, turned, taken, numbered, delivered, reached, opened, accepted, subscribe_outcome, fault_refusal, with_accepted}
 use Rattle.rb_core.specs.Run.{Answer, Stepped, Run, accepted_now, accepted_by, RiseAbove}
@@ -210,5 +210,5 @@ rises_above s old new (e ∷ events) (Err none ∷ answers) run =
     let later = rises_above s run.0 new events answers run.2 in
     subst (λ (x : State). RiseAbove (cursor_at x.subscriptions s) (accepted_by s answers)) run.1 later
 
-pub rises : (config : Config) (schema : List Shape) (s : ℕ) (events : List Event) (answers : List Answer) (new : State) → Run (empty_world config schema) events answers new → RiseAbove 0 (accepted_by s answers)
+pub rises : (config : Limits) (schema : List Shape) (s : ℕ) (events : List Event) (answers : List Answer) (new : State) → Run (empty_world config schema) events answers new → RiseAbove 0 (accepted_by s answers)
 rises config schema s events answers new run = rises_above s (empty_world config schema) new events answers run

@@ -9,7 +9,7 @@ use Rattle.cs_model.specs.declared.shape.Shape.{Shape}
 use Rattle.cs_parse.specs.declared.fault.ParseFault.{ParseFault}
 use Rattle.cs_parse.specs.Reading.{answer_of}
 use Rattle.cs_parse.specs.Pieces.{fault_in, behind, taken as pieces_taken}
-use Rattle.rb_core.specs.declared.config.Config.{Config}
+use Rattle.rb_desk.specs.Limits.{Limits}
 use Rattle.rb_core.specs.declared.entry.Item.{Item}
 use Rattle.rb_core.specs.declared.event.Event.{Event}
 use Rattle.rb_core.specs.declared.event.Event.TheVariants as event
@@ -137,5 +137,5 @@ run_keeps old [] (answer ∷ answers) new feeds run kept = absurd run
 run_keeps old (event ∷ events) [] new feeds run kept = absurd run
 run_keeps old (event ∷ events) (answer ∷ answers) new feeds run kept = run_keeps run.0 events answers new feeds.1 run.2 (step_keeps old event answer run.0 feeds.0 run.1 kept)
 
-pub keeps_bytes : (config : Config) (schema : List Shape) (events : List Event) (answers : List Answer) (new : State) → AllByRecursion FeedsBytes events → Run (empty_world config schema) events answers new → AllByRecursion HasBytes new.publishers
+pub keeps_bytes : (config : Limits) (schema : List Shape) (events : List Event) (answers : List Answer) (new : State) → AllByRecursion FeedsBytes events → Run (empty_world config schema) events answers new → AllByRecursion HasBytes new.publishers
 keeps_bytes config schema events answers new feeds run = run_keeps (empty_world config schema) events answers new feeds run tt

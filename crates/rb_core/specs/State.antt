@@ -5,12 +5,11 @@ use Rattle.std.specs.FinMap as map
 use Rattle.cs_model.specs.contracts.shape.Shape as shape
 use Rattle.cs_model.specs.declared.shape.Shape.{Shape}
 use Rattle.cs_apply.specs.State as tables
-use Rattle.rb_core.specs.contracts.config.Config as config
 use Rattle.rb_core.specs.contracts.parts.Publisher as publisher
 use Rattle.rb_core.specs.contracts.entry.Item as item
 use Rattle.rb_core.specs.contracts.parts.Subscription as subscription
 use Rattle.rb_core.specs.contracts.parts.Handed as handed
-use Rattle.rb_core.specs.declared.config.Config.{Config}
+use Rattle.rb_desk.specs.Limits.{Limits, limits_code}
 use Rattle.rb_core.specs.declared.parts.Publisher.{Publisher}
 use Rattle.rb_core.specs.declared.entry.Item.{Item}
 use Rattle.rb_core.specs.declared.parts.Subscription.{Subscription}
@@ -20,7 +19,7 @@ use Rattle.rb_core.specs.declared.parts.Handed.{Handed}
 -- sequence, the subscriptions and the deliveries handed out. Publishers and subscriptions are named by their
 -- places from 0, entries and deliveries by their places from 1.
 pub record State : Type 0 where
-  pub config : Config
+  pub config : Limits
   pub schema : List Shape
   pub publishers : List Publisher
   pub intake : List Item
@@ -29,7 +28,7 @@ pub record State : Type 0 where
   pub deliveries : List Handed
 
 -- the world before any event
-abbrev pub empty_world : Config → List Shape → State
+abbrev pub empty_world : Limits → List Shape → State
 empty_world config schema = record {
   config = config;
   schema = schema;
@@ -47,8 +46,8 @@ empty_tables schema = record { schema = schema; kept = replicate (length schema)
 -- a world is stored as its parts
 abbrev pub world_code : Coded State
 world_code =
-    code_by (Config × (List Shape × (List Publisher × (List Item × (List Item × (List Subscription × List Handed))))))
-    (coded× config.the_row.coded (coded× (coded_list shape.the_row.coded) (coded× (coded_list publisher.the_row.coded)
+    code_by (Limits × (List Shape × (List Publisher × (List Item × (List Item × (List Subscription × List Handed))))))
+    (coded× limits_code (coded× (coded_list shape.the_row.coded) (coded× (coded_list publisher.the_row.coded)
     (coded× (coded_list item.the_row.coded) (coded× (coded_list item.the_row.coded)
     (coded× (coded_list subscription.the_row.coded) (coded_list handed.the_row.coded)))))))
     (λ w. (w.config, (w.schema, (w.publishers, (w.intake, (w.sequence, (w.subscriptions, w.deliveries)))))))

@@ -3,7 +3,7 @@
 ghost use Rattle.std.specs.Prelude.{◌≡◌, ℕ, List};
 ghost use Rattle.std.specs.List.{AllByRecursion};
 ghost use Rattle.cs_model.specs.declared.shape.Shape.{Shape};
-ghost use Rattle.rb_core.specs.declared.config.Config.{Config};
+ghost use Rattle.rb_desk.specs.Limits.{Limits};
 ghost use Rattle.rb_core.specs.declared.event.Event.{Event};
 ghost use Rattle.rb_core.specs.declared.reply.Reply.{Reply};
 ghost use Rattle.rb_core.specs.State.{State, empty_world};
@@ -15,7 +15,7 @@ use cs_parse::laws::{feeding_tells_faults, reading_is_spelling, refusing_is_faul
 
 /// In every run from an empty world the numbers that a subscription accepted rise strictly.
 pub fn accepted_numbers_rise()
-    ensures { (config : Config) (schema : List Shape) (events : List Event)
+    ensures { (config : Limits) (schema : List Shape) (events : List Event)
         (answers : List Answer) (new : State) (s : ℕ)
         → Run (empty_world config schema) events answers new → RiseAbove 0 (accepted_by s answers) }
 {}
@@ -23,7 +23,7 @@ pub fn accepted_numbers_rise()
 /// In every run of events that feed bytes, from an empty world, each publisher's stream is of bytes. So each of its steps tells
 /// faults and changesets as `Step` says of such streams.
 pub fn streams_are_bytes()
-    ensures { (config : Config) (schema : List Shape) (events : List Event)
+    ensures { (config : Limits) (schema : List Shape) (events : List Event)
         (answers : List Answer) (new : State)
         → AllByRecursion FeedsBytes events → Run (empty_world config schema) events answers new
         → AllByRecursion HasBytes new.publishers }

@@ -3,7 +3,6 @@
 //! numbers that a subscription accepted rise strictly.
 #![tactic(auto)]
 
-mod config;
 mod entry;
 mod event;
 pub mod laws;
@@ -16,10 +15,10 @@ mod subscribing;
 mod tests;
 mod world;
 
-pub use config::{Config, ConfigFault};
 pub use entry::{Entry, Item};
 pub use event::Event;
 pub use parts::{Handed, Publisher, Subscription};
 pub use reply::{Refusal, Reply};
+pub use rb_desk::{Config, ConfigFault};
 pub use runs::run;
 pub use world::World;

@@ -4,11 +4,11 @@ ghost use Rattle.std.specs.Prelude.{◌≡◌, ℕ, IfOk};
 ghost use Rattle.rb_core.specs.State.{empty_world};
 ghost use Rattle.rb_core.specs.Run.{Run, accepted_by, RiseAbove};
 
-use crate::config::Config;
 use crate::event::Event;
 use crate::reply::Reply;
 use crate::world::World;
 use cs_model::Schema;
+use rb_desk::Config;
 use std::alloc::{AllocError, Global};
 
 /// Serves events one after another from an empty world, and gives the world and what each was answered: a reply,

@@ -10,7 +10,6 @@ use std::alloc::{AllocError, Global};
 use std::process::Abort;
 use std::test::*;
 
-mod limits;
 mod publishers;
 mod subscribers;
 mod whole;

@@ -18,3 +18,12 @@ pub mod AnyLaws
 pub mod ExpireLaws
 pub mod ExpireOrder
 pub mod ExpireCall
+pub mod PictureLaws
+pub mod PartLaws
+pub mod StandLaws
+pub mod KeepHand
+pub mod KeepSettle
+pub mod KeepCut
+pub mod KeepPlace
+pub mod KeepExpire
+pub mod Replays

@@ -7,6 +7,7 @@ mod delivery;
 mod desk;
 mod held;
 mod lane;
+pub mod laws;
 mod placing;
 mod refusal;
 mod settling;

@@ -7,7 +7,7 @@ use Rattle.cs_model.specs.declared.shape.Shape.{Shape}
 use Rattle.cs_model.specs.declared.schema.TableFault.{TableFault}
 use Rattle.cs_model.specs.Schema.{table_refusal}
 use Rattle.cs_parse.specs.Reading.{answer_of}
-use Rattle.rb_core.specs.declared.config.Config.{Config}
+use Rattle.rb_desk.specs.Limits.{Limits}
 use Rattle.rb_core.specs.declared.event.Event.{Event}
 use Rattle.rb_core.specs.declared.reply.Reply.{Reply}
 use Rattle.rb_core.specs.State.{State, empty_world}
@@ -29,7 +29,7 @@ grown kept [] = kept
 grown kept (b ∷ bs) = grown (longer kept b) bs
 
 -- the bytes of a line write nothing, and lengthen what is kept
-line_stays : (config : Config) (stage : Stage) (kept line : List ℕ) → IsLine line → (written config (place_at stage kept) line ≡ []) × (after config (place_at stage kept) line ≡ place_at stage (grown kept line))
+line_stays : (config : Limits) (stage : Stage) (kept line : List ℕ) → IsLine line → (written config (place_at stage kept) line ≡ []) × (after config (place_at stage kept) line ≡ place_at stage (grown kept line))
 unfolding written after
 line_stays config stage kept [] fits = (refl, refl)
 line_stays config stage kept (b ∷ bs) fits =
@@ -66,20 +66,20 @@ grown-kept kept (b ∷ bs) = by (λ k. grown-kept k bs) (ltb most_of_line (lengt
         subst (λ (k : List ℕ). IsKept (grown k bs) (kept ++ b ∷ bs)) (sym (longer-not kept b e))
         (subst (λ (l : List ℕ). IsKept (grown (kept ++ b ∷ []) bs) l) (append_assoc kept (b ∷ []) bs) (later (kept ++ b ∷ [])))
 
-too_long : (config : Config) (stage : Stage) (line : List ℕ) → most_of_line < length line → line_answer config stage line ≡ (line_of (codes "refused LineTooLong"), stage)
+too_long : (config : Limits) (stage : Stage) (line : List ℕ) → most_of_line < length line → line_answer config stage line ≡ (line_of (codes "refused LineTooLong"), stage)
 too_long config stage [] long = absurd (omega arith)
 too_long config stage (b ∷ bs) long = ap (λ (t : Bool). cond t (line_of (codes "refused LineTooLong"), stage) (form_answer config stage (form_of (b ∷ bs)))) (lt-ltb _ _ long)
 
-kept_answer : (config : Config) (stage : Stage) (kept line : List ℕ) → IsKept kept line → line_answer config stage kept ≡ line_answer config stage line
+kept_answer : (config : Limits) (stage : Stage) (kept line : List ℕ) → IsKept kept line → line_answer config stage kept ≡ line_answer config stage line
 kept_answer config stage kept line (inl e) = ap (line_answer config stage) e
 kept_answer config stage kept line (inr long) = too_long config stage kept long.0 ∙ sym (too_long config stage line long.1)
 
 -- a line is answered by what is kept of it
-line_kept : (config : Config) (stage : Stage) (line : List ℕ) → line_answer config stage (grown [] line) ≡ line_answer config stage line
+line_kept : (config : Limits) (stage : Stage) (line : List ℕ) → line_answer config stage (grown [] line) ≡ line_answer config stage line
 line_kept config stage line = kept_answer config stage (grown [] line) line (grown-kept [] line)
 
 -- a line and its end
-line_ended : (config : Config) (stage : Stage) (line : List ℕ) → IsLine line
+line_ended : (config : Limits) (stage : Stage) (line : List ℕ) → IsLine line
     → (written config (place_at stage []) (line ++ 10 ∷ []) ≡ (line_answer config stage line).0) × (after config (place_at stage []) (line ++ 10 ∷ []) ≡ place_at (line_answer config stage line).1 [])
 unfolding written after
 line_ended config stage line fits =
@@ -92,16 +92,16 @@ line_ended config stage line fits =
     )
 
 -- what bytes write, and what the last line is answered
-abbrev all_from : Config → Place → List ℕ → List ℕ
+abbrev all_from : Limits → Place → List ℕ → List ℕ
 all_from config place bytes = written config place bytes ++ last_answer config (after config place bytes)
 
-all_from-append : (config : Config) (place : Place) (xs ys : List ℕ) → all_from config place (xs ++ ys) ≡ written config place xs ++ all_from config (after config place xs) ys
+all_from-append : (config : Limits) (place : Place) (xs ys : List ℕ) → all_from config place (xs ++ ys) ≡ written config place xs ++ all_from config (after config place xs) ys
 all_from-append config place xs ys =
     ap (λ (t : List ℕ). t ++ last_answer config (after config place (xs ++ ys))) (written-append config place xs ys)
     ∙ append_assoc (written config place xs) (written config (after config place xs) ys) (last_answer config (after config place (xs ++ ys)))
     ∙ ap (λ (p : Place). written config place xs ++ (written config (after config place xs) ys ++ last_answer config p)) (after-append config place xs ys)
 
-by_lines : (config : Config) (stage : Stage) (lines : List (List ℕ)) (last : List ℕ) → AllByRecursion IsLine lines → IsLine last
+by_lines : (config : Limits) (stage : Stage) (lines : List (List ℕ)) (last : List ℕ) → AllByRecursion IsLine lines → IsLine last
     → all_from config (place_at stage []) (ended_lines lines ++ last) ≡ lines_answers config stage (lines ++ last ∷ [])
 by_lines config stage [] last fits ends =
     let stays = line_stays config stage [] last ends in
@@ -116,7 +116,7 @@ by_lines config stage (line ∷ lines) last fits ends =
     ∙ ap (λ (p : Place). (line_answer config stage line).0 ++ all_from config p more) first.1
     ∙ ap (λ (t : List ℕ). (line_answer config stage line).0 ++ t) (by_lines config (line_answer config stage line).1 lines last fits.1 ends)
 
-pub by_all_lines : (config : Config) (lines : List (List ℕ)) (last : List ℕ) → AllByRecursion IsLine lines → IsLine last → answers config (ended_lines lines ++ last) ≡ lines_answers config (Tables []) (lines ++ last ∷ [])
+pub by_all_lines : (config : Limits) (lines : List (List ℕ)) (last : List ℕ) → AllByRecursion IsLine lines → IsLine last → answers config (ended_lines lines ++ last) ≡ lines_answers config (Tables []) (lines ++ last ∷ [])
 by_all_lines config lines last fits ends = by_lines config (Tables []) lines last fits ends
 
 -- ---- replies
@@ -135,14 +135,14 @@ abbrev FromWorld : State → Option Event → Stage → Type 0
 FromWorld world None next = next ≡ Running world
 FromWorld world (Some event) next = next ≡ Running (outcome world event).1
 
-form_from_world : (config : Config) (world : State) (o : Option Form) → FromWorld world (event_in o) (form_answer config (Running world) o).1
+form_from_world : (config : Limits) (world : State) (o : Option Form) → FromWorld world (event_in o) (form_answer config (Running world) o).1
 form_from_world config world None = refl
 form_from_world config world (Some (form.Table bytes)) = refl
 form_from_world config world (Some (form.Happens event)) = refl
 form_from_world config world (Some (form.Entry n)) = refl
 form_from_world config world (Some (form.Rows s)) = refl
 
-line_from_world : (config : Config) (world : State) (line : List ℕ) → FromWorld world (event_of line) (line_answer config (Running world) line).1
+line_from_world : (config : Limits) (world : State) (line : List ℕ) → FromWorld world (event_of line) (line_answer config (Running world) line).1
 line_from_world config world [] = refl
 line_from_world config world (b ∷ bs) = by (ltb most_of_line (length (b ∷ bs)))
   where
@@ -154,10 +154,10 @@ line_from_world config world (b ∷ bs) = by (ltb most_of_line (length (b ∷ bs
 abbrev pub EndsRun : State → List Event → List Answer → Type 0
 EndsRun world events answers = (final : State) × Run world events answers final
 
-abbrev pub RunsFrom : Config → State → Stage → List (List ℕ) → Type 0
+abbrev pub RunsFrom : Limits → State → Stage → List (List ℕ) → Type 0
 RunsFrom config world stage lines = EndsRun world (lines_events lines) (lines_replies config stage lines)
 
-one_from_world : (config : Config) (world : State) (o : Option Event) (next : Stage) (lines : List (List ℕ)) → FromWorld world o next → ((w : State) → RunsFrom config w (Running w) lines)
+one_from_world : (config : Limits) (world : State) (o : Option Event) (next : Stage) (lines : List (List ℕ)) → FromWorld world o next → ((w : State) → RunsFrom config w (Running w) lines)
     → EndsRun world (with_event o (lines_events lines)) (answer_before config (Running world) o (lines_replies config next lines))
 one_from_world config world None next lines leads later = subst (λ (s : Stage). RunsFrom config world s lines) (sym leads) (later world)
 one_from_world config world (Some event) next lines leads later =
@@ -165,13 +165,13 @@ one_from_world config world (Some event) next lines leads later =
     let rest : RunsFrom config mid next lines = subst (λ (s : Stage). RunsFrom config mid s lines) (sym leads) (later mid) in
     (rest.0, (mid, refl, rest.1))
 
-runs_from_world : (config : Config) (lines : List (List ℕ)) (world : State) → RunsFrom config world (Running world) lines
+runs_from_world : (config : Limits) (lines : List (List ℕ)) (world : State) → RunsFrom config world (Running world) lines
 runs_from_world config [] world = (world, refl)
 runs_from_world config (line ∷ lines) world =
     one_from_world config world (event_of line) (line_answer config (Running world) line).1 lines (line_from_world config world line) (runs_from_world config lines)
 
 -- where a line leads from tables
-abbrev FromTables : Config → List Shape → Option Event → Stage → Type 0
+abbrev FromTables : Limits → List Shape → Option Event → Stage → Type 0
 FromTables config tables None next = ((more : List Shape) × (next ≡ Tables more)) ⊎ (next ≡ Running (empty_world config tables))
 FromTables config tables (Some event) next = next ≡ Running (outcome (empty_world config tables) event).1
 
@@ -183,14 +183,14 @@ table_from_tables : (tables : List Shape) (o : Option Shape) → (more : List Sh
 table_from_tables tables None = (tables, refl)
 table_from_tables tables (Some shape) = added_from_tables tables shape (table_refusal tables shape)
 
-form_from_tables : (config : Config) (tables : List Shape) (o : Option Form) → FromTables config tables (event_in o) (form_answer config (Tables tables) o).1
+form_from_tables : (config : Limits) (tables : List Shape) (o : Option Form) → FromTables config tables (event_in o) (form_answer config (Tables tables) o).1
 form_from_tables config tables None = inl (tables, refl)
 form_from_tables config tables (Some (form.Table bytes)) = inl (table_from_tables tables (header_of_answer (answer_of bytes)))
 form_from_tables config tables (Some (form.Happens event)) = refl
 form_from_tables config tables (Some (form.Entry n)) = inr refl
 form_from_tables config tables (Some (form.Rows s)) = inr refl
 
-line_from_tables : (config : Config) (tables : List Shape) (line : List ℕ) → FromTables config tables (event_of line) (line_answer config (Tables tables) line).1
+line_from_tables : (config : Limits) (tables : List Shape) (line : List ℕ) → FromTables config tables (event_of line) (line_answer config (Tables tables) line).1
 line_from_tables config tables [] = inl (tables, refl)
 line_from_tables config tables (b ∷ bs) = by (ltb most_of_line (length (b ∷ bs)))
   where
@@ -198,10 +198,10 @@ line_from_tables config tables (b ∷ bs) = by (ltb most_of_line (length (b ∷ 
     by true = inl (tables, refl)
     by false = form_from_tables config tables (form_of (b ∷ bs))
 
-abbrev pub RunsBehind : Config → Stage → List (List ℕ) → Type 0
+abbrev pub RunsBehind : Limits → Stage → List (List ℕ) → Type 0
 RunsBehind config stage lines = (schema : List Shape) × RunsFrom config (empty_world config schema) stage lines
 
-one_from_tables : (config : Config) (tables : List Shape) (o : Option Event) (next : Stage) (lines : List (List ℕ)) → FromTables config tables o next → ((more : List Shape) → RunsBehind config (Tables more) lines)
+one_from_tables : (config : Limits) (tables : List Shape) (o : Option Event) (next : Stage) (lines : List (List ℕ)) → FromTables config tables o next → ((more : List Shape) → RunsBehind config (Tables more) lines)
     → (schema : List Shape) × EndsRun (empty_world config schema) (with_event o (lines_events lines)) (answer_before config (Tables tables) o (lines_replies config next lines))
 one_from_tables config tables None next lines (inl leads) later = subst (λ (s : Stage). RunsBehind config s lines) (sym leads.1) (later leads.0)
 one_from_tables config tables None next lines (inr leads) later =
@@ -212,7 +212,7 @@ one_from_tables config tables (Some event) next lines leads later =
     let rest : RunsFrom config mid next lines = subst (λ (s : Stage). RunsFrom config mid s lines) (sym leads) (runs_from_world config lines mid) in
     (tables, (rest.0, (mid, refl, rest.1)))
 
-pub runs_behind : (config : Config) (lines : List (List ℕ)) (tables : List Shape) → RunsBehind config (Tables tables) lines
+pub runs_behind : (config : Limits) (lines : List (List ℕ)) (tables : List Shape) → RunsBehind config (Tables tables) lines
 runs_behind config [] tables = (tables, (empty_world config tables, refl))
 runs_behind config (line ∷ lines) tables =
     one_from_tables config tables (event_of line) (line_answer config (Tables tables) line).1 lines (line_from_tables config tables line) (runs_behind config lines)

@@ -11,7 +11,7 @@ use Rattle.cs_model.specs.declared.schema.TableFault.TheVariants.{DuplicateTable
 use Rattle.cs_model.specs.Schema.{table_refusal}
 use Rattle.cs_parse.specs.declared.fault.ParseFault.{ParseFault}
 use Rattle.cs_parse.specs.Reading.{answer_of}
-use Rattle.rb_core.specs.declared.config.Config.{Config}
+use Rattle.rb_desk.specs.Limits.{Limits}
 use Rattle.rb_core.specs.declared.event.Event.{Event}
 use Rattle.rb_core.specs.declared.reply.Reply.{Reply}
 use Rattle.rb_core.specs.declared.reply.Refusal.TheVariants as refusal
@@ -65,7 +65,7 @@ table_answer (Tables tables) bytes = table_read tables (header_of_answer (answer
 table_answer (Running world) bytes = (codes "refused Line", Running world)
 
 -- the world, which begins with the first line that fits another form than `table`
-abbrev pub world_of : Config → Stage → State
+abbrev pub world_of : Limits → Stage → State
 world_of config (Tables tables) = empty_world config tables
 world_of config (Running world) = world
 
@@ -89,7 +89,7 @@ entry_answer world n = line_of (found_entry n (numbered world.sequence n))
 abbrev pub with_line_end : List ℕ × Stage → List ℕ × Stage
 with_line_end given = (line_of given.0, given.1)
 
-abbrev pub form_answer : Config → Stage → Option Form → List ℕ × Stage
+abbrev pub form_answer : Limits → Stage → Option Form → List ℕ × Stage
 form_answer config stage None = (line_of (codes "refused Line"), stage)
 form_answer config stage (Some (form.Table bytes)) = with_line_end (table_answer stage bytes)
 form_answer config stage (Some (form.Happens event)) = event_answer (outcome (world_of config stage) event)
@@ -97,7 +97,7 @@ form_answer config stage (Some (form.Entry n)) = (entry_answer (world_of config 
 form_answer config stage (Some (form.Rows s)) = (rows_answer (world_of config stage) s, Running (world_of config stage))
 
 -- the answer to a line, with the end of each of its lines, and the stage after it
-abbrev pub line_answer : Config → Stage → List ℕ → List ℕ × Stage
+abbrev pub line_answer : Limits → Stage → List ℕ → List ℕ × Stage
 line_answer config stage [] = ([], stage)
 line_answer config stage (byte ∷ bytes) =
     if nat_lt most_of_line (length (byte ∷ bytes)) then (line_of (codes "refused LineTooLong"), stage)

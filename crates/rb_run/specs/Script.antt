@@ -1,7 +1,7 @@
 -- A script as its lines.
 use Rattle.std.specs.Prelude.{◌≢◌, ℕ, Bool, List, [], ◌∷◌, ◌++◌, length, nat_lt, Option, Some, None, Result, Ok, if◌then◌else◌}
 use Rattle.std.specs.List.{AllByRecursion}
-use Rattle.rb_core.specs.declared.config.Config.{Config}
+use Rattle.rb_desk.specs.Limits.{Limits}
 use Rattle.rb_core.specs.declared.event.Event.{Event}
 use Rattle.rb_core.specs.declared.reply.Reply.{Reply}
 use Rattle.rb_core.specs.Outcome.{outcome}
@@ -22,7 +22,7 @@ ended_lines [] = []
 ended_lines (line ∷ lines) = line ++ (10 ∷ ended_lines lines)
 
 -- the answers to lines, one after another
-abbrev pub lines_answers : Config → Stage → List (List ℕ) → List ℕ
+abbrev pub lines_answers : Limits → Stage → List (List ℕ) → List ℕ
 lines_answers config stage [] = []
 lines_answers config stage (line ∷ lines) = (line_answer config stage line).0 ++ lines_answers config (line_answer config stage line).1 lines
 
@@ -38,12 +38,12 @@ abbrev pub event_of : List ℕ → Option Event
 event_of line = if nat_lt most_of_line (length line) then None else event_in (form_of line)
 
 -- the reply that a line's event is given, in front of others
-abbrev pub answer_before : Config → Stage → Option Event → List Answer → List Answer
+abbrev pub answer_before : Limits → Stage → Option Event → List Answer → List Answer
 answer_before config stage None rest = rest
 answer_before config stage (Some event) rest = Ok (outcome (world_of config stage) event).0 ∷ rest
 
 -- the replies to the events in lines, in order
-abbrev pub lines_replies : Config → Stage → List (List ℕ) → List Answer
+abbrev pub lines_replies : Limits → Stage → List (List ℕ) → List Answer
 lines_replies config stage [] = []
 lines_replies config stage (line ∷ lines) =
     answer_before config stage (event_of line) (lines_replies config (line_answer config stage line).1 lines)

@@ -2,7 +2,7 @@
 
 ghost use Rattle.std.specs.Prelude.{◌≡◌, ◌++◌, ◌∷◌, [], ℕ, List};
 ghost use Rattle.std.specs.List.{AllByRecursion};
-ghost use Rattle.rb_core.specs.declared.config.Config.{Config};
+ghost use Rattle.rb_desk.specs.Limits.{Limits};
 ghost use Rattle.rb_core.specs.Run.{accepted_by, RiseAbove};
 ghost use Rattle.rb_run.specs.declared.lines.Stage.TheVariants.{Tables};
 ghost use Rattle.rb_run.specs.Output.{answers};
@@ -12,7 +12,7 @@ use rb_core::laws::accepted_numbers_rise;
 
 /// What is written for a script is the answers to its lines, one after another, the last of which lacks its end.
 pub fn lines_are_answered()
-    ensures { (config : Config) (lines : List (List ℕ)) (last : List ℕ)
+    ensures { (config : Limits) (lines : List (List ℕ)) (last : List ℕ)
         → AllByRecursion IsLine lines → IsLine last
         → answers config (ended_lines lines ++ last)
         ≡ lines_answers config (Tables []) (lines ++ last ∷ []) }
@@ -20,7 +20,7 @@ pub fn lines_are_answered()
 
 /// In the answers to the lines of a script the numbers that a subscription accepted rise strictly.
 pub fn accepted_lines_rise()
-    ensures { (config : Config) (lines : List (List ℕ)) (s : ℕ)
+    ensures { (config : Limits) (lines : List (List ℕ)) (s : ℕ)
         → RiseAbove 0 (accepted_by s (lines_replies config (Tables []) lines)) }
 {
     accepted_numbers_rise();

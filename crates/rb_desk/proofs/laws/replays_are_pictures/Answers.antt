@@ -1,0 +1,5 @@
+use Rattle.rb_desk.proofs.Replays.{replay_keeps}
+use Rattle.rb_desk.proofs.laws.replays_are_pictures.Goals as goal
+
+pub returns : goal.returns
+returns c = λ limits steps ranges. replay_keeps limits steps ranges
