@@ -4,6 +4,7 @@
 #include "inputs.h"
 #include "jobs.h"
 
+#include <malloc.h>
 #include <stdio.h>
 #include <stdlib.h>
 #include <string.h>
@@ -116,6 +117,9 @@ static int run_once(const char *who, const char *what, const char *which) {
 }
 
 int main(int count, char **words) {
+    /* what is given back stays with the process, or else the kernel's new pages cost more than either library */
+    mallopt(M_MMAP_MAX, 0);
+    mallopt(M_TRIM_THRESHOLD, -1);
     if (count == 4) return run_once(words[1], words[2], words[3]);
     print_head("MB/s");
     compare_bytes(INTEGERS, "integer rows");

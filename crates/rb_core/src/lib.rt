@@ -18,7 +18,7 @@ mod world;
 pub use entry::{Entry, Item};
 pub use event::Event;
 pub use parts::{Handed, Publisher, Subscription};
-pub use reply::{Refusal, Reply};
 pub use rb_desk::{Config, ConfigFault};
+pub use reply::{Refusal, Reply};
 pub use runs::run;
 pub use world::World;
