@@ -1,11 +1,10 @@
 -- Bytes that are the canonical ones of what is read from them, from a length on up to all changes.
-use Rattle.std.proofs.Common.{◌≡◌, ℕ, suc, ◌+◌, ◌-◌, ◌*◌, ◌^◌, ◌<◌, ◌⊎◌, Bool, true, false, List, [], ◌∷◌, ◌++◌, Option, Some, None, Result, Ok, Err, refl, sym, ap, subst, ◌∙◌, append_assoc, arith}
+use Rattle.std.proofs.Common.{◌≡◌, ℕ, ◌+◌, ◌*◌, ◌^◌, ◌<◌, Bool, List, [], ◌∷◌, ◌++◌, Option, Some, None, Result, Ok, Err, refl, sym, ap, subst, ◌∙◌, append_assoc, arith}
 use Rattle.std.specs.Prelude.{IfSome, IfOk, IsTrue, is_some}
 use Rattle.cs_model.specs.Bytes.{AreBytes}
 use Rattle.cs_model.specs.Varint.{IsVarint, varint}
 use Rattle.cs_model.specs.FieldBytes.{field_bytes}
 use Rattle.cs_model.specs.Packed.{packed}
-use Rattle.cs_model.specs.PackedChanges.{change_bytes, changes_bytes}
 use Rattle.cs_model.specs.Rule.{Rule}
 use Rattle.cs_model.specs.declared.value.Value.TheVariants.{Integer, Text, Blob, Null}
 use Rattle.cs_model.specs.declared.value.Field.{Field}
@@ -17,12 +16,11 @@ use Rattle.cs_parse.specs.declared.fault.FaultKind.TheVariants.{ValueTooLong}
 use Rattle.cs_parse.specs.declared.stop.Refusal.{Refusal}
 use Rattle.cs_parse.specs.Canonical.{HasShortest, IsCanonical}
 use Rattle.cs_parse.specs.Place.{type_refusal}
-use Rattle.cs_parse.specs.Reading.{◌>>=◌, Reads, within, number_at, length_at, typed_at, field_at, record_at, many_at}
+use Rattle.cs_parse.specs.Reading.{◌>>=◌, Reads, within, number_at, length_at, typed_at, field_at, record_at}
 use Rattle.cs_parse.proofs.Steps.{back_fits, bind_ok, done, ok_is}
 use Rattle.cs_parse.proofs.Numbers.{number_ends}
 use Rattle.cs_parse.proofs.NumberLaws.{within_again, number_takes, number_again}
 use Rattle.cs_parse.proofs.FieldLaws.{typed_takes}
-use Rattle.cs_parse.proofs.Loops.{rest_of, many_more, many_done}
 use Rattle.cs_parse.proofs.Skims.{record_more, fields_of}
 
 -- ---- a length
@@ -102,16 +100,3 @@ more_canonical rule rules bytes f after read own others x e =
 
 abbrev Changes : Type 0
 Changes = List Change × List ℕ
-
-pub done_canonical : (over : List ℕ → Bool) (read : List ℕ → Result (Change × List ℕ) Refusal) (fuel : ℕ) (bytes : List ℕ) → (over bytes ≡ true) ⊎ (fuel ≡ 0) → IsCanonical changes_bytes bytes (many_at over read fuel bytes)
-done_canonical over read fuel bytes ended x e = subst (λ (y : Changes). bytes ≡ changes_bytes y.0 ++ y.1) (ok_is ([], bytes) x (sym (many_done over read fuel bytes ended) ∙ e)) refl
-
-pub goes_canonical : (over : List ℕ → Bool) (read : List ℕ → Result (Change × List ℕ) Refusal) (turns i : ℕ) (bytes : List ℕ) (first : Change) (after : List ℕ) → i < turns → over bytes ≡ false → read bytes ≡ Ok (first, after)
-    → IsCanonical change_bytes bytes (read bytes) → IsCanonical changes_bytes after (many_at over read (turns - (i + 1)) after) → IsCanonical changes_bytes bytes (many_at over read (turns - i) bytes)
-goes_canonical over read turns i bytes first after lt more reads own others x e =
-    let k : turns - i ≡ suc (turns - (i + 1)) = omega arith in
-    let fuel = turns - (i + 1) in
-    let now = ap (λ n. many_at over read n bytes) k ∙ many_more over read fuel bytes more ∙ ap (λ r. r >>= rest_of over read fuel) reads in
-    let b = bind_ok (many_at over read fuel after) (λ rest. done (first ∷ rest.0, rest.1)) x (sym now ∙ e) in
-    let parts : bytes ≡ changes_bytes (first ∷ b.0.0) ++ b.0.1 = own (first, after) reads ∙ ap (λ w. change_bytes first ++ w) (others b.0 b.1) ∙ sym (append_assoc (change_bytes first) (changes_bytes b.0.0) b.0.1) in
-    subst (λ (y : Changes). bytes ≡ changes_bytes y.0 ++ y.1) (ok_is (first ∷ b.0.0, b.0.1) x b.2) parts

@@ -1,5 +1,6 @@
 -- The text of changes that were gone over, which is copied.
-use Rattle.std.proofs.Common.{◌≡◌, ℕ, ◌-◌, ◌≤◌, List, [], ◌∷◌, ◌++◌, length, take, Ok, sym, ap, subst, ◌∙◌, arith}
+use Rattle.std.proofs.Common.{◌≡◌, ℕ, ◌-◌, ◌≤◌, Bool, List, [], ◌∷◌, ◌++◌, length, take, sym, ap, subst, ◌∙◌, arith}
+use Rattle.std.specs.Prelude.{IsTrue}
 use Rattle.std.specs.List.{AllByRecursion}
 use Rattle.std.proofs.Math.Seq.{take-append_seam}
 use Rattle.std.proofs.lemmas.List.{length-append}
@@ -7,14 +8,11 @@ use Rattle.cs_model.specs.Bytes.{AreBytes}
 use Rattle.cs_model.specs.declared.shape.Shape.{Shape}
 use Rattle.cs_model.specs.declared.change.Change.{Change}
 use Rattle.cs_model.specs.Changeset.{IsChange}
-use Rattle.cs_model.specs.PackedChanges.{Fit, PacksAll, changes_bytes, unpacked_changes}
+use Rattle.cs_model.specs.PackedChanges.{AreCanonical, Fit, changes_bytes, unpacked_changes}
 use Rattle.cs_model.specs.Text.{SpellsEach, SpellsChange}
-use Rattle.cs_parse.specs.Canonical.{IsCanonical}
-use Rattle.cs_parse.specs.Count.{counted}
-use Rattle.cs_parse.specs.Reading.{changes_at}
-use Rattle.cs_parse.proofs.Steps.{done}
-use Rattle.cs_parse.proofs.ChangeLaws.{IsChangeBy, changes_take}
-use Rattle.cs_parse.proofs.Skims.{counted_value}
+use Rattle.cs_parse.specs.Front.{changes_front}
+use Rattle.cs_parse.proofs.ChangeLaws.{IsChangeBy}
+use Rattle.cs_parse.proofs.FrontLaws.{changes_spelled}
 
 -- the laws of changes that a caller has
 abbrev pub ChangesFit : Type 0
@@ -32,47 +30,36 @@ front_is bytes front back e =
     let at : length bytes - length back ≡ length front = omega (arith, ap length e, length-append front back) in
     ap (λ n. take n bytes) at ∙ ap (take (length front)) e ∙ take-append_seam front back
 
--- changes that were read, and the text in front of what is behind them
-pub record Passed (flags bytes : List ℕ) (count : ℕ) (rest : List ℕ) : Type 0 where
-  pub changes : List Change
-  pub many : length changes ≡ count
-  pub read : changes_at flags bytes ≡ Ok (changes, rest)
+-- the text in front of what is left says the changes that are whole
+pub record Says (flags bytes : List ℕ) (count : ℕ) (rest : List ℕ) (canonical : Bool) (columns : ℕ) (text : List ℕ) : Type 0 where
   pub shorter : length rest ≤ length bytes
-  pub spelled : SpellsEach SpellsChange (take (length bytes - length rest) bytes) changes
-  pub valid : AllByRecursion (IsChangeBy flags) changes
-
-pub passed : (flags bytes : List ℕ) (count : ℕ) (rest : List ℕ) → AreBytes bytes → counted length (changes_at flags bytes) ≡ Ok (count, rest) → Passed flags bytes count rest
-passed flags bytes count rest fits h =
-    let v = counted_value length (changes_at flags bytes) count rest h in
-    let t = changes_take flags bytes (v.0, rest) fits v.1 in
-    record {
-      changes = v.0;
-      many = v.2;
-      read = v.1;
-      shorter = omega (arith, ap length t.0.parts, length-append t.0.text rest);
-      spelled = subst (λ w. SpellsEach SpellsChange w v.0) (sym (front_is bytes t.0.text rest t.0.parts)) t.0.spelled;
-      valid = t.1;
-    }
-
--- The text in front says changes that can be copied, and they are what was read.
-pub record Copied (flags bytes : List ℕ) (count : ℕ) (rest : List ℕ) (columns : ℕ) (text : List ℕ) : Type 0 where
   pub fit : AllByRecursion (Fit columns) (unpacked_changes columns text)
   pub many : count ≡ length (unpacked_changes columns text)
-  pub read : changes_at flags bytes ≡ Ok (unpacked_changes columns text, rest)
-  pub packs : IsCanonical changes_bytes bytes (changes_at flags bytes) → PacksAll columns text (unpacked_changes columns text)
+  pub packs : IsTrue canonical → AreCanonical columns text
+  pub said : unpacked_changes columns text ≡ (changes_front flags bytes).items
 
-pub copied : ChangesFit → SpelledIsSaid → (flags bytes : List ℕ) (count : ℕ) (rest : List ℕ) (columns : ℕ) (text : List ℕ) → Passed flags bytes count rest → columns ≡ length flags → text ≡ take (length bytes - length rest) bytes
-    → Copied flags bytes count rest columns text
-copied fit said flags bytes count rest columns text p as_many is_front =
-    let all : AllByRecursion (Fit columns) p.changes = rw as_many (all_fit fit flags p.changes p.valid) in
-    let spelled : SpellsEach SpellsChange text p.changes = rw is_front p.spelled in
-    let says = said columns text p.changes spelled all in
-    let fits = subst (λ w. AllByRecursion (Fit columns) w) (sym says) all in
+pub left_shorter : (flags bytes rest : List ℕ) → AreBytes bytes → rest ≡ (changes_front flags bytes).rest → length rest ≤ length bytes
+left_shorter flags bytes rest fits is =
+    let t = changes_spelled flags bytes fits in
+    omega (arith, ap length is, ap length t.parts, length-append t.text (changes_front flags bytes).rest)
+
+pub says : ChangesFit → SpelledIsSaid → (flags bytes : List ℕ) (count : ℕ) (rest : List ℕ) (canonical : Bool) (columns : ℕ) (text : List ℕ) → AreBytes bytes → columns ≡ length flags → text ≡ take (length bytes - length rest) bytes
+    → count ≡ length (changes_front flags bytes).items → rest ≡ (changes_front flags bytes).rest → (IsTrue canonical → bytes ≡ changes_bytes (changes_front flags bytes).items ++ (changes_front flags bytes).rest)
+    → Says flags bytes count rest canonical columns text
+says fit spelled_said flags bytes count rest canonical columns text fits as_many is_front many is own =
+    let f = changes_front flags bytes in
+    let t = changes_spelled flags bytes fits in
+    let all : AllByRecursion (Fit columns) f.items = rw as_many (all_fit fit flags f.items t.valid) in
+    let front : text ≡ t.text = is_front ∙ front_is bytes t.text rest (t.parts ∙ ap (λ w. t.text ++ w) (sym is)) in
+    let spelled : SpellsEach SpellsChange text f.items = subst (λ w. SpellsEach SpellsChange w f.items) (sym front) t.spelled in
+    let said = spelled_said columns text f.items spelled all in
+    let fit_said = subst (λ w. AllByRecursion (Fit columns) w) (sym said) all in
     record {
-      fit = fits;
-      many = sym p.many ∙ ap (λ (w : List Change). length w) (sym says);
-      read = p.read ∙ ap (λ w. done (w, rest)) (sym says);
-      packs = λ own. (
-          let front : text ≡ changes_bytes p.changes = is_front ∙ front_is bytes (changes_bytes p.changes) rest (own (p.changes, rest) p.read) in
-          record { parts = front ∙ ap changes_bytes (sym says); fit = fits });
+      shorter = left_shorter flags bytes rest fits is;
+      fit = fit_said;
+      many = many ∙ ap (λ (w : List Change). length w) (sym said);
+      packs = λ true_is. (
+          let own_text : text ≡ changes_bytes f.items = is_front ∙ front_is bytes (changes_bytes f.items) rest (own true_is ∙ ap (λ w. changes_bytes f.items ++ w) (sym is)) in
+          record { parts = own_text ∙ ap changes_bytes (sym said); fit = fit_said });
+      said = said;
     }

@@ -9,15 +9,13 @@ use Rattle.cs_model.specs.Changeset.{most_bytes}
 use Rattle.cs_model.specs.Text.{SpellsEach, SpellsSection}
 use Rattle.cs_parse.specs.declared.fault.FaultKind.{FaultKind}
 use Rattle.cs_parse.specs.declared.fault.FaultKind.TheVariants as kind
-use Rattle.std.specs.Prelude.{◌==◌, ◌||◌, nat_lt, IfErr, OnOk}
+use Rattle.std.specs.Prelude.{◌==◌, ◌||◌, nat_lt}
 use Rattle.cs_parse.specs.declared.fault.ParseFault.{ParseFault}
-use Rattle.cs_parse.specs.declared.fault.ParseError.{ParseError}
-use Rattle.cs_parse.specs.declared.fault.ParseError.TheVariants.{Fault, Memory}
 use Rattle.cs_parse.specs.Place.{Place, Start, Between, InColumns, LastKey, FirstLetter, PastName, AtType, InLength, leaves_none, rule_refusal, type_refusal, goes_on as begins, wrong}
 use Rattle.cs_parse.specs.Stands.{Stands}
 use Rattle.cs_parse.specs.Fault.{Viable, IsFirst, IsFault}
 use Rattle.cs_parse.specs.Reading.{answer_of}
-use Rattle.cs_parse.specs.Pieces.{may_be_mended, lasting, fault_in, behind, taken, IsLasting, GoesOn, TellsLasting, joined, kept, Fed}
+use Rattle.cs_parse.specs.Pieces.{may_be_mended, lasting, fault_in, behind, taken, IsLasting, GoesOn, joined, kept}
 use Rattle.cs_model.specs.Bytes.{AreBytes}
 use Rattle.cs_parse.proofs.Steps.{back_fits, bytes_from}
 use Rattle.cs_parse.proofs.NumberLaws.{front_fits}
@@ -197,15 +195,3 @@ kept_is_joined text (piece ∷ pieces) fits =
           ∙ fault_is_refused (text ++ joined pieces) fault rest (fault_stays text (joined pieces) fault h)
           ∙ sym (fault_is_refused (text ++ (piece ++ joined pieces)) fault fits (fault_stays text (piece ++ joined pieces) fault h))
     ]
-
--- ---- for the parser
-
-pub feed_tells : (result : Result (Unit {0}) ParseError) (old piece new : List ℕ) → AreBytes new → Fed result old piece new → IfErr result (λ e. TellsLasting e new)
-feed_tells (Ok done) old piece new fits h = tt
-feed_tells (Err (Fault fault)) old piece new fits h = lasting_is new fault fits (ap fault_in h.1 ∙ h.0)
-feed_tells (Err Memory) old piece new fits h = tt
-
-pub feed_goes : (result : Result (Unit {0}) ParseError) (old piece new : List ℕ) → AreBytes new → Fed result old piece new → OnOk result (GoesOn new)
-feed_goes (Ok done) old piece new fits h = goes_on new fits (ap fault_in h.1 ∙ h.0)
-feed_goes (Err (Fault fault)) old piece new fits h = tt
-feed_goes (Err Memory) old piece new fits h = tt

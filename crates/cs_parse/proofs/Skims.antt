@@ -138,14 +138,6 @@ count_is_done over read total one sum n turns i bytes whole ended so_far =
 
 -- ---- changes
 
-pub one_each : {A : Type 0} → IsSum {A = A} length (λ x. 1)
-one_each = record { none = refl; more = λ x xs. omega arith }
-
-pub one_behind : {A : Type 0} (r : Result (A × List ℕ) Refusal) (after : List ℕ) → behind r ≡ Ok after → counted (λ x. 1) r ≡ Ok (1, after)
-one_behind r after h =
-    let v = behind_value r after h in
-    ap (counted (λ x. 1)) v.1
-
 abbrev pub size : Section → ℕ
 size section = length section.changes
 

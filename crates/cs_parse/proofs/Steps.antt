@@ -1,5 +1,5 @@
 -- What a reader took from the front, and the steps by which the laws of reading go.
-use Rattle.std.proofs.Common.{◌≡◌, ℕ, zero, suc, ◌+◌, ◌<◌, ◌⊎◌, inl, inr, [], ◌∷◌, sym, arith, ltb, Bool, true, false, cond, List, ◌++◌, length, get_or, Option, Some, None, Result, Ok, Err, refl, subst}
+use Rattle.std.proofs.Common.{◌≡◌, ℕ, zero, suc, ◌+◌, ◌<◌, ◌⊎◌, inl, inr, [], ◌∷◌, sym, arith, ltb, Bool, true, false, cond, List, ◌++◌, length, get_or, Option, Some, None, Result, Ok, Err, refl, subst, ap, ◌∙◌}
 use Rattle.std.proofs.lemmas.List.{get_or-append-add}
 use Rattle.std.specs.Prelude.{nat_lt}
 use Rattle.std.specs.List.{list_all}
@@ -56,3 +56,7 @@ chosen false x y z e = inr (refl, e)
 pub unless_ok : {A : Type 0} (o : Option FaultKind) (rest : List ℕ) (read : Result A Refusal) (x : A) → unless_refused o rest read ≡ Ok x → (o ≡ None) × (read ≡ Ok x)
 unless_ok None rest read x e = (refl, e)
 unless_ok (Some kind) rest read x e = absurd cc
+
+-- a number and what is left, by what they are
+pub counted_pair : {n m : ℕ} {rest left : List ℕ} → n ≡ m → rest ≡ left → done {A = ℕ × List ℕ} (m, left) ≡ done (n, rest)
+counted_pair {n} {m} {rest} {left} many is = ap (λ k. done {A = ℕ × List ℕ} (k, left)) (sym many) ∙ ap (λ w. done {A = ℕ × List ℕ} (n, w)) (sym is)

@@ -8,3 +8,5 @@ pub mod Seen
 pub mod Count
 pub mod Canonical
 pub mod Pieces
+pub mod Progress
+pub mod Front

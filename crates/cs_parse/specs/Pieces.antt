@@ -41,12 +41,6 @@ reached (Some fault) len = fault.at
 abbrev pub offset_of : List ℕ → ℕ
 offset_of text = reached (fault_in text) (length text)
 
--- What `feed` answers, and the text behind it: the fault of the text with the piece, or none; without memory nothing is taken.
-abbrev pub Fed : {A : Type 0} → Result A ParseError → List ℕ → List ℕ → List ℕ → Type 0
-Fed (Ok done) old piece new = (fault_in (taken old piece) ≡ None) × (new ≡ taken old piece)
-Fed (Err (Fault fault)) old piece new = (fault_in (taken old piece) ≡ Some fault) × (new ≡ taken old piece)
-Fed (Err Memory) old piece new = new ≡ old
-
 -- a fault of the text that no more bytes mend
 abbrev pub IsLasting : List ℕ → ParseFault → Type 0
 IsLasting text fault = IsFault text fault × (may_be_mended fault.kind ≡ false)

@@ -19,8 +19,6 @@ use Rattle.cs_parse.specs.Place.{factor, type_refusal}
 use Rattle.cs_parse.specs.declared.fault.ParseFault.{ParseFault}
 use Rattle.cs_parse.specs.declared.stop.Refusal.{Refusal}
 use Rattle.cs_parse.specs.declared.stop.Refusal.TheVariants.{Short, Bad}
-use Rattle.cs_parse.specs.declared.stop.Stop.{Stop}
-use Rattle.cs_parse.specs.declared.stop.Stop.TheVariants.{Memory, Refused}
 
 infixl 10 ◌>>=◌
 abbrev pub ◌>>=◌ : {A B : Type 0} → Result A Refusal → (A → Result B Refusal) → Result B Refusal
@@ -31,15 +29,6 @@ abbrev pub ◌>>=◌ : {A B : Type 0} → Result A Refusal → (A → Result B R
 abbrev pub Reads : {X Y : Type 0} → (X → Y) → Result X Refusal → Result Y Refusal → Type 0
 Reads view (Ok x) read = read ≡ Ok (view x)
 Reads view (Err refusal) read = read ≡ Err refusal
-
--- The same, unless memory ran out.
-abbrev pub Fails : {Y : Type 0} → Stop → Result Y Refusal → Type 0
-Fails Memory read = Unit {0}
-Fails (Refused refusal) read = read ≡ Err refusal
-
-abbrev pub Gives : {X Y : Type 0} → (X → Y) → Result X Stop → Result Y Refusal → Type 0
-Gives view (Ok x) read = read ≡ Ok (view x)
-Gives view (Err e) read = Fails e read
 
 -- refused at a byte, behind which `rest` stands
 abbrev pub refuse : {A : Type 0} → FaultKind → List ℕ → Result A Refusal

@@ -8,12 +8,13 @@ ghost use Rattle.cs_parse.specs.declared.fault.FaultKind.TheVariants.{Patchset, 
 ghost use Rattle.cs_parse.specs.declared.stop.Refusal.TheVariants.{Bad};
 ghost use Rattle.cs_parse.specs.Canonical.{IsCanonical};
 ghost use Rattle.cs_parse.specs.Count.{behind, counted};
-ghost use Rattle.cs_parse.specs.Reading.{Reads, Gives, op_of, marked_at, change_at, ends_section, changes_at, many_at};
+ghost use Rattle.cs_parse.specs.Front.{changes_front};
+ghost use Rattle.cs_parse.specs.Reading.{Reads, op_of, marked_at, change_at, ends_section, changes_at};
 
 use crate::canonical::both;
 use crate::fault::FaultKind;
 use crate::record::skip_records;
-use crate::stop::{Refusal, Stop};
+use crate::stop::Refusal;
 use cs_model::laws::{changes_fit, spelled_is_said};
 use cs_model::{Changes, Op};
 use std::alloc::{AllocError, Global};
@@ -82,15 +83,15 @@ fn is_over(bytes: &[u8]) -> bool
     }
 }
 
-/// How many changes a section has, up to the next header or the end, the bytes behind them, and whether their own are the
-/// canonical ones.
-pub fn changes_counted<'a>(
-    flags: &[u8],
-    bytes: &'a [u8],
-) -> Result<(usize, &'a [u8], bool), Refusal>
-    ensures read { Reads (λ x. (x.0, x.1.now)) result (counted length (changes_at flags.now bytes.now)) }
-    ensures canonical { IfOk result (λ x. IsTrue x.2
-        → IsCanonical changes_bytes bytes.now (changes_at flags.now bytes.now)) }
+/// As many changes of a section as are whole: how many, the bytes behind them, whether their own are the canonical ones, and
+/// why the next one isn't read; nothing where the next header follows, or the end.
+pub fn whole_changes<'a>(flags: &[u8], bytes: &'a [u8]) -> (usize, &'a [u8], bool, Option<Refusal>)
+    ensures count { result.0 ≡ length (changes_front flags.now bytes.now).items }
+    ensures rest { result.1.now ≡ (changes_front flags.now bytes.now).rest }
+    ensures canonical { IsTrue result.2
+        → bytes.now ≡ changes_bytes (changes_front flags.now bytes.now).items
+        ++ (changes_front flags.now bytes.now).rest }
+    ensures why { result.3 ≡ (changes_front flags.now bytes.now).why }
 {
     let mut count: usize = 0;
     let mut rest = bytes;
@@ -100,12 +101,26 @@ pub fn changes_counted<'a>(
         if is_over(rest) {
             break;
         }
-        let (after, one) = skip_change(flags, rest)?;
+        let (after, one) = match skip_change(flags, rest) {
+            Ok(skipped) => skipped,
+            Err(why) => return (count, rest, canonical, Some(why)),
+        };
         canonical = both(canonical, one);
         rest = after;
         count += 1;
     }
-    Ok((count, rest, canonical))
+    (count, rest, canonical, None)
+}
+
+/// How many changes a section has, up to the next header or the end, and the bytes behind them.
+pub fn changes_counted<'a>(flags: &[u8], bytes: &'a [u8]) -> Result<(usize, &'a [u8]), Refusal>
+    ensures { Reads (λ x. (x.0, x.1.now)) result (counted length (changes_at flags.now bytes.now)) }
+{
+    let (count, rest, _, why) = whole_changes(flags, bytes);
+    match why {
+        None => Ok((count, rest)),
+        Some(why) => Err(why),
+    }
 }
 
 // Adds the changes that a text says: in one copy where it is known to be canonical, and else respelled.
@@ -129,21 +144,23 @@ fn copy_changes(
     }
 }
 
-/// A section's changes, up to the next header or the end. Their bytes are gone over first, so that they are copied as a
-/// whole, and memory is taken once.
+/// As many changes of a section as are whole, the bytes behind them, and why the next one isn't read. Their bytes are gone
+/// over first, so that they are copied as a whole, and memory is taken once.
 pub fn changes_of<'a>(
     alloc: Global,
     flags: &[u8],
     bytes: &'a [u8],
-) -> Result<(Changes, &'a [u8]), Stop>
-    ensures read { Gives (λ x. (x.0.1, x.1.now)) result (changes_at flags.now bytes.now) }
+) -> Result<(Changes, &'a [u8], Option<Refusal>), AllocError>
+    ensures changes { IfOk result (λ x. x.0.1 ≡ (changes_front flags.now bytes.now).items) }
     ensures columns { IfOk result (λ x. x.0.0 ≡ length flags.now) }
+    ensures rest { IfOk result (λ x. x.1.now ≡ (changes_front flags.now bytes.now).rest) }
+    ensures why { IfOk result (λ x. x.2 ≡ (changes_front flags.now bytes.now).why) }
 {
-    let (count, rest, canonical) = changes_counted(flags, bytes)?;
+    let (count, rest, canonical, why) = whole_changes(flags, bytes);
     let (text, _) = bytes.split_at(bytes.len() - rest.len());
     changes_fit();
     spelled_is_said();
     let mut changes = Changes::new(alloc, flags.len());
     copy_changes(&mut changes, text, count, canonical)?;
-    Ok((changes, rest))
+    Ok((changes, rest, why))
 }

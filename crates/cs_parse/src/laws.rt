@@ -1,13 +1,14 @@
 //! Laws: public functions that do nothing, whose contracts say what holds of every text. Who needs one calls it.
 
-ghost use Rattle.std.specs.Prelude.{◌≡◌, ◌↔◌, ◌⊎◌, [], ℕ, List, Ok, Err, Some};
+ghost use Rattle.std.specs.Prelude.{◌≡◌, ◌↔◌, ◌⊎◌, ◌++◌, [], ℕ, List, Ok, Err, Some};
 ghost use Rattle.cs_model.specs.Bytes.{AreBytes};
 ghost use Rattle.cs_model.specs.Section.{Section};
 ghost use Rattle.cs_model.specs.Text.{Spells};
 ghost use Rattle.cs_parse.specs.declared.fault.ParseFault.{ParseFault};
 ghost use Rattle.cs_parse.specs.Answer.{HasChangeset, HasFault};
 ghost use Rattle.cs_parse.specs.Fault.{IsFault};
-ghost use Rattle.cs_parse.specs.Pieces.{fault_in, IsLasting, joined, kept};
+ghost use Rattle.cs_parse.specs.Pieces.{fault_in, offset_of, IsLasting, joined, kept};
+ghost use Rattle.cs_parse.specs.Progress.{nothing, advanced, ended, progress_of};
 ghost use Rattle.cs_parse.specs.Reading.{answer_of};
 
 /// What reading a text gives is what the text spells.
@@ -37,4 +38,20 @@ pub fn pieces_are_joined()
 pub fn feeding_tells_faults()
     ensures { (text : List ℕ) (fault : ParseFault) → AreBytes text
         → (fault_in text ≡ Some fault) ↔ IsLasting text fault }
+{}
+
+/// No bytes are read as far as nothing, and a text with a piece behind it as far as the progress leads that was made of the text.
+pub fn progress_goes_on()
+    ensures begins { progress_of [] ≡ nothing }
+    ensures goes { (text piece : List ℕ) → AreBytes (text ++ piece)
+        → progress_of (text ++ piece) ≡ advanced (progress_of text) piece }
+{}
+
+/// How far a text is read tells what reading it answers, the fault that no more bytes mend, and how many bytes are taken.
+pub fn progress_tells()
+    ensures answer { (text : List ℕ) → AreBytes text → ended (progress_of text) ≡ answer_of text }
+    ensures fault { (text : List ℕ) → AreBytes text
+        → (progress_of text).fault ≡ fault_in text }
+    ensures offset { (text : List ℕ) → AreBytes text
+        → (progress_of text).offset ≡ offset_of text }
 {}

@@ -7,6 +7,7 @@ mod canonical;
 mod change;
 mod fault;
 mod field;
+mod grow;
 mod header;
 pub mod laws;
 mod number;

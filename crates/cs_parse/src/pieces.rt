@@ -1,52 +1,79 @@
 //! A text that comes in pieces.
 
-ghost use Rattle.std.specs.Prelude.{◌≡◌, ◌++◌, [], IfOk, IfErr, OnOk, ℕ, Some};
-ghost use Rattle.cs_parse.specs.Reading.{answer_of};
-ghost use Rattle.cs_parse.specs.Pieces.{lasting, fault_in, offset_of, Fed, IsLasting, TellsLasting, GoesOn};
-ghost use Rattle.cs_model.specs.Bytes.{AreBytes};
-ghost use Rattle.cs_parse.specs.Fault.{IsFault};
-ghost use Rattle.cs_parse.specs.declared.fault.ParseFault.{ParseFault};
+ghost use Rattle.std.specs.Prelude.{◌≡◌, ◌≤◌, ◌+◌, [], ◌++◌, drop, length, IfOk, IfErr, IsOk, OnOk, OnErr, ℕ, List, None, Some, Ok, Err};
+ghost use Rattle.cs_model.specs.Changeset.{most_bytes};
 ghost use Rattle.cs_model.specs.Text.{Spells};
 ghost use Rattle.cs_parse.specs.Answer.{Shows};
+ghost use Rattle.cs_parse.specs.Fault.{IsFault};
+ghost use Rattle.cs_parse.specs.Front.{TakesIn};
+ghost use Rattle.cs_parse.specs.Pieces.{offset_of, IsLasting, TellsLasting, GoesOn};
+ghost use Rattle.cs_parse.specs.Progress.{nothing, broken, advanced, ended, progress_of, Fed, Took};
+ghost use Rattle.cs_parse.specs.declared.fault.ParseFault.{ParseFault};
 
 use crate::fault::{FaultKind, ParseError, ParseFault};
-use crate::whole::parse;
+use crate::grow::grow;
+use crate::laws::progress_tells;
+use crate::whole::MOST_BYTES;
 use cs_model::{Changeset, Seq};
 use std::alloc::Global;
 use std::marker::Model;
+use std::mem;
 
-/// Reads a text that comes in pieces of any size. Contracts see the bytes taken so far. What is answered depends on
-/// these alone, and not on how they were cut.
-///
-/// So far it keeps the bytes and reads them anew at each piece, so that many small pieces cost the square of the
-/// text's length.
+/// Reads a text that comes in pieces of any size, and keeps no more of it than what is read and the bytes of the header or
+/// the change that isn't whole yet. Contracts see how far the text is read (`Progress`). What is answered is said of every
+/// text that a parser with this progress may have taken (`Took`), so it doesn't depend on how the text was cut.
 #[derive(Debug, Drop)]
 pub struct PieceParser {
-    text: Vec<u8>,
-    answer: Result<Changeset, ParseFault>,
+    changeset: Changeset,
+    pending: Vec<u8>,
+    offset: usize,
+    fault: Option<ParseFault>,
 }
 
 impl Model for PieceParser {
-    ghost use Rattle.std.specs.Prelude.{◌≡◌, ℕ, List};
-    ghost use Rattle.cs_model.specs.Bytes.{AreBytes};
-    ghost use Rattle.cs_parse.specs.Reading.{answer_of};
+    ghost use Rattle.std.specs.Prelude.{◌≤◌};
+    ghost use Rattle.cs_model.specs.Changeset.{most_bytes};
+    ghost use Rattle.cs_parse.specs.Progress.{Progress, progress_code};
 
-    ghost Value = { List ℕ };
+    ghost Value = { Progress };
 
-    ghost view = { λ p. p.text.items };
+    ghost coded = { progress_code };
 
-    ghost invariant = { λ p. (answer_of p.text.items ≡ p.answer) × AreBytes p.text.items };
+    ghost view = { λ p. record { sections = p.changeset; pending = p.pending.items; offset = p.offset; fault = p.fault } };
+
+    ghost invariant = { λ p. p.offset ≤ most_bytes };
+}
+
+// no sections
+fn no_changes(alloc: Global) -> Changeset
+    ensures { result ≡ [] }
+{
+    Changeset::from_seq(Seq::from_vec(Vec::new(alloc)))
+}
+
+// Takes the first `len` bytes away. The bytes of a long value, which wait for more, aren't moved.
+fn remove_front(bytes: &mut Vec<u8>, len: usize)
+    requires { len ≤ length bytes.old.items }
+    ensures { bytes.new.items ≡ drop len bytes.old.items }
+{
+    if len == 0 {
+        return;
+    }
+    let all = bytes.len();
+    bytes.as_mut_slice().copy_within(len..all, 0);
+    bytes.truncate(all - len);
 }
 
 impl PieceParser {
     /// A parser that has taken nothing. It takes no memory.
-    #[tactic(auto, unfolding(crate::specs::Reading::answer_of, crate::specs::Reading::sections_at, crate::specs::Reading::many_at))]
     pub fn new(alloc: Global) -> PieceParser
-        ensures { result ≡ [] }
+        ensures { result ≡ nothing }
     {
         PieceParser {
-            text: Vec::new(alloc),
-            answer: Ok(Changeset::from_seq(Seq::from_vec(Vec::new(alloc)))),
+            changeset: no_changes(alloc),
+            pending: Vec::new(alloc),
+            offset: 0,
+            fault: None,
         }
     }
 
@@ -54,88 +81,139 @@ impl PieceParser {
     /// which takes nothing more; that the text isn't whole yet is none. `Memory` leaves the parser as it was, and doesn't come
     /// behind a fault.
     pub fn feed(&mut self, alloc: Global, piece: &[u8]) -> Result<(), ParseError>
-        // The piece is added, unless the text has a fault that lasts or memory runs out.
+        // The piece is read behind what was read before, unless the text has a fault that lasts or memory runs out.
         ensures fed { Fed result self.old piece.now self.new }
         // What is told is the fault of the text, and no more bytes mend it.
-        ensures told { IfErr result (λ error. TellsLasting error self.new) }
+        ensures told { (text : List ℕ) → Took self.old text
+            → IfErr result (λ error. TellsLasting error (text ++ piece.now)) }
         // Where none is told, the text goes on.
-        ensures going { OnOk result (GoesOn self.new) }
+        ensures going { (text : List ℕ) → Took self.old text
+            → OnOk result (GoesOn (text ++ piece.now)) }
+        // Unless memory runs out, the text is taken with the piece.
+        ensures taken { (text : List ℕ) → Took self.old text
+            → OnOk result (Took self.new (text ++ piece.now)) }
         // A fault that was told before is told again.
-        ensures again { (fault : ParseFault) → IsLasting self.old fault
-            → result ≡ Err (ParseError.Fault fault) }
+        ensures again { (text : List ℕ) (fault : ParseFault) → Took self.old text
+            → IsLasting text fault → result ≡ Err (ParseError.Fault fault) }
     {
         self.fed(alloc, piece)
     }
 
-    // the same, as the answer is determined by the text
+    // the same, as the answer is determined by the progress
+    #[tactic(auto, unfolding(crate::specs::Progress::advanced))]
     fn fed(&mut self, alloc: Global, piece: &[u8]) -> Result<(), ParseError>
         ensures fed { Fed result self.old piece.now self.new }
-        ensures old_bytes { AreBytes self.old }
-        ensures bytes { AreBytes self.new }
-        ensures again { (fault : ParseFault) → fault_in self.old ≡ Some fault
+        ensures again { (fault : ParseFault) → self.old.fault ≡ Some fault
             → result ≡ Err (ParseError.Fault fault) }
     {
-        if let Some(fault) = lasting_of(&self.answer) {
+        if let Some(fault) = self.fault {
             return Err(ParseError::Fault(fault));
         }
-        let start = self.text.len();
-        self.text.extend_from_slice(piece)?;
-        let answer = match parse(alloc, &self.text) {
-            Ok(changeset) => Ok(changeset),
-            Err(ParseError::Fault(fault)) => Err(fault),
-            Err(ParseError::Memory) => {
-                self.text.truncate(start);
-                return Err(ParseError::Memory);
-            }
-        };
-        self.answer = answer;
-        match lasting_of(&self.answer) {
-            None => Ok(()),
-            Some(fault) => Err(ParseError::Fault(fault)),
+        let room = MOST_BYTES - self.offset;
+        match self.take_in(alloc, &piece[..piece.len().min(room)]) {
+            Ok(()) if piece.len() <= room => Ok(()),
+            Ok(()) => Err(self.break_off(
+                alloc,
+                ParseFault {
+                    at: MOST_BYTES,
+                    kind: FaultKind::TooLong,
+                },
+            )),
+            Err(ParseError::Fault(fault)) => Err(self.break_off(alloc, fault)),
+            Err(ParseError::Memory) => Err(ParseError::Memory),
         }
+    }
+
+    // Reads bytes within the limit.
+    fn take_in(&mut self, alloc: Global, bytes: &[u8]) -> Result<(), ParseError>
+        requires { self.old.offset + length bytes.now ≤ most_bytes }
+        ensures { TakesIn result self.old bytes.now self.new }
+    {
+        let start = self.pending.len();
+        self.pending.extend_from_slice(bytes)?;
+        let taken = self.offset + bytes.len();
+        match grow(alloc, &mut self.changeset, &self.pending, taken) {
+            Ok(read) => {
+                remove_front(&mut self.pending, read);
+                self.offset = taken;
+                Ok(())
+            }
+            Err(error) => {
+                self.pending.truncate(start);
+                Err(error)
+            }
+        }
+    }
+
+    // Nothing is kept behind a fault.
+    fn break_off(&mut self, alloc: Global, fault: ParseFault) -> ParseError
+        requires { fault.at ≤ most_bytes }
+        ensures broken { self.new ≡ broken fault }
+        ensures told { result ≡ ParseError.Fault fault }
+    {
+        self.changeset = no_changes(alloc);
+        self.pending = Vec::new(alloc);
+        self.offset = fault.at;
+        self.fault = Some(fault);
+        ParseError::Fault(fault)
     }
 
     /// The changeset that the bytes taken so far spell, or their fault. It changes nothing and takes no memory, so
     /// that feeding may go on.
     pub fn finish(&self) -> Result<&Changeset, ParseFault>
-        ensures found { IfOk result (λ changeset. Spells self.now changeset.now) }
-        ensures faulty { IfErr result (λ fault. IsFault self.now fault) }
-        ensures exact { Shows result (answer_of self.now) }
+        ensures found { (text : List ℕ) → Took self.now text
+            → IfOk result (λ changeset. Spells text changeset.now) }
+        ensures faulty { (text : List ℕ) → Took self.now text
+            → IfErr result (λ fault. IsFault text fault) }
+        ensures exact { Shows result (ended self.now) }
     {
-        match &self.answer {
-            Ok(changeset) => Ok(changeset),
-            Err(fault) => Err(*fault),
-        }
+        self.finished()
     }
 
-    /// The same as the parser's end: the changeset without a copy.
-    pub fn into_changeset(self) -> Result<Changeset, ParseFault>
-        ensures { result ≡ answer_of self }
+    // the same, as the answer is determined by the progress
+    fn finished(&self) -> Result<&Changeset, ParseFault>
+        ensures { Shows result (ended self.now) }
     {
-        let PieceParser { text: _, answer } = self;
-        answer
+        if let Some(fault) = self.fault {
+            return Err(fault);
+        }
+        if self.pending.is_empty() {
+            return Ok(&self.changeset);
+        }
+        Err(ParseFault {
+            at: self.offset,
+            kind: FaultKind::Truncated,
+        })
+    }
+
+    /// The changeset that `finish` shows, without a copy. The parser is left as a new one.
+    pub fn take(&mut self, alloc: Global) -> Changeset
+        requires { IsOk (ended self.old) }
+        ensures changeset { ended self.old ≡ Ok result }
+        ensures new { self.new ≡ nothing }
+    {
+        let parser = mem::replace(self, PieceParser::new(alloc));
+        let PieceParser { changeset, .. } = parser;
+        changeset
+    }
+
+    /// What `finish` shows, as the parser's end: the changeset without a copy.
+    pub fn into_changeset(self) -> Result<Changeset, ParseFault>
+        ensures { result ≡ ended self }
+    {
+        if let Err(fault) = self.finish() {
+            return Err(fault);
+        }
+        let PieceParser { changeset, .. } = self;
+        Ok(changeset)
     }
 
     /// How many bytes were taken so far; after a fault its place.
     pub fn offset(&self) -> usize
-        ensures { result ≡ offset_of self.now }
+        ensures value { result ≡ self.now.offset }
+        ensures text { (text : List ℕ) → Took self.now text → result ≡ offset_of text }
     {
-        match lasting_of(&self.answer) {
-            None => self.text.len(),
-            Some(fault) => fault.at,
-        }
-    }
-}
-
-// the fault that no more bytes mend
-fn lasting_of(answer: &Result<Changeset, ParseFault>) -> Option<ParseFault>
-    ensures { result ≡ lasting answer.now }
-{
-    match answer {
-        Ok(_) => None,
-        Err(fault) => match fault.kind {
-            FaultKind::Truncated => None,
-            _ => Some(*fault),
-        },
+        progress_tells();
+        self.offset
     }
 }

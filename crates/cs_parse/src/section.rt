@@ -1,16 +1,18 @@
 //! Sections.
 
-ghost use Rattle.std.specs.Prelude.{◌≡◌, length};
+ghost use Rattle.std.specs.Prelude.{◌≡◌, ◌<◌, [], IfOk, length};
 ghost use Rattle.cs_parse.specs.Count.{counted, changes_in};
-ghost use Rattle.cs_parse.specs.Reading.{Reads, Gives, shape_at, section_at, is_empty, many_at, sections_at};
+ghost use Rattle.cs_parse.specs.Front.{NextSection};
+ghost use Rattle.cs_parse.specs.Progress.{read_on};
+ghost use Rattle.cs_parse.specs.Reading.{Reads, shape_at, section_at, is_empty, many_at, sections_at};
 ghost use Rattle.cs_parse.specs.Seen.{shape_seen};
 
 use crate::change::{changes_counted, changes_of};
 use crate::fault::FaultKind;
 use crate::header::{ShapeRef, header_of, shape_of};
-use crate::stop::{Refusal, Stop};
+use crate::stop::Refusal;
 use cs_model::Section;
-use std::alloc::Global;
+use std::alloc::{AllocError, Global};
 
 // A section's shape, where it stands. The section before it ends only where a `T` follows, so another first byte is the
 // text's.
@@ -35,19 +37,33 @@ fn shape_in(bytes: &[u8]) -> Result<(ShapeRef, &[u8]), Refusal>
     })
 }
 
-// a section
-#[tactic(auto, unfolding(crate::specs::Reading::section_at))]
-fn section_of(alloc: Global, bytes: &[u8]) -> Result<(Section, &[u8]), Stop>
-    ensures { Gives (λ x. (x.0, x.1.now)) result (section_at bytes.now) }
+// Adds the next section, as far as it is whole: where its header is, with as many of its changes as are. The bytes behind it,
+// and why it isn't read to its end.
+fn next_section<'a>(
+    alloc: Global,
+    sections: &mut Vec<Section>,
+    bytes: &'a [u8],
+) -> Result<(&'a [u8], Option<Refusal>), AllocError>
+    requires { 0 < length bytes.now }
+    ensures { IfOk result (λ x. NextSection
+        sections.old.items sections.new.items bytes.now x.0.now x.1) }
 {
-    let (shape, rest) = shape_in(bytes)?;
-    let (changes, rest) = changes_of(alloc, shape.flags, rest)?;
-    Ok((Section::new(shape_of(alloc, shape)?, changes), rest))
+    let (shape, rest) = match shape_in(bytes) {
+        Ok(read) => read,
+        Err(why) => return Ok((bytes, Some(why))),
+    };
+    let (changes, rest, why) = changes_of(alloc, shape.flags, rest)?;
+    sections.push(Section::new(shape_of(alloc, shape)?, changes))?;
+    Ok((rest, why))
 }
 
-/// The sections of a text.
-pub fn sections_of(alloc: Global, bytes: &[u8]) -> Result<(Vec<Section>, &[u8]), Stop>
-    ensures { Gives (λ x. (x.0.items, x.1.now)) result (sections_at bytes.now) }
+/// The sections of a text, the last one as far as it is whole, the bytes behind them, and why no more is read.
+pub fn whole_sections(
+    alloc: Global,
+    bytes: &[u8],
+) -> Result<(Vec<Section>, &[u8], Option<Refusal>), AllocError>
+    ensures { IfOk result (λ x. read_on [] bytes.now
+        ≡ record { sections = x.0.items; rest = x.1.now; why = x.2 }) }
 {
     let mut sections = Vec::new(alloc);
     let mut rest = bytes;
@@ -56,11 +72,13 @@ pub fn sections_of(alloc: Global, bytes: &[u8]) -> Result<(Vec<Section>, &[u8]),
         if rest.is_empty() {
             break;
         }
-        let (section, after) = section_of(alloc, rest)?;
-        sections.push(section)?;
+        let (after, why) = next_section(alloc, &mut sections, rest)?;
         rest = after;
+        if why.is_some() {
+            return Ok((sections, rest, why));
+        }
     }
-    Ok((sections, rest))
+    Ok((sections, rest, None))
 }
 
 // how many changes the next section has, and the bytes behind it
@@ -70,7 +88,7 @@ fn section_counted(bytes: &[u8]) -> Result<(usize, &[u8]), Refusal>
         (counted (λ section. length section.changes) (section_at bytes.now)) }
 {
     let (shape, rest) = shape_in(bytes)?;
-    let (count, rest, _) = changes_counted(shape.flags, rest)?;
+    let (count, rest) = changes_counted(shape.flags, rest)?;
     Ok((count, rest))
 }
 

@@ -11,13 +11,13 @@ ghost use Rattle.cs_parse.specs.Count.{changes_in, counted_answer, HasChanges};
 ghost use Rattle.cs_parse.specs.Reading.{answer_of, fault_of, sections_at, placed, cut};
 
 use crate::fault::{FaultKind, ParseError, ParseFault};
-use crate::section::{sections_counted, sections_of};
-use crate::stop::{Refusal, Stop};
+use crate::section::{sections_counted, whole_sections};
+use crate::stop::Refusal;
 use cs_model::{Changeset, Section, Seq};
 use std::alloc::Global;
 
-// the most bytes of a text
-const MOST_BYTES: usize = 16_777_216;
+/// The most bytes of a text.
+pub const MOST_BYTES: usize = 16_777_216;
 
 // The fault of a text of which the first `len` bytes are read, and what it is when they end too early.
 fn fault_from(refusal: Refusal, len: usize, ended: FaultKind) -> ParseFault
@@ -40,14 +40,14 @@ fn fault_from(refusal: Refusal, len: usize, ended: FaultKind) -> ParseFault
 fn whole_of(alloc: Global, text: &[u8]) -> Result<Seq<Section>, ParseError>
     ensures { Answers result (placed (length text.now) (sections_at text.now)) }
 {
-    match sections_of(alloc, text) {
-        Ok((sections, _)) => Ok(Seq::from_vec(sections)),
-        Err(Stop::Refused(refusal)) => Err(ParseError::Fault(fault_from(
+    match whole_sections(alloc, text) {
+        Ok((sections, _, None)) => Ok(Seq::from_vec(sections)),
+        Ok((_, _, Some(refusal))) => Err(ParseError::Fault(fault_from(
             refusal,
             text.len(),
             FaultKind::Truncated,
         ))),
-        Err(Stop::Memory) => Err(unbuilt(text)),
+        Err(_) => Err(unbuilt(text)),
     }
 }
 

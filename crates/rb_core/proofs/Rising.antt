@@ -1,17 +1,13 @@
 -- In a run the numbers that a subscription accepted rise.
-use Rattle.std.proofs.Common.{◌≡◌, ℕ, zero, suc, ◌+◌, ◌<◌, ◌≤◌, Bool, true, false, cond, eqb, ltb, leb, List, [], ◌∷◌, ◌++◌, length, Option, Some, None, Result, Ok, Err, refl, sym, ap, subst, ◌∙◌, arith, inl, inr, set}
+use Rattle.std.proofs.Common.{◌≡◌, ℕ, zero, suc, ◌+◌, ◌<◌, ◌≤◌, Bool, true, false, cond, eqb, ltb, leb, List, [], ◌∷◌, ◌++◌, length, Option, Some, None, Result, Ok, Err, refl, sym, ap, subst, arith, set}
 use Rattle.std.specs.Prelude.{slice_get}
 use Rattle.std.proofs.lemmas.Bool.{leb-false, eqb-true}
-use Rattle.std.specs.declared.alloc.AllocError.{AllocError}
 use Rattle.cs_model.specs.Section.{Section}
 use Rattle.cs_model.specs.declared.schema.SectionFault.{SectionFault}
-use Rattle.cs_model.specs.declared.schema.SectionFault.TheVariants.{UnknownTable, ShapeDiffers}
 use Rattle.cs_model.specs.declared.shape.Shape.{Shape}
 use Rattle.cs_model.specs.Schema.{refusal_of}
 use Rattle.cs_parse.specs.declared.fault.ParseFault.{ParseFault}
-use Rattle.cs_parse.specs.Reading.{answer_of}
-use Rattle.cs_parse.specs.Pieces as pieces
-use Rattle.cs_parse.specs.Pieces.{fault_in}
+use Rattle.cs_parse.specs.Progress as stream
 use Rattle.cs_apply.specs.declared.conflict.Conflict.{Conflict}
 use Rattle.cs_apply.specs.State as tables
 use Rattle.cs_apply.specs.Single.{single}
@@ -19,15 +15,14 @@ use Rattle.rb_core.specs.declared.event.Event.{Event}
 use Rattle.rb_core.specs.declared.event.Event.TheVariants as event
 use Rattle.rb_core.specs.declared.reply.Reply.{Reply}
 use Rattle.rb_core.specs.declared.reply.Reply.TheVariants as reply
-use Rattle.rb_core.specs.declared.reply.Refusal.{Refusal}
 use Rattle.rb_core.specs.declared.parts.Publisher.{Publisher}
 use Rattle.rb_core.specs.declared.entry.Item.{Item}
 use Rattle.rb_core.specs.declared.parts.Subscription.{Subscription}
 use Rattle.rb_core.specs.declared.parts.Handed.{Handed}
 use Rattle.rb_desk.specs.Limits.{Limits}
 use Rattle.rb_core.specs.State.{State, empty_world}
-use Rattle.rb_core.specs.Outcome.{outcome, fed_reply, fed, reset, ended, parsed, admitted, sent, staged_of, turned, taken, numbered, delivered, reached, opened, accepted, subscribe_outcome, fault_refusal, with_accepted}
-use Rattle.rb_core.specs.Run.{Answer, Stepped, Run, accepted_now, accepted_by, RiseAbove}
+use Rattle.rb_core.specs.Outcome.{outcome, fed_reply, fed, reset, ended, parsed, admitted, sent, staged_of, turned, taken, numbered, delivered, reached, opened, accepted, subscribe_outcome, with_accepted}
+use Rattle.rb_core.specs.Run.{Answer, Run, accepted_now, accepted_by, RiseAbove}
 
 -- the cursor of the subscription at a place, and 0 where there is none
 abbrev cursor_at : List Subscription → ℕ → ℕ
@@ -81,7 +76,7 @@ quiet_feed (Some fault) = λ s c e. absurd cc
 
 keeps_feed : (s : ℕ) (old : State) (p : ℕ) (bytes : List ℕ) (o : Option Publisher) → Keeps s old (fed old p bytes o).0 (fed old p bytes o).1
 keeps_feed s old p bytes None = still s old _ old (λ s c e. absurd cc) (omega arith)
-keeps_feed s old p bytes (Some q) = still s old _ _ (quiet_feed (fault_in (pieces.taken q.stream bytes))) (omega arith)
+keeps_feed s old p bytes (Some q) = still s old _ _ (quiet_feed (stream.advanced q.stream bytes).fault) (omega arith)
 
 keeps_reset : (s : ℕ) (old : State) (p : ℕ) (o : Option Publisher) → Keeps s old (reset old p o).0 (reset old p o).1
 keeps_reset s old p None = still s old _ old (λ s c e. absurd cc) (omega arith)
@@ -98,7 +93,7 @@ keeps_parsed s old p q (Err fault) = still s old _ old (λ s c e. absurd cc) (om
 keeps_end : (s : ℕ) (old : State) (p : ℕ) (o : Option Publisher) (staged : Option (List Section)) → Keeps s old (ended old p o staged).0 (ended old p o staged).1
 keeps_end s old p None staged = still s old _ old (λ s c e. absurd cc) (omega arith)
 keeps_end s old p (Some q) (Some c) = still s old _ old (λ s c e. absurd cc) (omega arith)
-keeps_end s old p (Some q) None = keeps_parsed s old p q (answer_of q.stream)
+keeps_end s old p (Some q) None = keeps_parsed s old p q (stream.ended q.stream)
 
 keeps_send : (s : ℕ) (old : State) (p : ℕ) (o : Option Publisher) (staged : Option (List Section)) → Keeps s old (sent old p o staged).0 (sent old p o staged).1
 keeps_send s old p None staged = still s old _ old (λ s c e. absurd cc) (omega arith)

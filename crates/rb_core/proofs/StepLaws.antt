@@ -1,15 +1,16 @@
 -- What an event does is one of the steps that the relation allows.
-use Rattle.std.proofs.Common.{◌≡◌, ℕ, zero, suc, ◌+◌, ◌<◌, ◌≤◌, inl, inr, Bool, true, false, cond, ltb, leb, List, [], ◌∷◌, ◌++◌, length, get_or, Option, Some, None, Result, Ok, Err, refl, sym, ap, subst, ◌∙◌, arith, set}
+use Rattle.std.proofs.Common.{◌≡◌, ℕ, zero, suc, ◌+◌, ◌<◌, ◌≤◌, Bool, true, false, cond, ltb, leb, List, [], ◌∷◌, ◌++◌, length, Option, Some, None, Result, Ok, Err, refl, sym, ap, subst, ◌∙◌, arith, set}
 use Rattle.std.specs.Prelude.{slice_get, MatchOption, MatchResult, ◌↔◌, IfOk}
-use Rattle.std.proofs.lemmas.List.{get_or_append_left, get_or_past}
-use Rattle.std.proofs.lemmas.Bool.{cases_lt, ltb-true, ltb-false, leb-true, leb-false}
+use Rattle.std.proofs.lemmas.Bool.{ltb-true, ltb-false, leb-true, leb-false}
 use Rattle.cs_model.specs.Section.{Section}
 use Rattle.cs_model.specs.declared.schema.SectionFault.{SectionFault}
 use Rattle.cs_model.specs.Schema.{refusal_of}
 use Rattle.cs_model.specs.Text.{Spells}
 use Rattle.cs_parse.specs.declared.fault.ParseFault.{ParseFault}
 use Rattle.cs_parse.specs.Reading.{answer_of}
-use Rattle.cs_parse.specs.Pieces.{fault_in, behind, IsLasting}
+use Rattle.cs_parse.specs.Pieces.{fault_in, IsLasting}
+use Rattle.cs_parse.specs.Progress as stream
+use Rattle.cs_parse.specs.Progress.{Progress, Took, nothing, advanced, progress_of}
 use Rattle.cs_parse.specs.Fault.{IsFault}
 use Rattle.cs_apply.specs.declared.conflict.Conflict.{Conflict}
 use Rattle.cs_apply.specs.State as tables
@@ -18,7 +19,6 @@ use Rattle.rb_core.specs.declared.event.Event.{Event}
 use Rattle.rb_core.specs.declared.event.Event.TheVariants as event
 use Rattle.rb_core.specs.declared.reply.Reply.{Reply}
 use Rattle.rb_core.specs.declared.reply.Reply.TheVariants as reply
-use Rattle.rb_core.specs.declared.reply.Refusal.{Refusal}
 use Rattle.rb_core.specs.declared.reply.Refusal.TheVariants as refusal
 use Rattle.rb_core.specs.declared.parts.Publisher.{Publisher}
 use Rattle.rb_core.specs.declared.entry.Item.{Item}
@@ -27,8 +27,9 @@ use Rattle.rb_core.specs.declared.parts.Handed.{Handed}
 use Rattle.rb_core.specs.State.{State}
 use Rattle.rb_core.specs.Outcome.{outcome, fed_reply, fed_stream, fed, reset, ended, parsed, admitted, sent, staged_of, turned, taken, numbered, delivered, reached, opened, accepted, subscribe_outcome, fault_refusal, with_publisher, with_subscription, with_accepted}
 use Rattle.cs_model.specs.Bytes.{AreBytes}
-use Rattle.rb_core.specs.Step.{Refuses, Feeds, Stays, Adds, Stages, Reads, SubscribeStep, Applies, Step}
+use Rattle.rb_core.specs.Step.{Refuses, Feeds, Stages, Reads, SubscribeStep, Applies, Step}
 use Rattle.rb_core.specs.Run.{Answer}
+use Rattle.rb_core.proofs.Streams.{ProgressGoesOn, takes_more}
 
 -- a relation between a reply and a world, of an outcome
 abbrev Of : (Reply → State → Type 0) → Reply × State → Type 0
@@ -56,9 +57,19 @@ FeedingTells = (text : List ℕ) (fault : ParseFault) → AreBytes text → (fau
 abbrev pub FaultsAreTold : Type 0
 FaultsAreTold = (text : List ℕ) (fault : ParseFault) → AreBytes text → IsFault text fault → answer_of text ≡ Err fault
 
--- what feeding does where a publisher is found
-abbrev Fed : State → ℕ → Publisher → List ℕ → Reply → State → Type 0
-Fed old p q bytes given new = Feeds old p q bytes given new × (AreBytes (q.stream ++ bytes) → Stays old q given new × Adds old p q bytes given new)
+-- how far a text is read tells the fault that no more bytes mend, and what reading it answers
+abbrev pub ProgressTellsFault : Type 0
+ProgressTellsFault = (text : List ℕ) → AreBytes text → (progress_of text).fault ≡ fault_in text
+
+abbrev pub ProgressTellsAnswer : Type 0
+ProgressTellsAnswer = (text : List ℕ) → AreBytes text → stream.ended (progress_of text) ≡ answer_of text
+
+-- the same of a stream that took the text
+fault_took : (progress : Progress) (text : List ℕ) → Took progress text → ProgressTellsFault → progress.fault ≡ fault_in text
+fault_took progress text took tells = ap (λ p. p.fault) took.read ∙ tells text took.bytes
+
+answer_took : (progress : Progress) (text : List ℕ) → Took progress text → ProgressTellsAnswer → stream.ended progress ≡ answer_of text
+answer_took progress text took tells = ap (λ p. stream.ended p) took.read ∙ tells text took.bytes
 
 reply_told : (text : List ℕ) (o : Option ParseFault) → AreBytes text → FeedingTells → fault_in text ≡ o
     → ((fault : ParseFault) → IsLasting text fault → fed_reply o ≡ reply.Fault fault) × (((fault : ParseFault) → IsLasting text fault → ⊥) → fed_reply o ≡ reply.Fed)
@@ -74,77 +85,80 @@ reply_told text (Some told) fits tells e = (
   λ none. absurd (none told ((tells text told fits).0 e)),
 )
 
-front_bytes : (front back : List ℕ) → AreBytes (front ++ back) → AreBytes front
-front_bytes front back fits i = elim (cases_lt i (length front)) as (λ w. get_or front i 0 < 256) [
-  | inl less ↦ subst (λ n. n < 256) (get_or_append_left front back 0 i less) (fits i)
-  | inr past ↦ subst (λ n. n < 256) (sym (get_or_past front i 0 past)) (omega arith)
-]
+-- behind a fault nothing is taken
+stays_broken : (old : Progress) (bytes : List ℕ) (fault : ParseFault) → old.fault ≡ Some fault → advanced old bytes ≡ old
+unfolding advanced
+stays_broken old bytes fault e = ap (λ o. stream.advance o old bytes) e
 
-step_fed : (old : State) (p : ℕ) (q : Publisher) (bytes : List ℕ) (o : Option ParseFault) → slice_get old.publishers p ≡ Some q → fault_in q.stream ≡ o → FeedingTells
-    → Of (Fed old p q bytes) (fed_stream old p q (behind o q.stream bytes))
-step_fed old p q bytes None found e tells = (
-  inr refl,
-  λ fits.
-      let told = reply_told (q.stream ++ bytes) (fault_in (q.stream ++ bytes)) fits tells refl in (
-        λ fault h. let some : None ≡ Some fault = sym e ∙ (tells q.stream fault (front_bytes q.stream bytes fits)).1 h in absurd cc,
-        λ none. (refl, told.0, told.1),
-      ),
-)
-step_fed old p q bytes (Some fault) found e tells = (
-  inl (fault, ap fed_reply e, ap (λ ps. record old { publishers = ps }) (set-found old.publishers p q found)),
-  λ fits.
-      let front = front_bytes q.stream bytes fits in (
-        λ other h.
-            let some : Some fault ≡ Some other = sym e ∙ (tells q.stream other front).1 h in
-            let same : fault ≡ other = cc in
-            (ap fed_reply e ∙ ap reply.Fault same, ap (λ ps. record old { publishers = ps }) (set-found old.publishers p q found)),
-        λ none. absurd (none fault ((tells q.stream fault front).0 e)),
-      ),
-)
+step_fed : (old : State) (p : ℕ) (q : Publisher) (bytes : List ℕ) → slice_get old.publishers p ≡ Some q → FeedingTells → ProgressGoesOn → ProgressTellsFault
+    → Of (Feeds old p q bytes) (fed_stream old p q (advanced q.stream bytes))
+step_fed old p q bytes found feeding goes tells =
+    record {
+      stream = advanced q.stream bytes;
+      kept = refl;
+      takes = λ text took more. takes_more q.stream text bytes goes took more;
+      told = λ text took more. (told text took more).0;
+      untold = λ text took more. (told text took more).1;
+      stays = λ text took fault h.
+          let e : q.stream.fault ≡ Some fault = fault_took q.stream text took tells ∙ (feeding text fault took.bytes).1 h in
+          let same : advanced q.stream bytes ≡ q.stream = stays_broken q.stream bytes fault e in (
+            ap (λ (x : Progress). fed_reply x.fault) same ∙ ap fed_reply e,
+            ap (λ (x : Progress). with_publisher old p (record q { stream = x })) same ∙ ap (λ ps. record old { publishers = ps }) (set-found old.publishers p q found),
+          );
+    }
+  where
+    told : (text : List ℕ) → Took q.stream text → AreBytes bytes
+        → ((fault : ParseFault) → IsLasting (text ++ bytes) fault → fed_reply (advanced q.stream bytes).fault ≡ reply.Fault fault)
+        × (((fault : ParseFault) → IsLasting (text ++ bytes) fault → ⊥) → fed_reply (advanced q.stream bytes).fault ≡ reply.Fed)
+    told text took more =
+        let new = takes_more q.stream text bytes goes took more in
+        reply_told (text ++ bytes) (advanced q.stream bytes).fault new.bytes feeding (sym (fault_took (advanced q.stream bytes) (text ++ bytes) new tells))
 
-step_feed : (old : State) (p : ℕ) (bytes : List ℕ) (o : Option Publisher) → slice_get old.publishers p ≡ o → FeedingTells
-    → Of (λ given new. MatchOption o (Refuses old refusal.NoPublisher given new) (λ q. Fed old p q bytes given new)) (fed old p bytes o)
-step_feed old p bytes None found tells = (refl, refl)
-step_feed old p bytes (Some q) found tells = step_fed old p q bytes (fault_in q.stream) found refl tells
+step_feed : (old : State) (p : ℕ) (bytes : List ℕ) (o : Option Publisher) → slice_get old.publishers p ≡ o → FeedingTells → ProgressGoesOn → ProgressTellsFault
+    → Of (λ given new. MatchOption o (Refuses old refusal.NoPublisher given new) (λ q. Feeds old p q bytes given new)) (fed old p bytes o)
+step_feed old p bytes None found feeding goes tells = (refl, refl)
+step_feed old p bytes (Some q) found feeding goes tells = step_fed old p q bytes found feeding goes tells
 
 step_reset : (old : State) (p : ℕ) (o : Option Publisher)
     → Of (λ given new. MatchOption o (Refuses old refusal.NoPublisher given new)
-    (λ q. (given ≡ reply.Reset) × (new ≡ with_publisher old p (record q { stream = [] })))) (reset old p o)
+    (λ q. (given ≡ reply.Reset) × (new ≡ with_publisher old p (record q { stream = nothing })))) (reset old p o)
 step_reset old p None = (refl, refl)
 step_reset old p (Some q) = (refl, refl)
 
 step_admitted : (old : State) (p : ℕ) (q : Publisher) (changeset : List Section) (o : Option SectionFault)
-    → Of (λ given new. MatchOption o ((given ≡ reply.Staged) × (new ≡ with_publisher old p (record q { stream = []; staged = Some changeset })))
+    → Of (λ given new. MatchOption o ((given ≡ reply.Staged) × (new ≡ with_publisher old p (record q { stream = nothing; staged = Some changeset })))
     (λ fault. Refuses old (fault_refusal fault) given new)) (admitted old p q changeset o)
 step_admitted old p q changeset None = (refl, refl)
 step_admitted old p q changeset (Some fault) = (refl, refl)
 
-step_reads : (old : State) (p : ℕ) (q : Publisher) (r : Result (List Section) ParseFault) → answer_of q.stream ≡ r → ReadingIsSpelling → FaultsAreTold → Of (Reads old p q) (parsed old p q r)
-step_reads old p q (Ok c) found reading faults = λ fits. (
-  λ d spells.
-      let e : Ok c ≡ Ok d = sym found ∙ (reading q.stream d fits).1 spells in
-      let same : c ≡ d = cc in
-      subst (λ (x : List Section). Of (Stages old p q x) (parsed old p q (Ok c))) same (step_admitted old p q c (refusal_of old.schema c)),
-  λ fault h. let e : Ok c ≡ Err fault = sym found ∙ faults q.stream fault fits h in absurd cc,
-)
-step_reads old p q (Err fault) found reading faults = λ fits. (
-  λ d spells. let e : Err fault ≡ Ok d = sym found ∙ (reading q.stream d fits).1 spells in absurd cc,
-  λ other h.
-      let e : Err fault ≡ Err other = sym found ∙ faults q.stream other fits h in
-      let same : fault ≡ other = cc in
-      (ap reply.Fault same, refl),
-)
+step_reads : (old : State) (p : ℕ) (q : Publisher) (r : Result (List Section) ParseFault) → stream.ended q.stream ≡ r → ReadingIsSpelling → FaultsAreTold → ProgressTellsAnswer → Of (Reads old p q) (parsed old p q r)
+step_reads old p q (Ok c) found reading faults answers = λ text took.
+    let read : Ok c ≡ answer_of text = sym found ∙ answer_took q.stream text took answers in (
+      λ d spells.
+          let e : Ok c ≡ Ok d = read ∙ (reading text d took.bytes).1 spells in
+          let same : c ≡ d = cc in
+          subst (λ (x : List Section). Of (Stages old p q x) (parsed old p q (Ok c))) same (step_admitted old p q c (refusal_of old.schema c)),
+      λ fault h. let e : Ok c ≡ Err fault = read ∙ faults text fault took.bytes h in absurd cc,
+    )
+step_reads old p q (Err fault) found reading faults answers = λ text took.
+    let read : Err fault ≡ answer_of text = sym found ∙ answer_took q.stream text took answers in (
+      λ d spells. let e : Err fault ≡ Ok d = read ∙ (reading text d took.bytes).1 spells in absurd cc,
+      λ other h.
+          let e : Err fault ≡ Err other = read ∙ faults text other took.bytes h in
+          let same : fault ≡ other = cc in
+          (ap reply.Fault same, refl),
+    )
 
-step_held : (old : State) (p : ℕ) (q : Publisher) (staged : Option (List Section)) → ReadingIsSpelling → FaultsAreTold
+step_held : (old : State) (p : ℕ) (q : Publisher) (staged : Option (List Section)) → ReadingIsSpelling → FaultsAreTold → ProgressTellsAnswer
     → Of (λ given new. MatchOption staged (Reads old p q given new) (λ _. Refuses old refusal.Holding given new)) (ended old p (Some q) staged)
-step_held old p q None reading faults = step_reads old p q (answer_of q.stream) refl reading faults
-step_held old p q (Some c) reading faults = (refl, refl)
+step_held old p q None reading faults answers = step_reads old p q (stream.ended q.stream) refl reading faults answers
+step_held old p q (Some c) reading faults answers = (refl, refl)
 
-step_end : (old : State) (p : ℕ) (o : Option Publisher) → ReadingIsSpelling → FaultsAreTold
+step_end : (old : State) (p : ℕ) (o : Option Publisher) → ReadingIsSpelling → FaultsAreTold → ProgressTellsAnswer
     → Of (λ given new. MatchOption o (Refuses old refusal.NoPublisher given new)
     (λ q. MatchOption q.staged (Reads old p q given new) (λ _. Refuses old refusal.Holding given new))) (ended old p o (staged_of o))
-step_end old p None reading faults = (refl, refl)
-step_end old p (Some q) reading faults = step_held old p q q.staged reading faults
+step_end old p None reading faults answers = (refl, refl)
+step_end old p (Some q) reading faults answers = step_held old p q q.staged reading faults answers
 
 -- what sending does where a publisher is found
 abbrev Sends : State → ℕ → Publisher → Option (List Section) → Reply → State → Type 0
@@ -233,17 +247,17 @@ step_delivered : (old : State) (o : Option Handed)
 step_delivered old None = (refl, refl)
 step_delivered old (Some handed) = step_reached old handed (slice_get old.subscriptions handed.subscription) refl
 
-pub outcome_steps : ReadingIsSpelling → FaultsAreTold → FeedingTells → (old : State) (e : Event) → Step old e (outcome old e).0 (outcome old e).1
+pub outcome_steps : ReadingIsSpelling → FaultsAreTold → FeedingTells → ProgressGoesOn → ProgressTellsAnswer → ProgressTellsFault → (old : State) (e : Event) → Step old e (outcome old e).0 (outcome old e).1
 unfolding outcome
-outcome_steps reading faults tells old event.Publisher = (refl, refl)
-outcome_steps reading faults tells old (event.Feed p bytes) = step_feed old p bytes (slice_get old.publishers p) refl tells
-outcome_steps reading faults tells old (event.Reset p) = step_reset old p (slice_get old.publishers p)
-outcome_steps reading faults tells old (event.End p) = step_end old p (slice_get old.publishers p) reading faults
-outcome_steps reading faults tells old (event.Send p) = step_send old p (slice_get old.publishers p)
-outcome_steps reading faults tells old event.Turn = step_turn old old.intake
-outcome_steps reading faults tells old (event.Subscribe start) = step_subscribe old start
-outcome_steps reading faults tells old (event.Take s now) = step_take old s (slice_get old.subscriptions s)
-outcome_steps reading faults tells old (event.Accept d) = step_delivered old (numbered old.deliveries d)
+outcome_steps reading faults feeding goes answers tells old event.Publisher = (refl, refl)
+outcome_steps reading faults feeding goes answers tells old (event.Feed p bytes) = step_feed old p bytes (slice_get old.publishers p) refl feeding goes tells
+outcome_steps reading faults feeding goes answers tells old (event.Reset p) = step_reset old p (slice_get old.publishers p)
+outcome_steps reading faults feeding goes answers tells old (event.End p) = step_end old p (slice_get old.publishers p) reading faults answers
+outcome_steps reading faults feeding goes answers tells old (event.Send p) = step_send old p (slice_get old.publishers p)
+outcome_steps reading faults feeding goes answers tells old event.Turn = step_turn old old.intake
+outcome_steps reading faults feeding goes answers tells old (event.Subscribe start) = step_subscribe old start
+outcome_steps reading faults feeding goes answers tells old (event.Take s now) = step_take old s (slice_get old.subscriptions s)
+outcome_steps reading faults feeding goes answers tells old (event.Accept d) = step_delivered old (numbered old.deliveries d)
 
 -- where the outcome is answered, the relation holds
 pub Step-from : ((old : State) (e : Event) (given : Reply) (new : State) → outcome old e ≡ (given, new) → Step old e given new)

@@ -1,5 +1,5 @@
--- Streams are of bytes in every run of events that feed bytes.
-use Rattle.std.proofs.Common.{◌≡◌, ℕ, zero, suc, ◌<◌, Bool, true, false, cond, List, [], ◌∷◌, ◌++◌, get_or, Option, Some, None, Result, Ok, Err, refl, sym, subst, arith}
+-- Each stream has taken some text, in every run of events that feed bytes.
+use Rattle.std.proofs.Common.{◌≡◌, ℕ, zero, suc, Bool, true, false, cond, List, [], ◌∷◌, ◌++◌, Option, Some, None, Result, Ok, Err, refl, sym, ap, subst, ◌∙◌, arith}
 use Rattle.std.specs.Prelude.{slice_get, slice_set}
 use Rattle.std.specs.List.{AllByRecursion}
 use Rattle.cs_model.specs.Section.{Section}
@@ -7,8 +7,8 @@ use Rattle.cs_model.specs.declared.schema.SectionFault.{SectionFault}
 use Rattle.cs_model.specs.Schema.{refusal_of}
 use Rattle.cs_model.specs.declared.shape.Shape.{Shape}
 use Rattle.cs_parse.specs.declared.fault.ParseFault.{ParseFault}
-use Rattle.cs_parse.specs.Reading.{answer_of}
-use Rattle.cs_parse.specs.Pieces.{fault_in, behind, taken as pieces_taken}
+use Rattle.cs_parse.specs.Progress as stream
+use Rattle.cs_parse.specs.Progress.{Progress, Took, nothing, advanced, progress_of}
 use Rattle.rb_desk.specs.Limits.{Limits}
 use Rattle.rb_core.specs.declared.entry.Item.{Item}
 use Rattle.rb_core.specs.declared.event.Event.{Event}
@@ -18,7 +18,7 @@ use Rattle.rb_core.specs.declared.parts.Publisher.{Publisher}
 use Rattle.rb_core.specs.declared.parts.Subscription.{Subscription}
 use Rattle.rb_core.specs.declared.reply.Reply.{Reply}
 use Rattle.rb_core.specs.Outcome.{numbered, with_publisher, fed, reset, admitted, parsed, ended, staged_of, sent, turned, subscribe_outcome, taken, opened, reached, delivered, outcome}
-use Rattle.rb_core.specs.Run.{Answer, Stepped, Run, FeedsBytes, HasBytes}
+use Rattle.rb_core.specs.Run.{Answer, Stepped, Run, FeedsBytes, HasText}
 use Rattle.rb_core.specs.State.{State, empty_world}
 use Rattle.cs_model.specs.Bytes.{AreBytes}
 use Rattle.cs_model.proofs.CallerLemmas.{all_push}
@@ -47,44 +47,60 @@ more_bytes [] bytes h more i = more i
 more_bytes (byte ∷ stream) bytes h more zero = h zero
 more_bytes (byte ∷ stream) bytes h more (suc i) = more_bytes stream bytes (λ j. h (suc j)) more i
 
-behind_bytes : (fault : Option ParseFault) (stream bytes : List ℕ) → AreBytes stream → AreBytes bytes → AreBytes (behind fault stream bytes)
-behind_bytes None stream bytes h more = more_bytes stream bytes h more
-behind_bytes (Some fault) stream bytes h more = h
+-- ---- texts
+
+-- no bytes are read as far as nothing
+abbrev pub BeginsWithNothing : Type 0
+BeginsWithNothing = progress_of [] ≡ nothing
+
+-- a text with a piece behind it is read as far as the progress leads that was made of the text
+abbrev pub ProgressGoesOn : Type 0
+ProgressGoesOn = (text piece : List ℕ) → AreBytes (text ++ piece) → progress_of (text ++ piece) ≡ advanced (progress_of text) piece
+
+no_text : BeginsWithNothing → Took nothing []
+no_text begins = record { bytes = no_bytes; read = sym begins }
+
+-- a stream that took a text takes the bytes behind it
+pub takes_more : (old : Progress) (text bytes : List ℕ) → ProgressGoesOn → Took old text → AreBytes bytes → Took (advanced old bytes) (text ++ bytes)
+takes_more old text bytes goes took more =
+    let both : AreBytes (text ++ bytes) = more_bytes text bytes took.bytes more in
+    record { bytes = both; read = ap (λ p. advanced p bytes) took.read ∙ sym (goes text bytes both) }
 
 -- ---- events
 
 abbrev Kept : State → Type 0
-Kept world = AllByRecursion HasBytes world.publishers
+Kept world = AllByRecursion HasText world.publishers
 
-publisher_keeps : (old : State) (p : ℕ) (q : Publisher) → Kept old → HasBytes q → Kept (with_publisher old p q)
-publisher_keeps old p q kept h = all_set HasBytes old.publishers p q kept h
+publisher_keeps : (old : State) (p : ℕ) (q : Publisher) → Kept old → HasText q → Kept (with_publisher old p q)
+publisher_keeps old p q kept h = all_set HasText old.publishers p q kept h
 
-feed_keeps : (old : State) (p : ℕ) (bytes : List ℕ) (found : Option Publisher) → slice_get old.publishers p ≡ found → Kept old → AreBytes bytes → Kept (fed old p bytes found).1
-feed_keeps old p bytes None e kept more = kept
-feed_keeps old p bytes (Some q) e kept more =
-    publisher_keeps old p (record q { stream = pieces_taken q.stream bytes }) kept (behind_bytes (fault_in q.stream) q.stream bytes (all_get HasBytes old.publishers p q kept e) more)
+feed_keeps : (old : State) (p : ℕ) (bytes : List ℕ) (found : Option Publisher) → ProgressGoesOn → slice_get old.publishers p ≡ found → Kept old → AreBytes bytes → Kept (fed old p bytes found).1
+feed_keeps old p bytes None goes e kept more = kept
+feed_keeps old p bytes (Some q) goes e kept more =
+    let has : HasText q = all_get HasText old.publishers p q kept e in
+    publisher_keeps old p (record q { stream = advanced q.stream bytes }) kept (has.0 ++ bytes, takes_more q.stream has.0 bytes goes has.1 more)
 
-reset_keeps : (old : State) (p : ℕ) (found : Option Publisher) → Kept old → Kept (reset old p found).1
-reset_keeps old p None kept = kept
-reset_keeps old p (Some q) kept = publisher_keeps old p (record q { stream = [] }) kept no_bytes
+reset_keeps : (old : State) (p : ℕ) (found : Option Publisher) → BeginsWithNothing → Kept old → Kept (reset old p found).1
+reset_keeps old p None begins kept = kept
+reset_keeps old p (Some q) begins kept = publisher_keeps old p (record q { stream = nothing }) kept ([], no_text begins)
 
-admitted_keeps : (old : State) (p : ℕ) (q : Publisher) (changeset : List Section) (fault : Option SectionFault) → Kept old → Kept (admitted old p q changeset fault).1
-admitted_keeps old p q changeset None kept = publisher_keeps old p (record q { stream = []; staged = Some changeset }) kept no_bytes
-admitted_keeps old p q changeset (Some fault) kept = kept
+admitted_keeps : (old : State) (p : ℕ) (q : Publisher) (changeset : List Section) (fault : Option SectionFault) → BeginsWithNothing → Kept old → Kept (admitted old p q changeset fault).1
+admitted_keeps old p q changeset None begins kept = publisher_keeps old p (record q { stream = nothing; staged = Some changeset }) kept ([], no_text begins)
+admitted_keeps old p q changeset (Some fault) begins kept = kept
 
-parsed_keeps : (old : State) (p : ℕ) (q : Publisher) (answer : Result (List Section) ParseFault) → Kept old → Kept (parsed old p q answer).1
-parsed_keeps old p q (Ok changeset) kept = admitted_keeps old p q changeset (refusal_of old.schema changeset) kept
-parsed_keeps old p q (Err fault) kept = kept
+parsed_keeps : (old : State) (p : ℕ) (q : Publisher) (answer : Result (List Section) ParseFault) → BeginsWithNothing → Kept old → Kept (parsed old p q answer).1
+parsed_keeps old p q (Ok changeset) begins kept = admitted_keeps old p q changeset (refusal_of old.schema changeset) begins kept
+parsed_keeps old p q (Err fault) begins kept = kept
 
-end_keeps : (old : State) (p : ℕ) (found : Option Publisher) (staged : Option (List Section)) → Kept old → Kept (ended old p found staged).1
-end_keeps old p None staged kept = kept
-end_keeps old p (Some q) (Some changeset) kept = kept
-end_keeps old p (Some q) None kept = parsed_keeps old p q (answer_of q.stream) kept
+end_keeps : (old : State) (p : ℕ) (found : Option Publisher) (staged : Option (List Section)) → BeginsWithNothing → Kept old → Kept (ended old p found staged).1
+end_keeps old p None staged begins kept = kept
+end_keeps old p (Some q) (Some changeset) begins kept = kept
+end_keeps old p (Some q) None begins kept = parsed_keeps old p q (stream.ended q.stream) begins kept
 
 send_keeps : (old : State) (p : ℕ) (found : Option Publisher) (staged : Option (List Section)) → slice_get old.publishers p ≡ found → Kept old → Kept (sent old p found staged).1
 send_keeps old p None staged e kept = kept
 send_keeps old p (Some q) None e kept = kept
-send_keeps old p (Some q) (Some changeset) e kept = all_set HasBytes old.publishers p _ kept (all_get HasBytes old.publishers p q kept e)
+send_keeps old p (Some q) (Some changeset) e kept = all_set HasText old.publishers p _ kept (all_get HasText old.publishers p q kept e)
 
 turn_keeps : (old : State) (intake : List Item) → Kept old → Kept (turned old intake).1
 turn_keeps old [] kept = kept
@@ -113,29 +129,31 @@ accept_keeps : (old : State) (found : Option Handed) → Kept old → Kept (deli
 accept_keeps old None kept = kept
 accept_keeps old (Some handed) kept = reach_keeps old handed (slice_get old.subscriptions handed.subscription) kept
 
-outcome_keeps : (old : State) (event : Event) → FeedsBytes event → Kept old → Kept (outcome old event).1
+outcome_keeps : (old : State) (event : Event) → BeginsWithNothing → ProgressGoesOn → FeedsBytes event → Kept old → Kept (outcome old event).1
 unfolding outcome
-outcome_keeps old event.Publisher h kept = all_push HasBytes old.publishers _ kept no_bytes
-outcome_keeps old (event.Feed p bytes) h kept = feed_keeps old p bytes (slice_get old.publishers p) refl kept h
-outcome_keeps old (event.Reset p) h kept = reset_keeps old p (slice_get old.publishers p) kept
-outcome_keeps old (event.End p) h kept = end_keeps old p (slice_get old.publishers p) (staged_of (slice_get old.publishers p)) kept
-outcome_keeps old (event.Send p) h kept = send_keeps old p (slice_get old.publishers p) (staged_of (slice_get old.publishers p)) refl kept
-outcome_keeps old event.Turn h kept = turn_keeps old old.intake kept
-outcome_keeps old (event.Subscribe start) h kept = subscribe_keeps old start kept
-outcome_keeps old (event.Take s now) h kept = take_keeps old s (slice_get old.subscriptions s) kept
-outcome_keeps old (event.Accept d) h kept = accept_keeps old (numbered old.deliveries d) kept
+outcome_keeps old event.Publisher begins goes h kept = all_push HasText old.publishers _ kept ([], no_text begins)
+outcome_keeps old (event.Feed p bytes) begins goes h kept = feed_keeps old p bytes (slice_get old.publishers p) goes refl kept h
+outcome_keeps old (event.Reset p) begins goes h kept = reset_keeps old p (slice_get old.publishers p) begins kept
+outcome_keeps old (event.End p) begins goes h kept = end_keeps old p (slice_get old.publishers p) (staged_of (slice_get old.publishers p)) begins kept
+outcome_keeps old (event.Send p) begins goes h kept = send_keeps old p (slice_get old.publishers p) (staged_of (slice_get old.publishers p)) refl kept
+outcome_keeps old event.Turn begins goes h kept = turn_keeps old old.intake kept
+outcome_keeps old (event.Subscribe start) begins goes h kept = subscribe_keeps old start kept
+outcome_keeps old (event.Take s now) begins goes h kept = take_keeps old s (slice_get old.subscriptions s) kept
+outcome_keeps old (event.Accept d) begins goes h kept = accept_keeps old (numbered old.deliveries d) kept
 
 -- ---- runs
 
-step_keeps : (old : State) (event : Event) (answer : Answer) (new : State) → FeedsBytes event → Stepped old event answer new → Kept old → Kept new
-step_keeps old event (Ok given) new h step kept = subst (λ (x : Reply × State). Kept x.1) step (outcome_keeps old event h kept)
-step_keeps old event (Err e) new h step kept = subst Kept (sym step) kept
+step_keeps : (old : State) (event : Event) (answer : Answer) (new : State) → BeginsWithNothing → ProgressGoesOn → FeedsBytes event → Stepped old event answer new → Kept old → Kept new
+step_keeps old event (Ok given) new begins goes h step kept = subst (λ (x : Reply × State). Kept x.1) step (outcome_keeps old event begins goes h kept)
+step_keeps old event (Err e) new begins goes h step kept = subst Kept (sym step) kept
 
-run_keeps : (old : State) (events : List Event) (answers : List Answer) (new : State) → AllByRecursion FeedsBytes events → Run old events answers new → Kept old → Kept new
-run_keeps old [] [] new feeds run kept = subst Kept (sym run) kept
-run_keeps old [] (answer ∷ answers) new feeds run kept = absurd run
-run_keeps old (event ∷ events) [] new feeds run kept = absurd run
-run_keeps old (event ∷ events) (answer ∷ answers) new feeds run kept = run_keeps run.0 events answers new feeds.1 run.2 (step_keeps old event answer run.0 feeds.0 run.1 kept)
+run_keeps : (old : State) (events : List Event) (answers : List Answer) (new : State) → BeginsWithNothing → ProgressGoesOn → AllByRecursion FeedsBytes events → Run old events answers new → Kept old → Kept new
+run_keeps old [] [] new begins goes feeds run kept = subst Kept (sym run) kept
+run_keeps old [] (answer ∷ answers) new begins goes feeds run kept = absurd run
+run_keeps old (event ∷ events) [] new begins goes feeds run kept = absurd run
+run_keeps old (event ∷ events) (answer ∷ answers) new begins goes feeds run kept =
+    run_keeps run.0 events answers new begins goes feeds.1 run.2 (step_keeps old event answer run.0 begins goes feeds.0 run.1 kept)
 
-pub keeps_bytes : (config : Limits) (schema : List Shape) (events : List Event) (answers : List Answer) (new : State) → AllByRecursion FeedsBytes events → Run (empty_world config schema) events answers new → AllByRecursion HasBytes new.publishers
-keeps_bytes config schema events answers new feeds run = run_keeps (empty_world config schema) events answers new feeds run tt
+pub keeps_texts : BeginsWithNothing → ProgressGoesOn → (config : Limits) (schema : List Shape) (events : List Event) (answers : List Answer) (new : State)
+    → AllByRecursion FeedsBytes events → Run (empty_world config schema) events answers new → AllByRecursion HasText new.publishers
+keeps_texts begins goes config schema events answers new feeds run = run_keeps (empty_world config schema) events answers new begins goes feeds run tt

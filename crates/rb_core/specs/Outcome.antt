@@ -5,8 +5,8 @@ use Rattle.cs_model.specs.declared.schema.SectionFault.{SectionFault}
 use Rattle.cs_model.specs.declared.schema.SectionFault.TheVariants.{UnknownTable as Unknown, ShapeDiffers as Differs}
 use Rattle.cs_model.specs.Schema.{refusal_of}
 use Rattle.cs_parse.specs.declared.fault.ParseFault.{ParseFault}
-use Rattle.cs_parse.specs.Reading.{answer_of}
-use Rattle.cs_parse.specs.Pieces as pieces
+use Rattle.cs_parse.specs.Progress as stream
+use Rattle.cs_parse.specs.Progress.{Progress}
 use Rattle.cs_apply.specs.declared.conflict.Conflict.{Conflict}
 use Rattle.cs_apply.specs.State as tables
 use Rattle.cs_apply.specs.Single.{single}
@@ -41,38 +41,38 @@ with_subscription old s subscription = record old { subscriptions = slice_set ol
 -- Publisher: a new one, all of whose parts are empty
 abbrev pub publisher_outcome : State → Reply × State
 publisher_outcome old =
-    (reply.Publisher (length old.publishers), record old { publishers = old.publishers ++ record { stream = []; staged = None; sent = 0 } ∷ [] })
+    (reply.Publisher (length old.publishers), record old { publishers = old.publishers ++ record { stream = stream.nothing; staged = None; sent = 0 } ∷ [] })
 
--- Feed: the bytes go to the end of the stream, where it has no fault yet; a fault that no more bytes mend is told at once
+-- Feed: the stream is read on by the bytes, where it has no fault yet; a fault that no more bytes mend is told at once
 abbrev pub fed_reply : Option ParseFault → Reply
 fed_reply None = reply.Fed
 fed_reply (Some fault) = reply.Fault fault
 
-abbrev pub fed_stream : State → ℕ → Publisher → List ℕ → Reply × State
-fed_stream old p publisher stream = (fed_reply (pieces.fault_in stream), with_publisher old p (record publisher { stream = stream }))
+abbrev pub fed_stream : State → ℕ → Publisher → Progress → Reply × State
+fed_stream old p publisher progress = (fed_reply progress.fault, with_publisher old p (record publisher { stream = progress }))
 
 abbrev pub fed : State → ℕ → List ℕ → Option Publisher → Reply × State
 fed old p bytes None = refused old refusal.NoPublisher
-fed old p bytes (Some publisher) = fed_stream old p publisher (pieces.taken publisher.stream bytes)
+fed old p bytes (Some publisher) = fed_stream old p publisher (stream.advanced publisher.stream bytes)
 
 abbrev pub feed_outcome : State → ℕ → List ℕ → Reply × State
 feed_outcome old p bytes = fed old p bytes (slice_get old.publishers p)
 
--- Reset: the stream is empty again; what is staged stays
+-- Reset: nothing of the stream is kept; what is staged stays
 abbrev pub reset : State → ℕ → Option Publisher → Reply × State
 reset old p None = refused old refusal.NoPublisher
-reset old p (Some publisher) = (reply.Reset, with_publisher old p (record publisher { stream = [] }))
+reset old p (Some publisher) = (reply.Reset, with_publisher old p (record publisher { stream = stream.nothing }))
 
 abbrev pub reset_outcome : State → ℕ → Reply × State
 reset_outcome old p = reset old p (slice_get old.publishers p)
 
--- End: what the stream spells is staged where the schema admits it, and the stream is empty; else it stays.
+-- End: what the stream spells is staged where the schema admits it, and a new stream begins; else it stays.
 abbrev pub fault_refusal : SectionFault → Refusal
 fault_refusal (Unknown i) = refusal.UnknownTable i
 fault_refusal (Differs i) = refusal.ShapeDiffers i
 
 abbrev pub admitted : State → ℕ → Publisher → List Section → Option SectionFault → Reply × State
-admitted old p publisher changeset None = (reply.Staged, with_publisher old p (record publisher { stream = []; staged = Some changeset }))
+admitted old p publisher changeset None = (reply.Staged, with_publisher old p (record publisher { stream = stream.nothing; staged = Some changeset }))
 admitted old p publisher changeset (Some fault) = refused old (fault_refusal fault)
 
 abbrev pub parsed : State → ℕ → Publisher → Result (List Section) ParseFault → Reply × State
@@ -82,7 +82,7 @@ parsed old p publisher (Err fault) = (reply.Fault fault, old)
 abbrev pub ended : State → ℕ → Option Publisher → Option (List Section) → Reply × State
 ended old p None staged = refused old refusal.NoPublisher
 ended old p (Some publisher) (Some changeset) = refused old refusal.Holding
-ended old p (Some publisher) None = parsed old p publisher (answer_of publisher.stream)
+ended old p (Some publisher) None = parsed old p publisher (stream.ended publisher.stream)
 
 abbrev pub staged_of : Option Publisher → Option (List Section)
 staged_of None = None

@@ -18,6 +18,7 @@ use Rattle.rb_core.specs.declared.parts.Handed.{Handed}
 use Rattle.rb_core.specs.State.{State, empty_tables}
 use Rattle.cs_parse.specs.Fault.{IsFault}
 use Rattle.cs_parse.specs.Pieces.{IsLasting}
+use Rattle.cs_parse.specs.Progress.{Progress, Took, nothing}
 use Rattle.rb_core.specs.Outcome.{numbered, with_publisher, with_subscription, fault_refusal}
 
 -- the event is refused, and nothing changes
@@ -28,47 +29,41 @@ Refuses old why given new = (given ≡ reply.Refused why) × (new ≡ old)
 abbrev pub PublisherStep : State → Reply → State → Type 0
 PublisherStep old given new =
     (given ≡ reply.Publisher (length old.publishers))
-    × (new ≡ record old { publishers = old.publishers ++ record { stream = []; staged = None; sent = 0 } ∷ [] })
+    × (new ≡ record old { publishers = old.publishers ++ record { stream = nothing; staged = None; sent = 0 } ∷ [] })
 
--- a stream with a fault that no more bytes mend answers it, and nothing changes
-abbrev pub Stays : State → Publisher → Reply → State → Type 0
-Stays old q given new = (fault : ParseFault) → IsLasting q.stream fault → (given ≡ reply.Fault fault) × (new ≡ old)
-
--- Else the bytes go to its end. Where that makes such a fault, it is told.
-abbrev pub Adds : State → ℕ → Publisher → List ℕ → Reply → State → Type 0
-Adds old p q bytes given new = ((fault : ParseFault) → IsLasting q.stream fault → ⊥) →
-    (new ≡ with_publisher old p (record q { stream = q.stream ++ bytes }))
-    × ((fault : ParseFault) → IsLasting (q.stream ++ bytes) fault → given ≡ reply.Fault fault)
-    × (((fault : ParseFault) → IsLasting (q.stream ++ bytes) fault → ⊥) → given ≡ reply.Fed)
-
--- whatever the stream, nothing changes and a fault is answered, or the bytes go to its end and nothing else changes
-abbrev pub Feeds : State → ℕ → Publisher → List ℕ → Reply → State → Type 0
-Feeds old p q bytes given new =
-    ((fault : ParseFault) × (given ≡ reply.Fault fault) × (new ≡ old))
-    ⊎ (new ≡ with_publisher old p (record q { stream = q.stream ++ bytes }))
+-- A publisher's stream takes bytes, and nothing else changes. What is answered is said of every text that the stream may have
+-- taken: its fault that no more bytes mend, from the bytes on that make it, and none where it has none. Behind such a fault
+-- nothing changes.
+pub record Feeds (old : State) (p : ℕ) (q : Publisher) (bytes : List ℕ) (given : Reply) (new : State) : Type 0 where
+  pub stream : Progress
+  pub kept : new ≡ with_publisher old p (record q { stream = stream })
+  pub takes : (text : List ℕ) → Took q.stream text → AreBytes bytes → Took stream (text ++ bytes)
+  pub told : (text : List ℕ) → Took q.stream text → AreBytes bytes → (fault : ParseFault) → IsLasting (text ++ bytes) fault → given ≡ reply.Fault fault
+  pub untold : (text : List ℕ) → Took q.stream text → AreBytes bytes → ((fault : ParseFault) → IsLasting (text ++ bytes) fault → ⊥) → given ≡ reply.Fed
+  pub stays : (text : List ℕ) → Took q.stream text → (fault : ParseFault) → IsLasting text fault → (given ≡ reply.Fault fault) × (new ≡ old)
 
 abbrev pub FeedStep : State → ℕ → List ℕ → Reply → State → Type 0
 FeedStep old p bytes given new = MatchOption (slice_get old.publishers p)
     (Refuses old refusal.NoPublisher given new)
-    (λ q. Feeds old p q bytes given new × (AreBytes (q.stream ++ bytes) → Stays old q given new × Adds old p q bytes given new))
+    (λ q. Feeds old p q bytes given new)
 
--- the publisher's stream is empty, and nothing else changes
+-- a new stream begins, and nothing else changes
 abbrev pub ResetStep : State → ℕ → Reply → State → Type 0
 ResetStep old p given new = MatchOption (slice_get old.publishers p)
     (Refuses old refusal.NoPublisher given new)
-    (λ q. (given ≡ reply.Reset) × (new ≡ with_publisher old p (record q { stream = [] })))
+    (λ q. (given ≡ reply.Reset) × (new ≡ with_publisher old p (record q { stream = nothing })))
 
--- a changeset that the stream spells is staged and the stream is empty, where the schema admits it
+-- a changeset that the stream spells is staged and a new stream begins, where the schema admits it
 abbrev pub Stages : State → ℕ → Publisher → List Section → Reply → State → Type 0
 Stages old p q changeset given new = MatchOption (refusal_of old.schema changeset)
-    ((given ≡ reply.Staged) × (new ≡ with_publisher old p (record q { stream = []; staged = Some changeset })))
+    ((given ≡ reply.Staged) × (new ≡ with_publisher old p (record q { stream = nothing; staged = Some changeset })))
     (λ fault. Refuses old (fault_refusal fault) given new)
 
--- what the stream's bytes spell is staged; where they spell nothing, their fault is told, and nothing changes
+-- Whatever text the stream has taken: what it spells is staged; where it spells nothing, its fault is told, and nothing changes.
 abbrev pub Reads : State → ℕ → Publisher → Reply → State → Type 0
-Reads old p q given new = AreBytes q.stream →
-    ((changeset : List Section) → Spells q.stream changeset → Stages old p q changeset given new)
-    × ((fault : ParseFault) → IsFault q.stream fault → (given ≡ reply.Fault fault) × (new ≡ old))
+Reads old p q given new = (text : List ℕ) → Took q.stream text →
+    ((changeset : List Section) → Spells text changeset → Stages old p q changeset given new)
+    × ((fault : ParseFault) → IsFault text fault → (given ≡ reply.Fault fault) × (new ≡ old))
 
 abbrev pub EndStep : State → ℕ → Reply → State → Type 0
 EndStep old p given new = MatchOption (slice_get old.publishers p)

@@ -9,9 +9,11 @@ ghost use Rattle.rb_core.specs.declared.reply.Reply.{Reply};
 ghost use Rattle.rb_core.specs.State.{State, empty_world};
 ghost use Rattle.rb_core.specs.Outcome.{outcome};
 ghost use Rattle.rb_core.specs.Step.{Step};
-ghost use Rattle.rb_core.specs.Run.{Answer, Run, FeedsBytes, HasBytes, accepted_by, RiseAbove};
+ghost use Rattle.rb_core.specs.Run.{Answer, Run, FeedsBytes, HasText, accepted_by, RiseAbove};
 
-use cs_parse::laws::{feeding_tells_faults, reading_is_spelling, refusing_is_fault};
+use cs_parse::laws::{
+    feeding_tells_faults, progress_goes_on, progress_tells, reading_is_spelling, refusing_is_fault,
+};
 
 /// In every run from an empty world the numbers that a subscription accepted rise strictly.
 pub fn accepted_numbers_rise()
@@ -20,14 +22,16 @@ pub fn accepted_numbers_rise()
         → Run (empty_world config schema) events answers new → RiseAbove 0 (accepted_by s answers) }
 {}
 
-/// In every run of events that feed bytes, from an empty world, each publisher's stream is of bytes. So each of its steps tells
-/// faults and changesets as `Step` says of such streams.
-pub fn streams_are_bytes()
+/// In every run of events that feed bytes, from an empty world, each publisher's stream has taken some text. So each of its
+/// steps tells faults and changesets as `Step` says of the texts that a stream may have taken.
+pub fn streams_have_texts()
     ensures { (config : Limits) (schema : List Shape) (events : List Event)
         (answers : List Answer) (new : State)
         → AllByRecursion FeedsBytes events → Run (empty_world config schema) events answers new
-        → AllByRecursion HasBytes new.publishers }
-{}
+        → AllByRecursion HasText new.publishers }
+{
+    progress_goes_on();
+}
 
 /// What an event does, as a function, is one of the steps that the relation allows.
 pub fn outcome_is_step()
@@ -37,4 +41,6 @@ pub fn outcome_is_step()
     reading_is_spelling();
     refusing_is_fault();
     feeding_tells_faults();
+    progress_goes_on();
+    progress_tells();
 }

@@ -7,7 +7,7 @@ use cs_parse::PieceParser;
 /// A publisher.
 #[derive(Debug, Drop)]
 pub struct Publisher {
-    /// The bytes fed since its last end or reset.
+    /// What was read of the bytes fed since its last end or reset.
     pub stream: PieceParser,
     /// What is staged and not sent.
     pub staged: Option<Changeset>,

@@ -2,7 +2,7 @@
 
 ghost use Rattle.std.specs.Prelude.{◌≡◌, IfOk, OnErr, IsOk};
 ghost use Rattle.cs_parse.specs.Answer.{Shows};
-ghost use Rattle.cs_parse.specs.Reading.{answer_of};
+ghost use Rattle.cs_parse.specs.Progress.{ended};
 ghost use Rattle.rb_core.specs.Outcome.{publisher_outcome, feed_outcome, reset_outcome, end_outcome, send_outcome, turn_outcome, fault_refusal};
 
 use crate::entry::{Entry, Item};
@@ -13,7 +13,6 @@ use cs_model::{Changeset, SectionFault};
 use cs_parse::{ParseError, ParseFault, PieceParser};
 use cs_write::write;
 use std::alloc::{AllocError, Global};
-use std::mem;
 
 impl World {
     /// One publisher more, with an empty stream. It is answered with its number, from 0.
@@ -88,14 +87,8 @@ impl World {
             return refused(refusal_for(fault));
         }
         let found = &mut self.publishers[p];
-        let stream = mem::replace(&mut found.stream, PieceParser::new(alloc));
-        match stream.into_changeset() {
-            Ok(changeset) => {
-                found.staged = Some(changeset);
-                Ok(Reply::Staged)
-            }
-            Err(fault) => Ok(Reply::Fault(fault)),
-        }
+        found.staged = Some(found.stream.take(alloc));
+        Ok(Reply::Staged)
     }
 
     /// Puts what a publisher staged at the end of the intake, with its number among that publisher's.
@@ -151,7 +144,7 @@ impl World {
 
 // the changeset that a stream spells, or its fault
 fn spelled(stream: &PieceParser) -> Result<&Changeset, ParseFault>
-    ensures { Shows result (answer_of stream.now) }
+    ensures { Shows result (ended stream.now) }
 {
     stream.finish()
 }

@@ -108,3 +108,97 @@ fn faults_last(rt: HostRuntime) -> Result<(), Fail> {
     }
     Ok(())
 }
+
+// Whether the bytes taken are answered as the whole text is: by the same sections, or by the same fault.
+fn as_whole(alloc: Global, parser: &PieceParser, text: &[u8]) -> Result<bool, Fail> {
+    match (parser.finish(), parse(alloc, text)) {
+        (Ok(found), Ok(whole)) => Ok(found.sections() == whole.sections()),
+        (Err(fault), Err(ParseError::Fault(told))) => Ok(fault == told),
+        (_, Err(ParseError::Memory)) => Err("memory")?,
+        (_, _) => Ok(false),
+    }
+}
+
+// Byte by byte, the front is answered as a text of its own at each byte.
+fn goes_bytewise(rt: &impl Abort, alloc: Global, text: &[u8]) -> Result<(), Fail> {
+    let mut parser = PieceParser::new(alloc);
+    for end in 0..text.len() {
+        assert!(rt; as_whole(alloc, &parser, &text[..end])?, "at {end}");
+        feeds(rt, alloc, &mut parser, &text[end..end + 1], Ok(()));
+    }
+    assert!(rt; as_whole(alloc, &parser, text)?);
+    Ok(())
+}
+
+#[test]
+fn bytes_come_one_by_one(rt: HostRuntime) -> Result<(), Fail> {
+    let alloc = rt.alloc();
+    goes_bytewise(&rt, alloc, &WHOLE)?;
+    goes_bytewise(&rt, alloc, &LOOSE)
+}
+
+// Cut into three pieces anywhere, the whole is read.
+#[test]
+fn three_pieces_leave_no_trace(rt: HostRuntime) -> Result<(), Fail> {
+    let alloc = rt.alloc();
+    for first in 0..63_usize {
+        let (front, others) = WHOLE.split_at(first);
+        for second in 0..others.len() {
+            let (middle, back) = others.split_at(second);
+            let mut parser = PieceParser::new(alloc);
+            feeds(&rt, alloc, &mut parser, front, Ok(()));
+            feeds(&rt, alloc, &mut parser, middle, Ok(()));
+            feeds(&rt, alloc, &mut parser, back, Ok(()));
+            assert!(rt;
+                as_whole(alloc, &parser, &WHOLE)?,
+                "at {first} and {second}"
+            );
+        }
+    }
+    Ok(())
+}
+
+// Taken out, the changeset is the one that was shown, and the parser begins anew.
+#[test]
+fn taken_leaves_a_new_parser(rt: HostRuntime) -> Result<(), Fail> {
+    let alloc = rt.alloc();
+    let mut parser = PieceParser::new(alloc);
+    feeds(&rt, alloc, &mut parser, &WHOLE, Ok(()));
+    if parser.finish().is_err() {
+        return Err("a fault")?;
+    }
+    assert_eq!(rt; parser.take(alloc).sections().len(), 2);
+    assert_eq!(rt; parser.offset(), 0);
+    feeds(&rt, alloc, &mut parser, &LOOSE, Ok(()));
+    assert!(rt; as_whole(alloc, &parser, &LOOSE)?);
+    Ok(())
+}
+
+// A text of 16,777,216 bytes, one INSERT of a BLOB, in pieces of 64, and one byte more.
+#[test]
+fn pieces_have_the_limit_of_texts(rt: HostRuntime) -> Result<(), Fail> {
+    let alloc = rt.alloc();
+    let mut parser = PieceParser::new(alloc);
+    feeds(&rt, alloc, &mut parser, &HEADER, Ok(()));
+    // 16,777,194 bytes of BLOB behind the 22 before them
+    let front = [
+        0x12, 0, 1, 0, 0, 0, 0, 0, 0, 0, 1, 4, 0x87, 0xff, 0xff, 0x6a,
+    ];
+    feeds(&rt, alloc, &mut parser, &front, Ok(()));
+    for _ in 0..262_143 {
+        feeds(&rt, alloc, &mut parser, &[0x61; 64], Ok(()));
+    }
+    assert!(rt; parser.finish().is_err());
+    feeds(&rt, alloc, &mut parser, &[0x61; 42], Ok(()));
+    assert_eq!(rt; parser.offset(), 16_777_216);
+    assert!(rt; parser.finish().is_ok());
+    let told = Err(ParseError::Fault(ParseFault {
+        at: 16_777_216,
+        kind: FaultKind::TooLong,
+    }));
+    feeds(&rt, alloc, &mut parser, &[], Ok(()));
+    feeds(&rt, alloc, &mut parser, &[0x12], told);
+    feeds(&rt, alloc, &mut parser, &[], told);
+    assert_eq!(rt; parser.offset(), 16_777_216);
+    Ok(())
+}

@@ -1,7 +1,7 @@
 //! Texts that aren't the canonical ones of what they spell.
 
 use super::*;
-use crate::change::changes_counted;
+use crate::change::whole_changes;
 
 // Whether two texts of the table in HEADER are read as the same section, whose bytes are those of the second.
 fn is_respelled(alloc: Global, text: &[u8], canonical: &[u8]) -> Result<bool, Fail> {
@@ -46,7 +46,7 @@ fn last_change(rt: HostRuntime) -> Result<(), Fail> {
 
 // whether the bytes of changes of a table with two columns, of which the first is its key, are told to be canonical
 fn is_told(bytes: &[u8]) -> Option<bool> {
-    let (_, rest, canonical) = changes_counted(&[1, 0], bytes).ok()?;
+    let (_, rest, canonical, _) = whole_changes(&[1, 0], bytes);
     rest.is_empty().then_some(canonical)
 }
 

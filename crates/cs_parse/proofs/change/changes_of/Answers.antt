@@ -1,26 +1,30 @@
-use Rattle.std.proofs.Common.{ap, sym, ◌∙◌, ◌++◌, arith}
+use Rattle.std.proofs.Common.{ap, ◌∙◌, ◌++◌, arith}
 use Rattle.cs_model.specs.PackedChanges.{unpacked_changes}
-use Rattle.cs_parse.proofs.Steps.{done}
-use Rattle.cs_parse.proofs.Fronts.{passed, copied}
+use Rattle.cs_parse.proofs.Fronts.{says, left_shorter}
 use Rattle.cs_parse.proofs.change.changes_of.Goals as goal
 
 pub overflow_sub-bytes : goal.overflow_sub-bytes
-overflow_sub-bytes c = (passed c.args.flags.now c.args.bytes.now c.in_ok-count.count c.in_ok-count.rest.now (λ i. omega (arith, c.type_inv.bytes i)) c.in_ok-count.ensures.read).shorter
+overflow_sub-bytes c = left_shorter c.args.flags.now c.args.bytes.now c.whole_changes-count.result.1.now (λ i. omega (arith, c.type_inv.bytes i)) c.whole_changes-count.ensures.rest
 
-pub copy_changes-requires : goal.copy_changes-requires
-copy_changes-requires c =
-    let count = c.in_ok-count.count in
-    let rest = c.in_ok-count.rest.now in
-    let p = passed c.args.flags.now c.args.bytes.now count rest (λ i. omega (arith, c.type_inv.bytes i)) c.in_ok-count.ensures.read in
-    let all = copied c.changes_fit.ensures c.spelled_is_said.ensures c.args.flags.now c.args.bytes.now count rest c.new-changes.result.0 c.split_at.result.0.now p c.new-changes.ensures.columns c.split_at.ensures.front in
-    record { fit = all.fit; count = all.many; canonical = λ is. all.packs (c.in_ok-count.ensures.canonical is) }
+pub copy_changes-requires-clause-fit : goal.copy_changes-requires-clause-fit
+copy_changes-requires-clause-fit c =
+    let w = c.whole_changes-count in
+    (says c.changes_fit.ensures c.spelled_is_said.ensures c.args.flags.now c.args.bytes.now w.result.0 w.result.1.now w.result.2 c.new-changes.result.0 c.split_at.result.0.now (λ i. omega (arith, c.type_inv.bytes i)) c.new-changes.ensures.columns c.split_at.ensures.front w.ensures.count w.ensures.rest w.ensures.canonical).fit
 
-pub returns-clause-read : goal.returns-clause-read
-returns-clause-read c =
-    let count = c.in_ok-count.count in
-    let rest = c.in_ok-count.rest.now in
-    let text = c.split_at.result.0.now in
+pub copy_changes-requires-clause-count : goal.copy_changes-requires-clause-count
+copy_changes-requires-clause-count c =
+    let w = c.whole_changes-count in
+    (says c.changes_fit.ensures c.spelled_is_said.ensures c.args.flags.now c.args.bytes.now w.result.0 w.result.1.now w.result.2 c.new-changes.result.0 c.split_at.result.0.now (λ i. omega (arith, c.type_inv.bytes i)) c.new-changes.ensures.columns c.split_at.ensures.front w.ensures.count w.ensures.rest w.ensures.canonical).many
+
+pub copy_changes-requires-clause-canonical : goal.copy_changes-requires-clause-canonical
+copy_changes-requires-clause-canonical c =
+    let w = c.whole_changes-count in
+    (says c.changes_fit.ensures c.spelled_is_said.ensures c.args.flags.now c.args.bytes.now w.result.0 w.result.1.now w.result.2 c.new-changes.result.0 c.split_at.result.0.now (λ i. omega (arith, c.type_inv.bytes i)) c.new-changes.ensures.columns c.split_at.ensures.front w.ensures.count w.ensures.rest w.ensures.canonical).packs
+
+pub returns-clause-changes : goal.returns-clause-changes
+returns-clause-changes c =
+    let w = c.whole_changes-count in
     let columns = c.new-changes.result.0 in
-    let p = passed c.args.flags.now c.args.bytes.now count rest (λ i. omega (arith, c.type_inv.bytes i)) c.in_ok-count.ensures.read in
-    let all = c.in_ok-copy_changes.ensures.ok ∙ ap (λ w. w ++ unpacked_changes columns text) c.new-changes.ensures.none in
-    (copied c.changes_fit.ensures c.spelled_is_said.ensures c.args.flags.now c.args.bytes.now count rest columns text p c.new-changes.ensures.columns c.split_at.ensures.front).read ∙ ap (λ w. done (w, rest)) (sym all)
+    let text = c.split_at.result.0.now in
+    c.in_ok-copy_changes.ensures.ok ∙ ap (λ w. w ++ unpacked_changes columns text) c.new-changes.ensures.none
+    ∙ (says c.changes_fit.ensures c.spelled_is_said.ensures c.args.flags.now c.args.bytes.now w.result.0 w.result.1.now w.result.2 columns text (λ i. omega (arith, c.type_inv.bytes i)) c.new-changes.ensures.columns c.split_at.ensures.front w.ensures.count w.ensures.rest w.ensures.canonical).said

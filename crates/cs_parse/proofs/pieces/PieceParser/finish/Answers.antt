@@ -1,16 +1,8 @@
-use Rattle.std.proofs.Common.{sym, ap, subst, ◌∙◌}
-use Rattle.cs_parse.specs.Reading.{answer_of}
-use Rattle.cs_model.specs.Bytes.{AreBytes}
-use Rattle.cs_parse.proofs.TextLaws.{answer_takes}
-use Rattle.cs_parse.proofs.FaultLaws.{refused_is_fault}
+use Rattle.cs_parse.proofs.FeedLaws.{finish_found, finish_faulty}
 use Rattle.cs_parse.proofs.pieces.PieceParser.finish.Goals as goal
 
-pub returns-in-Ok-clause-found : goal.returns-in-Ok-clause-found
-returns-in-Ok-clause-found c =
-    let fits = subst (λ w. AreBytes w) c.self.view_is c.self.invariant.1 in
-    answer_takes c.args.self.now c.in-Ok.changeset fits (ap answer_of (sym c.self.view_is) ∙ c.self.invariant.0 ∙ c.in-Ok.is)
+pub returns-clause-found : goal.returns-clause-found
+returns-clause-found c = finish_found c.finished.result c.args.self.now c.finished.ensures
 
-pub returns-in-Err-clause-faulty : goal.returns-in-Err-clause-faulty
-returns-in-Err-clause-faulty c =
-    let fits = subst (λ w. AreBytes w) c.self.view_is c.self.invariant.1 in
-    refused_is_fault c.args.self.now c.in-Err.fault fits (ap answer_of (sym c.self.view_is) ∙ c.self.invariant.0 ∙ c.in-Err.is)
+pub returns-clause-faulty : goal.returns-clause-faulty
+returns-clause-faulty c = finish_faulty c.finished.result c.args.self.now c.finished.ensures

@@ -1,0 +1,70 @@
+-- What a parser answers, of every text that it may have taken.
+use Rattle.std.proofs.Common.{◌≡◌, ℕ, List, ◌++◌, Option, Some, None, Result, Ok, Err, sym, ap, subst, ◌∙◌}
+use Rattle.std.specs.Prelude.{IfErr, OnOk, IfOk}
+use Rattle.std.specs.Borrow.{Bor}
+use Rattle.cs_model.specs.Bytes.{AreBytes}
+use Rattle.cs_model.specs.Section.{Section}
+use Rattle.cs_model.specs.Text.{Spells}
+use Rattle.cs_parse.specs.declared.fault.ParseError.{ParseError}
+use Rattle.cs_parse.specs.declared.fault.ParseError.TheVariants.{Fault, Memory}
+use Rattle.cs_parse.specs.declared.fault.ParseFault.{ParseFault}
+use Rattle.cs_parse.specs.Answer.{Shows}
+use Rattle.cs_parse.specs.Fault.{IsFault}
+use Rattle.cs_parse.specs.Pieces.{fault_in, IsLasting, TellsLasting, GoesOn}
+use Rattle.cs_parse.specs.Progress.{Progress, advanced, ended, Fed, Took}
+use Rattle.cs_parse.proofs.Exact.{are_bytes-append}
+use Rattle.cs_parse.proofs.FaultLaws.{refused_is_fault}
+use Rattle.cs_parse.proofs.PieceLaws.{lasting_is, is_lasting, goes_on}
+use Rattle.cs_parse.proofs.ProgressAnswers.{progress_ended, progress_fault}
+use Rattle.cs_parse.proofs.ProgressLaws.{progress_more}
+use Rattle.cs_parse.proofs.Steps.{bytes_from, bytes_to}
+use Rattle.cs_parse.proofs.TextLaws.{answer_takes}
+
+-- ---- finish
+
+pub finish_found : (result : Result (Bor (List Section)) ParseFault) (progress : Progress) → Shows result (ended progress) → (text : List ℕ) → Took progress text → IfOk result (λ (changeset : Bor (List Section)). Spells text changeset.now)
+finish_found (Ok found) progress shows text took = answer_takes text found.now took.bytes (sym (progress_ended text took.bytes) ∙ ap ended (sym took.read) ∙ shows)
+finish_found (Err fault) progress shows text took = tt
+
+pub finish_faulty : (result : Result (Bor (List Section)) ParseFault) (progress : Progress) → Shows result (ended progress) → (text : List ℕ) → Took progress text → IfErr result (λ fault. IsFault text fault)
+finish_faulty (Ok found) progress shows text took = tt
+finish_faulty (Err fault) progress shows text took = refused_is_fault text fault took.bytes (sym (progress_ended text took.bytes) ∙ ap ended (sym took.read) ∙ shows)
+
+-- ---- feed
+
+all_bytes : (text piece : List ℕ) → AreBytes text → AreBytes piece → AreBytes (text ++ piece)
+all_bytes text piece h k = bytes_from (text ++ piece) (are_bytes-append text piece (bytes_to text h) (bytes_to piece k))
+
+-- the progress behind a piece is that of the text with the piece
+goes : (old : Progress) (piece text : List ℕ) → AreBytes piece → Took old text → Took (advanced old piece) (text ++ piece)
+goes old piece text fits took = record {
+  bytes = all_bytes text piece took.bytes fits;
+  read = ap (λ p. advanced p piece) took.read ∙ sym (progress_more text piece (all_bytes text piece took.bytes fits));
+}
+
+fault_told : (progress : Progress) (text : List ℕ) (o : Option ParseFault) → Took progress text → progress.fault ≡ o → fault_in text ≡ o
+fault_told progress text o took e = sym (progress_fault text took.bytes) ∙ ap (λ (p : Progress). p.fault) (sym took.read) ∙ e
+
+pub feed_told : (result : Result (Unit {0}) ParseError) (old : Progress) (piece : List ℕ) (new : Progress) → AreBytes piece → Fed result old piece new → (text : List ℕ) → Took old text → IfErr result (λ e. TellsLasting e (text ++ piece))
+feed_told (Ok done) old piece new fits fed text took = tt
+feed_told (Err (Fault fault)) old piece new fits fed text took =
+    let after = goes old piece text fits took in
+    lasting_is (text ++ piece) fault after.bytes (fault_told (advanced old piece) (text ++ piece) (Some fault) after fed.0)
+feed_told (Err Memory) old piece new fits fed text took = tt
+
+pub feed_going : (result : Result (Unit {0}) ParseError) (old : Progress) (piece : List ℕ) (new : Progress) → AreBytes piece → Fed result old piece new → (text : List ℕ) → Took old text → OnOk result (GoesOn (text ++ piece))
+feed_going (Ok done) old piece new fits fed text took =
+    let after = goes old piece text fits took in
+    goes_on (text ++ piece) after.bytes (fault_told (advanced old piece) (text ++ piece) None after fed.0)
+feed_going (Err e) old piece new fits fed text took = tt
+
+pub feed_taken : (result : Result (Unit {0}) ParseError) (old : Progress) (piece : List ℕ) (new : Progress) → AreBytes piece → Fed result old piece new → (text : List ℕ) → Took old text → OnOk result (Took new (text ++ piece))
+feed_taken (Ok done) old piece new fits fed text took = subst (λ p. Took p (text ++ piece)) (sym fed.1) (goes old piece text fits took)
+feed_taken (Err e) old piece new fits fed text took = tt
+
+abbrev pub TellsAgain : Result (Unit {0}) ParseError → Progress → Type 0
+TellsAgain result old = (fault : ParseFault) → old.fault ≡ Some fault → result ≡ Err (Fault fault)
+
+pub feed_again : (result : Result (Unit {0}) ParseError) (old : Progress) → TellsAgain result old → (text : List ℕ) (fault : ParseFault) → Took old text → IsLasting text fault → result ≡ Err (Fault fault)
+feed_again result old again text fault took lasting =
+    again fault (ap (λ (p : Progress). p.fault) took.read ∙ progress_fault text took.bytes ∙ is_lasting text fault took.bytes lasting)

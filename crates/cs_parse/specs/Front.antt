@@ -1,0 +1,123 @@
+-- As much as is whole.
+use Rattle.std.specs.Prelude.{◌≡◌, ℕ, zero, suc, ◌+◌, ◌-◌, ◌<◌, ◌≤◌, Bool, List, [], ◌∷◌, ◌++◌, length, drop, Option, Some, None, Result, Ok, Err, IsTrue, if◌then◌else◌}
+use Rattle.std.specs.List.{AllByRecursion}
+use Rattle.cs_model.specs.Bytes.{AreBytes}
+use Rattle.cs_model.specs.declared.change.Change.{Change}
+use Rattle.cs_model.specs.PackedChanges.{AreCanonical, Fit, changes_bytes, unpacked_changes}
+use Rattle.cs_model.specs.Section.{Section}
+use Rattle.cs_parse.specs.declared.stop.Refusal.{Refusal}
+use Rattle.cs_parse.specs.declared.stop.Refusal.TheVariants.{Short, Bad}
+use Rattle.cs_parse.specs.declared.fault.ParseFault.{ParseFault}
+use Rattle.cs_parse.specs.Progress.{Progress, Reached, read_on, arrived, so_far, broken}
+use Rattle.cs_parse.specs.declared.fault.ParseError.{ParseError}
+use Rattle.cs_parse.specs.declared.fault.ParseError.TheVariants.{Fault, Memory}
+use Rattle.cs_parse.specs.Reading.{change_at, ends_section}
+
+-- The items that are whole, the bytes behind them, and why the one that begins there isn't read; none where they are over.
+pub record Front (A : Type 0) : Type 0 where
+  pub items : List A
+  pub rest : List ℕ
+  pub why : Option Refusal
+
+abbrev pub behind_item : {A : Type 0} → (List ℕ → Front A) → List ℕ → Result (A × List ℕ) Refusal → Front A
+behind_item go_on bytes (Ok item) = record { items = item.0 ∷ (go_on item.1).items; rest = (go_on item.1).rest; why = (go_on item.1).why }
+behind_item go_on bytes (Err why) = record { items = []; rest = bytes; why = Some why }
+
+-- Each item takes one from `fuel`, and where it is at least the number of bytes, it doesn't run out.
+unfoldable pub front_at : {A : Type 0} → (List ℕ → Bool) → (List ℕ → Result (A × List ℕ) Refusal) → ℕ → List ℕ → Front A
+front_at over read zero bytes = record { items = []; rest = bytes; why = None }
+front_at over read (suc fuel) bytes =
+    if over bytes then record { items = []; rest = bytes; why = None }
+    else behind_item (front_at over read fuel) bytes (read bytes)
+
+-- the changes of a section, as many as are whole
+abbrev pub changes_front : List ℕ → List ℕ → Front Change
+changes_front flags bytes = front_at ends_section (change_at flags) (length bytes) bytes
+
+-- ---- sections
+
+-- what is read behind these sections is found behind others as well
+abbrev pub prefixed : List Section → Reached → Reached
+prefixed sections reached = record { sections = sections ++ reached.sections; rest = reached.rest; why = reached.why }
+
+-- Sections that were read, and either why no more is, or what the bytes behind them give.
+abbrev pub behind_sections : List Section → List ℕ → Option Refusal → Reached
+behind_sections sections rest None = prefixed sections (read_on [] rest)
+behind_sections sections rest (Some why) = record { sections = sections; rest = rest; why = Some why }
+
+-- A list of sections grew by the next one of some bytes, as far as it is whole.
+pub record NextSection (old new : List Section) (bytes rest : List ℕ) (why : Option Refusal) : Type 0 where
+  pub sections : List Section
+  pub added : new ≡ old ++ sections
+  pub read : read_on [] bytes ≡ behind_sections sections rest why
+  pub shorter : why ≡ None → length rest < length bytes
+  pub fits : AreBytes rest
+
+-- ---- a changeset that grows
+
+-- The text is of so many changes that a table with these key bytes can have, and canonical where that is said.
+pub record JoinsTable (flags text : List ℕ) (count : ℕ) (canonical : Bool) : Type 0 where
+  pub fit : AllByRecursion (Fit (length flags)) (unpacked_changes (length flags) text)
+  pub many : count ≡ length (unpacked_changes (length flags) text)
+  pub packs : IsTrue canonical → AreCanonical (length flags) text
+
+abbrev pub Joins : Option (List ℕ) → List ℕ → ℕ → Bool → Type 0
+Joins None text count canonical = Unit {0}
+Joins (Some flags) text count canonical = JoinsTable flags text count canonical
+
+-- What is whole at the front of bytes behind sections, of which the last one's table has these key bytes: so many changes,
+-- whether their bytes are the canonical ones, the bytes behind them, and why the next change isn't read.
+pub record HeadsTable (flags bytes : List ℕ) (count : ℕ) (rest : List ℕ) (canonical : Bool) (why : Option Refusal) : Type 0 where
+  pub many : count ≡ length (changes_front flags bytes).items
+  pub left : rest ≡ (changes_front flags bytes).rest
+  pub own : IsTrue canonical → bytes ≡ changes_bytes (changes_front flags bytes).items ++ (changes_front flags bytes).rest
+  pub reason : why ≡ (changes_front flags bytes).why
+
+abbrev pub Heads : Option (List ℕ) → List ℕ → ℕ → List ℕ → Bool → Option Refusal → Type 0
+Heads None bytes count rest canonical why = (rest ≡ bytes) × (why ≡ None)
+Heads (Some flags) bytes count rest canonical why = HeadsTable flags bytes count rest canonical why
+
+-- What is whole behind these changes: sections, the bytes behind them, and why no more is read; none where a change isn't read.
+abbrev pub Tails : Option Refusal → List ℕ → List Section → List ℕ → Option Refusal → Type 0
+Tails None bytes sections rest why = read_on [] bytes ≡ record { sections = sections; rest = rest; why = why }
+Tails (Some stopped) bytes sections rest why = (sections ≡ []) × (rest ≡ bytes) × (why ≡ Some stopped)
+
+-- the changes that a text says, of the table with these key bytes
+abbrev pub said_by : Option (List ℕ) → List ℕ → List Change
+said_by None text = []
+said_by (Some flags) text = unpacked_changes (length flags) text
+
+-- the fault of a text of which so many bytes are taken, where reading them is stopped by a byte that is wrong
+abbrev pub fault_by : ℕ → Option Refusal → Option ParseFault
+fault_by taken None = None
+fault_by taken (Some Short) = None
+fault_by taken (Some (Bad left kind)) = Some (record { at = taken - left; kind = kind })
+
+-- Sections grew by what bytes behind them spell. So many of these are read, and none of them is wrong, where `taken` bytes
+-- are taken with them.
+pub record Grown (taken done : ℕ) (old new : List Section) (bytes : List ℕ) : Type 0 where
+  pub sections : new ≡ (read_on old bytes).sections
+  pub rest : drop done bytes ≡ (read_on old bytes).rest
+  pub inside : done ≤ length bytes
+  pub no_fault : (len : ℕ) → arrived len taken (read_on old bytes) ≡ so_far len taken (read_on old bytes)
+
+-- the same, or the fault; without memory nothing changes
+abbrev pub Grows : Result ℕ ParseError → ℕ → List Section → List Section → List ℕ → Type 0
+Grows (Ok done) taken old new bytes = Grown taken done old new bytes
+Grows (Err (Fault fault)) taken old new bytes = (len : ℕ) → arrived len taken (read_on old bytes) ≡ broken fault
+Grows (Err Memory) taken old new bytes = new ≡ old
+
+-- bytes within the limit were taken in, none of which is wrong
+pub record TookIn (old : Progress) (bytes : List ℕ) (new : Progress) (reached : Reached) : Type 0 where
+  pub sections : new.sections ≡ reached.sections
+  pub pending : new.pending ≡ reached.rest
+  pub offset : new.offset ≡ old.offset + length bytes
+  pub fault : new.fault ≡ old.fault
+  pub no_fault : (len : ℕ) → arrived len (old.offset + length bytes) reached ≡ so_far len (old.offset + length bytes) reached
+
+-- the same, or the fault; without memory nothing changes
+abbrev pub TakesIn : {A : Type 0} → Result A ParseError → Progress → List ℕ → Progress → Type 0
+TakesIn (Ok done) old bytes new = TookIn old bytes new (read_on old.sections (old.pending ++ bytes))
+TakesIn (Err (Fault fault)) old bytes new =
+    (len : ℕ) → arrived len (old.offset + length bytes) (read_on old.sections (old.pending ++ bytes)) ≡ broken fault
+TakesIn (Err Memory) old bytes new = new ≡ old
