@@ -7,10 +7,10 @@
  *                              processor time, in milliseconds, and the most memory that it had, in kilobytes
  *
  * SQLite's tables are one WITHOUT ROWID table in memory. */
-#define _DEFAULT_SOURCE
 #define SQLITE_ENABLE_SESSION
 #define SQLITE_ENABLE_PREUPDATE_HOOK
 #include "../fields.h"
+#include "measure.h"
 
 #include <sqlite3.h>
 
@@ -18,18 +18,9 @@
 #include <stdio.h>
 #include <stdlib.h>
 #include <string.h>
-#include <sys/resource.h>
-#include <sys/wait.h>
-#include <unistd.h>
 
 /* no changeset is longer than a text may be */
 #define MOST_BYTES 16000000
-
-static void must(int holds, const char *what) {
-    if (holds) return;
-    fprintf(stderr, "apply: %s\n", what);
-    exit(1);
-}
 
 /* ---- making */
 
@@ -108,43 +99,12 @@ static void apply(void) {
     printf("%ld changes\n", (long)sqlite3_total_changes(database));
 }
 
-/* ---- measuring */
-
-static int by_size(const void *one, const void *other) {
-    double a = *(const double *)one, b = *(const double *)other;
-    return (a > b) - (a < b);
-}
-
-static double milliseconds(struct timeval time) { return (double)time.tv_sec * 1000 + (double)time.tv_usec / 1000; }
-
-static void measure(const char *file, char **words) {
-    double took[5];
-    long most = 0;
-    for (int run = 0; run < 5; run++) {
-        pid_t child = fork();
-        must(child >= 0, "fork");
-        if (child == 0) {
-            must(freopen(file, "r", stdin) && freopen("/dev/null", "w", stdout), "files");
-            execv(words[0], words);
-            _exit(127);
-        }
-        int status;
-        struct rusage usage;
-        must(wait4(child, &status, 0, &usage) == child && status == 0, "the command failed");
-        took[run] = milliseconds(usage.ru_utime) + milliseconds(usage.ru_stime);
-        if (usage.ru_maxrss > most) most = usage.ru_maxrss;
-    }
-    qsort(took, 5, sizeof *took, by_size);
-    printf("%.1f %ld\n", took[2], most);
-}
-
 int main(int count, char **words) {
     if (count == 4 && !strcmp(words[1], "make")) make(strtoull(words[2], 0, 10), words[3]);
     else if (count > 3 && !strcmp(words[1], "measure")) measure(words[2], words + 3);
     else if (count == 2 && !strcmp(words[1], "sqlite")) apply();
     else if (count == 2 && !strcmp(words[1], "lean")) {
-        must(sqlite3_config(SQLITE_CONFIG_MEMSTATUS, 0) == SQLITE_OK, "statistics");
-        must(sqlite3_config(SQLITE_CONFIG_SINGLETHREAD) == SQLITE_OK, "locks");
+        make_lean();
         apply();
     } else must(0, "make ROWS KIND, sqlite, lean, or measure FILE WORDS");
     return 0;

@@ -20,7 +20,7 @@ mkdir -p "$work/crates/replay/src"
 cp bench/apply/replay.in "$work/crates/replay/src/main.rt"
 (cd "$work/crates/replay" && "$RT" run -- apply </dev/null >&2)
 ours="$work/crates/replay/out/replay"
-gcc -O2 -Wall -Wextra bench/apply/apply.c bench/fields.c -lsqlite3 -o "$work/apply"
+gcc -O2 -Wall -Wextra bench/apply/*.c bench/fields.c -lsqlite3 -o "$work/apply"
 
 # row FILE WORDS..: the median of the time, and the peak of memory
 row() { "$work/apply" measure "$@"; }

@@ -80,3 +80,10 @@ err_is_no_ok P (Err error) e = tt
 pub on_ok_by : {E P Q : Type 0} (r : Result (Unit {0}) E) → OnOk r P → (P → Q) → OnOk r Q
 on_ok_by (Ok done) p f = f p
 on_ok_by (Err error) p f = tt
+
+-- the last section's key bytes, as code finds it
+pub last_found : (sections : List Section) (last : Section) (flags : List ℕ) → slice_get sections (length sections - 1) ≡ Some last → flags ≡ last.shape.flags → last_flags sections ≡ Some flags
+last_found [] last flags found is = absurd cc
+last_found (section ∷ sections) last flags found is =
+    let all = section ∷ sections in
+    last_is all last (length all - 1) (omega arith) found ∙ ap (λ f. Some f) (sym is)

@@ -41,3 +41,5 @@ pub mod ProgressLaws
 pub mod PartsAnswer
 pub mod ProgressAnswers
 pub mod FeedLaws
+pub mod SpotLaws
+pub mod WaitLaws

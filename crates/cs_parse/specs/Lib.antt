@@ -10,3 +10,4 @@ pub mod Canonical
 pub mod Pieces
 pub mod Progress
 pub mod Front
+pub mod Spot

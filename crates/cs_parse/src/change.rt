@@ -73,8 +73,8 @@ fn skip_change<'a>(flags: &[u8], bytes: &'a [u8]) -> Result<(&'a [u8], bool), Re
     }
 }
 
-// whether no change of a section follows
-fn is_over(bytes: &[u8]) -> bool
+/// Whether no change of a section follows.
+pub fn is_over(bytes: &[u8]) -> bool
     ensures { result ≡ ends_section bytes.now }
 {
     match bytes {

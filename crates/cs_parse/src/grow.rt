@@ -1,13 +1,15 @@
 //! A changeset that grows by the bytes behind it.
 
-ghost use Rattle.std.specs.Prelude.{◌≡◌, ◌≤◌, ◌<◌, ◌++◌, length, IfOk, OnOk, OnErr, Option, Some, None};
+ghost use Rattle.std.specs.Prelude.{◌≡◌, ◌≤◌, ◌<◌, ◌++◌, length, IfOk, OnOk, OnErr, Option, Some, None, IsTrue};
 ghost use Rattle.cs_model.specs.Changeset.{IsChangeset};
-ghost use Rattle.cs_parse.specs.Front.{fault_by, Grows, Heads, Tails, Joins, JoinsTable, said_by};
-ghost use Rattle.cs_parse.specs.Progress.{last_flags, with_changes};
+ghost use Rattle.cs_parse.specs.Front.{fault_by, Grows, Heads, Tails, Joins, JoinsTable, said_by, Waits, KeepsSpot};
+ghost use Rattle.cs_parse.specs.Progress.{last_flags, with_changes, read_on};
+ghost use Rattle.cs_parse.specs.declared.stop.Refusal.TheVariants.{Short};
 
-use crate::change::whole_changes;
+use crate::change::{is_over, whole_changes};
 use crate::fault::{ParseError, ParseFault};
 use crate::section::whole_sections;
+use crate::spot::{Spot, still_short};
 use crate::stop::Refusal;
 use cs_model::laws::{changes_fit, spelled_is_said};
 use cs_model::{Changeset, Section, Seq};
@@ -123,6 +125,24 @@ fn wrong_in(taken: usize, why: Option<Refusal>) -> Option<ParseFault>
         Some(Refusal::Short) => None,
         None => None,
     }
+}
+
+/// Whether nothing is whole of the bytes behind these sections, since a change of the last one's table begins there and ends too
+/// early. The spot is moved on, so that these bytes aren't gone over again when more come. Where it is false nothing is known of
+/// the spot.
+pub fn still_waits(sections: &[Section], bytes: &[u8], spot: &mut Spot) -> bool
+    requires { Waits (last_flags sections.now) bytes.now spot.old }
+    ensures waits { IsTrue result → read_on sections.now bytes.now
+        ≡ record { sections = sections.now; rest = bytes.now; why = Some Short } }
+    ensures spot { IsTrue result → KeepsSpot (last_flags sections.now) bytes.now spot.new }
+{
+    let Some(section) = sections.last() else {
+        return false;
+    };
+    if is_over(bytes) {
+        return false;
+    }
+    still_short(&section.shape().flags, bytes, spot)
 }
 
 /// Adds to a changeset what bytes behind it spell, as far as they are whole, and answers how many bytes that is. `taken` is

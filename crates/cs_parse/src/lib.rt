@@ -15,6 +15,7 @@ mod pieces;
 mod record;
 mod rule;
 mod section;
+mod spot;
 mod stop;
 mod whole;
 

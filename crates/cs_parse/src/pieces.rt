@@ -11,8 +11,9 @@ ghost use Rattle.cs_parse.specs.Progress.{nothing, broken, advanced, ended, prog
 ghost use Rattle.cs_parse.specs.declared.fault.ParseFault.{ParseFault};
 
 use crate::fault::{FaultKind, ParseError, ParseFault};
-use crate::grow::grow;
+use crate::grow::{grow, still_waits};
 use crate::laws::progress_tells;
+use crate::spot::Spot;
 use crate::whole::MOST_BYTES;
 use cs_model::{Changeset, Seq};
 use std::alloc::Global;
@@ -28,11 +29,15 @@ pub struct PieceParser {
     pending: Vec<u8>,
     offset: usize,
     fault: Option<ParseFault>,
+    // how far the change that waits was gone over
+    spot: Spot,
 }
 
 impl Model for PieceParser {
     ghost use Rattle.std.specs.Prelude.{◌≤◌};
     ghost use Rattle.cs_model.specs.Changeset.{most_bytes};
+    ghost use Rattle.cs_parse.specs.Front.{KeepsSpot};
+    ghost use Rattle.cs_parse.specs.Progress.{last_flags};
     ghost use Rattle.cs_parse.specs.Progress.{Progress, progress_code};
 
     ghost Value = { Progress };
@@ -41,7 +46,7 @@ impl Model for PieceParser {
 
     ghost view = { λ p. record { sections = p.changeset; pending = p.pending.items; offset = p.offset; fault = p.fault } };
 
-    ghost invariant = { λ p. p.offset ≤ most_bytes };
+    ghost invariant = { λ p. (p.offset ≤ most_bytes) × KeepsSpot (last_flags p.changeset) p.pending.items p.spot };
 }
 
 // no sections
@@ -74,6 +79,7 @@ impl PieceParser {
             pending: Vec::new(alloc),
             offset: 0,
             fault: None,
+            spot: Spot::start(),
         }
     }
 
@@ -132,6 +138,11 @@ impl PieceParser {
         let start = self.pending.len();
         self.pending.extend_from_slice(bytes)?;
         let taken = self.offset + bytes.len();
+        if still_waits(self.changeset.sections(), &self.pending, &mut self.spot) {
+            self.offset = taken;
+            return Ok(());
+        }
+        self.spot = Spot::start();
         match grow(alloc, &mut self.changeset, &self.pending, taken) {
             Ok(read) => {
                 remove_front(&mut self.pending, read);
@@ -155,6 +166,7 @@ impl PieceParser {
         self.pending = Vec::new(alloc);
         self.offset = fault.at;
         self.fault = Some(fault);
+        self.spot = Spot::start();
         ParseError::Fault(fault)
     }
 

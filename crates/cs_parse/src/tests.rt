@@ -15,6 +15,7 @@ use std::test::*;
 
 mod cuts;
 mod spellings;
+mod spots;
 
 // the header of a table `t` with two columns, of which the first is its key
 const HEADER: [u8; 6] = [0x54, 2, 1, 0, 0x74, 0];

@@ -7,3 +7,4 @@ pub mod FormLaws
 pub mod SpellLaws
 pub mod NoLonger
 pub mod Laying
+pub mod Cutting

@@ -4,3 +4,4 @@ pub mod Groups
 pub mod Seen
 pub mod Lengths
 pub mod Buffer
+pub mod Pieces

@@ -5,6 +5,8 @@ ghost use Rattle.cs_model.specs.PackedChanges.{Long};
 ghost use Rattle.cs_model.specs.declared.value.Value.TheVariants.{Integer, Text};
 ghost use Rattle.cs_model.specs.declared.value.Field.TheVariants.{Undefined, Is};
 
+mod pieces;
+
 use crate::{canonical, write, write_to};
 use cs_model::{Change, Changes, Changeset, Field, Op, Section, Seq, Shape, Value};
 use std::alloc::{AllocError, Global};

@@ -1,0 +1,91 @@
+-- How far a change that isn't whole was gone over.
+use Rattle.std.specs.Prelude.{◌≡◌, ℕ, ◌≤◌, ◌<◌, List, ◌∷◌, ◌++◌, length, drop, map, Option, Some, None, Ok, Err}
+use Rattle.cs_model.specs.declared.value.Field.{Field}
+use Rattle.cs_model.specs.declared.change.Op.{Op}
+use Rattle.cs_model.specs.declared.change.Op.TheVariants.{Insert, Update, Delete}
+use Rattle.cs_model.specs.Rule.{Rule, row_rule, old_rule, new_rules}
+use Rattle.cs_parse.specs.declared.stop.Refusal.TheVariants.{Short}
+use Rattle.cs_parse.specs.declared.spot.Spot.{Spot}
+use Rattle.cs_parse.specs.declared.spot.Spot.TheVariants.{Start, Row, Old, New}
+use Rattle.cs_parse.specs.Reading.{◌>>=◌, op_of, record_at, change_at}
+
+-- ---- records
+
+-- A front of a record was read, and of its rules these are left, and these bytes. Whatever bytes stand behind that front, the record
+-- begins with its fields, and goes on with what the rules that are left read from those bytes.
+pub record Passes (rules others : List Rule) (bytes rest : List ℕ) : Type 0 where
+  pub fields : List Field
+  pub text : List ℕ
+  pub parts : bytes ≡ text ++ rest
+  pub reads : (back : List ℕ) → record_at rules (text ++ back) ≡ (record_at others back >>= λ x. Ok (fields ++ x.0, x.1))
+
+-- so many fields of a record with these columns were read, and where that isn't all of them the next one ends too early
+pub record Halts (rule : ℕ → Rule) (flags bytes : List ℕ) (count : ℕ) (rest : List ℕ) : Type 0 where
+  pub columns : count ≤ length flags
+  pub passes : Passes (map rule flags) (map rule (drop count flags)) bytes rest
+  pub short : count < length flags → record_at (map rule (drop count flags)) rest ≡ Err Short
+
+-- The same of an UPDATE's new record, of which the next field ends too early. The old record's fields of the columns from that
+-- field's on are read from `old_rest`.
+pub record HaltsNew (flags : List ℕ) (before : List Field) (left bytes : List ℕ) (count : ℕ) (old_rest rest : List ℕ) : Type 0 where
+  pub columns : count ≤ length flags
+  pub old_left : record_at (map old_rule (drop count flags)) old_rest ≡ Ok (drop count before, left)
+  pub passes : Passes (new_rules flags before) (new_rules (drop count flags) (drop count before)) bytes rest
+  pub short : record_at (new_rules (drop count flags) (drop count before)) rest ≡ Err Short
+
+-- bytes end with these
+abbrev pub IsBack : List ℕ → List ℕ → Type 0
+IsBack bytes rest = (front : List ℕ) × (bytes ≡ front ++ rest)
+
+-- ---- changes
+
+-- a change begins with this operation's byte and a mark, and these bytes stand behind them
+pub record Begins (op : Op) (bytes rest : List ℕ) : Type 0 where
+  pub byte : ℕ
+  pub mark : ℕ
+  pub parts : bytes ≡ byte ∷ mark ∷ rest
+  pub is_op : op_of byte ≡ Some op
+
+-- In the first record of a change so many fields were passed, and the next one begins at this place.
+pub record InFirst (op : Op) (rule : ℕ → Rule) (flags bytes : List ℕ) (fields place : ℕ) : Type 0 where
+  pub records : List ℕ
+  pub begins : Begins op bytes records
+  pub columns : fields ≤ length flags
+  pub within : place ≤ length bytes
+  pub passes : Passes (map rule flags) (map rule (drop fields flags)) records (drop place bytes)
+
+-- the same, and where not all fields were passed the next one ends too early
+pub record PassedFirst (op : Op) (rule : ℕ → Rule) (flags bytes : List ℕ) (fields place : ℕ) : Type 0 where
+  pub reached : InFirst op rule flags bytes fields place
+  pub short : fields < length flags → record_at (map rule (drop fields flags)) (drop place bytes) ≡ Err Short
+
+-- The same of an UPDATE's new record, where the old record's field of the next column begins at `old`.
+pub record InNew (flags bytes : List ℕ) (fields place old : ℕ) : Type 0 where
+  pub records : List ℕ
+  pub begins : Begins Update bytes records
+  pub before : List Field
+  pub left : List ℕ
+  pub old_read : record_at (map old_rule flags) records ≡ Ok (before, left)
+  pub columns : fields ≤ length flags
+  pub within : place ≤ length bytes
+  pub old_within : old ≤ length bytes
+  pub old_left : record_at (map old_rule (drop fields flags)) (drop old bytes) ≡ Ok (drop fields before, left)
+  pub passes : Passes (new_rules flags before) (new_rules (drop fields flags) (drop fields before)) left (drop place bytes)
+
+-- whether a change with this operation has one record
+abbrev pub HasOne : Op → Type 0
+HasOne Insert = Unit {0}
+HasOne Update = ⊥
+HasOne Delete = Unit {0}
+
+-- A change of a table with these key bytes, of which these bytes are there, was gone over to this spot.
+abbrev pub IsSpot : List ℕ → List ℕ → Spot → Type 0
+IsSpot flags bytes Start = Unit {0}
+IsSpot flags bytes (Row fields place) = (op : Op) × HasOne op × InFirst op row_rule flags bytes fields place
+IsSpot flags bytes (Old fields place) = InFirst Update old_rule flags bytes fields place
+IsSpot flags bytes (New fields place old) = InNew flags bytes fields place old
+
+-- the change still ends too early, and was gone over to this spot
+abbrev pub StaysShort : List ℕ → List ℕ → Option Spot → Type 0
+StaysShort flags bytes None = Unit {0}
+StaysShort flags bytes (Some spot) = (change_at flags bytes ≡ Err Short) × IsSpot flags bytes spot

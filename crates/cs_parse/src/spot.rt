@@ -1,0 +1,197 @@
+//! How far a change that isn't whole was gone over, so that more bytes behind it are read from there on and not from its front.
+
+ghost use Rattle.std.specs.Prelude.{◌≡◌, ◌≤◌, ◌++◌, ℕ, List, length, Ok, Err, map, IfSome, IsTrue};
+ghost use Rattle.cs_model.specs.Bytes.{AreBytes};
+ghost use Rattle.cs_model.specs.declared.change.Op.{Op};
+ghost use Rattle.cs_model.specs.declared.value.Field.{Field};
+ghost use Rattle.cs_model.specs.Rule.{old_rule};
+ghost use Rattle.cs_parse.specs.FieldRules.{rule_of, column_rule};
+ghost use Rattle.cs_parse.specs.Reading.{record_at, change_at};
+ghost use Rattle.cs_parse.specs.Spot.{Halts, HaltsNew, IsBack, InFirst, PassedFirst, InNew, IsSpot, StaysShort};
+ghost use Rattle.cs_parse.specs.declared.spot.Spot.TheVariants.{Start, Row, Old};
+ghost use Rattle.cs_parse.specs.declared.stop.Refusal.TheVariants.{Short};
+
+use crate::field::field_in;
+use crate::rule::{FieldRule, rule_by_flag, rule_by_old};
+use crate::stop::Refusal;
+
+/// The first field of a change that isn't whole: `fields` of its record stand before it, and it begins at `at`, which is
+/// counted from the change's first byte.
+#[derive(Clone, Copy, Debug)]
+pub enum Spot {
+    /// The change was not gone over.
+    Start,
+    /// In the one record of an INSERT or a DELETE.
+    Row {
+        fields: usize,
+        at: usize,
+    },
+    /// In the old record of an UPDATE.
+    Old {
+        fields: usize,
+        at: usize,
+    },
+    /// In the new one. The old record's field of the same column begins at `old`.
+    New {
+        fields: usize,
+        at: usize,
+        old: usize,
+    },
+}
+
+impl Spot {
+    /// The spot of a change that was not gone over.
+    pub fn start() -> Spot
+        ensures { result ≡ Start }
+    {
+        Spot::Start
+    }
+}
+
+// The fields of a record that are whole, where the columns outside the key have this rule: how many, and the bytes behind
+// them. Nothing where a byte of the next one is wrong.
+fn pass_fields<'a>(outside: FieldRule, flags: &[u8], bytes: &'a [u8]) -> Option<(usize, &'a [u8])>
+    ensures { IfSome result (λ x.
+        Halts (column_rule (rule_of outside)) flags.now bytes.now x.0 x.1.now) }
+{
+    let mut rest = bytes;
+    for (passed, &flag) in flags.iter().enumerate() {
+        match field_in(rule_by_flag(flag, outside), rest, true) {
+            Ok((_, after, _)) => rest = after,
+            Err(Refusal::Short) => return Some((passed, rest)),
+            Err(Refusal::Bad { .. }) => return None,
+        }
+    }
+    Some((flags.len(), rest))
+}
+
+// The same of an UPDATE's new record, and nothing where all its fields are whole. Its rules come from the old one, which is
+// read again from `old` on, field by field beside it. The old record's bytes from the next column on stand before the new one's.
+fn pass_new<'a>(flags: &[u8], old: &'a [u8], bytes: &'a [u8]) -> Option<(usize, &'a [u8], &'a [u8])>
+    ensures back { IfSome result (λ x. IsBack old.now x.1.now) }
+    ensures halts { (before : List Field) (left : List ℕ)
+        → record_at (map old_rule flags.now) old.now ≡ Ok (before, left)
+        → IfSome result (λ x. HaltsNew flags.now before left bytes.now x.0 x.1.now x.2.now) }
+{
+    let mut old_rest = old;
+    let mut rest = bytes;
+    for (passed, &flag) in flags.iter().enumerate() {
+        let rule = rule_by_flag(flag, FieldRule::Open);
+        let Ok((field, old_after, _)) = field_in(rule, old_rest, true) else {
+            return None;
+        };
+        match field_in(rule_by_old(flag, field.has_value()), rest, true) {
+            Ok((_, after, _)) => rest = after,
+            Err(Refusal::Short) => return Some((passed, old_rest, rest)),
+            Err(Refusal::Bad { .. }) => return None,
+        }
+        old_rest = old_after;
+    }
+    None
+}
+
+// Goes on in the first record of a change: how many of its fields are whole, and where the next one begins.
+fn pass_first(
+    outside: FieldRule,
+    flags: &[u8],
+    bytes: &[u8],
+    fields: usize,
+    at: usize,
+) -> Option<(usize, usize)>
+    requires columns { fields ≤ length flags.now }
+    requires within { at ≤ length bytes.now }
+    ensures { (op : Op) → InFirst op (column_rule (rule_of outside)) flags.now bytes.now fields at
+        → IfSome result (λ x. PassedFirst op (column_rule (rule_of outside)) flags.now bytes.now x.0 x.1) }
+{
+    let (_, columns) = flags.split_at(fields);
+    let (_, front) = bytes.split_at(at);
+    let (passed, rest) = pass_fields(outside, columns, front)?;
+    Some((fields + passed, bytes.len() - rest.len()))
+}
+
+// goes on in the one record of an INSERT or a DELETE
+fn row_spot(flags: &[u8], bytes: &[u8], fields: usize, at: usize) -> Option<Spot>
+    requires { IsSpot flags.now bytes.now (Row fields at) }
+    ensures { StaysShort flags.now bytes.now result }
+{
+    let (fields, at) = pass_first(FieldRule::Given, flags, bytes, fields, at)?;
+    if fields < flags.len() {
+        Some(Spot::Row { fields, at })
+    } else {
+        None
+    }
+}
+
+// goes on in the new record of an UPDATE
+fn new_spot(flags: &[u8], bytes: &[u8], fields: usize, at: usize, old: usize) -> Option<Spot>
+    requires { InNew flags.now bytes.now fields at old }
+    ensures { StaysShort flags.now bytes.now result }
+{
+    let (_, columns) = flags.split_at(fields);
+    let (_, old_rest) = bytes.split_at(old);
+    let (_, rest) = bytes.split_at(at);
+    let (passed, old_rest, rest) = pass_new(columns, old_rest, rest)?;
+    Some(Spot::New {
+        fields: fields + passed,
+        at: bytes.len() - rest.len(),
+        old: bytes.len() - old_rest.len(),
+    })
+}
+
+// goes on in the old record of an UPDATE, and then in the new one
+fn old_spot(flags: &[u8], bytes: &[u8], fields: usize, at: usize) -> Option<Spot>
+    requires { IsSpot flags.now bytes.now (Old fields at) }
+    ensures { StaysShort flags.now bytes.now result }
+{
+    let (fields, at) = pass_first(FieldRule::Open, flags, bytes, fields, at)?;
+    if fields < flags.len() {
+        return Some(Spot::Old { fields, at });
+    }
+    new_spot(flags, bytes, 0, at, 2)
+}
+
+// goes over a change from its first byte on
+fn first_spot(flags: &[u8], bytes: &[u8]) -> Option<Spot>
+    ensures { StaysShort flags.now bytes.now result }
+{
+    let Some((&byte, rest)) = bytes.split_first() else {
+        return Some(Spot::Start);
+    };
+    match byte {
+        0x12 | 0x17 | 0x09 if rest.is_empty() => Some(Spot::Start),
+        0x12 | 0x09 => row_spot(flags, bytes, 0, 2),
+        0x17 => old_spot(flags, bytes, 0, 2),
+        _ => None,
+    }
+}
+
+// The spot that is reached from here, where the change still ends too early.
+fn next_spot(flags: &[u8], bytes: &[u8], spot: Spot) -> Option<Spot>
+    requires { IsSpot flags.now bytes.now spot }
+    ensures { StaysShort flags.now bytes.now result }
+{
+    match spot {
+        Spot::Start => first_spot(flags, bytes),
+        Spot::Row { fields, at } => row_spot(flags, bytes, fields, at),
+        Spot::Old { fields, at } => old_spot(flags, bytes, fields, at),
+        Spot::New { fields, at, old } => new_spot(flags, bytes, fields, at, old),
+    }
+}
+
+/// Whether a change still ends too early, of which these bytes are there, none or more. The spot is moved to the first field
+/// that isn't whole, and stays right with any bytes behind these. It takes time in line with the fields that are passed. Where it is
+/// false, the change is whole or a byte is wrong, and nothing is known of the spot.
+pub fn still_short(flags: &[u8], bytes: &[u8], spot: &mut Spot) -> bool
+    requires { IsSpot flags.now bytes.now spot.old }
+    ensures short { IsTrue result → change_at flags.now bytes.now ≡ Err Short }
+    ensures spot { IsTrue result → (more : List ℕ) → AreBytes more
+        → IsSpot flags.now (bytes.now ++ more) spot.new }
+{
+    match next_spot(flags, bytes, *spot) {
+        Some(next) => {
+            *spot = next;
+            true
+        }
+        None => false,
+    }
+}

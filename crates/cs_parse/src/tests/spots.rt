@@ -1,0 +1,54 @@
+//! Changes that come byte by byte.
+
+use super::*;
+use crate::spot::{Spot, still_short};
+
+// the key bytes of a table with three columns, of which the first is its key
+const FLAGS: [u8; 3] = [1, 0, 0];
+
+// an INSERT of (1, 'ab', x'ccdd')
+const ROW: [u8; 19] = [
+    0x12, 0, 1, 0, 0, 0, 0, 0, 0, 0, 1, 3, 2, 0x61, 0x62, 4, 2, 0xcc, 0xdd,
+];
+
+// an UPDATE of it to (1, 'c', x'ee')
+const CHANGED: [u8; 26] = [
+    0x17, 0, 1, 0, 0, 0, 0, 0, 0, 0, 1, 3, 2, 0x61, 0x62, 4, 2, 0xcc, 0xdd, 0, 3, 1, 0x63, 4, 1,
+    0xee,
+];
+
+// How many bytes of a change are there when it isn't told any more that it ends too early, where they come one by one.
+fn told_at(flags: &[u8], change: &[u8]) -> Option<usize> {
+    let mut spot = Spot::start();
+    for len in 0..change.len() {
+        if !still_short(flags, &change[..len], &mut spot) {
+            return Some(len);
+        }
+    }
+    (!still_short(flags, change, &mut spot)).then_some(change.len())
+}
+
+#[test]
+fn changes_are_short_to_their_ends(rt: HostRuntime) {
+    assert_eq!(rt; told_at(&FLAGS, &ROW), Some(19));
+    assert_eq!(rt; told_at(&FLAGS, &CHANGED), Some(26));
+    let mut deleted = ROW;
+    deleted[0] = 9;
+    assert_eq!(rt; told_at(&FLAGS, &deleted), Some(19));
+}
+
+#[test]
+fn wrong_bytes_are_told_at_once(rt: HostRuntime) {
+    // a REAL in the second column, and in the old record of an UPDATE
+    let mut row = ROW;
+    row[11] = 2;
+    assert_eq!(rt; told_at(&FLAGS, &row), Some(12));
+    let mut changed = CHANGED;
+    changed[11] = 2;
+    assert_eq!(rt; told_at(&FLAGS, &changed), Some(12));
+    // and a column that only the old one has
+    let mut changed = CHANGED;
+    changed[20] = 0;
+    assert_eq!(rt; told_at(&FLAGS, &changed), Some(21));
+    assert_eq!(rt; told_at(&FLAGS, &[0x13]), Some(1));
+}
