@@ -137,25 +137,51 @@ fn bytes_come_one_by_one(rt: HostRuntime) -> Result<(), Fail> {
     goes_bytewise(&rt, alloc, &LOOSE)
 }
 
-// Cut into three pieces anywhere, the whole is read.
+// Cut behind any byte, the back comes byte by byte.
 #[test]
-fn three_pieces_leave_no_trace(rt: HostRuntime) -> Result<(), Fail> {
+fn any_front_is_gone_on_with(rt: HostRuntime) -> Result<(), Fail> {
     let alloc = rt.alloc();
-    for first in 0..63_usize {
-        let (front, others) = WHOLE.split_at(first);
+    for cut in 0..63_usize {
+        let (front, back) = WHOLE.split_at(cut);
+        let mut parser = PieceParser::new(alloc);
+        feeds(&rt, alloc, &mut parser, front, Ok(()));
+        for byte in back {
+            feeds(&rt, alloc, &mut parser, &[*byte], Ok(()));
+        }
+        assert!(rt; as_whole(alloc, &parser, &WHOLE)?, "at {cut}");
+    }
+    Ok(())
+}
+
+// Cut into three pieces anywhere, the whole is read.
+fn goes_in_three(rt: &impl Abort, alloc: Global, text: &[u8]) -> Result<(), Fail> {
+    for first in 0..text.len() {
+        let (front, others) = text.split_at(first);
         for second in 0..others.len() {
             let (middle, back) = others.split_at(second);
             let mut parser = PieceParser::new(alloc);
-            feeds(&rt, alloc, &mut parser, front, Ok(()));
-            feeds(&rt, alloc, &mut parser, middle, Ok(()));
-            feeds(&rt, alloc, &mut parser, back, Ok(()));
-            assert!(rt;
-                as_whole(alloc, &parser, &WHOLE)?,
-                "at {first} and {second}"
-            );
+            feeds(rt, alloc, &mut parser, front, Ok(()));
+            feeds(rt, alloc, &mut parser, middle, Ok(()));
+            feeds(rt, alloc, &mut parser, back, Ok(()));
+            assert!(rt; as_whole(alloc, &parser, text)?, "at {first} and {second}");
         }
     }
     Ok(())
+}
+
+// an INSERT of (1, 'x'), and an UPDATE of it to (1, 'y')
+const UPDATED: [u8; 38] = [
+    0x54, 2, 1, 0, 0x74, 0, 0x12, 0, 1, 0, 0, 0, 0, 0, 0, 0, 1, 3, 1, 0x78, 0x17, 0, 1, 0, 0, 0, 0,
+    0, 0, 0, 1, 3, 1, 0x78, 0, 3, 1, 0x79,
+];
+
+#[test]
+fn three_pieces_leave_no_trace(rt: HostRuntime) -> Result<(), Fail> {
+    let alloc = rt.alloc();
+    goes_in_three(&rt, alloc, &INSERT)?;
+    goes_in_three(&rt, alloc, &UPDATED)?;
+    goes_in_three(&rt, alloc, &LOOSE)?;
+    goes_in_three(&rt, alloc, &WHOLE)
 }
 
 // Taken out, the changeset is the one that was shown, and the parser begins anew.
