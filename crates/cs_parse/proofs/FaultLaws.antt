@@ -125,11 +125,11 @@ fault_short text fault fits short none e = elim (read_ends (sections_at text)) a
 
 -- ---- the answer by the length of the text
 
-answer_long : (text : List ℕ) → most_bytes < length text → answer_of text ≡ cut most_bytes (sections_at (take most_bytes text))
+pub answer_long : (text : List ℕ) → most_bytes < length text → answer_of text ≡ cut most_bytes (sections_at (take most_bytes text))
 unfolding answer_of
 answer_long text long = ap (λ b. cond b (cut most_bytes (sections_at (take most_bytes text))) (placed (length text) (sections_at text))) (lt-ltb most_bytes (length text) long)
 
-answer_short : (text : List ℕ) → length text ≤ most_bytes → answer_of text ≡ placed (length text) (sections_at text)
+pub answer_short : (text : List ℕ) → length text ≤ most_bytes → answer_of text ≡ placed (length text) (sections_at text)
 unfolding answer_of
 answer_short text short = ap (λ b. cond b (cut most_bytes (sections_at (take most_bytes text))) (placed (length text) (sections_at text))) (le-ltb most_bytes (length text) short)
 

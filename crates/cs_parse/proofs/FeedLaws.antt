@@ -1,5 +1,5 @@
 -- What a parser answers, of every text that it may have taken.
-use Rattle.std.proofs.Common.{◌≡◌, ℕ, List, ◌++◌, Option, Some, None, Result, Ok, Err, sym, ap, subst, ◌∙◌}
+use Rattle.std.proofs.Common.{◌≡◌, ℕ, List, [], arith, ◌++◌, Option, Some, None, Result, Ok, Err, sym, ap, subst, ◌∙◌}
 use Rattle.std.specs.Prelude.{IfErr, OnOk, IfOk}
 use Rattle.std.specs.Borrow.{Bor}
 use Rattle.cs_model.specs.Bytes.{AreBytes}
@@ -11,12 +11,13 @@ use Rattle.cs_parse.specs.declared.fault.ParseFault.{ParseFault}
 use Rattle.cs_parse.specs.Answer.{Shows}
 use Rattle.cs_parse.specs.Fault.{IsFault}
 use Rattle.cs_parse.specs.Pieces.{fault_in, IsLasting, TellsLasting, GoesOn}
-use Rattle.cs_parse.specs.Progress.{Progress, advanced, ended, Fed, Took}
+use Rattle.cs_parse.specs.Progress.{Progress, advanced, ended, Fed, Took, Takes}
 use Rattle.cs_parse.proofs.Exact.{are_bytes-append}
 use Rattle.cs_parse.proofs.FaultLaws.{refused_is_fault}
 use Rattle.cs_parse.proofs.PieceLaws.{lasting_is, is_lasting, goes_on}
 use Rattle.cs_parse.proofs.ProgressAnswers.{progress_ended, progress_fault}
-use Rattle.cs_parse.proofs.ProgressLaws.{progress_more}
+use Rattle.cs_parse.proofs.ProgressLaws.{progress_begins, progress_more}
+use Rattle.cs_parse.specs.Reading.{answer_of}
 use Rattle.cs_parse.proofs.Steps.{bytes_from, bytes_to}
 use Rattle.cs_parse.proofs.TextLaws.{answer_takes}
 
@@ -29,6 +30,24 @@ finish_found (Err fault) progress shows text took = tt
 pub finish_faulty : (result : Result (Bor (List Section)) ParseFault) (progress : Progress) → Shows result (ended progress) → (text : List ℕ) → Took progress text → IfErr result (λ fault. IsFault text fault)
 finish_faulty (Ok found) progress shows text took = tt
 finish_faulty (Err fault) progress shows text took = refused_is_fault text fault took.bytes (sym (progress_ended text took.bytes) ∙ ap ended (sym took.read) ∙ shows)
+
+-- ---- the changeset taken out
+
+-- a new parser has taken no bytes
+no_bytes : AreBytes []
+no_bytes i = omega arith
+
+pub new_took : (sections : List Section) (pending : List ℕ) → sections ≡ [] → pending ≡ [] → Took (record { sections = sections; pending = pending; offset = 0; fault = None }) []
+new_took sections pending none no_pending = record {
+  bytes = no_bytes;
+  read = ap (λ s. record { sections = s; pending = pending; offset = 0; fault = None }) none ∙ ap (λ w. record { sections = []; pending = w; offset = 0; fault = None }) no_pending ∙ sym progress_begins;
+}
+
+pub take_spelled : (progress : Progress) (changeset : List Section) → ended progress ≡ Ok changeset → (text : List ℕ) → Took progress text → Spells text changeset
+take_spelled progress changeset e text took = answer_takes text changeset took.bytes (sym (progress_ended text took.bytes) ∙ ap ended (sym took.read) ∙ e)
+
+pub ended_answer : (progress : Progress) (text : List ℕ) → Took progress text → ended progress ≡ answer_of text
+ended_answer progress text took = ap ended took.read ∙ progress_ended text took.bytes
 
 -- ---- feed
 
@@ -58,9 +77,10 @@ feed_going (Ok done) old piece new fits fed text took =
     goes_on (text ++ piece) after.bytes (fault_told (advanced old piece) (text ++ piece) None after fed.0)
 feed_going (Err e) old piece new fits fed text took = tt
 
-pub feed_taken : (result : Result (Unit {0}) ParseError) (old : Progress) (piece : List ℕ) (new : Progress) → AreBytes piece → Fed result old piece new → (text : List ℕ) → Took old text → OnOk result (Took new (text ++ piece))
+pub feed_taken : (result : Result (Unit {0}) ParseError) (old : Progress) (piece : List ℕ) (new : Progress) → AreBytes piece → Fed result old piece new → (text : List ℕ) → Took old text → Takes result text piece new
 feed_taken (Ok done) old piece new fits fed text took = subst (λ p. Took p (text ++ piece)) (sym fed.1) (goes old piece text fits took)
-feed_taken (Err e) old piece new fits fed text took = tt
+feed_taken (Err (Fault fault)) old piece new fits fed text took = subst (λ p. Took p (text ++ piece)) (sym fed.1) (goes old piece text fits took)
+feed_taken (Err Memory) old piece new fits fed text took = subst (λ p. Took p text) (sym fed) took
 
 abbrev pub TellsAgain : Result (Unit {0}) ParseError → Progress → Type 0
 TellsAgain result old = (fault : ParseFault) → old.fault ≡ Some fault → result ≡ Err (Fault fault)

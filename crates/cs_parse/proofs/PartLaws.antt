@@ -16,7 +16,7 @@ use Rattle.cs_parse.proofs.ChangeLaws.{change_takes, change_reader}
 
 -- ---- a turn
 
-some_bytes : (byte : ℕ) (bytes : List ℕ) → is_empty (byte ∷ bytes) ≡ false
+pub some_bytes : (byte : ℕ) (bytes : List ℕ) → is_empty (byte ∷ bytes) ≡ false
 some_bytes byte bytes = ne_eqb (suc (length bytes)) 0 (λ z. absurd cc)
 
 abbrev all_read : List Section → List ℕ → Reached

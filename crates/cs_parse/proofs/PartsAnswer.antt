@@ -15,7 +15,9 @@ use Rattle.cs_parse.specs.Progress.{last_flags, with_changes, with_header, with_
 use Rattle.cs_parse.proofs.Steps.{back_fits}
 use Rattle.cs_parse.proofs.Loops.{with_front, then_others, rest_of, many_more, many_done}
 use Rattle.cs_parse.proofs.ManyLaws.{IsReader}
-use Rattle.cs_parse.proofs.PartLaws.{nothing_behind, part_refused, part_shorter, part_rest_fits, part_read}
+use Rattle.cs_parse.proofs.PartLaws.{some_bytes, part_shorter}
+use Rattle.cs_parse.proofs.PartMore.{read_induction}
+use Rattle.cs_parse.proofs.SectionLists.{last_of, with_last, with_none, with_both, last_same}
 use Rattle.cs_parse.proofs.ChangeLaws.{IsChangeBy, IsAny, change_reader}
 use Rattle.cs_parse.proofs.TextLaws.{sectioned, changes_behind, CanFollow, section_reader}
 
@@ -85,42 +87,6 @@ sections_over : sections_at [] ≡ Ok ([], [])
 unfolding sections_at
 sections_over = many_done is_empty section_at 0 [] (inr refl)
 
--- ---- the last section
-
-no_changes_more : (sections : List Section) → with_changes sections [] ≡ sections
-no_changes_more [] = refl
-no_changes_more (section ∷ []) = ap (λ c. record { shape = section.shape; changes = c } ∷ []) (append-nil section.changes)
-no_changes_more (section ∷ next ∷ sections) = ap (λ w. section ∷ w) (no_changes_more (next ∷ sections))
-
-first_stays : (section next : Section) (sections : List Section) (a b : List Change) → with_changes (section ∷ with_changes (next ∷ sections) a) b ≡ section ∷ with_changes (with_changes (next ∷ sections) a) b
-first_stays section next [] a b = refl
-first_stays section next (other ∷ sections) a b = refl
-
-one_and_more : (sections : List Section) (change : Change) (changes : List Change) → with_changes (with_changes sections (change ∷ [])) changes ≡ with_changes sections (change ∷ changes)
-one_and_more [] change changes = refl
-one_and_more (section ∷ []) change changes = ap (λ c. record { shape = section.shape; changes = c } ∷ []) (append_assoc section.changes (change ∷ []) changes)
-one_and_more (section ∷ next ∷ sections) change changes =
-    first_stays section next sections (change ∷ []) changes ∙ ap (λ w. section ∷ w) (one_and_more (next ∷ sections) change changes)
-
-last_behind : (section next : Section) (sections : List Section) (a : List Change) → last_flags (section ∷ with_changes (next ∷ sections) a) ≡ last_flags (with_changes (next ∷ sections) a)
-last_behind section next [] a = refl
-last_behind section next (other ∷ sections) a = refl
-
-same_last : (sections : List Section) (changes : List Change) → last_flags (with_changes sections changes) ≡ last_flags sections
-same_last [] changes = refl
-same_last (section ∷ []) changes = refl
-same_last (section ∷ next ∷ sections) changes = last_behind section next sections changes ∙ same_last (next ∷ sections) changes
-
-new_last : (sections : List Section) (new : Section) → last_flags (sections ++ new ∷ []) ≡ Some new.shape.flags
-new_last [] new = refl
-new_last (section ∷ []) new = refl
-new_last (section ∷ next ∷ sections) new = new_last (next ∷ sections) new
-
-new_changes : (sections : List Section) (new : Section) (changes : List Change) → with_changes (sections ++ new ∷ []) changes ≡ sections ++ record { shape = new.shape; changes = new.changes ++ changes } ∷ []
-new_changes [] new changes = refl
-new_changes (section ∷ []) new changes = refl
-new_changes (section ∷ next ∷ sections) new changes = ap (λ w. section ∷ w) (new_changes (next ∷ sections) new changes)
-
 -- ---- what finishing gives
 
 -- the last section's changes that are read more, and the sections behind it
@@ -160,13 +126,13 @@ new_section : (sections : List Section) (shape : Shape) (changes : Result (List 
     → with_front sections ((changes >>= sectioned shape) >>= sections_others) ≡ (changes >>= behind_changes (sections ++ record { shape = shape; changes = [] } ∷ []))
 new_section sections shape (Ok x) =
     regroup sections (record { shape = shape; changes = x.0 }) (sections_at x.1)
-    ∙ ap (λ s. with_front s (sections_at x.1)) (sym (new_changes sections (record { shape = shape; changes = [] }) x.0))
+    ∙ ap (λ s. with_front s (sections_at x.1)) (sym (with_last sections (record { shape = shape; changes = [] }) x.0))
 new_section sections shape (Err e) = refl
 
 behind_header : (sections : List Section) (shape : Result (Shape × List ℕ) Refusal) → with_front sections ((shape >>= changes_behind) >>= sections_others) ≡ ((shape >>= with_new sections) >>= go_part)
 behind_header sections (Ok x) =
     let new : Section = record { shape = x.0; changes = [] } in
-    new_section sections x.0 (changes_at x.0.flags x.1) ∙ ap (λ o. go_by (sections ++ new ∷ []) o x.1) (sym (new_last sections new))
+    new_section sections x.0 (changes_at x.0.flags x.1) ∙ ap (λ o. go_by (sections ++ new ∷ []) o x.1) (sym (last_of sections new))
 behind_header sections (Err e) = refl
 
 section_by : (bytes : List ℕ) → section_at bytes ≡ (shape_at bytes >>= changes_behind)
@@ -184,14 +150,14 @@ with_one sections change = Ok (with_changes sections (change.0 ∷ []), change.1
 
 change_and_more : (sections : List Section) (change : Change) (changes : Result (List Change × List ℕ) Refusal)
     → (then_others change changes >>= behind_changes sections) ≡ (changes >>= behind_changes (with_changes sections (change ∷ [])))
-change_and_more sections change (Ok x) = ap (λ s. with_front s (sections_at x.1)) (sym (one_and_more sections change x.0))
+change_and_more sections change (Ok x) = ap (λ s. with_front s (sections_at x.1)) (sym (with_both sections change x.0))
 change_and_more sections change (Err e) = refl
 
 behind_change : (sections : List Section) (flags : List ℕ) → last_flags sections ≡ Some flags → (change : Result (Change × List ℕ) Refusal)
     → ((change >>= changes_others flags) >>= behind_changes sections) ≡ ((change >>= with_one sections) >>= go_part)
 behind_change sections flags last (Ok x) =
     let new = with_changes sections (x.0 ∷ []) in
-    change_and_more sections x.0 (changes_at flags x.1) ∙ ap (λ o. go_by new o x.1) (sym (same_last sections (x.0 ∷ []) ∙ last))
+    change_and_more sections x.0 (changes_at flags x.1) ∙ ap (λ o. go_by new o x.1) (sym (last_same sections (x.0 ∷ []) ∙ last))
 behind_change sections flags last (Err e) = refl
 
 -- ---- a part
@@ -201,7 +167,7 @@ part_step sections None bytes last fits more = header_step sections bytes fits m
 part_step sections (Some flags) bytes last fits more = elim (cases_Bool (ends_section bytes)) as (λ w. go_by sections (Some flags) bytes ≡ (with_part sections (Some flags) bytes >>= go_part)) [
   | inl ended ↦
       ap (λ r. r >>= behind_changes sections) (changes_over flags bytes ended)
-      ∙ ap (λ s. with_front s (sections_at bytes)) (no_changes_more sections)
+      ∙ ap (λ s. with_front s (sections_at bytes)) (with_none sections)
       ∙ header_step sections bytes fits more
       ∙ ap (λ b. cond b (with_header sections bytes) (change_at flags bytes >>= with_one sections) >>= go_part) (sym ended)
   | inr on ↦
@@ -219,46 +185,25 @@ go_nothing sections None = ap (with_front sections) sections_over ∙ ap (λ s. 
 go_nothing sections (Some flags) =
     ap (λ r. r >>= behind_changes sections) (changes_over flags [] refl)
     ∙ ap (with_front (with_changes sections [])) sections_over
-    ∙ ap (λ s. Ok (s, [])) (append-nil (with_changes sections []) ∙ no_changes_more sections)
+    ∙ ap (λ s. Ok (s, [])) (append-nil (with_changes sections []) ∙ with_none sections)
 
 -- ---- all parts
 
-pub some_bytes : (byte : ℕ) (bytes : List ℕ) → is_empty (byte ∷ bytes) ≡ false
-some_bytes byte bytes = ne_eqb (suc (length bytes)) 0 (λ e. absurd cc)
-
-part_ends : (part : Read) → ((x : List Section × List ℕ) × (part ≡ Ok x)) ⊎ ((why : Refusal) × (part ≡ Err why))
-part_ends (Ok x) = inl (x, refl)
-part_ends (Err why) = inr (why, refl)
-
--- What holds where nothing is behind the sections or a part is refused, and of what a part is read from where it holds
--- behind the part, holds of all that is read.
-pub parts_induction : (P : List Section → List ℕ → Reached → Type 0)
-    → ((sections : List Section) → P sections [] (record { sections = sections; rest = []; why = None }))
-    → ((sections : List Section) (byte : ℕ) (bytes : List ℕ) (why : Refusal) → AreBytes (byte ∷ bytes) → part_at sections (byte ∷ bytes) ≡ Err why → P sections (byte ∷ bytes) (record { sections = sections; rest = byte ∷ bytes; why = Some why }))
-    → ((sections : List Section) (byte : ℕ) (bytes : List ℕ) (part : List Section × List ℕ) (reached : Reached) → AreBytes (byte ∷ bytes) → part_at sections (byte ∷ bytes) ≡ Ok part → P part.0 part.1 reached → P sections (byte ∷ bytes) reached)
-    → (fuel : ℕ) (sections : List Section) (bytes : List ℕ) → AreBytes bytes → length bytes ≤ fuel → P sections bytes (read_on sections bytes)
-parts_induction P ends refused goes fuel sections [] fits few = subst (P sections []) (sym (nothing_behind sections)) (ends sections)
-parts_induction P ends refused goes zero sections (byte ∷ bytes) fits few = absurd (omega (arith, few))
-parts_induction P ends refused goes (suc fuel) sections (byte ∷ bytes) fits few =
-    let text = byte ∷ bytes in
-    elim (part_ends (part_at sections text)) as (λ w. P sections text (read_on sections text)) [
-      | inl h ↦
-          let less = part_shorter sections text h.0 fits h.1 in
-          let behind = parts_induction P ends refused goes fuel h.0.0 h.0.1 (part_rest_fits sections text h.0 fits h.1) (omega (arith, less)) in
-          subst (P sections text) (sym (part_read sections text h.0 fits h.1)) (goes sections byte bytes h.0 (read_on h.0.0 h.0.1) fits h.1 behind)
-      | inr h ↦ subst (P sections text) (sym (part_refused sections byte bytes h.0 h.1)) (refused sections byte bytes h.0 fits h.1)
-    ]
+-- a part is read from some bytes
+not_empty : (sections : List Section) (bytes : List ℕ) (part : List Section × List ℕ) → AreBytes bytes → part_at sections bytes ≡ Ok part → is_empty bytes ≡ false
+not_empty sections bytes part fits e =
+    let less = part_shorter sections bytes part fits e in
+    ne_eqb (length bytes) 0 (λ none. absurd (omega (arith, less, none)))
 
 abbrev IsAnswer : List Section → List ℕ → Reached → Type 0
 IsAnswer sections bytes reached = go_on sections bytes ≡ finished reached
 
 pub parts_answer : (sections : List Section) (bytes : List ℕ) → AreBytes bytes → go_on sections bytes ≡ finished (read_on sections bytes)
-parts_answer sections bytes fits =
-    parts_induction IsAnswer
-    (λ sections. go_nothing sections (last_flags sections))
-    (λ sections byte bytes why fits e. go_step sections (byte ∷ bytes) fits (some_bytes byte bytes) ∙ ap (λ r. r >>= go_part) e)
-    (λ sections byte bytes part reached fits e behind. go_step sections (byte ∷ bytes) fits (some_bytes byte bytes) ∙ ap (λ r. r >>= go_part) e ∙ behind)
-    (length bytes) sections bytes fits (omega arith)
+parts_answer = read_induction IsAnswer (record {
+  none = λ sections. go_nothing sections (last_flags sections);
+  refused = λ sections byte bytes why fits e. go_step sections (byte ∷ bytes) fits (some_bytes byte bytes) ∙ ap (λ r. r >>= go_part) e;
+  goes = λ sections bytes part fits e behind. go_step sections bytes fits (not_empty sections bytes part fits e) ∙ ap (λ r. r >>= go_part) e ∙ behind;
+})
 
 none_in_front : (read : Read) → with_front [] read ≡ read
 none_in_front (Ok x) = refl
@@ -278,12 +223,11 @@ RestIs sections bytes reached = is_empty reached.rest ≡ is_none reached.why
 
 -- bytes are left exactly where a part is refused
 pub rest_is : (sections : List Section) (bytes : List ℕ) → AreBytes bytes → is_empty (read_on sections bytes).rest ≡ is_none (read_on sections bytes).why
-rest_is sections bytes fits =
-    parts_induction RestIs
-    (λ sections. refl)
-    (λ sections byte bytes why fits e. some_bytes byte bytes)
-    (λ sections byte bytes part reached fits e behind. behind)
-    (length bytes) sections bytes fits (omega arith)
+rest_is = read_induction RestIs (record {
+  none = λ sections. refl;
+  refused = λ sections byte bytes why fits e. some_bytes byte bytes;
+  goes = λ sections bytes part fits e behind. behind;
+})
 
 -- ---- as code reads a text
 

@@ -17,6 +17,7 @@ use Rattle.cs_parse.specs.Progress.{Progress, broken, Reached, read_on, so_far, 
 use Rattle.cs_parse.proofs.NumberLaws.{front_fits}
 use Rattle.cs_parse.proofs.TextLaws.{front_long}
 use Rattle.cs_parse.proofs.ExactText.{text_stops, not_viable}
+use Rattle.cs_parse.proofs.FaultLaws.{answer_long, answer_short}
 use Rattle.cs_parse.proofs.PieceLaws.{goes_on}
 use Rattle.cs_parse.proofs.PartsAnswer.{finished_by, text_answer, is_none, rest_is}
 
@@ -53,14 +54,6 @@ progress_long text long = progress_is text ∙ ap (λ n. arrived_at (length text
 
 progress_short : (text : List ℕ) → length text ≤ most_bytes → progress_of text ≡ arrived_at (length text) (length text) text
 progress_short text short = progress_is text ∙ ap (λ w. arrived_at (length text) (length w) w) (take_all most_bytes text short)
-
-answer_long : (text : List ℕ) → most_bytes < length text → answer_of text ≡ cut most_bytes (sections_at (take most_bytes text))
-unfolding answer_of
-answer_long text long = ap (λ b. cond b (cut most_bytes (sections_at (take most_bytes text))) (placed (length text) (sections_at text))) (lt-ltb most_bytes (length text) long)
-
-answer_short : (text : List ℕ) → length text ≤ most_bytes → answer_of text ≡ placed (length text) (sections_at text)
-unfolding answer_of
-answer_short text short = ap (λ b. cond b (cut most_bytes (sections_at (take most_bytes text))) (placed (length text) (sections_at text))) (le-ltb most_bytes (length text) short)
 
 -- ---- what the bytes are answered
 

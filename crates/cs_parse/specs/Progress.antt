@@ -148,3 +148,9 @@ Fed (Err Memory) old piece new = new ≡ old
 pub record Took (progress : Progress) (text : List ℕ) : Type 0 where
   pub bytes : AreBytes text
   pub read : progress ≡ progress_of text
+
+-- What was taken once a piece has come behind this text: the text with the piece; the text alone where memory ran out.
+abbrev pub Takes : {A : Type 0} → Result A ParseError → List ℕ → List ℕ → Progress → Type 0
+Takes (Ok done) text piece new = Took new (text ++ piece)
+Takes (Err (Fault fault)) text piece new = Took new (text ++ piece)
+Takes (Err Memory) text piece new = Took new text

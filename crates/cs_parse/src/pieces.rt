@@ -7,7 +7,8 @@ ghost use Rattle.cs_parse.specs.Answer.{Shows};
 ghost use Rattle.cs_parse.specs.Fault.{IsFault};
 ghost use Rattle.cs_parse.specs.Front.{TakesIn};
 ghost use Rattle.cs_parse.specs.Pieces.{offset_of, IsLasting, TellsLasting, GoesOn};
-ghost use Rattle.cs_parse.specs.Progress.{nothing, broken, advanced, ended, progress_of, Fed, Took};
+ghost use Rattle.cs_parse.specs.Progress.{nothing, broken, advanced, ended, progress_of, Fed, Took, Takes};
+ghost use Rattle.cs_parse.specs.Reading.{answer_of};
 ghost use Rattle.cs_parse.specs.declared.fault.ParseFault.{ParseFault};
 
 use crate::fault::{FaultKind, ParseError, ParseFault};
@@ -72,7 +73,8 @@ fn remove_front(bytes: &mut Vec<u8>, len: usize)
 impl PieceParser {
     /// A parser that has taken nothing. It takes no memory.
     pub fn new(alloc: Global) -> PieceParser
-        ensures { result ≡ nothing }
+        ensures progress { result ≡ nothing }
+        ensures text { Took result [] }
     {
         PieceParser {
             changeset: no_changes(alloc),
@@ -95,12 +97,15 @@ impl PieceParser {
         // Where none is told, the text goes on.
         ensures going { (text : List ℕ) → Took self.old text
             → OnOk result (GoesOn (text ++ piece.now)) }
-        // Unless memory runs out, the text is taken with the piece.
+        // The text is taken with the piece, behind a fault too; where memory runs out it is taken alone.
         ensures taken { (text : List ℕ) → Took self.old text
-            → OnOk result (Took self.new (text ++ piece.now)) }
+            → Takes result text piece.now self.new }
         // A fault that was told before is told again.
         ensures again { (text : List ℕ) (fault : ParseFault) → Took self.old text
             → IsLasting text fault → result ≡ Err (ParseError.Fault fault) }
+        // And so is that of the progress, whatever text it is of.
+        ensures lasts { (fault : ParseFault) → self.old.fault ≡ Some fault
+            → result ≡ Err (ParseError.Fault fault) }
     {
         self.fed(alloc, piece)
     }
@@ -202,6 +207,16 @@ impl PieceParser {
     pub fn take(&mut self, alloc: Global) -> Changeset
         requires { IsOk (ended self.old) }
         ensures changeset { ended self.old ≡ Ok result }
+        ensures text { (text : List ℕ) → Took self.old text → Spells text result }
+        ensures new { self.new ≡ nothing }
+    {
+        self.taken(alloc)
+    }
+
+    // the same, as the answer is determined by the progress
+    fn taken(&mut self, alloc: Global) -> Changeset
+        requires { IsOk (ended self.old) }
+        ensures changeset { ended self.old ≡ Ok result }
         ensures new { self.new ≡ nothing }
     {
         let parser = mem::replace(self, PieceParser::new(alloc));
@@ -211,6 +226,14 @@ impl PieceParser {
 
     /// What `finish` shows, as the parser's end: the changeset without a copy.
     pub fn into_changeset(self) -> Result<Changeset, ParseFault>
+        ensures changeset { result ≡ ended self }
+        ensures text { (text : List ℕ) → Took self text → result ≡ answer_of text }
+    {
+        self.into_ended()
+    }
+
+    // the same, as the answer is determined by the progress
+    fn into_ended(self) -> Result<Changeset, ParseFault>
         ensures { result ≡ ended self }
     {
         if let Err(fault) = self.finish() {

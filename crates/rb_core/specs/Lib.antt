@@ -2,3 +2,4 @@ pub mod State
 pub mod Outcome
 pub mod Run
 pub mod Step
+pub mod Fed

@@ -3,10 +3,8 @@ use Rattle.std.specs.Prelude.{◌≡◌, ℕ, ◌<◌, List, [], ◌∷◌, Resu
 use Rattle.std.specs.declared.alloc.AllocError.{AllocError}
 use Rattle.rb_core.specs.declared.event.Event.{Event}
 use Rattle.rb_core.specs.declared.event.Event.TheVariants as event
-use Rattle.rb_core.specs.declared.parts.Publisher.{Publisher}
 use Rattle.rb_core.specs.declared.reply.Reply.{Reply}
 use Rattle.rb_core.specs.declared.reply.Reply.TheVariants as reply
-use Rattle.cs_parse.specs.Progress.{Took}
 use Rattle.rb_core.specs.State.{State}
 use Rattle.rb_core.specs.Outcome.{outcome}
 use Rattle.cs_model.specs.Bytes.{AreBytes}
@@ -38,10 +36,6 @@ FeedsBytes event.Turn = Unit {0}
 FeedsBytes (event.Subscribe start) = Unit {0}
 FeedsBytes (event.Take s now) = Unit {0}
 FeedsBytes (event.Accept d) = Unit {0}
-
--- a publisher's stream has taken some text
-abbrev pub HasText : Publisher → Type 0
-HasText publisher = (text : List ℕ) × Took publisher.stream text
 
 -- the numbers that a subscription accepted, in order
 abbrev pub accepted_now : ℕ → Reply → List ℕ → List ℕ

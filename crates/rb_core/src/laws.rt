@@ -1,6 +1,6 @@
 //! Laws: public functions that do nothing, whose contracts say what holds of every run and step. Who needs one calls it.
 
-ghost use Rattle.std.specs.Prelude.{◌≡◌, ℕ, List};
+ghost use Rattle.std.specs.Prelude.{◌≡◌, ℕ, List, Some, slice_get};
 ghost use Rattle.std.specs.List.{AllByRecursion};
 ghost use Rattle.cs_model.specs.declared.shape.Shape.{Shape};
 ghost use Rattle.rb_desk.specs.Limits.{Limits};
@@ -9,7 +9,10 @@ ghost use Rattle.rb_core.specs.declared.reply.Reply.{Reply};
 ghost use Rattle.rb_core.specs.State.{State, empty_world};
 ghost use Rattle.rb_core.specs.Outcome.{outcome};
 ghost use Rattle.rb_core.specs.Step.{Step};
-ghost use Rattle.rb_core.specs.Run.{Answer, Run, FeedsBytes, HasText, accepted_by, RiseAbove};
+ghost use Rattle.rb_core.specs.Run.{Answer, Run, FeedsBytes, accepted_by, RiseAbove};
+ghost use Rattle.rb_core.specs.Fed.{text_fed};
+ghost use Rattle.rb_core.specs.declared.parts.Publisher.{Publisher};
+ghost use Rattle.cs_parse.specs.Progress.{Took};
 
 use cs_parse::laws::{
     feeding_tells_faults, progress_goes_on, progress_tells, reading_is_spelling, refusing_is_fault,
@@ -22,13 +25,15 @@ pub fn accepted_numbers_rise()
         → Run (empty_world config schema) events answers new → RiseAbove 0 (accepted_by s answers) }
 {}
 
-/// In every run of events that feed bytes, from an empty world, each publisher's stream has taken some text. So each of its
-/// steps tells faults and changesets as `Step` says of the texts that a stream may have taken.
-pub fn streams_have_texts()
+/// In every run of events that feed bytes, from an empty world, each publisher's stream has taken just what the publisher was
+/// fed since the stream began. So each of its steps tells the faults and the changeset of that text, as `Step` says of the
+/// texts that a stream may have taken.
+pub fn streams_take_what_is_fed()
     ensures { (config : Limits) (schema : List Shape) (events : List Event)
-        (answers : List Answer) (new : State)
+        (answers : List Answer) (new : State) (p : ℕ) (publisher : Publisher)
         → AllByRecursion FeedsBytes events → Run (empty_world config schema) events answers new
-        → AllByRecursion HasText new.publishers }
+        → slice_get new.publishers p ≡ Some publisher
+        → Took publisher.stream (text_fed p events answers) }
 {
     progress_goes_on();
 }
