@@ -26,7 +26,7 @@ found_at n len k e = elim (cases_lt n len) as (λ w. (n ≡ k) × (n < len)) [
       absurd cc
 ]
 
-found_none : (n len : ℕ) → cond (ltb n len) (Some n) None ≡ None → len ≤ n
+pub found_none : (n len : ℕ) → cond (ltb n len) (Some n) None ≡ None → len ≤ n
 found_none n len e = elim (cases_lt n len) as (λ w. len ≤ n) [
   | inl lt ↦
       let at_n : Some n ≡ None = sym (ap (λ b. cond b (Some n) None) (lt-ltb n len lt)) ∙ e in
@@ -72,7 +72,7 @@ unfolding letters_at
 letters_short zero = refl
 letters_short (suc most) = refl
 
-place_more : (b : ℕ) (rest : List ℕ) → position_or_len is_zero (suc b ∷ rest) ≡ suc (position_or_len is_zero rest)
+pub place_more : (b : ℕ) (rest : List ℕ) → position_or_len is_zero (suc b ∷ rest) ≡ suc (position_or_len is_zero rest)
 place_more b rest =
     let one : 1 + position_or_len is_zero rest ≡ suc (position_or_len is_zero rest) = omega arith in
     ap (λ t. cond (not t) (1 + position_or_len is_zero rest) 0) (nonzero b) ∙ one

@@ -41,5 +41,6 @@ pub mod ProgressLaws
 pub mod PartsAnswer
 pub mod ProgressAnswers
 pub mod FeedLaws
+pub mod NameLaws
 pub mod SpotLaws
 pub mod WaitLaws

@@ -11,7 +11,7 @@ use Rattle.cs_model.specs.Rule.{Rule, row_rule, old_rule, new_rule, new_rules}
 use Rattle.cs_parse.specs.declared.stop.Refusal.{Refusal}
 use Rattle.cs_parse.specs.declared.stop.Refusal.TheVariants.{Short}
 use Rattle.cs_parse.specs.declared.spot.Spot.{Spot}
-use Rattle.cs_parse.specs.declared.spot.Spot.TheVariants.{Start, Row, Old, New}
+use Rattle.cs_parse.specs.declared.spot.Spot.TheVariants.{Start, Row, Old, New, Name}
 use Rattle.cs_parse.specs.Reading.{◌>>=◌, op_of, operated, field_at, record_at, records_at, marked_at, change_at}
 use Rattle.cs_parse.specs.Spot.{Passes, Halts, HaltsNew, IsBack, Begins, InFirst, PassedFirst, InNew, HasOne, IsSpot, StaysShort}
 use Rattle.cs_parse.proofs.Steps.{done, back_fits}
@@ -19,6 +19,7 @@ use Rattle.cs_parse.proofs.FieldLaws.{record_takes, record_again}
 use Rattle.cs_parse.proofs.ExactFields.{field_exact}
 use Rattle.cs_parse.proofs.Skims.{fields_of, record_more, field_begins}
 use Rattle.cs_parse.proofs.ChangeLaws.{marked}
+use Rattle.cs_parse.proofs.NameLaws.{name_more}
 
 -- ---- a record in two parts
 
@@ -393,3 +394,4 @@ spot_more flags bytes more Start fits is = tt
 spot_more flags bytes more (Row fields place) fits is = (is.0, is.1, first_more is.0 row_rule flags bytes fields place more is.2)
 spot_more flags bytes more (Old fields place) fits is = first_more Update old_rule flags bytes fields place more is
 spot_more flags bytes more (New fields place old) fits is = new_longer flags bytes fields place old more fits is
+spot_more flags bytes more (Name place letters) fits is = name_more bytes more place letters is

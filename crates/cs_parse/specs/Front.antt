@@ -12,7 +12,7 @@ use Rattle.cs_parse.specs.Progress.{Progress, Reached, read_on, arrived, so_far,
 use Rattle.cs_parse.specs.declared.fault.ParseError.{ParseError}
 use Rattle.cs_parse.specs.declared.fault.ParseError.TheVariants.{Fault, Memory}
 use Rattle.cs_parse.specs.Reading.{change_at, ends_section}
-use Rattle.cs_parse.specs.Spot.{IsSpot}
+use Rattle.cs_parse.specs.Spot.{IsSpot, IsHeaderSpot}
 use Rattle.cs_parse.specs.declared.spot.Spot.{Spot}
 
 -- The items that are whole, the bytes behind them, and why the one that begins there isn't read; none where they are over.
@@ -124,9 +124,10 @@ TakesIn (Err (Fault fault)) old bytes new =
     (len : ℕ) → arrived len (old.offset + length bytes) (read_on old.sections (old.pending ++ bytes)) ≡ broken fault
 TakesIn (Err Memory) old bytes new = new ≡ old
 
--- Bytes behind sections are of a change that was gone over to this spot. Nothing is said where there is no section.
+-- Bytes behind sections, of which the last one's table has these key bytes, are of a change or a header that was gone over to
+-- this spot. Where there is no section only a header can begin.
 abbrev pub Waits : Option (List ℕ) → List ℕ → Spot → Type 0
-Waits None bytes spot = Unit {0}
+Waits None bytes spot = IsHeaderSpot bytes spot
 Waits (Some flags) bytes spot = IsSpot flags bytes spot
 
 -- the same whatever comes behind them

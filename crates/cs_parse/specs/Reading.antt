@@ -181,6 +181,12 @@ name_at bytes = do
   name ← letters_at 1024 bytes
   if length name.0 == 0 then refuse EmptyName name.1 else Ok name
 
+-- a header behind its `T`, as far as its name: the key bytes
+unfoldable pub before_name_at : List ℕ → Result (List ℕ × List ℕ) Refusal
+before_name_at bytes = do
+  count ← columns_at bytes
+  flags_at count.0 count.1
+
 -- a header behind its `T`
 unfoldable pub header_at : List ℕ → Result (Shape × List ℕ) Refusal
 header_at bytes = do

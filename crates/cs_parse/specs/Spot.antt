@@ -1,13 +1,13 @@
--- How far a change that isn't whole was gone over.
-use Rattle.std.specs.Prelude.{◌≡◌, ℕ, ◌≤◌, ◌<◌, List, ◌∷◌, ◌++◌, length, drop, map, Option, Some, None, Ok, Err}
+-- How far a change or a header that isn't whole was gone over.
+use Rattle.std.specs.Prelude.{◌≡◌, ◌==◌, ℕ, ◌+◌, ◌≤◌, ◌<◌, List, ◌∷◌, ◌++◌, length, take, drop, map, position, Option, Some, None, Ok, Err}
 use Rattle.cs_model.specs.declared.value.Field.{Field}
 use Rattle.cs_model.specs.declared.change.Op.{Op}
 use Rattle.cs_model.specs.declared.change.Op.TheVariants.{Insert, Update, Delete}
 use Rattle.cs_model.specs.Rule.{Rule, row_rule, old_rule, new_rules}
 use Rattle.cs_parse.specs.declared.stop.Refusal.TheVariants.{Short}
 use Rattle.cs_parse.specs.declared.spot.Spot.{Spot}
-use Rattle.cs_parse.specs.declared.spot.Spot.TheVariants.{Start, Row, Old, New}
-use Rattle.cs_parse.specs.Reading.{◌>>=◌, op_of, record_at, change_at}
+use Rattle.cs_parse.specs.declared.spot.Spot.TheVariants.{Start, Row, Old, New, Name}
+use Rattle.cs_parse.specs.Reading.{◌>>=◌, op_of, record_at, change_at, name_at, shape_at}
 
 -- ---- records
 
@@ -78,14 +78,40 @@ HasOne Insert = Unit {0}
 HasOne Update = ⊥
 HasOne Delete = Unit {0}
 
--- A change of a table with these key bytes, of which these bytes are there, was gone over to this spot.
+-- ---- headers
+
+-- A header's bytes were passed up to its name, and of the name so many bytes are there, none of which is zero. Whatever bytes stand
+-- behind those that were passed, the header goes on with its name there.
+pub record InName (bytes : List ℕ) (place letters : ℕ) : Type 0 where
+  pub flags : List ℕ
+  pub within : place + letters ≤ length bytes
+  pub passes : (back : List ℕ) → shape_at (take place bytes ++ back) ≡ (name_at back >>= λ x. Ok (record { name = x.0; flags = flags }, x.1))
+  pub no_zero : position (λ byte. byte == 0) (take letters (drop place bytes)) ≡ None
+
+-- ---- spots
+
+-- A change of a table with these key bytes, or a header behind its changes, of which these bytes are there, was gone over to this spot.
 abbrev pub IsSpot : List ℕ → List ℕ → Spot → Type 0
 IsSpot flags bytes Start = Unit {0}
 IsSpot flags bytes (Row fields place) = (op : Op) × HasOne op × InFirst op row_rule flags bytes fields place
 IsSpot flags bytes (Old fields place) = InFirst Update old_rule flags bytes fields place
 IsSpot flags bytes (New fields place old) = InNew flags bytes fields place old
+IsSpot flags bytes (Name place letters) = InName bytes place letters
+
+-- the same of a header, whatever table stands before it; of a spot in a change nothing is said
+abbrev pub IsHeaderSpot : List ℕ → Spot → Type 0
+IsHeaderSpot bytes Start = Unit {0}
+IsHeaderSpot bytes (Row fields place) = Unit {0}
+IsHeaderSpot bytes (Old fields place) = Unit {0}
+IsHeaderSpot bytes (New fields place old) = Unit {0}
+IsHeaderSpot bytes (Name place letters) = InName bytes place letters
 
 -- the change still ends too early, and was gone over to this spot
 abbrev pub StaysShort : List ℕ → List ℕ → Option Spot → Type 0
 StaysShort flags bytes None = Unit {0}
 StaysShort flags bytes (Some spot) = (change_at flags bytes ≡ Err Short) × IsSpot flags bytes spot
+
+-- the header still ends too early, and was gone over to this spot, which is right whatever table stands before it
+abbrev pub StaysHeader : List ℕ → Option Spot → Type 0
+StaysHeader bytes None = Unit {0}
+StaysHeader bytes (Some spot) = (shape_at bytes ≡ Err Short) × ((flags : List ℕ) → IsSpot flags bytes spot)

@@ -1,6 +1,7 @@
 //! A changeset that grows by the bytes behind it.
 
-ghost use Rattle.std.specs.Prelude.{◌≡◌, ◌≤◌, ◌<◌, ◌++◌, length, IfOk, OnOk, OnErr, Option, Some, None, IsTrue};
+ghost use Rattle.std.specs.Prelude.{◌≡◌, ◌≤◌, ◌<◌, ◌++◌, length, IfOk, OnOk, OnErr, List, Option, Some, None, IsTrue};
+ghost use Rattle.cs_model.specs.Section.{Section};
 ghost use Rattle.cs_model.specs.Changeset.{IsChangeset};
 ghost use Rattle.cs_parse.specs.Front.{fault_by, Grows, Heads, Tails, Joins, JoinsTable, said_by, Waits, KeepsSpot};
 ghost use Rattle.cs_parse.specs.Progress.{last_flags, with_changes, read_on};
@@ -8,6 +9,7 @@ ghost use Rattle.cs_parse.specs.declared.stop.Refusal.TheVariants.{Short};
 
 use crate::change::{is_over, whole_changes};
 use crate::fault::{ParseError, ParseFault};
+use crate::name::header_short;
 use crate::section::whole_sections;
 use crate::spot::{Spot, still_short};
 use crate::stop::Refusal;
@@ -127,21 +129,24 @@ fn wrong_in(taken: usize, why: Option<Refusal>) -> Option<ParseFault>
     }
 }
 
-/// Whether nothing is whole of the bytes behind these sections, since a change of the last one's table begins there and ends too
-/// early. The spot is moved on, so that these bytes aren't gone over again when more come. Where it is false nothing is known of
-/// the spot.
+/// Whether nothing is whole of the bytes behind these sections, since a header or a change of the last one's table begins there
+/// and ends too early. So it is behind any sections of which the last one's table has the same key bytes. The spot is moved on, so
+/// that these bytes aren't gone over again when more come. Where it is false nothing is known of the spot.
 pub fn still_waits(sections: &[Section], bytes: &[u8], spot: &mut Spot) -> bool
     requires { Waits (last_flags sections.now) bytes.now spot.old }
-    ensures waits { IsTrue result → read_on sections.now bytes.now
-        ≡ record { sections = sections.now; rest = bytes.now; why = Some Short } }
+    ensures waits { IsTrue result → (others : List Section) → last_flags others ≡ last_flags sections.now
+        → read_on others bytes.now ≡ record { sections = others; rest = bytes.now; why = Some Short } }
     ensures spot { IsTrue result → KeepsSpot (last_flags sections.now) bytes.now spot.new }
 {
+    if bytes.is_empty() {
+        return false;
+    }
+    if is_over(bytes) {
+        return header_short(bytes, spot);
+    }
     let Some(section) = sections.last() else {
         return false;
     };
-    if is_over(bytes) {
-        return false;
-    }
     still_short(&section.shape().flags, bytes, spot)
 }
 

@@ -2,7 +2,7 @@
 
 ghost use Rattle.std.specs.Prelude.{◌≡◌, ◌==◌, ◌<◌, length, nat_lt, position, IfOk, IfSome};
 ghost use Rattle.std.specs.List.{list_any};
-ghost use Rattle.cs_parse.specs.Reading.{Reads, flags_at, letters_at, name_at, header_at};
+ghost use Rattle.cs_parse.specs.Reading.{Reads, flags_at, letters_at, name_at, before_name_at, header_at};
 ghost use Rattle.cs_parse.specs.Seen.{shape_seen};
 
 use crate::fault::FaultKind;
@@ -44,7 +44,8 @@ fn flags_of(count: usize, bytes: &[u8]) -> Result<(&[u8], &[u8]), Refusal>
     Ok((flags, rest))
 }
 
-fn first_zero(bytes: &[u8]) -> Option<usize>
+/// The place of the first zero byte.
+pub fn first_zero(bytes: &[u8]) -> Option<usize>
     ensures place { result ≡ position (λ byte. byte == 0) bytes.now }
     ensures bound { IfSome result (λ end. end < length bytes.now) }
 {
@@ -82,13 +83,22 @@ fn name_of(bytes: &[u8]) -> Result<(&[u8], &[u8]), Refusal>
     Ok((name, rest))
 }
 
-/// A header behind its `T`, where it stands.
-#[tactic(auto, unfolding(crate::specs::Reading::header_at))]
-pub fn header_of(bytes: &[u8]) -> Result<(ShapeRef, &[u8]), Refusal>
-    ensures { Reads (λ x. (shape_seen x.0, x.1.now)) result (header_at bytes.now) }
+/// A header's key bytes, which stand behind its `T` and the number of columns, and the bytes from its name on.
+#[tactic(auto, unfolding(crate::specs::Reading::before_name_at))]
+pub fn before_name(bytes: &[u8]) -> Result<(&[u8], &[u8]), Refusal>
+    ensures { Reads (λ x. (x.0.now, x.1.now)) result (before_name_at bytes.now) }
 {
     let (count, rest) = columns_of(bytes)?;
     let (flags, rest) = flags_of(count, rest)?;
+    Ok((flags, rest))
+}
+
+/// A header behind its `T`, where it stands.
+#[tactic(auto, unfolding(crate::specs::Reading::header_at, crate::specs::Reading::before_name_at))]
+pub fn header_of(bytes: &[u8]) -> Result<(ShapeRef, &[u8]), Refusal>
+    ensures { Reads (λ x. (shape_seen x.0, x.1.now)) result (header_at bytes.now) }
+{
+    let (flags, rest) = before_name(bytes)?;
     let (name, rest) = name_of(rest)?;
     Ok((ShapeRef { name, flags }, rest))
 }

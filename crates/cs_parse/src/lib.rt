@@ -10,6 +10,7 @@ mod field;
 mod grow;
 mod header;
 pub mod laws;
+mod name;
 mod number;
 mod pieces;
 mod record;

@@ -1,4 +1,5 @@
 //! How far a change that isn't whole was gone over, so that more bytes behind it are read from there on and not from its front.
+//! `name` does the same for headers.
 
 ghost use Rattle.std.specs.Prelude.{◌≡◌, ◌≤◌, ◌++◌, ℕ, List, length, Ok, Err, map, IfSome, IsTrue};
 ghost use Rattle.cs_model.specs.Bytes.{AreBytes};
@@ -15,11 +16,11 @@ use crate::field::field_in;
 use crate::rule::{FieldRule, rule_by_flag, rule_by_old};
 use crate::stop::Refusal;
 
-/// The first field of a change that isn't whole: `fields` of its record stand before it, and it begins at `at`, which is
-/// counted from the change's first byte.
+/// The first field of a change that isn't whole: `fields` of its record stand before it, and it begins at `at`. Of a header it is
+/// the name. Places are counted from the first byte of the change or the header.
 #[derive(Clone, Copy, Debug)]
 pub enum Spot {
-    /// The change was not gone over.
+    /// Nothing was gone over.
     Start,
     /// In the one record of an INSERT or a DELETE.
     Row {
@@ -37,10 +38,15 @@ pub enum Spot {
         at: usize,
         old: usize,
     },
+    /// In a header's name, which begins at `at`; so many bytes of it are there, none of which ends it.
+    Name {
+        at: usize,
+        letters: usize,
+    },
 }
 
 impl Spot {
-    /// The spot of a change that was not gone over.
+    /// The spot where nothing was gone over.
     pub fn start() -> Spot
         ensures { result ≡ Start }
     {
@@ -171,7 +177,7 @@ fn next_spot(flags: &[u8], bytes: &[u8], spot: Spot) -> Option<Spot>
     ensures { StaysShort flags.now bytes.now result }
 {
     match spot {
-        Spot::Start => first_spot(flags, bytes),
+        Spot::Start | Spot::Name { .. } => first_spot(flags, bytes),
         Spot::Row { fields, at } => row_spot(flags, bytes, fields, at),
         Spot::Old { fields, at } => old_spot(flags, bytes, fields, at),
         Spot::New { fields, at, old } => new_spot(flags, bytes, fields, at, old),

@@ -14,6 +14,7 @@ use std::process::Abort;
 use std::test::*;
 
 mod cuts;
+mod names;
 mod spellings;
 mod spots;
 

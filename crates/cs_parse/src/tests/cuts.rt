@@ -33,7 +33,7 @@ fn cuts_are_counted(rt: HostRuntime) {
 
 // Feeds a piece, which must be answered so. Where memory runs out the parser is as before, and a second try goes on
 // from there.
-fn feeds(
+pub fn feeds(
     rt: &impl Abort,
     alloc: Global,
     parser: &mut PieceParser,
@@ -110,7 +110,7 @@ fn faults_last(rt: HostRuntime) -> Result<(), Fail> {
 }
 
 // Whether the bytes taken are answered as the whole text is: by the same sections, or by the same fault.
-fn as_whole(alloc: Global, parser: &PieceParser, text: &[u8]) -> Result<bool, Fail> {
+pub fn as_whole(alloc: Global, parser: &PieceParser, text: &[u8]) -> Result<bool, Fail> {
     match (parser.finish(), parse(alloc, text)) {
         (Ok(found), Ok(whole)) => Ok(found.sections() == whole.sections()),
         (Err(fault), Err(ParseError::Fault(told))) => Ok(fault == told),
