@@ -4,3 +4,4 @@ pub mod Filled
 pub mod Log
 pub mod Orders
 pub mod Sections
+pub mod OneByOne

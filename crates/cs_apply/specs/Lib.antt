@@ -5,3 +5,4 @@ pub mod Effect
 pub mod Single
 pub mod Steps
 pub mod Seen
+pub mod OneByOne

@@ -5,6 +5,7 @@
 mod change_error;
 mod changes;
 mod conflict;
+pub mod laws;
 mod places;
 mod row;
 mod tables;

@@ -49,6 +49,13 @@ impl Tables {
         }
     }
 
+    /// The schema whose tables these are.
+    pub fn schema(&self) -> &Schema
+        ensures { result.now ≡ self.now.schema }
+    {
+        &self.schema
+    }
+
     /// The row with this key, where there is one.
     pub fn row(&self, key: &RowKey) -> Option<&Row>
         ensures { option_copied result ≡ map.get self.now.rows key.now }

@@ -1,6 +1,6 @@
 //! Whole changesets.
 
-ghost use Rattle.std.specs.Prelude.{◌≡◌};
+ghost use Rattle.std.specs.Prelude.{◌≡◌, ◌++◌, OnOk, OnErr};
 ghost use Rattle.cs_model.specs.Changeset.{IsChangeset};
 
 use crate::copy::CopyIn;
@@ -42,6 +42,15 @@ impl Changeset {
         ensures valid { IsChangeset self.now }
     {
         &self.sections
+    }
+
+    /// Adds copies of another changeset's sections, behind its own. An `Err` leaves the changeset as it was.
+    pub fn append(&mut self, alloc: Global, other: &Changeset) -> Result<(), AllocError>
+        ensures ok { OnOk result (self.new ≡ self.old ++ other.now) }
+        ensures err { OnErr result (self.new ≡ self.old) }
+    {
+        let more = other.sections.copy_in(alloc)?;
+        self.sections.append(more)
     }
 
     /// Its sections, without a copy.

@@ -60,6 +60,17 @@ impl<T> Seq<T> {
     }
 }
 
+impl<T: Drop> Seq<T> {
+    /// Adds the values of another list at the end, without a copy of them. An `Err` leaves the list as it was.
+    pub fn append(&mut self, others: Seq<T>) -> Result<(), AllocError>
+        ensures ok { OnOk result (self.new ≡ self.old ++ others) }
+        ensures err { OnErr result (self.new ≡ self.old) }
+    {
+        let mut others = others.into_vec();
+        self.items.append(&mut others)
+    }
+}
+
 impl<T: Copy> Seq<T> {
     /// A list of copies of these values.
     pub fn from_slice(alloc: Global, values: &[T]) -> Result<Seq<T>, AllocError>

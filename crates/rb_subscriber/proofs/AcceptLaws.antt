@@ -1,0 +1,114 @@
+-- Accepting is a step, read off its definition in both directions.
+use Rattle.std.proofs.Common.{◌≡◌, ◌==◌, ℕ, suc, ◌≤◌, inl, inr, Bool, true, false, not, cond, List, [], ◌∷◌, ◌++◌, Option, Some, None, Result, Ok, Err, refl, sym, ap, subst, ◌∙◌, arith}
+use Rattle.std.specs.Prelude.{nat_le}
+use Rattle.std.specs.List.{AllByRecursion}
+use Rattle.std.proofs.lemmas.Bool.{leb-false, false≢true}
+use Rattle.std.proofs.lemmas.Bool.Decides.{eqb_tells, nat_tests}
+use Rattle.cs_model.specs.declared.shape.Shape.{Shape}
+use Rattle.cs_model.specs.declared.schema.SectionFault.{SectionFault}
+use Rattle.cs_model.specs.Schema.{refusal_of}
+use Rattle.cs_apply.specs.State as tables
+use Rattle.cs_apply.specs.Single.{single}
+use Rattle.cs_apply.specs.declared.conflict.Conflict.{Conflict}
+use Rattle.rb_desk.specs.declared.delivery.Delivery.{Delivery}
+use Rattle.rb_sequence.specs.Entry.{Entry}
+use Rattle.rb_subscriber.specs.declared.refusal.Refusal.{Refusal}
+use Rattle.rb_subscriber.specs.declared.refusal.Refusal.TheVariants as refusal
+use Rattle.rb_subscriber.specs.Accept.{brought, joined, IsAdmitted, if_admitted, first_outside, applied, opened, accept, Accepts}
+use Rattle.rb_subscriber.specs.Endpoint.{Endpoint}
+
+-- ---- tests
+
+same_numbers : (a b : ℕ) → not (a == b) ≡ false → a ≡ b
+same_numbers a b e = elim (eqb_tells a b) as (λ w. a ≡ b) [
+  | inl same ↦ same.1
+  | inr other ↦ absurd (false≢true (sym e ∙ ap not other.0))
+]
+
+numbers_tested : (a b : ℕ) → a ≡ b → not (a == b) ≡ false
+numbers_tested a b same = elim (eqb_tells a b) as (λ w. not (a == b) ≡ false) [
+  | inl is ↦ ap not is.0
+  | inr other ↦ absurd (other.1 same)
+]
+
+above : (last cursor : ℕ) → suc cursor ≤ last → nat_le last cursor ≡ false
+above last cursor less = grind (arith, nat_tests)
+
+-- ---- refusals
+
+-- what isn't refused goes on
+not_refused : (b : Bool) (why : Refusal) (rest : Result Endpoint Refusal) (new : Endpoint) → cond b (Err why) rest ≡ Ok new → (b ≡ false) × (rest ≡ Ok new)
+not_refused true why rest new e = absurd cc
+not_refused false why rest new e = (refl, e)
+
+goes_on : (b : Bool) (why : Refusal) (rest : Result Endpoint Refusal) (new : Endpoint) → b ≡ false → rest ≡ Ok new → cond b (Err why) rest ≡ Ok new
+goes_on b why rest new tested e = ap (λ c. cond c (Err why) rest) tested ∙ e
+
+-- ---- which entries are admitted
+
+admitted_by : (schema : List Shape) (entry : Entry) (entries : List Entry) (fault : Option SectionFault) → refusal_of schema entry.item.body ≡ fault → if_admitted fault entry (first_outside schema entries) ≡ None
+    → (first_outside schema entries ≡ None → AllByRecursion (IsAdmitted schema) entries) → AllByRecursion (IsAdmitted schema) (entry ∷ entries)
+admitted_by schema entry entries None is e rest = (is, rest e)
+admitted_by schema entry entries (Some fault) is e rest = absurd cc
+
+all_admitted : (schema : List Shape) (entries : List Entry) → first_outside schema entries ≡ None → AllByRecursion (IsAdmitted schema) entries
+all_admitted schema [] e = tt
+all_admitted schema (entry ∷ entries) e = admitted_by schema entry entries (refusal_of schema entry.item.body) refl e (all_admitted schema entries)
+
+none_outside : (schema : List Shape) (entries : List Entry) → AllByRecursion (IsAdmitted schema) entries → first_outside schema entries ≡ None
+none_outside schema [] all = refl
+none_outside schema (entry ∷ entries) all = ap (λ fault. if_admitted fault entry (first_outside schema entries)) all.0 ∙ none_outside schema entries all.1
+
+-- ---- the tables
+
+record Applied (old : Endpoint) (last : ℕ) (entries : List Entry) (new : Endpoint) : Type 0 where
+  tables : single old.tables (joined entries) ≡ Ok new.tables
+  kept : new ≡ record old { cursor = last; tables = new.tables }
+
+abbrev with_tables : Endpoint → ℕ → tables.State → Endpoint
+with_tables old last tables = record old { cursor = last; tables = tables }
+
+applied_is : (old : Endpoint) (last : ℕ) (entries : List Entry) (new : Endpoint) (r : Result tables.State Conflict) → single old.tables (joined entries) ≡ r → applied old last r ≡ Ok new → Applied old last entries new
+applied_is old last entries new (Ok tables) is e =
+    let same : with_tables old last tables ≡ new = cc in
+    let here : tables ≡ new.tables = ap (λ (x : Endpoint). x.tables) same in
+    record { tables = is ∙ ap (λ t. Ok t) here; kept = sym same ∙ ap (λ t. with_tables old last t) here }
+applied_is old last entries new (Err conflict) is e = absurd cc
+
+opened_is : (old : Endpoint) (last : ℕ) (entries : List Entry) (new : Endpoint) (o : Option Entry) → first_outside old.tables.schema entries ≡ o → opened old last entries o ≡ Ok new → AllByRecursion (IsAdmitted old.tables.schema) entries × Applied old last entries new
+opened_is old last entries new None is e = (all_admitted old.tables.schema entries is, applied_is old last entries new (single old.tables (joined entries)) refl e)
+opened_is old last entries new (Some entry) is e = absurd cc
+
+-- ---- the step
+
+abbrev tested : Endpoint → List Entry → Delivery → Result Endpoint Refusal
+tested old sequence delivery = opened old delivery.last (brought old sequence delivery) (first_outside old.tables.schema (brought old sequence delivery))
+
+pub accepted_steps : (old : Endpoint) (sequence : List Entry) (delivery : Delivery) (new : Endpoint) → accept old sequence delivery ≡ Ok new → Accepts old sequence delivery new
+unfolding accept
+accepted_steps old sequence delivery new e =
+    let closed = not_refused old.closed refusal.Closed _ new e in
+    let link = not_refused (not (delivery.link == old.link)) refusal.StaleLink _ new closed.1 in
+    let seen = not_refused (nat_le delivery.last old.cursor) refusal.Seen _ new link.1 in
+    let gap = not_refused (not (delivery.first == suc old.cursor)) (refusal.Gap (suc old.cursor)) (tested old sequence delivery) new seen.1 in
+    let open_ = opened_is old delivery.last (brought old sequence delivery) new (first_outside old.tables.schema (brought old sequence delivery)) refl gap.1 in
+    record {
+      not_closed = closed.0;
+      linked = same_numbers delivery.link old.link link.0;
+      next = same_numbers delivery.first (suc old.cursor) gap.0;
+      some = leb-false delivery.last old.cursor seen.0;
+      admitted = open_.0;
+      tables = open_.1.tables;
+      kept = open_.1.kept;
+    }
+
+pub steps_accepted : (old : Endpoint) (sequence : List Entry) (delivery : Delivery) (new : Endpoint) → Accepts old sequence delivery new → accept old sequence delivery ≡ Ok new
+unfolding accept
+steps_accepted old sequence delivery new a =
+    let entries = brought old sequence delivery in
+    let done : tested old sequence delivery ≡ Ok new =
+    ap (opened old delivery.last entries) (none_outside old.tables.schema entries a.admitted) ∙ ap (applied old delivery.last) a.tables ∙ ap (λ x. Ok x) (sym a.kept) in
+    let gap = goes_on (not (delivery.first == suc old.cursor)) (refusal.Gap (suc old.cursor)) (tested old sequence delivery) new (numbers_tested delivery.first (suc old.cursor) a.next) done in
+    let seen = goes_on (nat_le delivery.last old.cursor) refusal.Seen _ new (above delivery.last old.cursor a.some) gap in
+    let link = goes_on (not (delivery.link == old.link)) refusal.StaleLink _ new (numbers_tested delivery.link old.link a.linked) seen in
+    goes_on old.closed refusal.Closed _ new a.not_closed link

@@ -1,0 +1,3 @@
+pub mod AcceptLaws
+pub mod ApplyLaws
+pub mod RunLaws

@@ -1,0 +1,106 @@
+-- What accepting a delivery answers, and what it leaves.
+use Rattle.std.specs.Prelude.{◌≡◌, ℕ, suc, ◌-◌, ◌≤◌, Bool, false, not, List, [], ◌∷◌, take, drop, Option, Some, None, Result, Ok, Err, ◌==◌, nat_le, if◌then◌else◌}
+use Rattle.std.specs.List.{flat_map, AllByRecursion}
+use Rattle.cs_model.specs.declared.shape.Shape.{Shape}
+use Rattle.cs_model.specs.Schema.{refusal_of}
+use Rattle.cs_model.specs.declared.schema.SectionFault.{SectionFault}
+use Rattle.cs_model.specs.Section.{Section}
+use Rattle.cs_apply.specs.State as tables
+use Rattle.cs_apply.specs.Single.{single}
+use Rattle.cs_apply.specs.declared.conflict.Conflict.{Conflict}
+use Rattle.rb_desk.specs.declared.delivery.Delivery.{Delivery}
+use Rattle.rb_sequence.specs.Entry.{Entry}
+use Rattle.rb_subscriber.specs.declared.refusal.Refusal.{Refusal}
+use Rattle.rb_subscriber.specs.declared.refusal.Refusal.TheVariants as refusal
+use Rattle.rb_subscriber.specs.declared.refusal.AcceptError.{AcceptError}
+use Rattle.rb_subscriber.specs.declared.refusal.AcceptError.TheVariants.{Refused, Memory}
+use Rattle.rb_subscriber.specs.Endpoint.{Endpoint}
+
+-- ---- runs of the sequence
+
+-- the n items of a list behind the first `after`
+abbrev pub part : {A : Type 0} → List A → ℕ → ℕ → List A
+part items after n = take n (drop after items)
+
+-- the entries that a delivery brings to this cursor
+abbrev pub brought : Endpoint → List Entry → Delivery → List Entry
+brought old sequence delivery = part sequence old.cursor (delivery.last - old.cursor)
+
+-- the sections of all bodies, one entry's behind another's
+abbrev pub joined : List Entry → List Section
+joined entries = flat_map (λ entry. entry.item.body) entries
+
+-- the tables admit a body
+abbrev pub IsAdmitted : List Shape → Entry → Type 0
+IsAdmitted schema entry = refusal_of schema entry.item.body ≡ None
+
+-- ---- what is answered
+
+-- the first entry whose body isn't admitted
+abbrev pub if_admitted : Option SectionFault → Entry → Option Entry → Option Entry
+if_admitted None entry later = later
+if_admitted (Some fault) entry later = Some entry
+
+abbrev pub first_outside : List Shape → List Entry → Option Entry
+first_outside schema [] = None
+first_outside schema (entry ∷ entries) = if_admitted (refusal_of schema entry.item.body) entry (first_outside schema entries)
+
+-- the cursor goes to the delivery's last number, and the tables are the new ones; a conflict is refused
+abbrev pub applied : Endpoint → ℕ → Result tables.State Conflict → Result Endpoint Refusal
+applied old last (Ok tables) = Ok (record old { cursor = last; tables = tables })
+applied old last (Err conflict) = Err (refusal.Conflict conflict)
+
+abbrev pub opened : Endpoint → ℕ → List Entry → Option Entry → Result Endpoint Refusal
+opened old last entries None = applied old last (single old.tables (joined entries))
+opened old last entries (Some entry) = Err (refusal.Shape entry.number)
+
+-- Accept: the endpoint behind a delivery, or the first refusal in this order
+unfoldable pub accept : Endpoint → List Entry → Delivery → Result Endpoint Refusal
+accept old sequence delivery =
+    if old.closed then Err refusal.Closed
+    else if not (delivery.link == old.link) then Err refusal.StaleLink
+    else if nat_le delivery.last old.cursor then Err refusal.Seen
+    else if not (delivery.first == suc old.cursor) then Err (refusal.Gap (suc old.cursor))
+    else opened old delivery.last (brought old sequence delivery) (first_outside old.tables.schema (brought old sequence delivery))
+
+-- Whether the tables are asked: then it is accepted, or a change conflicts.
+abbrev pub AsksTables : Result Endpoint Refusal → Type 0
+AsksTables (Ok new) = Unit {0}
+AsksTables (Err refusal.Closed) = ⊥
+AsksTables (Err refusal.StaleLink) = ⊥
+AsksTables (Err refusal.Seen) = ⊥
+AsksTables (Err (refusal.Gap expected)) = ⊥
+AsksTables (Err (refusal.Shape number)) = ⊥
+AsksTables (Err (refusal.Conflict conflict)) = Unit {0}
+
+-- The answer is that of the definition: the new cursor, or the refusal. Want of memory comes only where the tables are asked.
+-- Both leave the endpoint as it was.
+abbrev pub Answers : Result ℕ AcceptError → Result Endpoint Refusal → Endpoint → Endpoint → Type 0
+Answers (Ok cursor) accepted old new = (accepted ≡ Ok new) × (cursor ≡ new.cursor)
+Answers (Err (Refused why)) accepted old new = (accepted ≡ Err why) × (new ≡ old)
+Answers (Err Memory) accepted old new = AsksTables accepted × (new ≡ old)
+
+-- ---- as a step
+
+-- An endpoint accepts a delivery: it isn't closed, the delivery is one of its present link and begins right behind its cursor,
+-- the entries that it brings are all of the endpoint's tables, and their bodies apply without conflict, one behind another.
+-- The cursor goes to the delivery's last number, and nothing but cursor and tables changes.
+pub record Accepts (old : Endpoint) (sequence : List Entry) (delivery : Delivery) (new : Endpoint) : Type 0 where
+  pub not_closed : old.closed ≡ false
+  pub linked : delivery.link ≡ old.link
+  pub next : delivery.first ≡ suc old.cursor
+  pub some : suc old.cursor ≤ delivery.last
+  pub admitted : AllByRecursion (IsAdmitted old.tables.schema) (brought old sequence delivery)
+  pub tables : single old.tables (joined (brought old sequence delivery)) ≡ Ok new.tables
+  pub kept : new ≡ record old { cursor = delivery.last; tables = new.tables }
+
+-- ---- what was accepted
+
+-- the entries that an endpoint has accepted of a sequence: those behind its start, up to its cursor
+abbrev pub accepted : List Entry → Endpoint → List Entry
+accepted sequence endpoint = part sequence endpoint.start (endpoint.cursor - endpoint.start)
+
+-- bodies applied one changeset after another, as one thread does that gets them singly
+abbrev pub AppliesSingly : tables.State → List Entry → tables.State → Type 0
+AppliesSingly old [] new = new ≡ old
+AppliesSingly old (entry ∷ entries) new = (mid : tables.State) × (single old entry.item.body ≡ Ok mid) × AppliesSingly mid entries new

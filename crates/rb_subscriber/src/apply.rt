@@ -1,0 +1,51 @@
+//! The bodies of entries, applied to tables.
+
+ghost use Rattle.std.specs.Prelude.{◌≡◌, Ok, OnOk, OnErr, IfOk, IfErr};
+ghost use Rattle.std.specs.Option.{option_copied};
+ghost use Rattle.cs_apply.specs.Errors.{TellsConflict};
+ghost use Rattle.cs_apply.specs.Single.{single};
+ghost use Rattle.rb_subscriber.specs.Accept.{first_outside, joined};
+
+use cs_apply::{ApplyError, Tables};
+use cs_model::{Changeset, CopyIn, Schema, Seq};
+use rb_sequence::Entry;
+use std::alloc::{AllocError, Global};
+
+/// The first entry whose body has a section of another table than the schema's.
+pub(crate) fn outside<'a>(schema: &Schema, entries: &'a [Entry]) -> Option<&'a Entry>
+    ensures { option_copied result ≡ first_outside schema.now entries.now }
+{
+    for entry in entries {
+        if schema.admits(entry.body()).is_err() {
+            return Some(entry);
+        }
+    }
+    None
+}
+
+// the sections of all bodies in one changeset
+fn join(alloc: Global, entries: &[Entry]) -> Result<Changeset, AllocError>
+    ensures { IfOk result (λ changeset. changeset ≡ joined entries.now) }
+{
+    let mut changeset = Changeset::from_seq(Seq::from_vec(Vec::new(alloc)));
+    for entry in entries {
+        changeset.append(alloc, entry.body())?;
+    }
+    Ok(changeset)
+}
+
+/// Applies the bodies of entries one behind another, as one changeset: all of their changes, or none.
+pub(crate) fn apply(alloc: Global, tables: &mut Tables, entries: &[Entry]) -> Result<(), ApplyError>
+    ensures ok { OnOk result (single tables.old (joined entries.now) ≡ Ok tables.new) }
+    ensures refused { IfErr result (λ e. TellsConflict e (single tables.old (joined entries.now))) }
+    ensures err { OnErr result (tables.new ≡ tables.old) }
+{
+    if let [entry] = entries {
+        // nothing is copied where there is one alone
+        return tables.apply(alloc, entry.body());
+    }
+    let Ok(changeset) = join(alloc, entries) else {
+        return Err(ApplyError::Memory);
+    };
+    tables.apply(alloc, &changeset)
+}

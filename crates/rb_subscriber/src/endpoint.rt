@@ -1,0 +1,159 @@
+//! The endpoint.
+
+ghost use Rattle.std.specs.Prelude.{◌≡◌, ◌≤◌, ◌-◌, true, length};
+ghost use Rattle.rb_subscriber.specs.Accept.{accept, Answers, part};
+ghost use Rattle.rb_subscriber.specs.Endpoint.{begun};
+
+use crate::apply::{apply, outside};
+use crate::refusal::{AcceptError, Refusal};
+use cs_apply::{ApplyError, Tables};
+use rb_desk::Delivery;
+use rb_sequence::Entry;
+use std::alloc::Global;
+use std::marker::Model;
+
+/// A subscriber's end of a subscription: how far it has accepted, its present link, and its tables. Only `accept` moves the cursor.
+#[derive(Debug, Drop)]
+pub struct Endpoint {
+    start: u64,
+    cursor: u64,
+    link: u64,
+    closed: bool,
+    tables: Tables,
+}
+
+impl Model for Endpoint {
+    ghost use Rattle.std.specs.Prelude.{◌≤◌};
+    ghost use Rattle.rb_subscriber.specs.Endpoint.{Endpoint, endpoint_code};
+
+    ghost Value = { Endpoint };
+
+    ghost coded = { endpoint_code };
+
+    ghost view = { λ e. record { start = e.start; cursor = e.cursor; link = e.link; closed = e.closed; tables = e.tables } };
+
+    ghost invariant = { λ e. e.start ≤ e.cursor };
+}
+
+impl Endpoint {
+    /// An endpoint that begins behind the number `start`, under this link and with these tables, and has accepted nothing.
+    pub fn new(start: u64, link: u64, tables: Tables) -> Endpoint
+        ensures { result ≡ begun start link tables }
+    {
+        Endpoint {
+            start,
+            cursor: start,
+            link,
+            closed: false,
+            tables,
+        }
+    }
+
+    /// Accepts a delivery: applies the changesets that it brings, one behind another, and moves the cursor to its last number, which
+    /// it answers. `sequence` is all entries placed so far, up to the delivery's last one at least.
+    ///
+    /// Refuses, in this order, `Closed`, `StaleLink`, `Seen`, `Gap`, `Shape`, `Conflict`. `Memory` may come in place of a conflict,
+    /// and of no other refusal. Each leaves the endpoint as it was.
+    #[tactic(auto, unfolding(crate::specs::Accept::accept))]
+    pub fn accept(
+        &mut self,
+        alloc: Global,
+        sequence: &[Entry],
+        delivery: &Delivery,
+    ) -> Result<u64, AcceptError>
+        requires { delivery.now.last ≤ length sequence.now }
+        ensures { Answers result (accept self.old sequence.now delivery.now) self.old self.new }
+    {
+        if self.closed {
+            return Err(AcceptError::Refused(Refusal::Closed));
+        }
+        if delivery.link() != self.link {
+            return Err(AcceptError::Refused(Refusal::StaleLink));
+        }
+        let last = delivery.last();
+        if last <= self.cursor {
+            return Err(AcceptError::Refused(Refusal::Seen));
+        }
+        // the cursor is below `last`
+        let expected = self.cursor + 1;
+        if delivery.first() != expected {
+            return Err(AcceptError::Refused(Refusal::Gap { expected }));
+        }
+        let entries = between(sequence, self.cursor, last);
+        if let Some(entry) = outside(self.tables.schema(), entries) {
+            let number = entry.number();
+            return Err(AcceptError::Refused(Refusal::Shape { number }));
+        }
+        match apply(alloc, &mut self.tables, entries) {
+            Ok(()) => {}
+            Err(ApplyError::Conflict(conflict)) => {
+                return Err(AcceptError::Refused(Refusal::Conflict(conflict)));
+            }
+            Err(ApplyError::Memory) => return Err(AcceptError::Memory),
+        }
+        self.cursor = last;
+        Ok(last)
+    }
+
+    /// Goes on under another link: deliveries of the old one are stale. Cursor and tables stay.
+    pub fn reconnect(&mut self, link: u64)
+        ensures { self.new ≡ record self.old { link = link } }
+    {
+        self.link = link;
+    }
+
+    /// Closes it for good: it accepts nothing more.
+    pub fn close(&mut self)
+        ensures { self.new ≡ record self.old { closed = true } }
+    {
+        self.closed = true;
+    }
+
+    /// The number behind which it began.
+    pub fn start(&self) -> u64
+        ensures value { result ≡ self.now.start }
+        ensures order { self.now.start ≤ self.now.cursor }
+    {
+        self.start
+    }
+
+    /// The last number that it accepted, at first its start.
+    pub fn cursor(&self) -> u64
+        ensures value { result ≡ self.now.cursor }
+        ensures order { self.now.start ≤ self.now.cursor }
+    {
+        self.cursor
+    }
+
+    /// Its present link.
+    pub fn link(&self) -> u64
+        ensures { result ≡ self.now.link }
+    {
+        self.link
+    }
+
+    /// Whether it was closed.
+    pub fn is_closed(&self) -> bool
+        ensures { result ≡ self.now.closed }
+    {
+        self.closed
+    }
+
+    /// Its tables.
+    pub fn tables(&self) -> &Tables
+        ensures { result.now ≡ self.now.tables }
+    {
+        &self.tables
+    }
+}
+
+// the entries behind number `after`, up to number `last`
+fn between(sequence: &[Entry], after: u64, last: u64) -> &[Entry]
+    requires order { after ≤ last }
+    requires within { last ≤ length sequence.now }
+    ensures { result.now ≡ part sequence.now after (last - after) }
+{
+    let (_, rest) = sequence.split_at(after as usize);
+    let (entries, _) = rest.split_at((last - after) as usize);
+    entries
+}

@@ -1,0 +1,64 @@
+//! Why a delivery isn't accepted.
+
+ghost use Rattle.std.specs.Prelude.{◌≡◌};
+
+use cs_apply::Conflict;
+use std::alloc::AllocError;
+use thiserror::Error;
+
+/// Why `Endpoint::accept` refuses a delivery. The endpoint is as it was before the call. Where several hold, the call answers the
+/// first one in this order.
+#[derive(Clone, Copy, Debug, PartialEq, Eq, Error)]
+pub enum Refusal {
+    /// The endpoint is closed.
+    #[error("the subscription is closed")]
+    Closed,
+    /// The delivery was made under another link.
+    #[error("the subscription has another link now")]
+    StaleLink,
+    /// Its numbers are accepted already: its last one isn't behind the cursor.
+    #[error("the delivery is accepted already")]
+    Seen,
+    /// It doesn't begin behind the cursor, with the number `expected`.
+    #[error("the next number to accept is {expected}")]
+    Gap { expected: u64 },
+    /// The changeset of this number is of other tables than the endpoint's.
+    #[error("the changeset {number} is of other tables")]
+    Shape { number: u64 },
+    /// A change conflicts with the rows. Its position counts all changes of the delivery, from 0.
+    #[error("{0}")]
+    Conflict(Conflict),
+}
+
+/// What stopped `Endpoint::accept`. The endpoint is as it was before the call.
+#[derive(Clone, Copy, Debug, PartialEq, Eq, Error)]
+pub enum AcceptError {
+    /// The delivery is refused.
+    #[error("{0}")]
+    Refused(Refusal),
+    /// There was no memory. It may come in place of a conflict, and of no other refusal.
+    #[error("out of memory")]
+    Memory,
+}
+
+impl From<Refusal> for AcceptError {
+    ghost use Rattle.std.specs.Prelude.{◌≡◌};
+    ghost use Rattle.rb_subscriber.specs.declared.refusal.AcceptError.TheVariants.{Refused};
+
+    ghost from_gives = { λ why e. e ≡ Refused why };
+
+    fn from(why: Refusal) -> AcceptError {
+        AcceptError::Refused(why)
+    }
+}
+
+impl From<AllocError> for AcceptError {
+    ghost use Rattle.std.specs.Prelude.{◌≡◌};
+    ghost use Rattle.rb_subscriber.specs.declared.refusal.AcceptError.TheVariants.{Memory};
+
+    ghost from_gives = { λ _ e. e ≡ Memory };
+
+    fn from(_: AllocError) -> AcceptError {
+        AcceptError::Memory
+    }
+}
