@@ -16,7 +16,8 @@ use Rattle.rb_core.specs.declared.event.Event.TheVariants as event
 use Rattle.rb_core.specs.declared.reply.Reply.{Reply}
 use Rattle.rb_core.specs.declared.reply.Reply.TheVariants as reply
 use Rattle.rb_core.specs.declared.parts.Publisher.{Publisher}
-use Rattle.rb_core.specs.declared.entry.Item.{Item}
+use Rattle.rb_sequence.specs.declared.item.Item.{Item}
+use Rattle.rb_sequence.specs.Entry.{Entry}
 use Rattle.rb_core.specs.declared.parts.Subscription.{Subscription}
 use Rattle.rb_core.specs.declared.parts.Handed.{Handed}
 use Rattle.rb_desk.specs.Limits.{Limits}
@@ -102,7 +103,7 @@ keeps_send s old p (Some q) (Some c) = still s old _ _ (λ s c e. absurd cc) (om
 
 keeps_turn : (s : ℕ) (old : State) (waiting : List Item) → Keeps s old (turned old waiting).0 (turned old waiting).1
 keeps_turn s old [] = still s old _ old (λ s c e. absurd cc) (omega arith)
-keeps_turn s old (entry ∷ rest) = still s old _ _ (λ s c e. absurd cc) (omega arith)
+keeps_turn s old (item ∷ rest) = still s old _ _ (λ s c e. absurd cc) (omega arith)
 
 keeps_if : (s : ℕ) (old : State) (b : Bool) (x y : Reply × State) → Keeps s old x.0 x.1 → (b ≡ false → Keeps s old y.0 y.1) → Keeps s old (cond b x y).0 (cond b x y).1
 keeps_if s old true x y left right = left
@@ -139,9 +140,9 @@ keeps_accepted s old handed q (Ok t) found lt =
 keeps_accepted s old handed q (Err conflict) found lt =
     still s old _ _ (λ s c e. absurd cc) (cursor_at-set old.subscriptions handed.subscription q q s found (omega arith))
 
-keeps_opened : (s : ℕ) (old : State) (handed : Handed) (q : Subscription) (o : Option Item) → slice_get old.subscriptions handed.subscription ≡ Some q → q.cursor < handed.last → Keeps s old (opened old handed q o).0 (opened old handed q o).1
+keeps_opened : (s : ℕ) (old : State) (handed : Handed) (q : Subscription) (o : Option Entry) → slice_get old.subscriptions handed.subscription ≡ Some q → q.cursor < handed.last → Keeps s old (opened old handed q o).0 (opened old handed q o).1
 keeps_opened s old handed q None found lt = still s old _ old (λ s c e. absurd cc) (omega arith)
-keeps_opened s old handed q (Some entry) found lt = keeps_accepted s old handed q (single q.tables entry.body) found lt
+keeps_opened s old handed q (Some entry) found lt = keeps_accepted s old handed q (single q.tables entry.item.body) found lt
 
 keeps_reached : (s : ℕ) (old : State) (handed : Handed) (o : Option Subscription) → slice_get old.subscriptions handed.subscription ≡ o → Keeps s old (reached old handed o).0 (reached old handed o).1
 keeps_reached s old handed None found = still s old _ old (λ s c e. absurd cc) (omega arith)

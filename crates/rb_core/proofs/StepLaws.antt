@@ -21,7 +21,9 @@ use Rattle.rb_core.specs.declared.reply.Reply.{Reply}
 use Rattle.rb_core.specs.declared.reply.Reply.TheVariants as reply
 use Rattle.rb_core.specs.declared.reply.Refusal.TheVariants as refusal
 use Rattle.rb_core.specs.declared.parts.Publisher.{Publisher}
-use Rattle.rb_core.specs.declared.entry.Item.{Item}
+use Rattle.cs_model.specs.declared.origin.Origin.TheVariants.{Sent}
+use Rattle.rb_sequence.specs.declared.item.Item.{Item}
+use Rattle.rb_sequence.specs.Entry.{Entry}
 use Rattle.rb_core.specs.declared.parts.Subscription.{Subscription}
 use Rattle.rb_core.specs.declared.parts.Handed.{Handed}
 use Rattle.rb_core.specs.State.{State}
@@ -166,7 +168,7 @@ Sends old p q staged given new = MatchOption staged
     (Refuses old refusal.NothingStaged given new)
     (λ changeset. (given ≡ reply.Sent (q.sent + 1))
     × (new ≡ record (with_publisher old p (record q { staged = None; sent = q.sent + 1 }))
-    { intake = old.intake ++ record { publisher = p; own = q.sent + 1; body = changeset } ∷ [] }))
+    { intake = old.intake ++ record { publisher = p; own = q.sent + 1; origin = Sent; body = changeset } ∷ [] }))
 
 step_sent : (old : State) (p : ℕ) (q : Publisher) (staged : Option (List Section)) → Of (Sends old p q staged) (sent old p (Some q) staged)
 step_sent old p q None = (refl, refl)
@@ -179,10 +181,10 @@ step_send old p (Some q) = step_sent old p q q.staged
 
 step_turn : (old : State) (waiting : List Item)
     → Of (λ given new. MatchOption (slice_get waiting 0) ((given ≡ reply.Idle) × (new ≡ old))
-    (λ entry. (given ≡ reply.Placed (length old.sequence + 1)) × (waiting ≡ entry ∷ new.intake)
-    × (new ≡ record old { intake = new.intake; sequence = old.sequence ++ entry ∷ [] }))) (turned old waiting)
+    (λ item. (given ≡ reply.Placed (length old.sequence + 1)) × (waiting ≡ item ∷ new.intake)
+    × (new ≡ record old { intake = new.intake; sequence = old.sequence ++ record { number = length old.sequence + 1; item = item } ∷ [] }))) (turned old waiting)
 step_turn old [] = (refl, refl)
-step_turn old (entry ∷ rest) = (refl, refl, refl)
+step_turn old (item ∷ rest) = (refl, refl, refl)
 
 step_subscribe : (old : State) (start : ℕ) → Of (SubscribeStep old start) (subscribe_outcome old start)
 step_subscribe old start =
@@ -220,10 +222,10 @@ step_accepted old handed q (Ok t) found = (refl, refl)
 step_accepted old handed q (Err conflict) found =
     (refl, ap (λ (xs : List Subscription). record old { subscriptions = xs }) (set-found old.subscriptions handed.subscription q found))
 
-step_opened : (old : State) (handed : Handed) (q : Subscription) (o : Option Item) → slice_get old.subscriptions handed.subscription ≡ Some q
-    → Of (λ given new. MatchOption o (Refuses old refusal.NoDelivery given new) (λ entry. Becomes old handed q (single q.tables entry.body) given new)) (opened old handed q o)
+step_opened : (old : State) (handed : Handed) (q : Subscription) (o : Option Entry) → slice_get old.subscriptions handed.subscription ≡ Some q
+    → Of (λ given new. MatchOption o (Refuses old refusal.NoDelivery given new) (λ entry. Becomes old handed q (single q.tables entry.item.body) given new)) (opened old handed q o)
 step_opened old handed q None found = (refl, refl)
-step_opened old handed q (Some entry) found = step_accepted old handed q (single q.tables entry.body) found
+step_opened old handed q (Some entry) found = step_accepted old handed q (single q.tables entry.item.body) found
 
 -- what accepting does where a delivery's subscription is found
 abbrev Accepts : State → Handed → Subscription → Reply → State → Type 0

@@ -14,7 +14,8 @@ use Rattle.cs_parse.specs.Progress as stream
 use Rattle.cs_parse.specs.Progress.{Progress, Took, nothing, advanced, progress_of}
 use Rattle.rb_desk.specs.Limits.{Limits}
 use Rattle.rb_desk.proofs.PictureLaws.{get_set, get_set_other}
-use Rattle.rb_core.specs.declared.entry.Item.{Item}
+use Rattle.rb_sequence.specs.declared.item.Item.{Item}
+use Rattle.rb_sequence.specs.Entry.{Entry}
 use Rattle.rb_core.specs.declared.event.Event.{Event}
 use Rattle.rb_core.specs.declared.event.Event.TheVariants as event
 use Rattle.rb_core.specs.declared.parts.Handed.{Handed}
@@ -160,7 +161,7 @@ take_keeps : (p : ℕ) (old : State) (text : List ℕ) (s : ℕ) (found : Option
 take_keeps p old text s None kept = kept
 take_keeps p old text s (Some q) kept = either_keeps p text _ _ _ kept kept
 
-open_keeps : (p : ℕ) (old : State) (text : List ℕ) (handed : Handed) (q : Subscription) (entry : Option Item) → Kept p old text → Kept p (opened old handed q entry).1 text
+open_keeps : (p : ℕ) (old : State) (text : List ℕ) (handed : Handed) (q : Subscription) (entry : Option Entry) → Kept p old text → Kept p (opened old handed q entry).1 text
 open_keeps p old text handed q None kept = kept
 open_keeps p old text handed q (Some entry) kept = kept
 

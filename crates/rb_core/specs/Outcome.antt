@@ -1,6 +1,7 @@
 -- What an event does: the reply, and the world after it.
 use Rattle.std.specs.Prelude.{ℕ, zero, suc, ◌+◌, ◌-◌, Bool, List, [], ◌∷◌, ◌++◌, length, Option, Some, None, Result, Ok, Err, slice_get, slice_set, nat_lt, nat_le, if◌then◌else◌}
 use Rattle.cs_model.specs.Section.{Section}
+use Rattle.cs_model.specs.declared.origin.Origin.TheVariants.{Sent}
 use Rattle.cs_model.specs.declared.schema.SectionFault.{SectionFault}
 use Rattle.cs_model.specs.declared.schema.SectionFault.TheVariants.{UnknownTable as Unknown, ShapeDiffers as Differs}
 use Rattle.cs_model.specs.Schema.{refusal_of}
@@ -17,7 +18,8 @@ use Rattle.rb_core.specs.declared.reply.Reply.TheVariants as reply
 use Rattle.rb_core.specs.declared.reply.Refusal.{Refusal}
 use Rattle.rb_core.specs.declared.reply.Refusal.TheVariants as refusal
 use Rattle.rb_core.specs.declared.parts.Publisher.{Publisher}
-use Rattle.rb_core.specs.declared.entry.Item.{Item}
+use Rattle.rb_sequence.specs.declared.item.Item.{Item}
+use Rattle.rb_sequence.specs.Entry.{Entry}
 use Rattle.rb_core.specs.declared.parts.Subscription.{Subscription}
 use Rattle.rb_core.specs.declared.parts.Handed.{Handed}
 use Rattle.rb_core.specs.State.{State, empty_tables}
@@ -98,16 +100,19 @@ sent old p (Some publisher) None = refused old refusal.NothingStaged
 sent old p (Some publisher) (Some changeset) = (
   reply.Sent (publisher.sent + 1),
   record (with_publisher old p (record publisher { staged = None; sent = publisher.sent + 1 }))
-      { intake = old.intake ++ record { publisher = p; own = publisher.sent + 1; body = changeset } ∷ [] },
+      { intake = old.intake ++ record { publisher = p; own = publisher.sent + 1; origin = Sent; body = changeset } ∷ [] },
 )
 
 abbrev pub send_outcome : State → ℕ → Reply × State
 send_outcome old p = sent old p (slice_get old.publishers p) (staged_of (slice_get old.publishers p))
 
--- Turn: the intake's first entry becomes the last one of the sequence
+-- Turn: the intake's first item becomes the last entry of the sequence, under the next number
 abbrev pub turned : State → List Item → Reply × State
 turned old [] = (reply.Idle, old)
-turned old (entry ∷ rest) = (reply.Placed (length old.sequence + 1), record old { intake = rest; sequence = old.sequence ++ entry ∷ [] })
+turned old (item ∷ rest) = (
+  reply.Placed (length old.sequence + 1),
+  record old { intake = rest; sequence = old.sequence ++ record { number = length old.sequence + 1; item = item } ∷ [] },
+)
 
 abbrev pub turn_outcome : State → Reply × State
 turn_outcome old = turned old old.intake
@@ -145,10 +150,10 @@ accepted handed subscription (Err conflict) = (reply.Refused (refusal.Conflict c
 abbrev pub with_accepted : State → ℕ → Reply × Subscription → Reply × State
 with_accepted old s given = (given.0, with_subscription old s given.1)
 
-abbrev pub opened : State → Handed → Subscription → Option Item → Reply × State
+abbrev pub opened : State → Handed → Subscription → Option Entry → Reply × State
 opened old handed subscription None = refused old refusal.NoDelivery
 opened old handed subscription (Some entry) =
-    with_accepted old handed.subscription (accepted handed subscription (single subscription.tables entry.body))
+    with_accepted old handed.subscription (accepted handed subscription (single subscription.tables entry.item.body))
 
 abbrev pub reached : State → Handed → Option Subscription → Reply × State
 reached old handed None = refused old refusal.NoDelivery

@@ -1,6 +1,7 @@
 -- What an event may be answered, and what it changes: a relation by cases of what is found.
 use Rattle.std.specs.Prelude.{◌≡◌, ℕ, ◌+◌, ◌<◌, ◌≤◌, ◌⊎◌, List, [], ◌∷◌, ◌++◌, length, Option, Some, None, MatchOption, MatchResult, slice_get}
 use Rattle.cs_model.specs.Section.{Section}
+use Rattle.cs_model.specs.declared.origin.Origin.TheVariants.{Sent}
 use Rattle.cs_model.specs.Bytes.{AreBytes}
 use Rattle.cs_model.specs.Schema.{refusal_of}
 use Rattle.cs_model.specs.Text.{Spells}
@@ -78,15 +79,15 @@ SendStep old p given new = MatchOption (slice_get old.publishers p)
     (Refuses old refusal.NothingStaged given new)
     (λ changeset. (given ≡ reply.Sent (q.sent + 1))
     × (new ≡ record (with_publisher old p (record q { staged = None; sent = q.sent + 1 }))
-    { intake = old.intake ++ record { publisher = p; own = q.sent + 1; body = changeset } ∷ [] })))
+    { intake = old.intake ++ record { publisher = p; own = q.sent + 1; origin = Sent; body = changeset } ∷ [] })))
 
--- the intake's first entry becomes the last one of the sequence
+-- the intake's first item becomes the last entry of the sequence, under the next number
 abbrev pub TurnStep : State → Reply → State → Type 0
 TurnStep old given new = MatchOption (slice_get old.intake 0)
     ((given ≡ reply.Idle) × (new ≡ old))
-    (λ entry. (given ≡ reply.Placed (length old.sequence + 1))
-    × (old.intake ≡ entry ∷ new.intake)
-    × (new ≡ record old { intake = new.intake; sequence = old.sequence ++ entry ∷ [] }))
+    (λ item. (given ≡ reply.Placed (length old.sequence + 1))
+    × (old.intake ≡ item ∷ new.intake)
+    × (new ≡ record old { intake = new.intake; sequence = old.sequence ++ record { number = length old.sequence + 1; item = item } ∷ [] }))
 
 -- a new subscription behind a number that is placed, with empty tables
 abbrev pub SubscribeStep : State → ℕ → Reply → State → Type 0
@@ -110,7 +111,7 @@ TakeStep old s given new = MatchOption (slice_get old.subscriptions s)
 abbrev pub Applies : State → Handed → Subscription → Reply → State → Type 0
 Applies old handed q given new = MatchOption (numbered old.sequence handed.last)
     (Refuses old refusal.NoDelivery given new)
-    (λ entry. MatchResult (single q.tables entry.body)
+    (λ entry. MatchResult (single q.tables entry.item.body)
     (λ tables. (given ≡ reply.Accepted handed.subscription handed.last)
     × (new ≡ with_subscription old handed.subscription (record q { cursor = handed.last; tables = tables })))
     (λ conflict. Refuses old (refusal.Conflict conflict) given new))

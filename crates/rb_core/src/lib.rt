@@ -3,7 +3,6 @@
 //! numbers that a subscription accepted rise strictly.
 #![tactic(auto)]
 
-mod entry;
 mod event;
 pub mod laws;
 mod parts;
@@ -15,10 +14,10 @@ mod subscribing;
 mod tests;
 mod world;
 
-pub use entry::{Entry, Item};
 pub use event::Event;
 pub use parts::{Handed, Publisher, Subscription};
 pub use rb_desk::{Config, ConfigFault};
+pub use rb_sequence::{Entry, Item};
 pub use reply::{Refusal, Reply};
 pub use runs::run;
 pub use world::World;

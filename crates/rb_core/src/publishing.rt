@@ -5,13 +5,12 @@ ghost use Rattle.cs_parse.specs.Answer.{Shows};
 ghost use Rattle.cs_parse.specs.Progress.{ended};
 ghost use Rattle.rb_core.specs.Outcome.{publisher_outcome, feed_outcome, reset_outcome, end_outcome, send_outcome, turn_outcome, fault_refusal};
 
-use crate::entry::{Entry, Item};
 use crate::parts::Publisher;
 use crate::reply::{Refusal, Reply};
 use crate::world::{World, refused};
-use cs_model::{Changeset, SectionFault};
+use cs_model::{Changeset, Origin, SectionFault};
 use cs_parse::{ParseError, ParseFault, PieceParser};
-use cs_write::write;
+use rb_sequence::{Entry, Item};
 use std::alloc::{AllocError, Global};
 
 impl World {
@@ -114,6 +113,7 @@ impl World {
                 self.intake.push_back(Item {
                     publisher,
                     own,
+                    origin: Origin::Sent,
                     body,
                 })?;
                 Ok(Reply::Sent(own))
@@ -129,14 +129,15 @@ impl World {
         // all memory is taken before anything moves
         let text = match self.intake.front() {
             None => return Ok(Reply::Idle),
-            Some(item) => write(alloc, &item.body)?,
+            Some(item) => item.text(alloc)?,
         };
         self.sequence.reserve(1)?;
         match self.intake.pop_front() {
             None => Ok(Reply::Idle),
             Some(item) => {
-                self.sequence.push(Entry::new(item, text))?;
-                Ok(Reply::Placed(self.sequence.len() as u64))
+                let number = self.sequence.len() as u64 + 1;
+                self.sequence.push(Entry::new(number, item, text))?;
+                Ok(Reply::Placed(number))
             }
         }
     }

@@ -6,12 +6,12 @@ ghost use Rattle.cs_apply.specs.Single.{single};
 ghost use Rattle.rb_core.specs.Outcome as spec;
 ghost use Rattle.rb_core.specs.Outcome.{subscribe_outcome, take_outcome, accept_outcome, accepted};
 
-use crate::entry::Entry;
 use crate::parts::{Handed, Subscription};
 use crate::reply::{Refusal, Reply};
 use crate::world::{World, refused};
 use cs_apply::{ApplyError, Tables};
 use cs_model::CopyIn;
+use rb_sequence::Entry;
 use std::alloc::{AllocError, Global};
 
 impl World {
@@ -99,11 +99,11 @@ fn accept_entry(
     handed: Handed,
 ) -> Result<Reply, AllocError>
     ensures ok { IfOk result (λ reply.
-        accepted handed subscription.old (single subscription.old.tables entry.now.body)
+        accepted handed subscription.old (single subscription.old.tables entry.now.item.body)
         ≡ (reply, subscription.new)) }
     ensures err { OnErr result (subscription.new ≡ subscription.old) }
 {
-    match subscription.tables.apply(alloc, &entry.item().body) {
+    match subscription.tables.apply(alloc, entry.body()) {
         Ok(()) => {}
         Err(ApplyError::Conflict(conflict)) => return refused(Refusal::Conflict(conflict)),
         Err(ApplyError::Memory) => return Err(AllocError),

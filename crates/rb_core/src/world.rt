@@ -8,13 +8,13 @@ ghost use Rattle.rb_core.specs.State.{empty_world};
 ghost use Rattle.rb_core.specs.Outcome.{outcome, numbered};
 ghost use Rattle.rb_core.specs.Step.{Step};
 
-use crate::entry::{Entry, Item};
 use crate::event::Event;
 use crate::laws::outcome_is_step;
 use crate::parts::{Handed, Publisher, Subscription};
 use crate::reply::{Refusal, Reply};
 use cs_model::{Row, RowKey, Schema};
 use rb_desk::Config;
+use rb_sequence::{Entry, Item};
 use std::alloc::{AllocError, Global};
 use std::collections::VecDeque;
 use std::marker::Model;

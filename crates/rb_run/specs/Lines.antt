@@ -16,7 +16,7 @@ use Rattle.rb_core.specs.declared.event.Event.{Event}
 use Rattle.rb_core.specs.declared.reply.Reply.{Reply}
 use Rattle.rb_core.specs.declared.reply.Refusal.TheVariants as refusal
 use Rattle.rb_core.specs.State.{State, empty_world}
-use Rattle.rb_core.specs.declared.entry.Item.{Item}
+use Rattle.rb_sequence.specs.Entry.{Entry}
 use Rattle.rb_core.specs.Outcome.{outcome, numbered}
 use Rattle.rb_run.specs.declared.forms.Form.{Form}
 use Rattle.rb_run.specs.declared.forms.Form.TheVariants as form
@@ -79,9 +79,9 @@ found_rows (Some rows) = rows_text rows
 abbrev pub rows_answer : State → ℕ → List ℕ
 rows_answer world s = found_rows (option_map (λ q. map.entries q.tables.rows) (slice_get world.subscriptions s))
 
-abbrev pub found_entry : ℕ → Option Item → List ℕ
+abbrev pub found_entry : ℕ → Option Entry → List ℕ
 found_entry n None = codes "refused NotPlaced"
-found_entry n (Some item) = entry_text n item
+found_entry n (Some entry) = entry_text n entry
 
 abbrev pub entry_answer : State → ℕ → List ℕ
 entry_answer world n = line_of (found_entry n (numbered world.sequence n))

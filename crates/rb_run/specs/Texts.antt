@@ -12,7 +12,7 @@ use Rattle.cs_parse.specs.declared.fault.FaultKind.TheVariants as kind
 use Rattle.cs_parse.specs.declared.fault.ParseFault.{ParseFault}
 use Rattle.cs_apply.specs.Conflict.{code_of}
 use Rattle.cs_write.specs.Text.{text_of}
-use Rattle.rb_core.specs.declared.entry.Item.{Item}
+use Rattle.rb_sequence.specs.Entry.{Entry}
 use Rattle.rb_core.specs.declared.reply.Reply.{Reply}
 use Rattle.rb_core.specs.declared.reply.Reply.TheVariants as reply
 use Rattle.rb_core.specs.declared.reply.Refusal.{Refusal}
@@ -73,10 +73,10 @@ bytes_word [] = codes "-"
 bytes_word (byte ∷ bytes) = encode_lower (byte ∷ bytes)
 
 -- an entry with this number: who sent it, its place among that publisher's sendings, that it was sent, and its text
-abbrev pub entry_text : ℕ → Item → List ℕ
-entry_text n item =
-    (codes "entry " ++ (decimal n ++ (codes " " ++ (decimal item.publisher ++ (codes " " ++ (decimal item.own ++ codes " s "))))))
-    ++ bytes_word (text_of item.body)
+abbrev pub entry_text : ℕ → Entry → List ℕ
+entry_text n entry =
+    (codes "entry " ++ (decimal n ++ (codes " " ++ (decimal entry.item.publisher ++ (codes " " ++ (decimal entry.item.own ++ codes " s "))))))
+    ++ bytes_word (text_of entry.item.body)
 
 -- a value behind a space, as its canonical bytes in hexadecimal
 abbrev pub value_text : Value → List ℕ

@@ -93,9 +93,8 @@ fn name_of(kind: FaultKind) -> &'static str
 pub fn text_of_entry(alloc: Global, number: u64, entry: &Entry) -> Result<Vec<u8>, AllocError>
     ensures { IfOk result (λ text. text.items ≡ entry_text number entry.now) }
 {
-    let item = entry.item();
-    let publisher = item.publisher;
-    let own = item.own;
+    let publisher = entry.publisher();
+    let own = entry.own();
     let mut text = Vec::new(alloc);
     let front = format!(in alloc; "entry {number} {publisher} {own} s ")?;
     text.extend_from_slice(front.as_bytes())?;

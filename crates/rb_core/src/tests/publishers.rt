@@ -101,7 +101,7 @@ fn entries_have_canonical_texts(rt: HostRuntime) -> Result<(), Fail> {
     canonical[7] = 1;
     let text: &[u8] = entry.text();
     assert_eq!(rt; text, canonical.as_slice());
-    assert_eq!(rt; entry.item().publisher, 0);
-    assert_eq!(rt; entry.item().own, 1);
+    assert_eq!(rt; entry.publisher(), 0);
+    assert_eq!(rt; entry.own(), 1);
     Ok(())
 }
