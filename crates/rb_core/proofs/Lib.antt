@@ -2,3 +2,5 @@ pub mod RunLaws
 pub mod Rising
 pub mod StepLaws
 pub mod Streams
+pub mod Moving
+pub mod Gapless

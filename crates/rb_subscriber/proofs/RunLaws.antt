@@ -15,7 +15,7 @@ use Rattle.rb_subscriber.proofs.AcceptLaws.{accepted_steps}
 -- ---- parts of a list
 
 -- one part behind another
-parts : {A : Type 0} (xs : List A) (after mid last : ℕ) → after ≤ mid → mid ≤ last → part xs after (last - after) ≡ part xs after (mid - after) ++ part xs mid (last - mid)
+pub parts : {A : Type 0} (xs : List A) (after mid last : ℕ) → after ≤ mid → mid ≤ last → part xs after (last - after) ≡ part xs after (mid - after) ++ part xs mid (last - mid)
 parts xs after mid last a b =
     let both : last - after ≡ (mid - after) + (last - mid) = omega (arith, a, b) in
     let there : after + (mid - after) ≡ mid = omega (arith, a) in
@@ -24,7 +24,7 @@ parts xs after mid last a b =
     ∙ ap (λ ys. part xs after (mid - after) ++ take (last - mid) ys) (drop-drop (mid - after) after xs ∙ ap (λ n. drop n xs) there)
 
 -- more behind it changes nothing
-part_stays : {A : Type 0} (xs more : List A) (after n : ℕ) → after + n ≤ length xs → part (xs ++ more) after n ≡ part xs after n
+pub part_stays : {A : Type 0} (xs more : List A) (after n : ℕ) → after + n ≤ length xs → part (xs ++ more) after n ≡ part xs after n
 part_stays xs more after n fits =
     let few : n ≤ length (drop after xs) = omega (arith, fits, length-drop after xs) in
     ap (take n) (drop-append-le after xs more (omega (arith, fits))) ∙ take-append-le n (drop after xs) more few

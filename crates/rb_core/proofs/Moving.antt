@@ -1,0 +1,94 @@
+-- What holds of a world, move by move.
+use Rattle.std.proofs.Common.{◌≡◌, ℕ, zero, suc, ◌⊎◌, inl, inr, List, [], ◌∷◌, ◌++◌, Option, Some, None, sym, subst}
+use Rattle.std.specs.Prelude.{slice_get, slice_set}
+use Rattle.std.specs.List.{AllByRecursion}
+use Rattle.rb_core.specs.World.{World}
+use Rattle.rb_core.specs.Moves.{IsIn, Comes, Stages, Sends, Pulls, Places, Ends, Begins, Offers, Takes, Reconnects, Leaves, Moves, Leads}
+
+-- ---- lists
+
+pub all_set : {A : Type 0} (P : A → Type 0) (xs : List A) (i : ℕ) (y : A) → AllByRecursion P xs → P y → AllByRecursion P (slice_set xs i y)
+all_set P [] i y all h = tt
+all_set P (x ∷ xs) zero y all h = (h, all.1)
+all_set P (x ∷ xs) (suc i) y all h = (all.0, all_set P xs i y all.1 h)
+
+pub all_get : {A : Type 0} (P : A → Type 0) (xs : List A) (i : ℕ) (x : A) → AllByRecursion P xs → slice_get xs i ≡ Some x → P x
+all_get P [] i x all e = absurd (cc e)
+all_get P (y ∷ xs) zero x all e =
+    let same : y ≡ x = cc e in
+    subst P same all.0
+all_get P (y ∷ xs) (suc i) x all e = all_get P xs i x all.1 e
+
+pub all_in : {A : Type 0} (P : A → Type 0) (xs : List A) (x : A) → AllByRecursion P xs → IsIn x xs → P x
+all_in P [] x all here = absurd here
+all_in P (y ∷ xs) x all here = elim here as (λ w. P x) [
+  | inl same ↦ subst P (sym same) all.0
+  | inr rest ↦ all_in P xs x all.1 rest
+]
+
+pub all_map : {A : Type 0} (P Q : A → Type 0) (xs : List A) → ((x : A) → P x → Q x) → AllByRecursion P xs → AllByRecursion Q xs
+all_map P Q [] f all = tt
+all_map P Q (x ∷ xs) f all = (f x all.0, all_map P Q xs f all.1)
+
+-- what stands at a place stays there when another thing comes behind
+pub get_push : {A : Type 0} (xs : List A) (y x : A) (i : ℕ) → slice_get xs i ≡ Some x → slice_get (xs ++ y ∷ []) i ≡ Some x
+get_push [] y x i e = absurd (cc e)
+get_push (z ∷ xs) y x zero e = e
+get_push (z ∷ xs) y x (suc i) e = get_push xs y x i e
+
+-- ---- moves
+
+-- what each kind of move keeps
+pub record Keeps (P : World → Type 0) : Type 0 where
+  pub comes : (old new : World) → Comes old new → P old → P new
+  pub stages : (old new : World) → Stages old new → P old → P new
+  pub sends : (old new : World) → Sends old new → P old → P new
+  pub pulls : (old new : World) → Pulls old new → P old → P new
+  pub places : (old new : World) → Places old new → P old → P new
+  pub ends : (old new : World) → Ends old new → P old → P new
+  pub begins : (old new : World) → Begins old new → P old → P new
+  pub offers : (old new : World) → Offers old new → P old → P new
+  pub takes : (old new : World) → Takes old new → P old → P new
+  pub reconnects : (old new : World) → Reconnects old new → P old → P new
+  pub leaves : (old new : World) → Leaves old new → P old → P new
+
+kept_by : (P : World → Type 0) → Keeps P → (old new : World) → Moves old new → P old → P new
+kept_by P keeps old new move h = elim move as (λ w. P new) [
+  | inl same ↦ subst P (sym same) h
+  | inr m ↦ elim m as (λ w. P new) [
+      | inl x ↦ keeps.comes old new x h
+      | inr m ↦ elim m as (λ w. P new) [
+          | inl x ↦ keeps.stages old new x h
+          | inr m ↦ elim m as (λ w. P new) [
+              | inl x ↦ keeps.sends old new x h
+              | inr m ↦ elim m as (λ w. P new) [
+                  | inl x ↦ keeps.pulls old new x h
+                  | inr m ↦ elim m as (λ w. P new) [
+                      | inl x ↦ keeps.places old new x h
+                      | inr m ↦ elim m as (λ w. P new) [
+                          | inl x ↦ keeps.ends old new x h
+                          | inr m ↦ elim m as (λ w. P new) [
+                              | inl x ↦ keeps.begins old new x h
+                              | inr m ↦ elim m as (λ w. P new) [
+                                  | inl x ↦ keeps.offers old new x h
+                                  | inr m ↦ elim m as (λ w. P new) [
+                                      | inl x ↦ keeps.takes old new x h
+                                      | inr m ↦ elim m as (λ w. P new) [
+                                          | inl x ↦ keeps.reconnects old new x h
+                                          | inr x ↦ keeps.leaves old new x h
+                                        ]
+                                    ]
+                                ]
+                            ]
+                        ]
+                    ]
+                ]
+            ]
+        ]
+    ]
+]
+
+-- what every move keeps holds behind all of them
+pub kept_through : (P : World → Type 0) → Keeps P → (old : World) (mids : List World) (new : World) → Leads old mids new → P old → P new
+kept_through P keeps old [] new leads h = subst P (sym leads) h
+kept_through P keeps old (mid ∷ rest) new leads h = kept_through P keeps mid rest new leads.1 (kept_by P keeps old mid leads.0 h)

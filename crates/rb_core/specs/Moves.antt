@@ -1,0 +1,146 @@
+-- What may happen to the world at once. A refused call, an acknowledgement, one that is taken back and an expiry change nothing here.
+use Rattle.std.specs.Prelude.{◌≡◌, ℕ, suc, ◌-◌, ◌<◌, ◌≤◌, ◌⊎◌, true, false, List, [], ◌∷◌, ◌++◌, length, Option, Some, None, slice_get, slice_set}
+use Rattle.std.specs.List.{AllByRecursion}
+use Rattle.cs_model.specs.declared.origin.Origin.{Origin}
+use Rattle.cs_model.specs.Section.{Section}
+use Rattle.cs_apply.specs.State as tables
+use Rattle.rb_desk.specs.declared.delivery.Delivery.{Delivery}
+use Rattle.rb_sequence.specs.declared.item.Item.{Item}
+use Rattle.rb_sequence.specs.Entry.{Entry}
+use Rattle.rb_subscriber.specs.Accept.{brought, Accepts}
+use Rattle.rb_subscriber.specs.Endpoint.{Endpoint}
+use Rattle.rb_core.specs.World.{Sender, Subscriber, World, begun, cursor, end_of}
+
+abbrev pub with_sender : World → ℕ → Sender → World
+with_sender old p sender = record old { senders = slice_set old.senders p sender }
+
+abbrev pub with_subscriber : World → ℕ → Subscriber → World
+with_subscriber old s subscriber = record old { subscribers = slice_set old.subscribers s subscriber }
+
+-- a number isn't one of these
+abbrev pub IsNew : List ℕ → ℕ → Type 0
+IsNew numbers n = AllByRecursion (λ m. m ≡ n → ⊥) numbers
+
+-- a thing is one of these
+abbrev pub IsIn : {A : Type 0} → A → List A → Type 0
+IsIn x [] = ⊥
+IsIn x (y ∷ rest) = (x ≡ y) ⊎ IsIn x rest
+
+-- nobody was offered a delivery of this number
+abbrev pub IsUnused : ℕ → Subscriber → Type 0
+IsUnused number q = AllByRecursion (λ offer. offer.number ≡ number → ⊥) q.offers
+
+-- ---- publishers
+
+-- a publisher comes
+abbrev pub Comes : World → World → Type 0
+Comes old new = new ≡ record old { senders = old.senders ++ record { text = []; staged = None; sent = [] } ∷ [] }
+
+-- a publisher's text and what it staged change, and nothing else
+pub record Stages (old new : World) : Type 0 where
+  pub p : ℕ
+  pub before : Sender
+  pub after : Sender
+  pub found : slice_get old.senders p ≡ Some before
+  pub sent : after.sent ≡ before.sent
+  pub kept : new ≡ with_sender old p after
+
+-- what a publisher staged is its next sending, and the last one that waits
+pub record Sends (old new : World) : Type 0 where
+  pub p : ℕ
+  pub sender : Sender
+  pub origin : Origin
+  pub body : List Section
+  pub found : slice_get old.senders p ≡ Some sender
+  pub staged : sender.staged ≡ Some body
+  pub item : Item
+  pub is : item ≡ record { publisher = p; own = suc (length sender.sent); origin = origin; body = body }
+  pub kept : new ≡ record (with_sender old p (record sender { staged = None; sent = sender.sent ++ item ∷ [] })) { intake = old.intake ++ item ∷ [] }
+
+-- ---- the sequence
+
+-- the first item that waits goes into the empty hand
+pub record Pulls (old new : World) : Type 0 where
+  pub item : Item
+  pub rest : List Item
+  pub empty : old.hand ≡ None
+  pub first : old.intake ≡ item ∷ rest
+  pub kept : new ≡ record old { hand = Some item; intake = rest }
+
+-- the item in hand becomes the last entry, under the next number, while the sequence isn't closed
+pub record Places (old new : World) : Type 0 where
+  pub item : Item
+  pub held : old.hand ≡ Some item
+  pub not_closed : old.closing ≡ None
+  pub kept : new ≡ record old { hand = None; sequence = old.sequence ++ record { number = suc (length old.sequence); item = item } ∷ [] }
+
+-- the sequence is closed: its last number is the closing number
+pub record Ends (old new : World) : Type 0 where
+  pub not_closed : old.closing ≡ None
+  pub kept : new ≡ record old { closing = Some (length old.sequence) }
+
+-- ---- subscriptions
+
+-- one begins behind a number that is placed, under a link that was never drawn before, with some tables
+pub record Begins (old new : World) : Type 0 where
+  pub start : ℕ
+  pub link : ℕ
+  pub base : tables.State
+  pub placed : start ≤ length old.sequence
+  pub new_link : IsNew old.links link
+  pub kept : new ≡ record old {
+    links = link ∷ old.links;
+    subscribers = old.subscribers ++ record { start = start; base = base; accepted = []; tables = base; link = link; closed = false; offers = [] } ∷ [];
+  }
+
+-- one is offered numbers that are placed, under its present link, as a delivery whose number was never used
+pub record Offers (old new : World) : Type 0 where
+  pub s : ℕ
+  pub subscriber : Subscriber
+  pub delivery : Delivery
+  pub found : slice_get old.subscribers s ≡ Some subscriber
+  pub linked : delivery.link ≡ subscriber.link
+  pub unused : AllByRecursion (IsUnused delivery.number) old.subscribers
+  pub behind : subscriber.start < delivery.first
+  pub order : delivery.first ≤ delivery.last
+  pub placed : delivery.last ≤ length old.sequence
+  pub kept : new ≡ with_subscriber old s (record subscriber { offers = subscriber.offers ++ delivery ∷ [] })
+
+-- one accepts a delivery that it was offered, as its end does
+pub record Takes (old new : World) : Type 0 where
+  pub s : ℕ
+  pub subscriber : Subscriber
+  pub delivery : Delivery
+  pub end : Endpoint
+  pub found : slice_get old.subscribers s ≡ Some subscriber
+  pub offered : IsIn delivery subscriber.offers
+  pub accepts : Accepts (end_of subscriber) old.sequence delivery end
+  pub kept : new ≡ with_subscriber old s (record subscriber { accepted = subscriber.accepted ++ brought (end_of subscriber) old.sequence delivery; tables = end.tables })
+
+-- one goes on under a link that was never drawn before
+pub record Reconnects (old new : World) : Type 0 where
+  pub s : ℕ
+  pub subscriber : Subscriber
+  pub link : ℕ
+  pub found : slice_get old.subscribers s ≡ Some subscriber
+  pub new_link : IsNew old.links link
+  pub kept : new ≡ record (with_subscriber old s (record subscriber { link = link })) { links = link ∷ old.links }
+
+-- one is closed
+pub record Leaves (old new : World) : Type 0 where
+  pub s : ℕ
+  pub subscriber : Subscriber
+  pub found : slice_get old.subscribers s ≡ Some subscriber
+  pub kept : new ≡ with_subscriber old s (record subscriber { closed = true })
+
+-- ---- all of these
+
+abbrev pub Moves : World → World → Type 0
+Moves old new =
+    (new ≡ old) ⊎ (Comes old new ⊎ (Stages old new ⊎ (Sends old new ⊎ (Pulls old new ⊎ (Places old new ⊎ (Ends old new
+    ⊎ (Begins old new ⊎ (Offers old new ⊎ (Takes old new ⊎ (Reconnects old new ⊎ Leaves old new))))))))))
+
+-- one move after another, through these worlds
+abbrev pub Leads : World → List World → World → Type 0
+Leads old [] new = new ≡ old
+Leads old (mid ∷ rest) new = Moves old mid × Leads mid rest new
