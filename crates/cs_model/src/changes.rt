@@ -18,6 +18,7 @@ use crate::copy::CopyIn;
 use crate::record::Record;
 use std::alloc::{AllocError, Global};
 use std::marker::Model;
+use std::mem;
 
 /// Changes of a table with so many columns, in order. Contracts see the number of columns and the list of changes.
 #[derive(Debug, Drop)]
@@ -120,6 +121,30 @@ impl Changes {
         self.bytes.extend_from_slice(text)?;
         self.count += changes;
         Ok(())
+    }
+
+    /// Takes the changes out, as their canonical bytes and how many they are, in one move: nothing is copied. The list is left with none.
+    pub fn take_bytes(&mut self, alloc: Global) -> (Vec<u8>, usize)
+        ensures columns { self.new.0 ≡ self.old.0 }
+        ensures left { self.new.1 ≡ [] }
+        ensures canonical { AreCanonical self.old.0 result.0.items }
+        ensures says { unpacked_changes self.old.0 result.0.items ≡ self.old.1 }
+        ensures count { result.1 ≡ length self.old.1 }
+    {
+        let count = mem::replace(&mut self.count, 0);
+        (mem::replace(&mut self.bytes, Vec::new(alloc)), count)
+    }
+
+    /// Gives canonical bytes of so many changes to a list that has none, in one move: nothing is copied, nor looked at.
+    pub fn put_bytes(&mut self, bytes: Vec<u8>, changes: usize)
+        requires none { self.old.1 ≡ [] }
+        requires canonical { AreCanonical self.old.0 bytes.items }
+        requires count { changes ≡ length (unpacked_changes self.old.0 bytes.items) }
+        ensures columns { self.new.0 ≡ self.old.0 }
+        ensures said { self.new.1 ≡ unpacked_changes self.old.0 bytes.items }
+    {
+        self.bytes = bytes;
+        self.count = changes;
     }
 
     /// How many columns the table has.

@@ -1,6 +1,6 @@
 //! Sections.
 
-ghost use Rattle.std.specs.Prelude.{◌≡◌, ◌++◌, ◌↔◌, IsTrue, OnErr, OnOk, length};
+ghost use Rattle.std.specs.Prelude.{◌≡◌, [], ◌++◌, ◌↔◌, IsTrue, OnErr, OnOk, length};
 ghost use Rattle.std.specs.Cmp;
 ghost use Rattle.std.specs.Cmp.{on_per, on_equiv};
 ghost use Rattle.std.specs.Cmp.Lexicographic.{pointwise, lists_per, lists_equiv, nat_list_eq_equiv};
@@ -80,6 +80,30 @@ impl Section {
         ensures err { OnErr result (self.new ≡ self.old) }
     {
         self.changes.append_canonical(text, changes)
+    }
+
+    /// Takes the changes out, as their canonical bytes and how many they are, in one move: nothing is copied. The section is
+    /// left with none.
+    pub fn take_bytes(&mut self, alloc: Global) -> (Vec<u8>, usize)
+        ensures left { self.new ≡ record self.old { changes = [] } }
+        ensures canonical { AreCanonical (length self.old.shape.flags) result.0.items }
+        ensures says { unpacked_changes (length self.old.shape.flags) result.0.items
+            ≡ self.old.changes }
+        ensures count { result.1 ≡ length self.old.changes }
+    {
+        self.changes.take_bytes(alloc)
+    }
+
+    /// Gives canonical bytes of so many changes to a section that has none, in one move: nothing is copied, nor looked at.
+    pub fn put_bytes(&mut self, bytes: Vec<u8>, changes: usize)
+        requires none { self.old.changes ≡ [] }
+        requires canonical { AreCanonical (length self.old.shape.flags) bytes.items }
+        requires count { changes ≡ length (unpacked_changes (length self.old.shape.flags) bytes.items) }
+        ensures { self.new ≡ record self.old {
+          changes = unpacked_changes (length self.old.shape.flags) bytes.items;
+        } }
+    {
+        self.changes.put_bytes(bytes, changes);
     }
 
     /// The table and its changes, without a copy.
