@@ -148,7 +148,7 @@ header_some sections r part e =
     let is = ok_is (sections ++ first ∷ [], a.0.1) part a.2 in
     omega (arith, length-append sections (first ∷ []), ap (λ (p : List Section × List ℕ). length p.0) is)
 
-part_some : (sections : List Section) (bytes : List ℕ) (part : List Section × List ℕ) → part_at sections bytes ≡ Ok part → 0 < length part.0
+pub part_some : (sections : List Section) (bytes : List ℕ) (part : List Section × List ℕ) → part_at sections bytes ≡ Ok part → 0 < length part.0
 part_some sections bytes part e = by_flags (last_flags sections) refl where
   by_flags : (o : Option (List ℕ)) → last_flags sections ≡ o → 0 < length part.0
   by_flags None none = header_some sections (shape_at bytes) part (sym (part_by sections bytes None none) ∙ e)

@@ -44,3 +44,4 @@ pub mod FeedLaws
 pub mod NameLaws
 pub mod SpotLaws
 pub mod WaitLaws
+pub mod GrowingLaws

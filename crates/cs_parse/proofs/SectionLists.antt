@@ -111,3 +111,9 @@ with_valid (section ∷ []) flags changes last valid all =
     let mine : AllByRecursion (IsChange section.shape) changes = subst (λ w. AllByRecursion (IsChangeBy w) changes) same all in
     ((valid.0.0, all_append (IsChange section.shape) section.changes changes valid.0.1 mine), tt)
 with_valid (section ∷ next ∷ sections) flags changes last valid all = (valid.0, with_valid (next ∷ sections) flags changes last valid.1 all)
+
+pub all_front : {X : Type 0} (P : X → Type 0) (xs ys : List X) → AllByRecursion P (xs ++ ys) → AllByRecursion P xs × AllByRecursion P ys
+all_front P [] ys all = (tt, all)
+all_front P (x ∷ xs) ys all =
+    let rest = all_front P xs ys all.1 in
+    ((all.0, rest.0), rest.1)

@@ -1,14 +1,15 @@
 -- As much as is whole.
-use Rattle.std.specs.Prelude.{◌≡◌, ℕ, zero, suc, ◌+◌, ◌-◌, ◌<◌, ◌≤◌, Bool, List, [], ◌∷◌, ◌++◌, length, drop, Option, Some, None, Result, Ok, Err, IsTrue, if◌then◌else◌}
+use Rattle.std.specs.Prelude.{◌≡◌, ℕ, zero, suc, ◌+◌, ◌-◌, ◌<◌, ◌≤◌, Bool, List, [], ◌∷◌, ◌++◌, length, take, drop, Option, Some, None, Result, Ok, Err, IsTrue, if◌then◌else◌}
 use Rattle.std.specs.List.{AllByRecursion}
 use Rattle.cs_model.specs.Bytes.{AreBytes}
 use Rattle.cs_model.specs.declared.change.Change.{Change}
 use Rattle.cs_model.specs.PackedChanges.{AreCanonical, Fit, changes_bytes, unpacked_changes}
+use Rattle.cs_model.specs.Changeset.{IsChangeset}
 use Rattle.cs_model.specs.Section.{Section}
 use Rattle.cs_parse.specs.declared.stop.Refusal.{Refusal}
 use Rattle.cs_parse.specs.declared.stop.Refusal.TheVariants.{Short, Bad}
 use Rattle.cs_parse.specs.declared.fault.ParseFault.{ParseFault}
-use Rattle.cs_parse.specs.Progress.{Progress, Reached, read_on, arrived, so_far, broken}
+use Rattle.cs_parse.specs.Progress.{Progress, Reached, last_flags, with_changes, read_on, arrived, so_far, broken}
 use Rattle.cs_parse.specs.declared.fault.ParseError.{ParseError}
 use Rattle.cs_parse.specs.declared.fault.ParseError.TheVariants.{Fault, Memory}
 use Rattle.cs_parse.specs.Reading.{change_at, ends_section}
@@ -64,7 +65,7 @@ pub record JoinsTable (flags text : List ℕ) (count : ℕ) (canonical : Bool) :
   pub packs : IsTrue canonical → AreCanonical (length flags) text
 
 abbrev pub Joins : Option (List ℕ) → List ℕ → ℕ → Bool → Type 0
-Joins None text count canonical = Unit {0}
+Joins None text count canonical = (text ≡ []) × (count ≡ 0)
 Joins (Some flags) text count canonical = JoinsTable flags text count canonical
 
 -- What is whole at the front of bytes behind sections, of which the last one's table has these key bytes: so many changes,
@@ -76,7 +77,7 @@ pub record HeadsTable (flags bytes : List ℕ) (count : ℕ) (rest : List ℕ) (
   pub reason : why ≡ (changes_front flags bytes).why
 
 abbrev pub Heads : Option (List ℕ) → List ℕ → ℕ → List ℕ → Bool → Option Refusal → Type 0
-Heads None bytes count rest canonical why = (rest ≡ bytes) × (why ≡ None)
+Heads None bytes count rest canonical why = (rest ≡ bytes) × (why ≡ None) × (count ≡ 0)
 Heads (Some flags) bytes count rest canonical why = HeadsTable flags bytes count rest canonical why
 
 -- What is whole behind these changes: sections, the bytes behind them, and why no more is read; none where a change isn't read.
@@ -95,19 +96,33 @@ fault_by taken None = None
 fault_by taken (Some Short) = None
 fault_by taken (Some (Bad left kind)) = Some (record { at = taken - left; kind = kind })
 
--- Sections grew by what bytes behind them spell. So many of these are read, and none of them is wrong, where `taken` bytes
--- are taken with them.
-pub record Grown (taken done : ℕ) (old new : List Section) (bytes : List ℕ) : Type 0 where
-  pub sections : new ≡ (read_on old bytes).sections
-  pub rest : drop done bytes ≡ (read_on old bytes).rest
-  pub inside : done ≤ length bytes
-  pub no_fault : (len : ℕ) → arrived len taken (read_on old bytes) ≡ so_far len taken (read_on old bytes)
+-- What bytes behind sections bring, none of which is wrong where `taken` bytes of the text are taken with them: the first `len`
+-- are changes of the last section, these sections stand behind them, and the rest is left.
+pub record Brings (taken len count : ℕ) (canonical : Bool) (more : List Section) (rest : List ℕ) (old : List Section) (bytes : List ℕ) : Type 0 where
+  pub inside : len ≤ length bytes
+  pub joins : Joins (last_flags old) (take len bytes) count canonical
+  pub sections : (read_on old bytes).sections ≡ with_changes old (said_by (last_flags old) (take len bytes)) ++ more
+  pub left : (read_on old bytes).rest ≡ rest
+  pub alone : more ≡ [] → rest ≡ drop len bytes
+  pub begun : 0 < length more → 0 < length bytes
+  pub valid : IsChangeset old → IsChangeset (with_changes old (said_by (last_flags old) (take len bytes))) × IsChangeset more
+  pub no_fault : (n : ℕ) → arrived n taken (read_on old bytes) ≡ so_far n taken (read_on old bytes)
 
--- the same, or the fault; without memory nothing changes
-abbrev pub Grows : Result ℕ ParseError → ℕ → List Section → List Section → List ℕ → Type 0
-Grows (Ok done) taken old new bytes = Grown taken done old new bytes
-Grows (Err (Fault fault)) taken old new bytes = (len : ℕ) → arrived len taken (read_on old bytes) ≡ broken fault
-Grows (Err Memory) taken old new bytes = new ≡ old
+-- Sections, and bytes behind them, grew by what these spell. None of them is wrong, where `taken` bytes of the text are taken with them.
+pub record Grown (taken : ℕ) (old new : List Section × List ℕ) : Type 0 where
+  pub sections : new.0 ≡ (read_on old.0 old.1).sections
+  pub rest : new.1 ≡ (read_on old.0 old.1).rest
+  pub no_fault : (n : ℕ) → arrived n taken (read_on old.0 old.1) ≡ so_far n taken (read_on old.0 old.1)
+
+-- the fault of bytes behind sections
+abbrev pub IsBroken : ParseError → ℕ → List Section → List ℕ → Type 0
+IsBroken (Fault fault) taken old bytes = (n : ℕ) → arrived n taken (read_on old bytes) ≡ broken fault
+IsBroken Memory taken old bytes = Unit {0}
+
+-- Sections and bytes that grew, or the fault; where there is one, or no memory, nothing changes.
+abbrev pub Grows : {A : Type 0} → Result A ParseError → ℕ → List Section × List ℕ → List Section × List ℕ → Type 0
+Grows (Ok done) taken old new = Grown taken old new
+Grows (Err error) taken old new = (new ≡ old) × IsBroken error taken old.0 old.1
 
 -- bytes within the limit were taken in, none of which is wrong
 pub record TookIn (old : Progress) (bytes : List ℕ) (new : Progress) (reached : Reached) : Type 0 where

@@ -11,3 +11,4 @@ pub mod Pieces
 pub mod Progress
 pub mod Front
 pub mod Spot
+pub mod Growing

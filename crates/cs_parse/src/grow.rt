@@ -1,93 +1,21 @@
-//! A changeset that grows by the bytes behind it.
+//! What bytes behind sections bring.
 
-ghost use Rattle.std.specs.Prelude.{◌≡◌, ◌≤◌, ◌<◌, ◌++◌, length, IfOk, OnOk, OnErr, List, Option, Some, None, IsTrue};
+ghost use Rattle.std.specs.Prelude.{◌≡◌, IfOk, IfErr, Option, List, Some, IsTrue};
 ghost use Rattle.cs_model.specs.Section.{Section};
-ghost use Rattle.cs_model.specs.Changeset.{IsChangeset};
-ghost use Rattle.cs_parse.specs.Front.{fault_by, Grows, Heads, Tails, Joins, JoinsTable, said_by, Waits, KeepsSpot};
-ghost use Rattle.cs_parse.specs.Progress.{last_flags, with_changes, read_on};
+ghost use Rattle.cs_parse.specs.Front.{fault_by, Brings, IsBroken, Grows, Heads, Tails, Waits, KeepsSpot};
+ghost use Rattle.cs_parse.specs.Progress.{last_flags, read_on};
 ghost use Rattle.cs_parse.specs.declared.stop.Refusal.TheVariants.{Short};
 
 use crate::change::{is_over, whole_changes};
 use crate::fault::{ParseError, ParseFault};
+use crate::growing::Growing;
 use crate::name::header_short;
 use crate::section::whole_sections;
 use crate::spot::{Spot, still_short};
 use crate::stop::Refusal;
+use cs_model::Section;
 use cs_model::laws::{changes_fit, spelled_is_said};
-use cs_model::{Changeset, Section, Seq};
 use std::alloc::{AllocError, Global};
-use std::mem;
-
-// Adds the changes that a text says: in one copy where it is known to be canonical, and else respelled.
-fn add_changes(
-    section: &mut Section,
-    text: &[u8],
-    count: usize,
-    canonical: bool,
-) -> Result<(), AllocError>
-    requires { JoinsTable section.old.shape.flags text.now count canonical }
-    ensures ok { OnOk result (section.new ≡ record section.old {
-      changes
-          = section.old.changes ++ said_by (Some section.old.shape.flags) text.now;
-    }) }
-    ensures err { OnErr result (section.new ≡ section.old) }
-{
-    if canonical {
-        section.append_canonical(text, count)
-    } else {
-        section.append_text(text)
-    }
-}
-
-// Adds changes to the last section, and sections behind it.
-fn add_sections(
-    sections: &mut Vec<Section>,
-    text: &[u8],
-    count: usize,
-    canonical: bool,
-    more: Vec<Section>,
-) -> Result<(), AllocError>
-    requires { Joins (last_flags sections.old.items) text.now count canonical }
-    ensures ok { OnOk result (sections.new.items
-        ≡ with_changes sections.old.items (said_by (last_flags sections.old.items) text.now)
-        ++ more.items) }
-    ensures err { OnErr result (sections.new.items ≡ sections.old.items) }
-{
-    let mut more = more;
-    let len = sections.len();
-    sections.append(&mut more)?;
-    if len == 0 {
-        return Ok(());
-    }
-    let added = add_changes(&mut sections[len - 1], text, count, canonical);
-    if added.is_err() {
-        sections.truncate(len);
-    }
-    added
-}
-
-// the same of a changeset
-fn add(
-    alloc: Global,
-    changeset: &mut Changeset,
-    text: &[u8],
-    count: usize,
-    canonical: bool,
-    more: Vec<Section>,
-) -> Result<(), AllocError>
-    requires joins { Joins (last_flags changeset.old) text.now count canonical }
-    requires valid { IsChangeset
-        (with_changes changeset.old (said_by (last_flags changeset.old) text.now) ++ more.items) }
-    ensures ok { OnOk result (changeset.new
-        ≡ with_changes changeset.old (said_by (last_flags changeset.old) text.now) ++ more.items) }
-    ensures err { OnErr result (changeset.new ≡ changeset.old) }
-{
-    let empty = Changeset::from_seq(Seq::from_vec(Vec::new(alloc)));
-    let mut sections = mem::replace(changeset, empty).into_seq().into_vec();
-    let added = add_sections(&mut sections, text, count, canonical, more);
-    *changeset = Changeset::from_seq(Seq::from_vec(sections));
-    added
-}
 
 // The whole changes at the front of bytes behind these sections, which are of the last one's table: how many, the bytes behind
 // them, whether their own are the canonical ones, and why the next one isn't read.
@@ -134,8 +62,9 @@ fn wrong_in(taken: usize, why: Option<Refusal>) -> Option<ParseFault>
 /// that these bytes aren't gone over again when more come. Where it is false nothing is known of the spot.
 pub fn still_waits(sections: &[Section], bytes: &[u8], spot: &mut Spot) -> bool
     requires { Waits (last_flags sections.now) bytes.now spot.old }
-    ensures waits { IsTrue result → (others : List Section) → last_flags others ≡ last_flags sections.now
-        → read_on others bytes.now ≡ record { sections = others; rest = bytes.now; why = Some Short } }
+    ensures waits { IsTrue result → (others : List Section)
+        → last_flags others ≡ last_flags sections.now → read_on others bytes.now
+        ≡ record { sections = others; rest = bytes.now; why = Some Short } }
     ensures spot { IsTrue result → KeepsSpot (last_flags sections.now) bytes.now spot.new }
 {
     if bytes.is_empty() {
@@ -150,24 +79,46 @@ pub fn still_waits(sections: &[Section], bytes: &[u8], spot: &mut Spot) -> bool
     still_short(&section.shape().flags, bytes, spot)
 }
 
-/// Adds to a changeset what bytes behind it spell, as far as they are whole, and answers how many bytes that is. `taken` is
-/// how many bytes of the text are taken with these, so that a fault's place can be told. An `Err` leaves the changeset as it was.
-pub fn grow(
+// What these bytes bring, read aside: how many of them are changes of the last section, how many changes these are, whether their
+// bytes are the canonical ones, the sections behind them, and the bytes that are left. It is the same behind all sections of which the last
+// one's table is this.
+fn brought<'a>(
     alloc: Global,
-    changeset: &mut Changeset,
-    bytes: &[u8],
+    sections: &[Section],
+    bytes: &'a [u8],
     taken: usize,
-) -> Result<usize, ParseError>
-    ensures { Grows result taken changeset.old changeset.new bytes.now }
+) -> Result<(usize, usize, bool, Vec<Section>, &'a [u8]), ParseError>
+    ensures ok { IfOk result (λ x. (others : List Section) → last_flags others ≡ last_flags sections.now
+        → Brings taken x.0 x.1 x.2 x.3.items x.4.now others bytes.now) }
+    ensures err { IfErr result (λ error. (others : List Section)
+        → last_flags others ≡ last_flags sections.now → IsBroken error taken others bytes.now) }
 {
     changes_fit();
     spelled_is_said();
-    let (count, behind, canonical, stopped) = head_of(changeset.sections(), bytes);
+    let (count, behind, canonical, stopped) = head_of(sections, bytes);
     let (more, rest, why) = tail_of(alloc, stopped, behind)?;
     if let Some(fault) = wrong_in(taken, why) {
         return Err(ParseError::Fault(fault));
     }
-    let (text, _) = bytes.split_at(bytes.len() - behind.len());
-    add(alloc, changeset, text, count, canonical, more)?;
-    Ok(bytes.len() - rest.len())
+    Ok((bytes.len() - behind.len(), count, canonical, more, rest))
+}
+
+/// Reads the bytes that wait, as far as they are whole, and adds what they spell to the sections. `taken` is how many bytes of
+/// the text are taken with these, so that a fault's place can be told. An `Err` leaves all as it was.
+pub fn grow(alloc: Global, text: &mut Growing, taken: usize) -> Result<(), ParseError>
+    ensures { Grows result taken text.old text.new }
+{
+    let (len, count, canonical, more, rest) = brought(
+        alloc,
+        text.sections(),
+        text.waiting(),
+        taken,
+    )?;
+    if more.is_empty() {
+        text.keep(alloc, len, count, canonical)?;
+        return Ok(());
+    }
+    let others = Growing::of(alloc, more, rest)?;
+    text.join(alloc, len, count, canonical, others)?;
+    Ok(())
 }

@@ -8,6 +8,7 @@ mod change;
 mod fault;
 mod field;
 mod grow;
+mod growing;
 mod header;
 pub mod laws;
 mod name;

@@ -1,6 +1,6 @@
 //! A text that comes in pieces.
 
-ghost use Rattle.std.specs.Prelude.{◌≡◌, ◌≤◌, ◌+◌, [], ◌++◌, drop, length, IfOk, IfErr, IsOk, OnOk, OnErr, ℕ, List, None, Some, Ok, Err};
+ghost use Rattle.std.specs.Prelude.{◌≡◌, ◌≤◌, ◌+◌, ◌++◌, length, IfOk, IfErr, IsOk, OnOk, OnErr, ℕ, List, None, Some, Ok, Err};
 ghost use Rattle.cs_model.specs.Changeset.{most_bytes};
 ghost use Rattle.cs_model.specs.Text.{Spells};
 ghost use Rattle.cs_parse.specs.Answer.{Shows};
@@ -13,10 +13,11 @@ ghost use Rattle.cs_parse.specs.declared.fault.ParseFault.{ParseFault};
 
 use crate::fault::{FaultKind, ParseError, ParseFault};
 use crate::grow::{grow, still_waits};
+use crate::growing::Growing;
 use crate::laws::progress_tells;
 use crate::spot::Spot;
 use crate::whole::MOST_BYTES;
-use cs_model::{Changeset, Seq};
+use cs_model::Changeset;
 use std::alloc::Global;
 use std::marker::Model;
 use std::mem;
@@ -26,8 +27,7 @@ use std::mem;
 /// text that a parser with this progress may have taken (`Took`), so it doesn't depend on how the text was cut.
 #[derive(Debug, Drop)]
 pub struct PieceParser {
-    changeset: Changeset,
-    pending: Vec<u8>,
+    text: Growing,
     offset: usize,
     fault: Option<ParseFault>,
     // how far the change that waits was gone over
@@ -45,29 +45,9 @@ impl Model for PieceParser {
 
     ghost coded = { progress_code };
 
-    ghost view = { λ p. record { sections = p.changeset; pending = p.pending.items; offset = p.offset; fault = p.fault } };
+    ghost view = { λ p. record { sections = p.text.0; pending = p.text.1; offset = p.offset; fault = p.fault } };
 
-    ghost invariant = { λ p. (p.offset ≤ most_bytes) × KeepsSpot (last_flags p.changeset) p.pending.items p.spot };
-}
-
-// no sections
-fn no_changes(alloc: Global) -> Changeset
-    ensures { result ≡ [] }
-{
-    Changeset::from_seq(Seq::from_vec(Vec::new(alloc)))
-}
-
-// Takes the first `len` bytes away. The bytes of a long value, which wait for more, aren't moved.
-fn remove_front(bytes: &mut Vec<u8>, len: usize)
-    requires { len ≤ length bytes.old.items }
-    ensures { bytes.new.items ≡ drop len bytes.old.items }
-{
-    if len == 0 {
-        return;
-    }
-    let all = bytes.len();
-    bytes.as_mut_slice().copy_within(len..all, 0);
-    bytes.truncate(all - len);
+    ghost invariant = { λ p. (p.offset ≤ most_bytes) × KeepsSpot (last_flags p.text.0) p.text.1 p.spot };
 }
 
 impl PieceParser {
@@ -77,8 +57,7 @@ impl PieceParser {
         ensures text { Took result [] }
     {
         PieceParser {
-            changeset: no_changes(alloc),
-            pending: Vec::new(alloc),
+            text: Growing::new(alloc),
             offset: 0,
             fault: None,
             spot: Spot::start(),
@@ -140,22 +119,21 @@ impl PieceParser {
         requires { self.old.offset + length bytes.now ≤ most_bytes }
         ensures { TakesIn result self.old bytes.now self.new }
     {
-        let start = self.pending.len();
-        self.pending.extend_from_slice(bytes)?;
+        let start = self.text.waiting().len();
+        self.text.extend(alloc, bytes)?;
         let taken = self.offset + bytes.len();
-        if still_waits(self.changeset.sections(), &self.pending, &mut self.spot) {
+        if still_waits(self.text.sections(), self.text.waiting(), &mut self.spot) {
             self.offset = taken;
             return Ok(());
         }
         self.spot = Spot::start();
-        match grow(alloc, &mut self.changeset, &self.pending, taken) {
-            Ok(read) => {
-                remove_front(&mut self.pending, read);
+        match grow(alloc, &mut self.text, taken) {
+            Ok(()) => {
                 self.offset = taken;
                 Ok(())
             }
             Err(error) => {
-                self.pending.truncate(start);
+                self.text.shorten(alloc, start);
                 Err(error)
             }
         }
@@ -167,8 +145,7 @@ impl PieceParser {
         ensures broken { self.new ≡ broken fault }
         ensures told { result ≡ ParseError.Fault fault }
     {
-        self.changeset = no_changes(alloc);
-        self.pending = Vec::new(alloc);
+        self.text = Growing::new(alloc);
         self.offset = fault.at;
         self.fault = Some(fault);
         self.spot = Spot::start();
@@ -194,13 +171,13 @@ impl PieceParser {
         if let Some(fault) = self.fault {
             return Err(fault);
         }
-        if self.pending.is_empty() {
-            return Ok(&self.changeset);
+        match self.text.whole() {
+            Some(changeset) => Ok(changeset),
+            None => Err(ParseFault {
+                at: self.offset,
+                kind: FaultKind::Truncated,
+            }),
         }
-        Err(ParseFault {
-            at: self.offset,
-            kind: FaultKind::Truncated,
-        })
     }
 
     /// The changeset that `finish` shows, without a copy. The parser is left as a new one.
@@ -220,8 +197,8 @@ impl PieceParser {
         ensures new { self.new ≡ nothing }
     {
         let parser = mem::replace(self, PieceParser::new(alloc));
-        let PieceParser { changeset, .. } = parser;
-        changeset
+        let PieceParser { text, .. } = parser;
+        text.into_changeset()
     }
 
     /// What `finish` shows, as the parser's end: the changeset without a copy.
@@ -239,8 +216,8 @@ impl PieceParser {
         if let Err(fault) = self.finish() {
             return Err(fault);
         }
-        let PieceParser { changeset, .. } = self;
-        Ok(changeset)
+        let PieceParser { text, .. } = self;
+        Ok(text.into_changeset())
     }
 
     /// How many bytes were taken so far; after a fault its place.

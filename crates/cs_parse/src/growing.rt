@@ -1,0 +1,442 @@
+//! Sections that grow by the bytes behind them.
+
+ghost use Rattle.std.specs.Prelude.{◌≡◌, ◌≤◌, ◌<◌, ◌+◌, [], ◌++◌, take, drop, length, IfOk, OnOk, OnErr, MatchOption};
+ghost use Rattle.std.specs.List.{AllByRecursion};
+ghost use Rattle.cs_model.specs.Changeset.{IsChangeset};
+ghost use Rattle.cs_model.specs.PackedChanges.{changes_bytes, Fit, unpacked_changes};
+ghost use Rattle.cs_parse.specs.Front.{Joins};
+ghost use Rattle.cs_parse.specs.Growing.{with_text, last_changes, Keeps, Opened, Settled};
+ghost use Rattle.cs_parse.specs.Progress.{last_flags};
+
+use cs_model::{Changes, Changeset, Section, Seq};
+use std::alloc::{AllocError, Global};
+use std::marker::Model;
+use std::mem;
+
+/// Sections, of which the last one may go on, and the bytes of a header or a change that isn't whole yet. Contracts see both
+/// lists. While bytes wait, the last section's changes stand in front of them, in one piece of memory, so that a change that
+/// becomes whole is where it stays.
+#[derive(Debug, Drop)]
+pub struct Growing {
+    // the last section lacks the changes that stand in `bytes`
+    changeset: Changeset,
+    bytes: Vec<u8>,
+    // so many of the bytes are those of whole changes, in their canonical form
+    kept: usize,
+    // and so many changes they are
+    count: usize,
+}
+
+impl Model for Growing {
+    ghost use Rattle.std.specs.Prelude.{ℕ, List, take, drop};
+    ghost use Rattle.std.specs.Coded.{coded×, coded_list, coded_ℕ};
+    ghost use Rattle.cs_model.specs.Section.{Section, section_code};
+    ghost use Rattle.cs_parse.specs.Growing.{with_text, IsGrowing};
+
+    ghost Value = { List Section × List ℕ };
+
+    ghost coded = { coded× (coded_list section_code) (coded_list coded_ℕ) };
+
+    ghost view = { λ g. (with_text g.changeset (take g.kept g.bytes.items), drop g.kept g.bytes.items) };
+
+    ghost invariant = { λ g. IsGrowing g.changeset g.bytes.items g.kept g.count };
+}
+
+// no sections
+fn no_changes(alloc: Global) -> Changeset
+    ensures { result ≡ [] }
+{
+    Changeset::from_seq(Seq::from_vec(Vec::new(alloc)))
+}
+
+// Adds bytes, and behind them those that stand from `from` on once more. Where memory runs out it may have added some.
+fn add_behind(bytes: &mut Vec<u8>, by: &[u8], from: usize) -> Result<(), AllocError>
+    requires { from ≤ length bytes.old.items }
+    ensures ok { OnOk result (bytes.new.items
+        ≡ bytes.old.items ++ (by.now ++ drop from bytes.old.items)) }
+    ensures adds { take (length bytes.old.items) bytes.new.items ≡ bytes.old.items }
+{
+    let all = bytes.len();
+    bytes.extend_from_slice(by)?;
+    bytes.extend_from_within(from..all)
+}
+
+// Puts other bytes in the place of the `len` from `start` on. What stands behind them is moved with them, once.
+fn replace_part(bytes: &mut Vec<u8>, start: usize, len: usize, by: &[u8]) -> Result<(), AllocError>
+    requires { start + len ≤ length bytes.old.items }
+    ensures ok { OnOk result (bytes.new.items
+        ≡ take start bytes.old.items ++ (by.now ++ drop (start + len) bytes.old.items)) }
+    ensures err { OnErr result (bytes.new.items ≡ bytes.old.items) }
+{
+    let all = bytes.len();
+    let added = add_behind(bytes, by, start + len);
+    if added.is_err() {
+        bytes.truncate(all);
+        return added;
+    }
+    let end = bytes.len();
+    bytes.as_mut_slice().copy_within(all..end, start);
+    bytes.truncate(start + (end - all));
+    Ok(())
+}
+
+// Gives the `len` bytes from `start` on, which say changes, their canonical form, and answers how many they are then.
+fn respell(
+    alloc: Global,
+    bytes: &mut Vec<u8>,
+    columns: usize,
+    start: usize,
+    len: usize,
+) -> Result<usize, AllocError>
+    requires inside { start + len ≤ length bytes.old.items }
+    requires fit { AllByRecursion (Fit columns)
+        (unpacked_changes columns (take len (drop start bytes.old.items))) }
+    ensures ok { IfOk result (λ own. bytes.new.items ≡ take start bytes.old.items
+        ++ (changes_bytes (unpacked_changes columns (take len (drop start bytes.old.items)))
+        ++ drop (start + len) bytes.old.items)) }
+    ensures own { IfOk result (λ own. own
+        ≡ length (changes_bytes (unpacked_changes columns (take len (drop start bytes.old.items))))) }
+    ensures err { OnErr result (bytes.new.items ≡ bytes.old.items) }
+{
+    let mut changes = Changes::new(alloc, columns);
+    let (_, behind) = bytes.split_at(start);
+    let (text, _) = behind.split_at(len);
+    changes.append_text(text)?;
+    replace_part(bytes, start, len, changes.bytes())?;
+    Ok(changes.bytes().len())
+}
+
+// Sees to it that the `len` bytes from `kept` on, the changes of the last one of these sections, have their canonical form, and
+// answers how many they are then. Where they have it nothing is copied.
+fn settle(
+    alloc: Global,
+    sections: &[Section],
+    bytes: &mut Vec<u8>,
+    kept: usize,
+    len: usize,
+    count: usize,
+    canonical: bool,
+) -> Result<usize, AllocError>
+    requires inside { kept + len ≤ length bytes.old.items }
+    requires joins { Joins (last_flags sections.now) (take len (drop kept bytes.old.items)) count canonical }
+    ensures ok { IfOk result (λ own.
+        Settled (last_flags sections.now) kept len own bytes.old.items bytes.new.items) }
+    ensures err { OnErr result (bytes.new.items ≡ bytes.old.items) }
+{
+    if canonical {
+        return Ok(len);
+    }
+    match sections.last() {
+        None => Ok(len),
+        Some(section) => respell(alloc, bytes, section.shape().flags.len(), kept, len),
+    }
+}
+
+// Takes the last section's changes out, as their bytes, in one move.
+fn take_last(alloc: Global, changeset: &mut Changeset) -> (Vec<u8>, usize)
+    ensures { Opened changeset.old changeset.new result.0.items result.1 }
+{
+    let mut sections = mem::replace(changeset, no_changes(alloc))
+        .into_seq()
+        .into_vec();
+    let taken = take_from(alloc, &mut sections);
+    *changeset = Changeset::from_seq(Seq::from_vec(sections));
+    taken
+}
+
+// the same of a list of sections
+fn take_from(alloc: Global, sections: &mut Vec<Section>) -> (Vec<u8>, usize)
+    requires { IsChangeset sections.old.items }
+    ensures opened { Opened sections.old.items sections.new.items result.0.items result.1 }
+    ensures valid { IsChangeset sections.new.items }
+{
+    let len = sections.len();
+    if len == 0 {
+        return (Vec::new(alloc), 0);
+    }
+    sections[len - 1].take_bytes(alloc)
+}
+
+// Gives the last one of the first `len` sections, which has no changes, those of these bytes, in one move.
+fn put_at(alloc: Global, changeset: &mut Changeset, len: usize, bytes: Vec<u8>, count: usize)
+    requires inside { len ≤ length changeset.old }
+    requires lacks { last_changes (take len changeset.old) ≡ [] }
+    requires keeps { Keeps (last_flags (take len changeset.old)) bytes.items count }
+    requires valid { IsChangeset
+        (with_text (take len changeset.old) bytes.items ++ drop len changeset.old) }
+    ensures { changeset.new
+        ≡ with_text (take len changeset.old) bytes.items ++ drop len changeset.old }
+{
+    let mut sections = mem::replace(changeset, no_changes(alloc))
+        .into_seq()
+        .into_vec();
+    put_into(&mut sections, len, bytes, count);
+    *changeset = Changeset::from_seq(Seq::from_vec(sections));
+}
+
+// the same of a list of sections
+fn put_into(sections: &mut Vec<Section>, len: usize, bytes: Vec<u8>, count: usize)
+    requires inside { len ≤ length sections.old.items }
+    requires lacks { last_changes (take len sections.old.items) ≡ [] }
+    requires keeps { Keeps (last_flags (take len sections.old.items)) bytes.items count }
+    ensures { sections.new.items
+        ≡ with_text (take len sections.old.items) bytes.items ++ drop len sections.old.items }
+{
+    if len == 0 {
+        return;
+    }
+    sections[len - 1].put_bytes(bytes, count);
+}
+
+// Gives the last section the changes that it lacks, in one move.
+fn put_last(alloc: Global, changeset: &mut Changeset, bytes: Vec<u8>, count: usize)
+    requires lacks { last_changes changeset.old ≡ [] }
+    requires keeps { Keeps (last_flags changeset.old) bytes.items count }
+    requires valid { IsChangeset (with_text changeset.old bytes.items) }
+    ensures { changeset.new ≡ with_text changeset.old bytes.items }
+{
+    let len = changeset.sections().len();
+    put_at(alloc, changeset, len, bytes, count);
+}
+
+// adds sections
+fn append(alloc: Global, changeset: &mut Changeset, more: Changeset) -> Result<(), AllocError>
+    ensures ok { OnOk result (changeset.new ≡ changeset.old ++ more) }
+    ensures valid { IsChangeset more }
+    ensures err { OnErr result (changeset.new ≡ changeset.old) }
+{
+    let mut more = more.into_seq().into_vec();
+    let mut sections = mem::replace(changeset, no_changes(alloc))
+        .into_seq()
+        .into_vec();
+    let added = sections.append(&mut more);
+    *changeset = Changeset::from_seq(Seq::from_vec(sections));
+    added
+}
+
+// leaves the first `len` sections
+fn cut(alloc: Global, changeset: &mut Changeset, len: usize)
+    ensures { changeset.new ≡ take len changeset.old }
+{
+    let mut sections = mem::replace(changeset, no_changes(alloc))
+        .into_seq()
+        .into_vec();
+    sections.truncate(len);
+    *changeset = Changeset::from_seq(Seq::from_vec(sections));
+}
+
+impl Growing {
+    /// No sections, and no memory yet.
+    pub fn new(alloc: Global) -> Growing
+        ensures { result ≡ ([], []) }
+    {
+        Growing::whole_of(alloc, no_changes(alloc))
+    }
+
+    // these sections, where nothing waits
+    fn whole_of(alloc: Global, changeset: Changeset) -> Growing
+        requires { IsChangeset changeset }
+        ensures { result ≡ (changeset, []) }
+    {
+        Growing {
+            changeset,
+            bytes: Vec::new(alloc),
+            kept: 0,
+            count: 0,
+        }
+    }
+
+    /// These sections, and bytes behind them.
+    pub fn of(alloc: Global, sections: Vec<Section>, bytes: &[u8]) -> Result<Growing, AllocError>
+        requires { IsChangeset sections.items }
+        ensures { IfOk result (λ text. text ≡ (sections.items, bytes.now)) }
+    {
+        let mut text = Growing::whole_of(alloc, Changeset::from_seq(Seq::from_vec(sections)));
+        text.extend(alloc, bytes)?;
+        Ok(text)
+    }
+
+    /// The bytes that wait.
+    pub fn waiting(&self) -> &[u8]
+        ensures { result.now ≡ self.now.1 }
+    {
+        let (_, waiting) = self.bytes.split_at(self.kept);
+        waiting
+    }
+
+    /// The sections, of which the last one may lack changes.
+    pub fn sections(&self) -> &[Section]
+        ensures flags { last_flags result.now ≡ last_flags self.now.0 }
+        ensures valid { IsChangeset self.now.0 }
+    {
+        self.changeset.sections()
+    }
+
+    /// The sections, where nothing waits.
+    pub fn whole(&self) -> Option<&Changeset>
+        ensures { MatchOption result (0 < length self.now.1)
+            (λ changeset. (changeset.now ≡ self.now.0) × (self.now.1 ≡ [])) }
+    {
+        if self.bytes.is_empty() {
+            Some(&self.changeset)
+        } else {
+            None
+        }
+    }
+
+    /// The sections, without a copy.
+    pub fn into_changeset(self) -> Changeset
+        requires { self.1 ≡ [] }
+        ensures { result ≡ self.0 }
+    {
+        let Growing { changeset, .. } = self;
+        changeset
+    }
+
+    /// Adds bytes behind those that wait. Where none did, the last section's changes are moved in front of them. An `Err` leaves all as it was.
+    pub fn extend(&mut self, alloc: Global, piece: &[u8]) -> Result<(), AllocError>
+        ensures ok { OnOk result (self.new ≡ (self.old.0, self.old.1 ++ piece.now)) }
+        ensures err { OnErr result (self.new ≡ self.old) }
+    {
+        if piece.is_empty() {
+            return Ok(());
+        }
+        if self.bytes.is_empty() {
+            return self.begin(alloc, piece);
+        }
+        self.bytes.extend_from_slice(piece)
+    }
+
+    // the first bytes that wait
+    fn begin(&mut self, alloc: Global, piece: &[u8]) -> Result<(), AllocError>
+        requires none { self.old.1 ≡ [] }
+        requires some { 0 < length piece.now }
+        ensures ok { OnOk result (self.new ≡ (self.old.0, piece.now)) }
+        ensures err { OnErr result (self.new ≡ self.old) }
+    {
+        let (mut bytes, count) = take_last(alloc, &mut self.changeset);
+        let kept = bytes.len();
+        match bytes.extend_from_slice(piece) {
+            Ok(()) => {}
+            Err(error) => {
+                put_last(alloc, &mut self.changeset, bytes, count);
+                return Err(error);
+            }
+        }
+        self.bytes = bytes;
+        self.kept = kept;
+        self.count = count;
+        Ok(())
+    }
+
+    /// Leaves the first `len` of the bytes that wait.
+    pub fn shorten(&mut self, alloc: Global, len: usize)
+        requires { len ≤ length self.old.1 }
+        ensures { self.new ≡ (self.old.0, take len self.old.1) }
+    {
+        if len > 0 {
+            self.bytes.truncate(self.kept + len);
+            return;
+        }
+        if self.bytes.is_empty() {
+            return;
+        }
+        let mut bytes = mem::replace(&mut self.bytes, Vec::new(alloc));
+        bytes.truncate(self.kept);
+        put_last(alloc, &mut self.changeset, bytes, self.count);
+        self.kept = 0;
+        self.count = 0;
+    }
+
+    /// The first `len` of the bytes that wait become changes of the last section. Where they are canonical nothing is copied. An `Err`
+    /// leaves all as it was.
+    pub fn keep(
+        &mut self,
+        alloc: Global,
+        len: usize,
+        count: usize,
+        canonical: bool,
+    ) -> Result<(), AllocError>
+        requires inside { len ≤ length self.old.1 }
+        requires joins { Joins (last_flags self.old.0) (take len self.old.1) count canonical }
+        requires valid { IsChangeset (with_text self.old.0 (take len self.old.1)) }
+        ensures ok { OnOk result (self.new
+            ≡ (with_text self.old.0 (take len self.old.1), drop len self.old.1)) }
+        ensures err { OnErr result (self.new ≡ self.old) }
+    {
+        if len == 0 {
+            return Ok(());
+        }
+        let sections = self.changeset.sections();
+        let own = settle(
+            alloc,
+            sections,
+            &mut self.bytes,
+            self.kept,
+            len,
+            count,
+            canonical,
+        )?;
+        self.kept += own;
+        self.count += count;
+        if self.kept < self.bytes.len() {
+            return Ok(());
+        }
+        let bytes = mem::replace(&mut self.bytes, Vec::new(alloc));
+        put_last(alloc, &mut self.changeset, bytes, self.count);
+        self.kept = 0;
+        self.count = 0;
+        Ok(())
+    }
+
+    /// As `keep`, where other sections stand behind these changes, and other bytes wait behind those. An `Err` leaves all as it was.
+    pub fn join(
+        &mut self,
+        alloc: Global,
+        len: usize,
+        count: usize,
+        canonical: bool,
+        others: Growing,
+    ) -> Result<(), AllocError>
+        requires waits { 0 < length self.old.1 }
+        requires inside { len ≤ length self.old.1 }
+        requires joins { Joins (last_flags self.old.0) (take len self.old.1) count canonical }
+        requires valid { IsChangeset (with_text self.old.0 (take len self.old.1)) }
+        requires some { 0 < length others.0 }
+        ensures ok { OnOk result (self.new
+            ≡ (with_text self.old.0 (take len self.old.1) ++ others.0, others.1)) }
+        ensures err { OnErr result (self.new ≡ self.old) }
+    {
+        let front = self.changeset.sections().len();
+        let Growing {
+            changeset: more,
+            bytes: behind,
+            kept,
+            count: held,
+        } = others;
+        append(alloc, &mut self.changeset, more)?;
+        let (sections, _) = self.changeset.sections().split_at(front);
+        let settled = settle(
+            alloc,
+            sections,
+            &mut self.bytes,
+            self.kept,
+            len,
+            count,
+            canonical,
+        );
+        let own = match settled {
+            Ok(own) => own,
+            Err(error) => {
+                cut(alloc, &mut self.changeset, front);
+                return Err(error);
+            }
+        };
+        let mut bytes = mem::replace(&mut self.bytes, behind);
+        bytes.truncate(self.kept + own);
+        put_at(alloc, &mut self.changeset, front, bytes, self.count + count);
+        self.kept = kept;
+        self.count = held;
+        Ok(())
+    }
+}
