@@ -15,6 +15,7 @@ mod name;
 mod number;
 mod pieces;
 mod record;
+mod respell;
 mod rule;
 mod section;
 mod spot;

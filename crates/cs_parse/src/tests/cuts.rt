@@ -184,6 +184,35 @@ fn three_pieces_leave_no_trace(rt: HostRuntime) -> Result<(), Fail> {
     goes_in_three(&rt, alloc, &WHOLE)
 }
 
+// In a table `t` two small INSERTs, of which the first isn't canonical, an INSERT of a BLOB of 300,000 bytes, what is given, and a DELETE;
+// and an INSERT in a table `u`.
+fn with_blob(alloc: Global, next: &[u8]) -> Result<Vec<u8>, AllocError> {
+    let small = joined(alloc, &LOOSE, &INSERT[6..])?;
+    let front = [0x12, 0, 1, 0, 0, 0, 0, 0, 0, 0, 2, 4, 0x92, 0xa7, 0x60];
+    let begun = joined(alloc, &small, &front)?;
+    let text = joined(alloc, &begun, &repeated(alloc, 0x61, 300_000)?)?;
+    let longer = joined(alloc, &text, next)?;
+    joined(alloc, &longer, &WHOLE[35..])
+}
+
+// in pieces of 1,000 bytes
+fn goes_in_thousands(rt: &impl Abort, alloc: Global, text: &[u8]) -> Result<(), Fail> {
+    let mut parser = PieceParser::new(alloc);
+    for piece in text.chunks(1000) {
+        feeds(rt, alloc, &mut parser, piece, Ok(()));
+    }
+    assert!(rt; as_whole(alloc, &parser, text)?);
+    Ok(())
+}
+
+// A long value stays where its bytes came, or is respelled with a change behind it that isn't canonical.
+#[test]
+fn long_values_come_in_pieces(rt: HostRuntime) -> Result<(), Fail> {
+    let alloc = rt.alloc();
+    goes_in_thousands(&rt, alloc, &with_blob(alloc, &[])?)?;
+    goes_in_thousands(&rt, alloc, &with_blob(alloc, &LOOSE[7..])?)
+}
+
 // Taken out, the changeset is the one that was shown, and the parser begins anew.
 #[test]
 fn taken_leaves_a_new_parser(rt: HostRuntime) -> Result<(), Fail> {

@@ -5,7 +5,7 @@ use Rattle.cs_parse.specs.Front.{Joins}
 use Rattle.cs_parse.specs.Progress.{last_flags}
 use Rattle.cs_parse.proofs.GrowLaws.{last_found}
 use Rattle.cs_parse.proofs.GrowingLaws.{settled_as, respelled}
-use Rattle.cs_parse.proofs.growing.settle.Goals as goal
+use Rattle.cs_parse.proofs.respell.settle.Goals as goal
 
 pub returns-then-canonical-clause-ok : goal.returns-then-canonical-clause-ok
 returns-then-canonical-clause-ok c = settled_as (last_flags c.args.sections.now) c.args.kept c.args.len c.args.count c.args.canonical c.args.bytes.now.items c.requires.inside c.if-canonical.true c.requires.joins
