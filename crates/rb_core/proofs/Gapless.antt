@@ -79,25 +79,25 @@ runs_kept = record {
   sends = λ old new move runs. subst AreRuns (sym move.kept) runs;
   pulls = λ old new move runs. subst AreRuns (sym move.kept) runs;
   places = λ old new move runs.
-    let entry : Entry = record { number = suc (length old.sequence); item = move.item } in
-    subst AreRuns (sym move.kept) (all_map (IsRun old.sequence) (IsRun (old.sequence ++ entry ∷ [])) old.subscribers (still_run old.sequence entry) runs);
+      let entry : Entry = record { number = suc (length old.sequence); item = move.item } in
+      subst AreRuns (sym move.kept) (all_map (IsRun old.sequence) (IsRun (old.sequence ++ entry ∷ [])) old.subscribers (still_run old.sequence entry) runs);
   ends = λ old new move runs. subst AreRuns (sym move.kept) runs;
   begins = λ old new move runs.
-    let q : Subscriber = record { start = move.start; base = move.base; accepted = []; tables = move.base; link = move.link; closed = false; offers = [] } in
-    subst AreRuns (sym move.kept) (all_push (IsRun old.sequence) old.subscribers q runs (record { run = refl; placed = omega (arith, move.placed); offers = tt }));
+      let q : Subscriber = record { start = move.start; base = move.base; accepted = []; tables = move.base; link = move.link; closed = false; offers = [] } in
+      subst AreRuns (sym move.kept) (all_push (IsRun old.sequence) old.subscribers q runs (record { run = refl; placed = omega (arith, move.placed); offers = tt }));
   offers = λ old new move runs.
-    becomes old new move.s move.subscriber (record move.subscriber { offers = move.subscriber.offers ++ move.delivery ∷ [] }) runs move.found
-    (λ h. record { run = h.run; placed = h.placed; offers = all_push (IsPlaced old.sequence) move.subscriber.offers move.delivery h.offers move.placed }) move.kept;
+      becomes old new move.s move.subscriber (record move.subscriber { offers = move.subscriber.offers ++ move.delivery ∷ [] }) runs move.found
+      (λ h. record { run = h.run; placed = h.placed; offers = all_push (IsPlaced old.sequence) move.subscriber.offers move.delivery h.offers move.placed }) move.kept;
   takes = λ old new move runs.
-    let q = move.subscriber in
-    becomes old new move.s q (record q { accepted = q.accepted ++ part old.sequence (cursor q) (move.delivery.last - cursor q); tables = move.end.tables }) runs move.found
-    (λ h. accepts_run old.sequence q move.delivery (record q { accepted = q.accepted ++ part old.sequence (cursor q) (move.delivery.last - cursor q); tables = move.end.tables }) h move.accepts.some (all_in (IsPlaced old.sequence) q.offers move.delivery h.offers move.offered) refl refl refl) move.kept;
+      let q = move.subscriber in
+      becomes old new move.s q (record q { accepted = q.accepted ++ part old.sequence (cursor q) (move.delivery.last - cursor q); tables = move.end.tables }) runs move.found
+      (λ h. accepts_run old.sequence q move.delivery (record q { accepted = q.accepted ++ part old.sequence (cursor q) (move.delivery.last - cursor q); tables = move.end.tables }) h move.accepts.some (all_in (IsPlaced old.sequence) q.offers move.delivery h.offers move.offered) refl refl refl) move.kept;
   reconnects = λ old new move runs.
-    let q = move.subscriber in
-    let r : Subscriber = record q { link = move.link } in
-    subst AreRuns (sym move.kept) (all_set (IsRun old.sequence) old.subscribers move.s r runs (let h = all_get (IsRun old.sequence) old.subscribers move.s q runs move.found in record { run = h.run; placed = h.placed; offers = h.offers }));
+      let q = move.subscriber in
+      let r : Subscriber = record q { link = move.link } in
+      subst AreRuns (sym move.kept) (all_set (IsRun old.sequence) old.subscribers move.s r runs (let h = all_get (IsRun old.sequence) old.subscribers move.s q runs move.found in record { run = h.run; placed = h.placed; offers = h.offers }));
   leaves = λ old new move runs.
-    becomes old new move.s move.subscriber (record move.subscriber { closed = true }) runs move.found (λ h. record { run = h.run; placed = h.placed; offers = h.offers }) move.kept;
+      becomes old new move.s move.subscriber (record move.subscriber { closed = true }) runs move.found (λ h. record { run = h.run; placed = h.placed; offers = h.offers }) move.kept;
 }
 
 pub gapless : (mids : List World) (new : World) (s : ℕ) (q : Subscriber) → Leads begun mids new → slice_get new.subscribers s ≡ Some q → q.accepted ≡ part new.sequence q.start (length q.accepted)

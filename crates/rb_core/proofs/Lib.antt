@@ -4,3 +4,4 @@ pub mod StepLaws
 pub mod Streams
 pub mod Moving
 pub mod Gapless
+pub mod Closing

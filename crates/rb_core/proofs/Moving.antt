@@ -56,36 +56,36 @@ kept_by : (P : World → Type 0) → Keeps P → (old new : World) → Moves old
 kept_by P keeps old new move h = elim move as (λ w. P new) [
   | inl same ↦ subst P (sym same) h
   | inr m ↦ elim m as (λ w. P new) [
-      | inl x ↦ keeps.comes old new x h
+    | inl x ↦ keeps.comes old new x h
+    | inr m ↦ elim m as (λ w. P new) [
+      | inl x ↦ keeps.stages old new x h
       | inr m ↦ elim m as (λ w. P new) [
-          | inl x ↦ keeps.stages old new x h
+        | inl x ↦ keeps.sends old new x h
+        | inr m ↦ elim m as (λ w. P new) [
+          | inl x ↦ keeps.pulls old new x h
           | inr m ↦ elim m as (λ w. P new) [
-              | inl x ↦ keeps.sends old new x h
+            | inl x ↦ keeps.places old new x h
+            | inr m ↦ elim m as (λ w. P new) [
+              | inl x ↦ keeps.ends old new x h
               | inr m ↦ elim m as (λ w. P new) [
-                  | inl x ↦ keeps.pulls old new x h
+                | inl x ↦ keeps.begins old new x h
+                | inr m ↦ elim m as (λ w. P new) [
+                  | inl x ↦ keeps.offers old new x h
                   | inr m ↦ elim m as (λ w. P new) [
-                      | inl x ↦ keeps.places old new x h
-                      | inr m ↦ elim m as (λ w. P new) [
-                          | inl x ↦ keeps.ends old new x h
-                          | inr m ↦ elim m as (λ w. P new) [
-                              | inl x ↦ keeps.begins old new x h
-                              | inr m ↦ elim m as (λ w. P new) [
-                                  | inl x ↦ keeps.offers old new x h
-                                  | inr m ↦ elim m as (λ w. P new) [
-                                      | inl x ↦ keeps.takes old new x h
-                                      | inr m ↦ elim m as (λ w. P new) [
-                                          | inl x ↦ keeps.reconnects old new x h
-                                          | inr x ↦ keeps.leaves old new x h
-                                        ]
-                                    ]
-                                ]
-                            ]
-                        ]
+                    | inl x ↦ keeps.takes old new x h
+                    | inr m ↦ elim m as (λ w. P new) [
+                      | inl x ↦ keeps.reconnects old new x h
+                      | inr x ↦ keeps.leaves old new x h
                     ]
+                  ]
                 ]
+              ]
             ]
+          ]
         ]
+      ]
     ]
+  ]
 ]
 
 -- what every move keeps holds behind all of them

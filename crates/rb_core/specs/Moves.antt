@@ -7,7 +7,7 @@ use Rattle.cs_apply.specs.State as tables
 use Rattle.rb_desk.specs.declared.delivery.Delivery.{Delivery}
 use Rattle.rb_sequence.specs.declared.item.Item.{Item}
 use Rattle.rb_sequence.specs.Entry.{Entry}
-use Rattle.rb_subscriber.specs.Accept.{brought, Accepts}
+use Rattle.rb_subscriber.specs.Accept.{part, brought, Accepts}
 use Rattle.rb_subscriber.specs.Endpoint.{Endpoint}
 use Rattle.rb_core.specs.World.{Sender, Subscriber, World, begun, cursor, end_of}
 
@@ -144,3 +144,15 @@ Moves old new =
 abbrev pub Leads : World → List World → World → Type 0
 Leads old [] new = new ≡ old
 Leads old (mid ∷ rest) new = Moves old mid × Leads mid rest new
+
+-- ---- what holds behind all moves
+
+-- a subscription has accepted one run of the sequence from its start on
+abbrev pub HasRun : List Entry → Subscriber → Type 0
+HasRun sequence q = q.accepted ≡ part sequence q.start (length q.accepted)
+
+-- a subscription is closed, and is left with what this one accepted, and with its tables
+pub record StaysClosed (q r : Subscriber) : Type 0 where
+  pub closed : r.closed ≡ true
+  pub accepted : r.accepted ≡ q.accepted
+  pub tables : r.tables ≡ q.tables

@@ -1,6 +1,6 @@
 //! Laws: public functions that do nothing, whose contracts say what holds of every run and step. Who needs one calls it.
 
-ghost use Rattle.std.specs.Prelude.{◌≡◌, ℕ, List, Some, slice_get};
+ghost use Rattle.std.specs.Prelude.{◌≡◌, ℕ, true, List, Some, slice_get};
 ghost use Rattle.std.specs.List.{AllByRecursion};
 ghost use Rattle.cs_model.specs.declared.shape.Shape.{Shape};
 ghost use Rattle.rb_desk.specs.Limits.{Limits};
@@ -11,6 +11,8 @@ ghost use Rattle.rb_core.specs.Outcome.{outcome};
 ghost use Rattle.rb_core.specs.Step.{Step};
 ghost use Rattle.rb_core.specs.Run.{Answer, Run, FeedsBytes, accepted_by, RiseAbove};
 ghost use Rattle.rb_core.specs.Fed.{text_fed};
+ghost use Rattle.rb_core.specs.Moves.{Leads, HasRun, StaysClosed};
+ghost use Rattle.rb_core.specs.World.{Subscriber, World, begun};
 ghost use Rattle.rb_core.specs.declared.parts.Publisher.{Publisher};
 ghost use Rattle.cs_parse.specs.Progress.{Took};
 
@@ -49,3 +51,23 @@ pub fn outcome_is_step()
     progress_goes_on();
     progress_tells();
 }
+
+/// Whatever happens from the beginning on, a subscription has accepted one run of the sequence behind its start: no number is left out,
+/// and each one comes once. So it is at every time, since each time is the end of what happened before.
+pub fn accepted_is_gapless()
+    ensures { (mids : List World) (new : World) (s : ℕ) (subscriber : Subscriber)
+        → Leads begun mids new → slice_get new.subscribers s ≡ Some subscriber
+        → HasRun new.sequence subscriber }
+{}
+
+/// Whatever happens once the sequence is closed, it stays closed and nothing is placed; and once a subscription is closed, it stays so and
+/// accepts nothing more.
+pub fn nothing_after_close()
+    ensures sequence { (old : World) (mids : List World) (new : World) (last : ℕ)
+        → old.closing ≡ Some last → Leads old mids new
+        → (new.closing ≡ Some last) × (new.sequence ≡ old.sequence) }
+    ensures subscription { (old : World) (mids : List World) (new : World) (s : ℕ)
+        (subscriber : Subscriber) → slice_get old.subscribers s ≡ Some subscriber
+        → subscriber.closed ≡ true → Leads old mids new
+        → (after : Subscriber) × (slice_get new.subscribers s ≡ Some after) × StaysClosed subscriber after }
+{}

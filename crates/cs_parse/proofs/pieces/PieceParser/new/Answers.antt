@@ -1,5 +1,9 @@
+use Rattle.std.proofs.Common.{◌≡◌, ℕ, List, ap}
+use Rattle.cs_model.specs.Section.{Section}
 use Rattle.cs_parse.proofs.FeedLaws.{new_took}
 use Rattle.cs_parse.proofs.pieces.PieceParser.new.Goals as goal
 
 pub returns-clause-text : goal.returns-clause-text
-returns-clause-text c = new_took c.no_changes.result c.new.result.items c.no_changes.ensures c.new.ensures.items
+returns-clause-text c =
+    let none = c.new.ensures in
+    new_took c.new.result.0 c.new.result.1 (ap (λ (x : List Section × List ℕ). x.0) none) (ap (λ (x : List Section × List ℕ). x.1) none)
