@@ -5,3 +5,4 @@ pub mod Streams
 pub mod Moving
 pub mod Gapless
 pub mod Closing
+pub mod Sendings

@@ -1,6 +1,6 @@
 -- What may happen to the world at once. A refused call, an acknowledgement, one that is taken back and an expiry change nothing here.
-use Rattle.std.specs.Prelude.{◌≡◌, ℕ, suc, ◌-◌, ◌<◌, ◌≤◌, ◌⊎◌, true, false, List, [], ◌∷◌, ◌++◌, length, Option, Some, None, slice_get, slice_set}
-use Rattle.std.specs.List.{AllByRecursion}
+use Rattle.std.specs.Prelude.{◌≡◌, ◌==◌, ℕ, suc, ◌-◌, ◌<◌, ◌≤◌, ◌⊎◌, true, false, map, List, [], ◌∷◌, ◌++◌, length, Option, Some, None, slice_get, slice_set}
+use Rattle.std.specs.List.{AllByRecursion, filter}
 use Rattle.cs_model.specs.declared.origin.Origin.{Origin}
 use Rattle.cs_model.specs.Section.{Section}
 use Rattle.cs_apply.specs.State as tables
@@ -156,3 +156,14 @@ pub record StaysClosed (q r : Subscriber) : Type 0 where
   pub closed : r.closed ≡ true
   pub accepted : r.accepted ≡ q.accepted
   pub tables : r.tables ≡ q.tables
+
+-- the items of entries, and those of one publisher
+abbrev pub items_of : List Entry → List Item
+items_of entries = map (λ entry. entry.item) entries
+
+abbrev pub own_of : ℕ → List Item → List Item
+own_of p items = filter (λ item. item.publisher == p) items
+
+-- a list is the front of another
+abbrev pub IsFront : {A : Type 0} → List A → List A → Type 0
+IsFront {A} front all = (rest : List A) × (front ++ rest ≡ all)

@@ -11,8 +11,9 @@ ghost use Rattle.rb_core.specs.Outcome.{outcome};
 ghost use Rattle.rb_core.specs.Step.{Step};
 ghost use Rattle.rb_core.specs.Run.{Answer, Run, FeedsBytes, accepted_by, RiseAbove};
 ghost use Rattle.rb_core.specs.Fed.{text_fed};
-ghost use Rattle.rb_core.specs.Moves.{Leads, HasRun, StaysClosed};
-ghost use Rattle.rb_core.specs.World.{Subscriber, World, begun};
+ghost use Rattle.rb_core.specs.Moves.{Leads, HasRun, StaysClosed, items_of, own_of, IsFront};
+ghost use Rattle.rb_core.specs.World.{Sender, Subscriber, World, begun};
+ghost use Rattle.rb_sequence.specs.Entry.{Entry};
 ghost use Rattle.rb_core.specs.declared.parts.Publisher.{Publisher};
 ghost use Rattle.cs_parse.specs.Progress.{Took};
 
@@ -70,4 +71,16 @@ pub fn nothing_after_close()
         (subscriber : Subscriber) → slice_get old.subscribers s ≡ Some subscriber
         → subscriber.closed ≡ true → Leads old mids new
         → (after : Subscriber) × (slice_get new.subscribers s ≡ Some after) × StaysClosed subscriber after }
+{}
+
+/// Whatever happens from the beginning on, what stands in the sequence of one publisher is the front of what it sent, in that order; and
+/// no two entries have the same publisher and the same own number, so that each sending is placed once.
+pub fn sendings_come_once_in_order()
+    ensures order { (mids : List World) (new : World) (p : ℕ) (sender : Sender)
+        → Leads begun mids new → slice_get new.senders p ≡ Some sender
+        → IsFront (own_of p (items_of new.sequence)) sender.sent }
+    ensures once { (mids : List World) (new : World) (i j : ℕ) (a b : Entry)
+        → Leads begun mids new → slice_get new.sequence i ≡ Some a
+        → slice_get new.sequence j ≡ Some b → a.item.publisher ≡ b.item.publisher
+        → a.item.own ≡ b.item.own → i ≡ j }
 {}
