@@ -100,7 +100,8 @@ fn brought<'a>(
     if let Some(fault) = wrong_in(taken, why) {
         return Err(ParseError::Fault(fault));
     }
-    Ok((bytes.len() - behind.len(), count, canonical, more, rest))
+    let len = bytes.len() - behind.len();
+    Ok((len, count, canonical, more, rest))
 }
 
 /// Reads the bytes that wait, as far as they are whole, and adds what they spell to the sections. `taken` is how many bytes of
