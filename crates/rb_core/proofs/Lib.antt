@@ -6,3 +6,4 @@ pub mod Moving
 pub mod Gapless
 pub mod Closing
 pub mod Sendings
+pub mod Singly

@@ -14,9 +14,11 @@ ghost use Rattle.rb_core.specs.Fed.{text_fed};
 ghost use Rattle.rb_core.specs.Moves.{Leads, HasRun, StaysClosed, items_of, own_of, IsFront};
 ghost use Rattle.rb_core.specs.World.{Sender, Subscriber, World, begun};
 ghost use Rattle.rb_sequence.specs.Entry.{Entry};
+ghost use Rattle.rb_subscriber.specs.Accept.{AppliesSingly};
 ghost use Rattle.rb_core.specs.declared.parts.Publisher.{Publisher};
 ghost use Rattle.cs_parse.specs.Progress.{Took};
 
+use cs_apply::laws::applying_goes_on;
 use cs_parse::laws::{
     feeding_tells_faults, progress_goes_on, progress_tells, reading_is_spelling, refusing_is_fault,
 };
@@ -84,3 +86,13 @@ pub fn sendings_come_once_in_order()
         → slice_get new.sequence j ≡ Some b → a.item.publisher ≡ b.item.publisher
         → a.item.own ≡ b.item.own → i ≡ j }
 {}
+
+/// Whatever happens from the beginning on, a subscription's tables are what one thread gets that applies the changesets that it accepted
+/// to the tables that it began with, one after another.
+pub fn tables_apply_singly()
+    ensures { (mids : List World) (new : World) (s : ℕ) (subscriber : Subscriber)
+        → Leads begun mids new → slice_get new.subscribers s ≡ Some subscriber
+        → AppliesSingly subscriber.base subscriber.accepted subscriber.tables }
+{
+    applying_goes_on();
+}

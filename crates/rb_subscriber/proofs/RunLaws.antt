@@ -50,7 +50,7 @@ nothing_applies : (old : tables.State) → single old [] ≡ Ok old
 unfolding single_from
 nothing_applies old = refl
 
-singly : GoesOn → (old : tables.State) (entries : List Entry) (new : tables.State) → single old (joined entries) ≡ Ok new → AppliesSingly old entries new
+pub singly : GoesOn → (old : tables.State) (entries : List Entry) (new : tables.State) → single old (joined entries) ≡ Ok new → AppliesSingly old entries new
 singly goes old [] new e = cc (sym e ∙ nothing_applies old)
 singly goes old (entry ∷ entries) new e =
     let both = (goes old entry.item.body (joined entries) new).0 e in
