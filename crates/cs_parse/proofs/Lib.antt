@@ -43,5 +43,7 @@ pub mod ProgressAnswers
 pub mod FeedLaws
 pub mod NameLaws
 pub mod SpotLaws
+pub mod LackLaws
+pub mod StayLaws
 pub mod WaitLaws
 pub mod GrowingLaws

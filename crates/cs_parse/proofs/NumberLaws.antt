@@ -98,13 +98,13 @@ pub columns_again : (text : List ℕ) (n : ℕ) (rest : List ℕ) → IsVarint t
 unfolding columns_at
 columns_again text n rest h low top = number_again 1 2000 Columns 8 0 text n rest h low top
 
-length_takes : (bytes : List ℕ) (x : ℕ × List ℕ) → length_at bytes ≡ Ok x → Takes IsVarint bytes x × (x.0 ≤ 16777216)
+pub length_takes : (bytes : List ℕ) (x : ℕ × List ℕ) → length_at bytes ≡ Ok x → Takes IsVarint bytes x × (x.0 ≤ 16777216)
 unfolding length_at
 length_takes bytes x e =
     let t = number_takes 0 16777216 ValueTooLong 8 0 bytes x e in
     (t.0, t.2)
 
-length_again : (text : List ℕ) (n : ℕ) (rest : List ℕ) → IsVarint text n → n ≤ 16777216 → length_at (text ++ rest) ≡ Ok (n, rest)
+pub length_again : (text : List ℕ) (n : ℕ) (rest : List ℕ) → IsVarint text n → n ≤ 16777216 → length_at (text ++ rest) ≡ Ok (n, rest)
 unfolding length_at
 length_again text n rest h top = number_again 0 16777216 ValueTooLong 8 0 text n rest h (omega arith) top
 

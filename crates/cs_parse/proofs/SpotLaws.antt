@@ -13,7 +13,7 @@ use Rattle.cs_parse.specs.declared.stop.Refusal.TheVariants.{Short}
 use Rattle.cs_parse.specs.declared.spot.Spot.{Spot}
 use Rattle.cs_parse.specs.declared.spot.Spot.TheVariants.{Start, Row, Old, New, Name}
 use Rattle.cs_parse.specs.Reading.{◌>>=◌, op_of, operated, field_at, record_at, records_at, marked_at, change_at}
-use Rattle.cs_parse.specs.Spot.{Passes, Halts, HaltsNew, IsBack, Begins, InFirst, PassedFirst, InNew, HasOne, IsSpot, StaysShort}
+use Rattle.cs_parse.specs.Spot.{Passes, Halts, HaltsNew, IsBack, Begins, InFirst, PassedFirst, InNew, HasOne, IsSpot}
 use Rattle.cs_parse.proofs.Steps.{done, back_fits}
 use Rattle.cs_parse.proofs.FieldLaws.{record_takes, record_again}
 use Rattle.cs_parse.proofs.ExactFields.{field_exact}
@@ -72,7 +72,7 @@ passed_more rules others bytes rest more p = record {
 passed_reads : (rules others : List Rule) (bytes rest : List ℕ) (p : Passes rules others bytes rest) → record_at rules bytes ≡ behind_fields p.fields (record_at others rest)
 passed_reads rules others bytes rest p = ap (record_at rules) p.parts ∙ p.reads rest
 
-passed_short : (rules others : List Rule) (bytes rest : List ℕ) → Passes rules others bytes rest → record_at others rest ≡ Err Short → record_at rules bytes ≡ Err Short
+pub passed_short : (rules others : List Rule) (bytes rest : List ℕ) → Passes rules others bytes rest → record_at others rest ≡ Err Short → record_at rules bytes ≡ Err Short
 passed_short rules others bytes rest p e = passed_reads rules others bytes rest p ∙ ap (behind_fields p.fields) e
 
 passed_all : (rules : List Rule) (bytes rest : List ℕ) → Passes rules [] bytes rest → (fields : List Field) × (record_at rules bytes ≡ Ok (fields, rest))
@@ -200,9 +200,10 @@ first_passed op rule flags bytes fields place columns front count rest columns_a
     }
 
 -- and of a new one
-new_reached : (flags bytes : List ℕ) (fields place old count : ℕ) (old_rest rest : List ℕ) (new : InNew flags bytes fields place old) → IsBack bytes old_rest
+pub new_reached : (flags bytes : List ℕ) (fields place old count : ℕ) (old_rest rest : List ℕ) (new : InNew flags bytes fields place old) → IsBack bytes old_rest
     → HaltsNew (drop fields flags) (drop fields new.before) new.left (drop place bytes) count old_rest rest
-    → (record_at (new_rules flags new.before) new.left ≡ Err Short) × InNew flags bytes (fields + count) (length bytes - length rest) (length bytes - length old_rest)
+    → (next : InNew flags bytes (fields + count) (length bytes - length rest) (length bytes - length old_rest))
+    × (record_at (new_rules (drop (fields + count) flags) (drop (fields + count) next.before)) (drop (length bytes - length rest) bytes) ≡ Err Short)
 new_reached flags bytes fields place old count old_rest rest new old_back halts =
     let columns_are = drop-drop count fields flags in
     let before_is = drop-drop count fields new.before in
@@ -212,7 +213,6 @@ new_reached flags bytes fields place old count old_rest rest new old_back halts 
     let old_here : drop (length bytes - length old_rest) bytes ≡ old_rest = place_of bytes old_back.0 old_rest old_back.1 in
     let behind = new_rules (drop count (drop fields flags)) (drop count (drop fields new.before)) in
     let whole = both_passed (new_rules flags new.before) (new_rules (drop fields flags) (drop fields new.before)) behind new.left (drop place bytes) rest new.passes halts.passes in (
-      passed_short (new_rules flags new.before) behind new.left rest whole halts.short,
       record {
         records = new.records;
         begins = new.begins;
@@ -226,6 +226,7 @@ new_reached flags bytes fields place old count old_rest rest new old_back halts 
         passes = subst (λ w. Passes (new_rules flags new.before) (new_rules (drop (fields + count) flags) (drop (fields + count) new.before)) new.left w) (sym here)
             (subst (λ w. Passes (new_rules flags new.before) w new.left rest) left whole);
       },
+      ap (record_at (new_rules (drop (fields + count) flags) (drop (fields + count) new.before))) here ∙ sym (ap (λ w. record_at w rest) left) ∙ halts.short,
     )
 
 -- ---- changes that are short
@@ -234,36 +235,24 @@ abbrev new_records : List ℕ → List Field × List ℕ → Result ((List Field
 new_records flags old = record_at (new_rules flags old.0) old.1 >>= λ new. done ((old.0, new.0), new.1)
 
 -- a change ends too early where its records do
-records_short : (op : Op) (flags bytes records : List ℕ) → Begins op bytes records → records_at flags op records ≡ Err Short → change_at flags bytes ≡ Err Short
+pub records_short : (op : Op) (flags bytes records : List ℕ) → Begins op bytes records → records_at flags op records ≡ Err Short → change_at flags bytes ≡ Err Short
 unfolding change_at marked_at
 records_short op flags bytes records b e =
     ap (change_at flags) b.parts ∙ ap (λ o. operated flags o b.byte (b.mark ∷ records)) b.is_op ∙ ap (λ r. r >>= marked op b.mark) e
 
-row_records : (op : Op) (flags records : List ℕ) → HasOne op → record_at (map row_rule flags) records ≡ Err Short → records_at flags op records ≡ Err Short
+pub row_records : (op : Op) (flags records : List ℕ) → HasOne op → record_at (map row_rule flags) records ≡ Err Short → records_at flags op records ≡ Err Short
 unfolding records_at
 row_records Insert flags records one e = ap (λ r. r >>= λ row. done (([], row.0), row.1)) e
 row_records Update flags records one e = absurd one
 row_records Delete flags records one e = ap (λ r. r >>= λ row. done ((row.0, []), row.1)) e
 
-old_records : (flags records : List ℕ) → record_at (map old_rule flags) records ≡ Err Short → records_at flags Update records ≡ Err Short
+pub old_records : (flags records : List ℕ) → record_at (map old_rule flags) records ≡ Err Short → records_at flags Update records ≡ Err Short
 unfolding records_at
 old_records flags records e = ap (λ r. r >>= new_records flags) e
 
-new_short : (flags records : List ℕ) (before : List Field) (left : List ℕ) → record_at (map old_rule flags) records ≡ Ok (before, left) → record_at (new_rules flags before) left ≡ Err Short → records_at flags Update records ≡ Err Short
+pub new_short : (flags records : List ℕ) (before : List Field) (left : List ℕ) → record_at (map old_rule flags) records ≡ Ok (before, left) → record_at (new_rules flags before) left ≡ Err Short → records_at flags Update records ≡ Err Short
 unfolding records_at
 new_short flags records before left old e = ap (λ r. r >>= new_records flags) old ∙ ap (λ r. r >>= λ new. done ((before, new.0), new.1)) e
-
--- what is said of the first record's next field is said of the record
-first_short : (op : Op) (rule : ℕ → Rule) (flags bytes : List ℕ) (fields place : ℕ) → fields < length flags → (p : PassedFirst op rule flags bytes fields place) → record_at (map rule flags) p.reached.records ≡ Err Short
-first_short op rule flags bytes fields place less p = passed_short (map rule flags) (map rule (drop fields flags)) p.reached.records (drop place bytes) p.reached.passes (p.short less)
-
-pub row_short : (op : Op) (flags bytes : List ℕ) (fields place : ℕ) → HasOne op → fields < length flags → PassedFirst op row_rule flags bytes fields place → StaysShort flags bytes (Some (Row fields place))
-row_short op flags bytes fields place one less p =
-    (records_short op flags bytes p.reached.records p.reached.begins (row_records op flags p.reached.records one (first_short op row_rule flags bytes fields place less p)), (op, one, p.reached))
-
-pub old_short : (flags bytes : List ℕ) (fields place : ℕ) → fields < length flags → PassedFirst Update old_rule flags bytes fields place → StaysShort flags bytes (Some (Old fields place))
-old_short flags bytes fields place less p =
-    (records_short Update flags bytes p.reached.records p.reached.begins (old_records flags p.reached.records (first_short Update old_rule flags bytes fields place less p)), p.reached)
 
 -- how far the new record was gone over this time
 pub new_halts : (flags bytes : List ℕ) (fields place old : ℕ) (columns old_front front : List ℕ) (count : ℕ) (old_rest rest : List ℕ) → columns ≡ drop fields flags → old_front ≡ drop old bytes → front ≡ drop place bytes
@@ -274,12 +263,6 @@ new_halts flags bytes fields place old columns old_front front count old_rest re
     let reads = ap (λ w. record_at (map old_rule w) old_front) columns_are ∙ ap (record_at (map old_rule (drop fields flags))) old_is ∙ new.old_left in
     let before = drop fields new.before in
     subst (λ w. HaltsNew (drop fields flags) before new.left w count old_rest rest) front_is (subst (λ w. HaltsNew w before new.left front count old_rest rest) columns_are (halts before new.left reads))
-
-pub new_passed : (flags bytes : List ℕ) (fields place old : ℕ) (old_front : List ℕ) (count : ℕ) (old_rest rest : List ℕ) → old_front ≡ drop old bytes → IsBack old_front old_rest → (new : InNew flags bytes fields place old)
-    → HaltsNew (drop fields flags) (drop fields new.before) new.left (drop place bytes) count old_rest rest → StaysShort flags bytes (Some (New (fields + count) (length bytes - length rest) (length bytes - length old_rest)))
-new_passed flags bytes fields place old old_front count old_rest rest old_is old_back new halts =
-    let r = new_reached flags bytes fields place old count old_rest rest new (back_of_drop bytes old old_back.0 old_rest (sym old_is ∙ old_back.1)) halts in
-    (records_short Update flags bytes new.records new.begins (new_short flags new.records new.before new.left new.old_read r.0), r.1)
 
 pub more_columns : (flags : List ℕ) (fields count : ℕ) → fields ≤ length flags → count ≤ length (drop fields flags) → fields + count ≤ length flags
 more_columns flags fields count le more = omega (arith, length-drop fields flags)
@@ -363,7 +346,7 @@ begins_more op bytes records more b = record { byte = b.byte; mark = b.mark; par
 within_more : (bytes more : List ℕ) (place : ℕ) → place ≤ length bytes → place ≤ length (bytes ++ more)
 within_more bytes more place le = omega (arith, length-append bytes more)
 
-first_more : (op : Op) (rule : ℕ → Rule) (flags bytes : List ℕ) (fields place : ℕ) (more : List ℕ) → InFirst op rule flags bytes fields place → InFirst op rule flags (bytes ++ more) fields place
+pub first_more : (op : Op) (rule : ℕ → Rule) (flags bytes : List ℕ) (fields place : ℕ) (more : List ℕ) → InFirst op rule flags bytes fields place → InFirst op rule flags (bytes ++ more) fields place
 first_more op rule flags bytes fields place more first = record {
   records = first.records ++ more;
   begins = begins_more op bytes first.records more first.begins;
@@ -373,7 +356,7 @@ first_more op rule flags bytes fields place more first = record {
       (passed_more (map rule flags) (map rule (drop fields flags)) first.records (drop place bytes) more first.passes);
 }
 
-new_longer : (flags bytes : List ℕ) (fields place old : ℕ) (more : List ℕ) → AreBytes bytes → InNew flags bytes fields place old → InNew flags (bytes ++ more) fields place old
+pub new_longer : (flags bytes : List ℕ) (fields place old : ℕ) (more : List ℕ) → AreBytes bytes → InNew flags bytes fields place old → InNew flags (bytes ++ more) fields place old
 new_longer flags bytes fields place old more fits new = record {
   records = new.records ++ more;
   begins = begins_more Update bytes new.records more new.begins;
@@ -388,6 +371,11 @@ new_longer flags bytes fields place old more fits new = record {
   passes = subst (λ w. Passes (new_rules flags new.before) (new_rules (drop fields flags) (drop fields new.before)) (new.left ++ more) w) (sym (drop-append-le place bytes more new.within))
       (passed_more (new_rules flags new.before) (new_rules (drop fields flags) (drop fields new.before)) new.left (drop place bytes) more new.passes);
 }
+
+-- the old record is the one that it was
+pub longer_before : (flags bytes : List ℕ) (fields place old : ℕ) (more : List ℕ) (fits : AreBytes bytes) (new : InNew flags bytes fields place old) → (new_longer flags bytes fields place old more fits new).before ≡ new.before
+unfolding new_longer
+longer_before flags bytes fields place old more fits new = refl
 
 pub spot_more : (flags bytes more : List ℕ) (spot : Spot) → AreBytes bytes → IsSpot flags bytes spot → IsSpot flags (bytes ++ more) spot
 spot_more flags bytes more Start fits is = tt

@@ -10,5 +10,6 @@ pub mod Canonical
 pub mod Pieces
 pub mod Progress
 pub mod Front
+pub mod Lack
 pub mod Spot
 pub mod Growing

@@ -7,6 +7,7 @@ use Rattle.cs_model.specs.Rule.{Rule, row_rule, old_rule, new_rules}
 use Rattle.cs_parse.specs.declared.stop.Refusal.TheVariants.{Short}
 use Rattle.cs_parse.specs.declared.spot.Spot.{Spot}
 use Rattle.cs_parse.specs.declared.spot.Spot.TheVariants.{Start, Row, Old, New, Name}
+use Rattle.cs_parse.specs.Lack.{StaysAt}
 use Rattle.cs_parse.specs.Reading.{◌>>=◌, op_of, record_at, change_at, name_at, shape_at}
 
 -- ---- records
@@ -106,10 +107,12 @@ IsHeaderSpot bytes (Old fields place) = Unit {0}
 IsHeaderSpot bytes (New fields place old) = Unit {0}
 IsHeaderSpot bytes (Name place letters) = InName bytes place letters
 
--- the change still ends too early, and was gone over to this spot
+-- The change still ends too early, and was gone over to this spot. With more bytes behind it does so where what stands at the spot
+-- does.
 abbrev pub StaysShort : List ℕ → List ℕ → Option Spot → Type 0
 StaysShort flags bytes None = Unit {0}
-StaysShort flags bytes (Some spot) = (change_at flags bytes ≡ Err Short) × IsSpot flags bytes spot
+StaysShort flags bytes (Some spot) =
+    (change_at flags bytes ≡ Err Short) × IsSpot flags bytes spot × ((more : List ℕ) → StaysAt bytes spot more → change_at flags (bytes ++ more) ≡ Err Short)
 
 -- the header still ends too early, and was gone over to this spot, which is right whatever table stands before it
 abbrev pub StaysHeader : List ℕ → Option Spot → Type 0

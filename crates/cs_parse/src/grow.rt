@@ -1,8 +1,9 @@
 //! What bytes behind sections bring.
 
-ghost use Rattle.std.specs.Prelude.{◌≡◌, IfOk, IfErr, Option, List, Some, IsTrue};
+ghost use Rattle.std.specs.Prelude.{◌≡◌, ◌<◌, IfOk, IfErr, Option, List, Some};
 ghost use Rattle.cs_model.specs.Section.{Section};
 ghost use Rattle.cs_parse.specs.Front.{fault_by, Brings, IsBroken, Grows, Heads, Tails, Waits, KeepsSpot};
+ghost use Rattle.cs_parse.specs.Lack.{WaitsFor};
 ghost use Rattle.cs_parse.specs.Progress.{last_flags, read_on};
 ghost use Rattle.cs_parse.specs.declared.stop.Refusal.TheVariants.{Short};
 
@@ -57,24 +58,26 @@ fn wrong_in(taken: usize, why: Option<Refusal>) -> Option<ParseFault>
     }
 }
 
-/// Whether nothing is whole of the bytes behind these sections, since a header or a change of the last one's table begins there
-/// and ends too early. So it is behind any sections of which the last one's table has the same key bytes. The spot is moved on, so
-/// that these bytes aren't gone over again when more come. Where it is false nothing is known of the spot.
-pub fn still_waits(sections: &[Section], bytes: &[u8], spot: &mut Spot) -> bool
+/// How many bytes at least are lacking of the header or the change of the last section's table that begins behind these sections,
+/// where it ends too early. So it is behind any sections of which the last one's table has the same key bytes. The spot is moved on, so
+/// that these bytes aren't gone over again when more come. Where it is 0, something is whole or wrong, and nothing is known of the spot.
+pub fn still_waits(sections: &[Section], bytes: &[u8], spot: &mut Spot) -> usize
     requires { Waits (last_flags sections.now) bytes.now spot.old }
-    ensures waits { IsTrue result → (others : List Section)
+    ensures waits { 0 < result → (others : List Section)
         → last_flags others ≡ last_flags sections.now → read_on others bytes.now
         ≡ record { sections = others; rest = bytes.now; why = Some Short } }
-    ensures spot { IsTrue result → KeepsSpot (last_flags sections.now) bytes.now spot.new }
+    ensures lacks { (others : List Section) → last_flags others ≡ last_flags sections.now
+        → WaitsFor others bytes.now result }
+    ensures spot { 0 < result → KeepsSpot (last_flags sections.now) bytes.now spot.new }
 {
     if bytes.is_empty() {
-        return false;
+        return 0;
     }
     if is_over(bytes) {
-        return header_short(bytes, spot);
+        return if header_short(bytes, spot) { 1 } else { 0 };
     }
     let Some(section) = sections.last() else {
-        return false;
+        return 0;
     };
     still_short(&section.shape().flags, bytes, spot)
 }

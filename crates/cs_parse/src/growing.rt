@@ -220,6 +220,16 @@ impl Growing {
         if self.bytes.is_empty() {
             return self.begin(alloc, piece);
         }
+        self.append(piece)
+    }
+
+    /// Adds bytes behind those that wait, of which there are some. An `Err` leaves all as it was.
+    #[inline(always)]
+    pub fn append(&mut self, piece: &[u8]) -> Result<(), AllocError>
+        requires { 0 < length self.old.1 }
+        ensures ok { OnOk result (self.new ≡ (self.old.0, self.old.1 ++ piece.now)) }
+        ensures err { OnErr result (self.new ≡ self.old) }
+    {
         self.bytes.extend_from_slice(piece)
     }
 

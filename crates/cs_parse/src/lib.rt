@@ -10,6 +10,7 @@ mod field;
 mod grow;
 mod growing;
 mod header;
+mod lack;
 pub mod laws;
 mod name;
 mod number;

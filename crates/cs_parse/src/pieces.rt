@@ -30,14 +30,17 @@ pub struct PieceParser {
     text: Growing,
     offset: usize,
     fault: Option<ParseFault>,
-    // how far the change that waits was gone over
+    // how far the change or the header that waits was gone over
     spot: Spot,
+    // so many bytes at least are lacking of it, so that fewer are taken without a look at them; 0 where nothing is known
+    lacking: usize,
 }
 
 impl Model for PieceParser {
-    ghost use Rattle.std.specs.Prelude.{◌≤◌};
+    ghost use Rattle.std.specs.Prelude.{◌≤◌, ◌+◌};
     ghost use Rattle.cs_model.specs.Changeset.{most_bytes};
     ghost use Rattle.cs_parse.specs.Front.{KeepsSpot};
+    ghost use Rattle.cs_parse.specs.Lack.{IsPaused};
     ghost use Rattle.cs_parse.specs.Progress.{last_flags};
     ghost use Rattle.cs_parse.specs.Progress.{Progress, progress_code};
 
@@ -47,7 +50,9 @@ impl Model for PieceParser {
 
     ghost view = { λ p. record { sections = p.text.0; pending = p.text.1; offset = p.offset; fault = p.fault } };
 
-    ghost invariant = { λ p. (p.offset ≤ most_bytes) × KeepsSpot (last_flags p.text.0) p.text.1 p.spot };
+    ghost invariant = { λ p. (p.offset + p.lacking ≤ most_bytes)
+        × KeepsSpot (last_flags p.text.0) p.text.1 p.spot
+        × IsPaused p.fault p.text.0 p.text.1 p.lacking };
 }
 
 impl PieceParser {
@@ -61,6 +66,7 @@ impl PieceParser {
             offset: 0,
             fault: None,
             spot: Spot::start(),
+            lacking: 0,
         }
     }
 
@@ -89,9 +95,26 @@ impl PieceParser {
         self.fed(alloc, piece)
     }
 
-    // the same, as the answer is determined by the progress
-    #[tactic(auto, unfolding(crate::specs::Progress::advanced))]
+    // The same, as the answer is determined by the progress. Bytes of a value whose length is known are only put behind those that
+    // wait, and that is all that most calls do where pieces are short.
+    #[inline(always)]
     fn fed(&mut self, alloc: Global, piece: &[u8]) -> Result<(), ParseError>
+        ensures fed { Fed result self.old piece.now self.new }
+        ensures again { (fault : ParseFault) → self.old.fault ≡ Some fault
+            → result ≡ Err (ParseError.Fault fault) }
+    {
+        if piece.len() < self.lacking {
+            self.text.append(piece)?;
+            self.lacking -= piece.len();
+            self.offset += piece.len();
+            return Ok(());
+        }
+        self.read_in(alloc, piece)
+    }
+
+    // the same, where the bytes are looked at
+    #[tactic(auto, unfolding(crate::specs::Progress::advanced))]
+    fn read_in(&mut self, alloc: Global, piece: &[u8]) -> Result<(), ParseError>
         ensures fed { Fed result self.old piece.now self.new }
         ensures again { (fault : ParseFault) → self.old.fault ≡ Some fault
             → result ≡ Err (ParseError.Fault fault) }
@@ -116,16 +139,20 @@ impl PieceParser {
 
     // Reads bytes within the limit.
     fn take_in(&mut self, alloc: Global, bytes: &[u8]) -> Result<(), ParseError>
-        requires { self.old.offset + length bytes.now ≤ most_bytes }
+        requires within { self.old.offset + length bytes.now ≤ most_bytes }
+        requires none { self.old.fault ≡ None }
         ensures { TakesIn result self.old bytes.now self.new }
     {
         let start = self.text.waiting().len();
         self.text.extend(alloc, bytes)?;
         let taken = self.offset + bytes.len();
-        if still_waits(self.text.sections(), self.text.waiting(), &mut self.spot) {
+        let lacking = still_waits(self.text.sections(), self.text.waiting(), &mut self.spot);
+        if lacking > 0 {
+            self.lacking = lacking.min(MOST_BYTES - taken);
             self.offset = taken;
             return Ok(());
         }
+        self.lacking = 0;
         self.spot = Spot::start();
         match grow(alloc, &mut self.text, taken) {
             Ok(()) => {
@@ -149,6 +176,7 @@ impl PieceParser {
         self.offset = fault.at;
         self.fault = Some(fault);
         self.spot = Spot::start();
+        self.lacking = 0;
         ParseError::Fault(fault)
     }
 

@@ -1,18 +1,20 @@
 //! How far a change that isn't whole was gone over, so that more bytes behind it are read from there on and not from its front.
 //! `name` does the same for headers.
 
-ghost use Rattle.std.specs.Prelude.{◌≡◌, ◌≤◌, ◌++◌, ℕ, List, length, Ok, Err, map, IfSome, IsTrue};
+ghost use Rattle.std.specs.Prelude.{◌≡◌, ◌≤◌, ◌<◌, ◌++◌, ℕ, List, length, Ok, Err, map, IfSome};
 ghost use Rattle.cs_model.specs.Bytes.{AreBytes};
 ghost use Rattle.cs_model.specs.declared.change.Op.{Op};
 ghost use Rattle.cs_model.specs.declared.value.Field.{Field};
 ghost use Rattle.cs_model.specs.Rule.{old_rule};
 ghost use Rattle.cs_parse.specs.FieldRules.{rule_of, column_rule};
+ghost use Rattle.cs_parse.specs.Lack.{place_of, StaysAt};
 ghost use Rattle.cs_parse.specs.Reading.{record_at, change_at};
 ghost use Rattle.cs_parse.specs.Spot.{Halts, HaltsNew, IsBack, InFirst, PassedFirst, InNew, IsSpot, StaysShort};
 ghost use Rattle.cs_parse.specs.declared.spot.Spot.TheVariants.{Start, Row, Old};
 ghost use Rattle.cs_parse.specs.declared.stop.Refusal.TheVariants.{Short};
 
 use crate::field::field_in;
+use crate::lack::field_lacks;
 use crate::rule::{FieldRule, rule_by_flag, rule_by_old};
 use crate::stop::Refusal;
 
@@ -184,20 +186,36 @@ fn next_spot(flags: &[u8], bytes: &[u8], spot: Spot) -> Option<Spot>
     }
 }
 
-/// Whether a change still ends too early, of which these bytes are there, none or more. The spot is moved to the first field
-/// that isn't whole, and stays right with any bytes behind these. It takes time in line with the fields that are passed. Where it is
-/// false, the change is whole or a byte is wrong, and nothing is known of the spot.
-pub fn still_short(flags: &[u8], bytes: &[u8], spot: &mut Spot) -> bool
+// How many bytes at least are lacking of the field at a spot. Where the spot is at no field that is one.
+fn spot_lacks(bytes: &[u8], spot: Spot) -> usize
+    requires { place_of spot ≤ length bytes.now }
+    ensures some { 0 < result }
+    ensures lacks { (more : List ℕ) → length more < result → StaysAt bytes.now spot more }
+{
+    match spot {
+        Spot::Row { at, .. } | Spot::Old { at, .. } | Spot::New { at, .. } => {
+            let (_, field) = bytes.split_at(at);
+            field_lacks(field)
+        }
+        Spot::Start | Spot::Name { .. } => 1,
+    }
+}
+
+/// How many bytes at least are lacking of a change that still ends too early, of which these are there, none or more. The spot is moved
+/// to the first field that isn't whole, and stays right with any bytes behind these. It takes time in line with the fields that are
+/// passed. Where it is 0, the change is whole or a byte is wrong, and nothing is known of the spot.
+pub fn still_short(flags: &[u8], bytes: &[u8], spot: &mut Spot) -> usize
     requires { IsSpot flags.now bytes.now spot.old }
-    ensures short { IsTrue result → change_at flags.now bytes.now ≡ Err Short }
-    ensures spot { IsTrue result → (more : List ℕ) → AreBytes more
+    ensures short { (more : List ℕ) → length more < result
+        → change_at flags.now (bytes.now ++ more) ≡ Err Short }
+    ensures spot { 0 < result → (more : List ℕ) → AreBytes more
         → IsSpot flags.now (bytes.now ++ more) spot.new }
 {
     match next_spot(flags, bytes, *spot) {
         Some(next) => {
             *spot = next;
-            true
+            spot_lacks(bytes, next)
         }
-        None => false,
+        None => 0,
     }
 }

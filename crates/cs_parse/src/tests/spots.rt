@@ -1,6 +1,7 @@
 //! Changes that come byte by byte.
 
 use super::*;
+use crate::lack::field_lacks;
 use crate::spot::{Spot, still_short};
 
 // the key bytes of a table with three columns, of which the first is its key
@@ -21,11 +22,11 @@ const CHANGED: [u8; 26] = [
 fn told_at(flags: &[u8], change: &[u8]) -> Option<usize> {
     let mut spot = Spot::start();
     for len in 0..change.len() {
-        if !still_short(flags, &change[..len], &mut spot) {
+        if still_short(flags, &change[..len], &mut spot) == 0 {
             return Some(len);
         }
     }
-    (!still_short(flags, change, &mut spot)).then_some(change.len())
+    (still_short(flags, change, &mut spot) == 0).then_some(change.len())
 }
 
 #[test]
@@ -51,4 +52,20 @@ fn wrong_bytes_are_told_at_once(rt: HostRuntime) {
     changed[20] = 0;
     assert_eq!(rt; told_at(&FLAGS, &changed), Some(21));
     assert_eq!(rt; told_at(&FLAGS, &[0x13]), Some(1));
+}
+
+#[test]
+fn what_is_lacking_of_fields(rt: HostRuntime) {
+    // before the type byte, and behind that of a NULL
+    assert_eq!(rt; field_lacks(&[]), 1);
+    assert_eq!(rt; field_lacks(&[5]), 1);
+    // an INTEGER has eight bytes
+    assert_eq!(rt; field_lacks(&[1]), 8);
+    assert_eq!(rt; field_lacks(&[1, 0, 0, 0, 0, 0, 0, 0]), 1);
+    // a length that isn't there, or not whole, and such as are
+    assert_eq!(rt; field_lacks(&[3]), 1);
+    assert_eq!(rt; field_lacks(&[4, 0x81]), 1);
+    assert_eq!(rt; field_lacks(&[4, 0x81, 0]), 128);
+    assert_eq!(rt; field_lacks(&[3, 3, 0x61, 0x62]), 1);
+    assert_eq!(rt; field_lacks(&[3, 2, 0x61, 0x62]), 1);
 }

@@ -1,5 +1,6 @@
 use Rattle.std.proofs.Common.{arith}
-use Rattle.cs_parse.proofs.SpotLaws.{back_of_drop, back_shorter, more_columns, new_halts, new_passed}
+use Rattle.cs_parse.proofs.SpotLaws.{back_of_drop, back_shorter, more_columns, new_halts}
+use Rattle.cs_parse.proofs.StayLaws.{new_passed}
 use Rattle.cs_parse.proofs.spot.new_spot.Goals as goal
 
 pub overflow_add-result : goal.overflow_add-result
@@ -18,4 +19,4 @@ pub returns : goal.returns
 returns c =
     let halts = new_halts c.args.flags.now c.args.bytes.now c.args.fields c.args.at c.args.old c.split_at.result.1.now c.split_at-2.result.1.now c.split_at-3.result.1.now c.in_ok-passed.passed c.in_ok-passed.old_rest.now c.in_ok-passed.rest.now
     c.split_at.ensures.back c.split_at-2.ensures.back c.split_at-3.ensures.back c.requires c.in_ok-passed.ensures.halts in
-    new_passed c.args.flags.now c.args.bytes.now c.args.fields c.args.at c.args.old c.split_at-2.result.1.now c.in_ok-passed.passed c.in_ok-passed.old_rest.now c.in_ok-passed.rest.now c.split_at-2.ensures.back c.in_ok-passed.ensures.back c.requires halts
+    new_passed c.args.flags.now c.args.bytes.now c.args.fields c.args.at c.args.old c.split_at-2.result.1.now c.in_ok-passed.passed c.in_ok-passed.old_rest.now c.in_ok-passed.rest.now (λ i. omega (arith, c.type_inv.bytes i)) c.split_at-2.ensures.back c.in_ok-passed.ensures.back c.requires halts

@@ -1,17 +1,29 @@
-use Rattle.std.proofs.Common.{◌+◌, ◌≤◌, ◌++◌, Err, length, take, ap, subst, arith}
-use Rattle.std.proofs.lemmas.List.{length-take}
-use Rattle.cs_model.specs.Changeset.{most_bytes}
-use Rattle.cs_parse.specs.Front.{TakesIn}
-use Rattle.cs_parse.specs.Progress.{read_on}
-use Rattle.cs_parse.proofs.FaultPlaces.{fault_within}
+use Rattle.std.proofs.Common.{◌≡◌, ◌+◌, ◌-◌, ℕ, List, None, length, sym, ap, subst, arith}
+use Rattle.cs_model.specs.Bytes.{AreBytes}
+use Rattle.cs_model.specs.Section.{Section}
+use Rattle.cs_parse.specs.Front.{KeepsSpot}
+use Rattle.cs_parse.specs.Lack.{IsPaused}
+use Rattle.cs_parse.specs.Progress.{Progress, last_flags, advanced}
+use Rattle.cs_parse.proofs.WaitLaws.{keeps_more, paused_behind, paused_fed}
 use Rattle.cs_parse.proofs.pieces.PieceParser.fed.Goals as goal
 
-pub break_off-requires-in-Err-Fault : goal.break_off-requires-in-Err-Fault
-break_off-requires-in-Err-Fault c =
-    let old = c.args.self.now in
-    let bytes = take c.min.result c.args.piece.now in
-    let x = c.in-Err-Fault in
-    let few : old.offset + length bytes ≤ most_bytes = omega (arith, length-take c.min.result c.args.piece.now, c.min.ensures, c.self.invariant, ap (λ p. p.offset) c.self.view_is) in
-    let told = subst (λ e. TakesIn {A = Unit {0}} (Err e) old bytes c.take_in.new.self) x.field-0-is x.ensures in
-    let within = fault_within (old.offset + length bytes) (read_on old.sections (old.pending ++ bytes)) x.fault few told in
-    omega (arith, within, few)
+pub invariant_of-self-then-piece-self : goal.invariant_of-self-then-piece-self
+invariant_of-self-then-piece-self c =
+    let old = c.self.inside in
+    let piece = c.args.piece.now in
+    let fits : AreBytes piece = λ i. omega (arith, c.type_inv.piece i) in
+    let new_is = sym c.in_ok-append.ensures.ok in (
+      omega (arith, c.self.invariant.0, c.if-piece-self.true),
+      subst (λ (t : List Section × List ℕ). KeepsSpot (last_flags t.0) t.1 old.spot) new_is (keeps_more (last_flags old.text.0) old.text.1 piece old.spot fits c.self.invariant.1),
+      subst (λ (t : List Section × List ℕ). IsPaused old.fault t.0 t.1 (old.lacking - length piece)) new_is (paused_behind old.fault old.text.0 old.text.1 piece old.lacking c.if-piece-self.true c.self.invariant.2),
+    )
+
+pub returns-then-piece-self-clause-fed : goal.returns-then-piece-self-clause-fed
+returns-then-piece-self-clause-fed c =
+    let old = c.self.inside in
+    let piece = c.args.piece.now in
+    let seen : Progress = record { sections = old.text.0; pending = old.text.1; offset = old.offset; fault = old.fault } in
+    let put : List Section × List ℕ → Progress = λ t. record { sections = t.0; pending = t.1; offset = old.offset + length piece; fault = old.fault } in
+    let new = put c.append.new.self in
+    subst (λ p. ((advanced p piece).fault ≡ None) × (new ≡ advanced p piece)) c.self.view_is
+    (paused_fed seen new piece old.lacking c.self.invariant.0 c.if-piece-self.true c.self.invariant.2 (ap put c.in_ok-append.ensures.ok))

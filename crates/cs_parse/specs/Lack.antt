@@ -1,0 +1,50 @@
+-- How many bytes at least are lacking of what isn't whole.
+use Rattle.std.specs.Prelude.{◌≡◌, ℕ, ◌<◌, List, [], ◌++◌, length, drop, Option, Some, None, Err}
+use Rattle.cs_model.specs.Rule.{Rule}
+use Rattle.cs_model.specs.Section.{Section}
+use Rattle.cs_parse.specs.declared.fault.ParseFault.{ParseFault}
+use Rattle.cs_parse.specs.declared.spot.Spot.{Spot}
+use Rattle.cs_parse.specs.declared.spot.Spot.TheVariants.{Start, Row, Old, New, Name}
+use Rattle.cs_parse.specs.declared.stop.Refusal.TheVariants.{Short}
+use Rattle.cs_parse.specs.Progress.{read_on}
+use Rattle.cs_parse.specs.Reading.{typed_at, record_at}
+
+-- So many bytes at least are lacking of a value behind its type byte: with each fewer behind it, it ends too early.
+abbrev pub LacksValue : ℕ → List ℕ → ℕ → Type 0
+LacksValue byte bytes least = (more : List ℕ) → length more < least → typed_at byte (bytes ++ more) ≡ Err Short
+
+-- A record that these bytes begin, and that ends too early, does so with those behind them too, whatever its rules.
+abbrev pub StaysIn : List ℕ → List ℕ → Type 0
+StaysIn bytes more = (rules : List Rule) → record_at rules bytes ≡ Err Short → record_at rules (bytes ++ more) ≡ Err Short
+
+-- So it does with each fewer than so many bytes behind it.
+abbrev pub LacksIn : List ℕ → ℕ → Type 0
+LacksIn bytes least = (more : List ℕ) → length more < least → StaysIn bytes more
+
+-- where the field begins that a spot is at
+abbrev pub place_of : Spot → ℕ
+place_of Start = 0
+place_of (Row fields place) = place
+place_of (Old fields place) = place
+place_of (New fields place old) = place
+place_of (Name place letters) = place
+
+-- The field that stands at the spot in a change ends too early with those behind it too. Where the change was gone over to no
+-- field, that is known without any.
+abbrev pub StaysAt : List ℕ → Spot → List ℕ → Type 0
+StaysAt bytes Start more = more ≡ []
+StaysAt bytes (Row fields place) more = StaysIn (drop place bytes) more
+StaysAt bytes (Old fields place) more = StaysIn (drop place bytes) more
+StaysAt bytes (New fields place old) more = StaysIn (drop place bytes) more
+StaysAt bytes (Name place letters) more = more ≡ []
+
+-- Of the part that these bytes behind sections begin so many are lacking at least: with each fewer behind it nothing is whole,
+-- and no byte is wrong.
+abbrev pub WaitsFor : List Section → List ℕ → ℕ → Type 0
+WaitsFor sections bytes least = (more : List ℕ) → length more < least → read_on sections (bytes ++ more) ≡ record { sections = sections; rest = bytes ++ more; why = Some Short }
+
+-- Fewer bytes than so many can be taken without a look at them: bytes wait, of whose part so many are lacking, and there is no fault.
+pub record IsPaused (fault : Option ParseFault) (sections : List Section) (bytes : List ℕ) (least : ℕ) : Type 0 where
+  pub no_fault : 0 < least → fault ≡ None
+  pub some : 0 < least → 0 < length bytes
+  pub lacks : WaitsFor sections bytes least
