@@ -17,4 +17,4 @@ goes_on flags change len spot fits lt h = subst (λ w. IsSpot flags w spot) (sym
 pub loop-len-preserved : goal.loop-len-preserved
 loop-len-preserved c =
     let fits : AreBytes c.args.change.now = λ i. omega (arith, c.type_inv.change i) in
-    goes_on c.args.flags.now c.args.change.now c.loop-len.len c.still_short.new.spot fits c.loop-len-test.true (c.if-still_short.ensures.spot refl)
+    goes_on c.args.flags.now c.args.change.now c.loop-len.len c.still_short.new.spot fits c.loop-len-test.true (c.still_short.ensures.spot (omega (arith, c.if-still_short-eq0.false)))
