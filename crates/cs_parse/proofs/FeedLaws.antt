@@ -1,17 +1,19 @@
 -- What a parser answers, of every text that it may have taken.
-use Rattle.std.proofs.Common.{◌≡◌, ℕ, List, [], arith, ◌++◌, Option, Some, None, Result, Ok, Err, sym, ap, subst, ◌∙◌}
-use Rattle.std.specs.Prelude.{IfErr, OnOk, IfOk}
+use Rattle.std.proofs.Common.{◌≡◌, ◌==◌, Bool, cond, refl, suc, length, ◌∷◌, ℕ, List, [], arith, ◌++◌, Option, Some, None, Result, Ok, Err, sym, ap, subst, ◌∙◌}
+use Rattle.std.specs.Prelude.{IfErr, OnOk, IfOk, IsOk}
+use Rattle.std.proofs.lemmas.Bool.{false≢true, ne_eqb}
 use Rattle.std.specs.Borrow.{Bor}
 use Rattle.cs_model.specs.Bytes.{AreBytes}
 use Rattle.cs_model.specs.Section.{Section}
 use Rattle.cs_model.specs.Text.{Spells}
+use Rattle.cs_parse.specs.declared.fault.FaultKind.TheVariants.{Truncated}
 use Rattle.cs_parse.specs.declared.fault.ParseError.{ParseError}
 use Rattle.cs_parse.specs.declared.fault.ParseError.TheVariants.{Fault, Memory}
 use Rattle.cs_parse.specs.declared.fault.ParseFault.{ParseFault}
 use Rattle.cs_parse.specs.Answer.{Shows}
 use Rattle.cs_parse.specs.Fault.{IsFault}
 use Rattle.cs_parse.specs.Pieces.{fault_in, IsLasting, TellsLasting, GoesOn}
-use Rattle.cs_parse.specs.Progress.{Progress, advanced, ended, Fed, Took, Takes}
+use Rattle.cs_parse.specs.Progress.{Progress, advanced, ended_by, ended, Fed, Took, Takes}
 use Rattle.cs_parse.proofs.Exact.{are_bytes-append}
 use Rattle.cs_parse.proofs.FaultLaws.{refused_is_fault}
 use Rattle.cs_parse.proofs.PieceLaws.{lasting_is, is_lasting, goes_on}
@@ -32,6 +34,19 @@ finish_faulty (Ok found) progress shows text took = tt
 finish_faulty (Err fault) progress shows text took = refused_is_fault text fault took.bytes (sym (progress_ended text took.bytes) ∙ ap ended (sym took.read) ∙ shows)
 
 -- ---- the changeset taken out
+
+abbrev answer : Bool → List Section → ParseFault → Result (List Section) ParseFault
+answer b sections fault = cond b (Ok sections) (Err fault)
+
+no_more : (pending : List ℕ) (sections : List Section) (fault : ParseFault) → IsOk (answer (length pending == 0) sections fault) → pending ≡ []
+no_more [] sections fault ok = refl
+no_more (byte ∷ pending) sections fault ok =
+    absurd (false≢true (subst (λ b. IsOk (answer b sections fault)) (ne_eqb (suc (length pending)) 0 (λ z. absurd cc)) ok))
+
+-- where a changeset is shown nothing waits
+pub none_left : (progress : Progress) (o : Option ParseFault) → IsOk (ended_by o progress) → progress.pending ≡ []
+none_left progress (Some fault) ok = absurd (false≢true ok)
+none_left progress None ok = no_more progress.pending progress.sections (record { at = progress.offset; kind = Truncated }) ok
 
 -- a new parser has taken no bytes
 no_bytes : AreBytes []

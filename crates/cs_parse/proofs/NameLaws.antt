@@ -1,13 +1,14 @@
 -- Headers up to their names, and names that aren't whole.
-use Rattle.std.proofs.Common.{◌≡◌, ◌==◌, ℕ, zero, suc, ◌+◌, ◌-◌, ◌≤◌, min, true, false, cond, eqb, List, [], ◌∷◌, ◌++◌, length, take, drop, position, Option, Some, None, Result, Ok, Err, refl, sym, ap, ◌∙◌, append_assoc, arith}
+use Rattle.std.proofs.Common.{◌≡◌, ◌==◌, ℕ, zero, suc, ◌+◌, ◌-◌, ◌≤◌, min, true, false, cond, eqb, List, [], ◌∷◌, ◌++◌, length, take, drop, position, Option, Some, None, Result, Ok, Err, refl, sym, ap, subst, ◌∙◌, append_assoc, arith}
 use Rattle.std.specs.List.{position_or_len}
 use Rattle.std.specs.Option.{is_some}
 use Rattle.std.proofs.lemmas.Bool.{le-ltb}
-use Rattle.std.proofs.lemmas.List.{nil_from_length, take_at, take_all, take-append-drop, take-append-le, drop-append-le, length-append, length-drop}
+use Rattle.std.proofs.lemmas.List.{nil_from_length, append-nil, take_at, take_all, take-append-drop, take-append-le, drop-append-le, length-append, length-drop}
+use Rattle.std.proofs.Math.Seq.{drop-append_seam}
 use Rattle.cs_model.specs.declared.shape.Shape.{Shape}
 use Rattle.cs_model.specs.Section.{Section}
 use Rattle.cs_parse.specs.declared.fault.FaultKind.TheVariants.{EmptyName}
-use Rattle.cs_parse.specs.declared.spot.Spot.TheVariants.{Name}
+use Rattle.cs_parse.specs.declared.spot.Spot.TheVariants.{Start, Name}
 use Rattle.cs_parse.specs.declared.stop.Refusal.{Refusal}
 use Rattle.cs_parse.specs.declared.stop.Refusal.TheVariants.{Short}
 use Rattle.cs_parse.specs.Progress.{read_on}
@@ -107,7 +108,7 @@ place_behind (suc b ∷ front) back le =
     let rec = place_behind front back (omega (arith, le, place_more b front)) in
     omega (arith, rec, place_more b (front ++ back))
 
-none_behind : (front back : List ℕ) → position is_zero front ≡ None → position is_zero back ≡ None → position is_zero (front ++ back) ≡ None
+pub none_behind : (front back : List ℕ) → position is_zero front ≡ None → position is_zero back ≡ None → position is_zero (front ++ back) ≡ None
 none_behind front back e f =
     let g = found_none (position_or_len is_zero front) (length front) e in
     let h = found_none (position_or_len is_zero back) (length back) f in
@@ -121,19 +122,6 @@ name_short name short none =
     let most : length name ≡ min (length name) 1025 = omega arith in
     let letters = short_is name (length name) most (sym (ap (position is_zero) (take_all (length name) name (omega arith)) ∙ none)) short in
     ap (λ r. r >>= λ n. cond (eqb (length n.0) 0) (refuse EmptyName n.1) (Ok n)) letters
-
-pub name_goes_on : (bytes : List ℕ) (place letters : ℕ) (name new : List ℕ) → InName bytes place letters → name ≡ drop place bytes → new ≡ drop letters name → length name ≤ 1024 → position is_zero new ≡ None
-    → StaysHeader bytes (Some (Name place (length name)))
-name_goes_on bytes place letters name new h name_is new_is short none =
-    let here : take letters name ≡ take letters (drop place bytes) = ap (take letters) name_is in
-    let before : position is_zero (take letters name) ≡ None = ap (position is_zero) here ∙ h.no_zero in
-    let behind : position is_zero (drop letters name) ≡ None = ap (position is_zero) (sym new_is) ∙ none in
-    let all : position is_zero name ≡ None = sym (ap (position is_zero) (take-append-drop letters name)) ∙ none_behind (take letters name) (drop letters name) before behind in
-    let rest : position is_zero (take (length name) (drop place bytes)) ≡ None = ap (λ w. position is_zero (take (length name) w)) (sym name_is) ∙ ap (position is_zero) (take_all (length name) name (omega arith)) ∙ all in
-    let reads = ap (λ r. r >>= shaped h.flags) (ap name_at (sym name_is) ∙ name_short name short all) in (
-      sym (ap shape_at (take-append-drop place bytes)) ∙ h.passes (drop place bytes) ∙ reads,
-      λ _. record { flags = h.flags; within = omega (arith, h.within, ap length name_is, length-drop place bytes); passes = h.passes; no_zero = rest },
-    )
 
 -- ---- more bytes
 
@@ -149,6 +137,48 @@ name_more bytes more place letters h =
       passes = λ back. ap (λ w. shape_at (w ++ back)) front ∙ h.passes back;
       no_zero = ap (position is_zero) behind ∙ h.no_zero;
     }
+
+-- ---- a name that isn't whole
+
+-- a header whose name has no zero byte yet ends too early
+name_still : (bytes : List ℕ) (place letters : ℕ) → InName bytes place letters → length (drop place bytes) ≤ 1024 → position is_zero (drop letters (drop place bytes)) ≡ None
+    → (shape_at bytes ≡ Err Short) × InName bytes place (length (drop place bytes))
+name_still bytes place letters h short behind =
+    let name = drop place bytes in
+    let all : position is_zero name ≡ None = sym (ap (position is_zero) (take-append-drop letters name)) ∙ none_behind (take letters name) (drop letters name) h.no_zero behind in
+    let rest : position is_zero (take (length name) name) ≡ None = ap (position is_zero) (take_all (length name) name (omega arith)) ∙ all in
+    let reads = ap (λ r. r >>= shaped h.flags) (name_short name short all) in (
+      sym (ap shape_at (take-append-drop place bytes)) ∙ h.passes name ∙ reads,
+      record { flags = h.flags; within = omega (arith, h.within, length-drop place bytes); passes = h.passes; no_zero = rest },
+    )
+
+-- and so with more bytes behind it, none of which is zero
+name_later : (bytes more : List ℕ) (place : ℕ) → InName bytes place (length (drop place bytes)) → length (drop place bytes) + length more ≤ 1024 → position is_zero more ≡ None → shape_at (bytes ++ more) ≡ Err Short
+name_later bytes more place h short none =
+    let name = drop place bytes in
+    let le : place ≤ length bytes = omega (arith, h.within) in
+    let longer : drop place (bytes ++ more) ≡ name ++ more = drop-append-le place bytes more le in
+    let new : drop (length name) (drop place (bytes ++ more)) ≡ more = ap (drop (length name)) longer ∙ drop-append_seam name more in
+    (name_still (bytes ++ more) place (length name) (name_more bytes more place (length name) h) (omega (arith, ap length longer, length-append name more, short)) (ap (position is_zero) new ∙ none)).0
+
+pub name_goes_on : (bytes : List ℕ) (place letters : ℕ) (name new : List ℕ) → InName bytes place letters → name ≡ drop place bytes → new ≡ drop letters name → length name ≤ 1024 → position is_zero new ≡ None
+    → StaysHeader bytes (Some (Name place (length name)))
+name_goes_on bytes place letters name new h name_is new_is short none =
+    let len : length name ≡ length (drop place bytes) = ap length name_is in
+    let behind : position is_zero (drop letters (drop place bytes)) ≡ None = ap (λ w. position is_zero (drop letters w)) (sym name_is) ∙ ap (position is_zero) (sym new_is) ∙ none in
+    let still = name_still bytes place letters h (omega (arith, len, short)) behind in (
+      still.0,
+      λ _. subst (InName bytes place) (sym len) still.1,
+      λ more less no_zero. name_later bytes more place still.1 (omega (arith, len, less)) no_zero,
+    )
+
+-- before its name nothing is said of more bytes
+pub begins_short : (bytes : List ℕ) → shape_at bytes ≡ Err Short → StaysHeader bytes (Some Start)
+begins_short bytes e = (
+  e,
+  λ _. tt,
+  λ more less no_zero. ap (λ w. shape_at (bytes ++ w)) (nil_from_length more (omega (arith, less))) ∙ ap shape_at (append-nil bytes) ∙ e,
+)
 
 -- ---- behind sections
 

@@ -1,7 +1,8 @@
 -- Bytes that wait behind sections.
-use Rattle.std.proofs.Common.{◌≡◌, ℕ, ◌+◌, ◌-◌, cond, ◌<◌, ◌≤◌, length, false, List, [], ◌∷◌, ◌++◌, Option, Some, None, Err, sym, ap, subst, ◌∙◌, append_assoc, arith}
-use Rattle.std.proofs.lemmas.Bool.{le-ltb}
-use Rattle.std.proofs.lemmas.List.{nil_from_length, append-nil, length-append, take_all}
+use Rattle.std.proofs.Common.{◌≡◌, refl, Bool, true, suc, ℕ, ◌+◌, ◌-◌, cond, ◌<◌, ◌≤◌, length, false, List, [], ◌∷◌, ◌++◌, Option, Some, None, Err, sym, ap, subst, ◌∙◌, append_assoc, arith}
+use Rattle.std.specs.Prelude.{◌==◌, IsTrue}
+use Rattle.std.proofs.lemmas.Bool.{le-ltb, ne_eqb}
+use Rattle.std.proofs.lemmas.List.{append-nil, length-append, take_all}
 use Rattle.cs_model.specs.Bytes.{AreBytes}
 use Rattle.cs_model.specs.Changeset.{most_bytes}
 use Rattle.cs_model.specs.Section.{Section}
@@ -11,12 +12,13 @@ use Rattle.cs_parse.specs.declared.spot.Spot.{Spot}
 use Rattle.cs_parse.specs.declared.spot.Spot.TheVariants.{Start, Row, Old, New, Name}
 use Rattle.cs_parse.specs.declared.stop.Refusal.TheVariants.{Short}
 use Rattle.cs_parse.specs.Front.{Waits, KeepsSpot}
-use Rattle.cs_parse.specs.Lack.{WaitsFor, IsPaused}
+use Rattle.cs_parse.specs.Lack.{HasNoZero, LacksInHeader, WaitsFor, IsPaused}
 use Rattle.cs_parse.specs.Progress.{Progress, Reached, broken, last_flags, parts_at, read_on, arrived, within, advance, advanced}
 use Rattle.cs_parse.specs.Reading.{◌>>=◌, change_at, ends_section}
 use Rattle.cs_parse.specs.Spot.{IsSpot, IsHeaderSpot}
 use Rattle.cs_parse.proofs.Exact.{are_bytes-append}
 use Rattle.cs_parse.proofs.FrontParts.{change_part, changed}
+use Rattle.cs_parse.proofs.NameLaws.{none_behind, header_waits}
 use Rattle.cs_parse.proofs.PartLaws.{part_refused}
 use Rattle.cs_parse.proofs.Steps.{bytes_from, bytes_to}
 
@@ -60,47 +62,48 @@ short_waits sections flags (byte ∷ bytes) last more short =
 abbrev waiting : List Section → List ℕ → Reached
 waiting sections bytes = record { sections = sections; rest = bytes; why = Some Short }
 
--- what is known without any more bytes
-pub one_waits : (sections : List Section) (bytes : List ℕ) → read_on sections bytes ≡ waiting sections bytes → WaitsFor sections bytes 1
-one_waits sections bytes e more less =
-    let same : bytes ++ more ≡ bytes = ap (λ w. bytes ++ w) (nil_from_length more (omega (arith, less))) ∙ append-nil bytes in
-    subst (λ w. read_on sections w ≡ waiting sections w) (sym same) e
+pub waits_now : (sections : List Section) (bytes : List ℕ) (header : Bool) (least : ℕ) → WaitsFor sections bytes header least → 0 < least → read_on sections bytes ≡ waiting sections bytes
+waits_now sections bytes header least lacks some = subst (λ w. read_on sections w ≡ waiting sections w) (append-nil bytes) (lacks [] some (λ _. refl))
 
-pub waits_now : (sections : List Section) (bytes : List ℕ) (least : ℕ) → WaitsFor sections bytes least → 0 < least → read_on sections bytes ≡ waiting sections bytes
-waits_now sections bytes least lacks some = subst (λ w. read_on sections w ≡ waiting sections w) (append-nil bytes) (lacks [] some)
+pub waits_less : (sections : List Section) (bytes : List ℕ) (header : Bool) (least other : ℕ) → other ≤ least → WaitsFor sections bytes header least → WaitsFor sections bytes header other
+waits_less sections bytes header least other le lacks more less none = lacks more (omega (arith, le, less)) none
 
-pub waits_less : (sections : List Section) (bytes : List ℕ) (least other : ℕ) → other ≤ least → WaitsFor sections bytes least → WaitsFor sections bytes other
-waits_less sections bytes least other le lacks more less = lacks more (omega (arith, le, less))
+waits_behind : (sections : List Section) (bytes piece : List ℕ) (header : Bool) (least : ℕ) → (IsTrue header → HasNoZero piece) → WaitsFor sections bytes header least → WaitsFor sections (bytes ++ piece) header (least - length piece)
+waits_behind sections bytes piece header least none lacks more less others =
+    let all : IsTrue header → HasNoZero (piece ++ more) = λ is. none_behind piece more (none is) (others is) in
+    subst (λ w. read_on sections w ≡ waiting sections w) (sym (append_assoc bytes piece more)) (lacks (piece ++ more) (omega (arith, less, length-append piece more)) all)
 
-pub waits_behind : (sections : List Section) (bytes piece : List ℕ) (least : ℕ) → WaitsFor sections bytes least → WaitsFor sections (bytes ++ piece) (least - length piece)
-waits_behind sections bytes piece least lacks more less =
-    subst (λ w. read_on sections w ≡ waiting sections w) (sym (append_assoc bytes piece more)) (lacks (piece ++ more) (omega (arith, less, length-append piece more)))
+pub header_lacks : (sections : List Section) (bytes : List ℕ) (least : ℕ) → (length bytes == 0) ≡ false → ends_section bytes ≡ true → LacksInHeader bytes least → WaitsFor sections bytes true least
+header_lacks sections [] least some over lacks more less none = absurd (cc some)
+header_lacks sections (byte ∷ bytes) least some over lacks more less none =
+    header_waits sections (byte ∷ (bytes ++ more)) (ne_eqb (suc (length (bytes ++ more))) 0 (λ z. absurd cc)) over (lacks more less (none refl))
 
 -- a change stays one
 ends_longer : (bytes more : List ℕ) → ends_section bytes ≡ false → ends_section (bytes ++ more) ≡ false
 ends_longer [] more e = absurd cc
 ends_longer (byte ∷ bytes) more e = e
 
-pub change_waits : (sections : List Section) (flags bytes : List ℕ) (least : ℕ) → last_flags sections ≡ Some flags → ends_section bytes ≡ false
-    → ((more : List ℕ) → length more < least → change_at flags (bytes ++ more) ≡ Err Short) → WaitsFor sections bytes least
-change_waits sections flags bytes least last over short more less = short_waits sections flags (bytes ++ more) last (ends_longer bytes more over) (short more less)
+pub change_lacks : (sections : List Section) (flags bytes : List ℕ) (least : ℕ) → last_flags sections ≡ Some flags → ends_section bytes ≡ false
+    → ((more : List ℕ) → length more < least → change_at flags (bytes ++ more) ≡ Err Short) → WaitsFor sections bytes false least
+change_lacks sections flags bytes least last over short more less none = short_waits sections flags (bytes ++ more) last (ends_longer bytes more over) (short more less)
 
 -- ---- what a parser keeps of it
 
 -- where so many are lacking some are there
-some_waits : (sections : List Section) (bytes : List ℕ) (least : ℕ) → WaitsFor sections bytes least → 0 < least → 0 < length bytes
+some_waits : (sections : List Section) (bytes : List ℕ) (header : Bool) (least : ℕ) → WaitsFor sections bytes header least → 0 < least → 0 < length bytes
 unfolding parts_at
-some_waits sections [] least lacks some =
-    let none = ap (λ r. r.why) (lacks [] some) in
+some_waits sections [] header least lacks some =
+    let none = ap (λ r. r.why) (lacks [] some (λ _. refl)) in
     absurd cc
-some_waits sections (byte ∷ bytes) least lacks some = omega arith
+some_waits sections (byte ∷ bytes) header least lacks some = omega arith
 
-pub paused : (fault : Option ParseFault) (sections : List Section) (bytes : List ℕ) (least : ℕ) → fault ≡ None → WaitsFor sections bytes least → IsPaused fault sections bytes least
-paused fault sections bytes least no_fault lacks = record { no_fault = λ _. no_fault; some = some_waits sections bytes least lacks; lacks = lacks }
+pub paused : (fault : Option ParseFault) (sections : List Section) (bytes : List ℕ) (header : Bool) (least : ℕ) → fault ≡ None → WaitsFor sections bytes header least → IsPaused fault sections bytes header least
+paused fault sections bytes header least no_fault lacks = record { no_fault = λ _. no_fault; some = some_waits sections bytes header least lacks; lacks = lacks }
 
-pub paused_behind : (fault : Option ParseFault) (sections : List Section) (bytes piece : List ℕ) (least : ℕ) → length piece < least → IsPaused fault sections bytes least
-    → IsPaused fault sections (bytes ++ piece) (least - length piece)
-paused_behind fault sections bytes piece least less p = paused fault sections (bytes ++ piece) (least - length piece) (p.no_fault (omega (arith, less))) (waits_behind sections bytes piece least p.lacks)
+pub paused_behind : (fault : Option ParseFault) (sections : List Section) (bytes piece : List ℕ) (header : Bool) (least : ℕ) → length piece < least → (IsTrue header → HasNoZero piece) → IsPaused fault sections bytes header least
+    → IsPaused fault sections (bytes ++ piece) header (least - length piece)
+paused_behind fault sections bytes piece header least less none p =
+    paused fault sections (bytes ++ piece) header (least - length piece) (p.no_fault (omega (arith, less))) (waits_behind sections bytes piece header least none p.lacks)
 
 pub keeps_as : (flags others : Option (List ℕ)) (bytes same : List ℕ) (spot : Spot) → flags ≡ others → bytes ≡ same → KeepsSpot flags bytes spot → KeepsSpot others same spot
 keeps_as flags others bytes same spot e f keeps = subst (λ w. KeepsSpot others w spot) f (subst (λ o. KeepsSpot o bytes spot) e keeps)
@@ -110,20 +113,20 @@ keeps_as flags others bytes same spot e f keeps = subst (λ w. KeepsSpot others 
 abbrev behind : Progress → List ℕ → Progress
 behind old piece = record { sections = old.sections; pending = old.pending ++ piece; offset = old.offset + length piece; fault = None }
 
-advance_paused : (old : Progress) (piece : List ℕ) (least : ℕ) → old.offset + least ≤ most_bytes → length piece < least → WaitsFor old.sections old.pending least → advance None old piece ≡ behind old piece
-advance_paused old piece least room less lacks =
+advance_paused : (old : Progress) (piece : List ℕ) → old.offset + length piece ≤ most_bytes → read_on old.sections (old.pending ++ piece) ≡ waiting old.sections (old.pending ++ piece) → advance None old piece ≡ behind old piece
+advance_paused old piece room waits =
     let len = old.offset + length piece in
-    let all : within old piece ≡ piece = take_all (most_bytes - old.offset) piece (omega (arith, room, less)) in
+    let all : within old piece ≡ piece = take_all (most_bytes - old.offset) piece (omega (arith, room)) in
     ap (λ w. arrived len (old.offset + length w) (read_on old.sections (old.pending ++ w))) all
-    ∙ ap (λ r. arrived len len r) (lacks piece less)
-    ∙ ap (λ b. cond b (broken (record { at = most_bytes; kind = TooLong })) (behind old piece)) (le-ltb most_bytes len (omega (arith, room, less)))
+    ∙ ap (λ r. arrived len len r) waits
+    ∙ ap (λ b. cond b (broken (record { at = most_bytes; kind = TooLong })) (behind old piece)) (le-ltb most_bytes len room)
 
-pub paused_fed : (old new : Progress) (piece : List ℕ) (least : ℕ) → old.offset + least ≤ most_bytes → length piece < least → IsPaused old.fault old.sections old.pending least
+pub paused_fed : (old new : Progress) (piece : List ℕ) (header : Bool) (least : ℕ) → old.offset + least ≤ most_bytes → length piece < least → (IsTrue header → HasNoZero piece) → IsPaused old.fault old.sections old.pending header least
     → new ≡ record { sections = old.sections; pending = old.pending ++ piece; offset = old.offset + length piece; fault = old.fault } → ((advanced old piece).fault ≡ None) × (new ≡ advanced old piece)
 unfolding advanced
-paused_fed old new piece least room less p new_is =
-    let none = p.no_fault (omega (arith, less)) in
-    let whole : advanced old piece ≡ behind old piece = ap (λ o. advance o old piece) none ∙ advance_paused old piece least room less p.lacks in (
+paused_fed old new piece header least room less none p new_is =
+    let no_fault = p.no_fault (omega (arith, less)) in
+    let whole : advanced old piece ≡ behind old piece = ap (λ o. advance o old piece) no_fault ∙ advance_paused old piece (omega (arith, room, less)) (p.lacks piece less none) in (
       ap (λ (q : Progress). q.fault) whole,
-      new_is ∙ ap (λ o. record { sections = old.sections; pending = old.pending ++ piece; offset = old.offset + length piece; fault = o }) none ∙ sym whole,
+      new_is ∙ ap (λ o. record { sections = old.sections; pending = old.pending ++ piece; offset = old.offset + length piece; fault = o }) no_fault ∙ sym whole,
     )

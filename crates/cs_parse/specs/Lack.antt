@@ -1,5 +1,5 @@
 -- How many bytes at least are lacking of what isn't whole.
-use Rattle.std.specs.Prelude.{◌≡◌, ℕ, ◌<◌, List, [], ◌++◌, length, drop, Option, Some, None, Err}
+use Rattle.std.specs.Prelude.{◌≡◌, ◌==◌, ℕ, ◌-◌, ◌<◌, Bool, List, [], ◌++◌, length, drop, position, Option, Some, None, Err, IsTrue}
 use Rattle.cs_model.specs.Rule.{Rule}
 use Rattle.cs_model.specs.Section.{Section}
 use Rattle.cs_parse.specs.declared.fault.ParseFault.{ParseFault}
@@ -7,7 +7,7 @@ use Rattle.cs_parse.specs.declared.spot.Spot.{Spot}
 use Rattle.cs_parse.specs.declared.spot.Spot.TheVariants.{Start, Row, Old, New, Name}
 use Rattle.cs_parse.specs.declared.stop.Refusal.TheVariants.{Short}
 use Rattle.cs_parse.specs.Progress.{read_on}
-use Rattle.cs_parse.specs.Reading.{typed_at, record_at}
+use Rattle.cs_parse.specs.Reading.{typed_at, record_at, shape_at}
 
 -- So many bytes at least are lacking of a value behind its type byte: with each fewer behind it, it ends too early.
 abbrev pub LacksValue : ℕ → List ℕ → ℕ → Type 0
@@ -38,13 +38,33 @@ StaysAt bytes (Old fields place) more = StaysIn (drop place bytes) more
 StaysAt bytes (New fields place old) more = StaysIn (drop place bytes) more
 StaysAt bytes (Name place letters) more = more ≡ []
 
--- Of the part that these bytes behind sections begin so many are lacking at least: with each fewer behind it nothing is whole,
--- and no byte is wrong.
-abbrev pub WaitsFor : List Section → List ℕ → ℕ → Type 0
-WaitsFor sections bytes least = (more : List ℕ) → length more < least → read_on sections (bytes ++ more) ≡ record { sections = sections; rest = bytes ++ more; why = Some Short }
+-- how many bytes, none of which is zero, make the name at a spot too long
+abbrev pub room_at : Spot → ℕ
+room_at Start = 1
+room_at (Row fields place) = 1
+room_at (Old fields place) = 1
+room_at (New fields place old) = 1
+room_at (Name place letters) = 1025 - letters
 
--- Fewer bytes than so many can be taken without a look at them: bytes wait, of whose part so many are lacking, and there is no fault.
-pub record IsPaused (fault : Option ParseFault) (sections : List Section) (bytes : List ℕ) (least : ℕ) : Type 0 where
+-- none of the bytes is zero
+abbrev pub HasNoZero : List ℕ → Type 0
+HasNoZero bytes = position (λ byte. byte == 0) bytes ≡ None
+
+-- So many bytes at least are lacking of a header, where none of them is zero: with each fewer behind it, it ends too early.
+abbrev pub LacksInHeader : List ℕ → ℕ → Type 0
+LacksInHeader bytes least = (more : List ℕ) → length more < least → HasNoZero more → shape_at (bytes ++ more) ≡ Err Short
+
+-- ---- behind sections
+
+-- Of the part that these bytes behind sections begin so many are lacking at least, where none of them is zero if that part is a
+-- header: with each fewer behind it nothing is whole, and no byte is wrong.
+abbrev pub WaitsFor : List Section → List ℕ → Bool → ℕ → Type 0
+WaitsFor sections bytes header least =
+    (more : List ℕ) → length more < least → (IsTrue header → HasNoZero more) → read_on sections (bytes ++ more) ≡ record { sections = sections; rest = bytes ++ more; why = Some Short }
+
+-- Fewer bytes than so many can be taken without reading them, in a header those without a zero: bytes wait, of whose part so many
+-- are lacking, and there is no fault.
+pub record IsPaused (fault : Option ParseFault) (sections : List Section) (bytes : List ℕ) (header : Bool) (least : ℕ) : Type 0 where
   pub no_fault : 0 < least → fault ≡ None
   pub some : 0 < least → 0 < length bytes
-  pub lacks : WaitsFor sections bytes least
+  pub lacks : WaitsFor sections bytes header least

@@ -7,7 +7,7 @@ use Rattle.cs_model.specs.Rule.{Rule, row_rule, old_rule, new_rules}
 use Rattle.cs_parse.specs.declared.stop.Refusal.TheVariants.{Short}
 use Rattle.cs_parse.specs.declared.spot.Spot.{Spot}
 use Rattle.cs_parse.specs.declared.spot.Spot.TheVariants.{Start, Row, Old, New, Name}
-use Rattle.cs_parse.specs.Lack.{StaysAt}
+use Rattle.cs_parse.specs.Lack.{StaysAt, LacksInHeader, room_at}
 use Rattle.cs_parse.specs.Reading.{◌>>=◌, op_of, record_at, change_at, name_at, shape_at}
 
 -- ---- records
@@ -114,7 +114,8 @@ StaysShort flags bytes None = Unit {0}
 StaysShort flags bytes (Some spot) =
     (change_at flags bytes ≡ Err Short) × IsSpot flags bytes spot × ((more : List ℕ) → StaysAt bytes spot more → change_at flags (bytes ++ more) ≡ Err Short)
 
--- the header still ends too early, and was gone over to this spot, which is right whatever table stands before it
+-- The header still ends too early, and was gone over to this spot, which is right whatever table stands before it. It does so up to where
+-- its name would be too long.
 abbrev pub StaysHeader : List ℕ → Option Spot → Type 0
 StaysHeader bytes None = Unit {0}
-StaysHeader bytes (Some spot) = (shape_at bytes ≡ Err Short) × ((flags : List ℕ) → IsSpot flags bytes spot)
+StaysHeader bytes (Some spot) = (shape_at bytes ≡ Err Short) × ((flags : List ℕ) → IsSpot flags bytes spot) × LacksInHeader bytes (room_at spot)

@@ -59,27 +59,28 @@ fn wrong_in(taken: usize, why: Option<Refusal>) -> Option<ParseFault>
 }
 
 /// How many bytes at least are lacking of the header or the change of the last section's table that begins behind these sections,
-/// where it ends too early. So it is behind any sections of which the last one's table has the same key bytes. The spot is moved on, so
-/// that these bytes aren't gone over again when more come. Where it is 0, something is whole or wrong, and nothing is known of the spot.
-pub fn still_waits(sections: &[Section], bytes: &[u8], spot: &mut Spot) -> usize
+/// where it ends too early, and whether it is a header, of which none of them is zero. So it is behind any sections of which the last
+/// one's table has the same key bytes. The spot is moved on, so that these bytes aren't gone over again when more come. Where it is 0,
+/// something is whole or wrong, and nothing is known of the spot.
+pub fn still_waits(sections: &[Section], bytes: &[u8], spot: &mut Spot) -> (usize, bool)
     requires { Waits (last_flags sections.now) bytes.now spot.old }
-    ensures waits { 0 < result → (others : List Section)
+    ensures waits { 0 < result.0 → (others : List Section)
         → last_flags others ≡ last_flags sections.now → read_on others bytes.now
         ≡ record { sections = others; rest = bytes.now; why = Some Short } }
     ensures lacks { (others : List Section) → last_flags others ≡ last_flags sections.now
-        → WaitsFor others bytes.now result }
-    ensures spot { 0 < result → KeepsSpot (last_flags sections.now) bytes.now spot.new }
+        → WaitsFor others bytes.now result.1 result.0 }
+    ensures spot { 0 < result.0 → KeepsSpot (last_flags sections.now) bytes.now spot.new }
 {
     if bytes.is_empty() {
-        return 0;
+        return (0, false);
     }
     if is_over(bytes) {
-        return if header_short(bytes, spot) { 1 } else { 0 };
+        return (header_short(bytes, spot), true);
     }
     let Some(section) = sections.last() else {
-        return 0;
+        return (0, false);
     };
-    still_short(&section.shape().flags, bytes, spot)
+    (still_short(&section.shape().flags, bytes, spot), false)
 }
 
 // What these bytes bring, read aside: how many of them are changes of the last section, how many changes these are, whether their

@@ -230,6 +230,10 @@ impl Growing {
         ensures ok { OnOk result (self.new ≡ (self.old.0, self.old.1 ++ piece.now)) }
         ensures err { OnErr result (self.new ≡ self.old) }
     {
+        if let [byte] = piece {
+            self.bytes.push(*byte)?;
+            return Ok(());
+        }
         self.bytes.extend_from_slice(piece)
     }
 

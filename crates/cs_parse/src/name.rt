@@ -1,10 +1,9 @@
 //! How far the name of a header that isn't whole was gone over, so that more bytes behind it are looked at from there on.
 
-ghost use Rattle.std.specs.Prelude.{◌≡◌, ◌++◌, ℕ, List, Err, IsTrue};
+ghost use Rattle.std.specs.Prelude.{◌≡◌, ◌<◌, ◌++◌, ℕ, List};
 ghost use Rattle.cs_model.specs.Bytes.{AreBytes};
-ghost use Rattle.cs_parse.specs.Reading.{shape_at};
+ghost use Rattle.cs_parse.specs.Lack.{room_at, LacksInHeader};
 ghost use Rattle.cs_parse.specs.Spot.{InName, IsSpot, IsHeaderSpot, StaysHeader};
-ghost use Rattle.cs_parse.specs.declared.stop.Refusal.TheVariants.{Short};
 
 use crate::header::{before_name, first_zero};
 use crate::spot::Spot;
@@ -58,21 +57,31 @@ fn next_name(bytes: &[u8], spot: Spot) -> Option<Spot>
     }
 }
 
-/// Whether a header still ends too early, of which these bytes are there, none or more. The spot is moved behind the bytes of its
-/// name that are there, and stays right with any bytes behind these, whatever table stands before them. Until all key bytes are
-/// there it looks at the number of columns only, and in the name at the bytes that came. Where it is false, the header is whole or
-/// a byte is wrong, and nothing is known of the spot.
-pub fn header_short(bytes: &[u8], spot: &mut Spot) -> bool
+// how many bytes, none of which is zero, make the name at a spot too long
+fn name_room(spot: Spot) -> usize
+    ensures { result ≡ room_at spot }
+{
+    match spot {
+        Spot::Name { letters, .. } => 1025_usize.saturating_sub(letters),
+        Spot::Start | Spot::Row { .. } | Spot::Old { .. } | Spot::New { .. } => 1,
+    }
+}
+
+/// How many bytes at least, none of which is zero, are lacking of a header that still ends too early, of which these bytes are there,
+/// none or more. The spot is moved behind the bytes of its name that are there, and stays right with any bytes behind these, whatever
+/// table stands before them. Until all key bytes are there it looks at the number of columns only, and in the name at the bytes that
+/// came. Where it is 0, the header is whole or a byte is wrong, and nothing is known of the spot.
+pub fn header_short(bytes: &[u8], spot: &mut Spot) -> usize
     requires { IsHeaderSpot bytes.now spot.old }
-    ensures short { IsTrue result → shape_at bytes.now ≡ Err Short }
-    ensures spot { IsTrue result → (flags more : List ℕ) → AreBytes more
+    ensures short { LacksInHeader bytes.now result }
+    ensures spot { 0 < result → (flags more : List ℕ) → AreBytes more
         → IsSpot flags (bytes.now ++ more) spot.new }
 {
     match next_name(bytes, *spot) {
         Some(next) => {
             *spot = next;
-            true
+            name_room(next)
         }
-        None => false,
+        None => 0,
     }
 }

@@ -1,11 +1,12 @@
 //! A text that comes in pieces.
 
-ghost use Rattle.std.specs.Prelude.{◌≡◌, ◌≤◌, ◌+◌, [], ◌++◌, length, IfOk, IfErr, IsOk, OnOk, OnErr, ℕ, List, None, Some, Ok, Err};
+ghost use Rattle.std.specs.Prelude.{◌≡◌, ◌≤◌, ◌+◌, [], ◌++◌, length, IfOk, IfErr, IsOk, IsTrue, OnOk, OnErr, ℕ, List, None, Some, Ok, Err};
 ghost use Rattle.cs_model.specs.Changeset.{most_bytes};
 ghost use Rattle.cs_model.specs.Text.{Spells};
 ghost use Rattle.cs_parse.specs.Answer.{Shows};
 ghost use Rattle.cs_parse.specs.Fault.{IsFault};
 ghost use Rattle.cs_parse.specs.Front.{TakesIn};
+ghost use Rattle.cs_parse.specs.Lack.{HasNoZero};
 ghost use Rattle.cs_parse.specs.Pieces.{offset_of, IsLasting, TellsLasting, GoesOn};
 ghost use Rattle.cs_parse.specs.Progress.{nothing, broken, advanced, ended, progress_of, Fed, Took, Takes};
 ghost use Rattle.cs_parse.specs.Reading.{answer_of};
@@ -14,6 +15,7 @@ ghost use Rattle.cs_parse.specs.declared.fault.ParseFault.{ParseFault};
 use crate::fault::{FaultKind, ParseError, ParseFault};
 use crate::grow::{grow, still_waits};
 use crate::growing::Growing;
+use crate::header::first_zero;
 use crate::laws::progress_tells;
 use crate::spot::Spot;
 use crate::whole::MOST_BYTES;
@@ -32,8 +34,10 @@ pub struct PieceParser {
     fault: Option<ParseFault>,
     // how far the change or the header that waits was gone over
     spot: Spot,
-    // so many bytes at least are lacking of it, so that fewer are taken without a look at them; 0 where nothing is known
+    // so many bytes at least are lacking of it, so that fewer are taken without reading them; 0 where nothing is known
     lacking: usize,
+    // whether that is said of bytes other than zero only, since the header's name waits for one
+    header: bool,
 }
 
 impl Model for PieceParser {
@@ -52,7 +56,15 @@ impl Model for PieceParser {
 
     ghost invariant = { λ p. (p.offset + p.lacking ≤ most_bytes)
         × KeepsSpot (last_flags p.text.0) p.text.1 p.spot
-        × IsPaused p.fault p.text.0 p.text.1 p.lacking };
+        × IsPaused p.fault p.text.0 p.text.1 p.header p.lacking };
+}
+
+// Whether no name ends in these bytes, where a header waits.
+#[inline(always)]
+fn no_end(header: bool, bytes: &[u8]) -> bool
+    ensures { IsTrue result → IsTrue header → HasNoZero bytes.now }
+{
+    !header || first_zero(bytes).is_none()
 }
 
 impl PieceParser {
@@ -67,6 +79,7 @@ impl PieceParser {
             fault: None,
             spot: Spot::start(),
             lacking: 0,
+            header: false,
         }
     }
 
@@ -96,14 +109,14 @@ impl PieceParser {
     }
 
     // The same, as the answer is determined by the progress. Bytes of a value whose length is known are only put behind those that
-    // wait, and that is all that most calls do where pieces are short.
+    // wait, and so are those of a name; that is all that most calls do where pieces are short.
     #[inline(always)]
     fn fed(&mut self, alloc: Global, piece: &[u8]) -> Result<(), ParseError>
         ensures fed { Fed result self.old piece.now self.new }
         ensures again { (fault : ParseFault) → self.old.fault ≡ Some fault
             → result ≡ Err (ParseError.Fault fault) }
     {
-        if piece.len() < self.lacking {
+        if piece.len() < self.lacking && no_end(self.header, piece) {
             self.text.append(piece)?;
             self.lacking -= piece.len();
             self.offset += piece.len();
@@ -146,9 +159,14 @@ impl PieceParser {
         let start = self.text.waiting().len();
         self.text.extend(alloc, bytes)?;
         let taken = self.offset + bytes.len();
-        let lacking = still_waits(self.text.sections(), self.text.waiting(), &mut self.spot);
+        let (lacking, header) = still_waits(
+            self.text.sections(),
+            self.text.waiting(),
+            &mut self.spot,
+        );
         if lacking > 0 {
             self.lacking = lacking.min(MOST_BYTES - taken);
+            self.header = header;
             self.offset = taken;
             return Ok(());
         }

@@ -37,7 +37,7 @@ fn told_at(header: &[u8]) -> Option<(usize, Spot)> {
     let mut spot = Spot::start();
     for len in 0..header.len() {
         let before = spot;
-        if !header_short(&header[..len], &mut spot) {
+        if header_short(&header[..len], &mut spot) == 0 {
             return Some((len, before));
         }
     }

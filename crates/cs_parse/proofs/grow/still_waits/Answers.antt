@@ -1,26 +1,26 @@
-use Rattle.std.proofs.Common.{sym, ap, subst, ◌∙◌, ◌++◌}
+use Rattle.std.proofs.Common.{true, false, sym, ap, subst, ◌∙◌, ◌++◌}
 use Rattle.cs_parse.specs.Front.{Waits}
 use Rattle.cs_parse.specs.Progress.{last_flags}
 use Rattle.cs_parse.proofs.GrowLaws.{last_found}
-use Rattle.cs_parse.proofs.NameLaws.{header_waits}
-use Rattle.cs_parse.proofs.WaitLaws.{header_waiting, any_waits, one_waits, waits_now, change_waits}
+use Rattle.cs_parse.proofs.WaitLaws.{header_waiting, any_waits, waits_now, header_lacks, change_lacks}
 use Rattle.cs_parse.proofs.grow.still_waits.Goals as goal
 
 pub header_short-requires : goal.header_short-requires
 header_short-requires c = header_waiting (last_flags c.args.sections.now) c.args.bytes.now c.args.spot.now c.requires
 
-pub returns-then-header_short-clause-waits : goal.returns-then-header_short-clause-waits
-returns-then-header_short-clause-waits c = λ some others same.
-    header_waits others c.args.bytes.now (sym c.is_empty.ensures ∙ c.if-is_empty.false) (sym c.is_over.ensures ∙ c.if-is_over.true) (c.header_short.ensures.short c.if-header_short.true)
+pub returns-then-is_over-clause-lacks : goal.returns-then-is_over-clause-lacks
+returns-then-is_over-clause-lacks c = λ others same.
+    header_lacks others c.args.bytes.now c.header_short.result (sym c.is_empty.ensures ∙ c.if-is_empty.false) (sym c.is_over.ensures ∙ c.if-is_over.true) c.header_short.ensures.short
 
-pub returns-then-header_short-clause-lacks : goal.returns-then-header_short-clause-lacks
-returns-then-header_short-clause-lacks c = λ others same.
-    one_waits others c.args.bytes.now
-    (header_waits others c.args.bytes.now (sym c.is_empty.ensures ∙ c.if-is_empty.false) (sym c.is_over.ensures ∙ c.if-is_over.true) (c.header_short.ensures.short c.if-header_short.true))
+pub returns-then-is_over-clause-waits : goal.returns-then-is_over-clause-waits
+returns-then-is_over-clause-waits c = λ some others same.
+    let bytes = c.args.bytes.now in
+    let least = c.header_short.result in
+    waits_now others bytes true least (header_lacks others bytes least (sym c.is_empty.ensures ∙ c.if-is_empty.false) (sym c.is_over.ensures ∙ c.if-is_over.true) c.header_short.ensures.short) some
 
-pub returns-then-header_short-clause-spot : goal.returns-then-header_short-clause-spot
-returns-then-header_short-clause-spot c = λ some more fits.
-    any_waits (last_flags c.args.sections.now) (c.args.bytes.now ++ more) c.header_short.new.spot (λ flags. c.header_short.ensures.spot c.if-header_short.true flags more fits)
+pub returns-then-is_over-clause-spot : goal.returns-then-is_over-clause-spot
+returns-then-is_over-clause-spot c = λ some more fits.
+    any_waits (last_flags c.args.sections.now) (c.args.bytes.now ++ more) c.header_short.new.spot (λ flags. c.header_short.ensures.spot some flags more fits)
 
 pub still_short-requires : goal.still_short-requires
 still_short-requires c =
@@ -30,13 +30,13 @@ still_short-requires c =
 pub returns-clause-lacks : goal.returns-clause-lacks
 returns-clause-lacks c = λ others same.
     let last = last_found c.args.sections.now c.in-Some.section.now c.deref.result.now (sym c.in-Some.ensures.value) (c.deref.ensures ∙ ap (λ s. s.flags) c.shape.ensures) in
-    change_waits others c.deref.result.now c.args.bytes.now c.still_short.result (same ∙ last) (sym c.is_over.ensures ∙ c.if-is_over.false) c.still_short.ensures.short
+    change_lacks others c.deref.result.now c.args.bytes.now c.still_short.result (same ∙ last) (sym c.is_over.ensures ∙ c.if-is_over.false) c.still_short.ensures.short
 
 pub returns-clause-waits : goal.returns-clause-waits
 returns-clause-waits c = λ some others same.
     let last = last_found c.args.sections.now c.in-Some.section.now c.deref.result.now (sym c.in-Some.ensures.value) (c.deref.ensures ∙ ap (λ s. s.flags) c.shape.ensures) in
     let over = sym c.is_over.ensures ∙ c.if-is_over.false in
-    waits_now others c.args.bytes.now c.still_short.result (change_waits others c.deref.result.now c.args.bytes.now c.still_short.result (same ∙ last) over c.still_short.ensures.short) some
+    waits_now others c.args.bytes.now false c.still_short.result (change_lacks others c.deref.result.now c.args.bytes.now c.still_short.result (same ∙ last) over c.still_short.ensures.short) some
 
 pub returns-clause-spot : goal.returns-clause-spot
 returns-clause-spot c = λ some more fits.

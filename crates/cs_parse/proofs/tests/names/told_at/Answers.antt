@@ -20,4 +20,4 @@ goes_on header len spot fits lt h =
 pub loop-len-preserved : goal.loop-len-preserved
 loop-len-preserved c =
     let fits : AreBytes c.args.header.now = λ i. omega (arith, c.type_inv.header i) in
-    goes_on c.args.header.now c.loop-len.len c.header_short.new.spot fits c.loop-len-test.true (c.if-not-header_short.ensures.spot refl)
+    goes_on c.args.header.now c.loop-len.len c.header_short.new.spot fits c.loop-len-test.true (c.header_short.ensures.spot (omega (arith, c.if-header_short-eq0.false)))
