@@ -1,12 +1,11 @@
 //! Sections.
 
-ghost use Rattle.std.specs.Prelude.{◌≡◌, [], ◌++◌, ◌↔◌, IsTrue, OnErr, OnOk, length};
+ghost use Rattle.std.specs.Prelude.{◌≡◌, [], ◌↔◌, IsTrue, length};
 ghost use Rattle.std.specs.Cmp;
 ghost use Rattle.std.specs.Cmp.{on_per, on_equiv};
 ghost use Rattle.std.specs.Cmp.Lexicographic.{pointwise, lists_per, lists_equiv, nat_list_eq_equiv};
 ghost use Rattle.cs_model.specs.Schema.{same_bytes};
-ghost use Rattle.std.specs.List.{AllByRecursion};
-ghost use Rattle.cs_model.specs.PackedChanges.{AreCanonical, Fit, section_parts, unpacked_changes};
+ghost use Rattle.cs_model.specs.PackedChanges.{AreCanonical, section_parts, unpacked_changes};
 
 use crate::changes::{Changes, same_changes};
 use crate::copy::CopyIn;
@@ -56,30 +55,6 @@ impl Section {
         ensures { result.now ≡ (length self.now.shape.flags, self.now.changes) }
     {
         &self.changes
-    }
-
-    /// The changes that a text says, behind its own, as `Changes::append_text` takes them. An `Err` leaves the section as it was.
-    pub fn append_text(&mut self, text: &[u8]) -> Result<(), AllocError>
-        requires { AllByRecursion (Fit (length self.old.shape.flags))
-            (unpacked_changes (length self.old.shape.flags) text.now) }
-        ensures ok { OnOk result (self.new ≡ record self.old {
-          changes = self.old.changes ++ unpacked_changes (length self.old.shape.flags) text.now;
-        }) }
-        ensures err { OnErr result (self.new ≡ self.old) }
-    {
-        self.changes.append_text(text)
-    }
-
-    /// The same, of a text that is known to be canonical and to have so many changes, as `Changes::append_canonical` takes it.
-    pub fn append_canonical(&mut self, text: &[u8], changes: usize) -> Result<(), AllocError>
-        requires canonical { AreCanonical (length self.old.shape.flags) text.now }
-        requires count { changes ≡ length (unpacked_changes (length self.old.shape.flags) text.now) }
-        ensures ok { OnOk result (self.new ≡ record self.old {
-          changes = self.old.changes ++ unpacked_changes (length self.old.shape.flags) text.now;
-        }) }
-        ensures err { OnErr result (self.new ≡ self.old) }
-    {
-        self.changes.append_canonical(text, changes)
     }
 
     /// Takes the changes out, as their canonical bytes and how many they are, in one move: nothing is copied. The section is
