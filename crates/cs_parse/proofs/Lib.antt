@@ -1,5 +1,6 @@
 pub mod Loops
 pub mod Letters
+pub mod FirstZero
 pub mod Numbers
 pub mod Steps
 pub mod Exact

@@ -9,6 +9,7 @@ use crate::fault::FaultKind;
 use crate::number::columns_of;
 use crate::stop::Refusal;
 use cs_model::{Seq, Shape};
+use memchr::memchr;
 use std::alloc::{AllocError, Global};
 
 /// A table's shape whose bytes stand in the text.
@@ -49,7 +50,7 @@ pub fn first_zero(bytes: &[u8]) -> Option<usize>
     ensures place { result ≡ position (λ byte. byte == 0) bytes.now }
     ensures bound { IfSome result (λ end. end < length bytes.now) }
 {
-    bytes.iter().position(|byte| *byte == 0)
+    memchr(0, bytes)
 }
 
 // The bytes before the first zero byte, and those behind it. No more than the 1,025 that a name and its end can
