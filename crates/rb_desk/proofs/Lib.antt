@@ -27,3 +27,5 @@ pub mod KeepCut
 pub mod KeepPlace
 pub mod KeepExpire
 pub mod Replays
+pub mod Outlines
+pub mod OutlineCalls

@@ -10,3 +10,4 @@ pub mod Expiry
 pub mod Steps
 pub mod IsPicture
 pub mod Rows
+pub mod Outline

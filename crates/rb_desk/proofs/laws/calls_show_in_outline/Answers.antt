@@ -1,0 +1,37 @@
+use Rattle.std.proofs.Common.{◌≡◌, ℕ, subst}
+use Rattle.rb_desk.specs.Picture.{Picture}
+use Rattle.rb_desk.specs.Calls.{subscribe, take, take_any, ack, nack, reconnect, unsubscribe}
+use Rattle.rb_desk.specs.Outline.{outline, Ends}
+use Rattle.rb_desk.proofs.Outlines.{told}
+use Rattle.rb_desk.proofs.OutlineCalls.{Joined, TookOf, Took, Stays, Relinked, Gone, subscribe_tells, take_tells, take_any_tells, ack_tells, nack_tells, expire_stays, reconnect_tells, unsubscribe_tells, place_shows, close_shows}
+use Rattle.rb_desk.proofs.laws.calls_show_in_outline.Goals as goal
+
+pub returns-clause-subscribe : goal.returns-clause-subscribe
+returns-clause-subscribe c = λ old start s link new good is. told old new (Joined old start) (subscribe old start) (s, link) (subscribe_tells old start) is
+
+pub returns-clause-take : goal.returns-clause-take
+returns-clause-take c = λ old s link cursor now delivery new good is. told old new (TookOf old s) (take old s link cursor now) delivery (take_tells old s link cursor now) is good
+
+pub returns-clause-take_any : goal.returns-clause-take_any
+returns-clause-take_any c = λ old now delivery new good is. told old new (Took old) (take_any old now) delivery (take_any_tells old now) is good
+
+pub returns-clause-ack : goal.returns-clause-ack
+returns-clause-ack c = λ old s link number cursor floor new is. told old new (Stays old) (ack old s link number cursor) floor (ack_tells old s link number cursor) is
+
+pub returns-clause-nack : goal.returns-clause-nack
+returns-clause-nack c = λ old s link number new is. told old new (Stays old) (nack old s link number) tt (nack_tells old s link number) is
+
+pub returns-clause-expire : goal.returns-clause-expire
+returns-clause-expire c = λ old now many new is. subst (λ (x : ℕ × Picture). outline x.1 ≡ outline old) is (expire_stays old now)
+
+pub returns-clause-reconnect : goal.returns-clause-reconnect
+returns-clause-reconnect c = λ old s cursor link new good is. told old new (Relinked old s) (reconnect old s cursor) link (reconnect_tells old s cursor) is
+
+pub returns-clause-unsubscribe : goal.returns-clause-unsubscribe
+returns-clause-unsubscribe c = λ old s link new is. told old new (Gone old s) (unsubscribe old s link) tt (unsubscribe_tells old s link) is
+
+pub returns-clause-place : goal.returns-clause-place
+returns-clause-place c = λ old number ok. place_shows old number ok
+
+pub returns-clause-close : goal.returns-clause-close
+returns-clause-close c = λ old last new good is. subst (λ (x : ℕ × Picture). Ends (outline old) (outline x.1) x.0) is (close_shows old good)

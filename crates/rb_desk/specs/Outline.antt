@@ -1,0 +1,77 @@
+-- What calls change for those who know no spans and no clock: the front, the closing number, the numbers that were given, and of
+-- each subscription its start, its link and whether it is closed.
+use Rattle.std.specs.Prelude.{◌≡◌, ℕ, suc, ◌<◌, ◌≤◌, Bool, true, false, List, [], ◌∷◌, ◌++◌, length, map, Option, Some, None, slice_get, slice_set}
+use Rattle.rb_desk.specs.declared.delivery.Delivery.{Delivery}
+use Rattle.rb_desk.specs.Picture.{Picture, Subscription}
+
+-- a subscription without its floor, what was offered to it and its spans
+pub record Member : Type 0 where
+  pub start : ℕ
+  pub link : ℕ
+  pub closed : Bool
+
+abbrev pub member_of : Subscription → Member
+member_of q = record { start = q.start; link = q.link; closed = q.closed }
+
+-- a picture without limits, clock, spans and orders
+pub record Outline : Type 0 where
+  pub front : ℕ
+  pub closing : Option ℕ
+  pub next_link : ℕ
+  pub next_delivery : ℕ
+  pub members : List Member
+
+abbrev pub outline : Picture → Outline
+outline p = record {
+  front = p.front;
+  closing = p.closing;
+  next_link = p.next_link;
+  next_delivery = p.next_delivery;
+  members = map member_of p.subscriptions;
+}
+
+-- one subscription more, behind a number that is placed, under a link that was never given
+pub record Joins (old new : Outline) (start s link : ℕ) : Type 0 where
+  pub placed : start ≤ old.front
+  pub last : s ≡ length old.members
+  pub given : link ≡ old.next_link
+  pub kept : new ≡ record old { next_link = suc link; members = old.members ++ record { start = start; link = link; closed = false } ∷ [] }
+
+-- a delivery, whose number was never given, of numbers that are placed, to a subscription that isn't closed and began before
+-- them, under its present link
+pub record Hands (old new : Outline) (delivery : Delivery) : Type 0 where
+  pub member : Member
+  pub found : slice_get old.members delivery.sub ≡ Some member
+  pub linked : delivery.link ≡ member.link
+  pub not_closed : member.closed ≡ false
+  pub given : delivery.number ≡ old.next_delivery
+  pub behind : member.start < delivery.first
+  pub order : delivery.first ≤ delivery.last
+  pub placed : delivery.last ≤ old.front
+  pub kept : new ≡ record old { next_delivery = suc delivery.number }
+
+-- a subscription that isn't closed goes on under a link that was never given
+pub record Relinks (old new : Outline) (s link : ℕ) : Type 0 where
+  pub member : Member
+  pub found : slice_get old.members s ≡ Some member
+  pub not_closed : member.closed ≡ false
+  pub given : link ≡ old.next_link
+  pub kept : new ≡ record old { next_link = suc link; members = slice_set old.members s (record member { link = link }) }
+
+-- a subscription that isn't closed is closed
+pub record Leaves (old new : Outline) (s : ℕ) : Type 0 where
+  pub member : Member
+  pub found : slice_get old.members s ≡ Some member
+  pub not_closed : member.closed ≡ false
+  pub kept : new ≡ record old { members = slice_set old.members s (record member { closed = true }) }
+
+-- the next number is placed, while the sequence isn't closed
+pub record Places (old new : Outline) (number : ℕ) : Type 0 where
+  pub not_closed : old.closing ≡ None
+  pub next : number ≡ suc old.front
+  pub kept : new ≡ record old { front = number }
+
+-- the sequence is closed with its last number, or was before
+pub record Ends (old new : Outline) (last : ℕ) : Type 0 where
+  pub front : last ≡ old.front
+  pub kept : new ≡ record old { closing = Some last }
