@@ -53,4 +53,11 @@ impl Desk {
             subs: Vec::new(alloc),
         }
     }
+
+    /// Its limits.
+    pub fn config(&self) -> Config
+        ensures { result ≡ self.now.limits }
+    {
+        self.config
+    }
 }
