@@ -31,16 +31,19 @@ told() {
 
 told 'the exports give back what they take' "$work/leaks"
 
-# all_kinds ROUNDS: a script whose rounds apply a row, meet a conflict twice, and make three faults and other refusals
+# all_kinds ROUNDS: a script whose rounds apply a row and an update of it, meet a conflict twice in a subscription that lacks the row,
+# and make three faults and other refusals
 all_kinds() {
     awk -v rounds="$1" 'BEGIN {
         print "table 540201007400\npublisher\nsubscribe 0"
         for (i = 1; i <= rounds; i++) {
-            row = sprintf("120001%016x030178", i)
-            print "feed 0 540201007400\nfeed 0 " row "\nend 0\nend 0\nsend 0\nturn\ntake 0 0\naccept " 2 * i - 1
-            print "feed 0 02\nfeed 0 54\nend 0\nreset 0\nfeed 0 5401017500\nend 0\nreset 0"
-            print "feed 0 540201007400" row "\nend 0\nsend 0\nturn\ntake 0 0\naccept " 2 * i "\naccept " 2 * i
-            print "entry " i "\nsubscribe " i "\nrows " i "\nturn\ntable 54\n-"
+            key = sprintf("01%016x", i)
+            first = 3 * i - 2; second = 3 * i - 1; third = 3 * i
+            print "feed 0 540201007400\nfeed 0 1200" key "030178\nend 0\nend 0\nsend 0\nturn\ntake 0 0\naccept " first "\nack " first
+            print "feed 0 02\nfeed 0 54\nend 0\nreset 0\nfeed 0 5401017500\nend 0\nreset 0\nsubscribe " 2 * i - 1
+            print "feed 0 5402010074001700" key "03017800030179\nend 0\nsend 0\nturn\ntake 0 0\naccept " second "\nack " second
+            print "take " i " 0\naccept " third "\naccept " third "\nack " third "\nnack " third "\nreconnect " i " " 2 * i - 1 "\nunsubscribe " i
+            print "entry " i "\nrows " i "\nturn\nexpire 0\ntakeany 0\ntable 54\n-"
         }
         print "rows 0"
     }'
@@ -72,7 +75,8 @@ have() { told "$1 answers '$2'" test "$(grep -c "^$2" "$work/out")" -eq "$1"; }
 measure all_kinds 100
 left_of_100=$left
 measure all_kinds 1000
-have 1000 accepted
+have 2000 accepted
+have 2000 floor
 have 2000 'refused Conflict'
 have 3000 fault
 told 'as much in use at the end of both' test -n "$left" -a "$left" = "$left_of_100"

@@ -50,6 +50,19 @@ need 'other answers' cmp -s "$out" examples/first.answers
 need_nothing err
 end 'first.script'
 
+# Worked rows: scripts with their answers, and with the options that they ask for.
+for script in checks/rows/*.script; do
+    row=${script%.script}
+    options=''
+    [ ! -f "$row.args" ] || options=$(cat "$row.args")
+    # each word of the options is one of the program's
+    run "$script" script $options
+    need_status 0
+    need 'other answers' cmp -s "$out" "$row.expected"
+    need_nothing err
+    end "row ${row##*/}"
+done
+
 # The command line.
 
 # refused NAME WORDS..: a command line that the program doesn't take
@@ -72,6 +85,28 @@ refused 'an unknown option of script' script --nonsense
 refused 'an unknown subcommand' nonsense
 refused 'a word too many' script nonsense
 refused 'a word that is no UTF-8' "$(printf '\377')"
+refused 'an option twice' script --batch 1 --batch 2
+refused 'an option without a number' script --batch
+
+# An option whose word is no number in its range is told before the input is read, which would fail here.
+while read -r option word most; do
+    run / script "--$option" "$word"
+    need_status 2
+    need_nothing out
+    need_line err "rb_run: --$option takes a number from 1 to $most"
+    end "--$option $word"
+done <<END
+batch 0 256
+batch 257 256
+window 65 64
+window -1 64
+timeout 1000000001 1000000000
+capacity 1048577 1048576
+intake 4097 4096
+intake 07 4096
+intake x 4096
+batch 18446744073709551617 256
+END
 
 run /dev/null --version
 need_status 0
@@ -90,8 +125,13 @@ need_status 0
 need_nothing err
 need "no word of '< FILE'" grep -q '< FILE' "$out"
 need "no word of statuses" grep -qi status "$out"
-for line in table publisher feed reset end send turn subscribe take accept entry rows; do
+for line in table publisher feed reset end send turn close subscribe take takeany accept ack nack expire reconnect \
+    unsubscribe entry rows left; do
     need "no word of '$line'" grep -qw "$line" "$out"
+done
+for option in 'batch .* 1 to 256 .*16' 'window .* 1 to 64 .*4' 'timeout .* 1 to 1000000000 .*10' \
+    'capacity .* 1 to 1048576 .*65536' 'intake .* 1 to 4096 .*64'; do
+    need "no line of '--$option'" grep -q -e "--$option" "$out"
 done
 end 'script --help'
 

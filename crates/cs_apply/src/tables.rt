@@ -2,6 +2,7 @@
 
 ghost use Rattle.std.specs.Prelude.{◌≡◌, length, IfOk, IfErr, OnOk, OnErr, Ok};
 ghost use Rattle.std.specs.Option.{option_copied};
+ghost use Rattle.std.specs.Arc.{arc_value};
 ghost use Rattle.std.specs.FinMap as map;
 ghost use Rattle.cs_apply.specs.Seen.{listed};
 ghost use Rattle.cs_apply.specs.Single.{single};
@@ -13,17 +14,19 @@ use crate::places::Places;
 use cs_model::{Changeset, Row, RowKey, Schema};
 use std::alloc::{AllocError, Global};
 use std::marker::Model;
+use std::sync::Arc;
 
 /// The tables of one replica: a schema, which of its tables are kept, and the rows of those.
 #[derive(Debug, Drop)]
 pub struct Tables {
-    schema: Schema,
+    schema: Arc<Schema>,
     kept: Vec<bool>,
     places: Places,
 }
 
 impl Model for Tables {
     ghost use Rattle.std.specs.Prelude.{◌≡◌, [], length};
+    ghost use Rattle.std.specs.Arc.{arc_value};
     ghost use Rattle.cs_apply.specs.State.{State, state_code};
     ghost use Rattle.cs_apply.specs.Steps.{rows_of};
 
@@ -31,16 +34,17 @@ impl Model for Tables {
 
     ghost coded = { state_code };
 
-    ghost view = { λ t. record { schema = t.schema; kept = t.kept.items; rows = rows_of t.places.rows.entries } };
+    ghost view = { λ t. record { schema = arc_value t.schema; kept = t.kept.items; rows = rows_of t.places.rows.entries } };
 
-    ghost invariant = { λ t. (length t.kept.items ≡ length t.schema) × (t.places.log.items ≡ []) };
+    ghost invariant = { λ t. (length t.kept.items ≡ length (arc_value t.schema)) × (t.places.log.items ≡ []) };
 }
 
 impl Tables {
-    /// Empty tables of a schema. `kept` says of each of its tables whether changes of it are applied.
-    pub fn new(alloc: Global, schema: Schema, kept: Vec<bool>) -> Tables
-        requires { length kept.items ≡ length schema }
-        ensures { result ≡ record { schema = schema; kept = kept.items; rows = map.empty } }
+    /// Empty tables of a schema, which all that are made with it share. `kept` says of each of its tables whether changes of it are
+    /// applied.
+    pub fn new(alloc: Global, schema: Arc<Schema>, kept: Vec<bool>) -> Tables
+        requires { length kept.items ≡ length (arc_value schema) }
+        ensures { result ≡ record { schema = arc_value schema; kept = kept.items; rows = map.empty } }
     {
         Tables {
             schema,

@@ -9,6 +9,7 @@ pub mod Count
 pub mod Canonical
 pub mod Pieces
 pub mod Progress
+pub mod End
 pub mod Front
 pub mod Lack
 pub mod Spot

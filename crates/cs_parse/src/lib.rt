@@ -5,6 +5,7 @@
 
 mod canonical;
 mod change;
+mod end;
 mod fault;
 mod field;
 mod grow;
@@ -23,6 +24,7 @@ mod spot;
 mod stop;
 mod whole;
 
+pub use end::EndError;
 pub use fault::{FaultKind, ParseError, ParseFault};
 pub use pieces::PieceParser;
 pub use whole::{count_changes, parse};

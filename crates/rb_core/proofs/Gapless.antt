@@ -38,7 +38,7 @@ still_run sequence entry q h = record {
 
 -- ---- what is accepted goes on
 
-part_length : (sequence : List Entry) (after last : ℕ) → last ≤ length sequence → after ≤ last → length (part sequence after (last - after)) ≡ last - after
+pub part_length : (sequence : List Entry) (after last : ℕ) → last ≤ length sequence → after ≤ last → length (part sequence after (last - after)) ≡ last - after
 part_length sequence after last placed order =
     omega (arith, placed, order, length-take (last - after) (drop after sequence), length-drop after sequence)
 

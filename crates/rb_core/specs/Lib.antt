@@ -1,7 +1,7 @@
 pub mod State
 pub mod Outcome
 pub mod Run
-pub mod Step
-pub mod Fed
 pub mod World
 pub mod Moves
+pub mod Told
+pub mod Texts

@@ -1,42 +1,47 @@
 -- The world as a value.
-use Rattle.std.specs.Prelude.{ℕ, Bool, true, List, [], length, replicate, refl}
-use Rattle.std.specs.Coded.{Coded, code_by, coded×, coded_list}
+use Rattle.std.specs.Prelude.{◌≡◌, ℕ, suc, ◌+◌, ◌<◌, ◌≤◌, Bool, true, List, [], ◌∷◌, length, map, replicate, Option, Some, None, refl}
+use Rattle.std.specs.Coded.{Coded, code_by, coded×, coded_list, coded_option}
 use Rattle.std.specs.FinMap as map
+use Rattle.std.specs.List.{AllByRecursion}
 use Rattle.cs_model.specs.contracts.shape.Shape as shape
 use Rattle.cs_model.specs.declared.shape.Shape.{Shape}
 use Rattle.cs_apply.specs.State as tables
-use Rattle.rb_core.specs.contracts.parts.Publisher as publisher
+use Rattle.rb_desk.specs.contracts.delivery.Delivery as delivery
+use Rattle.rb_desk.specs.declared.delivery.Delivery.{Delivery}
+use Rattle.rb_desk.specs.IsPicture.{IsPicture}
+use Rattle.rb_desk.specs.Limits.{Limits}
+use Rattle.rb_desk.specs.Outline.{Member, outline}
+use Rattle.rb_desk.specs.Picture.{Picture, opening, picture_code}
 use Rattle.rb_sequence.specs.contracts.item.Item as item
-use Rattle.rb_core.specs.contracts.parts.Subscription as subscription
-use Rattle.rb_core.specs.contracts.parts.Handed as handed
-use Rattle.rb_desk.specs.Limits.{Limits, limits_code}
-use Rattle.rb_core.specs.declared.parts.Publisher.{Publisher}
 use Rattle.rb_sequence.specs.declared.item.Item.{Item}
 use Rattle.rb_sequence.specs.Entry.{Entry, entry_code}
-use Rattle.rb_core.specs.declared.parts.Subscription.{Subscription}
-use Rattle.rb_core.specs.declared.parts.Handed.{Handed}
+use Rattle.rb_subscriber.specs.Endpoint.{Endpoint, endpoint_code}
+use Rattle.rb_core.specs.contracts.publisher.Publisher as publisher
+use Rattle.rb_core.specs.declared.publisher.Publisher.{Publisher}
 
--- A world: its limits, the schema that it serves, the publishers, what was sent and waits to be placed, the
--- sequence, the subscriptions and the deliveries handed out. Publishers and subscriptions are named by their
--- places from 0, entries and deliveries by their places from 1.
+-- A world: the schema that it serves; the publishers; what was sent and waits, in order; the item in hand, which waits no more and has
+-- no number yet; the sequence; what the desk knows, the limits among it; the subscriptions' ends; all deliveries, in order.
+-- Publishers and subscriptions are named by their places from 0, entries and deliveries by their numbers from 1.
 pub record State : Type 0 where
-  pub config : Limits
   pub schema : List Shape
   pub publishers : List Publisher
   pub intake : List Item
+  pub hand : Option Item
   pub sequence : List Entry
-  pub subscriptions : List Subscription
-  pub deliveries : List Handed
+  pub desk : Picture
+  pub endpoints : List Endpoint
+  pub deliveries : List Delivery
 
 -- the world before any event
 abbrev pub empty_world : Limits → List Shape → State
-empty_world config schema = record {
-  config = config;
+empty_world limits schema = record {
   schema = schema;
   publishers = [];
   intake = [];
+  hand = None;
   sequence = [];
-  subscriptions = [];
+  desk = opening limits;
+  endpoints = [];
   deliveries = [];
 }
 
@@ -44,13 +49,45 @@ empty_world config schema = record {
 abbrev pub empty_tables : List Shape → tables.State
 empty_tables schema = record { schema = schema; kept = replicate (length schema) true; rows = map.empty }
 
+-- an end as the desk knows its subscription
+abbrev pub member_of_end : Endpoint → Member
+member_of_end e = record { start = e.start; link = e.link; closed = e.closed }
+
+-- things are numbered from n on
+abbrev pub AreNumbered : {A : Type 0} → (A → ℕ) → ℕ → List A → Type 0
+AreNumbered number n [] = Unit {0}
+AreNumbered number n (x ∷ rest) = (number x ≡ n) × AreNumbered number (suc n) rest
+
+-- a delivery is of a subscription, and its numbers are placed
+abbrev pub IsOf : List Endpoint → List Entry → Delivery → Type 0
+IsOf endpoints sequence d = (d.sub < length endpoints) × (d.last ≤ length sequence)
+
+-- What a world keeps: its desk shows a picture, whose front is the sequence's last number; the desk's subscriptions are those of the
+-- ends; entries and deliveries are numbered from 1; each delivery is of a subscription, and its numbers are placed.
+pub record IsWorld (w : State) : Type 0 where
+  pub picture : IsPicture w.desk
+  pub front : w.desk.front ≡ length w.sequence
+  pub members : map member_of_end w.endpoints ≡ (outline w.desk).members
+  pub entries : AreNumbered (λ entry. entry.number) 1 w.sequence
+  pub deliveries : AreNumbered (λ d. d.number) 1 w.deliveries
+  pub next : w.desk.next_delivery ≡ suc (length w.deliveries)
+  pub are_of : AllByRecursion (IsOf w.endpoints w.sequence) w.deliveries
+
+-- what was sent and has no number: what waits, and the item in hand
+abbrev pub how_many_held : Option Item → ℕ
+how_many_held None = 0
+how_many_held (Some item) = 1
+
+abbrev pub how_many_wait : State → ℕ
+how_many_wait w = how_many_held w.hand + length w.intake
+
 -- a world is stored as its parts
 abbrev pub world_code : Coded State
 world_code =
-    code_by (Limits × (List Shape × (List Publisher × (List Item × (List Entry × (List Subscription × List Handed))))))
-    (coded× limits_code (coded× (coded_list shape.the_row.coded) (coded× (coded_list publisher.the_row.coded)
-    (coded× (coded_list item.the_row.coded) (coded× (coded_list entry_code)
-    (coded× (coded_list subscription.the_row.coded) (coded_list handed.the_row.coded)))))))
-    (λ w. (w.config, (w.schema, (w.publishers, (w.intake, (w.sequence, (w.subscriptions, w.deliveries)))))))
-    (λ p. record { config = p.0; schema = p.1.0; publishers = p.1.1.0; intake = p.1.1.1.0; sequence = p.1.1.1.1.0; subscriptions = p.1.1.1.1.1.0; deliveries = p.1.1.1.1.1.1 })
+    code_by (List Shape × (List Publisher × (List Item × (Option Item × (List Entry × (Picture × (List Endpoint × List Delivery)))))))
+    (coded× (coded_list shape.the_row.coded) (coded× (coded_list publisher.the_row.coded) (coded× (coded_list item.the_row.coded)
+    (coded× (coded_option item.the_row.coded) (coded× (coded_list entry_code) (coded× picture_code (coded× (coded_list endpoint_code)
+    (coded_list delivery.the_row.coded))))))))
+    (λ w. (w.schema, (w.publishers, (w.intake, (w.hand, (w.sequence, (w.desk, (w.endpoints, w.deliveries))))))))
+    (λ p. record { schema = p.0; publishers = p.1.0; intake = p.1.1.0; hand = p.1.1.1.0; sequence = p.1.1.1.1.0; desk = p.1.1.1.1.1.0; endpoints = p.1.1.1.1.1.1.0; deliveries = p.1.1.1.1.1.1.1 })
     (λ _. refl)

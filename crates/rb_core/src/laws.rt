@@ -1,52 +1,60 @@
-//! Laws: public functions that do nothing, whose contracts say what holds of every run and step. Who needs one calls it.
+//! Laws: public functions that do nothing, whose contracts say what holds of every run. Who needs one calls it.
+//!
+//! What a subscription accepted and what a publisher sent are told by the events and their answers (*world_told*), without a look at the
+//! broker.
 
-ghost use Rattle.std.specs.Prelude.{◌≡◌, ℕ, true, List, Some, slice_get};
+ghost use Rattle.std.specs.Prelude.{◌≡◌, ◌++◌, ℕ, true, List, Some, None, slice_get};
 ghost use Rattle.std.specs.List.{AllByRecursion};
+ghost use Rattle.cs_model.specs.Bytes.{AreBytes};
 ghost use Rattle.cs_model.specs.declared.shape.Shape.{Shape};
-ghost use Rattle.rb_desk.specs.Limits.{Limits};
+ghost use Rattle.cs_parse.specs.Progress.{Took};
 ghost use Rattle.rb_core.specs.declared.event.Event.{Event};
+ghost use Rattle.rb_core.specs.declared.event.Event.TheVariants as event;
+ghost use Rattle.rb_core.specs.declared.publisher.Publisher.{Publisher};
 ghost use Rattle.rb_core.specs.declared.reply.Reply.{Reply};
-ghost use Rattle.rb_core.specs.State.{State, empty_world};
-ghost use Rattle.rb_core.specs.Outcome.{outcome};
-ghost use Rattle.rb_core.specs.Step.{Step};
-ghost use Rattle.rb_core.specs.Run.{Answer, Run, FeedsBytes, accepted_by, RiseAbove};
-ghost use Rattle.rb_core.specs.Fed.{text_fed};
 ghost use Rattle.rb_core.specs.Moves.{Leads, HasRun, StaysClosed, items_of, own_of, IsFront};
-ghost use Rattle.rb_core.specs.World.{Sender, Subscriber, World, begun};
+ghost use Rattle.rb_core.specs.Outcome.{outcome};
+ghost use Rattle.rb_core.specs.Run.{Answer, Run, FeedsBytes};
+ghost use Rattle.rb_core.specs.State.{State, IsWorld, empty_tables, empty_world};
+ghost use Rattle.rb_core.specs.Texts.{FeedsByText, EndsByText};
+ghost use Rattle.rb_core.specs.Told.{world_told, Tells};
+ghost use Rattle.rb_core.specs.World.{Sender, Subscriber, World, begun, end_of};
+ghost use Rattle.rb_desk.specs.IsPicture.{AreInRange};
+ghost use Rattle.rb_desk.specs.Limits.{Limits};
 ghost use Rattle.rb_sequence.specs.Entry.{Entry};
 ghost use Rattle.rb_subscriber.specs.Accept.{AppliesSingly};
-ghost use Rattle.rb_core.specs.declared.parts.Publisher.{Publisher};
-ghost use Rattle.cs_parse.specs.Progress.{Took};
 
-use cs_apply::laws::applying_goes_on;
+use crate::courses;
 use cs_parse::laws::{
     feeding_tells_faults, progress_goes_on, progress_tells, reading_is_spelling, refusing_is_fault,
 };
+use rb_desk::laws::{calls_keep_pictures, calls_show_in_outline, replays_are_pictures};
+use rb_subscriber::laws::accepting_is_step;
 
-/// In every run from an empty world the numbers that a subscription accepted rise strictly.
-pub fn accepted_numbers_rise()
-    ensures { (config : Limits) (schema : List Shape) (events : List Event)
-        (answers : List Answer) (new : State) (s : ℕ)
-        → Run (empty_world config schema) events answers new → RiseAbove 0 (accepted_by s answers) }
-{}
-
-/// In every run of events that feed bytes, from an empty world, each publisher's stream has taken just what the publisher was
-/// fed since the stream began. So each of its steps tells the faults and the changeset of that text, as `Step` says of the
-/// texts that a stream may have taken.
-pub fn streams_take_what_is_fed()
-    ensures { (config : Limits) (schema : List Shape) (events : List Event)
-        (answers : List Answer) (new : State) (p : ℕ) (publisher : Publisher)
-        → AllByRecursion FeedsBytes events → Run (empty_world config schema) events answers new
-        → slice_get new.publishers p ≡ Some publisher
-        → Took publisher.stream (text_fed p events answers) }
+/// Every event keeps what a world keeps.
+pub fn events_keep_worlds()
+    ensures { (old : State) (event : Event) (given : Reply) (new : State)
+        → IsWorld old → outcome old event ≡ (given, new) → IsWorld new }
 {
-    progress_goes_on();
+    accepting_is_step();
+    calls_keep_pictures();
+    calls_show_in_outline();
 }
 
-/// What an event does, as a function, is one of the steps that the relation allows.
-pub fn outcome_is_step()
-    ensures { (old : State) (event : Event) (given : Reply) (new : State)
-        → outcome old event ≡ (given, new) → Step old event given new }
+/// What feeding a publisher answers, and what the end of its stream answers where nothing is staged, is said of every text that the stream
+/// may have taken: the fault that no more bytes mend, what the text spells, and its fault. What its publisher was told to be fed is such a
+/// text (*Tells*).
+pub fn streams_answer_by_text()
+    ensures feed { (old : State) (p : ℕ) (bytes : List ℕ) (publisher : Publisher)
+        (text : List ℕ) (given : Reply) (new : State)
+        → slice_get old.publishers p ≡ Some publisher → Took publisher.stream text → AreBytes bytes
+        → outcome old (event.Feed p bytes) ≡ (given, new)
+        → FeedsByText old p publisher text bytes given new }
+    ensures end { (old : State) (p : ℕ) (publisher : Publisher) (text : List ℕ)
+        (given : Reply) (new : State) → slice_get old.publishers p ≡ Some publisher
+        → publisher.staged ≡ None → Took publisher.stream text
+        → outcome old (event.End p) ≡ (given, new)
+        → EndsByText old p publisher text given new }
 {
     reading_is_spelling();
     refusing_is_fault();
@@ -55,44 +63,91 @@ pub fn outcome_is_step()
     progress_tells();
 }
 
-/// Whatever happens from the beginning on, a subscription has accepted one run of the sequence behind its start: no number is left out,
-/// and each one comes once. So it is at every time, since each time is the end of what happened before.
-pub fn accepted_is_gapless()
-    ensures { (mids : List World) (new : World) (s : ℕ) (subscriber : Subscriber)
-        → Leads begun mids new → slice_get new.subscribers s ≡ Some subscriber
-        → HasRun new.sequence subscriber }
-{}
-
-/// Whatever happens once the sequence is closed, it stays closed and nothing is placed; and once a subscription is closed, it stays so and
-/// accepts nothing more.
-pub fn nothing_after_close()
-    ensures sequence { (old : World) (mids : List World) (new : World) (last : ℕ)
-        → old.closing ≡ Some last → Leads old mids new
-        → (new.closing ≡ Some last) × (new.sequence ≡ old.sequence) }
-    ensures subscription { (old : World) (mids : List World) (new : World) (s : ℕ)
-        (subscriber : Subscriber) → slice_get old.subscribers s ≡ Some subscriber
-        → subscriber.closed ≡ true → Leads old mids new
-        → (after : Subscriber) × (slice_get new.subscribers s ≡ Some after) × StaysClosed subscriber after }
-{}
-
-/// Whatever happens from the beginning on, what stands in the sequence of one publisher is the front of what it sent, in that order; and
-/// no two entries have the same publisher and the same own number, so that each sending is placed once.
-pub fn sendings_come_once_in_order()
-    ensures order { (mids : List World) (new : World) (p : ℕ) (sender : Sender)
-        → Leads begun mids new → slice_get new.senders p ≡ Some sender
-        → IsFront (own_of p (items_of new.sequence)) sender.sent }
-    ensures once { (mids : List World) (new : World) (i j : ℕ) (a b : Entry)
-        → Leads begun mids new → slice_get new.sequence i ≡ Some a
-        → slice_get new.sequence j ≡ Some b → a.item.publisher ≡ b.item.publisher
-        → a.item.own ≡ b.item.own → i ≡ j }
-{}
-
-/// Whatever happens from the beginning on, a subscription's tables are what one thread gets that applies the changesets that it accepted
-/// to the tables that it began with, one after another.
-pub fn tables_apply_singly()
-    ensures { (mids : List World) (new : World) (s : ℕ) (subscriber : Subscriber)
-        → Leads begun mids new → slice_get new.subscribers s ≡ Some subscriber
-        → AppliesSingly subscriber.base subscriber.accepted subscriber.tables }
+/// In every run of events from an empty world, what they and their answers tell is what the broker has, and it is a course of moves from
+/// the beginning on: those of a world that knows no window, no clock, no spans and no order of deliveries. Where the run goes on, the
+/// course goes on from there.
+pub fn runs_are_told()
+    ensures told { (limits : Limits) (schema : List Shape) (events : List Event)
+        (answers : List Answer) (new : State) → AreInRange limits
+        → AllByRecursion FeedsBytes events → Run (empty_world limits schema) events answers new
+        → ((mids : List World) × Leads begun mids (world_told schema events answers))
+        × Tells schema new (world_told schema events answers) }
+    ensures goes_on { (limits : Limits) (schema : List Shape) (events more : List Event)
+        (answers later : List Answer) (mid new : State) → AreInRange limits
+        → AllByRecursion FeedsBytes events → AllByRecursion FeedsBytes more
+        → Run (empty_world limits schema) events answers mid → Run mid more later new
+        → ((mids : List World) × Leads (world_told schema events answers) mids (world_told schema (events ++ more) (answers ++ later)))
+        × Tells schema new (world_told schema (events ++ more) (answers ++ later)) }
 {
-    applying_goes_on();
+    events_keep_worlds();
+    replays_are_pictures();
+    calls_show_in_outline();
+    accepting_is_step();
+    progress_goes_on();
+    progress_tells();
+}
+
+/// In every run and at every time, what a subscription has accepted is one run of the sequence behind its start: no number is left out, and
+/// each one comes once. Its end has come as far.
+pub fn accepted_is_gapless()
+    ensures { (limits : Limits) (schema : List Shape) (events : List Event)
+        (answers : List Answer) (new : State) (s : ℕ) (subscriber : Subscriber) → AreInRange limits
+        → AllByRecursion FeedsBytes events → Run (empty_world limits schema) events answers new
+        → slice_get (world_told schema events answers).subscribers s ≡ Some subscriber
+        → HasRun new.sequence subscriber × (slice_get new.endpoints s ≡ Some (end_of subscriber)) }
+{
+    runs_are_told();
+    courses::accepted_is_gapless();
+}
+
+/// In every run and at every time, what stands in the sequence of one publisher is the front of what it sent, in that order; and no two
+/// entries have the same publisher and the same own number, so that each sending is placed once.
+pub fn sendings_come_once_in_order()
+    ensures order { (limits : Limits) (schema : List Shape) (events : List Event)
+        (answers : List Answer) (new : State) (p : ℕ) (sender : Sender) → AreInRange limits
+        → AllByRecursion FeedsBytes events → Run (empty_world limits schema) events answers new
+        → slice_get (world_told schema events answers).senders p ≡ Some sender
+        → IsFront (own_of p (items_of new.sequence)) sender.sent }
+    ensures once { (limits : Limits) (schema : List Shape) (events : List Event)
+        (answers : List Answer) (new : State) (i j : ℕ) (a b : Entry) → AreInRange limits
+        → AllByRecursion FeedsBytes events → Run (empty_world limits schema) events answers new
+        → slice_get new.sequence i ≡ Some a → slice_get new.sequence j ≡ Some b
+        → a.item.publisher ≡ b.item.publisher → a.item.own ≡ b.item.own → i ≡ j }
+{
+    runs_are_told();
+    courses::sendings_come_once_in_order();
+}
+
+/// In every run that goes on once the sequence is closed, it stays closed and nothing is placed; and once a subscription is closed, it stays
+/// so and accepts nothing more.
+pub fn nothing_after_close()
+    ensures sequence { (limits : Limits) (schema : List Shape) (events more : List Event)
+        (answers later : List Answer) (mid new : State) (last : ℕ) → AreInRange limits
+        → AllByRecursion FeedsBytes events → AllByRecursion FeedsBytes more
+        → Run (empty_world limits schema) events answers mid → Run mid more later new
+        → mid.desk.closing ≡ Some last
+        → (new.desk.closing ≡ Some last) × (new.sequence ≡ mid.sequence) }
+    ensures subscription { (limits : Limits) (schema : List Shape) (events more : List Event)
+        (answers later : List Answer) (mid new : State) (s : ℕ) (subscriber : Subscriber)
+        → AreInRange limits → AllByRecursion FeedsBytes events → AllByRecursion FeedsBytes more
+        → Run (empty_world limits schema) events answers mid → Run mid more later new
+        → slice_get (world_told schema events answers).subscribers s ≡ Some subscriber
+        → subscriber.closed ≡ true
+        → (after : Subscriber) × (slice_get (world_told schema (events ++ more) (answers ++ later)).subscribers s ≡ Some after) × StaysClosed subscriber after }
+{
+    runs_are_told();
+    courses::nothing_after_close();
+}
+
+/// In every run and at every time, a subscription's tables are what one thread gets that applies the changesets that it accepted to empty
+/// tables, one after another.
+pub fn tables_apply_singly()
+    ensures { (limits : Limits) (schema : List Shape) (events : List Event)
+        (answers : List Answer) (new : State) (s : ℕ) (subscriber : Subscriber) → AreInRange limits
+        → AllByRecursion FeedsBytes events → Run (empty_world limits schema) events answers new
+        → slice_get (world_told schema events answers).subscribers s ≡ Some subscriber
+        → AppliesSingly (empty_tables schema) subscriber.accepted subscriber.tables }
+{
+    runs_are_told();
+    courses::tables_apply_singly();
 }

@@ -1,38 +1,67 @@
 //! The parts of a world.
 
-use cs_apply::Tables;
-use cs_model::Changeset;
-use cs_parse::PieceParser;
+ghost use Rattle.std.specs.Prelude.{◌≡◌};
+ghost use Rattle.std.specs.Arc.{arc_value};
+ghost use Rattle.rb_core.specs.State.{empty_world};
 
-/// A publisher.
+use crate::publisher::Publisher;
+use cs_model::Schema;
+use rb_desk::{Config, Delivery, Desk};
+use rb_sequence::{Entry, Item};
+use rb_subscriber::Endpoint;
+use std::alloc::Global;
+use std::collections::VecDeque;
+use std::marker::Model;
+use std::sync::Arc;
+
+/// The parts of a world, which the events change. What holds of them together (*IsWorld*) is asked of them where it is needed, and
+/// the world keeps it.
 #[derive(Debug, Drop)]
-pub struct Publisher {
-    /// What was read of the bytes fed since its last end or reset.
-    pub stream: PieceParser,
-    /// What is staged and not sent.
-    pub staged: Option<Changeset>,
-    /// How often it has sent.
-    pub sent: u64,
+pub(crate) struct Parts {
+    pub(crate) schema: Arc<Schema>,
+    pub(crate) publishers: Vec<Publisher>,
+    pub(crate) intake: VecDeque<Item>,
+    pub(crate) hand: Option<Item>,
+    pub(crate) sequence: Vec<Entry>,
+    pub(crate) desk: Desk,
+    pub(crate) endpoints: Vec<Endpoint>,
+    pub(crate) deliveries: Vec<Delivery>,
 }
 
-/// A subscription.
-#[derive(Debug, Drop)]
-pub struct Subscription {
-    /// The last number that it was handed out, at first its start.
-    pub handed: u64,
-    /// The last number that it accepted, at first its start.
-    pub cursor: u64,
-    /// Its tables.
-    pub tables: Tables,
+impl Model for Parts {
+    ghost use Rattle.std.specs.Arc.{arc_value};
+    ghost use Rattle.rb_core.specs.State.{State, world_code};
+
+    ghost Value = { State };
+
+    ghost coded = { world_code };
+
+    ghost view = { λ w. record {
+      schema = arc_value w.schema;
+      publishers = w.publishers.items;
+      intake = w.intake.items;
+      hand = w.hand;
+      sequence = w.sequence.items;
+      desk = w.desk;
+      endpoints = w.endpoints.items;
+      deliveries = w.deliveries.items;
+    } };
 }
 
-/// A delivery that was handed out.
-#[derive(Clone, Copy, Debug, PartialEq, Eq)]
-pub struct Handed {
-    /// Whose it is.
-    pub subscription: u64,
-    /// Its first number.
-    pub first: u64,
-    /// Its last number.
-    pub last: u64,
+impl Parts {
+    /// No publishers, entries and subscriptions.
+    pub(crate) fn new(alloc: Global, config: Config, schema: Arc<Schema>) -> Parts
+        ensures { result ≡ empty_world config (arc_value schema) }
+    {
+        Parts {
+            schema,
+            publishers: Vec::new(alloc),
+            intake: VecDeque::new(alloc),
+            hand: None,
+            sequence: Vec::new(alloc),
+            desk: Desk::new(alloc, config),
+            endpoints: Vec::new(alloc),
+            deliveries: Vec::new(alloc),
+        }
+    }
 }

@@ -1,24 +1,33 @@
-//! Publishers and the sequence.
+//! Publishers.
 
-ghost use Rattle.std.specs.Prelude.{◌≡◌, IfOk, OnErr, IsOk};
-ghost use Rattle.cs_parse.specs.Answer.{Shows};
+ghost use Rattle.std.specs.Prelude.{◌≡◌, ◌<◌, List, Some, length, slice_get, nat_le, IfOk, OnErr};
+ghost use Rattle.cs_model.specs.Section.{Section};
+ghost use Rattle.cs_parse.specs.End.{end_of, left_by};
 ghost use Rattle.cs_parse.specs.Progress.{ended};
-ghost use Rattle.rb_core.specs.Outcome.{publisher_outcome, feed_outcome, reset_outcome, end_outcome, send_outcome, turn_outcome, fault_refusal};
+ghost use Rattle.rb_core.specs.Outcome.{publisher_outcome, feed_outcome, reset_outcome, end_outcome, send_outcome, end_reply, queued};
+ghost use Rattle.rb_core.specs.declared.publisher.Publisher.{Publisher};
 
-use crate::parts::Publisher;
+use crate::parts::Parts;
+use crate::publisher::Publisher;
 use crate::reply::{Refusal, Reply};
-use crate::world::{World, refused};
-use cs_model::{Changeset, Origin, SectionFault};
-use cs_parse::{ParseError, ParseFault, PieceParser};
-use rb_sequence::{Entry, Item};
+use crate::world::refused;
+use cs_model::{Changeset, Origin, Schema, SectionFault};
+use cs_parse::{EndError, ParseError, PieceParser};
+use rb_sequence::Item;
 use std::alloc::{AllocError, Global};
 
-impl World {
+/// The most publishers.
+const MOST_PUBLISHERS: usize = 64;
+
+impl Parts {
     /// One publisher more, with an empty stream. It is answered with its number, from 0.
     pub(crate) fn publisher(&mut self, alloc: Global) -> Result<Reply, AllocError>
         ensures ok { IfOk result (λ reply. publisher_outcome self.old ≡ (reply, self.new)) }
         ensures err { OnErr result (self.new ≡ self.old) }
     {
+        if self.publishers.len() >= MOST_PUBLISHERS {
+            return refused(Refusal::TooMany);
+        }
         let number = self.publishers.len() as u64;
         self.publishers.push(Publisher {
             stream: PieceParser::new(alloc),
@@ -78,15 +87,12 @@ impl World {
         if self.publishers[p].staged.is_some() {
             return refused(Refusal::Holding);
         }
-        let changeset = match spelled(&self.publishers[p].stream) {
-            Ok(changeset) => changeset,
-            Err(fault) => return Ok(Reply::Fault(fault)),
-        };
-        if let Err(fault) = self.schema.admits(changeset) {
-            return refused(refusal_for(fault));
-        }
         let found = &mut self.publishers[p];
-        found.staged = Some(found.stream.take(alloc));
+        let changeset = match end_of(alloc, &mut found.stream, &self.schema) {
+            Ok(changeset) => changeset,
+            Err(error) => return Ok(reply_for(error)),
+        };
+        found.staged = Some(changeset);
         Ok(Reply::Staged)
     }
 
@@ -102,6 +108,31 @@ impl World {
         if self.publishers[p].staged.is_none() {
             return refused(Refusal::NothingStaged);
         }
+        if self.desk.closing().is_some() {
+            return refused(Refusal::Closed);
+        }
+        if self.is_full() {
+            return refused(Refusal::Full);
+        }
+        self.queue(publisher)
+    }
+
+    // whether as many changesets wait as may
+    fn is_full(&self) -> bool
+        ensures { result ≡ nat_le self.now.desk.limits.intake (length self.now.intake) }
+    {
+        self.desk.config().intake() <= self.intake.len() as u64
+    }
+
+    // sends what a publisher has staged
+    fn queue(&mut self, publisher: u64) -> Result<Reply, AllocError>
+        requires { publisher < length self.old.publishers }
+        ensures ok { IfOk result (λ reply. (found : Publisher) (changeset : List Section)
+            → slice_get self.old.publishers publisher ≡ Some found → found.staged ≡ Some changeset
+            → queued self.old publisher found changeset ≡ (reply, self.new)) }
+        ensures err { OnErr result (self.new ≡ self.old) }
+    {
+        let p = publisher as usize;
         // 2^64 sendings can't come
         let own = self.publishers[p].sent.checked_add(1).ok_or(AllocError)?;
         self.intake.reserve(1)?;
@@ -120,42 +151,27 @@ impl World {
             }
         }
     }
+}
 
-    /// Moves the first item of the intake to the end of the sequence, and answers its number, from 1.
-    pub(crate) fn turn(&mut self, alloc: Global) -> Result<Reply, AllocError>
-        ensures ok { IfOk result (λ reply. turn_outcome self.old ≡ (reply, self.new)) }
-        ensures err { OnErr result (self.new ≡ self.old) }
-    {
-        // all memory is taken before anything moves
-        let text = match self.intake.front() {
-            None => return Ok(Reply::Idle),
-            Some(item) => item.text(alloc)?,
-        };
-        self.sequence.reserve(1)?;
-        match self.intake.pop_front() {
-            None => Ok(Reply::Idle),
-            Some(item) => {
-                let number = self.sequence.len() as u64 + 1;
-                self.sequence.push(Entry::new(number, item, text))?;
-                Ok(Reply::Placed(number))
-            }
+// the changeset that a stream ends with, where the schema admits it
+fn end_of(alloc: Global, stream: &mut PieceParser, schema: &Schema) -> Result<Changeset, EndError>
+    ensures answer { result ≡ end_of schema.now (ended stream.old) }
+    ensures left { stream.new ≡ left_by result stream.old }
+{
+    stream.end(alloc, schema)
+}
+
+// what `end` answers where nothing is staged
+fn reply_for(error: EndError) -> Reply
+    ensures { result ≡ end_reply error }
+{
+    match error {
+        EndError::Fault(fault) => Reply::Fault(fault),
+        EndError::Refused(SectionFault::UnknownTable(i)) => {
+            Reply::Refused(Refusal::UnknownTable(i as u64))
         }
-    }
-}
-
-// the changeset that a stream spells, or its fault
-fn spelled(stream: &PieceParser) -> Result<&Changeset, ParseFault>
-    ensures { Shows result (ended stream.now) }
-{
-    stream.finish()
-}
-
-// what `end` answers of a section that isn't admitted
-fn refusal_for(fault: SectionFault) -> Refusal
-    ensures { result ≡ fault_refusal fault }
-{
-    match fault {
-        SectionFault::UnknownTable(i) => Refusal::UnknownTable(i as u64),
-        SectionFault::ShapeDiffers(i) => Refusal::ShapeDiffers(i as u64),
+        EndError::Refused(SectionFault::ShapeDiffers(i)) => {
+            Reply::Refused(Refusal::ShapeDiffers(i as u64))
+        }
     }
 }

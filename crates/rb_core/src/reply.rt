@@ -1,7 +1,9 @@
 //! What a world answers.
 
-use cs_apply::Conflict;
 use cs_parse::ParseFault;
+use rb_desk::{Delivery, Refusal as DeskRefusal};
+use rb_subscriber::Refusal as EndRefusal;
+use thiserror::Error;
 
 /// The answer to an event.
 #[derive(Clone, Copy, Debug, PartialEq, Eq)]
@@ -20,53 +22,66 @@ pub enum Reply {
     Placed(u64),
     /// Nothing waits to be placed.
     Idle,
+    /// The sequence is closed, and this is its last number.
+    Closed(u64),
     /// The new subscription's number and link.
-    Subscriber {
-        subscription: u64,
-        link: u64,
-    },
-    /// A delivery of the entries `first` to `last`.
-    Delivery {
-        number: u64,
-        subscription: u64,
-        first: u64,
-        last: u64,
-    },
-    /// A subscription has accepted all entries up to this number that it took.
-    Accepted {
-        subscription: u64,
-        cursor: u64,
-    },
+    Subscriber { subscription: u64, link: u64 },
+    /// Entries are handed to a subscription.
+    Delivery(Delivery),
+    /// The entries of a delivery are applied; its subscription has accepted up to `cursor`.
+    Accepted { subscription: u64, cursor: u64 },
+    /// The delivery is settled, as all entries of its subscription up to this number are.
+    Floor(u64),
+    /// The delivery is given back.
+    Returned,
+    /// So many deliveries are given back.
+    Expired(u64),
+    /// The subscription's new link.
+    Link(u64),
+    /// The subscription is closed.
+    Unsubscribed,
     /// The stream isn't that of a changeset: its first fault. A `Feed` that meets it keeps the bytes, and every later one
     /// answers the same and takes nothing; an `End` leaves the stream as it is.
     Fault(ParseFault),
-    /// The event is refused, and the world is as before.
+    /// The event is refused.
     Refused(Refusal),
 }
 
-/// Why an event is refused.
-#[derive(Clone, Copy, Debug, PartialEq, Eq)]
+/// Why `World::step` refuses an event. The world is as it was before, but that a turn which the desk refuses has pulled the item that
+/// it keeps in hand. Where several hold, the first in the event's documentation is told.
+#[derive(Clone, Copy, Debug, PartialEq, Eq, Error)]
 pub enum Refusal {
-    /// No publisher has this number.
+    /// `Feed`, `Reset`, `End`, `Send`: no publisher has this number.
+    #[error("there is no such publisher")]
     NoPublisher,
-    /// The publisher has a changeset staged already.
-    Holding,
-    /// The publisher has nothing staged.
-    NothingStaged,
-    /// No subscription has this number.
-    NoSuch,
-    /// No delivery has this number.
+    /// `Accept`, `Ack`, `Nack`: no delivery has this number.
+    #[error("there is no such delivery")]
     NoDelivery,
-    /// The start is behind the last placed entry, which is `front`.
-    StartAhead { front: u64 },
-    /// There is no entry to take. The last placed one is `front`.
-    Empty { front: u64 },
-    /// The entries are accepted already.
-    Seen,
-    /// The section at this place is of a table that isn't in the schema.
+    /// `Publisher`: there are 64.
+    #[error("there are 64 publishers")]
+    TooMany,
+    /// `End`: the publisher has a changeset staged already.
+    #[error("a changeset is staged already")]
+    Holding,
+    /// `Send`: the publisher has nothing staged.
+    #[error("nothing is staged")]
+    NothingStaged,
+    /// `Send`: the sequence is closed.
+    #[error("the sequence is closed")]
+    Closed,
+    /// `Send`: as many changesets wait as may.
+    #[error("as many changesets wait as may")]
+    Full,
+    /// `End`: the section at this place is of a table that isn't in the schema.
+    #[error("section {0} is of an unknown table")]
     UnknownTable(u64),
-    /// The section at this place has another shape than its table.
+    /// `End`: the section at this place has another shape than its table.
+    #[error("section {0} has another shape than its table")]
     ShapeDiffers(u64),
-    /// A change conflicts with the subscription's rows.
-    Conflict(Conflict),
+    /// `Turn`, `Subscribe`, `Take`, `TakeAny`, `Ack`, `Nack`, `Reconnect`, `Unsubscribe`: the desk refuses it.
+    #[error(transparent)]
+    Desk(DeskRefusal),
+    /// `Accept`: the subscription's end refuses it.
+    #[error(transparent)]
+    Accept(EndRefusal),
 }

@@ -1,10 +1,21 @@
 //! Whole runs.
 
-ghost use Rattle.std.specs.Prelude.{◌≡◌, ℕ, IfOk};
-ghost use Rattle.rb_core.specs.State.{empty_world};
-ghost use Rattle.rb_core.specs.Run.{Run, accepted_by, RiseAbove};
+ghost use Rattle.std.specs.Prelude.{◌≡◌, ℕ, true, List, Some, IfOk, slice_get, take};
+ghost use Rattle.std.specs.List.{AllByRecursion};
+ghost use Rattle.cs_model.specs.Bytes.{AreBytes};
+ghost use Rattle.rb_core.specs.Moves.{HasRun, StaysClosed, items_of, own_of, IsFront};
+ghost use Rattle.rb_core.specs.Run.{Run, FeedsBytes};
+ghost use Rattle.rb_core.specs.State.{empty_tables, empty_world};
+ghost use Rattle.rb_core.specs.Told.{world_told};
+ghost use Rattle.rb_core.specs.World.{Sender, Subscriber, end_of};
+ghost use Rattle.rb_sequence.specs.Entry.{Entry};
+ghost use Rattle.rb_subscriber.specs.Accept.{AppliesSingly};
 
 use crate::event::Event;
+use crate::laws::{
+    accepted_is_gapless, nothing_after_close, runs_are_told, sendings_come_once_in_order,
+    tables_apply_singly,
+};
 use crate::reply::Reply;
 use crate::world::World;
 use cs_model::Schema;
@@ -13,6 +24,10 @@ use std::alloc::{AllocError, Global};
 
 /// Serves events one after another from an empty world, and gives the world and what each was answered: a reply,
 /// or that memory ran out for it. `AllocError` where memory runs out for the answers themselves.
+///
+/// The clauses behind the first one are the laws, said of this run: of publishers and subscriptions as the events and their answers tell
+/// them (*world_told*), without a look at the world. What the laws ask is so of every call: the limits are in their ranges, and what
+/// events feed are bytes.
 pub fn run(
     alloc: Global,
     config: Config,
@@ -21,10 +36,52 @@ pub fn run(
 ) -> Result<(World, Vec<Result<Reply, AllocError>>), AllocError>
     // The answers and the world are those of a run of the events.
     ensures run { IfOk result (λ r. Run (empty_world config schema) events.now r.1.items r.0) }
-    // The numbers that a subscription accepted rise strictly.
-    ensures rise { IfOk result (λ r. (s : ℕ) → RiseAbove 0 (accepted_by s r.1.items)) }
+    // What a subscription accepted is one run of the sequence behind its start, and its end is what it accepted.
+    ensures gapless { IfOk result (λ r. (s : ℕ) (subscriber : Subscriber)
+        → slice_get (world_told schema events.now r.1.items).subscribers s ≡ Some subscriber
+        → HasRun r.0.sequence subscriber × (slice_get r.0.endpoints s ≡ Some (end_of subscriber))) }
+    // What stands in the sequence of a publisher is the front of what it sent, in that order.
+    ensures in_order { IfOk result (λ r. (p : ℕ) (sender : Sender)
+        → slice_get (world_told schema events.now r.1.items).senders p ≡ Some sender
+        → IsFront (own_of p (items_of r.0.sequence)) sender.sent) }
+    // No sending stands there twice.
+    ensures once { IfOk result (λ r. (i j : ℕ) (a b : Entry) → slice_get r.0.sequence i ≡ Some a
+        → slice_get r.0.sequence j ≡ Some b → a.item.publisher ≡ b.item.publisher
+        → a.item.own ≡ b.item.own → i ≡ j) }
+    // Once the first n events have closed the sequence, it stays closed and nothing is placed.
+    ensures closed { IfOk result (λ r. (n last : ℕ)
+        → (world_told schema (take n events.now) (take n r.1.items)).closing ≡ Some last
+        → (r.0.desk.closing ≡ Some last)
+        × (r.0.sequence ≡ (world_told schema (take n events.now) (take n r.1.items)).sequence)) }
+    // Once they have closed a subscription, it stays so and accepts nothing more.
+    ensures left { IfOk result (λ r. (n s : ℕ) (subscriber : Subscriber)
+        → slice_get (world_told schema (take n events.now) (take n r.1.items)).subscribers s ≡ Some subscriber
+        → subscriber.closed ≡ true
+        → (after : Subscriber) × (slice_get (world_told schema events.now r.1.items).subscribers s ≡ Some after) × StaysClosed subscriber after) }
+    // A subscription's tables are what one thread gets that applies what it accepted to empty tables, one changeset after another.
+    ensures tables { IfOk result (λ r. (s : ℕ) (subscriber : Subscriber)
+        → slice_get (world_told schema events.now r.1.items).subscribers s ≡ Some subscriber
+        → AppliesSingly (empty_tables schema) subscriber.accepted subscriber.tables) }
 {
-    let mut world = World::new(alloc, config, schema);
+    runs_are_told();
+    accepted_is_gapless();
+    sendings_come_once_in_order();
+    nothing_after_close();
+    tables_apply_singly();
+    feed_bytes(events);
+    served(alloc, config, schema, events)
+}
+
+// the events served, with the one clause from which the others follow
+fn served(
+    alloc: Global,
+    config: Config,
+    schema: Schema,
+    events: &[Event],
+) -> Result<(World, Vec<Result<Reply, AllocError>>), AllocError>
+    ensures { IfOk result (λ r. Run (empty_world config schema) events.now r.1.items r.0) }
+{
+    let mut world = World::new(alloc, config, schema)?;
     let mut answers = Vec::with_capacity(alloc, events.len())?;
     for event in events {
         answers.reserve(1)?;
@@ -32,4 +89,29 @@ pub fn run(
         answers.push(answer)?;
     }
     Ok((world, answers))
+}
+
+// These are bytes, and an event and events feed bytes: their types say so, and these functions only look.
+fn are_bytes(bytes: &[u8])
+    ensures { AreBytes bytes.now }
+{}
+
+fn feeds_bytes(event: &Event)
+    ensures { FeedsBytes event.now }
+{
+    if let Event::Feed {
+        publisher: _,
+        bytes,
+    } = event
+    {
+        return are_bytes(bytes);
+    }
+}
+
+fn feed_bytes(events: &[Event])
+    ensures { AllByRecursion FeedsBytes events.now }
+{
+    for fed in events {
+        feeds_bytes(fed);
+    }
 }

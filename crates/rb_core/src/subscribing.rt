@@ -1,126 +1,123 @@
-//! Subscriptions and their deliveries.
+//! Subscriptions: made, served, gone on with, ended.
 
 ghost use Rattle.std.specs.Prelude.{◌≡◌, IfOk, OnErr};
-ghost use Rattle.std.specs.Option.{option_copied};
-ghost use Rattle.cs_apply.specs.Single.{single};
-ghost use Rattle.rb_core.specs.Outcome as spec;
-ghost use Rattle.rb_core.specs.Outcome.{subscribe_outcome, take_outcome, accept_outcome, accepted};
+ghost use Rattle.std.specs.Arc.{arc_value};
+ghost use Rattle.rb_core.specs.Outcome.{subscribe_outcome, take_outcome, take_any_outcome, reconnect_outcome, unsubscribe_outcome};
+ghost use Rattle.rb_core.specs.State.{empty_tables};
 
-use crate::parts::{Handed, Subscription};
+use crate::parts::Parts;
 use crate::reply::{Refusal, Reply};
-use crate::world::{World, refused};
-use cs_apply::{ApplyError, Tables};
-use cs_model::CopyIn;
-use rb_sequence::Entry;
+use crate::world::refused;
+use cs_apply::Tables;
+use cs_model::Schema;
+use rb_desk::{DeskError, Refusal as DeskRefusal};
+use rb_subscriber::Endpoint;
 use std::alloc::{AllocError, Global};
+use std::sync::Arc;
 
-impl World {
+impl Parts {
     /// One subscription more, of the entries behind number `start`, with empty tables.
     pub(crate) fn subscribe(&mut self, alloc: Global, start: u64) -> Result<Reply, AllocError>
         ensures ok { IfOk result (λ reply. subscribe_outcome self.old start ≡ (reply, self.new)) }
         ensures err { OnErr result (self.new ≡ self.old) }
     {
-        let front = self.sequence.len() as u64;
-        if front < start {
-            return refused(Refusal::StartAhead { front });
+        let tables = tables_of(alloc, &self.schema)?;
+        self.endpoints.reserve(1)?;
+        match self.desk.subscribe(alloc, start) {
+            Ok((subscription, link)) => {
+                self.endpoints
+                    .push_reserved(Endpoint::new(start, link, tables));
+                Ok(Reply::Subscriber { subscription, link })
+            }
+            Err(DeskError::Refused(why)) => refused(Refusal::Desk(why)),
+            Err(DeskError::Memory) => Err(AllocError),
         }
-        let schema = self.schema.copy_in(alloc)?;
-        let kept = vec![in alloc; true; schema.tables().len()]?;
-        self.subscriptions.push(Subscription {
-            handed: start,
-            cursor: start,
-            tables: Tables::new(alloc, schema, kept),
-        })?;
-        let link = self.subscriptions.len() as u64;
-        Ok(Reply::Subscriber {
-            subscription: link - 1,
-            link,
-        })
     }
 
-    /// Hands a subscription the next entry that it wasn't handed yet, as a delivery.
-    pub(crate) fn take(&mut self, subscription: u64) -> Result<Reply, AllocError>
-        ensures ok { IfOk result (λ reply. take_outcome self.old subscription ≡ (reply, self.new)) }
+    /// Hands a subscription the first of its entries that are ready, as a delivery.
+    pub(crate) fn take(&mut self, subscription: u64, now: u64) -> Result<Reply, AllocError>
+        ensures ok { IfOk result (λ reply. take_outcome self.old subscription now ≡ (reply, self.new)) }
+        ensures err { OnErr result (self.new ≡ self.old) }
+    {
+        let Some(end) = self.endpoints.get(subscription as usize) else {
+            return refused(Refusal::Desk(DeskRefusal::NoSuch));
+        };
+        self.deliveries.reserve(1)?;
+        match self.desk.take(subscription, end.link(), end.cursor(), now) {
+            Ok(delivery) => {
+                self.deliveries.push_reserved(delivery);
+                Ok(Reply::Delivery(delivery))
+            }
+            Err(DeskError::Refused(why)) => refused(Refusal::Desk(why)),
+            Err(DeskError::Memory) => Err(AllocError),
+        }
+    }
+
+    /// Hands over the entries that are ready longest, among those of subscriptions with room, as a delivery.
+    pub(crate) fn take_any(&mut self, now: u64) -> Result<Reply, AllocError>
+        ensures ok { IfOk result (λ reply. take_any_outcome self.old now ≡ (reply, self.new)) }
+        ensures err { OnErr result (self.new ≡ self.old) }
+    {
+        self.deliveries.reserve(1)?;
+        match self.desk.take_any(now) {
+            Ok(delivery) => {
+                self.deliveries.push_reserved(delivery);
+                Ok(Reply::Delivery(delivery))
+            }
+            Err(DeskError::Refused(why)) => refused(Refusal::Desk(why)),
+            Err(DeskError::Memory) => Err(AllocError),
+        }
+    }
+
+    /// Lets a subscription go on behind `cursor`, under a new link.
+    pub(crate) fn reconnect(
+        &mut self,
+        alloc: Global,
+        subscription: u64,
+        cursor: u64,
+    ) -> Result<Reply, AllocError>
+        ensures ok { IfOk result (λ reply.
+            reconnect_outcome self.old subscription cursor ≡ (reply, self.new)) }
         ensures err { OnErr result (self.new ≡ self.old) }
     {
         let s = subscription as usize;
-        if s >= self.subscriptions.len() {
-            return refused(Refusal::NoSuch);
+        if s >= self.endpoints.len() {
+            return refused(Refusal::Desk(DeskRefusal::NoSuch));
         }
-        let front = self.sequence.len() as u64;
-        let handed = self.subscriptions[s].handed;
-        if front <= handed {
-            return refused(Refusal::Empty { front });
+        match self.desk.reconnect(alloc, subscription, cursor) {
+            Ok(link) => {
+                self.endpoints[s].reconnect(link);
+                Ok(Reply::Link(link))
+            }
+            Err(DeskError::Refused(why)) => refused(Refusal::Desk(why)),
+            Err(DeskError::Memory) => Err(AllocError),
         }
-        let next = handed + 1;
-        self.deliveries.push(Handed {
-            subscription,
-            first: next,
-            last: next,
-        })?;
-        let found = &mut self.subscriptions[s];
-        found.handed = next;
-        Ok(Reply::Delivery {
-            number: self.deliveries.len() as u64,
-            subscription,
-            first: next,
-            last: next,
-        })
     }
 
-    /// Applies a delivery's entry to its subscription's tables.
-    pub(crate) fn accept(&mut self, alloc: Global, delivery: u64) -> Result<Reply, AllocError>
-        ensures ok { IfOk result (λ reply. accept_outcome self.old delivery ≡ (reply, self.new)) }
+    /// Closes a subscription.
+    pub(crate) fn unsubscribe(&mut self, subscription: u64) -> Result<Reply, AllocError>
+        ensures ok { IfOk result (λ reply. unsubscribe_outcome self.old subscription ≡ (reply, self.new)) }
         ensures err { OnErr result (self.new ≡ self.old) }
     {
-        let Some(&handed) = numbered(&self.deliveries, delivery) else {
-            return refused(Refusal::NoDelivery);
-        };
-        let s = handed.subscription as usize;
-        if s >= self.subscriptions.len() {
-            return refused(Refusal::NoDelivery);
+        let s = subscription as usize;
+        if s >= self.endpoints.len() {
+            return refused(Refusal::Desk(DeskRefusal::NoSuch));
         }
-        if handed.last <= self.subscriptions[s].cursor {
-            return refused(Refusal::Seen);
+        let link = self.endpoints[s].link();
+        match self.desk.unsubscribe(subscription, link) {
+            Ok(()) => {
+                self.endpoints[s].close();
+                Ok(Reply::Unsubscribed)
+            }
+            Err(why) => refused(Refusal::Desk(why)),
         }
-        let Some(entry) = numbered(&self.sequence, handed.last) else {
-            return refused(Refusal::NoDelivery);
-        };
-        accept_entry(alloc, &mut self.subscriptions[s], entry, handed)
     }
 }
 
-// Applies the entry of a delivery, to whose last number the cursor moves. A conflict leaves the subscription as
-// it was.
-fn accept_entry(
-    alloc: Global,
-    subscription: &mut Subscription,
-    entry: &Entry,
-    handed: Handed,
-) -> Result<Reply, AllocError>
-    ensures ok { IfOk result (λ reply.
-        accepted handed subscription.old (single subscription.old.tables entry.now.item.body)
-        ≡ (reply, subscription.new)) }
-    ensures err { OnErr result (subscription.new ≡ subscription.old) }
+// tables without rows, every one of them kept
+fn tables_of(alloc: Global, schema: &Arc<Schema>) -> Result<Tables, AllocError>
+    ensures { IfOk result (λ tables. tables ≡ empty_tables (arc_value schema.now)) }
 {
-    match subscription.tables.apply(alloc, entry.body()) {
-        Ok(()) => {}
-        Err(ApplyError::Conflict(conflict)) => return refused(Refusal::Conflict(conflict)),
-        Err(ApplyError::Memory) => return Err(AllocError),
-    }
-    subscription.cursor = handed.last;
-    Ok(Reply::Accepted {
-        subscription: handed.subscription,
-        cursor: handed.last,
-    })
-}
-
-// the thing at a place counted from 1
-fn numbered<T>(things: &[T], number: u64) -> Option<&T>
-    ensures { option_copied result ≡ spec.numbered things.now number }
-{
-    match number.checked_sub(1) {
-        None => None,
-        Some(i) => things.get(i as usize),
-    }
+    let kept = vec![in alloc; true; schema.tables().len()]?;
+    Ok(Tables::new(alloc, Arc::try_clone(schema)?, kept))
 }

@@ -1,75 +1,56 @@
 //! The world.
 
-ghost use Rattle.std.specs.Prelude.{◌≡◌, IfOk, OnErr, slice_get, Option};
+ghost use Rattle.std.specs.Prelude.{◌≡◌, ◌+◌, length, IfOk, OnErr, MatchOption, slice_get, Option};
 ghost use Rattle.std.specs.Option.{option_map, option_copied};
 ghost use Rattle.std.specs.FinMap as map;
 ghost use Rattle.cs_apply.specs.Seen.{listed};
-ghost use Rattle.rb_core.specs.State.{empty_world};
-ghost use Rattle.rb_core.specs.Outcome.{outcome, numbered};
-ghost use Rattle.rb_core.specs.Step.{Step};
+ghost use Rattle.rb_core.specs.Outcome.{outcome, entry_of};
+ghost use Rattle.rb_core.specs.State.{empty_world, IsWorld, how_many_wait};
 
 use crate::event::Event;
-use crate::laws::outcome_is_step;
-use crate::parts::{Handed, Publisher, Subscription};
+use crate::laws::events_keep_worlds;
+use crate::parts::Parts;
 use crate::reply::{Refusal, Reply};
 use cs_model::{Row, RowKey, Schema};
 use rb_desk::Config;
-use rb_sequence::{Entry, Item};
+use rb_sequence::Entry;
 use std::alloc::{AllocError, Global};
-use std::collections::VecDeque;
 use std::marker::Model;
+use std::sync::Arc;
 
 /// Publishers, a sequence and subscriptions of one schema, in one value.
 #[derive(Debug, Drop)]
 pub struct World {
-    pub(crate) config: Config,
-    pub(crate) schema: Schema,
-    pub(crate) publishers: Vec<Publisher>,
-    pub(crate) intake: VecDeque<Item>,
-    pub(crate) sequence: Vec<Entry>,
-    pub(crate) subscriptions: Vec<Subscription>,
-    pub(crate) deliveries: Vec<Handed>,
+    parts: Parts,
 }
 
 impl Model for World {
-    ghost use Rattle.rb_core.specs.State.{State, world_code};
+    ghost use Rattle.rb_core.specs.State.{State, world_code, IsWorld};
 
     ghost Value = { State };
 
     ghost coded = { world_code };
 
-    ghost view = { λ w. record {
-      config = w.config;
-      schema = w.schema;
-      publishers = w.publishers.items;
-      intake = w.intake.items;
-      sequence = w.sequence.items;
-      subscriptions = w.subscriptions.items;
-      deliveries = w.deliveries.items;
-    } };
+    ghost view = { λ w. w.parts };
+
+    ghost invariant = { λ w. IsWorld w.parts };
 }
 
 impl World {
-    /// A world without publishers, entries and subscriptions.
-    pub fn new(alloc: Global, config: Config, schema: Schema) -> World
-        ensures { result ≡ empty_world config schema }
+    /// A world without publishers, entries and subscriptions. `AllocError` where memory runs out.
+    pub fn new(alloc: Global, config: Config, schema: Schema) -> Result<World, AllocError>
+        ensures { IfOk result (λ world. world ≡ empty_world config schema) }
     {
-        World {
-            config,
-            schema,
-            publishers: Vec::new(alloc),
-            intake: VecDeque::new(alloc),
-            sequence: Vec::new(alloc),
-            subscriptions: Vec::new(alloc),
-            deliveries: Vec::new(alloc),
-        }
+        let schema = Arc::new(alloc, schema)?;
+        Ok(World {
+            parts: Parts::new(alloc, config, schema),
+        })
     }
 
     /// Moves the world by one event and answers it. `AllocError` where memory runs out, with the world as it
-    /// was; a refusal is a reply, and leaves the world as it was too.
+    /// was; a refusal is a reply.
     pub fn step(&mut self, alloc: Global, event: Event) -> Result<Reply, AllocError>
         ensures ok { IfOk result (λ reply. outcome self.old event ≡ (reply, self.new)) }
-        ensures relation { IfOk result (λ reply. Step self.old event reply self.new) }
         ensures err { OnErr result (self.new ≡ self.old) }
     {
         self.serve(alloc, &event)
@@ -78,40 +59,19 @@ impl World {
     /// The same for an event that stays with the caller.
     pub fn serve(&mut self, alloc: Global, event: &Event) -> Result<Reply, AllocError>
         ensures ok { IfOk result (λ reply. outcome self.old event.now ≡ (reply, self.new)) }
-        ensures relation { IfOk result (λ reply. Step self.old event.now reply self.new) }
         ensures err { OnErr result (self.new ≡ self.old) }
     {
-        outcome_is_step();
-        self.moved_by(alloc, event)
-    }
-
-    #[tactic(auto, unfolding(crate::specs::Outcome::outcome))]
-    fn moved_by(&mut self, alloc: Global, event: &Event) -> Result<Reply, AllocError>
-        ensures ok { IfOk result (λ reply. outcome self.old event.now ≡ (reply, self.new)) }
-        ensures err { OnErr result (self.new ≡ self.old) }
-    {
-        match event {
-            Event::Publisher => self.publisher(alloc),
-            Event::Feed { publisher, bytes } => self.feed(alloc, *publisher, bytes),
-            Event::Reset { publisher } => self.reset(alloc, *publisher),
-            Event::End { publisher } => self.end(alloc, *publisher),
-            Event::Send { publisher } => self.send(*publisher),
-            Event::Turn => self.turn(alloc),
-            Event::Subscribe { start } => self.subscribe(alloc, *start),
-            Event::Take {
-                subscription,
-                now: _,
-            } => self.take(*subscription),
-            Event::Accept { delivery } => self.accept(alloc, *delivery),
-        }
+        events_keep_worlds();
+        self.parts.moved_by(alloc, event)
     }
 
     /// The entry with this number, where it is placed.
     pub fn entry(&self, number: u64) -> Option<&Entry>
-        ensures { option_copied result ≡ numbered self.now.sequence number }
+        ensures { option_copied result ≡ entry_of self.now number }
     {
+        let entries = &self.parts.sequence;
         let place = number.checked_sub(1)?;
-        self.sequence.get(place as usize)
+        entries.get(place as usize)
     }
 
     /// The rows of a subscription with their keys, by table, then by the key's bytes; `None` where there is no
@@ -122,12 +82,55 @@ impl World {
         subscription: u64,
     ) -> Result<Option<Vec<(&RowKey, &Row)>>, AllocError>
         ensures { IfOk result (λ rows. option_map (λ v. listed v.items) rows
-            ≡ option_map (λ q. map.entries q.tables.rows)
-            (slice_get self.now.subscriptions subscription)) }
+            ≡ option_map (λ end. map.entries end.tables.rows)
+            (slice_get self.now.endpoints subscription)) }
     {
-        match self.subscriptions.get(subscription as usize) {
+        match self.parts.endpoints.get(subscription as usize) {
             None => Ok(None),
-            Some(found) => Ok(Some(found.tables.rows_in_order(alloc)?)),
+            Some(end) => Ok(Some(end.tables().rows_in_order(alloc)?)),
+        }
+    }
+
+    /// How many changesets are sent and not placed: the item in hand, and those that wait.
+    pub fn left(&self) -> u64
+        ensures { result ≡ how_many_wait self.now }
+    {
+        let in_hand = match &self.parts.hand {
+            None => 0,
+            Some(_) => 1,
+        };
+        in_hand + self.parts.intake.len() as u64
+    }
+}
+
+impl Parts {
+    // `outcome`, event by event
+    #[tactic(auto, unfolding(crate::specs::Outcome::outcome))]
+    fn moved_by(&mut self, alloc: Global, event: &Event) -> Result<Reply, AllocError>
+        requires { IsWorld self.old }
+        ensures ok { IfOk result (λ reply. outcome self.old event.now ≡ (reply, self.new)) }
+        ensures err { OnErr result (self.new ≡ self.old) }
+    {
+        match event {
+            Event::Publisher => self.publisher(alloc),
+            Event::Feed { publisher, bytes } => self.feed(alloc, *publisher, bytes),
+            Event::Reset { publisher } => self.reset(alloc, *publisher),
+            Event::End { publisher } => self.end(alloc, *publisher),
+            Event::Send { publisher } => self.send(*publisher),
+            Event::Turn => self.turn(alloc),
+            Event::Close => self.close(),
+            Event::Subscribe { start } => self.subscribe(alloc, *start),
+            Event::Take { subscription, now } => self.take(*subscription, *now),
+            Event::TakeAny { now } => self.take_any(*now),
+            Event::Accept { delivery } => self.accept(alloc, *delivery),
+            Event::Ack { delivery } => self.ack(*delivery),
+            Event::Nack { delivery } => self.nack(*delivery),
+            Event::Expire { now } => self.expire(*now),
+            Event::Reconnect {
+                subscription,
+                cursor,
+            } => self.reconnect(alloc, *subscription, *cursor),
+            Event::Unsubscribe { subscription } => self.unsubscribe(*subscription),
         }
     }
 }

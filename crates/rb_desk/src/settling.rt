@@ -22,7 +22,8 @@ impl Desk {
     /// Refuses `NoSuch`, `StaleLink`, `NotInFlight`, `NotAccepted`.
     #[tactic(auto, unfolding(crate::specs::Calls::ack))]
     pub fn ack(&mut self, sub: u64, link: u64, delivery: u64, cursor: u64) -> Result<u64, Refusal>
-        ensures { ack self.old sub link delivery cursor ≡ (result, self.new) }
+        ensures answer { ack self.old sub link delivery cursor ≡ (result, self.new) }
+        ensures err { OnErr result (self.new ≡ self.old) }
     {
         let s = sub as usize;
         let Some(found) = numbered(&self.subs, sub) else {

@@ -1,6 +1,6 @@
 //! Subscriptions: made, gone on with, closed.
 
-ghost use Rattle.std.specs.Prelude.{◌≡◌, suc};
+ghost use Rattle.std.specs.Prelude.{◌≡◌, suc, OnErr};
 ghost use Rattle.rb_desk.specs.Calls.{subscribe, reconnect, unsubscribe};
 ghost use Rattle.rb_desk.specs.Answers.{Answers, OnlyMemory};
 
@@ -72,7 +72,8 @@ impl Desk {
     /// Refuses `NoSuch`, `StaleLink`, `Closed`.
     #[tactic(auto, unfolding(crate::specs::Calls::unsubscribe))]
     pub fn unsubscribe(&mut self, sub: u64, link: u64) -> Result<(), Refusal>
-        ensures { unsubscribe self.old sub link ≡ (result, self.new) }
+        ensures answer { unsubscribe self.old sub link ≡ (result, self.new) }
+        ensures err { OnErr result (self.new ≡ self.old) }
     {
         let s = sub as usize;
         let Some(found) = numbered(&self.subs, sub) else {

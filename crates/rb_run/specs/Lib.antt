@@ -1,9 +1,2 @@
-pub mod Words
-pub mod Forms
-pub mod Texts
-pub mod Lines
-pub mod Output
-pub mod Streams
-pub mod Ends
 pub mod Endings
-pub mod Script
+pub mod Options

@@ -1,6 +1,6 @@
 //! The command line.
 
-use clap::{ArgMatches, Command, Error};
+use clap::{Arg, ArgAction, ArgMatches, Command, Error};
 use std::alloc::Global;
 
 // the version that `--version` tells
@@ -12,18 +12,26 @@ Call it with a file:
   rb_run script < FILE
 
 Lines, each with its answer when it is done:
-  table HEX         ok                  a table, as a changeset's header spells it
-  publisher         publisher P         a new publisher
-  feed P HEX        ok                  bytes of a changeset, in pieces of any size
-  reset P           ok                  what was fed is forgotten
-  end P             staged              what was fed is a whole changeset
-  send P            sent OWN            what is staged goes to the intake
-  turn              placed N, or idle   the next changeset gets its number
-  subscribe START   subscriber S link L a new subscription, behind number START
-  take S NOW        delivery D S N N    the next entry, at the moment NOW
-  accept D          accepted CURSOR     its changes are applied
-  entry N           entry N P OWN s HEX an entry with its canonical text
-  rows S            rows N, N rows      the rows of a subscription
+  table HEX           ok                  a table, as a changeset's header spells it
+  publisher           publisher P         a new publisher
+  feed P HEX          ok                  bytes of a changeset, in pieces of any size
+  reset P             ok                  what was fed is forgotten
+  end P               staged              what was fed is a whole changeset
+  send P              sent OWN            what is staged goes to the intake
+  turn                placed N, or idle   the next changeset gets its number
+  close               closed LAST         nothing is sent or placed any more
+  subscribe START     subscriber S link L a new subscription, behind number START
+  take S NOW          delivery D S N M    its next entries, N to M, at the moment NOW
+  takeany NOW         delivery D S N M    the entries that wait longest, whosever they are
+  accept D            accepted CURSOR     the changes of a delivery are applied
+  ack D               floor F             it is settled, and so is all up to F
+  nack D              ok                  it is given back
+  expire NOW          expired COUNT       what is out too long at the moment NOW is given back
+  reconnect S CURSOR  link L              a subscription goes on behind CURSOR
+  unsubscribe S       ok                  a subscription ends
+  entry N             entry N P OWN O HEX an entry with its canonical text
+  rows S              rows N, N rows      the rows of a subscription
+  left                left COUNT          how many changesets are sent and not placed
 
 All `table` lines come first. Numbers are decimal, and bytes hexadecimal, - for none. A line that is refused is
 answered `refused NAME` with its values, or `fault AT KIND`, and changes nothing.
@@ -39,11 +47,52 @@ Statuses:
 pub fn matches<'a>(alloc: Global, words: &'a [String]) -> Result<ArgMatches<'a>, Error> {
     let script = Command::new(alloc, "script")
         .about("Answers the lines of a script on standard input, one after another")
-        .after_help(LINES);
+        .after_help(LINES)
+        .arg(limit(
+            alloc,
+            "batch",
+            "16",
+            "The most entries in a delivery, 1 to 256",
+        ))?
+        .arg(limit(
+            alloc,
+            "window",
+            "4",
+            "The most deliveries in flight to a subscription, 1 to 64",
+        ))?
+        .arg(limit(
+            alloc,
+            "timeout",
+            "10",
+            "After how many moments a delivery expires, 1 to 1000000000",
+        ))?
+        .arg(limit(
+            alloc,
+            "capacity",
+            "65536",
+            "The most entries of the sequence, 1 to 1048576",
+        ))?
+        .arg(limit(
+            alloc,
+            "intake",
+            "64",
+            "The most changesets that wait to be placed, 1 to 4096",
+        ))?;
     let program = Command::new(alloc, "rb_run")
         .version(VERSION)
         .about("A replication broker for SQLite changesets")
         .subcommand_required(true)
         .subcommand(script)?;
     program.try_get_matches_from(words)
+}
+
+// an option that takes a number
+fn limit<'a>(alloc: Global, name: &'a str, usual: &'a str, help: &'a str) -> Arg<'a> {
+    Arg::new(alloc, name)
+        .long(name)
+        .action(ArgAction::Set)
+        .value_name("N")
+        .default_value(usual)
+        .allow_negative_numbers(true)
+        .help(help)
 }

@@ -3,7 +3,7 @@
 ghost use Rattle.std.specs.Prelude.{◌≡◌};
 ghost use Rattle.rb_run.specs.Endings.{ending_of, status_of};
 
-use crate::fault::ScriptFault;
+use rb_script::ScriptFault;
 
 /// How the program ends, which decides its status.
 #[derive(Clone, Copy, Debug)]

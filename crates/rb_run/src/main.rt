@@ -1,26 +1,17 @@
-//! The program: a script of lines moves a world, and is answered line by line. Theorem: what `run_script`
-//! writes is `answers` of what it reads.
+//! The program: a command line, and a script from standard input to standard output. Theorem: the limits are those that the
+//! options say, or the first option at fault is told, and the status says how the script ended.
 #![tactic(auto)]
 
 mod command;
 mod ending;
-mod fault;
-mod forms;
-mod laws;
-mod lines;
-mod reading;
-mod script;
-mod streams;
-mod texts;
-mod words;
+mod options;
 
-use clap::Error;
 use clap::error::ErrorKind;
+use clap::{ArgMatches, Error};
 use command::matches;
 use ending::Ending;
-use fault::ScriptFault;
 use rb_core::Config;
-use script::run_script;
+use rb_script::{ScriptFault, run_script};
 use std::alloc::Global;
 use std::io::BufWriter;
 use std::process::ExitCode;
@@ -58,8 +49,22 @@ fn words_of(rt: &HostRuntime) -> io::Result<Vec<String>> {
 // Does what these words ask for, of which the first is the program's name.
 fn called(rt: &HostRuntime, words: &[String]) -> Ending {
     match matches(rt.alloc(), words) {
-        Ok(_) => scripted(rt, rt.alloc()),
+        Ok(found) => match found.subcommand() {
+            None => Ending::Misused,
+            Some((_, found)) => limited(rt, found),
+        },
         Err(shown) => told(rt, &shown),
+    }
+}
+
+// Answers a script under the limits that its options say, or tells which of them is no limit.
+fn limited(rt: &HostRuntime, found: &ArgMatches) -> Ending {
+    match options::config(found) {
+        Ok(config) => scripted(rt, rt.alloc(), config),
+        Err(fault) => {
+            let _ = eprintln!(rt; "rb_run: {}", options::range(fault));
+            Ending::Misused
+        }
     }
 }
 
@@ -79,12 +84,12 @@ fn told(rt: &HostRuntime, shown: &Error) -> Ending {
 }
 
 // Answers the script on standard input, on standard output.
-fn scripted(rt: &HostRuntime, alloc: Global) -> Ending {
+fn scripted(rt: &HostRuntime, alloc: Global, config: Config) -> Ending {
     let mut reader = rt.stdin();
     let Ok(mut writer) = BufWriter::with_capacity(alloc, 65_536, rt.stdout()) else {
         return Ending::Stopped(ScriptFault::Memory);
     };
-    Ending::of(run_script(alloc, &mut reader, &mut writer, Config::standard()))
+    Ending::of(run_script(alloc, &mut reader, &mut writer, config))
 }
 
 #[cfg(test)]

@@ -8,6 +8,7 @@ use rb_desk::{Config, Delivery, Desk};
 use rb_sequence::{Entry, Item};
 use std::alloc::{AllocError, Global};
 use std::process::Abort;
+use std::sync::Arc;
 use std::test::*;
 
 mod accepting;
@@ -53,6 +54,7 @@ fn endpoint(alloc: Global, start: u64, link: u64) -> Result<Endpoint, Fail> {
     })?;
     let schema = Schema::new(shapes)?;
     let kept = vec![in alloc; true; schema.tables().len()]?;
+    let schema = Arc::new(alloc, schema)?;
     Ok(Endpoint::new(start, link, Tables::new(alloc, schema, kept)))
 }
 

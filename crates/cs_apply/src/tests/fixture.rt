@@ -16,6 +16,7 @@ use cs_model::{
 };
 use std::alloc::{AllocError, Global};
 use std::process::Abort;
+use std::sync::Arc;
 use std::test::Fail;
 
 /// A row: its key and its two texts.
@@ -127,7 +128,8 @@ pub(super) fn tables(alloc: Global) -> Result<Tables, Fail> {
     shapes.push(shape(alloc, b'o', 1)?)?;
     shapes.push(shape(alloc, b'n', 0)?)?;
     let kept = Vec::from_slice(alloc, &[true, true, false])?;
-    Ok(Tables::new(alloc, Schema::new(shapes)?, kept))
+    let schema = Arc::new(alloc, Schema::new(shapes)?)?;
+    Ok(Tables::new(alloc, schema, kept))
 }
 
 /// The same with these rows in `t`.

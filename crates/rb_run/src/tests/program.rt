@@ -1,9 +1,12 @@
 //! Command lines, and how the program ends.
 
-use super::*;
 use crate::called;
 use crate::command::matches;
 use crate::ending::Ending;
+use crate::options::{config, range};
+use rb_core::{Config, ConfigFault};
+use std::alloc::Global;
+use std::test::Fail;
 
 // the words of a command line behind the program's name
 fn words(alloc: Global, behind: &[&str]) -> Result<Vec<String>, Fail> {
@@ -49,5 +52,70 @@ fn statuses_are_told(rt: HostRuntime) -> Result<(), Fail> {
     }
     let helped = called(&rt, &words(alloc, &["--version"])?);
     assert!(rt; matches!(&helped, Ending::Done));
+    Ok(())
+}
+
+// the limits that a command line of `script` says
+fn limits(alloc: Global, behind: &[&str]) -> Result<Result<Config, ConfigFault>, Fail> {
+    let words = words(alloc, behind)?;
+    let Ok(found) = matches(alloc, &words) else {
+        return Err("no script was asked for")?;
+    };
+    match found.subcommand() {
+        None => Err("no script was asked for")?,
+        Some((_, found)) => Ok(config(found)),
+    }
+}
+
+#[test]
+fn options_are_limits(rt: HostRuntime) -> Result<(), Fail> {
+    let alloc = rt.alloc();
+    let usual = limits(alloc, &["script"])?;
+    assert!(rt; usual == Ok(Config::standard()));
+    let others = [
+        "script",
+        "--batch",
+        "1",
+        "--window=2",
+        "--timeout",
+        "3",
+        "--capacity=4",
+        "--intake",
+        "5",
+    ];
+    let asked = limits(alloc, &others)?;
+    assert!(rt; asked == Config::new(1, 2, 3, 4, 5, 1));
+    Ok(())
+}
+
+// The first option at fault is told, with its range.
+#[test]
+fn options_have_ranges(rt: HostRuntime) -> Result<(), Fail> {
+    let alloc = rt.alloc();
+    let refused: [(&[&str], ConfigFault); 7] = [
+        (&["script", "--batch", "257"], ConfigFault::Batch),
+        (&["script", "--window", "-1"], ConfigFault::Window),
+        (&["script", "--timeout", "1000000001"], ConfigFault::Timeout),
+        (
+            &["script", "--capacity", "18446744073709551616"],
+            ConfigFault::Capacity,
+        ),
+        (&["script", "--intake", "064"], ConfigFault::Intake),
+        (&["script", "--intake="], ConfigFault::Intake),
+        (
+            &["script", "--window", "x", "--batch", "0"],
+            ConfigFault::Batch,
+        ),
+    ];
+    for (behind, fault) in refused {
+        let asked = limits(alloc, behind)?;
+        assert!(rt; asked == Err(fault));
+        let ending = called(&rt, &words(alloc, behind)?);
+        assert!(rt; matches!(&ending, Ending::Misused));
+    }
+    assert_eq!(rt;
+        range(ConfigFault::Batch),
+        "--batch takes a number from 1 to 256"
+    );
     Ok(())
 }

@@ -1,8 +1,13 @@
-use Rattle.rb_core.proofs.Closing.{nothing_placed, nothing_accepted}
+use Rattle.std.specs.Prelude.{◌++◌}
+use Rattle.rb_core.specs.Told.{world_told}
+use Rattle.rb_core.proofs.ToldLaws.{closed_run, left_run}
 use Rattle.rb_core.proofs.laws.nothing_after_close.Goals as goal
 
 pub returns-clause-sequence : goal.returns-clause-sequence
-returns-clause-sequence c = λ old mids new last. nothing_placed old mids new last
+returns-clause-sequence c = λ limits schema events more answers later mid new last ranges feeds others run on closing.
+    closed_run schema mid new (world_told schema events answers) (world_told schema (events ++ more) (answers ++ later)) last (c.runs_are_told.ensures.told limits schema events answers mid ranges feeds run).1
+    (c.runs_are_told.ensures.goes_on limits schema events more answers later mid new ranges feeds others run on) closing
 
 pub returns-clause-subscription : goal.returns-clause-subscription
-returns-clause-subscription c = λ old mids new s subscriber. nothing_accepted old mids new s subscriber
+returns-clause-subscription c = λ limits schema events more answers later mid new s subscriber ranges feeds others run on found closed.
+    left_run schema new (world_told schema events answers) (world_told schema (events ++ more) (answers ++ later)) s subscriber (c.runs_are_told.ensures.goes_on limits schema events more answers later mid new ranges feeds others run on) found closed

@@ -1,19 +1,32 @@
-use Rattle.std.proofs.Common.{◌≡◌, refl, sym, ◌∙◌, ap, take, get_or, length, ◌∷◌, [], ◌++◌, List, ◌+◌}
-use Rattle.std.proofs.lemmas.List.{take_more}
-use Rattle.rb_core.specs.declared.event.Event.{Event}
-use Rattle.rb_core.specs.State.{empty_world}
-use Rattle.rb_core.specs.Run.{Answer, Run}
-use Rattle.rb_core.proofs.RunLaws.{Run-push, Stepped-from}
-use Rattle.rb_core.proofs.Rising.{rises}
+use Rattle.std.proofs.Common.{rules}
+use Rattle.rb_desk.specs.IsPicture.{AreInRange}
+use Rattle.rb_core.proofs.RunCuts.{on_ok, closed_by_then, left_by_then}
 use Rattle.rb_core.proofs.runs.run.Goals as goal
 
-pub loop-event-preserved : goal.loop-event-preserved
-loop-event-preserved c =
-    let next = Run-push (empty_world c.args.config c.args.schema) c.loop-event.world c.serve-answer.new.self (take c.loop-event.event-index c.args.events.now) c.event-item.result c.loop-event.answers.items c.serve-answer.result c.loop-event.invariant (Stepped-from c.loop-event.world c.serve-answer.new.self c.event-item.result c.serve-answer.result c.serve-answer.ensures.ok c.serve-answer.ensures.err) in
-    let events : take (c.loop-event.event-index + 1) c.args.events.now ≡ take c.loop-event.event-index c.args.events.now ++ c.event-item.result ∷ [] =
-    take_more c.args.events.now c.loop-event.event-index c.event-item.result c.loop-event-test.true ∙ ap (λ (x : Event). take c.loop-event.event-index c.args.events.now ++ x ∷ []) (sym c.event-item.is) in
-    let answers : c.push.new.self.items ≡ c.loop-event.answers.items ++ c.serve-answer.result ∷ [] = cc (c.in_ok-push.ensures.items, c.reserve.ensures.items) in
-    rw (events, answers) next
+-- as the type of the limits says
+in_range : (c : goal.After-served) → AreInRange c.args.config
+in_range c = search rules
 
-pub returns-clause-rise : goal.returns-clause-rise
-returns-clause-rise c = λ s. rises c.args.config c.args.schema s _ _ _ c.loop-event.invariant
+pub returns-clause-gapless : goal.returns-clause-gapless
+returns-clause-gapless c =
+    on_ok _ _ c.served.result (λ r run s subscriber found. c.accepted_is_gapless.ensures c.args.config c.args.schema c.args.events.now r.1.items r.0 s subscriber (in_range c) c.feed_bytes.ensures run found) c.served.ensures
+
+pub returns-clause-in_order : goal.returns-clause-in_order
+returns-clause-in_order c =
+    on_ok _ _ c.served.result (λ r run p sender found. c.sendings_come_once_in_order.ensures.order c.args.config c.args.schema c.args.events.now r.1.items r.0 p sender (in_range c) c.feed_bytes.ensures run found) c.served.ensures
+
+pub returns-clause-once : goal.returns-clause-once
+returns-clause-once c =
+    on_ok _ _ c.served.result (λ r run i j a b. c.sendings_come_once_in_order.ensures.once c.args.config c.args.schema c.args.events.now r.1.items r.0 i j a b (in_range c) c.feed_bytes.ensures run) c.served.ensures
+
+pub returns-clause-closed : goal.returns-clause-closed
+returns-clause-closed c =
+    on_ok _ _ c.served.result (λ r run. closed_by_then c.runs_are_told.ensures.told c.nothing_after_close.ensures.sequence c.args.config c.args.schema c.args.events.now r.1.items r.0 (in_range c) c.feed_bytes.ensures run) c.served.ensures
+
+pub returns-clause-left : goal.returns-clause-left
+returns-clause-left c =
+    on_ok _ _ c.served.result (λ r run. left_by_then c.nothing_after_close.ensures.subscription c.args.config c.args.schema c.args.events.now r.1.items r.0 (in_range c) c.feed_bytes.ensures run) c.served.ensures
+
+pub returns-clause-tables : goal.returns-clause-tables
+returns-clause-tables c =
+    on_ok _ _ c.served.result (λ r run s subscriber found. c.tables_apply_singly.ensures c.args.config c.args.schema c.args.events.now r.1.items r.0 s subscriber (in_range c) c.feed_bytes.ensures run found) c.served.ensures

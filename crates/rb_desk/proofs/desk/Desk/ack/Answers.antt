@@ -10,13 +10,13 @@ use Rattle.rb_desk.proofs.OpenLaws.{IsOpen}
 use Rattle.rb_desk.proofs.HandLaws.{settled_as, settled_floor, belongs_settled}
 use Rattle.rb_desk.proofs.desk.Desk.ack.Goals as goal
 
-pub returns-in_default-out_as : goal.returns-in_default-out_as
-returns-in_default-out_as c =
+pub returns-in_default-out_as-clause-answer : goal.returns-in_default-out_as-clause-answer
+returns-in_default-out_as-clause-answer c =
     let here : slice_get c.self.inside.subs.items c.args.sub ≡ Some c.in-Some.found.now = sym (c.in-Some.ensures ∙ ap (λ subs. slice_get subs c.args.sub) c.deref.ensures.value) in
     rw (← c.self.view_is) (ack_none c.self.inside.config c.self.inside.front c.self.inside.closing c.self.inside.clock c.self.inside.next_link c.self.inside.next_delivery c.self.inside.subs.items c.args.sub c.in-Some.found.now here c.args.link c.args.delivery c.args.cursor c.if-found-link.false (sym c.out_as.ensures.value ∙ c.in_default-out_as.is))
 
-pub returns-then-cursor-span : goal.returns-then-cursor-span
-returns-then-cursor-span c =
+pub returns-then-cursor-span-clause-answer : goal.returns-then-cursor-span-clause-answer
+returns-then-cursor-span-clause-answer c =
     let here : slice_get c.self.inside.subs.items c.args.sub ≡ Some c.in-Some.found.now = sym (c.in-Some.ensures ∙ ap (λ subs. slice_get subs c.args.sub) c.deref.ensures.value) in
     rw (← c.self.view_is) (ack_behind c.self.inside.config c.self.inside.front c.self.inside.closing c.self.inside.clock c.self.inside.next_link c.self.inside.next_delivery c.self.inside.subs.items c.args.sub c.in-Some.found.now here c.args.link c.args.delivery c.args.cursor c.if-found-link.false c.in-Some-out_as.span (sym c.out_as.ensures.value ∙ c.in-Some-out_as.is) c.if-cursor-span.true)
 
@@ -36,8 +36,8 @@ invariant_of-self c =
     let made : c.settle.new.self ≡ settled_sub c.in-Some.found.now span.first = c.settle.ensures.sub ∙ ap (λ sub. settled_sub sub span.first) same in
     rw made (c.self.invariant.0, belongs_settled c.self.inside.config c.self.inside.front c.self.inside.turn c.self.inside.next_delivery c.self.inside.subs.items c.args.sub c.in-Some.found.now found span.first)
 
-pub returns : goal.returns
-returns c =
+pub returns-clause-answer : goal.returns-clause-answer
+returns-clause-answer c =
     let here : slice_get c.self.inside.subs.items c.args.sub ≡ Some c.in-Some.found.now = sym (c.in-Some.ensures ∙ ap (λ subs. slice_get subs c.args.sub) c.deref.ensures.value) in
     let span = c.in-Some-out_as.span in
     let running = out_running c.args.delivery c.in-Some.found.now span (sym c.out_as.ensures.value ∙ c.in-Some-out_as.is) in

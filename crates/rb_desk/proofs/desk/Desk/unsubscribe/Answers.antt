@@ -19,8 +19,8 @@ invariant_of-self c =
     let made : c.close.new.self ≡ closed_sub c.in-Some.found.now = c.close.ensures.sub ∙ ap closed_sub same in
     rw made (c.self.invariant.0, belongs_unsubscribed c.self.inside.front c.self.inside.turn c.self.inside.next_delivery c.args.sub c.self.inside.subs.items c.in-Some.found.now c.self.invariant.1 here (subst (λ (sub : Sub). AreJoined sub.lane) same c.close.ensures.joined))
 
-pub returns : goal.returns
-returns c =
+pub returns-clause-answer : goal.returns-clause-answer
+returns-clause-answer c =
     let here : slice_get c.self.inside.subs.items c.args.sub ≡ Some c.in-Some.found.now = sym (c.in-Some.ensures ∙ ap (λ subs. slice_get subs c.args.sub) c.deref.ensures.value) in
     let same : c.index_mut.result.now ≡ c.in-Some.found.now = c.index_mut.ensures.value ∙ get_or_from_slice_get c.self.inside.subs.items c.args.sub c.in-Some.found.now c.index_mut.result.now here in
     let made : c.close.new.self ≡ closed_sub c.in-Some.found.now = c.close.ensures.sub ∙ ap closed_sub same in

@@ -1,0 +1,80 @@
+-- Runs cut in two, and what the laws say of a run that was answered.
+use Rattle.std.proofs.Common.{◌≡◌, ℕ, zero, suc, true, List, [], ◌∷◌, ◌++◌, take, drop, Result, Ok, Err, Some, refl, sym, ap, ◌∙◌}
+use Rattle.std.specs.Prelude.{IfOk, slice_get}
+use Rattle.std.specs.List.{AllByRecursion}
+use Rattle.cs_model.specs.declared.shape.Shape.{Shape}
+use Rattle.rb_desk.specs.IsPicture.{AreInRange}
+use Rattle.rb_desk.specs.Limits.{Limits}
+use Rattle.rb_core.specs.declared.event.Event.{Event}
+use Rattle.rb_core.specs.Moves.{StaysClosed}
+use Rattle.rb_core.specs.Run.{Answer, Run, FeedsBytes}
+use Rattle.rb_core.specs.State.{State, empty_world}
+use Rattle.rb_core.specs.Told.{world_told, Tells}
+use Rattle.rb_core.specs.World.{Subscriber, begun}
+use Rattle.rb_core.proofs.Telling.{IsTold}
+
+-- what follows of an answer that is Ok
+pub on_ok : {A E : Type 0} (P Q : A → Type 0) (answer : Result A E) → ((x : A) → P x → Q x) → IfOk answer P → IfOk answer Q
+on_ok P Q (Ok x) follows ok = follows x ok
+on_ok P Q (Err e) follows ok = tt
+
+-- ---- a run cut behind its first n events
+
+pub cut_run : (n : ℕ) (old : State) (events : List Event) (answers : List Answer) (new : State) → Run old events answers new → (mid : State) × Run old (take n events) (take n answers) mid × Run mid (drop n events) (drop n answers) new
+cut_run zero old events answers new run = (old, refl, run)
+cut_run (suc n) old [] [] new run = (old, refl, run)
+cut_run (suc n) old [] (answer ∷ answers) new run = absurd run
+cut_run (suc n) old (event ∷ events) [] new run = absurd run
+cut_run (suc n) old (event ∷ events) (answer ∷ answers) new run =
+    let rest = cut_run n run.0 events answers new run.2 in
+    (rest.0, (run.0, run.1, rest.1), rest.2)
+
+all_take : {A : Type 0} (P : A → Type 0) (n : ℕ) (xs : List A) → AllByRecursion P xs → AllByRecursion P (take n xs)
+all_take P zero xs all = tt
+all_take P (suc n) [] all = tt
+all_take P (suc n) (x ∷ xs) all = (all.0, all_take P n xs all.1)
+
+all_drop : {A : Type 0} (P : A → Type 0) (n : ℕ) (xs : List A) → AllByRecursion P xs → AllByRecursion P (drop n xs)
+all_drop P zero xs all = all
+all_drop P (suc n) [] all = tt
+all_drop P (suc n) (x ∷ xs) all = all_drop P n xs all.1
+
+both_parts : {A : Type 0} (n : ℕ) (xs : List A) → take n xs ++ drop n xs ≡ xs
+both_parts zero xs = refl
+both_parts (suc n) [] = refl
+both_parts (suc n) (x ∷ xs) = ap (λ zs. x ∷ zs) (both_parts n xs)
+
+-- ---- what was closed by then
+
+-- what events and answers tell is what the broker has
+abbrev pub AreTold : Type 0
+AreTold = (limits : Limits) (schema : List Shape) (events : List Event) (answers : List Answer) (new : State) → AreInRange limits → AllByRecursion FeedsBytes events → Run (empty_world limits schema) events answers new
+    → IsTold schema begun new (world_told schema events answers)
+
+-- a closed sequence stays closed, and so does a closed subscription
+abbrev pub SequenceStays : Type 0
+SequenceStays = (limits : Limits) (schema : List Shape) (events more : List Event) (answers later : List Answer) (mid new : State) (last : ℕ) → AreInRange limits → AllByRecursion FeedsBytes events → AllByRecursion FeedsBytes more
+    → Run (empty_world limits schema) events answers mid → Run mid more later new → mid.desk.closing ≡ Some last → (new.desk.closing ≡ Some last) × (new.sequence ≡ mid.sequence)
+
+abbrev pub SubscriptionStays : Type 0
+SubscriptionStays = (limits : Limits) (schema : List Shape) (events more : List Event) (answers later : List Answer) (mid new : State) (s : ℕ) (subscriber : Subscriber) → AreInRange limits → AllByRecursion FeedsBytes events
+    → AllByRecursion FeedsBytes more → Run (empty_world limits schema) events answers mid → Run mid more later new → slice_get (world_told schema events answers).subscribers s ≡ Some subscriber → subscriber.closed ≡ true
+    → (after : Subscriber) × (slice_get (world_told schema (events ++ more) (answers ++ later)).subscribers s ≡ Some after) × StaysClosed subscriber after
+
+pub closed_by_then : AreTold → SequenceStays → (limits : Limits) (schema : List Shape) (events : List Event) (answers : List Answer) (new : State) → AreInRange limits → AllByRecursion FeedsBytes events → Run (empty_world limits schema) events answers new
+    → (n last : ℕ) → (world_told schema (take n events) (take n answers)).closing ≡ Some last → (new.desk.closing ≡ Some last) × (new.sequence ≡ (world_told schema (take n events) (take n answers)).sequence)
+closed_by_then told stays limits schema events answers new ranges feeds run n last closing =
+    let cut = cut_run n (empty_world limits schema) events answers new run in
+    let first = all_take FeedsBytes n events feeds in
+    let tells : Tells schema cut.0 (world_told schema (take n events) (take n answers)) = (told limits schema (take n events) (take n answers) cut.0 ranges first cut.1).1 in
+    let after = stays limits schema (take n events) (drop n events) (take n answers) (drop n answers) cut.0 new last ranges first (all_drop FeedsBytes n events feeds) cut.1 cut.2 (sym tells.closing ∙ closing) in
+    (after.0, after.1 ∙ sym tells.sequence)
+
+pub left_by_then : SubscriptionStays → (limits : Limits) (schema : List Shape) (events : List Event) (answers : List Answer) (new : State) → AreInRange limits → AllByRecursion FeedsBytes events → Run (empty_world limits schema) events answers new
+    → (n s : ℕ) (subscriber : Subscriber) → slice_get (world_told schema (take n events) (take n answers)).subscribers s ≡ Some subscriber → subscriber.closed ≡ true
+    → (after : Subscriber) × (slice_get (world_told schema events answers).subscribers s ≡ Some after) × StaysClosed subscriber after
+left_by_then stays limits schema events answers new ranges feeds run n s subscriber found closed =
+    let cut = cut_run n (empty_world limits schema) events answers new run in
+    let after = stays limits schema (take n events) (drop n events) (take n answers) (drop n answers) cut.0 new s subscriber ranges (all_take FeedsBytes n events feeds) (all_drop FeedsBytes n events feeds) cut.1 cut.2 found closed in
+    let whole = ap (λ (es : List Event). world_told schema es (take n answers ++ drop n answers)) (both_parts n events) ∙ ap (world_told schema events) (both_parts n answers) in
+    (after.0, ap (λ w. slice_get w.subscribers s) (sym whole) ∙ after.1, after.2)

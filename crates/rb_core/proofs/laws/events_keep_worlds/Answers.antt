@@ -1,0 +1,22 @@
+use Rattle.std.proofs.Common.{subst}
+use Rattle.rb_core.specs.declared.reply.Reply.{Reply}
+use Rattle.rb_core.specs.State.{State, IsWorld}
+use Rattle.rb_core.proofs.DeskLaws.{Shows}
+use Rattle.rb_core.proofs.WorldEvents.{event_keeps}
+use Rattle.rb_core.proofs.laws.events_keep_worlds.Goals as goal
+
+pub returns : goal.returns
+returns c = λ old event given new good is.
+    let shows : Shows = record {
+      subscribes = c.calls_show_in_outline.ensures.subscribe;
+      takes = c.calls_show_in_outline.ensures.take;
+      takes_any = c.calls_show_in_outline.ensures.take_any;
+      acks = c.calls_show_in_outline.ensures.ack;
+      nacks = c.calls_show_in_outline.ensures.nack;
+      expires = c.calls_show_in_outline.ensures.expire;
+      reconnects = c.calls_show_in_outline.ensures.reconnect;
+      unsubscribes = c.calls_show_in_outline.ensures.unsubscribe;
+      places = c.calls_show_in_outline.ensures.place;
+      closes = c.calls_show_in_outline.ensures.close;
+    } in
+    subst (λ (x : Reply × State). IsWorld x.1) is (event_keeps c.calls_keep_pictures.ensures shows c.accepting_is_step.ensures old event good)

@@ -1,0 +1,30 @@
+use Rattle.std.specs.Prelude.{[]}
+use Rattle.rb_core.proofs.TellRuns.{Laws, are_told, go_on}
+use Rattle.rb_core.proofs.laws.runs_are_told.Goals as goal
+
+-- all laws that are called
+laws_of : goal.After-progress_tells → Laws
+laws_of c = record {
+  keeps = c.events_keep_worlds.ensures;
+  begins = c.progress_goes_on.ensures.begins;
+  goes = c.progress_goes_on.ensures.goes;
+  tells = c.progress_tells.ensures.answer;
+  place = c.calls_show_in_outline.ensures.place;
+  close = c.calls_show_in_outline.ensures.close;
+  subscribe = c.calls_show_in_outline.ensures.subscribe;
+  reconnect = c.calls_show_in_outline.ensures.reconnect;
+  unsubscribe = c.calls_show_in_outline.ensures.unsubscribe;
+  take = c.calls_show_in_outline.ensures.take;
+  take_any = c.calls_show_in_outline.ensures.take_any;
+  accept = c.accepting_is_step.ensures;
+  ack = c.calls_show_in_outline.ensures.ack;
+  nack = c.calls_show_in_outline.ensures.nack;
+  expire = c.calls_show_in_outline.ensures.expire;
+}
+
+pub returns-clause-told : goal.returns-clause-told
+returns-clause-told c = λ limits schema events answers new ranges feeds run. are_told (laws_of c) limits schema events answers new (c.replays_are_pictures.ensures limits [] ranges) feeds run
+
+pub returns-clause-goes_on : goal.returns-clause-goes_on
+returns-clause-goes_on c = λ limits schema events more answers later mid new ranges feeds others run on.
+    go_on (laws_of c) limits schema events more answers later mid new (c.replays_are_pictures.ensures limits [] ranges) feeds others run on

@@ -1,7 +1,0 @@
-use Rattle.std.proofs.Common.{take}
-use Rattle.rb_core.specs.State.{empty_world}
-use Rattle.rb_core.specs.Run.{Run}
-use Rattle.rb_core.proofs.runs.run.Given as goal
-
-abbrev pub invariant-loop-event : goal.invariant-loop-event
-invariant-loop-event l = Run (empty_world l.fn.config l.fn.schema) (take l.event-index l.events) l.answers.items l.world

@@ -1,0 +1,8 @@
+use Rattle.std.proofs.Common.{take}
+use Rattle.rb_core.specs.State.{empty_world}
+use Rattle.rb_core.specs.Run.{Run}
+use Rattle.rb_core.proofs.runs.served.Given as goal
+
+-- The world so far is what a run of the events so far leaves.
+abbrev pub invariant-loop-event : goal.invariant-loop-event
+invariant-loop-event l = Run (empty_world l.fn.config l.fn.schema) (take l.event-index l.events) l.answers.items l.world

@@ -1,0 +1,201 @@
+-- What events and their answers tell: what was fed, staged, sent, placed, offered and accepted, without a look at the broker.
+use Rattle.std.specs.Prelude.{◌≡◌, ℕ, suc, ◌-◌, ◌<◌, true, false, map, List, [], ◌∷◌, ◌++◌, length, Option, Some, None, Result, Ok, Err, slice_get}
+use Rattle.std.specs.List.{AllByRecursion}
+use Rattle.cs_model.specs.declared.origin.Origin.TheVariants.{Sent}
+use Rattle.cs_model.specs.declared.shape.Shape.{Shape}
+use Rattle.cs_model.specs.Section.{Section}
+use Rattle.cs_parse.specs.declared.fault.ParseFault.{ParseFault}
+use Rattle.cs_parse.specs.Progress.{Took}
+use Rattle.cs_parse.specs.Reading.{answer_of}
+use Rattle.cs_apply.specs.declared.conflict.Conflict.{Conflict}
+use Rattle.cs_apply.specs.Single.{single}
+use Rattle.cs_apply.specs.State as tables
+use Rattle.rb_desk.specs.declared.delivery.Delivery.{Delivery}
+use Rattle.rb_sequence.specs.declared.item.Item.{Item}
+use Rattle.rb_sequence.specs.Entry.{Entry}
+use Rattle.rb_subscriber.specs.Accept.{part, joined}
+use Rattle.rb_core.specs.declared.event.Event.{Event}
+use Rattle.rb_core.specs.declared.event.Event.TheVariants as event
+use Rattle.rb_core.specs.declared.publisher.Publisher.{Publisher}
+use Rattle.rb_core.specs.declared.reply.Reply.{Reply}
+use Rattle.rb_core.specs.declared.reply.Reply.TheVariants as reply
+use Rattle.rb_core.specs.Moves.{with_sender, with_subscriber, IsIn}
+use Rattle.rb_core.specs.Run.{Answer}
+use Rattle.rb_core.specs.State.{State, empty_tables}
+use Rattle.rb_core.specs.World.{Sender, Subscriber, World, begun, cursor, end_of}
+
+-- a publisher, or a subscription, changed so where there is one of this number
+abbrev pub sender_set : World → ℕ → (Sender → Sender) → Option Sender → World
+sender_set old p change None = old
+sender_set old p change (Some sender) = with_sender old p (change sender)
+
+abbrev pub sender_changed : World → ℕ → (Sender → Sender) → World
+sender_changed old p change = sender_set old p change (slice_get old.senders p)
+
+abbrev pub subscriber_set : World → ℕ → (Subscriber → Subscriber) → Option Subscriber → World
+subscriber_set old s change None = old
+subscriber_set old s change (Some subscriber) = with_subscriber old s (change subscriber)
+
+abbrev pub subscriber_changed : World → ℕ → (Subscriber → Subscriber) → World
+subscriber_changed old s change = subscriber_set old s change (slice_get old.subscribers s)
+
+-- ---- publishers
+
+-- one comes: nothing of it is fed, staged or sent
+abbrev pub came : World → World
+came old = record old { senders = old.senders ++ record { text = []; staged = None; sent = [] } ∷ [] }
+
+-- bytes stand behind its text, also where they bring a fault; its text is empty again
+abbrev pub fed : List ℕ → Sender → Sender
+fed bytes sender = record sender { text = sender.text ++ bytes }
+
+abbrev pub emptied : Sender → Sender
+emptied sender = record sender { text = [] }
+
+-- what its text spells is staged, and the text is empty again
+abbrev pub spelled : Result (List Section) ParseFault → Option (List Section)
+spelled (Ok changeset) = Some changeset
+spelled (Err fault) = None
+
+abbrev pub staged : Sender → Sender
+staged sender = record sender { text = []; staged = spelled (answer_of sender.text) }
+
+-- what it staged is sent, as its sending of this number, and waits behind all others
+abbrev pub queued : World → ℕ → Sender → Item → World
+queued old p sender item =
+    record (with_sender old p (record sender { staged = None; sent = sender.sent ++ item ∷ [] })) { intake = old.intake ++ item ∷ [] }
+
+abbrev pub sent_from : World → ℕ → ℕ → Sender → Option (List Section) → World
+sent_from old p own sender None = old
+sent_from old p own sender (Some body) = queued old p sender (record { publisher = p; own = own; origin = Sent; body = body })
+
+abbrev pub sent_by : World → ℕ → ℕ → Option Sender → World
+sent_by old p own None = old
+sent_by old p own (Some sender) = sent_from old p own sender sender.staged
+
+abbrev pub sent : World → ℕ → ℕ → World
+sent old p own = sent_by old p own (slice_get old.senders p)
+
+-- ---- the sequence
+
+-- an empty hand takes the first item that waits
+abbrev pub pulled_by : World → Option Item → List Item → World
+pulled_by old (Some item) intake = old
+pulled_by old None [] = old
+pulled_by old None (item ∷ rest) = record old { hand = Some item; intake = rest }
+
+abbrev pub pulled : World → World
+pulled old = pulled_by old old.hand old.intake
+
+-- the item in hand is placed under this number
+abbrev pub placed_from : World → ℕ → Option Item → World
+placed_from old number None = old
+placed_from old number (Some item) = record old { hand = None; sequence = old.sequence ++ record { number = number; item = item } ∷ [] }
+
+abbrev pub placed : World → ℕ → World
+placed old number = placed_from old number old.hand
+
+-- ---- subscriptions
+
+-- one begins behind this number, under this link, with empty tables
+abbrev pub subscribed : List Shape → World → ℕ → ℕ → World
+subscribed schema old start link = record old {
+  links = link ∷ old.links;
+  subscribers = old.subscribers
+      ++ record { start = start; base = empty_tables schema; accepted = []; tables = empty_tables schema; link = link; closed = false; offers = [] } ∷ [];
+}
+
+abbrev pub offered : Delivery → Subscriber → Subscriber
+offered delivery q = record q { offers = q.offers ++ delivery ∷ [] }
+
+-- it has accepted up to this number: the entries from its cursor to there, which are applied to its tables
+abbrev pub if_applied : tables.State → Result tables.State Conflict → tables.State
+if_applied old (Ok new) = new
+if_applied old (Err conflict) = old
+
+abbrev pub with_accepted : List Entry → Subscriber → Subscriber
+with_accepted entries q = record q { accepted = q.accepted ++ entries; tables = if_applied q.tables (single q.tables (joined entries)) }
+
+abbrev pub accepted : List Entry → ℕ → Subscriber → Subscriber
+accepted sequence last q = with_accepted (part sequence (cursor q) (last - cursor q)) q
+
+abbrev pub relinked : ℕ → Subscriber → Subscriber
+relinked link q = record q { link = link }
+
+abbrev pub closed : Subscriber → Subscriber
+closed q = record q { closed = true }
+
+-- ---- all of these
+
+-- the world once an event is answered so; any other answer tells nothing
+abbrev pub told : List Shape → World → Event → Reply → World
+told schema old event.Publisher (reply.Publisher p) = came old
+told schema old (event.Feed p bytes) reply.Fed = sender_changed old p (fed bytes)
+told schema old (event.Feed p bytes) (reply.Fault fault) = sender_changed old p (fed bytes)
+told schema old (event.Reset p) reply.Reset = sender_changed old p emptied
+told schema old (event.End p) reply.Staged = sender_changed old p staged
+told schema old (event.Send p) (reply.Sent own) = sent old p own
+told schema old event.Turn (reply.Placed number) = placed (pulled old) number
+told schema old event.Turn (reply.Refused why) = pulled old
+told schema old event.Close (reply.Closed last) = record old { closing = Some last }
+told schema old (event.Subscribe start) (reply.Subscriber s link) = subscribed schema old start link
+told schema old (event.Take s now) (reply.Delivery delivery) = subscriber_changed old delivery.sub (offered delivery)
+told schema old (event.TakeAny now) (reply.Delivery delivery) = subscriber_changed old delivery.sub (offered delivery)
+told schema old (event.Accept d) (reply.Accepted s last) = subscriber_changed old s (accepted old.sequence last)
+told schema old (event.Reconnect s cursor) (reply.Link link) = record (subscriber_changed old s (relinked link)) { links = link ∷ old.links }
+told schema old (event.Unsubscribe s) reply.Unsubscribed = subscriber_changed old s closed
+told schema old event given = old
+
+-- want of memory tells nothing
+abbrev pub told_by : List Shape → World → Event → Answer → World
+told_by schema old event (Ok given) = told schema old event given
+told_by schema old event (Err e) = old
+
+-- the world behind these events, from this one on
+abbrev pub told_from : List Shape → World → List Event → List Answer → World
+told_from schema old [] answers = old
+told_from schema old (event ∷ events) [] = old
+told_from schema old (event ∷ events) (answer ∷ answers) = told_from schema (told_by schema old event answer) events answers
+
+-- the world that these events and answers tell, from the first one on
+abbrev pub world_told : List Shape → List Event → List Answer → World
+world_told schema events answers = told_from schema begun events answers
+
+-- ---- the broker's own knowledge
+
+-- things pair with others, one by one
+abbrev pub Paired : {A B : Type 0} → (A → B → Type 0) → List A → List B → Type 0
+Paired R [] [] = Unit {0}
+Paired R [] (y ∷ ys) = ⊥
+Paired R (x ∷ xs) [] = ⊥
+Paired R (x ∷ xs) (y ∷ ys) = R x y × Paired R xs ys
+
+-- a publisher's stream has taken the text, it has staged the same, and sent as often
+pub record IsSender (publisher : Publisher) (sender : Sender) : Type 0 where
+  pub stream : Took publisher.stream sender.text
+  pub staged : sender.staged ≡ publisher.staged
+  pub sent : publisher.sent ≡ length sender.sent
+
+-- a delivery was offered to its subscription
+abbrev pub IsOffered : List Subscriber → Delivery → Type 0
+IsOffered subscribers delivery = (q : Subscriber) × (slice_get subscribers delivery.sub ≡ Some q) × IsIn delivery q.offers
+
+-- the deliveries that were offered to a subscription have numbers below this one
+abbrev pub AreBelow : ℕ → Subscriber → Type 0
+AreBelow next q = AllByRecursion (λ offer. offer.number < next) q.offers
+
+-- A broker's state is what was told: publisher by publisher, what waits, the item in hand, the sequence and its closing number, end by
+-- end. All its deliveries were offered, and all links and numbers so far are below the next ones. Each subscription began with empty
+-- tables.
+pub record Tells (schema : List Shape) (state : State) (world : World) : Type 0 where
+  pub served : state.schema ≡ schema
+  pub senders : Paired IsSender state.publishers world.senders
+  pub intake : world.intake ≡ state.intake
+  pub hand : world.hand ≡ state.hand
+  pub sequence : world.sequence ≡ state.sequence
+  pub closing : world.closing ≡ state.desk.closing
+  pub ends : map end_of world.subscribers ≡ state.endpoints
+  pub offers : AllByRecursion (IsOffered world.subscribers) state.deliveries
+  pub links : AllByRecursion (λ link. link < state.desk.next_link) world.links
+  pub numbers : AllByRecursion (AreBelow state.desk.next_delivery) world.subscribers
+  pub bases : AllByRecursion (λ q. q.base ≡ empty_tables schema) world.subscribers

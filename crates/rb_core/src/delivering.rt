@@ -1,0 +1,102 @@
+//! Deliveries: accepted, acknowledged, given back, expired.
+
+ghost use Rattle.std.specs.Prelude.{◌≡◌, IfOk, IfSome, OnErr};
+ghost use Rattle.std.specs.Option.{option_copied};
+ghost use Rattle.rb_core.specs.Outcome.{delivery_of, accept_outcome, ack_outcome, nack_outcome, expire_outcome};
+ghost use Rattle.rb_core.specs.State.{AreNumbered, IsOf, IsWorld};
+
+use crate::parts::Parts;
+use crate::reply::{Refusal, Reply};
+use crate::world::refused;
+use rb_desk::{Delivery, DeskError};
+use rb_subscriber::AcceptError;
+use std::alloc::{AllocError, Global};
+
+impl Parts {
+    // the delivery of this number
+    fn delivery(&self, number: u64) -> Option<&Delivery>
+        requires { AreNumbered (λ d. d.number) 1 self.now.deliveries }
+        ensures { option_copied result ≡ delivery_of self.now number }
+    {
+        let place = number.checked_sub(1)?;
+        self.deliveries.get(place as usize)
+    }
+
+    // the same, with what holds of each delivery
+    fn known(&self, number: u64) -> Option<Delivery>
+        requires { IsWorld self.now }
+        ensures value { result ≡ delivery_of self.now number }
+        ensures of { IfSome result (IsOf self.now.endpoints self.now.sequence) }
+    {
+        self.delivery(number).copied()
+    }
+
+    /// Applies a delivery's entries to its subscription's tables.
+    pub(crate) fn accept(&mut self, alloc: Global, delivery: u64) -> Result<Reply, AllocError>
+        requires { IsWorld self.old }
+        ensures ok { IfOk result (λ reply. accept_outcome self.old delivery ≡ (reply, self.new)) }
+        ensures err { OnErr result (self.new ≡ self.old) }
+    {
+        let Some(delivery) = self.known(delivery) else {
+            return refused(Refusal::NoDelivery);
+        };
+        let subscription = delivery.sub();
+        let end = &mut self.endpoints[subscription as usize];
+        let cursor = match end.accept(alloc, &self.sequence, &delivery) {
+            Ok(cursor) => cursor,
+            Err(AcceptError::Refused(why)) => return Ok(Reply::Refused(Refusal::Accept(why))),
+            Err(AcceptError::Memory) => return Err(AllocError),
+        };
+        Ok(Reply::Accepted {
+            subscription,
+            cursor,
+        })
+    }
+
+    /// Settles a delivery's entries, all of which its subscription has accepted.
+    pub(crate) fn ack(&mut self, delivery: u64) -> Result<Reply, AllocError>
+        requires { IsWorld self.old }
+        ensures ok { IfOk result (λ reply. ack_outcome self.old delivery ≡ (reply, self.new)) }
+        ensures err { OnErr result (self.new ≡ self.old) }
+    {
+        let Some(delivery) = self.known(delivery) else {
+            return refused(Refusal::NoDelivery);
+        };
+        let sub = delivery.sub();
+        let cursor = self.endpoints[sub as usize].cursor();
+        match self
+            .desk
+            .ack(sub, delivery.link(), delivery.number(), cursor)
+        {
+            Ok(floor) => Ok(Reply::Floor(floor)),
+            Err(why) => refused(Refusal::Desk(why)),
+        }
+    }
+
+    /// Gives a delivery's entries back.
+    pub(crate) fn nack(&mut self, delivery: u64) -> Result<Reply, AllocError>
+        requires { IsWorld self.old }
+        ensures ok { IfOk result (λ reply. nack_outcome self.old delivery ≡ (reply, self.new)) }
+        ensures err { OnErr result (self.new ≡ self.old) }
+    {
+        let Some(delivery) = self.known(delivery) else {
+            return refused(Refusal::NoDelivery);
+        };
+        match self
+            .desk
+            .nack(delivery.sub(), delivery.link(), delivery.number())
+        {
+            Ok(()) => Ok(Reply::Returned),
+            Err(DeskError::Refused(why)) => refused(Refusal::Desk(why)),
+            Err(DeskError::Memory) => Err(AllocError),
+        }
+    }
+
+    /// Gives all deliveries back that are out too long.
+    pub(crate) fn expire(&mut self, now: u64) -> Result<Reply, AllocError>
+        ensures ok { IfOk result (λ reply. expire_outcome self.old now ≡ (reply, self.new)) }
+        ensures err { OnErr result (self.new ≡ self.old) }
+    {
+        Ok(Reply::Expired(self.desk.expire(now)?))
+    }
+}

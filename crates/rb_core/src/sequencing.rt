@@ -1,0 +1,91 @@
+//! The sequence: items that get a number, and its end.
+
+ghost use Rattle.std.specs.Prelude.{◌≡◌, None, IfOk, OnErr, IsOk};
+ghost use Rattle.std.specs.Option.{option_copied};
+ghost use Rattle.rb_desk.specs.Calls.{prepare};
+ghost use Rattle.rb_core.specs.Outcome.{hand_of, rest_of, pulled, turn_outcome, close_outcome};
+
+use crate::parts::Parts;
+use crate::reply::{Refusal, Reply};
+use crate::world::refused;
+use rb_sequence::{Entry, Item};
+use std::alloc::{AllocError, Global};
+use std::collections::VecDeque;
+
+impl Parts {
+    /// Moves the item in hand, or where there is none the first that waits, to the end of the sequence, and answers its number, from
+    /// 1. Where the desk refuses the number the item stays in hand.
+    pub(crate) fn turn(&mut self, alloc: Global) -> Result<Reply, AllocError>
+        ensures ok { IfOk result (λ reply. turn_outcome self.old ≡ (reply, self.new)) }
+        ensures err { OnErr result (self.new ≡ self.old) }
+    {
+        if self.next_item().is_none() {
+            return Ok(Reply::Idle);
+        }
+        if let Err(why) = self.desk.prepare() {
+            self.pull();
+            return refused(Refusal::Desk(why));
+        }
+        self.place_next(alloc)
+    }
+
+    // The same where there is an item and the desk has a number. All memory is taken before anything moves.
+    fn place_next(&mut self, alloc: Global) -> Result<Reply, AllocError>
+        requires { IsOk (prepare self.old.desk) }
+        ensures ok { IfOk result (λ reply. turn_outcome self.old ≡ (reply, self.new)) }
+        ensures err { OnErr result (self.new ≡ self.old) }
+    {
+        let text = match self.next_item() {
+            None => return Ok(Reply::Idle),
+            Some(item) => item.text(alloc)?,
+        };
+        self.sequence.reserve(1)?;
+        match take_next(&mut self.hand, &mut self.intake) {
+            None => Ok(Reply::Idle),
+            Some(item) => {
+                let number = self.desk.place();
+                self.sequence.push_reserved(Entry::new(number, item, text));
+                Ok(Reply::Placed(number))
+            }
+        }
+    }
+
+    // the item that a turn places next
+    fn next_item(&self) -> Option<&Item>
+        ensures { option_copied result ≡ hand_of self.now.hand self.now.intake }
+    {
+        match &self.hand {
+            Some(item) => Some(item),
+            None => self.intake.front(),
+        }
+    }
+
+    // fills an empty hand
+    fn pull(&mut self)
+        ensures { self.new ≡ pulled self.old }
+    {
+        if self.hand.is_none() {
+            self.hand = self.intake.pop_front();
+        }
+    }
+
+    /// Closes the sequence, and answers its last number.
+    pub(crate) fn close(&mut self) -> Result<Reply, AllocError>
+        ensures ok { IfOk result (λ reply. close_outcome self.old ≡ (reply, self.new)) }
+        ensures err { OnErr result (self.new ≡ self.old) }
+    {
+        Ok(Reply::Closed(self.desk.close()))
+    }
+}
+
+// the item that a turn places next, out of the hand or out of those that wait
+fn take_next(hand: &mut Option<Item>, intake: &mut VecDeque<Item>) -> Option<Item>
+    ensures item { result ≡ hand_of hand.old intake.old.items }
+    ensures hand { hand.new ≡ None }
+    ensures rest { intake.new.items ≡ rest_of hand.old intake.old.items }
+{
+    if hand.is_none() {
+        return intake.pop_front();
+    }
+    hand.take()
+}

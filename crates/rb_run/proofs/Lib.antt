@@ -1,6 +1,0 @@
-pub mod Numbers
-pub mod StreamLaws
-pub mod ScriptLaws
-pub mod EndLaws
-pub mod LineLaws
-pub mod RowTexts

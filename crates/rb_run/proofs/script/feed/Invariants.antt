@@ -1,8 +1,0 @@
-use Rattle.std.proofs.Common.{take}
-use Rattle.rb_run.specs.Output.{place_at}
-use Rattle.rb_run.proofs.ScriptLaws.{Fed}
-use Rattle.rb_run.proofs.script.feed.Given as goal
-
-abbrev pub invariant-loop-byte : goal.invariant-loop-byte
-invariant-loop-byte g l =
-    Fed l.config (place_at l.fn.stage l.fn.line.items) (take l.byte-index l.bytes) (g.W.Write.contents l.fn.writer) (g.W.Write.contents l.writer) (place_at l.stage l.line.items)

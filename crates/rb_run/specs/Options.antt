@@ -1,0 +1,41 @@
+-- The limits that a command line asks for.
+use Rattle.std.specs.Prelude.{ℕ, List, [], Option, Some, None, Result, Ok, Err, codes}
+use Rattle.rb_desk.specs.Limits.{Limits, first_out_of_range}
+use Rattle.rb_desk.specs.declared.config.ConfigFault.{ConfigFault}
+use Rattle.rb_desk.specs.declared.config.ConfigFault.TheVariants.{Batch, Window, Timeout, Capacity, Intake, Appliers}
+use Rattle.rb_script.specs.Words.{number_of}
+
+-- the number that an option's word says; where it says none, 0, which is in no range
+abbrev pub number_or_zero : Option ℕ → ℕ
+number_or_zero None = 0
+number_or_zero (Some n) = n
+
+abbrev pub value_of : List ℕ → ℕ
+value_of word = number_or_zero (number_of word)
+
+-- the limits with these numbers, each of them in its range; or the first that isn't
+abbrev pub limits_or : Option ConfigFault → Limits → Result Limits ConfigFault
+limits_or None limits = Ok limits
+limits_or (Some fault) limits = Err fault
+
+abbrev pub limits_of : ℕ → ℕ → ℕ → ℕ → ℕ → Result Limits ConfigFault
+limits_of batch window timeout capacity intake = limits_or (first_out_of_range batch window timeout capacity intake 1)
+    (record { batch = batch; window = window; timeout = timeout; capacity = capacity; intake = intake; appliers = 1 })
+
+-- the limits that the words of the options say, or the first option whose word says no number in its range
+abbrev pub config_of : List ℕ → List ℕ → List ℕ → List ℕ → List ℕ → Result Limits ConfigFault
+config_of batch window timeout capacity intake = limits_of (value_of batch) (value_of window) (value_of timeout) (value_of capacity) (value_of intake)
+
+-- an option with its range
+abbrev pub range_text : ConfigFault → List ℕ
+range_text Batch = codes "--batch takes a number from 1 to 256"
+range_text Window = codes "--window takes a number from 1 to 64"
+range_text Timeout = codes "--timeout takes a number from 1 to 1000000000"
+range_text Capacity = codes "--capacity takes a number from 1 to 1048576"
+range_text Intake = codes "--intake takes a number from 1 to 4096"
+range_text Appliers = codes "--appliers takes a number from 1 to 16"
+
+-- the word that was found for an option, the empty one where there is none
+abbrev pub word_of : Option (List ℕ) → List ℕ
+word_of None = []
+word_of (Some word) = word

@@ -1,0 +1,77 @@
+//! The limits that a command line asks for.
+
+ghost use Rattle.std.specs.Prelude.{◌≡◌, codes};
+ghost use Rattle.clap.specs.Words.{first_value, found_of};
+ghost use Rattle.rb_run.specs.Options.{config_of, range_text, value_of, word_of};
+
+use clap::ArgMatches;
+use rb_core::{Config, ConfigFault};
+use rb_script::number;
+
+/// The limits that the options of a command line say, or the first option whose word is no number in its range.
+pub fn config(found: &ArgMatches) -> Result<Config, ConfigFault>
+    ensures { result ≡ config_of
+        (word_of (first_value (found_of found.now) (codes "batch")))
+        (word_of (first_value (found_of found.now) (codes "window")))
+        (word_of (first_value (found_of found.now) (codes "timeout")))
+        (word_of (first_value (found_of found.now) (codes "capacity")))
+        (word_of (first_value (found_of found.now) (codes "intake"))) }
+{
+    let batch = word(found, "batch");
+    let window = word(found, "window");
+    let timeout = word(found, "timeout");
+    let capacity = word(found, "capacity");
+    let intake = word(found, "intake");
+    config_from(batch, window, timeout, capacity, intake)
+}
+
+fn word<'a>(found: &ArgMatches<'a>, name: &str) -> &'a str
+    ensures { result.now ≡ word_of (first_value (found_of found.now) name.now) }
+{
+    match found.get_str(name) {
+        None => "",
+        Some(word) => word,
+    }
+}
+
+// the limits that these words say
+fn config_from(
+    batch: &str,
+    window: &str,
+    timeout: &str,
+    capacity: &str,
+    intake: &str,
+) -> Result<Config, ConfigFault>
+    ensures { result ≡ config_of batch.now window.now timeout.now capacity.now intake.now }
+{
+    let batch = value(batch);
+    let window = value(window);
+    let timeout = value(timeout);
+    let capacity = value(capacity);
+    let intake = value(intake);
+    Config::new(batch, window, timeout, capacity, intake, 1)
+}
+
+// the number that a word says, and 0 where it says none
+fn value(word: &str) -> u64
+    ensures { result ≡ value_of word.now }
+{
+    match number(word.as_bytes()) {
+        None => 0,
+        Some(n) => n,
+    }
+}
+
+/// What is said of an option whose word is no number in its range.
+pub fn range(fault: ConfigFault) -> &'static str
+    ensures { result.now ≡ range_text fault }
+{
+    match fault {
+        ConfigFault::Batch => "--batch takes a number from 1 to 256",
+        ConfigFault::Window => "--window takes a number from 1 to 64",
+        ConfigFault::Timeout => "--timeout takes a number from 1 to 1000000000",
+        ConfigFault::Capacity => "--capacity takes a number from 1 to 1048576",
+        ConfigFault::Intake => "--intake takes a number from 1 to 4096",
+        ConfigFault::Appliers => "--appliers takes a number from 1 to 16",
+    }
+}

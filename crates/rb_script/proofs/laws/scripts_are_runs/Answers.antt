@@ -1,0 +1,6 @@
+use Rattle.std.proofs.Common.{[]}
+use Rattle.rb_script.proofs.RunLaws.{runs_behind}
+use Rattle.rb_script.proofs.laws.scripts_are_runs.Goals as goal
+
+pub returns : goal.returns
+returns c = λ config lines. runs_behind config lines []

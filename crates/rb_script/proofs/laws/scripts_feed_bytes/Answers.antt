@@ -1,0 +1,5 @@
+use Rattle.rb_script.proofs.FeedLaws.{lines_feed}
+use Rattle.rb_script.proofs.laws.scripts_feed_bytes.Goals as goal
+
+pub returns : goal.returns
+returns c = λ lines. lines_feed lines

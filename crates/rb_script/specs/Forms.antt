@@ -1,0 +1,71 @@
+-- The forms of lines.
+use Rattle.std.specs.Prelude.{ℕ, List, [], ◌∷◌, Option, Some, None, option_map, if◌then◌else◌, codes}
+use Rattle.rb_core.specs.declared.event.Event.TheVariants as event
+use Rattle.cs_model.specs.Schema.{same_bytes}
+use Rattle.rb_script.specs.declared.forms.Form.{Form}
+use Rattle.rb_script.specs.declared.forms.Form.TheVariants.{Table, Happens, Entry, Rows, Left}
+use Rattle.rb_script.specs.Words.{words_of, number_of, bytes_of}
+
+-- `publisher`, `turn`, `close` and `left`
+abbrev pub one_word : List ℕ → Option Form
+one_word name =
+    if same_bytes name (codes "publisher") then Some (Happens event.Publisher)
+    else if same_bytes name (codes "turn") then Some (Happens event.Turn)
+    else if same_bytes name (codes "close") then Some (Happens event.Close)
+    else if same_bytes name (codes "left") then Some Left
+    else None
+
+-- `reset P`, `end P`, `send P`, `subscribe START`, `takeany NOW`, `accept D`, `ack D`, `nack D`, `expire NOW`, `unsubscribe S`,
+-- `entry N` and `rows S`
+abbrev pub name_and_number : List ℕ → Option ℕ → Option Form
+name_and_number name None = None
+name_and_number name (Some n) =
+    if same_bytes name (codes "reset") then Some (Happens (event.Reset n))
+    else if same_bytes name (codes "end") then Some (Happens (event.End n))
+    else if same_bytes name (codes "send") then Some (Happens (event.Send n))
+    else if same_bytes name (codes "subscribe") then Some (Happens (event.Subscribe n))
+    else if same_bytes name (codes "takeany") then Some (Happens (event.TakeAny n))
+    else if same_bytes name (codes "accept") then Some (Happens (event.Accept n))
+    else if same_bytes name (codes "ack") then Some (Happens (event.Ack n))
+    else if same_bytes name (codes "nack") then Some (Happens (event.Nack n))
+    else if same_bytes name (codes "expire") then Some (Happens (event.Expire n))
+    else if same_bytes name (codes "unsubscribe") then Some (Happens (event.Unsubscribe n))
+    else if same_bytes name (codes "entry") then Some (Entry n)
+    else if same_bytes name (codes "rows") then Some (Rows n)
+    else None
+
+-- these, and `table HEX`
+abbrev pub two_words : List ℕ → List ℕ → Option Form
+two_words name word =
+    if same_bytes name (codes "table") then option_map Table (bytes_of word) else name_and_number name (number_of word)
+
+-- `take S NOW` and `reconnect S CURSOR`
+abbrev pub two_numbers : List ℕ → ℕ → Option ℕ → Option Form
+two_numbers name s None = None
+two_numbers name s (Some n) =
+    if same_bytes name (codes "take") then Some (Happens (event.Take s n))
+    else if same_bytes name (codes "reconnect") then Some (Happens (event.Reconnect s n))
+    else None
+
+-- `feed P HEX`
+abbrev pub fed_form : ℕ → Option (List ℕ) → Option Form
+fed_form p None = None
+fed_form p (Some bytes) = Some (Happens (event.Feed p bytes))
+
+-- these three
+abbrev pub number_and_word : List ℕ → Option ℕ → List ℕ → Option Form
+number_and_word name None word = None
+number_and_word name (Some n) word =
+    if same_bytes name (codes "feed") then fed_form n (bytes_of word) else two_numbers name n (number_of word)
+
+-- the form that these words fit
+abbrev pub form_of_words : List (List ℕ) → Option Form
+form_of_words [] = None
+form_of_words (name ∷ []) = one_word name
+form_of_words (name ∷ word ∷ []) = two_words name word
+form_of_words (name ∷ number ∷ word ∷ []) = number_and_word name (number_of number) word
+form_of_words (name ∷ number ∷ word ∷ more ∷ rest) = None
+
+-- the form that a line fits
+abbrev pub form_of : List ℕ → Option Form
+form_of line = form_of_words (words_of line)

@@ -1,0 +1,9 @@
+pub mod Words
+pub mod Forms
+pub mod Texts
+pub mod Replies
+pub mod Lines
+pub mod Output
+pub mod Streams
+pub mod Ends
+pub mod Script

@@ -1,0 +1,34 @@
+//! Why a script ends before its end.
+
+ghost use Rattle.std.specs.Prelude.{◌≡◌};
+ghost use Rattle.rb_script.specs.declared.fault.ScriptFault.TheVariants.{Memory};
+
+use std::alloc::AllocError;
+use std::io;
+use thiserror::Error;
+
+/// Why `run_script` stopped, with the system's reason where there is one. After `Read` and `Endless` the answers to all whole
+/// lines before are written; after `Write` and `Memory` a front of them, the last one perhaps in part.
+#[derive(Clone, Copy, Debug, Error)]
+pub enum ScriptFault {
+    /// The reader failed.
+    #[error("read fault: {0}")]
+    Read(io::Error),
+    /// The writer failed, or took no byte.
+    #[error("write fault: {0}")]
+    Write(io::Error),
+    /// The script has more than 16,777,216 bytes.
+    #[error("script too long: more than 16777216 bytes")]
+    Endless,
+    /// Memory ran out.
+    #[error("out of memory")]
+    Memory,
+}
+
+impl From<AllocError> for ScriptFault {
+    ghost from_gives = { λ _ e. e ≡ Memory };
+
+    fn from(_e: AllocError) -> ScriptFault {
+        ScriptFault::Memory
+    }
+}

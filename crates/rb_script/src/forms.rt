@@ -1,0 +1,19 @@
+//! The forms of lines.
+
+use cs_model::Octets;
+use rb_core::Event;
+
+/// What a line asks for.
+#[derive(Debug, Drop)]
+pub enum Form {
+    /// A table, as the bytes of its header.
+    Table(Octets),
+    /// An event.
+    Happens(Event),
+    /// The entry with this number.
+    Entry(u64),
+    /// The rows of a subscription.
+    Rows(u64),
+    /// How many changesets are sent and not placed.
+    Left,
+}

@@ -1,0 +1,196 @@
+//! The answer to a line.
+
+ghost use Rattle.std.specs.Prelude.{◌≡◌, ◌++◌, ◌∷◌, [], codes, IfOk, IfSome, Some, None, length, map as list_map, string_bytes, ◌<◌};
+ghost use Rattle.cs_model.specs.Schema.{table_refusal};
+ghost use Rattle.cs_parse.specs.Reading.{answer_of};
+ghost use Rattle.rb_core.specs.Outcome.{outcome};
+ghost use Rattle.rb_script.specs.Lines.{line_answer, form_answer, line_of, world_of, event_answer, entry_answer, rows_answer, left_answer, with_line_end, table_answer, table_added, header_of_answer, header_of_sections};
+
+use crate::forms::Form;
+use crate::reading::form;
+use crate::replies::{text_of, text_of_desk_refusal};
+use crate::texts::{text_of_entry, text_of_rows};
+use cs_model::{Changeset, Schema, SchemaError, Shape, TableFault};
+use cs_parse::{ParseError, parse};
+use rb_core::{Config, Event, World};
+use rb_desk::Refusal;
+use std::alloc::{AllocError, Global};
+
+/// The most bytes of a line, its end not counted.
+pub const MOST_OF_LINE: usize = 65_536;
+
+/// How far a script has come: its tables are read, or its world runs.
+#[derive(Debug, Drop)]
+pub enum Stage {
+    Tables(Schema),
+    Running(World),
+}
+
+/// The answer to a line, with the end of each of its lines, and the stage after it. A line of more than 65,536
+/// bytes may be handed in cut, as long as it still has more. `AllocError` where memory runs out.
+pub fn answer(
+    alloc: Global,
+    config: Config,
+    stage: Stage,
+    line: &[u8],
+) -> Result<(Vec<u8>, Stage), AllocError>
+    ensures { IfOk result (λ given. line_answer config stage line.now ≡ (given.0.items, given.1)) }
+{
+    if line.is_empty() {
+        return Ok((Vec::new(alloc), stage));
+    }
+    if line.len() > MOST_OF_LINE {
+        return Ok((text_line(alloc, "refused LineTooLong")?, stage));
+    }
+    let form = form(alloc, line)?;
+    answer_form(alloc, config, stage, form)
+}
+
+fn answer_form(
+    alloc: Global,
+    config: Config,
+    stage: Stage,
+    form: Option<Form>,
+) -> Result<(Vec<u8>, Stage), AllocError>
+    ensures { IfOk result (λ given. form_answer config stage form ≡ (given.0.items, given.1)) }
+{
+    match form {
+        None => Ok((text_line(alloc, "refused Line")?, stage)),
+        Some(Form::Table(bytes)) => table(alloc, stage, &bytes),
+        Some(Form::Happens(event)) => happen(alloc, begin(alloc, config, stage)?, event),
+        Some(Form::Entry(number)) => {
+            let world = begin(alloc, config, stage)?;
+            let text = entry(alloc, &world, number)?;
+            Ok((text, Stage::Running(world)))
+        }
+        Some(Form::Rows(subscription)) => {
+            let world = begin(alloc, config, stage)?;
+            let text = rows(alloc, &world, subscription)?;
+            Ok((text, Stage::Running(world)))
+        }
+        Some(Form::Left) => {
+            let world = begin(alloc, config, stage)?;
+            let text = left(alloc, &world)?;
+            Ok((text, Stage::Running(world)))
+        }
+    }
+}
+
+// a text and the end of its line
+fn text_line(alloc: Global, text: &str) -> Result<Vec<u8>, AllocError>
+    ensures { IfOk result (λ line. line.items ≡ line_of text.now) }
+{
+    let mut line = Vec::new(alloc);
+    line.extend_from_slice(text.as_bytes())?;
+    line.push(b'\n')?;
+    Ok(line)
+}
+
+// the world, which begins with the first line that fits another form than `table`
+fn begin(alloc: Global, config: Config, stage: Stage) -> Result<World, AllocError>
+    ensures { IfOk result (λ world. world ≡ world_of config stage) }
+{
+    match stage {
+        Stage::Tables(schema) => World::new(alloc, config, schema),
+        Stage::Running(world) => Ok(world),
+    }
+}
+
+fn happen(alloc: Global, mut world: World, event: Event) -> Result<(Vec<u8>, Stage), AllocError>
+    ensures { IfOk result (λ given. event_answer (outcome world event) ≡ (given.0.items, given.1)) }
+{
+    let reply = world.step(alloc, event)?;
+    let text = text_of(alloc, reply)?;
+    let line = text_line(alloc, &text)?;
+    Ok((line, Stage::Running(world)))
+}
+
+fn entry(alloc: Global, world: &World, number: u64) -> Result<Vec<u8>, AllocError>
+    ensures { IfOk result (λ line. line.items ≡ entry_answer world.now number) }
+{
+    match world.entry(number) {
+        None => text_line(alloc, "refused NotPlaced"),
+        Some(found) => {
+            let mut line = text_of_entry(alloc, found)?;
+            line.push(b'\n')?;
+            Ok(line)
+        }
+    }
+}
+
+fn rows(alloc: Global, world: &World, subscription: u64) -> Result<Vec<u8>, AllocError>
+    ensures { IfOk result (λ text. text.items ≡ rows_answer world.now subscription) }
+{
+    match world.rows(alloc, subscription)? {
+        None => {
+            let text = text_of_desk_refusal(alloc, Refusal::NoSuch)?;
+            text_line(alloc, &text)
+        }
+        Some(rows) => text_of_rows(alloc, &rows),
+    }
+}
+
+fn left(alloc: Global, world: &World) -> Result<Vec<u8>, AllocError>
+    ensures { IfOk result (λ line. line.items ≡ left_answer world.now) }
+{
+    let count = world.left();
+    let text = format!(in alloc; "left {count}")?;
+    text_line(alloc, &text)
+}
+
+fn table(alloc: Global, stage: Stage, bytes: &[u8]) -> Result<(Vec<u8>, Stage), AllocError>
+    ensures { IfOk result (λ given. with_line_end (table_answer stage bytes.now)
+        ≡ (given.0.items, given.1)) }
+{
+    match stage {
+        Stage::Running(world) => Ok((text_line(alloc, "refused Line")?, Stage::Running(world))),
+        Stage::Tables(schema) => match header(alloc, bytes)? {
+            None => Ok((text_line(alloc, "refused BadShape")?, Stage::Tables(schema))),
+            Some(shape) => add_table(alloc, schema, shape),
+        },
+    }
+}
+
+fn add_table(
+    alloc: Global,
+    mut schema: Schema,
+    shape: Shape,
+) -> Result<(Vec<u8>, Stage), AllocError>
+    ensures { IfOk result (λ given.
+        with_line_end (table_added schema shape (table_refusal schema shape))
+        ≡ (given.0.items, given.1)) }
+{
+    let text = match schema.add(shape) {
+        Ok(()) => "ok",
+        Err(SchemaError::Fault(TableFault::DuplicateTable(_))) => "refused DuplicateTable",
+        Err(SchemaError::Fault(_)) => "refused BadShape",
+        Err(SchemaError::Memory) => return Err(AllocError),
+    };
+    Ok((text_line(alloc, text)?, Stage::Tables(schema)))
+}
+
+// the shape that a text spells as one header alone
+fn header(alloc: Global, bytes: &[u8]) -> Result<Option<Shape>, AllocError>
+    ensures { IfOk result (λ shape. shape ≡ header_of_answer (answer_of bytes.now)) }
+{
+    match parse(alloc, bytes) {
+        Ok(changeset) => Ok(header_of(changeset)),
+        Err(ParseError::Fault(_)) => Ok(None),
+        Err(ParseError::Memory) => Err(AllocError),
+    }
+}
+
+fn header_of(changeset: Changeset) -> Option<Shape>
+    ensures { result ≡ header_of_sections changeset }
+{
+    let mut sections = changeset.into_seq().into_vec();
+    if sections.len() != 1 {
+        return None;
+    }
+    let (shape, changes) = sections.pop()?.into_parts();
+    if changes.is_empty() {
+        Some(shape)
+    } else {
+        None
+    }
+}

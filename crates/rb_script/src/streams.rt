@@ -1,0 +1,80 @@
+//! Readers and writers.
+
+ghost use Rattle.std.specs.Prelude.{◌≡◌, ◌<◌, ◌≤◌, ℕ, List, length, take, IfOk, OnOk, OnErr};
+ghost use Rattle.std.specs.Io.KnownBytes.{Appends, Consumes, Keeps, IsAtEnd};
+ghost use Rattle.rb_script.specs.Streams.{AppendsFront};
+
+use std::io;
+use std::io::{ErrorKind, Read, Write};
+
+/// Reads some bytes into the front of `buffer`, and tells how many: none at the end of the input. What the
+/// reader interrupts is tried again. An `Err` has taken nothing.
+#[tactic(auto, using(crate::proofs::StreamLaws::known_bytes))]
+pub fn read_some<R: Read>(reader: &mut R, buffer: &mut [u8]) -> io::Result<usize>
+    requires { 0 < length buffer.old }
+    ensures length { length buffer.new ≡ length buffer.old }
+    ensures bound { IfOk result (λ n. n ≤ length buffer.new) }
+    ensures bytes { IfOk result (λ n. Consumes (R.remaining reader.old) (R.remaining reader.new)
+        (take n buffer.new)) }
+    ensures end { IfOk result (λ n. n ≡ 0 → IsAtEnd (R.remaining reader.new)) }
+    ensures err { OnErr result (Keeps (R.remaining reader.old) (R.remaining reader.new)) }
+{
+    for _ in 0..u64::MAX {
+        match reader.read(buffer) {
+            Err(e) if e.kind() == ErrorKind::Interrupted => {}
+            read => return read,
+        }
+    }
+    reader.read(buffer)
+}
+
+/// Writes all bytes. An `Err` has written a front of them.
+#[tactic(auto, using(crate::proofs::StreamLaws::known_bytes))]
+pub fn write_whole<W: Write>(writer: &mut W, bytes: &[u8]) -> io::Result<()>
+    ensures ok { OnOk result (Appends (W.contents writer.old) (W.contents writer.new) bytes.now) }
+    ensures err { OnErr result (AppendsFront (W.contents writer.old) (W.contents writer.new)
+        bytes.now) }
+{
+    let mut at = 0;
+    for _ in 0..bytes.len() {
+        if at == bytes.len() {
+            break;
+        }
+        at += write_some(writer, &bytes[at..])?;
+    }
+    Ok(())
+}
+
+/// Hands on what the writer holds back. What the writer interrupts is tried again. An `Err` has handed on some of it.
+#[tactic(auto, using(crate::proofs::StreamLaws::known_bytes))]
+pub fn flush<W: Write>(writer: &mut W) -> io::Result<()>
+    ensures { Keeps (W.contents writer.old) (W.contents writer.new) }
+{
+    for _ in 0..u64::MAX {
+        match writer.flush() {
+            Err(e) if e.kind() == ErrorKind::Interrupted => {}
+            flushed => return flushed,
+        }
+    }
+    writer.flush()
+}
+
+// Writes a front of some bytes, and tells how many. To take none of them is a fault.
+#[tactic(auto, using(crate::proofs::StreamLaws::known_bytes))]
+fn write_some<W: Write>(writer: &mut W, bytes: &[u8]) -> io::Result<usize>
+    requires { 0 < length bytes.now }
+    ensures some { IfOk result (λ n. 0 < n) }
+    ensures bound { IfOk result (λ n. n ≤ length bytes.now) }
+    ensures ok { IfOk result (λ n. Appends (W.contents writer.old) (W.contents writer.new)
+        (take n bytes.now)) }
+    ensures err { OnErr result (Keeps (W.contents writer.old) (W.contents writer.new)) }
+{
+    for _ in 0..u64::MAX {
+        match writer.write(bytes) {
+            Ok(0) => return Err(io::Error::from(ErrorKind::WriteZero)),
+            Err(e) if e.kind() == ErrorKind::Interrupted => {}
+            written => return written,
+        }
+    }
+    Err(io::Error::from(ErrorKind::WriteZero))
+}
