@@ -36,4 +36,5 @@ row '100 subscriptions of 20,000 entries' takes 20000 100
 echo
 echo "$head"
 for entries in 1000 10000 100000; do row "$entries entries, 1 subscription" takes "$entries" 1; done
-for subscriptions in 1 10 100 1000; do row "1000 entries, $subscriptions subscriptions" takes 1000 "$subscriptions"; done
+for subscriptions in 10 100 1000; do row "1000 entries, $subscriptions subscriptions" takes 1000 "$subscriptions"; done
+for subscriptions in 10 100 1000; do row "the same by \`takeany\`, $subscriptions" any 1000 "$subscriptions"; done

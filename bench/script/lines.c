@@ -1,4 +1,4 @@
-/* Prints a script: lines small ENTRIES | large BYTES | takes ENTRIES SUBSCRIPTIONS | measure FILE COMMAND.. */
+/* Prints a script: lines small ENTRIES | large BYTES | takes ENTRIES SUBSCRIPTIONS | any ENTRIES SUBSCRIPTIONS | measure FILE COMMAND.. */
 #define _DEFAULT_SOURCE
 #include "../apply/measure.h"
 
@@ -6,7 +6,7 @@
 #include <stdlib.h>
 #include <string.h>
 
-enum { WINDOW = 4, BATCH = 16, CHANGE = 14, ROOM = 32000 };
+enum { BATCH = 16, CHANGE = 14, ROOM = 32000 };
 
 /* the table `t`: a key, and a column */
 static const char HEADER[] = "540201007400";
@@ -43,8 +43,8 @@ static void large(unsigned bytes) {
     }
 }
 
-/* Each subscription takes all entries in batches, accepts them and acknowledges, in turns. */
-static void takes(unsigned entries, unsigned subscriptions) {
+/* Each subscription takes all entries in batches, or whoever may is handed them; each delivery is accepted and acknowledged. */
+static void takes(unsigned entries, unsigned subscriptions, int any) {
     begin();
     for (unsigned i = 1; i <= entries; i++) put(i);
     for (unsigned s = 0; s < subscriptions; s++) printf("subscribe 0\n");
@@ -52,14 +52,19 @@ static void takes(unsigned entries, unsigned subscriptions) {
     for (unsigned done = 0; done < entries; done += BATCH)
         for (unsigned s = 0; s < subscriptions; s++) {
             delivery++;
-            printf("take %u %u\naccept %u\nack %u\n", s, delivery, delivery, delivery);
+            if (any)
+                printf("takeany %u\n", delivery);
+            else
+                printf("take %u %u\n", s, delivery);
+            printf("accept %u\nack %u\n", delivery, delivery);
         }
 }
 
 int main(int count, char **words) {
     if (count == 3 && !strcmp(words[1], "small")) return small((unsigned)atoi(words[2])), 0;
     if (count == 3 && !strcmp(words[1], "large")) return large((unsigned)atoi(words[2])), 0;
-    if (count == 4 && !strcmp(words[1], "takes")) return takes((unsigned)atoi(words[2]), (unsigned)atoi(words[3])), 0;
+    if (count == 4 && !strcmp(words[1], "takes")) return takes((unsigned)atoi(words[2]), (unsigned)atoi(words[3]), 0), 0;
+    if (count == 4 && !strcmp(words[1], "any")) return takes((unsigned)atoi(words[2]), (unsigned)atoi(words[3]), 1), 0;
     if (count > 3 && !strcmp(words[1], "measure")) return measure(words[2], words + 3), 0;
-    return fprintf(stderr, "lines small ENTRIES | large BYTES | takes ENTRIES SUBSCRIPTIONS | measure FILE COMMAND..\n"), 2;
+    return fprintf(stderr, "lines small ENTRIES | large BYTES | takes|any ENTRIES SUBSCRIPTIONS | measure FILE COMMAND..\n"), 2;
 }
