@@ -16,13 +16,13 @@ KeepsPictures = (old : Picture) (step : Step) → IsPicture old → IsPicture (a
 
 -- what each call changes in the outline
 pub record Shows : Type 0 where
-  pub subscribes : (old : Picture) (start s link : ℕ) (new : Picture) → IsPicture old → subscribe old start ≡ (Ok (s, link), new) → Joins (outline old) (outline new) start s link
+  pub subscribes : (old : Picture) (start s link : ℕ) (new : Picture) → subscribe old start ≡ (Ok (s, link), new) → Joins (outline old) (outline new) start s link
   pub takes : (old : Picture) (s link cursor now : ℕ) (delivery : Delivery) (new : Picture) → IsPicture old → take old s link cursor now ≡ (Ok delivery, new) → (delivery.sub ≡ s) × Hands (outline old) (outline new) delivery
   pub takes_any : (old : Picture) (now : ℕ) (delivery : Delivery) (new : Picture) → IsPicture old → take_any old now ≡ (Ok delivery, new) → Hands (outline old) (outline new) delivery
   pub acks : (old : Picture) (s link number cursor floor : ℕ) (new : Picture) → ack old s link number cursor ≡ (Ok floor, new) → outline new ≡ outline old
   pub nacks : (old : Picture) (s link number : ℕ) (new : Picture) → nack old s link number ≡ (Ok tt, new) → outline new ≡ outline old
   pub expires : (old : Picture) (now many : ℕ) (new : Picture) → expire old now ≡ (many, new) → outline new ≡ outline old
-  pub reconnects : (old : Picture) (s cursor link : ℕ) (new : Picture) → IsPicture old → reconnect old s cursor ≡ (Ok link, new) → Relinks (outline old) (outline new) s link
+  pub reconnects : (old : Picture) (s cursor link : ℕ) (new : Picture) → reconnect old s cursor ≡ (Ok link, new) → Relinks (outline old) (outline new) s link
   pub unsubscribes : (old : Picture) (s link : ℕ) (new : Picture) → unsubscribe old s link ≡ (Ok tt, new) → Leaves (outline old) (outline new) s
   pub places : (old : Picture) (number : ℕ) → prepare old ≡ Ok number → Places (outline old) (outline (place old)) number
   pub closes : (old : Picture) (last : ℕ) (new : Picture) → IsPicture old → close old ≡ (last, new) → Ends (outline old) (outline new) last

@@ -9,7 +9,6 @@ use Rattle.rb_desk.specs.Calls as desk
 use Rattle.rb_desk.specs.declared.delivery.Delivery.{Delivery}
 use Rattle.rb_desk.specs.declared.refusal.Refusal.{Refusal as DeskRefusal}
 use Rattle.rb_desk.specs.declared.refusal.Refusal.TheVariants.{NoSuch}
-use Rattle.rb_desk.specs.IsPicture.{IsPicture}
 use Rattle.rb_desk.specs.Outline.{Outline, outline, Joins, Relinks, Leaves as LeavesDesk}
 use Rattle.rb_desk.specs.Picture.{Picture}
 use Rattle.rb_sequence.specs.Entry.{Entry}
@@ -29,10 +28,10 @@ use Rattle.rb_core.proofs.Telling.{Goes, nothing_told, move_told, all_new, Begin
 
 -- what the desk shows of one that begins, goes on and ends
 abbrev pub SubscribeShows : Type 0
-SubscribeShows = (old : Picture) (start s link : ℕ) (new : Picture) → IsPicture old → desk.subscribe old start ≡ (Ok (s, link), new) → Joins (outline old) (outline new) start s link
+SubscribeShows = (old : Picture) (start s link : ℕ) (new : Picture) → desk.subscribe old start ≡ (Ok (s, link), new) → Joins (outline old) (outline new) start s link
 
 abbrev pub ReconnectShows : Type 0
-ReconnectShows = (old : Picture) (s cursor link : ℕ) (new : Picture) → IsPicture old → desk.reconnect old s cursor ≡ (Ok link, new) → Relinks (outline old) (outline new) s link
+ReconnectShows = (old : Picture) (s cursor link : ℕ) (new : Picture) → desk.reconnect old s cursor ≡ (Ok link, new) → Relinks (outline old) (outline new) s link
 
 abbrev pub UnsubscribeShows : Type 0
 UnsubscribeShows = (old : Picture) (s link : ℕ) (new : Picture) → desk.unsubscribe old s link ≡ (Ok tt, new) → LeavesDesk (outline old) (outline new) s
@@ -59,7 +58,7 @@ subscribed_tells : SubscribeShows → (schema : List Shape) (old : State) (world
 subscribed_tells shows schema old world start (Err why) picture is good h = nothing_told schema world (event.Subscribe start) (reply.Refused (refusal.Desk why)) old refl h
 subscribed_tells shows schema old world start (Ok made) picture is good h =
     let link = made.1 in
-    let shown = shows old.desk start made.0 link picture good.picture is in
+    let shown = shows old.desk start made.0 link picture is in
     let kept = shown.kept in
     let q = one schema start link in
     let end = begun start link (empty_tables old.schema) in
@@ -94,7 +93,7 @@ linked_tells : ReconnectShows → (schema : List Shape) (old : State) (world : W
     → slice_get old.endpoints s ≡ Some end → IsWorld old → Tells schema old world → Goes schema world (event.Reconnect s cursor) (out.linked old s end answer picture)
 linked_tells shows schema old world s cursor end (Err why) picture is found good h = nothing_told schema world (event.Reconnect s cursor) (reply.Refused (refusal.Desk why)) old refl h
 linked_tells shows schema old world s cursor end (Ok link) picture is found good h =
-    let shown = shows old.desk s cursor link picture good.picture is in
+    let shown = shows old.desk s cursor link picture is in
     let kept = shown.kept in
     let at = subscriber_of_end schema old world s end h found in
     let q = at.0 in

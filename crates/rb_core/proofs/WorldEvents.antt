@@ -21,7 +21,7 @@ use Rattle.rb_core.specs.declared.event.Event.{Event}
 use Rattle.rb_core.specs.declared.event.Event.TheVariants as event
 use Rattle.rb_core.specs.declared.publisher.Publisher.{Publisher}
 use Rattle.rb_core.specs.declared.reply.Reply.{Reply}
-use Rattle.rb_core.specs.Outcome.{publisher_outcome, fed, reset, staged, ended_by, ended, sent_while, sent_by, sent, pulled, placed, turned, close_outcome, subscribed, handed, taken, accepted, accepted_at, accepted_as, settled, acked_at, acked, returned, nacked, expire_outcome, linked, reconnected, left, unsubscribed, delivery_of, outcome}
+use Rattle.rb_core.specs.Outcome.{publisher_outcome, fed, reset, staged, ended_by, ended, sent_while, sent_by, sent, pulled, placed, turned, close_outcome, subscribed, handed, taken, accepted, accepted_at, accepted_as, settled, acked_at, acked, returned, nacked, expire_outcome, linked, reconnected, left, unsubscribed, delivery_of, with_endpoint, outcome}
 use Rattle.rb_core.specs.State.{State, empty_tables, member_of_end, IsWorld}
 use Rattle.rb_core.proofs.DeskLaws.{KeepsPictures, Shows, beside, subscribe_keeps, take_keeps, take_any_keeps, ack_keeps, nack_keeps, expire_keeps, reconnect_keeps, unsubscribe_keeps, close_keeps, place_keeps}
 use Rattle.rb_core.proofs.Worlds.{apart, changed, same_outline, handed_over, placed_next, set_end, same_end, found_end}
@@ -107,7 +107,7 @@ subscribed_keeps old start (Err why) new good picture joins = good
 subscription_keeps : KeepsPictures → Shows → (old : State) (start : ℕ) → IsWorld old → IsWorld (subscribed old start (desk.subscribe old.desk start).0 (desk.subscribe old.desk start).1).1
 subscription_keeps keeps shows old start good =
     let call = desk.subscribe old.desk start in
-    subscribed_keeps old start call.0 call.1 good (subscribe_keeps keeps old.desk start good.picture) (λ made is. shows.subscribes old.desk start made.0 made.1 call.1 good.picture (ap (beside call.1) is))
+    subscribed_keeps old start call.0 call.1 good (subscribe_keeps keeps old.desk start good.picture) (λ made is. shows.subscribes old.desk start made.0 made.1 call.1 (ap (beside call.1) is))
 
 handed_keeps : (old : State) (r : Result Delivery DeskRefusal) (new : Picture) → IsWorld old → IsPicture new → ((delivery : Delivery) → r ≡ Ok delivery → Hands (outline old.desk) (outline new) delivery) → IsWorld (handed old r new).1
 handed_keeps old (Ok delivery) new good picture hands = handed_over old new delivery good picture (hands delivery refl)
@@ -175,40 +175,38 @@ expired_keeps keeps shows old now good =
 
 -- ---- links
 
+-- an end becomes another, and so does the desk's member
+changed_end : (old : State) (s : ℕ) (next : Endpoint) (member : Member) (new : Picture) → IsWorld old → IsPicture new → (outline new).front ≡ (outline old.desk).front → (outline new).next_delivery ≡ (outline old.desk).next_delivery
+    → (outline new).members ≡ slice_set (outline old.desk).members s member → member_of_end next ≡ member → IsWorld (record (with_endpoint old s next) { desk = new })
+changed_end old s next member new good picture front delivery members is =
+    let kept =
+    set_end old.endpoints s next
+    ∙ ap (λ (ms : List Member). slice_set ms s (member_of_end next)) good.members
+    ∙ ap (slice_set (outline old.desk).members s) is
+    ∙ sym members
+    in
+    changed old new (slice_set old.endpoints s next) good picture front delivery kept (omega (arith, length-set old.endpoints s next))
+
 linked_keeps : (old : State) (s : ℕ) (end : Endpoint) (r : Result ℕ DeskRefusal) (new : Picture) → slice_get old.endpoints s ≡ Some end → IsWorld old → IsPicture new
     → ((link : ℕ) → r ≡ Ok link → Relinks (outline old.desk) (outline new) s link) → IsWorld (linked old s end r new).1
 linked_keeps old s end (Ok link) new here good picture relinks =
     let h = relinks link refl in
     let is = found_end old s end h.member good here h.found in
-    let next : Endpoint = record end { link = link } in
-    let members =
-    set_end old.endpoints s next
-    ∙ ap (λ (ms : List Member). slice_set ms s (member_of_end next)) good.members
-    ∙ ap (λ (m : Member). slice_set (outline old.desk).members s (record m { link = link })) (sym is)
-    ∙ sym (ap (λ (o : Outline). o.members) h.kept)
-    in
-    changed old new (slice_set old.endpoints s next) good picture (ap (λ (o : Outline). o.front) h.kept) (ap (λ (o : Outline). o.next_delivery) h.kept) members (omega (arith, length-set old.endpoints s next))
+    changed_end old s (record end { link = link }) (record h.member { link = link }) new good picture (ap (λ (o : Outline). o.front) h.kept) (ap (λ (o : Outline). o.next_delivery) h.kept) (ap (λ (o : Outline). o.members) h.kept) (ap (λ (m : Member). record m { link = link }) (sym is))
 linked_keeps old s end (Err why) new here good picture relinks = good
 
 reconnected_keeps : KeepsPictures → Shows → (old : State) (s cursor : ℕ) (found : Option Endpoint) → slice_get old.endpoints s ≡ found → IsWorld old → IsWorld (reconnected old s cursor found).1
 reconnected_keeps keeps shows old s cursor None is good = good
 reconnected_keeps keeps shows old s cursor (Some end) is good =
     let call = desk.reconnect old.desk s cursor in
-    linked_keeps old s end call.0 call.1 is good (reconnect_keeps keeps old.desk s cursor good.picture) (λ link e. shows.reconnects old.desk s cursor link call.1 good.picture (ap (beside call.1) e))
+    linked_keeps old s end call.0 call.1 is good (reconnect_keeps keeps old.desk s cursor good.picture) (λ link e. shows.reconnects old.desk s cursor link call.1 (ap (beside call.1) e))
 
 left_keeps : (old : State) (s : ℕ) (end : Endpoint) (r : Result ⊤ DeskRefusal) (new : Picture) → slice_get old.endpoints s ≡ Some end → IsWorld old → IsPicture new → (r ≡ Ok tt → Leaves (outline old.desk) (outline new) s)
     → IsWorld (left old s end r new).1
 left_keeps old s end (Ok done) new here good picture leaves =
     let h = leaves refl in
     let is = found_end old s end h.member good here h.found in
-    let next : Endpoint = record end { closed = true } in
-    let members =
-    set_end old.endpoints s next
-    ∙ ap (λ (ms : List Member). slice_set ms s (member_of_end next)) good.members
-    ∙ ap (λ (m : Member). slice_set (outline old.desk).members s (record m { closed = true })) (sym is)
-    ∙ sym (ap (λ (o : Outline). o.members) h.kept)
-    in
-    changed old new (slice_set old.endpoints s next) good picture (ap (λ (o : Outline). o.front) h.kept) (ap (λ (o : Outline). o.next_delivery) h.kept) members (omega (arith, length-set old.endpoints s next))
+    changed_end old s (record end { closed = true }) (record h.member { closed = true }) new good picture (ap (λ (o : Outline). o.front) h.kept) (ap (λ (o : Outline). o.next_delivery) h.kept) (ap (λ (o : Outline). o.members) h.kept) (ap (λ (m : Member). record m { closed = true }) (sym is))
 left_keeps old s end (Err why) new here good picture leaves = good
 
 unsubscribed_keeps : KeepsPictures → Shows → (old : State) (s : ℕ) (found : Option Endpoint) → slice_get old.endpoints s ≡ found → IsWorld old → IsWorld (unsubscribed old s found).1

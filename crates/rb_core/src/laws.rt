@@ -87,6 +87,18 @@ pub fn runs_are_told()
     progress_tells();
 }
 
+/// In every run each publisher's stream has taken what the publisher was fed since the stream began, as the events and their answers tell
+/// it. So `streams_answer_by_text` says of that text what it is answered.
+pub fn streams_take_what_is_fed()
+    ensures { (limits : Limits) (schema : List Shape) (events : List Event)
+        (answers : List Answer) (new : State) (p : ℕ) (publisher : Publisher) → AreInRange limits
+        → AllByRecursion FeedsBytes events → Run (empty_world limits schema) events answers new
+        → slice_get new.publishers p ≡ Some publisher
+        → (sender : Sender) × (slice_get (world_told schema events answers).senders p ≡ Some sender) × Took publisher.stream sender.text }
+{
+    runs_are_told();
+}
+
 /// In every run and at every time, what a subscription has accepted is one run of the sequence behind its start: no number is left out, and
 /// each one comes once. Its end has come as far.
 pub fn accepted_is_gapless()

@@ -68,22 +68,23 @@ pub fn run(
     sendings_come_once_in_order();
     nothing_after_close();
     tables_apply_singly();
-    feed_bytes(events);
     served(alloc, config, schema, events)
 }
 
-// the events served, with the one clause from which the others follow
+// The events served, with the one clause from which the others follow: it is a run, and what the events feed are bytes.
 fn served(
     alloc: Global,
     config: Config,
     schema: Schema,
     events: &[Event],
 ) -> Result<(World, Vec<Result<Reply, AllocError>>), AllocError>
-    ensures { IfOk result (λ r. Run (empty_world config schema) events.now r.1.items r.0) }
+    ensures { IfOk result (λ r. Run (empty_world config schema) events.now r.1.items r.0
+        × AllByRecursion FeedsBytes events.now) }
 {
     let mut world = World::new(alloc, config, schema)?;
     let mut answers = Vec::with_capacity(alloc, events.len())?;
     for event in events {
+        feeds_bytes(event);
         answers.reserve(1)?;
         let answer = world.serve(alloc, event);
         answers.push(answer)?;
@@ -91,7 +92,7 @@ fn served(
     Ok((world, answers))
 }
 
-// These are bytes, and an event and events feed bytes: their types say so, and these functions only look.
+// These are bytes, and an event feeds bytes: their types say so, and these functions only look.
 fn are_bytes(bytes: &[u8])
     ensures { AreBytes bytes.now }
 {}
@@ -105,13 +106,5 @@ fn feeds_bytes(event: &Event)
     } = event
     {
         return are_bytes(bytes);
-    }
-}
-
-fn feed_bytes(events: &[Event])
-    ensures { AllByRecursion FeedsBytes events.now }
-{
-    for fed in events {
-        feeds_bytes(fed);
     }
 }

@@ -40,7 +40,7 @@ pub fn front_and_floors_rise()
 /// What a call that isn't refused changes in the outline, for those who know no spans and no clock; `ack`, `nack` and `expire` change
 /// nothing there.
 pub fn calls_show_in_outline()
-    ensures subscribe { (old : Picture) (start s link : ℕ) (new : Picture) → IsPicture old
+    ensures subscribe { (old : Picture) (start s link : ℕ) (new : Picture)
         → subscribe old start ≡ (Ok (s, link), new) → Joins (outline old) (outline new) start s link }
     ensures take { (old : Picture) (s link cursor now : ℕ) (delivery : Delivery) (new : Picture)
         → IsPicture old → take old s link cursor now ≡ (Ok delivery, new)
@@ -54,7 +54,7 @@ pub fn calls_show_in_outline()
         → nack old s link number ≡ (Ok tt, new) → outline new ≡ outline old }
     ensures expire { (old : Picture) (now many : ℕ) (new : Picture)
         → expire old now ≡ (many, new) → outline new ≡ outline old }
-    ensures reconnect { (old : Picture) (s cursor link : ℕ) (new : Picture) → IsPicture old
+    ensures reconnect { (old : Picture) (s cursor link : ℕ) (new : Picture)
         → reconnect old s cursor ≡ (Ok link, new) → Relinks (outline old) (outline new) s link }
     ensures unsubscribe { (old : Picture) (s link : ℕ) (new : Picture)
         → unsubscribe old s link ≡ (Ok tt, new) → Leaves (outline old) (outline new) s }

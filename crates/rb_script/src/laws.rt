@@ -1,15 +1,21 @@
 //! What the answers to a script are, line by line.
 
-ghost use Rattle.std.specs.Prelude.{◌≡◌, ◌++◌, ◌∷◌, [], ℕ, List};
+ghost use Rattle.std.specs.Prelude.{◌≡◌, ◌++◌, ◌∷◌, [], ℕ, List, Some, slice_get};
 ghost use Rattle.std.specs.List.{AllByRecursion};
 ghost use Rattle.cs_model.specs.declared.shape.Shape.{Shape};
+ghost use Rattle.rb_desk.specs.IsPicture.{AreInRange};
 ghost use Rattle.rb_desk.specs.Limits.{Limits};
+ghost use Rattle.rb_core.specs.Moves.{HasRun};
 ghost use Rattle.rb_core.specs.Run.{FeedsBytes, Run};
 ghost use Rattle.rb_core.specs.State.{empty_world};
+ghost use Rattle.rb_core.specs.Told.{world_told};
+ghost use Rattle.rb_core.specs.World.{Subscriber};
 ghost use Rattle.rb_script.specs.declared.lines.Stage.TheVariants.{Tables};
 ghost use Rattle.rb_script.specs.Lines.{world_of};
 ghost use Rattle.rb_script.specs.Output.{answers};
 ghost use Rattle.rb_script.specs.Script.{IsLine, ended_lines, lines_answers, lines_events, lines_replies, stage_behind};
+
+use rb_core::laws::accepted_is_gapless;
 
 /// What is written for a script is the answers to its lines, one after another, the last of which lacks its end.
 pub fn lines_are_answered()
@@ -32,3 +38,16 @@ pub fn scripts_are_runs()
 pub fn scripts_feed_bytes()
     ensures { (lines : List (List ℕ)) → AllByRecursion FeedsBytes (lines_events lines) }
 {}
+
+/// In the answers to the lines of a script, what a subscription accepted is one run of the sequence behind its start: no number is left
+/// out, and each comes once. So is every law over runs one over scripts.
+pub fn accepted_lines_are_gapless()
+    ensures { (config : Limits) (lines : List (List ℕ)) → AreInRange config
+        → (schema : List Shape) × ((s : ℕ) (subscriber : Subscriber)
+        → slice_get (world_told schema (lines_events lines) (lines_replies config (Tables []) lines)).subscribers s ≡ Some subscriber
+        → HasRun (world_of config (stage_behind config (Tables []) lines)).sequence subscriber) }
+{
+    scripts_are_runs();
+    scripts_feed_bytes();
+    accepted_is_gapless();
+}

@@ -1,8 +1,10 @@
 use Rattle.std.proofs.Common.{take}
+use Rattle.std.specs.List.{AllByRecursion}
 use Rattle.rb_core.specs.State.{empty_world}
-use Rattle.rb_core.specs.Run.{Run}
+use Rattle.rb_core.specs.Run.{Run, FeedsBytes}
 use Rattle.rb_core.proofs.runs.served.Given as goal
 
--- The world so far is what a run of the events so far leaves.
+-- The world so far is what a run of the events so far leaves, and what these feed are bytes.
 abbrev pub invariant-loop-event : goal.invariant-loop-event
-invariant-loop-event l = Run (empty_world l.fn.config l.fn.schema) (take l.event-index l.events) l.answers.items l.world
+invariant-loop-event l =
+    Run (empty_world l.fn.config l.fn.schema) (take l.event-index l.events) l.answers.items l.world × AllByRecursion FeedsBytes (take l.event-index l.events)

@@ -7,7 +7,7 @@ use Rattle.rb_desk.proofs.OutlineCalls.{Joined, TookOf, Took, Stays, Relinked, G
 use Rattle.rb_desk.proofs.laws.calls_show_in_outline.Goals as goal
 
 pub returns-clause-subscribe : goal.returns-clause-subscribe
-returns-clause-subscribe c = λ old start s link new good is. told old new (Joined old start) (subscribe old start) (s, link) (subscribe_tells old start) is
+returns-clause-subscribe c = λ old start s link new is. told old new (Joined old start) (subscribe old start) (s, link) (subscribe_tells old start) is
 
 pub returns-clause-take : goal.returns-clause-take
 returns-clause-take c = λ old s link cursor now delivery new good is. told old new (TookOf old s) (take old s link cursor now) delivery (take_tells old s link cursor now) is good
@@ -25,7 +25,7 @@ pub returns-clause-expire : goal.returns-clause-expire
 returns-clause-expire c = λ old now many new is. subst (λ (x : ℕ × Picture). outline x.1 ≡ outline old) is (expire_stays old now)
 
 pub returns-clause-reconnect : goal.returns-clause-reconnect
-returns-clause-reconnect c = λ old s cursor link new good is. told old new (Relinked old s) (reconnect old s cursor) link (reconnect_tells old s cursor) is
+returns-clause-reconnect c = λ old s cursor link new is. told old new (Relinked old s) (reconnect old s cursor) link (reconnect_tells old s cursor) is
 
 pub returns-clause-unsubscribe : goal.returns-clause-unsubscribe
 returns-clause-unsubscribe c = λ old s link new is. told old new (Gone old s) (unsubscribe old s link) tt (unsubscribe_tells old s link) is
