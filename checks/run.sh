@@ -50,17 +50,17 @@ need 'other answers' cmp -s "$out" examples/first.answers
 need_nothing err
 end 'first.script'
 
-# Worked rows: scripts with their answers, and with the options that they ask for.
-for script in checks/rows/*.script; do
-    row=${script%.script}
+# Cases: scripts with their answers, and with the options that they ask for.
+for script in crates/rb_cases/data/*.script; do
+    case=${script%.script}
     options=''
-    [ ! -f "$row.args" ] || options=$(cat "$row.args")
+    [ ! -f "$case.args" ] || options=$(cat "$case.args")
     # each word of the options is one of the program's
     run "$script" script $options
     need_status 0
-    need 'other answers' cmp -s "$out" "$row.expected"
+    need 'other answers' cmp -s "$out" "$case.answers"
     need_nothing err
-    end "row ${row##*/}"
+    end "case ${case##*/}"
 done
 
 # The command line.

@@ -14,8 +14,6 @@ mod reply;
 mod runs;
 mod sequencing;
 mod subscribing;
-#[cfg(test)]
-mod tests;
 mod world;
 
 pub use event::Event;

@@ -16,8 +16,6 @@ mod step;
 mod sub;
 mod subscribing;
 mod taking;
-#[cfg(test)]
-mod tests;
 mod ticket;
 
 pub use config::{Config, ConfigFault};

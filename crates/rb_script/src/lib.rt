@@ -11,8 +11,6 @@ mod reading;
 mod replies;
 mod script;
 mod streams;
-#[cfg(test)]
-mod tests;
 mod texts;
 mod words;
 

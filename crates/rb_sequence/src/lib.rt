@@ -4,8 +4,6 @@
 
 mod entry;
 mod item;
-#[cfg(test)]
-mod tests;
 
 pub use entry::Entry;
 pub use item::Item;

@@ -7,8 +7,6 @@ mod apply;
 mod endpoint;
 pub mod laws;
 mod refusal;
-#[cfg(test)]
-mod tests;
 
 pub use endpoint::Endpoint;
 pub use refusal::{AcceptError, Refusal};

@@ -1,0 +1,127 @@
+//! Runs with ample memory: a list of events, and a changeset with more changes than sixteen bits count.
+
+ghost use Rattle.std.specs.Prelude.{◌<◌};
+
+use cs_model::{Octets, Schema, Seq, Shape};
+use rb_core::{Config, Event, Refusal, Reply, World, run};
+use rb_script::run_script;
+use rb_subscriber::Refusal as AcceptRefusal;
+use std::alloc::{AllocError, Global};
+use std::process::Abort;
+use std::test::Fail;
+
+// an INSERT of (1, 'x') into a table `t` of two columns, of which the first is its key
+const INSERT: [u8; 20] = [
+    0x54, 2, 1, 0, 0x74, 0, 0x12, 0, 1, 0, 0, 0, 0, 0, 0, 0, 1, 3, 1, 0x78,
+];
+
+fn octets(alloc: Global, bytes: &[u8]) -> Result<Octets, AllocError> {
+    Ok(Seq::from_vec(Vec::from_slice(alloc, bytes)?))
+}
+
+fn schema(alloc: Global) -> Result<Schema, Fail> {
+    let name = octets(alloc, b"t")?;
+    let flags = octets(alloc, &[1, 0])?;
+    let mut shapes = Vec::new(alloc);
+    shapes.push(Shape { name, flags })?;
+    Ok(Schema::new(shapes)?)
+}
+
+// after a feed: the INSERT is staged, sent and placed, and a subscription takes it and accepts it twice
+fn event(place: usize) -> Event {
+    match place {
+        0 => Event::End { publisher: 0 },
+        1 => Event::Send { publisher: 0 },
+        2 => Event::Turn,
+        3 => Event::Subscribe { start: 0 },
+        4 => Event::Take {
+            subscription: 0,
+            now: 0,
+        },
+        _ => Event::Accept { delivery: 1 },
+    }
+}
+
+fn feed(alloc: Global) -> Result<Event, AllocError> {
+    let bytes = octets(alloc, &INSERT)?;
+    Ok(Event::Feed {
+        publisher: 0,
+        bytes,
+    })
+}
+
+// a publisher sends an INSERT, which a subscription accepts twice
+fn some_events(alloc: Global) -> Result<Vec<Event>, AllocError> {
+    let mut events = Vec::new(alloc);
+    events.push(Event::Publisher)?;
+    events.push(feed(alloc)?)?;
+    for place in 0..7_usize {
+        events.push(event(place))?;
+    }
+    Ok(events)
+}
+
+// The row is there, and the deliveries were answered so.
+fn is_done(rt: &impl Abort, alloc: Global, world: &World, last: Reply) -> Result<(), Fail> {
+    let rows = world.rows(alloc, 0)?;
+    assert_eq!(rt; rows.map(|rows| rows.len()), Some(1));
+    assert_eq!(rt; last, Reply::Refused(Refusal::Accept(AcceptRefusal::Seen)));
+    Ok(())
+}
+
+// A list of events is answered as one after another are.
+#[test]
+fn runs_as_it_steps(rt: HostRuntime) -> Result<(), Fail> {
+    let alloc = rt.alloc();
+    let events = some_events(alloc)?;
+    let (ran, given) = run(alloc, Config::standard(), schema(alloc)?, &events)?;
+    let mut world = World::new(alloc, Config::standard(), schema(alloc)?)?;
+    let mut last = Reply::Idle;
+    let mut count = 0_usize;
+    for (event, answer) in events.into_iter().zip(given) {
+        last = answer?;
+        assert_eq!(rt; world.step(alloc, event)?, last);
+        count = count.saturating_add(1);
+    }
+    assert_eq!(rt; count, 9);
+    is_done(&rt, alloc, &ran, last)?;
+    is_done(&rt, alloc, &world, last)
+}
+
+// the changes on a line, and the lines
+const CHANGES: u32 = 2_000;
+
+const LINES: u32 = 35;
+
+// `feed` of an INSERT for each number from one on
+fn push_line(alloc: Global, script: &mut Vec<u8>, first: u32) -> Result<(), Fail>
+    requires { first < 1000000 }
+{
+    script.extend_from_slice(b"feed 0 ")?;
+    for i in 0..CHANGES {
+        let number = first + i;
+        let change = format!(in alloc; "120001{number:016x}030178")?;
+        script.extend_from_slice(change.as_bytes())?;
+    }
+    Ok(script.push(b'\n')?)
+}
+
+#[test]
+fn seventy_thousand_rows_are_accepted(rt: HostRuntime) -> Result<(), Fail> {
+    let alloc = rt.alloc();
+    let mut script = Vec::new(alloc);
+    let mut answers = Vec::new(alloc);
+    script.extend_from_slice(b"table 540201007400\npublisher\nsubscribe 0\nfeed 0 540201007400\n")?;
+    answers.extend_from_slice(b"ok\npublisher 0\nsubscriber 0 link 1\nok\n")?;
+    for line in 0..LINES {
+        push_line(alloc, &mut script, line * CHANGES)?;
+        answers.extend_from_slice(b"ok\n")?;
+    }
+    script.extend_from_slice(b"end 0\nsend 0\nturn\ntake 0 0\naccept 1\n")?;
+    answers.extend_from_slice(b"staged\nsent 1\nplaced 1\ndelivery 1 0 1 1\naccepted 1\n")?;
+    let mut reader: &[u8] = &script;
+    let mut written = Vec::new(alloc);
+    run_script(alloc, &mut reader, &mut written, Config::standard())?;
+    assert!(rt; written.as_slice() == answers.as_slice());
+    Ok(())
+}

@@ -1,0 +1,301 @@
+//! Readers and writers that fail, that interrupt, and that wait for answers.
+
+use rb_core::Config;
+use rb_script::{ScriptFault, run_script};
+use std::alloc::Global;
+use std::cell::Cell;
+use std::io;
+use std::io::{ErrorKind, Read, Write};
+use std::process::Abort;
+use std::test::Fail;
+
+// A reader that gives some bytes, and fails then.
+#[derive(Drop)]
+struct Failing<'a> {
+    rest: &'a [u8],
+}
+
+impl Read for Failing<'_> {
+    fn read(&mut self, buf: &mut [u8]) -> io::Result<usize> {
+        if self.rest.is_empty() {
+            return Err(io::Error::from(ErrorKind::TimedOut));
+        }
+        self.rest.read(buf)
+    }
+}
+
+// A reader that never ends.
+#[derive(Drop)]
+struct Unending;
+
+impl Read for Unending {
+    fn read(&mut self, buf: &mut [u8]) -> io::Result<usize> {
+        for byte in buf.iter_mut() {
+            *byte = b'\n';
+        }
+        Ok(buf.len())
+    }
+}
+
+// A writer that takes no byte.
+#[derive(Drop)]
+struct Full;
+
+impl Write for Full {
+    fn write(&mut self, _buf: &[u8]) -> io::Result<usize> {
+        Ok(0)
+    }
+
+    fn flush(&mut self) -> io::Result<()> {
+        Ok(())
+    }
+}
+
+// A reader and a writer that interrupt each call before they do it.
+#[derive(Drop)]
+struct Hasty<T> {
+    inner: T,
+    again: bool,
+}
+
+impl<T> Hasty<T> {
+    fn new(inner: T) -> Hasty<T> {
+        Hasty {
+            inner,
+            again: false,
+        }
+    }
+
+    fn calm(&mut self) -> io::Result<()> {
+        self.again = !self.again;
+        if self.again {
+            return Err(io::Error::from(ErrorKind::Interrupted));
+        }
+        Ok(())
+    }
+}
+
+impl<T: Read> Read for Hasty<T> {
+    fn read(&mut self, buf: &mut [u8]) -> io::Result<usize> {
+        self.calm()?;
+        self.inner.read(buf)
+    }
+}
+
+impl<T: Write> Write for Hasty<T> {
+    fn write(&mut self, buf: &[u8]) -> io::Result<usize> {
+        self.calm()?;
+        self.inner.write(buf)
+    }
+
+    fn flush(&mut self) -> io::Result<()> {
+        self.calm()?;
+        self.inner.flush()
+    }
+}
+
+// A reader of one line at a time, which gives the next one only when the answers to those before are handed on.
+#[derive(Drop)]
+struct Asking<'a> {
+    lines: &'a [&'a [u8]],
+    asked: usize,
+    answered: &'a Cell<usize>,
+}
+
+impl Read for Asking<'_> {
+    fn read(&mut self, buf: &mut [u8]) -> io::Result<usize> {
+        if self.answered.get() != self.asked {
+            return Err(io::Error::from(ErrorKind::WouldBlock));
+        }
+        let Some(line) = self.lines.get(self.asked) else {
+            return Ok(0);
+        };
+        self.asked += 1;
+        let mut rest: &[u8] = line;
+        rest.read(buf)
+    }
+}
+
+// A writer that holds lines back until it is flushed.
+#[derive(Drop)]
+struct Telling<'a> {
+    lines: usize,
+    answered: &'a Cell<usize>,
+}
+
+impl Write for Telling<'_> {
+    fn write(&mut self, buf: &[u8]) -> io::Result<usize> {
+        for byte in buf {
+            if *byte == b'\n' {
+                self.lines = self.lines.saturating_add(1);
+            }
+        }
+        Ok(buf.len())
+    }
+
+    fn flush(&mut self) -> io::Result<()> {
+        self.answered.set(self.lines);
+        Ok(())
+    }
+}
+
+// A writer whose writes fail, or whose flushes do after so many.
+#[derive(Drop)]
+struct Broken {
+    writes: bool,
+    flushes: usize,
+}
+
+impl Write for Broken {
+    fn write(&mut self, buf: &[u8]) -> io::Result<usize> {
+        if self.writes {
+            return Err(io::Error::from(ErrorKind::TimedOut));
+        }
+        Ok(buf.len())
+    }
+
+    fn flush(&mut self) -> io::Result<()> {
+        if self.flushes == 0 {
+            return Err(io::Error::from(ErrorKind::TimedOut));
+        }
+        self.flushes -= 1;
+        Ok(())
+    }
+}
+
+// A reader without an end, of a line with an answer and many without, whose first piece is shorter than the others.
+#[derive(Drop)]
+struct Turning {
+    begun: bool,
+}
+
+impl Read for Turning {
+    fn read(&mut self, buf: &mut [u8]) -> io::Result<usize> {
+        for byte in buf.iter_mut() {
+            *byte = b'\n';
+        }
+        for (byte, letter) in buf.iter_mut().zip(b"turn") {
+            *byte = *letter;
+        }
+        if self.begun {
+            return Ok(buf.len());
+        }
+        self.begun = true;
+        Ok(buf.len().min(100))
+    }
+}
+
+// The run stopped with this text. Where memory ran out before, for the run or for the list that takes its answers, that is
+// handed up.
+fn stopped(
+    rt: &impl Abort,
+    alloc: Global,
+    run: Result<(), ScriptFault>,
+    want: &str,
+) -> Result<(), Fail> {
+    let Err(fault) = run else {
+        return Err("the script ended")?;
+    };
+    let text = format!(in alloc; "{fault}")?;
+    if text.as_str() != want && matches!(&fault, ScriptFault::Memory | ScriptFault::Write(_)) {
+        return Err("out of memory")?;
+    }
+    assert_eq!(rt; text.as_str(), want);
+    Ok(())
+}
+
+#[test]
+fn stops(rt: HostRuntime) -> Result<(), Fail> {
+    let alloc = rt.alloc();
+    let config = Config::standard();
+    let mut written = Vec::new(alloc);
+    let mut failing = Failing {
+        rest: b"publisher\nturn\ntur",
+    };
+    let read = run_script(alloc, &mut failing, &mut written, config);
+    stopped(&rt, alloc, read, "read fault: timed out")?;
+    assert!(rt; written.as_slice() == b"publisher 0\nidle\n".as_slice());
+    let mut script: &[u8] = b"publisher\n";
+    let full = run_script(alloc, &mut script, &mut Full, config);
+    stopped(&rt, alloc, full, "write fault: write zero")?;
+    let mut nothing = Vec::new(alloc);
+    let endless = run_script(alloc, &mut Unending, &mut nothing, config);
+    stopped(
+        &rt,
+        alloc,
+        endless,
+        "script too long: more than 16777216 bytes",
+    )?;
+    assert!(rt; nothing.is_empty());
+    let memory = format!(in alloc; "{}", ScriptFault::Memory)?;
+    assert_eq!(rt; memory.as_str(), "out of memory");
+    Ok(())
+}
+
+#[test]
+fn what_is_interrupted_is_tried_again(rt: HostRuntime) -> Result<(), Fail> {
+    let alloc = rt.alloc();
+    let script: &[u8] = b"publisher\nturn\n";
+    let mut reader = Hasty::new(script);
+    let mut writer = Hasty::new(Vec::new(alloc));
+    run_script(alloc, &mut reader, &mut writer, Config::standard())?;
+    assert!(rt; writer.inner.as_slice() == b"publisher 0\nidle\n".as_slice());
+    Ok(())
+}
+
+#[test]
+fn lines_are_answered_before_the_next_read(rt: HostRuntime) -> Result<(), Fail> {
+    let alloc = rt.alloc();
+    let answered = Cell::new(0);
+    let lines: [&[u8]; 4] = [b"publisher\n", b"turn\n", b"reset 0\n", b"turn\n"];
+    let mut reader = Asking {
+        lines: &lines,
+        asked: 0,
+        answered: &answered,
+    };
+    let mut writer = Telling {
+        lines: 0,
+        answered: &answered,
+    };
+    run_script(alloc, &mut reader, &mut writer, Config::standard())?;
+    assert_eq!(rt; answered.get(), 4);
+    // the answer to a last line without its end is handed on too
+    let last: [&[u8]; 1] = [b"turn"];
+    let rest = Cell::new(0);
+    let mut writer = Telling {
+        lines: 0,
+        answered: &rest,
+    };
+    let mut reader: &[u8] = last[0];
+    run_script(alloc, &mut reader, &mut writer, Config::standard())?;
+    assert_eq!(rt; rest.get(), 1);
+    Ok(())
+}
+
+#[test]
+fn write_faults_carry_their_reason(rt: HostRuntime) -> Result<(), Fail> {
+    let alloc = rt.alloc();
+    // no write, no flush before the first read, and none behind the last answer
+    for (writes, flushes) in [(true, 9), (false, 0), (false, 2)] {
+        let mut script: &[u8] = b"turn";
+        let mut writer = Broken { writes, flushes };
+        let run = run_script(alloc, &mut script, &mut writer, Config::standard());
+        stopped(&rt, alloc, run, "write fault: timed out")?;
+    }
+    Ok(())
+}
+
+#[test]
+fn answers_are_handed_on_behind_a_fault(rt: HostRuntime) -> Result<(), Fail> {
+    let alloc = rt.alloc();
+    let answered = Cell::new(0);
+    let mut writer = Telling {
+        lines: 0,
+        answered: &answered,
+    };
+    let mut reader = Turning { begun: false };
+    let run = run_script(alloc, &mut reader, &mut writer, Config::standard());
+    stopped(&rt, alloc, run, "script too long: more than 16777216 bytes")?;
+    assert_eq!(rt; answered.get(), 257);
+    Ok(())
+}

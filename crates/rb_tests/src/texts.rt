@@ -1,0 +1,145 @@
+//! What a user reads of limits, refusals and faults.
+
+use cs_apply::{Conflict, ConflictKind};
+use rb_core::Refusal;
+use rb_desk::{ConfigFault, DeskError, Refusal as DeskRefusal};
+use rb_script::ScriptFault;
+use rb_subscriber::{AcceptError, Refusal as AcceptRefusal};
+use std::alloc::Global;
+use std::fmt::Display;
+use std::process::Abort;
+use std::test::Fail;
+
+fn says<T: Display>(rt: &impl Abort, alloc: Global, table: &[(T, &str)]) -> Result<(), Fail> {
+    for (why, text) in table {
+        let said = format!(in alloc; "{why}")?;
+        assert_eq!(rt; said.as_str(), *text);
+    }
+    Ok(())
+}
+
+#[test]
+fn limits_say_their_range(rt: HostRuntime) -> Result<(), Fail> {
+    let table = [
+        (ConfigFault::Batch, "batch is 1 to 256"),
+        (ConfigFault::Window, "window is 1 to 64"),
+        (ConfigFault::Timeout, "timeout is 1 to 1000000000"),
+        (ConfigFault::Capacity, "capacity is 1 to 1048576"),
+        (ConfigFault::Intake, "intake is 1 to 4096"),
+        (ConfigFault::Appliers, "appliers is 1 to 16"),
+    ];
+    says(&rt, rt.alloc(), &table)
+}
+
+#[test]
+fn desks_say_why(rt: HostRuntime) -> Result<(), Fail> {
+    let table = [
+        (DeskRefusal::NoSuch, "there is no such subscription"),
+        (
+            DeskRefusal::StaleLink,
+            "the subscription has another link now",
+        ),
+        (DeskRefusal::Closed, "it is closed"),
+        (DeskRefusal::WindowFull, "the window is full"),
+        (
+            DeskRefusal::Drained { last: 7 },
+            "everything up to the last number, 7, is settled",
+        ),
+        (
+            DeskRefusal::Empty { front: 7 },
+            "nothing is ready; the last number placed is 7",
+        ),
+        (DeskRefusal::NotInFlight, "no such delivery is in flight"),
+        (
+            DeskRefusal::NotAccepted { cursor: 7 },
+            "the delivery is accepted up to 7 only",
+        ),
+        (
+            DeskRefusal::BadCursor {
+                floor: 3,
+                offered: 9,
+            },
+            "the cursor is not between the floor, 3, and what was offered, 9",
+        ),
+        (
+            DeskRefusal::StartAhead { front: 7 },
+            "the last number placed is 7",
+        ),
+        (DeskRefusal::TooMany, "there are 1,024 subscriptions"),
+        (DeskRefusal::SequenceFull, "the sequence is full"),
+    ];
+    says(&rt, rt.alloc(), &table)?;
+    let errors = [
+        (
+            DeskError::Refused(DeskRefusal::NoSuch),
+            "there is no such subscription",
+        ),
+        (DeskError::Memory, "out of memory"),
+    ];
+    says(&rt, rt.alloc(), &errors)
+}
+
+#[test]
+fn endpoints_say_why(rt: HostRuntime) -> Result<(), Fail> {
+    let conflict = Conflict {
+        position: 3,
+        kind: ConflictKind::Data,
+    };
+    let table = [
+        (AcceptRefusal::Closed, "the subscription is closed"),
+        (
+            AcceptRefusal::StaleLink,
+            "the subscription has another link now",
+        ),
+        (AcceptRefusal::Seen, "the delivery is accepted already"),
+        (
+            AcceptRefusal::Gap { expected: 4 },
+            "the next number to accept is 4",
+        ),
+        (
+            AcceptRefusal::Shape { number: 5 },
+            "the changeset 5 is of other tables",
+        ),
+        (
+            AcceptRefusal::Conflict(conflict),
+            "change 3: the row has other values",
+        ),
+    ];
+    says(&rt, rt.alloc(), &table)?;
+    let errors = [
+        (
+            AcceptError::Refused(AcceptRefusal::Seen),
+            "the delivery is accepted already",
+        ),
+        (AcceptError::Memory, "out of memory"),
+    ];
+    says(&rt, rt.alloc(), &errors)
+}
+
+#[test]
+fn brokers_say_why(rt: HostRuntime) -> Result<(), Fail> {
+    let table = [
+        (Refusal::NoPublisher, "there is no such publisher"),
+        (Refusal::NoDelivery, "there is no such delivery"),
+        (Refusal::TooMany, "there are 64 publishers"),
+        (Refusal::Holding, "a changeset is staged already"),
+        (Refusal::NothingStaged, "nothing is staged"),
+        (Refusal::Closed, "the sequence is closed"),
+        (Refusal::Full, "as many changesets wait as may"),
+        (Refusal::UnknownTable(7), "section 7 is of an unknown table"),
+        (
+            Refusal::ShapeDiffers(8),
+            "section 8 has another shape than its table",
+        ),
+        (
+            Refusal::Desk(DeskRefusal::NoSuch),
+            "there is no such subscription",
+        ),
+        (
+            Refusal::Accept(AcceptRefusal::Seen),
+            "the delivery is accepted already",
+        ),
+    ];
+    says(&rt, rt.alloc(), &table)?;
+    says(&rt, rt.alloc(), &[(ScriptFault::Memory, "out of memory")])
+}
