@@ -1,6 +1,6 @@
 #!/bin/sh
 # Checks that memory is given back: by both exports for C at every call, and by the program at its end. It prints the numbers.
-#   sh checks/leaks.sh        needs gcc, and what `rt run` and `rt lib` leave (README.md)
+#   sh checks/leaks.sh        needs gcc, and what `rt run` and `rt lib` leave (docs/C.md and README.md)
 # RT names the prover's command where it isn't `rt`.
 cd "$(dirname "$0")/.." || exit 2
 : "${RT:=rt}"
