@@ -16,7 +16,8 @@ pub struct Case {
 }
 
 impl Case {
-    /// Reads `NAME.script`, `NAME.answers` and, where it is there, `NAME.args`, such as `--batch 1 --window 2`.
+    /// Reads `NAME.script`, `NAME.answers` and, where it is there, `NAME.args`, such as `--batch 1
+    /// --window 2`.
     pub fn read(rt: &HostRuntime, alloc: Global, name: &str) -> io::Result<Case> {
         let script = fs::read(rt, format!(in alloc; "{name}.script")?)?;
         let answers = fs::read(rt, format!(in alloc; "{name}.answers")?)?;
@@ -32,8 +33,8 @@ impl Case {
         })
     }
 
-    /// Runs the script with its changesets cut into pieces of `most` bytes, and compares the answers. How many they are, or
-    /// the first one that isn't as it must be.
+    /// Runs the script with its changesets cut into pieces of `most` bytes, and compares the
+    /// answers. How many they are, or the first one that isn't as it must be.
     pub fn run(&self, alloc: Global, most: usize) -> Result<Result<usize, String>, AllocError> {
         let Some(config) = limits(&self.options) else {
             return Ok(Err(String::from_str(alloc, "no such options")?));

@@ -4,8 +4,8 @@ use crate::pieces::count;
 use rb_script::number;
 use std::alloc::{AllocError, Global};
 
-/// Of the answers to a script in pieces those to the script itself: of all pieces of a changeset the last one's answer, where
-/// the others are `ok` or the same.
+/// Of the answers to a script in pieces those to the script itself: of all pieces of a changeset
+/// the last one's answer, where the others are `ok` or the same.
 pub fn joined<'a>(
     alloc: Global,
     script: &[u8],

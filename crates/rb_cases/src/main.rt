@@ -1,5 +1,6 @@
-//! Runs each case of a folder: a script, the options beside it, and the answers that it must have. A case is files and no code.
-//! Theorem: none. It prints each answer that differs, with its line, and how many answers it compared.
+//! Runs each case of a folder: a script, the options beside it, and the answers that it must have.
+//! A case is files and no code. Theorem: none. It prints each answer that differs, with its line,
+//! and how many answers it compared.
 #![tactic(auto)]
 
 mod case;
@@ -48,8 +49,8 @@ fn names(rt: &HostRuntime, alloc: Global) -> io::Result<Vec<String>> {
     Ok(names)
 }
 
-// Runs a case in such pieces. The number of its answers, or nothing where they aren't those that it must have: what differs
-// is printed then.
+// Runs a case in such pieces. The number of its answers, or nothing where they aren't those that
+// it must have: what differs is printed then.
 fn compared(rt: &HostRuntime, alloc: Global, name: &str, most: usize) -> io::Result<Option<usize>> {
     let case = Case::read(rt, alloc, name)?;
     match case.run(alloc, most)? {

@@ -12,7 +12,8 @@ pub fn lines(alloc: Global, text: &[u8]) -> Result<Vec<&[u8]>, AllocError> {
     text.split(|byte| *byte == b'\n').collect(alloc)
 }
 
-/// The script with a line of `feed` for each `most` bytes of a changeset. A line that isn't fed bytes stays as it is.
+/// The script with a line of `feed` for each `most` bytes of a changeset. A line that isn't fed
+/// bytes stays as it is.
 pub fn cut(alloc: Global, script: &[u8], most: usize) -> Result<Vec<u8>, AllocError> {
     let mut all = Vec::with_capacity(alloc, script.len())?;
     for line in script.split(|byte| *byte == b'\n') {

@@ -1,4 +1,5 @@
-//! Calls of a desk with operands that a broker never gives it: subscriptions, links, deliveries and cursors that aren't there.
+//! Calls of a desk with operands that a broker never gives it: subscriptions, links, deliveries
+//! and cursors that aren't there.
 
 use rb_desk::{Config, Delivery, Desk, DeskError, Refusal, Step};
 use std::alloc::Global;
@@ -87,7 +88,8 @@ fn answer(alloc: Global, desk: &mut Desk, step: Step) -> Result<Said, DeskError>
     })
 }
 
-// Makes each call and compares the answer. Without memory, and where a call is refused, the desk stays.
+// Makes each call and compares the answer. Without memory, and where a call is refused, the desk
+// stays.
 fn plays(
     rt: &impl Abort,
     alloc: Global,

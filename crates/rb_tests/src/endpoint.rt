@@ -10,7 +10,8 @@ use std::alloc::{AllocError, Global};
 use std::sync::Arc;
 use std::test::Fail;
 
-// a direct INSERT of (key, 'x') into the table of this name, of two columns, of which the first is its key
+// a direct INSERT of (key, 'x') into the table of this name, of two columns, of which the first is
+// its key
 fn insert(table: u8, key: u8) -> [u8; 20] {
     [
         0x54, 2, 1, 0, table, 0, 0x12, 0, 1, 0, 0, 0, 0, 0, 0, 0, key, 3, 1, 0x78,

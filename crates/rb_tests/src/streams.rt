@@ -94,7 +94,8 @@ impl<T: Write> Write for Hasty<T> {
     }
 }
 
-// A reader of one line at a time, which gives the next one only when the answers to those before are handed on.
+// A reader of one line at a time, which gives the next one only when the answers to those before
+// are handed on.
 #[derive(Drop)]
 struct Asking<'a> {
     lines: &'a [&'a [u8]],
@@ -163,7 +164,8 @@ impl Write for Broken {
     }
 }
 
-// A reader without an end, of a line with an answer and many without, whose first piece is shorter than the others.
+// A reader without an end, of a line with an answer and many without, whose first piece is shorter
+// than the others.
 #[derive(Drop)]
 struct Turning {
     begun: bool,
@@ -185,8 +187,8 @@ impl Read for Turning {
     }
 }
 
-// The run stopped with this text. Where memory ran out before, for the run or for the list that takes its answers, that is
-// handed up.
+// The run stopped with this text. Where memory ran out before, for the run or for the list that
+// takes its answers, that is handed up.
 fn stopped(
     rt: &impl Abort,
     alloc: Global,
