@@ -9,8 +9,6 @@ pub mod laws;
 mod places;
 mod row;
 mod tables;
-#[cfg(test)]
-mod tests;
 
 pub use conflict::{ApplyError, Conflict, ConflictKind};
 pub use tables::Tables;

@@ -75,12 +75,6 @@ impl Tables {
         self.places.in_order(alloc)
     }
 
-    // How many places there are, the empty ones too.
-    #[cfg(test)]
-    pub(crate) fn places(&self) -> usize {
-        self.places.len()
-    }
-
     /// Applies all changes of a changeset, in order, as `sqlite3changeset_apply` does whose conflict handler answers
     /// `SQLITE_CHANGESET_ABORT`. Changes of a table that isn't in the schema, has another
     /// shape or isn't kept are passed over, and count for the position. An `Err` is the first conflict, or want

@@ -42,6 +42,3 @@ pub use seq::{Octets, Seq};
 pub use shape::Shape;
 pub use value::{Field, Value};
 pub use varint::{varint_of, varint_push, varint_read, varint_strip};
-
-#[cfg(test)]
-mod tests;

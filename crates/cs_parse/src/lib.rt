@@ -28,6 +28,3 @@ pub use end::EndError;
 pub use fault::{FaultKind, ParseError, ParseFault};
 pub use pieces::PieceParser;
 pub use whole::{count_changes, parse};
-
-#[cfg(test)]
-mod tests;

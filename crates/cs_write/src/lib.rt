@@ -12,8 +12,6 @@ mod pieces;
 mod placing;
 mod pushing;
 mod sink;
-#[cfg(test)]
-mod tests;
 mod text;
 
 pub use form::canonical;

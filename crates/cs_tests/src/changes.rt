@@ -1,0 +1,163 @@
+//! Lists of changes, sections and changesets, and the keys of rows.
+
+ghost use Rattle.std.specs.Prelude.{◌≡◌, ◌∷◌, [], IfOk};
+ghost use Rattle.cs_model.specs.PackedChanges.{Long};
+ghost use Rattle.cs_model.specs.Seen.{field_seen};
+
+use crate::fixture::{HEADER, counts, joined, read, same, shape};
+use cs_model::FieldRef::{Null, Text};
+use cs_model::*;
+use std::alloc::{AllocError, Global};
+use std::cmp::Ordering;
+use std::process::Abort;
+use std::test::Fail;
+
+// INSERT of (7, 'w'), UPDATE of it to (7, 'x') by a trigger, and DELETE of (7, 'w'), in the table
+// of HEADER
+const INSERTED: &[u8] = b"\x12\0\x01\0\0\0\0\0\0\0\x07\x03\x01w";
+
+const UPDATED: &[u8] = b"\x17\x01\x01\0\0\0\0\0\0\0\x07\x03\x01w\0\x03\x01x";
+
+const DELETED: &[u8] = b"\x09\0\x01\0\0\0\0\0\0\0\x07\x03\x01w";
+
+// a record of two fields
+fn pair(alloc: Global, first: FieldRef, second: FieldRef) -> Result<Record, AllocError>
+    ensures { IfOk result (λ made. made
+        ≡ field_seen first.entry ∷ (field_seen second.entry ∷ [])) }
+{
+    let mut record = Record::new(alloc);
+    record.push(first)?;
+    record.push(second)?;
+    Ok(record)
+}
+
+// so many INSERTs of (NULL, 'w')
+fn inserts(alloc: Global, count: usize) -> Result<Changes, AllocError>
+    ensures { IfOk result (λ changes. changes.0 ≡ 2) }
+{
+    let new = pair(alloc, Null, Text(b"w"))?;
+    let none = Record::new(alloc);
+    let mut changes = Changes::new(alloc, 2);
+    for _ in 0..count {
+        changes.push(Op::Insert, false, &none, &new)?;
+    }
+    Ok(changes)
+}
+
+// the UPDATE above, in memory of its own
+fn update(alloc: Global) -> Result<Change, AllocError>
+    ensures { IfOk result (λ c. Long 2 c.op c.before c.after) }
+{
+    let key = Field::Is(Value::Integer(7));
+    let old = Field::Is(Value::Text(Seq::from_slice(alloc, b"w")?));
+    let new = Field::Is(Value::Text(Seq::from_slice(alloc, b"x")?));
+    Ok(Change {
+        op: Op::Update,
+        indirect: true,
+        before: Seq::from_vec(vec![in alloc; key, old]?),
+        after: Seq::from_vec(vec![in alloc; Field::Undefined, new]?),
+    })
+}
+
+// an INSERT, the UPDATE above and two INSERTs more
+fn lists(alloc: Global) -> Result<Changes, AllocError> {
+    let mut changes = inserts(alloc, 1)?;
+    let change = update(alloc)?;
+    changes.push_change(alloc, &change)?;
+    let others = inserts(alloc, 2)?;
+    changes.append(&others)?;
+    Ok(changes)
+}
+
+// the changeset of its own sections
+fn again(changeset: Changeset) -> Changeset {
+    Changeset::from_seq(changeset.into_seq())
+}
+
+// A changeset, and its copy after it.
+fn twice(rt: &impl Abort, alloc: Global, mut all: Changeset) -> Result<Changeset, Fail> {
+    let copy = all.copy_in(alloc)?;
+    all.append(alloc, &copy)?;
+    assert_eq!(rt; all.sections().last(), copy.sections().last());
+    counts(rt, all.sections().len(), 2);
+    Ok(all)
+}
+
+// The last section's table and changes.
+fn parts(rt: &impl Abort, alloc: Global, all: Changeset) -> Result<(), Fail> {
+    let section = all.into_seq().into_vec().pop().ok_or("no section")?;
+    let (table, changes) = section.into_parts();
+    let wanted = shape(alloc, b"t", &[1, 0])?;
+    assert!(rt; table.copy_in(alloc)? == wanted);
+    let copy = changes.copy_in(alloc)?;
+    same(rt, copy.bytes(), UPDATED);
+    counts(rt, copy.len(), 1);
+    Ok(())
+}
+
+#[test]
+fn changes(rt: HostRuntime) -> Result<(), Fail> {
+    let alloc = rt.alloc();
+    let insert = b"\x12\0\x05\x03\x01w";
+    let wanted = joined(alloc, &[insert, UPDATED, insert, insert])?;
+    let all = lists(alloc)?;
+    same(&rt, all.bytes(), &wanted);
+    counts(&rt, all.len(), 4);
+    let many = inserts(alloc, 70_000)?;
+    counts(&rt, many.len(), 70_000);
+    counts(&rt, many.bytes().len(), 70_000 * 6);
+    let changeset = again(read(alloc, &[HEADER, UPDATED])?);
+    parts(&rt, alloc, twice(&rt, alloc, changeset)?)
+}
+
+// in ascending order: by the table first, then by the bytes as unsigned ones
+fn ordered(rt: &impl Abort, alloc: Global) -> Result<(), Fail> {
+    let bytes = Seq::from_slice(alloc, b"")?;
+    let mut last = RowKey { table: 0, bytes };
+    for (table, bytes) in [
+        (0, &b"\x7f"[..]),
+        (0, b"\x7f\0"),
+        (0, b"\x80"),
+        (1, b""),
+        (2, b"\x01\x02"),
+        (10, b"\x01"),
+    ] {
+        let bytes = Seq::from_slice(alloc, bytes)?;
+        let key = RowKey { table, bytes };
+        assert!(rt; last.cmp(&key) == Ordering::Less);
+        last = key;
+    }
+    Ok(())
+}
+
+// the key of the first change of a text of one section, and a copy of its old record
+fn has_key(
+    rt: &impl Abort,
+    alloc: Global,
+    text: &[u8],
+    change: &[u8],
+    want: &[u8],
+) -> Result<(), Fail> {
+    let read = read(alloc, &[text, change])?;
+    let section = read.sections().first().ok_or("no section")?;
+    let change = section.changes().iter().next().ok_or("no change")?;
+    let key = RowKey::of(alloc, 3, section.shape(), &change)?;
+    same(rt, &key.bytes, want);
+    let before = Record::copy_of(alloc, &change.before)?;
+    same(rt, before.bytes(), change.before.bytes());
+    Ok(())
+}
+
+#[test]
+fn keys(rt: HostRuntime) -> Result<(), Fail> {
+    let alloc = rt.alloc();
+    for change in [INSERTED, UPDATED, DELETED] {
+        has_key(&rt, alloc, HEADER, change, b"\x01\0\0\0\0\0\0\0\x07")?;
+    }
+    // a DELETE of (-2, NULL, 'x') in a table of which the first and the last column are the key
+    let header = b"T\x03\x02\0\x01u\0";
+    let delete = b"\x09\0\x01\xff\xff\xff\xff\xff\xff\xff\xfe\x05\x03\x01x";
+    let key = b"\x01\xff\xff\xff\xff\xff\xff\xff\xfe\x03\x01x";
+    has_key(&rt, alloc, header, delete, key)?;
+    ordered(&rt, alloc)
+}
