@@ -7,7 +7,7 @@ use Rattle.cs_parse.specs.Answer.{HasChangeset, HasFault}
 use Rattle.cs_parse.specs.Fault.{IsFault}
 use Rattle.cs_write.specs.Text.{text_of}
 use Rattle.cs_parse.specs.Count.{changes_in}
-use Rattle.changeset_c.specs.Kinds.{number_of}
+use Rattle.changeset_c.specs.Kinds.{kind_number}
 use Rattle.changeset_c.specs.Says.{CheckSays, CanonicalSays, IsNumber, IsFaultAt}
 
 abbrev pub EitherOf : List ℕ → Type 0
@@ -34,7 +34,7 @@ pub check_fault : (answer : ℤ) (at kind : ℕ) (text : List ℕ) → EitherOf 
 check_fault (pos n) at kind text either says fault t = absurd (not_both text either says.changeset fault says.spelled t)
 check_fault (negsuc zero) at kind text either says fault t =
     let same = one_fault text either says.fault fault says.is_fault t in
-    (refl, says.is_place ∙ ap (λ f. f.at) same, says.is_kind ∙ ap (λ f. number_of f.kind) same)
+    (refl, says.is_place ∙ ap (λ f. f.at) same, says.is_kind ∙ ap (λ f. kind_number f.kind) same)
 check_fault (negsuc (suc n)) at kind text either says fault t = absurd says
 
 pub canonical_only : (answer : ℤ) (before after text : List ℕ) → EitherOf text → CanonicalSays answer before after text → (changeset : List Section) → Spells text changeset → IsNumber answer (length (text_of changeset))

@@ -4,20 +4,20 @@ use Rattle.cs_parse.specs.declared.fault.FaultKind.{FaultKind}
 use Rattle.cs_parse.specs.declared.fault.FaultKind.TheVariants.{BadMarker, Patchset, Columns, NoKey, EmptyName, NameTooLong, BadOperation, BadType, Real, UndefinedField, KeyMissing, KeyChanged, OneSided, ValueTooLong, TooLong, Truncated}
 
 -- the number of a fault's kind
-abbrev pub number_of : FaultKind → ℕ
-number_of BadMarker = 1
-number_of Patchset = 2
-number_of Columns = 3
-number_of NoKey = 4
-number_of EmptyName = 5
-number_of NameTooLong = 6
-number_of BadOperation = 7
-number_of BadType = 8
-number_of Real = 9
-number_of UndefinedField = 10
-number_of KeyMissing = 11
-number_of KeyChanged = 12
-number_of OneSided = 13
-number_of ValueTooLong = 14
-number_of TooLong = 15
-number_of Truncated = 16
+abbrev pub kind_number : FaultKind → ℕ
+kind_number BadMarker = 1
+kind_number Patchset = 2
+kind_number Columns = 3
+kind_number NoKey = 4
+kind_number EmptyName = 5
+kind_number NameTooLong = 6
+kind_number BadOperation = 7
+kind_number BadType = 8
+kind_number Real = 9
+kind_number UndefinedField = 10
+kind_number KeyMissing = 11
+kind_number KeyChanged = 12
+kind_number OneSided = 13
+kind_number ValueTooLong = 14
+kind_number TooLong = 15
+kind_number Truncated = 16

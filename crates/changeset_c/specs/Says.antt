@@ -6,20 +6,20 @@ use Rattle.cs_parse.specs.declared.fault.ParseFault.{ParseFault}
 use Rattle.cs_parse.specs.Fault.{IsFault}
 use Rattle.cs_write.specs.Text.{text_of}
 use Rattle.cs_parse.specs.Answer.{IsSpelled}
-use Rattle.cs_parse.specs.Count.{HasChanges}
+use Rattle.cs_parse.specs.Count.{HasChangeCount}
 use Rattle.cs_write.specs.Buffer.{given}
-use Rattle.changeset_c.specs.Kinds.{number_of}
+use Rattle.changeset_c.specs.Kinds.{kind_number}
 
 -- the text has a fault, at this place and of the kind with this number
 pub record HasFaultAt (text : List ℕ) (at kind : ℕ) : Type 0 where
   pub fault : ParseFault
   pub is_fault : IsFault text fault
   pub is_place : at ≡ fault.at
-  pub is_kind : kind ≡ number_of fault.kind
+  pub is_kind : kind ≡ kind_number fault.kind
 
 -- what `changeset_check` says of a text, where it tells `at` and `kind` besides
 abbrev pub CheckSays : ℤ → ℕ → ℕ → List ℕ → Type 0
-CheckSays (pos n) at kind text = HasChanges text n
+CheckSays (pos n) at kind text = HasChangeCount text n
 CheckSays (negsuc zero) at kind text = HasFaultAt text at kind
 CheckSays (negsuc (suc n)) at kind text = ⊥
 
@@ -57,4 +57,4 @@ KeptBut (pos n) before after = after ≡ before
 
 -- the refusal of a text with this fault
 abbrev pub IsFaultAt : ℤ → ℕ → ℕ → ParseFault → Type 0
-IsFaultAt answer at kind fault = (answer ≡ negsuc 0) × (at ≡ fault.at) × (kind ≡ number_of fault.kind)
+IsFaultAt answer at kind fault = (answer ≡ negsuc 0) × (at ≡ fault.at) × (kind ≡ kind_number fault.kind)

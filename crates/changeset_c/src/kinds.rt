@@ -1,13 +1,13 @@
 //! Kinds of faults as C gets them.
 
 ghost use Rattle.std.specs.Prelude.{◌≡◌};
-ghost use Rattle.changeset_c.specs.Kinds.{number_of};
+ghost use Rattle.changeset_c.specs.Kinds.{kind_number};
 
 use cs_parse::FaultKind;
 
 /// The number of a fault's kind, 1 to 16.
 pub fn kind_number(kind: FaultKind) -> u32
-    ensures { result ≡ number_of kind }
+    ensures { result ≡ kind_number kind }
 {
     match kind {
         FaultKind::BadMarker => 1,

@@ -135,11 +135,11 @@ front_agrees (field ∷ fields) (value ∷ row) more h =
     and_from (agrees field value) (all_agree fields row) (ap (λ (f : Field). agrees f value) first ∙ itself value) (front_agrees fields row more others)
 
 -- and the other way round, where each field says something
-record FrontOf (fields : List Field) (row : List Value) : Type 0 where
+record ColumnsFrontOf (fields : List Field) (row : List Value) : Type 0 where
   pub more : List Value
   pub parts : row_fields row ≡ fields ++ row_fields more
 
-agrees_front : (fields : List Field) (row : List Value) → list_all is_defined fields ≡ true → all_agree fields row ≡ true → FrontOf fields row
+agrees_front : (fields : List Field) (row : List Value) → list_all is_defined fields ≡ true → all_agree fields row ≡ true → ColumnsFrontOf fields row
 agrees_front [] row given h = record { more = row; parts = refl }
 agrees_front (field ∷ fields) [] given h = absurd (false≢true h)
 agrees_front (Undefined ∷ fields) (value ∷ row) given h = absurd (false≢true given)

@@ -16,7 +16,7 @@ use Rattle.cs_model.specs.declared.value.Value.{Value}
 use Rattle.cs_apply.specs.declared.conflict.ConflictKind.TheVariants.{Conflict}
 use Rattle.cs_apply.specs.State.{Rows}
 use Rattle.cs_apply.specs.Effect.{inserted}
-use Rattle.cs_apply.specs.Steps.{Entries, Filled, filled, rows_of, put}
+use Rattle.cs_apply.specs.Steps.{Entries, FilledPlaces, filled, rows_of, put}
 use Rattle.cs_apply.proofs.Keys.{same_key, laws, exact, tied, exact_keys, keys_total, find_key, get_key}
 
 -- the row of a place that was looked up
@@ -100,12 +100,12 @@ no_place es q distinct none = get_row es q distinct ∙ by (lookup (same_key q) 
 pub filled-append : (es fs : Entries) → filled (es ++ fs) ≡ filled es ++ filled fs
 filled-append [] fs = refl
 filled-append ((k, None) ∷ es) fs = filled-append es fs
-filled-append ((k, Some row) ∷ es) fs = ap (λ (l : Filled). (k, row) ∷ l) (filled-append es fs)
+filled-append ((k, Some row) ∷ es) fs = ap (λ (l : FilledPlaces). (k, row) ∷ l) (filled-append es fs)
 
 pub filled-swept : (es : Entries) → filled (filter (λ e. is_some e.1) es) ≡ filled es
 filled-swept [] = refl
 filled-swept ((k, None) ∷ es) = filled-swept es
-filled-swept ((k, Some row) ∷ es) = ap (λ (l : Filled). (k, row) ∷ l) (filled-swept es)
+filled-swept ((k, Some row) ∷ es) = ap (λ (l : FilledPlaces). (k, row) ∷ l) (filled-swept es)
 
 -- the keys of the rows differ, as those of the places do
 filled_apart : (k : RowKey) (es : Entries) → AllByRecursion (λ y. same_key k y ≡ false) (keys_of es) → AllByRecursion (λ y. same_key k y ≡ false) (keys_of (filled es))
@@ -151,7 +151,7 @@ module _ {X Y : Type 0} (show : X → RowKey × List Value) (place : Y → RowKe
   pub filled_more : (rows pushed : List X) (places : List Y) (x : X) (y : Y) → list_map show rows ≡ filled (list_map place places) → pushed ≡ rows ++ x ∷ []
       → place y ≡ ((show x).0, Some (show x).1) → list_map show pushed ≡ filled (list_map place (places ++ y ∷ []))
   filled_more rows pushed places x y so_far is at =
-      ap (list_map show) is ∙ map-append show rows (x ∷ []) ∙ ap (λ (l : Filled). l ++ show x ∷ []) so_far
+      ap (list_map show) is ∙ map-append show rows (x ∷ []) ∙ ap (λ (l : FilledPlaces). l ++ show x ∷ []) so_far
       ∙ sym (filled-append (list_map place places) (((show x).0, Some (show x).1) ∷ []))
       ∙ ap (λ (e : RowKey × Option (List Value)). filled (list_map place places ++ e ∷ [])) (sym at) ∙ ap filled (sym (map-append place places (y ∷ [])))
 

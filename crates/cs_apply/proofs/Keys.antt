@@ -26,17 +26,17 @@ exact_keys a b h = ap (λ (p : ℕ × List ℕ). record { table = p.0; bytes = p
 pub keys_total : IsTotalOrder row_key_cmp
 keys_total = then_total (on_total (λ k. k.table) nat_cmp_total) (on_total (λ k. k.bytes) nat_list_cmp_total)
 
-joined : (r s : Ordering) → is_eq (ordering_then r s) ≡ (is_eq r && is_eq s)
-joined Less s = refl
-joined Equal s = refl
-joined Greater s = refl
+keys_joined : (r s : Ordering) → is_eq (ordering_then r s) ≡ (is_eq r && is_eq s)
+keys_joined Less s = refl
+keys_joined Equal s = refl
+keys_joined Greater s = refl
 
 numbers_tied : (x y : ℕ) → is_eq (nat_cmp x y) ≡ nat_eq x y
 numbers_tied x y = grind (arith, nat_tests)
 
 -- the order and `==` tell keys apart alike
 pub tied : (a b : RowKey) → eq_by_cmp row_key_cmp a b ≡ same_key a b
-tied a b = joined (nat_cmp a.table b.table) (slice_cmp nat_cmp a.bytes b.bytes) ∙ (λ i. numbers_tied a.table b.table i && is_eq-slice_cmp a.bytes b.bytes i)
+tied a b = keys_joined (nat_cmp a.table b.table) (slice_cmp nat_cmp a.bytes b.bytes) ∙ (λ i. numbers_tied a.table b.table i && is_eq-slice_cmp a.bytes b.bytes i)
 
 pub find_key : {X : Type 0} (es : List (RowKey × X)) (q : RowKey) → find row_key_cmp q es ≡ lookup (same_key q) es
 find_key [] q = refl

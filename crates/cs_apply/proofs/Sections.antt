@@ -12,13 +12,13 @@ use Rattle.cs_apply.specs.declared.change_error.ChangeError.{ChangeError}
 use Rattle.cs_apply.specs.declared.change_error.ChangeError.TheVariants.{Conflict, Memory}
 use Rattle.cs_apply.specs.State.{Rows, compatible}
 use Rattle.cs_apply.specs.Effect.{effect}
-use Rattle.cs_apply.specs.Single.{goes_on, effect_at, changes_of, single_from}
-use Rattle.cs_apply.specs.Errors.{TellsConflict, TellsKind, placed}
+use Rattle.cs_apply.specs.Single.{next_or_conflict, effect_at, changes_of, single_from}
+use Rattle.cs_apply.specs.Errors.{ReportsConflict, ReportsKind, conflict_at}
 use Rattle.cs_apply.specs.Steps.{carry, section_from}
 
 -- one change more of a section
 pub next_change : (table : ℕ) (flags : List ℕ) (change : Change) (rest changes : List Change) (at : ℕ) (rows : Rows) → changes ≡ change ∷ rest
-    → section_from table flags changes at rows ≡ goes_on (λ next after. section_from table flags rest next after) at (effect table flags rows change)
+    → section_from table flags changes at rows ≡ next_or_conflict (λ next after. section_from table flags rest next after) at (effect table flags rows change)
 unfolding section_from
 next_change table flags change rest changes at rows is = rw is refl
 
@@ -27,14 +27,14 @@ pub change_done : (table : ℕ) (flags : List ℕ) (change : Change) (rest chang
     → next ≡ suc at → effect table flags old change ≡ Ok new → section_from table flags changes at old ≡ all → section_from table flags rest next new ≡ all
 change_done table flags change rest changes at next old new all is after ok so_far =
     ap (λ (n : ℕ). section_from table flags rest n new) after
-    ∙ sym (next_change table flags change rest changes at old is ∙ ap (goes_on (λ n rows. section_from table flags rest n rows) at) ok) ∙ so_far
+    ∙ sym (next_change table flags change rest changes at old is ∙ ap (next_or_conflict (λ n rows. section_from table flags rest n rows) at) ok) ∙ so_far
 
 -- a change that stops stops the section
 pub change_stops : (table : ℕ) (flags : List ℕ) (change : Change) (rest changes : List Change) (at : ℕ) (old : Rows) (all : Result Rows Conflicts) (e : ChangeError) → changes ≡ change ∷ rest
-    → TellsKind e (effect table flags old change) → section_from table flags changes at old ≡ all → TellsConflict (placed at e) all
+    → ReportsKind e (effect table flags old change) → section_from table flags changes at old ≡ all → ReportsConflict (conflict_at at e) all
 change_stops table flags change rest changes at old all Memory is stops so_far = tt
 change_stops table flags change rest changes at old all (Conflict kind) is stops so_far =
-    sym so_far ∙ next_change table flags change rest changes at old is ∙ ap (goes_on (λ next after. section_from table flags rest next after) at) stops
+    sym so_far ∙ next_change table flags change rest changes at old is ∙ ap (next_or_conflict (λ next after. section_from table flags rest next after) at) stops
 
 -- no change more
 pub changes_done : (table : ℕ) (flags : List ℕ) (changes : List Change) (at : ℕ) (rows : Rows) (all : Result Rows Conflicts) → changes ≡ []
@@ -45,7 +45,7 @@ changes_done table flags changes at rows all none so_far = sym so_far ∙ ap (λ
 module _ (schema : List Shape) (kept : List Bool) where
   -- an answer, and what comes after it
   goes : (rest : ℕ → Rows → Result Rows Conflicts) (more : ℕ → Rows → Result Rows Conflicts) (last : Rows → Result Rows Conflicts) (at : ℕ) (r : Result Rows ConflictKind)
-      → ((rows : Rows) → rest (suc at) rows ≡ carry last (more (suc at) rows)) → goes_on rest at r ≡ carry last (goes_on more at r)
+      → ((rows : Rows) → rest (suc at) rows ≡ carry last (more (suc at) rows)) → next_or_conflict rest at r ≡ carry last (next_or_conflict more at r)
   goes rest more last at (Ok rows) h = h rows
   goes rest more last at (Err kind) h = refl
 
@@ -56,7 +56,7 @@ module _ (schema : List Shape) (kept : List Bool) where
   unfolding single_from section_from
   kept_section table shape here [] rest at end rows is = ap (λ (n : ℕ). single_from schema kept rest n rows) (omega arith)
   kept_section table shape here (change ∷ changes) rest at end rows is =
-      ap (λ (t : Option ℕ). goes_on (λ next after. single_from schema kept (map (λ c. (shape, c)) changes ++ rest) next after) at (effect_at t rows shape change)) here
+      ap (λ (t : Option ℕ). next_or_conflict (λ next after. single_from schema kept (map (λ c. (shape, c)) changes ++ rest) next after) at (effect_at t rows shape change)) here
       ∙ goes (λ next after. single_from schema kept (map (λ c. (shape, c)) changes ++ rest) next after) (λ next after. section_from table shape.flags changes next after) (λ after. single_from schema kept rest end after) at (effect table shape.flags rows change)
       (λ after. kept_section table shape here changes rest (suc at) end after (omega arith))
 
@@ -66,7 +66,7 @@ module _ (schema : List Shape) (kept : List Bool) where
   unfolding single_from
   other_section shape none [] rest at end rows is = ap (λ (n : ℕ). single_from schema kept rest n rows) (omega arith)
   other_section shape none (change ∷ changes) rest at end rows is =
-      ap (λ (t : Option ℕ). goes_on (λ next after. single_from schema kept (map (λ c. (shape, c)) changes ++ rest) next after) at (effect_at t rows shape change)) none
+      ap (λ (t : Option ℕ). next_or_conflict (λ next after. single_from schema kept (map (λ c. (shape, c)) changes ++ rest) next after) at (effect_at t rows shape change)) none
       ∙ other_section shape none changes rest (suc at) end rows (omega arith)
 
   -- one section more
@@ -88,8 +88,8 @@ module _ (schema : List Shape) (kept : List Bool) where
 
   -- a section that stops stops the changeset
   pub section_stops : (sections : List Section) (k table : ℕ) (section : Section) (at end : ℕ) (old : Rows) (all : Result Rows Conflicts) (e : ApplyError) → k < length sections → section ≡ get_or sections k section
-      → compatible schema kept section.shape ≡ Some table → end ≡ at + length section.changes → TellsConflict e (section_from table section.shape.flags section.changes at old)
-      → single_from schema kept (changes_of (drop k sections)) at old ≡ all → TellsConflict e all
+      → compatible schema kept section.shape ≡ Some table → end ≡ at + length section.changes → ReportsConflict e (section_from table section.shape.flags section.changes at old)
+      → single_from schema kept (changes_of (drop k sections)) at old ≡ all → ReportsConflict e all
   section_stops sections k table section at end old all error.Memory lt is here counted stops so_far = tt
   section_stops sections k table section at end old all (error.Conflict conflict) lt is here counted stops so_far =
       let rest = changes_of (drop (k + 1) sections) in

@@ -9,16 +9,16 @@ use Rattle.cs_apply.specs.declared.change_error.ChangeError.TheVariants as chang
 use Rattle.cs_apply.specs.State.{Rows}
 
 -- an error of `apply` tells the first conflict, or that memory ran out
-abbrev pub TellsConflict : {A : Type 0} → ApplyError → Result A Conflict → Type 0
-TellsConflict (apply.Conflict conflict) answer = answer ≡ Err conflict
-TellsConflict apply.Memory answer = Unit {0}
+abbrev pub ReportsConflict : {A : Type 0} → ApplyError → Result A Conflict → Type 0
+ReportsConflict (apply.Conflict conflict) answer = answer ≡ Err conflict
+ReportsConflict apply.Memory answer = Unit {0}
 
 -- an error of one change tells the kind of its conflict, or that memory ran out
-abbrev pub TellsKind : ChangeError → Result Rows ConflictKind → Type 0
-TellsKind (change.Conflict kind) answer = answer ≡ Err kind
-TellsKind change.Memory answer = Unit {0}
+abbrev pub ReportsKind : ChangeError → Result Rows ConflictKind → Type 0
+ReportsKind (change.Conflict kind) answer = answer ≡ Err kind
+ReportsKind change.Memory answer = Unit {0}
 
 -- an error of the change at this place, as one of `apply`
-abbrev pub placed : ℕ → ChangeError → ApplyError
-placed position (change.Conflict kind) = apply.Conflict (record { position = position; kind = kind })
-placed position change.Memory = apply.Memory
+abbrev pub conflict_at : ℕ → ChangeError → ApplyError
+conflict_at position (change.Conflict kind) = apply.Conflict (record { position = position; kind = kind })
+conflict_at position change.Memory = apply.Memory

@@ -14,7 +14,7 @@ abbrev pub Rows : Type 0
 Rows = map.FinMap row_key_cmp (List Value)
 
 -- Tables: the schema, which of its tables are kept, one truth value for each, and the rows.
-pub record State : Type 0 where
+pub record TableState : Type 0 where
   pub schema : List Shape
   pub kept : List Bool
   pub rows : Rows
@@ -32,7 +32,7 @@ abbrev pub compatible : List Shape → List Bool → Shape → Option ℕ
 compatible schema kept shape = only_kept kept (table_index schema shape)
 
 -- tables are stored as their three parts
-abbrev pub state_code : Coded State
+abbrev pub state_code : Coded TableState
 state_code =
     code_by (List Shape × (List Bool × Rows))
     (coded× (coded_list shape.the_row.coded) (coded× (coded_list coded_bool) (map.code row_key_code (coded_list value.the_row.coded))))

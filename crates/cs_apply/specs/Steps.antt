@@ -11,21 +11,21 @@ use Rattle.cs_apply.specs.declared.places.Step.{Step}
 use Rattle.cs_apply.specs.declared.places.Places.{Places}
 use Rattle.cs_apply.specs.State.{Rows}
 use Rattle.cs_apply.specs.Effect.{effect, same_value}
-use Rattle.cs_apply.specs.Single.{goes_on}
+use Rattle.cs_apply.specs.Single.{next_or_conflict}
 
 -- places as they are kept: keys, and the row of each or none
 abbrev pub Entries : Type 0
 Entries = List (RowKey × Option (List Value))
 
 -- the places that have a row
-abbrev pub Filled : Type 0
-Filled = List (RowKey × List Value)
+abbrev pub FilledPlaces : Type 0
+FilledPlaces = List (RowKey × List Value)
 
-abbrev pub filled_with : RowKey → Option (List Value) → Filled → Filled
+abbrev pub filled_with : RowKey → Option (List Value) → FilledPlaces → FilledPlaces
 filled_with key None rows = rows
 filled_with key (Some row) rows = (key, row) ∷ rows
 
-abbrev pub filled : Entries → Filled
+abbrev pub filled : Entries → FilledPlaces
 filled [] = []
 filled (e ∷ es) = filled_with e.0 e.1 (filled es)
 
@@ -88,7 +88,7 @@ pub record Back (old new : Places) : Type 0 where
 unfoldable pub section_from : ℕ → List ℕ → List Change → ℕ → Rows → Result Rows Conflicts
 section_from table flags [] at rows = Ok rows
 section_from table flags (change ∷ changes) at rows =
-    goes_on (λ next after. section_from table flags changes next after) at (effect table flags rows change)
+    next_or_conflict (λ next after. section_from table flags changes next after) at (effect table flags rows change)
 
 -- what follows a section's changes, where none of them conflicts
 abbrev pub carry : (Rows → Result Rows Conflicts) → Result Rows Conflicts → Result Rows Conflicts

@@ -32,11 +32,11 @@ impl<T: Drop> From<AllocFailed<T>> for ChangeError {
 }
 
 impl ChangeError {
-    ghost use Rattle.cs_apply.specs.Errors.{placed};
+    ghost use Rattle.cs_apply.specs.Errors.{conflict_at};
 
     /// The same, of the change at this place.
     pub(crate) fn at(self, position: usize) -> ApplyError
-        ensures { result ≡ placed position self }
+        ensures { result ≡ conflict_at position self }
     {
         match self {
             ChangeError::Conflict(kind) => ApplyError::Conflict(Conflict { position, kind }),

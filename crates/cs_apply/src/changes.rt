@@ -9,7 +9,7 @@ ghost use Rattle.cs_model.specs.Row.{values_of};
 ghost use Rattle.cs_model.specs.Rule.{is_defined};
 ghost use Rattle.cs_model.specs.Seen.{change_seen};
 ghost use Rattle.cs_apply.specs.Effect.{inserted, deleted, changed, effect};
-ghost use Rattle.cs_apply.specs.Errors.{TellsConflict, TellsKind};
+ghost use Rattle.cs_apply.specs.Errors.{ReportsConflict, ReportsKind};
 ghost use Rattle.cs_apply.specs.Single.{changes_of, single_from};
 ghost use Rattle.cs_apply.specs.State.{compatible};
 ghost use Rattle.cs_apply.specs.Steps.{rows_in, section_from, Back};
@@ -33,7 +33,7 @@ fn insert(
     ensures ok { OnOk result (inserted (rows_in places.old) key (values_of after.now)
         (map.get (rows_in places.old) key) ≡ Ok (rows_in places.new)) }
     ensures back { Back places.old places.new }
-    ensures refused { IfErr result (λ e. TellsKind e
+    ensures refused { IfErr result (λ e. ReportsKind e
         (inserted (rows_in places.old) key (values_of after.now)
         (map.get (rows_in places.old) key))) }
 {
@@ -47,7 +47,7 @@ fn delete(places: &mut Places, key: &RowKey, before: &RecordRef) -> Result<(), C
     ensures ok { OnOk result (deleted (rows_in places.old) key.now before.now
         (map.get (rows_in places.old) key.now) ≡ Ok (rows_in places.new)) }
     ensures back { Back places.old places.new }
-    ensures refused { IfErr result (λ e. TellsKind e
+    ensures refused { IfErr result (λ e. ReportsKind e
         (deleted (rows_in places.old) key.now before.now (map.get (rows_in places.old) key.now))) }
 {
     let Some((place, row)) = places.find(key) else {
@@ -71,7 +71,7 @@ fn update(
     ensures ok { OnOk result (changed (rows_in places.old) key.now flags.now before.now after.now
         (map.get (rows_in places.old) key.now) ≡ Ok (rows_in places.new)) }
     ensures back { Back places.old places.new }
-    ensures refused { IfErr result (λ e. TellsKind e
+    ensures refused { IfErr result (λ e. ReportsKind e
         (changed (rows_in places.old) key.now flags.now before.now after.now
         (map.get (rows_in places.old) key.now))) }
 {
@@ -97,7 +97,7 @@ fn change_row(
     ensures ok { OnOk result (effect table shape.now.flags (rows_in places.old)
         (change_seen change.now) ≡ Ok (rows_in places.new)) }
     ensures back { Back places.old places.new }
-    ensures refused { IfErr result (λ e. TellsKind e
+    ensures refused { IfErr result (λ e. ReportsKind e
         (effect table shape.now.flags (rows_in places.old) (change_seen change.now))) }
 {
     let key = RowKey::of(alloc, table, shape, change)?;
@@ -129,7 +129,7 @@ fn change_section(
     ensures ok { OnOk result (section_from table section.now.shape.flags section.now.changes start
         (rows_in places.old) ≡ Ok (rows_in places.new)) }
     ensures back { Back places.old places.new }
-    ensures refused { IfErr result (λ e. TellsConflict e
+    ensures refused { IfErr result (λ e. ReportsConflict e
         (section_from table section.now.shape.flags section.now.changes start
         (rows_in places.old))) }
 {
@@ -169,7 +169,7 @@ pub(crate) fn change_all(
     ensures ok { OnOk result (single_from schema.now kept.now (changes_of sections.now) 0
         (rows_in places.old) ≡ Ok (rows_in places.new)) }
     ensures back { Back places.old places.new }
-    ensures refused { IfErr result (λ e. TellsConflict e
+    ensures refused { IfErr result (λ e. ReportsConflict e
         (single_from schema.now kept.now (changes_of sections.now) 0 (rows_in places.old))) }
 {
     let mut start: usize = 0;

@@ -9,7 +9,7 @@ ghost use Rattle.std.specs.FinMap as map;
 ghost use Rattle.cs_model.specs.declared.value.Value.{Value};
 ghost use Rattle.cs_model.specs.declared.row_key.RowKey.{RowKey};
 ghost use Rattle.cs_apply.specs.Effect.{inserted};
-ghost use Rattle.cs_apply.specs.Errors.{TellsKind};
+ghost use Rattle.cs_apply.specs.Errors.{ReportsKind};
 ghost use Rattle.cs_apply.specs.Seen.{listed};
 ghost use Rattle.cs_apply.specs.Steps.{filled, rows_in, put, set_at, undone, Back};
 
@@ -114,7 +114,7 @@ impl Places {
         ensures ok { OnOk result (inserted (rows_in self.old) key row
             (map.get (rows_in self.old) key) ≡ Ok (rows_in self.new)) }
         ensures back { Back self.old self.new }
-        ensures refused { IfErr result (λ e. TellsKind e
+        ensures refused { IfErr result (λ e. ReportsKind e
             (inserted (rows_in self.old) key row (map.get (rows_in self.old) key))) }
     {
         let place = match self.rows.entry(key)? {

@@ -6,7 +6,7 @@ ghost use Rattle.std.specs.Arc.{arc_value};
 ghost use Rattle.std.specs.FinMap as map;
 ghost use Rattle.cs_apply.specs.Seen.{listed};
 ghost use Rattle.cs_apply.specs.Single.{single};
-ghost use Rattle.cs_apply.specs.Errors.{TellsConflict};
+ghost use Rattle.cs_apply.specs.Errors.{ReportsConflict};
 
 use crate::changes::change_all;
 use crate::conflict::ApplyError;
@@ -27,10 +27,10 @@ pub struct Tables {
 impl Model for Tables {
     ghost use Rattle.std.specs.Prelude.{◌≡◌, [], length};
     ghost use Rattle.std.specs.Arc.{arc_value};
-    ghost use Rattle.cs_apply.specs.State.{State, state_code};
+    ghost use Rattle.cs_apply.specs.State.{TableState, state_code};
     ghost use Rattle.cs_apply.specs.Steps.{rows_of};
 
-    ghost Value = { State };
+    ghost Value = { TableState };
 
     ghost coded = { state_code };
 
@@ -81,7 +81,7 @@ impl Tables {
     /// of memory, and leaves the tables as they were.
     pub fn apply(&mut self, alloc: Global, changeset: &Changeset) -> Result<(), ApplyError>
         ensures ok { OnOk result (single self.old changeset.now ≡ Ok self.new) }
-        ensures refused { IfErr result (λ e. TellsConflict e (single self.old changeset.now)) }
+        ensures refused { IfErr result (λ e. ReportsConflict e (single self.old changeset.now)) }
         ensures err { OnErr result (self.new ≡ self.old) }
     {
         let places = self.places.len();

@@ -16,7 +16,7 @@ use Rattle.cs_model.specs.Packed.{packed}
 use Rattle.cs_model.specs.PackedChanges.{mark, change_bytes, changes_bytes, change_of, PacksAll, unpacked_changes}
 use Rattle.cs_model.specs.Varint.{varint}
 use Rattle.cs_model.proofs.VarintLemmas.{varint_one}
-use Rattle.cs_model.proofs.PackedLaws.{is_length, fit_push, packed_push}
+use Rattle.cs_model.proofs.PackedLaws.{packed_is_length, fit_push, packed_push}
 use Rattle.cs_model.proofs.PackedChangeLaws.{made}
 use Rattle.cs_model.proofs.CallerLemmas.{all_push}
 use Rattle.cs_model.proofs.CountLaws.{two_bytes_each}
@@ -29,7 +29,7 @@ counted_from bytes behind rest n fits whole h =
     let parts : behind ≡ value ++ rest = sym (take-append-drop n behind) ∙ ap (λ (w : List ℕ). value ++ w) (sym h.1) in
     record {
       value = value;
-      fits = is_length (length value) (omega (arith, h.0));
+      fits = packed_is_length (length value) (omega (arith, h.0));
       parts = whole ∙ (ap (λ (w : List ℕ). varint n ++ w) parts ∙ (sym (append_assoc (varint n) value rest) ∙ ap (λ (k : ℕ). (varint k ++ value) ++ rest) (sym h.0)));
     }
 
@@ -72,8 +72,8 @@ starts_integer bytes rest after kind whole is long are e =
       parts = whole ∙ (ap (λ (k : ℕ). k ∷ rest) is ∙ ap (λ (w : List ℕ). 1 ∷ w) (parts ∙ ap (λ (w : List ℕ). w ++ after) (sym back)));
     }
 
-pub starts_counted : (bytes rest after : List ℕ) (kind : ℕ) → bytes ≡ kind ∷ rest → 3 ≤ kind → kind < 5 → StartsCounted rest after → StartsField bytes after
-starts_counted bytes rest after kind whole low high s = elim (order kind 4) as (λ w. StartsField bytes after) [
+pub canonical_starts_counted : (bytes rest after : List ℕ) (kind : ℕ) → bytes ≡ kind ∷ rest → 3 ≤ kind → kind < 5 → StartsCounted rest after → StartsField bytes after
+canonical_starts_counted bytes rest after kind whole low high s = elim (order kind 4) as (λ w. StartsField bytes after) [
   | inl text ↦
       let is : kind ≡ 3 = omega arith in
       record { field = Is (Text s.value); fits = s.fits; parts = whole ∙ (ap (λ (k : ℕ). k ∷ rest) is ∙ ap (λ (w : List ℕ). 3 ∷ w) s.parts) }
@@ -99,25 +99,25 @@ starts_more n bytes rest after s f =
 
 -- ---- a change
 
-record Marked (m : ℕ) : Type 0 where
+record CanonicalMarked (m : ℕ) : Type 0 where
   indirect : Bool
   is : m ≡ mark indirect
 
-marked : (m : ℕ) → m ≤ 1 → Marked m
-marked zero few = record { indirect = false; is = refl }
-marked (suc m) few = record { indirect = true; is = omega arith }
+marked_canonical : (m : ℕ) → m ≤ 1 → CanonicalMarked m
+marked_canonical zero few = record { indirect = false; is = refl }
+marked_canonical (suc m) few = record { indirect = true; is = omega arith }
 
 -- an INSERT or a DELETE
 pub starts_single : (n : ℕ) (bytes behind fields rest : List ℕ) (op m : ℕ) → bytes ≡ op ∷ behind → behind ≡ m ∷ fields → m ≤ 1 → (op ≡ 9) ⊎ (op ≡ 18) → StartsRecord n fields rest → StartsChange n bytes rest
 starts_single n bytes behind fields rest op m whole next few (inr is) r =
-    let k = marked m few in
+    let k = marked_canonical m few in
     record {
       change = change_of Insert k.indirect [] r.fields;
       fit = record { long = (refl, r.long); before = tt; after = r.fit };
       parts = whole ∙ (ap (λ (b : ℕ). b ∷ behind) is ∙ ap (λ (w : List ℕ). 18 ∷ w) (next ∙ (ap (λ (b : ℕ). b ∷ fields) k.is ∙ ap (λ (w : List ℕ). mark k.indirect ∷ w) r.parts)));
     }
 starts_single n bytes behind fields rest op m whole next few (inl is) r =
-    let k = marked m few in
+    let k = marked_canonical m few in
     let parts : fields ≡ (packed r.fields ++ []) ++ rest = r.parts ∙ ap (λ (w : List ℕ). w ++ rest) (sym (append-nil (packed r.fields))) in
     record {
       change = change_of Delete k.indirect r.fields [];
@@ -128,7 +128,7 @@ starts_single n bytes behind fields rest op m whole next few (inl is) r =
 -- an UPDATE
 pub starts_both : (n : ℕ) (bytes behind fields new rest : List ℕ) (op m : ℕ) → bytes ≡ op ∷ behind → behind ≡ m ∷ fields → m ≤ 1 → op ≡ 23 → StartsRecord n fields new → StartsRecord n new rest → StartsChange n bytes rest
 starts_both n bytes behind fields new rest op m whole next few is r s =
-    let k = marked m few in
+    let k = marked_canonical m few in
     let parts : fields ≡ (packed r.fields ++ packed s.fields) ++ rest = r.parts ∙ (ap (λ (w : List ℕ). packed r.fields ++ w) s.parts ∙ sym (append_assoc (packed r.fields) (packed s.fields) rest)) in
     record {
       change = change_of Update k.indirect r.fields s.fields;

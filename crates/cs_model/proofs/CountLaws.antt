@@ -36,14 +36,14 @@ appended n count more old new cs fit packs counted others added =
 
 -- ---- the same of lists as contracts see them
 
-abbrev seen : ℕ → List ℕ → ℕ × List Change
-seen n bytes = (n, unpacked_changes n bytes)
+abbrev count_seen : ℕ → List ℕ → ℕ × List Change
+count_seen n bytes = (n, unpacked_changes n bytes)
 
 -- a list's bytes and their number
 abbrev Holds : ℕ → ℕ → List ℕ → Type 0
 Holds n count bytes = PacksAll n bytes (unpacked_changes n bytes) × (count ≡ length (unpacked_changes n bytes))
 
-pub list_appended : (n count m more : ℕ) (old new bytes : List ℕ) (mine theirs : ℕ × List Change) → Holds n count old → seen n old ≡ mine → Holds m more bytes → seen m bytes ≡ theirs → theirs.0 ≡ mine.0 → new ≡ old ++ bytes
+pub list_appended : (n count m more : ℕ) (old new bytes : List ℕ) (mine theirs : ℕ × List Change) → Holds n count old → count_seen n old ≡ mine → Holds m more bytes → count_seen m bytes ≡ theirs → theirs.0 ≡ mine.0 → new ≡ old ++ bytes
     → Appended n (count + more) old new theirs.1
 list_appended n count m more old new bytes mine theirs h is g are columns added =
     let same = columns ∙ sym (ap (λ (v : ℕ × List Change). v.0) is) in
@@ -52,14 +52,14 @@ list_appended n count m more old new bytes mine theirs h is g are columns added 
     let parts = g.0.parts ∙ ap (λ (v : ℕ × List Change). changes_bytes v.1) are in
     appended n count more old new theirs.1 fit h.0 h.1 counted (added ∙ ap (λ (w : List ℕ). old ++ w) parts)
 
-pub list_extended : (n count more : ℕ) (old new : List ℕ) (mine : ℕ × List Change) (cs : ℕ → List Change) → Holds n count old → seen n old ≡ mine → AllByRecursion (Fit mine.0) (cs mine.0) → more ≡ length (cs n) → new ≡ old ++ changes_bytes (cs n)
+pub list_extended : (n count more : ℕ) (old new : List ℕ) (mine : ℕ × List Change) (cs : ℕ → List Change) → Holds n count old → count_seen n old ≡ mine → AllByRecursion (Fit mine.0) (cs mine.0) → more ≡ length (cs n) → new ≡ old ++ changes_bytes (cs n)
     → Appended n (count + more) old new (cs mine.0)
 list_extended n count more old new mine cs h is fit counted added =
     let same = ap (λ (v : ℕ × List Change). v.0) is in
     let own = subst (λ (k : ℕ). AllByRecursion (Fit k) (cs k)) (sym same) fit in
     subst (λ (k : ℕ). Appended n (count + more) old new (cs k)) same (appended n count more old new (cs n) own h.0 h.1 counted added)
 
-pub list_pushed : (n count : ℕ) (old new : List ℕ) (mine : ℕ × List Change) (op : Op) (indirect : Bool) (before after : List Field) → Holds n count old → seen n old ≡ mine → Long mine.0 op before after → AllByRecursion Fits before → AllByRecursion Fits after
+pub list_pushed : (n count : ℕ) (old new : List ℕ) (mine : ℕ × List Change) (op : Op) (indirect : Bool) (before after : List Field) → Holds n count old → count_seen n old ≡ mine → Long mine.0 op before after → AllByRecursion Fits before → AllByRecursion Fits after
     → new ≡ old ++ change_bytes (change_of op indirect before after) → Appended n (count + 1) old new (change_of op indirect before after ∷ [])
 list_pushed n count old new mine op indirect before after h is long p q added =
     let fit : Fit n (change_of op indirect before after) = record { long = subst (λ (v : ℕ × List Change). Long v.0 op before after) (sym is) long; before = p; after = q } in

@@ -14,33 +14,33 @@ use Rattle.cs_model.proofs.VarintLemmas.{found_of, only_of}
 use Rattle.cs_model.proofs.PackedLaws.{unpacked_none, unpacked_first}
 
 -- what was read stands in front of what is behind it
-record Behind (bytes rest : List ℕ) : Type 0 where
+record CutBehind (bytes rest : List ℕ) : Type 0 where
   pub body : List ℕ
   pub whole : bytes ≡ body ++ rest
 
-counted_by_behind : (bytes : List ℕ) (o : Option (ℕ × ℕ)) → Behind bytes (counted_by bytes o).1
+counted_by_behind : (bytes : List ℕ) (o : Option (ℕ × ℕ)) → CutBehind bytes (counted_by bytes o).1
 counted_by_behind bytes None = record { body = bytes; whole = sym (append-nil bytes) }
 counted_by_behind bytes (Some n) = record {
   body = take n.1 bytes ++ take n.0 (drop n.1 bytes);
   whole = sym (append_assoc (take n.1 bytes) (take n.0 (drop n.1 bytes)) (drop n.0 (drop n.1 bytes)) ∙ ap (λ (w : List ℕ). take n.1 bytes ++ w) (take-append-drop n.0 (drop n.1 bytes)) ∙ take-append-drop n.1 bytes);
 }
 
-counted_behind : (bytes : List ℕ) → Behind bytes (counted_in bytes).1
+counted_behind : (bytes : List ℕ) → CutBehind bytes (counted_in bytes).1
 unfolding counted_in
 counted_behind bytes = counted_by_behind bytes (read_from 8 0 0 bytes)
 
-integer_behind : (short : Bool) (rest : List ℕ) → Behind rest (integer_by short rest).1
+integer_behind : (short : Bool) (rest : List ℕ) → CutBehind rest (integer_by short rest).1
 integer_behind true rest = record { body = []; whole = refl }
 integer_behind false rest = record { body = take 8 rest; whole = sym (take-append-drop 8 rest) }
 
-either_behind : (b : Bool) (x y : Field × List ℕ) (bytes : List ℕ) → Behind bytes x.1 → Behind bytes y.1 → Behind bytes (cond b x y).1
+either_behind : (b : Bool) (x y : Field × List ℕ) (bytes : List ℕ) → CutBehind bytes x.1 → CutBehind bytes y.1 → CutBehind bytes (cond b x y).1
 either_behind true x y bytes p q = p
 either_behind false x y bytes p q = q
 
-typed_behind : (byte : ℕ) (rest : List ℕ) → Behind rest (typed_in byte rest).1
+typed_behind : (byte : ℕ) (rest : List ℕ) → CutBehind rest (typed_in byte rest).1
 unfolding typed_in
 typed_behind byte rest =
-    let none : Behind rest rest = record { body = []; whole = refl } in
+    let none : CutBehind rest rest = record { body = []; whole = refl } in
     let text = counted_behind rest in
     either_behind (eqb byte 0) _ _ _ none (either_behind (eqb byte 1) _ _ _ (integer_behind (ltb (length rest) 8) rest) (either_behind (eqb byte 3) _ _ _ text (either_behind (eqb byte 4) _ _ _ text none)))
 

@@ -13,12 +13,12 @@ use Rattle.cs_model.specs.Changeset.{most_bytes, IsField, Obeys, AreRecords, IsC
 use Rattle.cs_model.specs.Packed.{Fits, IsLength}
 use Rattle.cs_model.specs.PackedChanges.{Long, Fit}
 use Rattle.cs_model.specs.Rule.{Rule, row_rule, old_rule, new_rules}
-use Rattle.cs_model.proofs.PackedLaws.{is_length}
+use Rattle.cs_model.proofs.PackedLaws.{packed_is_length}
 
 -- ---- a field
 
 limited : (n most : ℕ) → most < 2 ^ 64 → n ≤ most → IsLength n
-limited n most small within = is_length n (omega arith)
+limited n most small within = packed_is_length n (omega arith)
 
 most_small : most_bytes < 2 ^ 64
 most_small = omega arith

@@ -11,7 +11,7 @@ use Rattle.cs_model.specs.declared.change.Change.{Change}
 use Rattle.cs_model.specs.FieldBytes.{field_bytes}
 use Rattle.cs_model.specs.Text.{op_byte, SpellsEach, SpellsField, SpellsIndirect, SpellsChange}
 use Rattle.cs_model.specs.Packed.{packed, unpacked, Fits, Packs, typed_in}
-use Rattle.cs_model.specs.PackedChanges.{mark, change_bytes, changes_bytes, Long, Fit, change_of, PacksAll, some_in, op_in, records_by, changes_said, unpacked_changes, Begins, BeginsChange}
+use Rattle.cs_model.specs.PackedChanges.{mark, change_bytes, changes_bytes, Long, Fit, change_of, PacksAll, some_in, op_in, records_by, changes_said, unpacked_changes, BeginsFields, BeginsChange}
 use Rattle.cs_model.proofs.PackedLaws as records
 use Rattle.cs_model.proofs.PackedLaws.{typed_back, own_field}
 use Rattle.cs_model.proofs.CutLaws.{some_no_longer}
@@ -89,12 +89,12 @@ pub changes_none : (n : ℕ) (bytes : List ℕ) → length bytes ≡ 0 → unpac
 unfolding unpacked_changes changes_said
 changes_none n bytes none = rw none refl
 
-one_byte : (n op : ℕ) → unpacked_changes n (op ∷ []) ≡ []
+packed_change_one_byte : (n op : ℕ) → unpacked_changes n (op ∷ []) ≡ []
 unfolding unpacked_changes
-one_byte n op = one_said n 1 op
+packed_change_one_byte n op = one_said n 1 op
 
 pub changes_short : (n : ℕ) (bytes : List ℕ) (op : ℕ) (rest : List ℕ) → bytes ≡ op ∷ rest → length rest ≡ 0 → unpacked_changes n bytes ≡ []
-changes_short n bytes op [] whole none = rw whole (one_byte n op)
+changes_short n bytes op [] whole none = rw whole (packed_change_one_byte n op)
 changes_short n bytes op (m ∷ rest) whole none = absurd (omega (arith, none))
 
 first_said : (n op m : ℕ) (rest : List ℕ) → unpacked_changes n (op ∷ (m ∷ rest)) ≡ (records_by n (op_in op) (not (eqb m 0)) rest).0 ∷ unpacked_changes n (records_by n (op_in op) (not (eqb m 0)) rest).1
@@ -197,16 +197,16 @@ empty n bytes none = made n bytes [] none tt
 
 -- ---- a change's own bytes, where the bytes are those of changes
 
-pub own_packs : (n : ℕ) (bytes rest front : List ℕ) (k : ℕ) → Begins n bytes → rest ≡ (some_in n bytes).1 → k ≡ length bytes - length rest → front ≡ take k bytes → Packs front (unpacked front)
+pub own_packs : (n : ℕ) (bytes rest front : List ℕ) (k : ℕ) → BeginsFields n bytes → rest ≡ (some_in n bytes).1 → k ≡ length bytes - length rest → front ≡ take k bytes → Packs front (unpacked front)
 own_packs n bytes rest front k b is_rest is_k is_front =
     let said : some_in n bytes ≡ (b.fields, b.rest) = ap (λ (w : List ℕ). some_in n w) b.parts ∙ some_of n b.fields (packed b.fields) b.rest b.long (own_fields b.fields b.fit) b.fit in
     let left : rest ≡ b.rest = is_rest ∙ ap (λ (x : List Field × List ℕ). x.1) said in
     let len : k ≡ length (packed b.fields) = omega (arith, ap length left, ap length b.parts, length-append (packed b.fields) b.rest) in
     let same : front ≡ packed b.fields = is_front ∙ ap (λ (w : List ℕ). take k w) b.parts ∙ rw len (take-append_seam (packed b.fields) b.rest) in
-    (records.made front b.fields same b.fit).1
+    (records.packed_made front b.fields same b.fit).1
 
 -- behind the old record of an UPDATE is its new one
-pub begins_after : (n : ℕ) (op : Op) (bytes after : List ℕ) → BeginsChange n op bytes → op ≡ Update → after ≡ (some_in n bytes).1 → Begins n after
+pub begins_after : (n : ℕ) (op : Op) (bytes after : List ℕ) → BeginsChange n op bytes → op ≡ Update → after ≡ (some_in n bytes).1 → BeginsFields n after
 begins_after n op bytes after b is e =
     let long : Long n Update b.before b.after = subst (λ (o : Op). Long n o b.before b.after) is b.long in
     let said : some_in n bytes ≡ (b.before, packed b.after ++ b.rest) =
@@ -222,11 +222,11 @@ record First (n op m : ℕ) (rest : List ℕ) : Type 0 where
   pub fit : Fit n change
   pub others_fit : AllByRecursion (Fit n) others
 
-first : (n : ℕ) (bytes behind rest : List ℕ) (op m : ℕ) (cs : List Change) → PacksAll n bytes cs → bytes ≡ op ∷ behind → behind ≡ m ∷ rest → First n op m rest
-first n bytes behind rest op m [] packs whole next =
+packed_change_first : (n : ℕ) (bytes behind rest : List ℕ) (op m : ℕ) (cs : List Change) → PacksAll n bytes cs → bytes ≡ op ∷ behind → behind ≡ m ∷ rest → First n op m rest
+packed_change_first n bytes behind rest op m [] packs whole next =
     let none : [] ≡ op ∷ behind = sym packs.parts ∙ whole in
     absurd cc
-first n bytes behind rest op m (c ∷ cs) packs whole next =
+packed_change_first n bytes behind rest op m (c ∷ cs) packs whole next =
     let body = (packed c.before ++ packed c.after) ++ changes_bytes cs in
     let same : op ∷ (m ∷ rest) ≡ op_byte c.op ∷ (mark c.indirect ∷ body) = ap (λ (w : List ℕ). op ∷ w) (sym next) ∙ (sym whole ∙ packs.parts) in
     let is_op : op ≡ op_byte c.op = cc in
@@ -236,9 +236,9 @@ first n bytes behind rest op m (c ∷ cs) packs whole next =
 first_op : (n op m : ℕ) (rest : List ℕ) (o : Op) (f : First n op m rest) → o ≡ op_in op → o ≡ f.change.op
 first_op n op m rest o f is = is ∙ (ap op_in f.is_op ∙ op_back f.change.op)
 
-pub begins_change : (n : ℕ) (bytes behind rest : List ℕ) (op m : ℕ) (o : Op) → PacksAll n bytes (unpacked_changes n bytes) → bytes ≡ op ∷ behind → behind ≡ m ∷ rest → o ≡ op_in op → BeginsChange n o rest
-begins_change n bytes behind rest op m o packs whole next is =
-    let f = first n bytes behind rest op m (unpacked_changes n bytes) packs whole next in
+pub packed_change_begins_change : (n : ℕ) (bytes behind rest : List ℕ) (op m : ℕ) (o : Op) → PacksAll n bytes (unpacked_changes n bytes) → bytes ≡ op ∷ behind → behind ≡ m ∷ rest → o ≡ op_in op → BeginsChange n o rest
+packed_change_begins_change n bytes behind rest op m o packs whole next is =
+    let f = packed_change_first n bytes behind rest op m (unpacked_changes n bytes) packs whole next in
     record {
       before = f.change.before;
       after = f.change.after;
@@ -252,7 +252,7 @@ begins_change n bytes behind rest op m o packs whole next is =
 pub rest_packs : (n : ℕ) (bytes behind rest : List ℕ) (op m : ℕ) (o : Op) (indirect : Bool) (after : List ℕ) → PacksAll n bytes (unpacked_changes n bytes) → bytes ≡ op ∷ behind → behind ≡ m ∷ rest → o ≡ op_in op
     → after ≡ (records_by n o indirect rest).1 → PacksAll n after (unpacked_changes n after)
 rest_packs n bytes behind rest op m o indirect after packs whole next is e =
-    let f = first n bytes behind rest op m (unpacked_changes n bytes) packs whole next in
+    let f = packed_change_first n bytes behind rest op m (unpacked_changes n bytes) packs whole next in
     let read : records_by n f.change.op indirect rest ≡ (change_of f.change.op indirect f.change.before f.change.after, changes_bytes f.others) =
     ap (λ (w : List ℕ). records_by n f.change.op indirect w) f.parts ∙ records_back n f.change.op indirect f.change.before f.change.after (packed f.change.before) (packed f.change.after) (changes_bytes f.others) f.fit.long (own_fields f.change.before f.fit.before) (own_fields f.change.after f.fit.after) f.fit.before f.fit.after in
     let left : after ≡ changes_bytes f.others =

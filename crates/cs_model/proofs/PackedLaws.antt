@@ -50,14 +50,14 @@ unfolding fields_in
 none_in zero = refl
 none_in (suc fuel) = refl
 
-enough : (fuel more : ℕ) (bytes : List ℕ) → length bytes ≤ fuel → length bytes ≤ more → fields_in fuel bytes ≡ fields_in more bytes
+packed_enough : (fuel more : ℕ) (bytes : List ℕ) → length bytes ≤ fuel → length bytes ≤ more → fields_in fuel bytes ≡ fields_in more bytes
 unfolding fields_in
-enough fuel more [] p q = none_in fuel ∙ sym (none_in more)
-enough zero more (byte ∷ rest) p q = absurd (omega (arith, p))
-enough (suc fuel) zero (byte ∷ rest) p q = absurd (omega (arith, q))
-enough (suc fuel) (suc more) (byte ∷ rest) p q =
+packed_enough fuel more [] p q = none_in fuel ∙ sym (none_in more)
+packed_enough zero more (byte ∷ rest) p q = absurd (omega (arith, p))
+packed_enough (suc fuel) zero (byte ∷ rest) p q = absurd (omega (arith, q))
+packed_enough (suc fuel) (suc more) (byte ∷ rest) p q =
     let less = typed_no_longer byte rest in
-    ap (λ (fs : List Field). (typed_in byte rest).0 ∷ fs) (enough fuel more (typed_in byte rest).1 (omega arith) (omega arith))
+    ap (λ (fs : List Field). (typed_in byte rest).0 ∷ fs) (packed_enough fuel more (typed_in byte rest).1 (omega arith) (omega arith))
 
 pub unpacked_none : (bytes : List ℕ) → length bytes ≡ 0 → unpacked bytes ≡ []
 unfolding unpacked fields_in
@@ -66,7 +66,7 @@ unpacked_none bytes none = rw none refl
 first_in : (byte : ℕ) (rest : List ℕ) → unpacked (byte ∷ rest) ≡ (typed_in byte rest).0 ∷ unpacked (typed_in byte rest).1
 unfolding unpacked fields_in
 first_in byte rest =
-    ap (λ (fs : List Field). (typed_in byte rest).0 ∷ fs) (enough (length rest) (length (typed_in byte rest).1) (typed_in byte rest).1 (typed_no_longer byte rest) (omega arith))
+    ap (λ (fs : List Field). (typed_in byte rest).0 ∷ fs) (packed_enough (length rest) (length (typed_in byte rest).1) (typed_in byte rest).1 (typed_no_longer byte rest) (omega arith))
 
 pub unpacked_first : (bytes : List ℕ) (byte : ℕ) (rest : List ℕ) (field : Field) (after : List ℕ) → bytes ≡ byte ∷ rest → field ≡ (typed_in byte rest).0 → after ≡ (typed_in byte rest).1
     → unpacked bytes ≡ field ∷ unpacked after
@@ -85,19 +85,19 @@ length_fits : (n : ℕ) → IsLength n → n < 2 ^ 64
 unfolding IsLength
 length_fits n h = h
 
-pub is_length : (n : ℕ) → n < 2 ^ 64 → IsLength n
+pub packed_is_length : (n : ℕ) → n < 2 ^ 64 → IsLength n
 unfolding IsLength
-is_length n h = h
+packed_is_length n h = h
 
-counted_at : (text bytes rest : List ℕ) → counted_by (text ++ (bytes ++ rest)) (Some (length bytes, length text)) ≡ (bytes, rest)
-counted_at text bytes rest =
+packed_counted_at : (text bytes rest : List ℕ) → counted_by (text ++ (bytes ++ rest)) (Some (length bytes, length text)) ≡ (bytes, rest)
+packed_counted_at text bytes rest =
     rw (drop-append_seam text (bytes ++ rest), take-append_seam bytes rest, drop-append_seam bytes rest) refl
 
 counted_back : (text bytes rest : List ℕ) → SpellsBytes text bytes → counted_in (text ++ rest) ≡ (bytes, rest)
 unfolding counted_in
 counted_back text bytes rest s =
     let number : read_from 8 0 0 (s.count ++ (bytes ++ rest)) ≡ Some (length bytes, length s.count) = read_back 8 0 0 s.count (length bytes) (bytes ++ rest) (length s.count) (omega arith) s.is_count in
-    rw (s.parts, append_assoc s.count bytes rest, number) (counted_at s.count bytes rest)
+    rw (s.parts, append_assoc s.count bytes rest, number) (packed_counted_at s.count bytes rest)
 
 integer_found : (text rest : List ℕ) (n : ℤ) → length text ≡ 8 → cast_signed w64 (from_be_bytes w64 text) ≡ n → integer_by (ltb (length (text ++ rest)) 8) (text ++ rest) ≡ (Is (Integer n), rest)
 integer_found text rest n len value =
@@ -168,8 +168,8 @@ packed_first (f ∷ fs) rest fit = ap unpacked (append_assoc (field_bytes f) (pa
 
 -- ---- what is made packs what it was made of
 
-pub made : (bytes : List ℕ) (fields : List Field) → bytes ≡ packed fields → AllByRecursion Fits fields → (unpacked bytes ≡ fields) × Packs bytes (unpacked bytes)
-made bytes fields parts fit =
+pub packed_made : (bytes : List ℕ) (fields : List Field) → bytes ≡ packed fields → AllByRecursion Fits fields → (unpacked bytes ≡ fields) × Packs bytes (unpacked bytes)
+packed_made bytes fields parts fit =
     let says : unpacked bytes ≡ fields = rw parts (packed_unpacked fields fit) in
     (says, subst (λ (fs : List Field). Packs bytes fs) (sym says) (record { parts = parts; fit = fit }))
 
@@ -183,10 +183,10 @@ packed_push (g ∷ gs) f = ap (λ (w : List ℕ). field_bytes g ++ w) (packed_pu
 
 pub pushed : (old new : List ℕ) (f : Field) → Fits f → Packs old (unpacked old) → new ≡ old ++ field_bytes f → (unpacked new ≡ unpacked old ++ f ∷ []) × Packs new (unpacked new)
 pushed old new f fits packs added =
-    made new (unpacked old ++ f ∷ []) (added ∙ (ap (λ (w : List ℕ). w ++ field_bytes f) packs.parts ∙ sym (packed_push (unpacked old) f))) (fit_push (unpacked old) f packs.fit fits)
+    packed_made new (unpacked old ++ f ∷ []) (added ∙ (ap (λ (w : List ℕ). w ++ field_bytes f) packs.parts ∙ sym (packed_push (unpacked old) f))) (fit_push (unpacked old) f packs.fit fits)
 
-pub empty : (bytes : List ℕ) → bytes ≡ [] → (unpacked bytes ≡ []) × Packs bytes (unpacked bytes)
-empty bytes none = made bytes [] none tt
+pub packed_empty : (bytes : List ℕ) → bytes ≡ [] → (unpacked bytes ≡ []) × Packs bytes (unpacked bytes)
+packed_empty bytes none = packed_made bytes [] none tt
 
 -- ---- the same bytes say the same
 

@@ -19,10 +19,10 @@ values_back [] = refl
 values_back (v ∷ row) = ap (λ (vs : List Value). v ∷ vs) (values_back row)
 
 -- a record whose fields all have a value says a row
-pub all_defined : (fields : List Field) → list_all is_defined fields ≡ true → row_fields (values_of fields) ≡ fields
-all_defined [] all = refl
-all_defined (Undefined ∷ fields) all = absurd cc
-all_defined (Is v ∷ fields) all = ap (λ (fs : List Field). Is v ∷ fs) (all_defined fields all)
+pub row_all_defined : (fields : List Field) → list_all is_defined fields ≡ true → row_fields (values_of fields) ≡ fields
+row_all_defined [] all = refl
+row_all_defined (Undefined ∷ fields) all = absurd cc
+row_all_defined (Is v ∷ fields) all = ap (λ (fs : List Field). Is v ∷ fs) (row_all_defined fields all)
 
 -- ---- what is made packs what it was made of
 
@@ -35,7 +35,7 @@ row_made bytes row parts fit =
 pub row_of : (bytes : List ℕ) (fields : List Field) → list_all is_defined fields ≡ true → bytes ≡ packed fields → AllByRecursion Fits fields
     → (values_of (unpacked bytes) ≡ values_of fields) × Packs bytes (row_fields (values_of (unpacked bytes)))
 row_of bytes fields all parts fit =
-    let same = sym (all_defined fields all) in
+    let same = sym (row_all_defined fields all) in
     row_made bytes (values_of fields) (parts ∙ ap packed same) (subst (λ (fs : List Field). AllByRecursion Fits fs) same fit)
 
 pub row_seen : (bytes : List ℕ) (row : List Value) → Packs bytes (row_fields (values_of (unpacked bytes))) → values_of (unpacked bytes) ≡ row → unpacked bytes ≡ row_fields row

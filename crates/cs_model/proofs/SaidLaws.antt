@@ -33,10 +33,10 @@ fields_go columns i rest behind byte f after made new whole more is_rest is_fiel
     let read : (some_in (columns - i) rest).0 ≡ f ∷ others = ap (λ (x : List Field × List ℕ). x.0) (some_reads columns i rest behind byte f after more is_rest is_field is_after) in
     ap (λ (w : List ℕ). w ++ packed others) added ∙ (append_assoc made (field_bytes f) (packed others) ∙ (ap (λ (fs : List Field). made ++ packed fs) (sym read) ∙ so_far))
 
-none_in : (n : ℕ) → (some_in n []).0 ≡ []
+said_none_in : (n : ℕ) → (some_in n []).0 ≡ []
 unfolding some_in
-none_in zero = refl
-none_in (suc n) = refl
+said_none_in zero = refl
+said_none_in (suc n) = refl
 
 zero_in : (bytes : List ℕ) → (some_in 0 bytes).0 ≡ []
 unfolding some_in
@@ -47,7 +47,7 @@ nothing_more made whole fs none so_far = sym (append-nil made) ∙ (ap (λ (gs :
 
 -- no bytes are left
 pub fields_end : (n : ℕ) (rest made whole : List ℕ) → length rest ≡ 0 → made ++ packed (some_in n rest).0 ≡ whole → made ≡ whole
-fields_end n [] made whole none so_far = nothing_more made whole (some_in n []).0 (none_in n) so_far
+fields_end n [] made whole none so_far = nothing_more made whole (some_in n []).0 (said_none_in n) so_far
 fields_end n (b ∷ rest) made whole none so_far = absurd (omega (arith, none))
 
 -- no fields are left

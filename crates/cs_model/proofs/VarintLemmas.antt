@@ -43,16 +43,16 @@ read_only (suc left) high read (b ∷ bytes) n (suc k) within (inr h) =
     cc
 
 -- what is read was spelled
-abbrev Found : ℕ → ℕ → ℕ → List ℕ → ℕ × ℕ → Type 0
-Found left high read bytes found = (k : ℕ) × (found.1 ≡ read + k) × (k ≤ length bytes) × EndsVarint left high (take k bytes) found.0
+abbrev VarintFound : ℕ → ℕ → ℕ → List ℕ → ℕ × ℕ → Type 0
+VarintFound left high read bytes found = (k : ℕ) × (found.1 ≡ read + k) × (k ≤ length bytes) × EndsVarint left high (take k bytes) found.0
 
-read_found : (left high read : ℕ) (bytes : List ℕ) (found : ℕ × ℕ) → read_from left high read bytes ≡ Some found → Found left high read bytes found
+read_found : (left high read : ℕ) (bytes : List ℕ) (found : ℕ × ℕ) → read_from left high read bytes ≡ Some found → VarintFound left high read bytes found
 read_found left high read [] found e = cc
 read_found zero high read (b ∷ bytes) found e =
     let pair : (256 * high + b, read + 1) ≡ found = cc in
     (1, sym (ap (λ p. p.1) pair), omega arith, (refl, sym (ap (λ p. p.0) pair)))
 read_found (suc left) high read (b ∷ bytes) found e =
-    elim (order b 128) as (λ w. Found (suc left) high read (b ∷ bytes) found) [
+    elim (order b 128) as (λ w. VarintFound (suc left) high read (b ∷ bytes) found) [
       | inl small ↦
           let ends = read_ends left high read b bytes small in
           let pair : (128 * high + b, read + 1) ≡ found = cc in
@@ -104,15 +104,15 @@ none_at whole (suc start) rest front = absurd (omega (arith, front))
 none_at true zero rest front = refl
 none_at false zero rest front = refl
 
-none_short : (start rest : ℕ) → rest ≡ 0 → short_groups start rest ≡ []
-none_short zero rest none = refl
-none_short (suc start) zero none = refl
-none_short (suc start) (suc rest) none = absurd (omega (arith, none))
+varint_none_short : (start rest : ℕ) → rest ≡ 0 → short_groups start rest ≡ []
+varint_none_short zero rest none = refl
+varint_none_short (suc start) zero none = refl
+varint_none_short (suc start) (suc rest) none = absurd (omega (arith, none))
 
 -- no turn is left
 unfilled_none : (n start rest : ℕ) → (start ≡ 0) ⊎ ((n < 2 ^ 56) × (rest ≡ 0)) → unfilled (leb (2 ^ 56) n) start rest ≡ []
 unfilled_none n start rest (inl front) = none_at (leb (2 ^ 56) n) start rest front
-unfilled_none n start rest (inr done) = grind (arith, nat_tests, none_short start rest done.1)
+unfilled_none n start rest (inr done) = grind (arith, nat_tests, varint_none_short start rest done.1)
 
 pub unfilled_end : (n start rest : ℕ) (text whole : List ℕ) → (start ≡ 0) ⊎ ((n < 2 ^ 56) × (rest ≡ 0)) → unfilled (leb (2 ^ 56) n) start rest ++ text ≡ whole → text ≡ whole
 unfilled_end n start rest text whole done filled = sym (ap (λ (t : List ℕ). t ++ text) (unfilled_none n start rest done)) ∙ filled

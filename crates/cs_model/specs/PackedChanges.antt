@@ -52,7 +52,7 @@ abbrev pub section_parts : Section → List (List ℕ)
 section_parts s = s.shape.name ∷ s.shape.flags ∷ changes_bytes s.changes ∷ []
 
 -- the bytes begin with those of so many fields
-pub record Begins (n : ℕ) (bytes : List ℕ) : Type 0 where
+pub record BeginsFields (n : ℕ) (bytes : List ℕ) : Type 0 where
   pub fields : List Field
   pub rest : List ℕ
   pub long : length fields ≡ n

@@ -54,15 +54,15 @@ abbrev pub is_name : List ℕ → Bool
 is_name name = nat_lt 0 (length name) && nat_le (length name) 1024 && list_all (λ byte. nat_lt 0 byte) name
 
 -- whether a shape is one that a table may have
-abbrev pub is_shape : Shape → Bool
-is_shape shape = are_flags shape.flags && is_name shape.name
+abbrev pub has_valid_shape : Shape → Bool
+has_valid_shape shape = are_flags shape.flags && is_name shape.name
 
 -- The answer for a table behind earlier ones: its name must be new, its shape one that a table may have, and its
 -- place below 1,024.
 abbrev pub table_refusal : List Shape → Shape → Option TableFault
 table_refusal earlier shape =
     if has_name earlier shape.name then Some (DuplicateTable (length earlier))
-    else if is_shape shape && nat_lt (length earlier) 1024 then None
+    else if has_valid_shape shape && nat_lt (length earlier) 1024 then None
     else Some (BadShape (length earlier))
 
 -- The answer for a list of tables: the first that is refused behind those before it.
@@ -76,6 +76,6 @@ abbrev pub IsSchema : List Shape → Type 0
 IsSchema tables = tables_refusal [] tables ≡ None
 
 -- an error of adding a table tells its refusal, or that memory ran out where there is none
-abbrev pub TellsRefusal : SchemaError → Option TableFault → Type 0
-TellsRefusal (Fault fault) refusal = refusal ≡ Some fault
-TellsRefusal Memory refusal = refusal ≡ None
+abbrev pub ReportsRefusal : SchemaError → Option TableFault → Type 0
+ReportsRefusal (Fault fault) refusal = refusal ≡ Some fault
+ReportsRefusal Memory refusal = refusal ≡ None

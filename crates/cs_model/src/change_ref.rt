@@ -4,7 +4,7 @@
 ghost use Rattle.std.specs.Prelude.{◌≡◌, ◌∷◌, [], IfSome, MatchOption};
 ghost use Rattle.std.specs.List.{AllByRecursion};
 ghost use Rattle.cs_model.specs.Packed.{packed, unpacked, Fits};
-ghost use Rattle.cs_model.specs.PackedChanges.{some_in, op_in, records_by, unpacked_changes, AreCanonical, Begins, BeginsChange};
+ghost use Rattle.cs_model.specs.PackedChanges.{some_in, op_in, records_by, unpacked_changes, AreCanonical, BeginsFields, BeginsChange};
 ghost use Rattle.cs_model.specs.Seen.{change_seen};
 
 use crate::change::Op;
@@ -129,7 +129,7 @@ fn behind(columns: usize, bytes: &[u8]) -> &[u8]
 
 // a record of so many fields, and the bytes behind it
 fn record_of(columns: usize, bytes: &[u8]) -> (RecordRef, &[u8])
-    requires { Begins columns bytes.now }
+    requires { BeginsFields columns bytes.now }
     ensures record { result.0 ≡ (some_in columns bytes.now).0 }
     ensures rest { result.1.now ≡ (some_in columns bytes.now).1 }
 {

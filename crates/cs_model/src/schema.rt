@@ -2,7 +2,7 @@
 
 ghost use Rattle.std.specs.Prelude.{◌≡◌, ◌++◌, ◌∷◌, [], ◌<◌, IfSome, Some, None, IfOk, IfErr, OnOk, OnErr, IsOk, length, MatchResult, nat_lt};
 ghost use Rattle.std.specs.List.{list_any, list_all};
-ghost use Rattle.cs_model.specs.Schema.{has_name, has_shape, table_index, are_flags, is_name, first_outside, table_refusal, tables_refusal, refusal_of, same_bytes, same_shape, TellsRefusal};
+ghost use Rattle.cs_model.specs.Schema.{has_name, has_shape, table_index, are_flags, is_name, first_outside, table_refusal, tables_refusal, refusal_of, same_bytes, same_shape, ReportsRefusal};
 ghost use Rattle.cs_model.specs.declared.schema.SchemaError.TheVariants.{Memory};
 
 use crate::changeset::Changeset;
@@ -108,7 +108,7 @@ impl Schema {
     pub fn add(&mut self, table: Shape) -> Result<(), SchemaError>
         ensures ok { OnOk result ((self.new ≡ self.old ++ table ∷ [])
             × (table_refusal self.old table ≡ None)) }
-        ensures refused { IfErr result (λ e. TellsRefusal e (table_refusal self.old table)) }
+        ensures refused { IfErr result (λ e. ReportsRefusal e (table_refusal self.old table)) }
         ensures err { OnErr result (self.new ≡ self.old) }
     {
         match refusal(&self.tables, &table) {

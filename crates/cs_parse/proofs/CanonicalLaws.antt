@@ -13,10 +13,10 @@ use Rattle.cs_model.specs.declared.change.Change.{Change}
 use Rattle.cs_model.proofs.VarintLemmas.{varint_one}
 use Rattle.cs_parse.specs.declared.fault.FaultKind.{FaultKind}
 use Rattle.cs_parse.specs.declared.fault.FaultKind.TheVariants.{ValueTooLong}
-use Rattle.cs_parse.specs.declared.stop.Refusal.{Refusal}
+use Rattle.cs_parse.specs.declared.stop.ParseRefusal.{ParseRefusal}
 use Rattle.cs_parse.specs.Canonical.{HasShortest, IsCanonical}
 use Rattle.cs_parse.specs.Place.{type_refusal}
-use Rattle.cs_parse.specs.Reading.{◌>>=◌, Reads, within, number_at, length_at, typed_at, field_at, record_at}
+use Rattle.cs_parse.specs.Reading.{◌>>=◌, Reads, number_within, number_at, length_at, typed_at, field_at, record_at}
 use Rattle.cs_parse.proofs.Steps.{back_fits, bind_ok, done, ok_is}
 use Rattle.cs_parse.proofs.Numbers.{number_ends}
 use Rattle.cs_parse.proofs.NumberLaws.{within_again, number_takes, number_again}
@@ -31,7 +31,7 @@ unfolding length_at
 one_reads bytes byte n rest whole small same =
     let value : 128 * 0 + byte ≡ n = omega (arith, same) in
     ap (λ w. number_at 0 16777216 ValueTooLong 8 0 w) whole ∙ number_ends 0 16777216 ValueTooLong 7 0 byte rest small
-    ∙ ap (λ k. within 0 16777216 ValueTooLong k rest) value ∙ within_again 0 16777216 ValueTooLong n rest (omega arith) (omega (arith, same))
+    ∙ ap (λ k. number_within 0 16777216 ValueTooLong k rest) value ∙ within_again 0 16777216 ValueTooLong n rest (omega arith) (omega (arith, same))
 
 pub one_shortest : (bytes : List ℕ) (byte n : ℕ) (rest : List ℕ) → bytes ≡ byte ∷ rest → byte < 128 → n ≡ byte → bytes ≡ varint n ++ rest
 one_shortest bytes byte n rest whole small same = whole ∙ ap (λ w. w ++ rest) (varint_one byte small ∙ ap varint (sym same))
@@ -77,7 +77,7 @@ field_canonical rule byte rest (Is Null) after fits none read shortest =
     t.parts ∙ ap (λ w. w ++ after) t.spelled
 
 -- the same of what a reader returned, where `canonical` is of what was read before
-pub field_tells : {X : Type 0} (r : Result X Refusal) (view : X → Field × List ℕ) (flag : X → Bool) (canonical : Bool) (rule : Rule) (bytes : List ℕ) (byte : ℕ) (rest : List ℕ) → AreBytes bytes → bytes ≡ byte ∷ rest → type_refusal rule byte ≡ None
+pub field_tells : {X : Type 0} (r : Result X ParseRefusal) (view : X → Field × List ℕ) (flag : X → Bool) (canonical : Bool) (rule : Rule) (bytes : List ℕ) (byte : ℕ) (rest : List ℕ) → AreBytes bytes → bytes ≡ byte ∷ rest → type_refusal rule byte ≡ None
     → Reads view r (typed_at byte rest) → IfOk r (λ x. IsTrue (flag x) → IsTrue canonical × HasShortest (view x).0 rest (view x).1) → IfOk r (λ x. IsTrue (flag x) → IsTrue canonical × (bytes ≡ field_bytes (view x).0 ++ (view x).1))
 field_tells (Ok x) view flag canonical rule bytes byte rest fits whole none read own =
     λ is. ((own is).0, whole ∙ field_canonical rule byte rest (view x).0 (view x).1 (back_fits bytes (byte ∷ []) rest whole fits) none read (own is).1)
@@ -98,5 +98,5 @@ more_canonical rule rules bytes f after read own others x e =
 
 -- ---- changes, from the last to the first
 
-abbrev Changes : Type 0
-Changes = List Change × List ℕ
+abbrev CanonicalChanges : Type 0
+CanonicalChanges = List Change × List ℕ

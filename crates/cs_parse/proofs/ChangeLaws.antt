@@ -11,11 +11,11 @@ use Rattle.cs_model.specs.Rule.{row_rule, old_rule, new_rules}
 use Rattle.cs_model.specs.Changeset.{AreRecords}
 use Rattle.cs_model.specs.Text.{SpellsField, SpellsEach, op_byte, SpellsIndirect, SpellsChange}
 use Rattle.cs_parse.specs.declared.fault.FaultKind.TheVariants.{Patchset, BadOperation}
-use Rattle.cs_parse.specs.declared.stop.Refusal.{Refusal}
-use Rattle.cs_parse.specs.declared.stop.Refusal.TheVariants.{Bad}
+use Rattle.cs_parse.specs.declared.stop.ParseRefusal.{ParseRefusal}
+use Rattle.cs_parse.specs.declared.stop.ParseRefusal.TheVariants.{Bad}
 use Rattle.cs_parse.specs.Reading.{◌>>=◌, record_at, records_at, marked_at, op_of, operated, change_at, ends_section, changes_at}
 use Rattle.cs_model.specs.Bytes.{AreBytes}
-use Rattle.cs_parse.proofs.Steps.{Takes, back_fits, bind_ok, done, ok_is, chosen}
+use Rattle.cs_parse.proofs.Steps.{Takes, back_fits, bind_ok, done, ok_is, steps_chosen}
 use Rattle.cs_parse.proofs.FieldLaws.{record_takes, record_again}
 use Rattle.cs_parse.proofs.ManyLaws.{IsReader, TakesEach, many_takes, many_again}
 
@@ -86,8 +86,8 @@ records_again flags Delete text fields rest h =
 
 -- ---- a change
 
-abbrev pub made : Op → Bool → List Field → List Field → Change
-made op indirect before after = record { op = op; indirect = indirect; before = before; after = after }
+abbrev pub change_made : Op → Bool → List Field → List Field → Change
+change_made op indirect before after = record { op = op; indirect = indirect; before = before; after = after }
 
 pub mark_spells : (mark : ℕ) → SpellsIndirect mark (not (mark == 0))
 mark_spells zero = refl
@@ -97,8 +97,8 @@ mark_is : (mark : ℕ) (indirect : Bool) → SpellsIndirect mark indirect → no
 mark_is mark true h = ap not (ne_eqb mark 0 h)
 mark_is mark false h = ap (λ m. not (m == 0)) h
 
-abbrev pub marked : Op → ℕ → Records → Result (Change × List ℕ) Refusal
-marked op mark records = done (made op (not (mark == 0)) records.0.0 records.0.1, records.1)
+abbrev pub marked : Op → ℕ → Records → Result (Change × List ℕ) ParseRefusal
+marked op mark records = done (change_made op (not (mark == 0)) records.0.0 records.0.1, records.1)
 
 marked_takes : (flags : List ℕ) (op : Op) (bytes : List ℕ) (x : Change × List ℕ) → AreBytes bytes → marked_at flags op bytes ≡ Ok x → Takes SpellsChange (op_byte op ∷ bytes) x × IsChangeBy flags x.0
 unfolding marked_at
@@ -106,22 +106,22 @@ marked_takes flags op [] x fits e = absurd cc
 marked_takes flags op (mark ∷ rest) x fits e =
     let a = bind_ok (records_at flags op rest) (marked op mark) x e in
     let t = records_take flags op rest a.0 (λ i. fits (suc i)) a.1 in
-    let change = made op (not (mark == 0)) a.0.0.0 a.0.0.1 in
+    let change = change_made op (not (mark == 0)) a.0.0.0 a.0.0.1 in
     let text = op_byte op ∷ mark ∷ t.text in
     let spelled : SpellsChange text change = record { byte = mark; old = t.spelled.old; new = t.spelled.new; parts = ap (λ w. op_byte op ∷ mark ∷ w) t.spelled.parts; is_indirect = mark_spells mark; is_old = t.spelled.is_old; is_new = t.spelled.is_new } in
     subst (λ (y : Change × List ℕ). Takes SpellsChange (op_byte op ∷ mark ∷ rest) y × IsChangeBy flags y.0) (ok_is (change, a.0.1) x a.2)
     (record { text = text; parts = ap (λ w. op_byte op ∷ mark ∷ w) t.parts; spelled = spelled }, t.spelled.valid)
 
 pub op_is : (byte : ℕ) (op : Op) → op_of byte ≡ Some op → byte ≡ op_byte op
-op_is byte op e = elim (chosen (byte == 18) (Some Insert) (cond (byte == 23) (Some Update) (cond (byte == 9) (Some Delete) None)) (Some op) e) as (λ w. byte ≡ op_byte op) [
+op_is byte op e = elim (steps_chosen (byte == 18) (Some Insert) (cond (byte == 23) (Some Update) (cond (byte == 9) (Some Delete) None)) (Some op) e) as (λ w. byte ≡ op_byte op) [
   | inl is ↦
       let same : Insert ≡ op = cc is.1 in
       eqb-true byte 18 is.0 ∙ ap op_byte same
-  | inr other ↦ elim (chosen (byte == 23) (Some Update) (cond (byte == 9) (Some Delete) None) (Some op) other.1) as (λ w. byte ≡ op_byte op) [
+  | inr other ↦ elim (steps_chosen (byte == 23) (Some Update) (cond (byte == 9) (Some Delete) None) (Some op) other.1) as (λ w. byte ≡ op_byte op) [
     | inl is ↦
         let same : Update ≡ op = cc is.1 in
         eqb-true byte 23 is.0 ∙ ap op_byte same
-    | inr other ↦ elim (chosen (byte == 9) (Some Delete) None (Some op) other.1) as (λ w. byte ≡ op_byte op) [
+    | inr other ↦ elim (steps_chosen (byte == 9) (Some Delete) None (Some op) other.1) as (λ w. byte ≡ op_byte op) [
       | inl is ↦
           let same : Delete ≡ op = cc is.1 in
           eqb-true byte 9 is.0 ∙ ap op_byte same
@@ -150,10 +150,10 @@ pub by_byte : (flags : List ℕ) (op : Op) (rest : List ℕ) → change_at flags
 unfolding change_at
 by_byte flags op rest = ap (λ o. operated flags o (op_byte op) rest) (op_of_byte op)
 
-marked_again : (flags : List ℕ) (op : Op) (mark : ℕ) (text : List ℕ) (fields : List Field × List Field) (rest : List ℕ) → SpellsRecords flags op text fields
-    → marked_at flags op (mark ∷ (text ++ rest)) ≡ Ok (made op (not (mark == 0)) fields.0 fields.1, rest)
+change_marked_again : (flags : List ℕ) (op : Op) (mark : ℕ) (text : List ℕ) (fields : List Field × List Field) (rest : List ℕ) → SpellsRecords flags op text fields
+    → marked_at flags op (mark ∷ (text ++ rest)) ≡ Ok (change_made op (not (mark == 0)) fields.0 fields.1, rest)
 unfolding marked_at
-marked_again flags op mark text fields rest h = ap (λ r. r >>= marked op mark) (records_again flags op text fields rest h)
+change_marked_again flags op mark text fields rest h = ap (λ r. r >>= marked op mark) (records_again flags op text fields rest h)
 
 pub change_again : (flags text : List ℕ) (change : Change) (rest : List ℕ) → SpellsChange text change → IsChangeBy flags change → change_at flags (text ++ rest) ≡ Ok (change, rest)
 change_again flags text change rest h valid =
@@ -161,8 +161,8 @@ change_again flags text change rest h valid =
     let fields : SpellsRecords flags op (h.old ++ h.new) (change.before, change.after) = record { old = h.old; new = h.new; parts = refl; is_old = h.is_old; is_new = h.is_new; valid = valid } in
     ap (λ w. change_at flags (w ++ rest)) h.parts
     ∙ by_byte flags op (h.byte ∷ ((h.old ++ h.new) ++ rest))
-    ∙ marked_again flags op h.byte (h.old ++ h.new) (change.before, change.after) rest fields
-    ∙ ap (λ i. done (made op i change.before change.after, rest)) (mark_is h.byte change.indirect h.is_indirect)
+    ∙ change_marked_again flags op h.byte (h.old ++ h.new) (change.before, change.after) rest fields
+    ∙ ap (λ i. done (change_made op i change.before change.after, rest)) (mark_is h.byte change.indirect h.is_indirect)
 
 -- ---- changes one after another
 

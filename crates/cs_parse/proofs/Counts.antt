@@ -13,27 +13,27 @@ use Rattle.cs_parse.proofs.Steps.{back_fits}
 use Rattle.cs_parse.proofs.TextLaws.{section_reader}
 use Rattle.cs_parse.proofs.Skims.{size, counted_value}
 
-long : (text front back : List ℕ) → text ≡ front ++ back → length text ≡ length front + length back
-long text front back e = ap length e ∙ length-append front back
+counts_long : (text front back : List ℕ) → text ≡ front ++ back → length text ≡ length front + length back
+counts_long text front back e = ap length e ∙ length-append front back
 
-changes_fit : (text : List ℕ) (changes : List Change) → SpellsEach SpellsChange text changes → length changes ≤ length text
-changes_fit text [] h = omega arith
-changes_fit text (change ∷ changes) (front, back, e, one, more) =
-    let l = long text front back e in
+counts_changes_fit : (text : List ℕ) (changes : List Change) → SpellsEach SpellsChange text changes → length changes ≤ length text
+counts_changes_fit text [] h = omega arith
+counts_changes_fit text (change ∷ changes) (front, back, e, one, more) =
+    let l = counts_long text front back e in
     let a = ap length one.parts in
-    let rest = changes_fit back changes more in
+    let rest = counts_changes_fit back changes more in
     omega (arith, l, a, rest)
 
 section_fits : (text : List ℕ) (section : Section) → SpellsSection text section → size section ≤ length text
 section_fits text section h =
-    let l = long text h.header h.body h.parts in
-    let a = changes_fit h.body section.changes h.is_body in
+    let l = counts_long text h.header h.body h.parts in
+    let a = counts_changes_fit h.body section.changes h.is_body in
     omega (arith, l, a)
 
 sections_fit : (text : List ℕ) (sections : List Section) → SpellsEach SpellsSection text sections → changes_in sections ≤ length text
 sections_fit text [] h = omega arith
 sections_fit text (section ∷ sections) (front, back, e, one, more) =
-    let l = long text front back e in
+    let l = counts_long text front back e in
     let a = section_fits front section one in
     let rest = sections_fit back sections more in
     let both = length-append section.changes (flat_map (λ s. s.changes) sections) in
@@ -49,6 +49,6 @@ pub counted_fits : (bytes : List ℕ) (k : ℕ) (after : List ℕ) → AreBytes 
 counted_fits bytes k after fits h =
     let v = counted_value size (section_at bytes) k after h in
     let t = (section_reader.takes bytes (v.0, after) fits v.1).0 in
-    let l = long bytes t.text after t.parts in
+    let l = counts_long bytes t.text after t.parts in
     let a = section_fits t.text v.0 t.spelled in
     (back_fits bytes t.text after t.parts fits, omega (arith, l, a, v.2))

@@ -6,22 +6,22 @@ use Rattle.std.proofs.lemmas.List.{take_at, drop_at, take-append-drop, drop_more
 use Rattle.std.proofs.lemmas.List.Folds.{list_any-append}
 use Rattle.cs_parse.specs.declared.fault.FaultKind.{FaultKind}
 use Rattle.cs_parse.specs.declared.fault.FaultKind.TheVariants.{NoKey}
-use Rattle.cs_parse.specs.Place.{Place, LastKey, wrong}
-use Rattle.cs_parse.proofs.Steps.{are_bytes}
-use Rattle.cs_parse.specs.declared.stop.Refusal.{Refusal}
-use Rattle.cs_parse.specs.declared.stop.Refusal.TheVariants.{Short, Bad}
+use Rattle.cs_parse.specs.Place.{BytePlace, LastKey, wrong}
+use Rattle.cs_parse.proofs.Steps.{steps_are_bytes}
+use Rattle.cs_parse.specs.declared.stop.ParseRefusal.{ParseRefusal}
+use Rattle.cs_parse.specs.declared.stop.ParseRefusal.TheVariants.{Short, Bad}
 use Rattle.cs_parse.specs.Reading.{refuse, flags_at}
-use Rattle.cs_parse.proofs.Steps.{chosen}
+use Rattle.cs_parse.proofs.Steps.{steps_chosen}
 use Rattle.cs_parse.proofs.HeaderLaws.{any_key, flags_take, flags_again}
-use Rattle.cs_parse.proofs.Exact.{Completes, Stopped, Exact}
+use Rattle.cs_parse.proofs.Exact.{Completes, ExactStopped, ExactReader}
 
 abbrev pub FlagsText : ℕ → List ℕ → List ℕ → Type 0
 FlagsText count text flags = (text ≡ flags) × (length flags ≡ count) × (any_key flags ≡ true)
 
-abbrev pub FlagsPlace : ℕ → List ℕ → Place → Type 0
+abbrev pub FlagsPlace : ℕ → List ℕ → BytePlace → Type 0
 FlagsPlace count front place = (suc (length front) ≡ count) × (any_key front ≡ false) × (place ≡ LastKey)
 
-abbrev keyed : List ℕ → ℕ → List ℕ → Result (List ℕ × List ℕ) Refusal
+abbrev keyed : List ℕ → ℕ → List ℕ → Result (List ℕ × List ℕ) ParseRefusal
 keyed front byte back = cond (any_key (front ++ byte ∷ [])) (Ok (front ++ byte ∷ [], back)) (refuse NoKey back)
 
 flags_by : (front : List ℕ) (byte : ℕ) (back : List ℕ) → flags_at (suc (length front)) (front ++ byte ∷ back) ≡ keyed front byte back
@@ -40,7 +40,7 @@ no_more_keys front byte h = or_parts (any_key front) (nat_lt 0 byte || false) (s
 still_no_key : (front : List ℕ) → any_key front ≡ false → any_key (front ++ 0 ∷ []) ≡ false
 still_no_key front h = list_any-append (λ flag. nat_lt 0 flag) front (0 ∷ []) ∙ ap (λ b. b || false) h
 
-all_ones : (n : ℕ) → are_bytes (replicate n 1)
+all_ones : (n : ℕ) → steps_are_bytes (replicate n 1)
 all_ones zero = refl
 all_ones (suc n) = all_ones n
 
@@ -56,8 +56,8 @@ flags_go_on count bytes less =
     let len : length (bytes ++ replicate (suc left) 1) ≡ count = omega (arith, length-append bytes (replicate (suc left) 1), ones) in
     record { more = replicate (suc left) 1; bytes = all_ones (suc left); value = bytes ++ replicate (suc left) 1; whole = (refl, len, some_key bytes left) }
 
-flags_stop : (front : List ℕ) (byte : ℕ) (back : List ℕ) (left : ℕ) (kind : FaultKind) → keyed front byte back ≡ Err (Bad left kind) → Stopped (FlagsText (suc (length front))) (FlagsPlace (suc (length front))) (front ++ byte ∷ back) left kind
-flags_stop front byte back left kind e = elim (chosen (any_key (front ++ byte ∷ [])) (Ok (front ++ byte ∷ [], back)) (refuse NoKey back) (Err (Bad left kind)) e) as (λ w. Stopped (FlagsText (suc (length front))) (FlagsPlace (suc (length front))) (front ++ byte ∷ back) left kind) [
+flags_stop : (front : List ℕ) (byte : ℕ) (back : List ℕ) (left : ℕ) (kind : FaultKind) → keyed front byte back ≡ Err (Bad left kind) → ExactStopped (FlagsText (suc (length front))) (FlagsPlace (suc (length front))) (front ++ byte ∷ back) left kind
+flags_stop front byte back left kind e = elim (steps_chosen (any_key (front ++ byte ∷ [])) (Ok (front ++ byte ∷ [], back)) (refuse NoKey back) (Err (Bad left kind)) e) as (λ w. ExactStopped (FlagsText (suc (length front))) (FlagsPlace (suc (length front))) (front ++ byte ∷ back) left kind) [
   | inl h ↦ absurd (cc h.1)
   | inr h ↦
       let none = no_more_keys front byte h.0 in
@@ -97,19 +97,19 @@ module _ (count : ℕ) (some : 1 ≤ count) where
       let len : suc (length front) ≡ count = omega (arith, length-take n bytes) in
       (front, byte, back, whole, len, ap (flags_at count) whole ∙ ap (λ k. flags_at k (front ++ byte ∷ back)) (sym len) ∙ flags_by front byte back)
 
-  flags_stops : (bytes : List ℕ) (left : ℕ) (kind : FaultKind) → flags_at count bytes ≡ Err (Bad left kind) → Stopped (FlagsText count) (FlagsPlace count) bytes left kind
-  flags_stops bytes left kind e = elim (cases_lt (length bytes) count) as (λ w. Stopped (FlagsText count) (FlagsPlace count) bytes left kind) [
+  flags_stops : (bytes : List ℕ) (left : ℕ) (kind : FaultKind) → flags_at count bytes ≡ Err (Bad left kind) → ExactStopped (FlagsText count) (FlagsPlace count) bytes left kind
+  flags_stops bytes left kind e = elim (cases_lt (length bytes) count) as (λ w. ExactStopped (FlagsText count) (FlagsPlace count) bytes left kind) [
     | inl less ↦
         let none : Err Short ≡ Err (Bad left kind) = sym (flags_short bytes less) ∙ e in
         absurd cc
     | inr long ↦
         let p = flags_whole bytes long in
         let s = flags_stop p.0 p.1 p.2 left kind (sym p.5 ∙ e) in
-        subst (λ w. Stopped (FlagsText count) (FlagsPlace count) w left kind) (sym p.3) (subst (λ n. Stopped (FlagsText n) (FlagsPlace n) (p.0 ++ p.1 ∷ p.2) left kind) p.4 s)
+        subst (λ w. ExactStopped (FlagsText count) (FlagsPlace count) w left kind) (sym p.3) (subst (λ n. ExactStopped (FlagsText n) (FlagsPlace n) (p.0 ++ p.1 ∷ p.2) left kind) p.4 s)
   ]
 
-  flags_places : (front : List ℕ) (place : Place) (byte : ℕ) (kind : FaultKind) (more : List ℕ) → FlagsPlace count front place → wrong place byte ≡ Some kind → flags_at count (front ++ byte ∷ more) ≡ Err (Bad (suc (length more)) kind)
-  flags_places front place byte kind more h w = elim (chosen (byte == 0) (Some NoKey) None (Some kind) (sym (ap (λ p. wrong p byte) h.2) ∙ w)) as (λ w. flags_at count (front ++ byte ∷ more) ≡ Err (Bad (suc (length more)) kind)) [
+  flags_places : (front : List ℕ) (place : BytePlace) (byte : ℕ) (kind : FaultKind) (more : List ℕ) → FlagsPlace count front place → wrong place byte ≡ Some kind → flags_at count (front ++ byte ∷ more) ≡ Err (Bad (suc (length more)) kind)
+  flags_places front place byte kind more h w = elim (steps_chosen (byte == 0) (Some NoKey) None (Some kind) (sym (ap (λ p. wrong p byte) h.2) ∙ w)) as (λ w. flags_at count (front ++ byte ∷ more) ≡ Err (Bad (suc (length more)) kind)) [
     | inl is ↦
         let same : NoKey ≡ kind = cc is.1 in
         ap (λ n. flags_at n (front ++ byte ∷ more)) (sym h.0) ∙ flags_by front byte more
@@ -122,13 +122,13 @@ module _ (count : ℕ) (some : 1 ≤ count) where
     | inl less ↦ flags_go_on count bytes less
     | inr long ↦
         let p = flags_whole bytes long in
-        elim (chosen (any_key (p.0 ++ p.1 ∷ [])) (Ok (p.0 ++ p.1 ∷ [], p.2)) (refuse NoKey p.2) (Err Short) (sym p.5 ∙ e)) as (λ w. Completes (FlagsText count) bytes) [
+        elim (steps_chosen (any_key (p.0 ++ p.1 ∷ [])) (Ok (p.0 ++ p.1 ∷ [], p.2)) (refuse NoKey p.2) (Err Short) (sym p.5 ∙ e)) as (λ w. Completes (FlagsText count) bytes) [
           | inl h ↦ absurd (cc h.1)
           | inr h ↦ absurd (cc h.1)
         ]
   ]
 
-  pub flags_exact : Exact (flags_at count) (FlagsText count) (FlagsPlace count)
+  pub flags_exact : ExactReader (flags_at count) (FlagsText count) (FlagsPlace count)
   flags_exact = record {
     begins = flags_go_on count [] (omega arith);
     takes = λ bytes x fits e.

@@ -5,15 +5,15 @@ use Rattle.std.proofs.lemmas.Bool.{cases_Bool}
 use Rattle.std.proofs.lemmas.List.{append-nil, length-append}
 use Rattle.cs_model.specs.Text.{SpellsEach}
 use Rattle.cs_parse.specs.declared.fault.FaultKind.{FaultKind}
-use Rattle.cs_parse.specs.Place.{Place, wrong}
-use Rattle.cs_parse.specs.declared.stop.Refusal.{Refusal}
-use Rattle.cs_parse.specs.declared.stop.Refusal.TheVariants.{Short, Bad}
+use Rattle.cs_parse.specs.Place.{BytePlace, wrong}
+use Rattle.cs_parse.specs.declared.stop.ParseRefusal.{ParseRefusal}
+use Rattle.cs_parse.specs.declared.stop.ParseRefusal.TheVariants.{Short, Bad}
 use Rattle.cs_parse.specs.Reading.{◌>>=◌, many_at}
 use Rattle.cs_model.specs.Bytes.{AreBytes}
 use Rattle.cs_parse.proofs.Steps.{back_fits, done}
-use Rattle.cs_parse.proofs.Loops.{then_others, rest_of, many_more, many_done}
+use Rattle.cs_parse.proofs.Loops.{then_others, loops_rest_of, many_more, many_done}
 use Rattle.cs_parse.proofs.ManyLaws.{IsReader}
-use Rattle.cs_parse.proofs.Exact.{Completes, Stopped, bind_err}
+use Rattle.cs_parse.proofs.Exact.{Completes, ExactStopped, bind_err}
 
 -- a valid item and its spelling
 abbrev pub ItemText : {A : Type 0} → (List ℕ → A → Type 0) → (A → Type 0) → List ℕ → A → Type 0
@@ -23,19 +23,19 @@ abbrev pub ManyText : {A : Type 0} → (List ℕ → A → Type 0) → (A → Ty
 ManyText Spelling IsItem text xs = SpellsEach Spelling text xs × AllByRecursion IsItem xs
 
 -- in an item, behind those before it
-abbrev pub ManyPlace : {A : Type 0} → (List ℕ → A → Type 0) → (A → Type 0) → (List ℕ → Place → Type 0) → List ℕ → Place → Type 0
+abbrev pub ManyPlace : {A : Type 0} → (List ℕ → A → Type 0) → (A → Type 0) → (List ℕ → BytePlace → Type 0) → List ℕ → BytePlace → Type 0
 ManyPlace {A} Spelling IsItem S front place = (whole : List ℕ) × (xs : List A) × (part : List ℕ) × (front ≡ whole ++ part) × ManyText Spelling IsItem whole xs × S part place
 
 -- What is asked of an item's reader, where the items aren't over and what is left may follow.
-pub record IsExact {A : Type 0} (over : List ℕ → Bool) (read : List ℕ → Result (A × List ℕ) Refusal) (Spelling : List ℕ → A → Type 0) (IsItem : A → Type 0) (Follows : List ℕ → Type 0) (S : List ℕ → Place → Type 0) : Type 0 where
+pub record IsExact {A : Type 0} (over : List ℕ → Bool) (read : List ℕ → Result (A × List ℕ) ParseRefusal) (Spelling : List ℕ → A → Type 0) (IsItem : A → Type 0) (Follows : List ℕ → Type 0) (S : List ℕ → BytePlace → Type 0) : Type 0 where
   pub reader : IsReader over read Spelling IsItem Follows
   pub leaves : (bytes : List ℕ) (x : A × List ℕ) → Follows bytes → AreBytes bytes → read bytes ≡ Ok x → Follows x.1
-  pub stops : (bytes : List ℕ) (left : ℕ) (kind : FaultKind) → over bytes ≡ false → Follows bytes → AreBytes bytes → read bytes ≡ Err (Bad left kind) → Stopped (ItemText Spelling IsItem) S bytes left kind
-  pub places : (front : List ℕ) (place : Place) (byte : ℕ) (kind : FaultKind) (more : List ℕ) → S front place → wrong place byte ≡ Some kind
+  pub stops : (bytes : List ℕ) (left : ℕ) (kind : FaultKind) → over bytes ≡ false → Follows bytes → AreBytes bytes → read bytes ≡ Err (Bad left kind) → ExactStopped (ItemText Spelling IsItem) S bytes left kind
+  pub places : (front : List ℕ) (place : BytePlace) (byte : ℕ) (kind : FaultKind) (more : List ℕ) → S front place → wrong place byte ≡ Some kind
       → (over (front ++ byte ∷ more) ≡ false) × Follows (front ++ byte ∷ more) × (read (front ++ byte ∷ more) ≡ Err (Bad (suc (length more)) kind))
   pub completes : (bytes : List ℕ) → over bytes ≡ false → Follows bytes → AreBytes bytes → read bytes ≡ Err Short → Completes (ItemText Spelling IsItem) bytes
 
-module _ {A : Type 0} (over : List ℕ → Bool) (read : List ℕ → Result (A × List ℕ) Refusal) (Spelling : List ℕ → A → Type 0) (IsItem : A → Type 0) (Follows : List ℕ → Type 0) (S : List ℕ → Place → Type 0)
+module _ {A : Type 0} (over : List ℕ → Bool) (read : List ℕ → Result (A × List ℕ) ParseRefusal) (Spelling : List ℕ → A → Type 0) (IsItem : A → Type 0) (Follows : List ℕ → Type 0) (S : List ℕ → BytePlace → Type 0)
     (exact : IsExact over read Spelling IsItem Follows S) where
   -- one item, which is begun
   one_begun : (front : List ℕ) → Completes (ItemText Spelling IsItem) front → Completes (ManyText Spelling IsItem) front
@@ -50,16 +50,16 @@ module _ {A : Type 0} (over : List ℕ → Bool) (read : List ℕ → Result (A 
   less_fuel fuel bytes text rest a enough parts h = omega (arith, ap length parts, length-append text rest, exact.reader.long text a h)
 
   pub many_stops : (fuel : ℕ) (bytes : List ℕ) (left : ℕ) (kind : FaultKind) → length bytes ≤ fuel → Follows bytes → AreBytes bytes → many_at over read fuel bytes ≡ Err (Bad left kind)
-      → Stopped (ManyText Spelling IsItem) (ManyPlace Spelling IsItem S) bytes left kind
+      → ExactStopped (ManyText Spelling IsItem) (ManyPlace Spelling IsItem S) bytes left kind
   many_stops zero bytes left kind enough follows fits e = absurd (cc (sym (many_done over read zero bytes (inr refl)) ∙ e))
   many_stops (suc fuel) bytes left kind enough follows fits e =
-      elim (cases_Bool (over bytes)) as (λ w. Stopped (ManyText Spelling IsItem) (ManyPlace Spelling IsItem S) bytes left kind) [
+      elim (cases_Bool (over bytes)) as (λ w. ExactStopped (ManyText Spelling IsItem) (ManyPlace Spelling IsItem S) bytes left kind) [
         | inl ended ↦ absurd (cc (sym (many_done over read (suc fuel) bytes (inl ended)) ∙ e))
-        | inr more ↦ elim (bind_err (read bytes) (rest_of over read fuel) (Bad left kind) (sym (many_more over read fuel bytes more) ∙ e)) as (λ w. Stopped (ManyText Spelling IsItem) (ManyPlace Spelling IsItem S) bytes left kind) [
+        | inr more ↦ elim (bind_err (read bytes) (loops_rest_of over read fuel) (Bad left kind) (sym (many_more over read fuel bytes more) ∙ e)) as (λ w. ExactStopped (ManyText Spelling IsItem) (ManyPlace Spelling IsItem S) bytes left kind) [
           | inl h ↦
               let s = exact.stops bytes left kind more follows fits h in
               record { front = s.front; byte = s.byte; back = s.back; place = s.place; parts = s.parts; left_is = s.left_is; alive = one_begun s.front s.alive; stands = ([], [], s.front, refl, (refl, tt), s.stands); is_wrong = s.is_wrong }
-          | inr h ↦ elim (bind_err (many_at over read fuel h.0.1) (λ others. done (h.0.0 ∷ others.0, others.1)) (Bad left kind) h.2) as (λ w. Stopped (ManyText Spelling IsItem) (ManyPlace Spelling IsItem S) bytes left kind) [
+          | inr h ↦ elim (bind_err (many_at over read fuel h.0.1) (λ others. done (h.0.0 ∷ others.0, others.1)) (Bad left kind) h.2) as (λ w. ExactStopped (ManyText Spelling IsItem) (ManyPlace Spelling IsItem S) bytes left kind) [
             | inl k ↦
                 let t = exact.reader.takes bytes h.0 fits h.1 in
                 let text = t.0.text in
@@ -88,7 +88,7 @@ module _ {A : Type 0} (over : List ℕ → Bool) (read : List ℕ → Result (A 
   many_completes (suc fuel) bytes enough follows fits e =
       elim (cases_Bool (over bytes)) as (λ w. Completes (ManyText Spelling IsItem) bytes) [
         | inl ended ↦ absurd (cc (sym (many_done over read (suc fuel) bytes (inl ended)) ∙ e))
-        | inr more ↦ elim (bind_err (read bytes) (rest_of over read fuel) Short (sym (many_more over read fuel bytes more) ∙ e)) as (λ w. Completes (ManyText Spelling IsItem) bytes) [
+        | inr more ↦ elim (bind_err (read bytes) (loops_rest_of over read fuel) Short (sym (many_more over read fuel bytes more) ∙ e)) as (λ w. Completes (ManyText Spelling IsItem) bytes) [
           | inl h ↦ one_begun bytes (exact.completes bytes more follows fits h)
           | inr h ↦ elim (bind_err (many_at over read fuel h.0.1) (λ others. done (h.0.0 ∷ others.0, others.1)) Short h.2) as (λ w. Completes (ManyText Spelling IsItem) bytes) [
             | inl k ↦
@@ -108,12 +108,12 @@ module _ {A : Type 0} (over : List ℕ → Bool) (read : List ℕ → Result (A 
       let regrouped : whole ++ rest ≡ h.0 ++ (h.1 ++ rest) = ap (λ w. w ++ rest) h.2 ∙ append_assoc h.0 h.1 rest in
       subst (λ w. Follows w) (sym regrouped) (exact.reader.follows h.0 x (h.1 ++ rest) h.3)
 
-  pub many_places : (fuel : ℕ) (whole : List ℕ) (xs : List A) (part : List ℕ) (place : Place) (byte : ℕ) (kind : FaultKind) (more : List ℕ) → ManyText Spelling IsItem whole xs → S part place → wrong place byte ≡ Some kind → length (whole ++ (part ++ byte ∷ more)) ≤ fuel
+  pub many_places : (fuel : ℕ) (whole : List ℕ) (xs : List A) (part : List ℕ) (place : BytePlace) (byte : ℕ) (kind : FaultKind) (more : List ℕ) → ManyText Spelling IsItem whole xs → S part place → wrong place byte ≡ Some kind → length (whole ++ (part ++ byte ∷ more)) ≤ fuel
       → many_at over read fuel (whole ++ (part ++ byte ∷ more)) ≡ Err (Bad (suc (length more)) kind)
   many_places zero whole xs part place byte kind more h stands w enough = absurd (omega (arith, length-append whole (part ++ byte ∷ more), length-append part (byte ∷ more)))
   many_places (suc fuel) whole [] part place byte kind more h stands w enough =
       let p = exact.places part place byte kind more stands w in
-      ap (λ v. many_at over read (suc fuel) (v ++ (part ++ byte ∷ more))) h.0 ∙ many_more over read fuel (part ++ byte ∷ more) p.0 ∙ ap (λ r. r >>= rest_of over read fuel) p.2
+      ap (λ v. many_at over read (suc fuel) (v ++ (part ++ byte ∷ more))) h.0 ∙ many_more over read fuel (part ++ byte ∷ more) p.0 ∙ ap (λ r. r >>= loops_rest_of over read fuel) p.2
   many_places (suc fuel) whole (x ∷ xs) part place byte kind more h stands w enough =
       let rest = part ++ byte ∷ more in
       let front = h.0.0 in
@@ -124,5 +124,5 @@ module _ {A : Type 0} (over : List ℕ → Bool) (read : List ℕ → Result (A 
       let others = many_places fuel back xs part place byte kind more (h.0.4, h.1.1) stands w less in
       ap (many_at over read (suc fuel)) regrouped
       ∙ many_more over read fuel (front ++ (back ++ rest)) (exact.reader.goes_on front x (back ++ rest) h.0.3)
-      ∙ ap (λ r. r >>= rest_of over read fuel) first
+      ∙ ap (λ r. r >>= loops_rest_of over read fuel) first
       ∙ ap (then_others x) others

@@ -5,21 +5,21 @@ use Rattle.std.proofs.lemmas.Bool.{lt-ltb, eqb-true, and_from, and_parts}
 use Rattle.std.proofs.lemmas.List.{nil_from_length}
 use Rattle.cs_parse.specs.declared.fault.FaultKind.{FaultKind}
 use Rattle.cs_parse.specs.declared.fault.FaultKind.TheVariants.{EmptyName, NameTooLong}
-use Rattle.cs_parse.specs.Place.{Place, FirstLetter, PastName, wrong}
-use Rattle.cs_parse.specs.declared.stop.Refusal.{Refusal}
-use Rattle.cs_parse.specs.declared.stop.Refusal.TheVariants.{Short, Bad}
+use Rattle.cs_parse.specs.Place.{BytePlace, FirstLetter, PastName, wrong}
+use Rattle.cs_parse.specs.declared.stop.ParseRefusal.{ParseRefusal}
+use Rattle.cs_parse.specs.declared.stop.ParseRefusal.TheVariants.{Short, Bad}
 use Rattle.cs_parse.specs.Reading.{◌>>=◌, refuse, letters_at, name_at}
-use Rattle.cs_parse.proofs.Steps.{chosen}
+use Rattle.cs_parse.proofs.Steps.{steps_chosen}
 use Rattle.cs_parse.proofs.Letters.{no_zero, nonzero, letter_and, letters_end, letters_full, letters_more, letters_short, letters_take, name_takes, name_again}
-use Rattle.cs_parse.proofs.Exact.{Completes, Stopped, Exact, bind_err}
+use Rattle.cs_parse.proofs.Exact.{Completes, ExactStopped, ExactReader, bind_err}
 
 abbrev pub NameText : List ℕ → List ℕ → Type 0
 NameText text name = (text ≡ name ++ 0 ∷ []) × (0 < length name) × (length name ≤ 1024) × (no_zero name ≡ true)
 
-abbrev pub NamePlace : List ℕ → Place → Type 0
+abbrev pub NamePlace : List ℕ → BytePlace → Type 0
 NamePlace front place = ((front ≡ []) × (place ≡ FirstLetter)) ⊎ ((length front ≡ 1024) × (no_zero front ≡ true) × (place ≡ PastName))
 
-abbrev nothing_read : List ℕ → Result (List ℕ × List ℕ) Refusal
+abbrev nothing_read : List ℕ → Result (List ℕ × List ℕ) ParseRefusal
 nothing_read rest = Ok ([], rest)
 
 -- letters up to a byte that is one too many
@@ -33,8 +33,8 @@ record TooMany (most : ℕ) (bytes : List ℕ) (left : ℕ) (kind : FaultKind) :
   left_is : left ≡ suc (length back)
   same : NameTooLong ≡ kind
 
-one_more : (b : ℕ) (name : List ℕ) → no_zero name ≡ true → no_zero (suc b ∷ name) ≡ true
-one_more b name h = and_from (nat_lt 0 (suc b)) (no_zero name) (lt-ltb 0 (suc b) (omega arith)) h
+exact_names_one_more : (b : ℕ) (name : List ℕ) → no_zero name ≡ true → no_zero (suc b ∷ name) ≡ true
+exact_names_one_more b name h = and_from (nat_lt 0 (suc b)) (no_zero name) (lt-ltb 0 (suc b) (omega arith)) h
 
 letters_bad : (most : ℕ) (bytes : List ℕ) (left : ℕ) (kind : FaultKind) → letters_at most bytes ≡ Err (Bad left kind) → TooMany most bytes left kind
 letters_bad most [] left kind e =
@@ -51,7 +51,7 @@ letters_bad zero (suc b ∷ rest) left kind e =
 letters_bad (suc most) (suc b ∷ rest) left kind e = elim (bind_err (letters_at most rest) (letter_and (suc b)) (Bad left kind) (sym (letters_more most b rest) ∙ e)) as (λ w. TooMany (suc most) (suc b ∷ rest) left kind) [
   | inl h ↦
       let t = letters_bad most rest left kind h in
-      record { front = suc b ∷ t.front; byte = t.byte; back = t.back; parts = ap (λ w. suc b ∷ w) t.parts; full = ap suc t.full; whole = one_more b t.front t.whole; left_is = t.left_is; same = t.same }
+      record { front = suc b ∷ t.front; byte = t.byte; back = t.back; parts = ap (λ w. suc b ∷ w) t.parts; full = ap suc t.full; whole = exact_names_one_more b t.front t.whole; left_is = t.left_is; same = t.same }
   | inr h ↦ absurd (cc h.2)
 ]
 
@@ -75,26 +75,26 @@ letters_open zero (suc b ∷ rest) e =
 letters_open (suc most) (suc b ∷ rest) e = elim (bind_err (letters_at most rest) (letter_and (suc b)) Short (sym (letters_more most b rest) ∙ e)) as (λ w. (length (suc b ∷ rest) ≤ suc most) × (no_zero (suc b ∷ rest) ≡ true)) [
   | inl h ↦
       let t = letters_open most rest h in
-      (omega (arith, t.0), one_more b rest t.1)
+      (omega (arith, t.0), exact_names_one_more b rest t.1)
   | inr h ↦ absurd (cc h.2)
 ]
 
-abbrev checked : List ℕ × List ℕ → Result (List ℕ × List ℕ) Refusal
-checked name = cond (eqb (length name.0) 0) (refuse EmptyName name.1) (Ok name)
+abbrev exact_names_checked : List ℕ × List ℕ → Result (List ℕ × List ℕ) ParseRefusal
+exact_names_checked name = cond (eqb (length name.0) 0) (refuse EmptyName name.1) (Ok name)
 
-name_is : (bytes : List ℕ) → name_at bytes ≡ (letters_at 1024 bytes >>= checked)
+name_is : (bytes : List ℕ) → name_at bytes ≡ (letters_at 1024 bytes >>= exact_names_checked)
 unfolding name_at
 name_is bytes = refl
 
 no_name : Completes NameText []
 no_name = record { more = 1 ∷ 0 ∷ []; bytes = refl; value = 1 ∷ []; whole = (refl, omega arith, omega arith, refl) }
 
-name_goes_on : (bytes : List ℕ) → length bytes ≤ 1024 → no_zero bytes ≡ true → Completes NameText bytes
-name_goes_on [] short whole = no_name
-name_goes_on (b ∷ bytes) short whole = record { more = 0 ∷ []; bytes = refl; value = b ∷ bytes; whole = (refl, omega arith, short, whole) }
+exact_name_goes_on : (bytes : List ℕ) → length bytes ≤ 1024 → no_zero bytes ≡ true → Completes NameText bytes
+exact_name_goes_on [] short whole = no_name
+exact_name_goes_on (b ∷ bytes) short whole = record { more = 0 ∷ []; bytes = refl; value = b ∷ bytes; whole = (refl, omega arith, short, whole) }
 
-name_stops : (bytes : List ℕ) (left : ℕ) (kind : FaultKind) → name_at bytes ≡ Err (Bad left kind) → Stopped NameText NamePlace bytes left kind
-name_stops bytes left kind e = elim (bind_err (letters_at 1024 bytes) checked (Bad left kind) (sym (name_is bytes) ∙ e)) as (λ w. Stopped NameText NamePlace bytes left kind) [
+name_stops : (bytes : List ℕ) (left : ℕ) (kind : FaultKind) → name_at bytes ≡ Err (Bad left kind) → ExactStopped NameText NamePlace bytes left kind
+name_stops bytes left kind e = elim (bind_err (letters_at 1024 bytes) exact_names_checked (Bad left kind) (sym (name_is bytes) ∙ e)) as (λ w. ExactStopped NameText NamePlace bytes left kind) [
   | inl h ↦
       let t = letters_bad 1024 bytes left kind h in
       record {
@@ -104,11 +104,11 @@ name_stops bytes left kind e = elim (bind_err (letters_at 1024 bytes) checked (B
         place = PastName;
         parts = t.parts;
         left_is = t.left_is;
-        alive = name_goes_on t.front (omega (arith, t.full)) t.whole;
+        alive = exact_name_goes_on t.front (omega (arith, t.full)) t.whole;
         stands = inr (t.full, t.whole, refl);
         is_wrong = ap (λ b. cond b None (Some NameTooLong)) (nonzero t.byte) ∙ ap (λ k. Some k) t.same;
       }
-  | inr h ↦ elim (chosen (eqb (length h.0.0) 0) (refuse EmptyName h.0.1) (Ok h.0) (Err (Bad left kind)) h.2) as (λ w. Stopped NameText NamePlace bytes left kind) [
+  | inr h ↦ elim (steps_chosen (eqb (length h.0.0) 0) (refuse EmptyName h.0.1) (Ok h.0) (Err (Bad left kind)) h.2) as (λ w. ExactStopped NameText NamePlace bytes left kind) [
     | inl empty ↦
         let nothing : h.0.0 ≡ [] = nil_from_length h.0.0 (eqb-true (length h.0.0) 0 empty.0) in
         let whole : bytes ≡ 0 ∷ h.0.1 = (letters_take 1024 bytes h.0 h.1).0 ∙ ap (λ w. w ++ 0 ∷ h.0.1) nothing in
@@ -119,12 +119,12 @@ name_stops bytes left kind e = elim (bind_err (letters_at 1024 bytes) checked (B
   ]
 ]
 
-name_places : (front : List ℕ) (place : Place) (byte : ℕ) (kind : FaultKind) (more : List ℕ) → NamePlace front place → wrong place byte ≡ Some kind → name_at (front ++ byte ∷ more) ≡ Err (Bad (suc (length more)) kind)
-name_places front place byte kind more (inl h) w = elim (chosen (byte == 0) (Some EmptyName) None (Some kind) (sym (ap (λ p. wrong p byte) h.1) ∙ w)) as (λ w. name_at (front ++ byte ∷ more) ≡ Err (Bad (suc (length more)) kind)) [
+name_places : (front : List ℕ) (place : BytePlace) (byte : ℕ) (kind : FaultKind) (more : List ℕ) → NamePlace front place → wrong place byte ≡ Some kind → name_at (front ++ byte ∷ more) ≡ Err (Bad (suc (length more)) kind)
+name_places front place byte kind more (inl h) w = elim (steps_chosen (byte == 0) (Some EmptyName) None (Some kind) (sym (ap (λ p. wrong p byte) h.1) ∙ w)) as (λ w. name_at (front ++ byte ∷ more) ≡ Err (Bad (suc (length more)) kind)) [
   | inl is ↦
       let same : EmptyName ≡ kind = cc is.1 in
       let whole : front ++ byte ∷ more ≡ 0 ∷ more = ap (λ w. w ++ byte ∷ more) h.0 ∙ ap (λ b. b ∷ more) (eqb-true byte 0 is.0) in
-      name_is (front ++ byte ∷ more) ∙ ap (λ w. letters_at 1024 w >>= checked) whole ∙ ap (λ r. r >>= checked) (letters_end 1024 more) ∙ ap (λ k. Err (Bad (suc (length more)) k)) same
+      name_is (front ++ byte ∷ more) ∙ ap (λ w. letters_at 1024 w >>= exact_names_checked) whole ∙ ap (λ r. r >>= exact_names_checked) (letters_end 1024 more) ∙ ap (λ k. Err (Bad (suc (length more)) k)) same
   | inr other ↦ absurd (cc other.1)
 ]
 name_places front place zero kind more (inr h) w =
@@ -133,20 +133,20 @@ name_places front place zero kind more (inr h) w =
 name_places front place (suc b) kind more (inr h) w =
     let is : Some NameTooLong ≡ Some kind = sym (ap (λ t. cond t None (Some NameTooLong)) (nonzero b)) ∙ sym (ap (λ p. wrong p (suc b)) h.2) ∙ w in
     let same : NameTooLong ≡ kind = cc in
-    name_is (front ++ suc b ∷ more) ∙ ap (λ r. r >>= checked) (letters_over 1024 front b more h.0 h.1) ∙ ap (λ k. Err (Bad (suc (length more)) k)) same
+    name_is (front ++ suc b ∷ more) ∙ ap (λ r. r >>= exact_names_checked) (letters_over 1024 front b more h.0 h.1) ∙ ap (λ k. Err (Bad (suc (length more)) k)) same
 
 name_complete : (bytes : List ℕ) → name_at bytes ≡ Err Short → Completes NameText bytes
-name_complete bytes e = elim (bind_err (letters_at 1024 bytes) checked Short (sym (name_is bytes) ∙ e)) as (λ w. Completes NameText bytes) [
+name_complete bytes e = elim (bind_err (letters_at 1024 bytes) exact_names_checked Short (sym (name_is bytes) ∙ e)) as (λ w. Completes NameText bytes) [
   | inl h ↦
       let t = letters_open 1024 bytes h in
-      name_goes_on bytes t.0 t.1
-  | inr h ↦ elim (chosen (eqb (length h.0.0) 0) (refuse EmptyName h.0.1) (Ok h.0) (Err Short) h.2) as (λ w. Completes NameText bytes) [
+      exact_name_goes_on bytes t.0 t.1
+  | inr h ↦ elim (steps_chosen (eqb (length h.0.0) 0) (refuse EmptyName h.0.1) (Ok h.0) (Err Short) h.2) as (λ w. Completes NameText bytes) [
     | inl empty ↦ absurd (cc empty.1)
     | inr other ↦ absurd (cc other.1)
   ]
 ]
 
-pub name_exact : Exact name_at NameText NamePlace
+pub name_exact : ExactReader name_at NameText NamePlace
 name_exact = record {
   begins = no_name;
   takes = λ bytes x fits e.

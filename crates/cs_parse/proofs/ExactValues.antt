@@ -11,33 +11,33 @@ use Rattle.cs_model.specs.Changeset.{IsField}
 use Rattle.cs_model.specs.Text.{SpellsBytes, SpellsField}
 use Rattle.cs_model.specs.Varint.{IsVarint}
 use Rattle.cs_parse.specs.declared.fault.FaultKind.TheVariants.{BadType, Real}
-use Rattle.cs_parse.specs.Place.{Place, rule_refusal, type_refusal}
-use Rattle.cs_parse.proofs.Steps.{are_bytes, bytes_from, bytes_to}
-use Rattle.cs_parse.specs.declared.stop.Refusal.{Refusal}
-use Rattle.cs_parse.specs.declared.stop.Refusal.TheVariants.{Short, Bad}
+use Rattle.cs_parse.specs.Place.{BytePlace, rule_refusal, type_refusal}
+use Rattle.cs_parse.proofs.Steps.{steps_are_bytes, bytes_from, bytes_to}
+use Rattle.cs_parse.specs.declared.stop.ParseRefusal.{ParseRefusal}
+use Rattle.cs_parse.specs.declared.stop.ParseRefusal.TheVariants.{Short, Bad}
 use Rattle.cs_parse.specs.Reading.{◌>>=◌, length_at, integer_at, counted_at, typed_at}
 use Rattle.cs_model.specs.Bytes.{AreBytes}
-use Rattle.cs_parse.proofs.Steps.{Takes, done, ok_is, guard_ok, chosen}
+use Rattle.cs_parse.proofs.Steps.{Takes, done, ok_is, guard_ok, steps_chosen}
 use Rattle.cs_parse.proofs.NumberLaws.{SpellsInteger, integer_takes, integer_again}
 use Rattle.cs_parse.proofs.FieldLaws.{type_byte}
-use Rattle.cs_parse.proofs.Exact.{Completes, Stopped, Exact, Nowhere, Nothing, SeqText, SeqPlace, seq, are_bytes-append, seq_exact, pure_exact, mapped_exact, renamed}
+use Rattle.cs_parse.proofs.Exact.{Completes, ExactStopped, ExactReader, Nowhere, ExactNothing, SeqText, SeqPlace, seq, are_bytes-append, seq_exact, pure_exact, mapped_exact, renamed}
 use Rattle.cs_parse.proofs.ExactNumbers.{LengthText, InLengthDigits, length_exact}
 
 -- ---- bytes
 
-all_zero : (n : ℕ) → are_bytes (replicate n 0)
+all_zero : (n : ℕ) → steps_are_bytes (replicate n 0)
 all_zero zero = refl
 all_zero (suc n) = all_zero n
 
 -- zeros up to so many bytes
-filled : (n : ℕ) (bytes : List ℕ) → length bytes < n → length (bytes ++ replicate (n - length bytes) 0) ≡ n
-filled n bytes less =
+exact_values_filled : (n : ℕ) (bytes : List ℕ) → length bytes < n → length (bytes ++ replicate (n - length bytes) 0) ≡ n
+exact_values_filled n bytes less =
     let zeros : length (replicate (n - length bytes) 0) ≡ n - length bytes = length-replicate {A = ℕ} (n - length bytes) 0 in
     omega (arith, length-append bytes (replicate (n - length bytes) 0), zeros)
 
 -- ---- so many bytes
 
-abbrev taken : ℕ → List ℕ → Result (List ℕ × List ℕ) Refusal
+abbrev taken : ℕ → List ℕ → Result (List ℕ × List ℕ) ParseRefusal
 taken n bytes = cond (ltb (length bytes) n) (Err Short) (Ok (take n bytes, drop n bytes))
 
 abbrev TakenText : ℕ → List ℕ → List ℕ → Type 0
@@ -45,11 +45,11 @@ TakenText n text bytes = (text ≡ bytes) × (length bytes ≡ n)
 
 taken_goes_on : (n : ℕ) (bytes : List ℕ) → length bytes ≤ n → Completes (TakenText n) bytes
 taken_goes_on n bytes short = elim (cases_lt (length bytes) n) as (λ w. Completes (TakenText n) bytes) [
-  | inl less ↦ record { more = replicate (n - length bytes) 0; bytes = all_zero (n - length bytes); value = bytes ++ replicate (n - length bytes) 0; whole = (refl, filled n bytes less) }
+  | inl less ↦ record { more = replicate (n - length bytes) 0; bytes = all_zero (n - length bytes); value = bytes ++ replicate (n - length bytes) 0; whole = (refl, exact_values_filled n bytes less) }
   | inr full ↦ record { more = []; bytes = refl; value = bytes; whole = (append-nil bytes, omega arith) }
 ]
 
-taken_exact : (n : ℕ) → Exact (taken n) (TakenText n) Nowhere
+taken_exact : (n : ℕ) → ExactReader (taken n) (TakenText n) Nowhere
 taken_exact n = record {
   begins = taken_goes_on n [] (omega arith);
   takes = λ bytes x fits e.
@@ -60,12 +60,12 @@ taken_exact n = record {
   again = λ text bytes rest h.
       let long : ltb (length (bytes ++ rest)) n ≡ false = le-ltb _ _ (omega (arith, length-append bytes rest, h.1)) in
       ap (λ w. taken n (w ++ rest)) h.0 ∙ rw (long, take_at bytes rest n h.1, drop_at bytes rest n h.1) refl;
-  stops = λ bytes left kind fits e. elim (chosen (ltb (length bytes) n) (Err Short) (Ok (take n bytes, drop n bytes)) (Err (Bad left kind)) e) as (λ w. Stopped (TakenText n) Nowhere bytes left kind) [
+  stops = λ bytes left kind fits e. elim (steps_chosen (ltb (length bytes) n) (Err Short) (Ok (take n bytes, drop n bytes)) (Err (Bad left kind)) e) as (λ w. ExactStopped (TakenText n) Nowhere bytes left kind) [
     | inl h ↦ absurd (cc h.1)
     | inr h ↦ absurd (cc h.1)
   ];
   places = λ front place byte kind more h w. absurd h;
-  completes = λ bytes fits e. elim (chosen (ltb (length bytes) n) (Err Short) (Ok (take n bytes, drop n bytes)) (Err Short) e) as (λ w. Completes (TakenText n) bytes) [
+  completes = λ bytes fits e. elim (steps_chosen (ltb (length bytes) n) (Err Short) (Ok (take n bytes, drop n bytes)) (Err Short) e) as (λ w. Completes (TakenText n) bytes) [
     | inl h ↦
         let less = ltb-true (length bytes) n h.0 in
         taken_goes_on n bytes (omega arith)
@@ -76,7 +76,7 @@ taken_exact n = record {
 abbrev CountedText : List ℕ → List ℕ → Type 0
 CountedText text bytes = SpellsBytes text bytes × (length bytes ≤ 16777216)
 
-counted_exact : Exact counted_at CountedText InLengthDigits
+counted_exact : ExactReader counted_at CountedText InLengthDigits
 unfolding counted_at
 counted_exact =
     renamed (seq length_at taken) (SeqText LengthText TakenText) CountedText (SeqPlace LengthText InLengthDigits (λ n. Nowhere)) InLengthDigits (record {
@@ -98,7 +98,7 @@ unfolding integer_at
 integer_goes_on bytes fits less =
     let zeros = replicate (8 - length bytes) 0 in
     let whole = bytes ++ zeros in
-    let len = filled 8 bytes less in
+    let len = exact_values_filled 8 bytes less in
     let all = bytes_from whole (are_bytes-append bytes zeros (bytes_to bytes fits) (all_zero (8 - length bytes))) in
     let n = cast_signed w64 (from_be_bytes w64 (take 8 whole)) in
     let read : integer_at whole ≡ Ok (n, drop 8 whole) = ap (λ b. cond b (Err Short) (Ok (n, drop 8 whole))) (le-ltb (length whole) 8 (omega (arith, len))) in
@@ -107,16 +107,16 @@ integer_goes_on bytes fits less =
     let same : t.0.text ≡ whole = sym (t.0.parts ∙ ap (λ w. t.0.text ++ w) nothing ∙ append-nil t.0.text) in
     record { more = zeros; bytes = all_zero (8 - length bytes); value = n; whole = (subst (λ w. SpellsInteger w n) same t.0.spelled, t.1) }
 
-integer_fails : (bytes : List ℕ) (e : Refusal) → integer_at bytes ≡ Err e → (length bytes < 8) × (e ≡ Short)
+integer_fails : (bytes : List ℕ) (e : ParseRefusal) → integer_at bytes ≡ Err e → (length bytes < 8) × (e ≡ Short)
 unfolding integer_at
-integer_fails bytes e h = elim (chosen (ltb (length bytes) 8) (Err Short) (Ok (cast_signed w64 (from_be_bytes w64 (take 8 bytes)), drop 8 bytes)) (Err e) h) as (λ w. (length bytes < 8) × (e ≡ Short)) [
+integer_fails bytes e h = elim (steps_chosen (ltb (length bytes) 8) (Err Short) (Ok (cast_signed w64 (from_be_bytes w64 (take 8 bytes)), drop 8 bytes)) (Err e) h) as (λ w. (length bytes < 8) × (e ≡ Short)) [
   | inl k ↦
       let same : e ≡ Short = cc k.1 in
       (ltb-true (length bytes) 8 k.0, same)
   | inr k ↦ absurd (cc k.1)
 ]
 
-integer_exact : Exact integer_at IntegerText Nowhere
+integer_exact : ExactReader integer_at IntegerText Nowhere
 integer_exact = record {
   begins = integer_goes_on [] (bytes_from [] refl) (omega arith);
   takes = λ bytes x fits e.
@@ -135,7 +135,7 @@ integer_exact = record {
 abbrev pub TypedText : ℕ → List ℕ → Field → Type 0
 TypedText byte text field = SpellsField (byte ∷ text) field × IsField field
 
-abbrev pub TypedPlace : ℕ → List ℕ → Place → Type 0
+abbrev pub TypedPlace : ℕ → List ℕ → BytePlace → Type 0
 TypedPlace byte front place = ((byte ≡ 3) ⊎ (byte ≡ 4)) × InLengthDigits front place
 
 pub byte_is : (byte : ℕ) (text : List ℕ) (field : Field) → SpellsField (byte ∷ text) field → byte ≡ type_byte field
@@ -145,11 +145,11 @@ byte_is byte text (Is (Text bytes)) h = cc h.1
 byte_is byte text (Is (Blob bytes)) h = cc h.1
 byte_is byte text (Is Null) h = cc
 
-no_length : (byte : ℕ) (front : List ℕ) (place : Place) → (byte ≡ 3 → ⊥) → (byte ≡ 4 → ⊥) → TypedPlace byte front place → ⊥
+no_length : (byte : ℕ) (front : List ℕ) (place : BytePlace) → (byte ≡ 3 → ⊥) → (byte ≡ 4 → ⊥) → TypedPlace byte front place → ⊥
 no_length byte front place not_text not_blob (inl e, h) = not_text e
 no_length byte front place not_text not_blob (inr e, h) = not_blob e
 
-undefined_is : (text : List ℕ) (field : Field) → TypedText 0 text field → Nothing Undefined text field
+undefined_is : (text : List ℕ) (field : Field) → TypedText 0 text field → ExactNothing Undefined text field
 undefined_is text Undefined h =
     let spelled = h.0 in
     (cc, refl)
@@ -158,7 +158,7 @@ undefined_is text (Is (Text bytes)) h = absurd (cc (byte_is 0 text (Is (Text byt
 undefined_is text (Is (Blob bytes)) h = absurd (cc (byte_is 0 text (Is (Blob bytes)) h.0))
 undefined_is text (Is Null) h = absurd (cc (byte_is 0 text (Is Null) h.0))
 
-null_is : (text : List ℕ) (field : Field) → TypedText 5 text field → Nothing (Is Null) text field
+null_is : (text : List ℕ) (field : Field) → TypedText 5 text field → ExactNothing (Is Null) text field
 null_is text Undefined h = absurd (cc (byte_is 5 text Undefined h.0))
 null_is text (Is (Integer n)) h = absurd (cc (byte_is 5 text (Is (Integer n)) h.0))
 null_is text (Is (Text bytes)) h = absurd (cc (byte_is 5 text (Is (Text bytes)) h.0))
@@ -195,25 +195,25 @@ blob_is text (Is (Text bytes)) h = absurd (cc (byte_is 4 text (Is (Text bytes)) 
 blob_is text (Is (Blob bytes)) h = (bytes, (behind_kind 4 text h.0.0 bytes h.0.1 h.0.2, h.1), refl)
 blob_is text (Is Null) h = absurd (cc (byte_is 4 text (Is Null) h.0))
 
-undefined_exact : Exact (typed_at 0) (TypedText 0) (TypedPlace 0)
+undefined_exact : ExactReader (typed_at 0) (TypedText 0) (TypedPlace 0)
 unfolding typed_at
-undefined_exact = renamed (λ bytes. done (Undefined, bytes)) (Nothing Undefined) (TypedText 0) Nowhere (TypedPlace 0) (record {
+undefined_exact = renamed (λ bytes. done (Undefined, bytes)) (ExactNothing Undefined) (TypedText 0) Nowhere (TypedPlace 0) (record {
   text_to = λ text field h. subst (λ f. TypedText 0 text f) (sym h.1) (ap (λ w. 0 ∷ w) h.0, tt);
   text_from = undefined_is;
   place_to = λ front place h. absurd h;
   place_from = λ front place h. absurd (no_length 0 front place (λ e. absurd cc) (λ e. absurd cc) h);
 }) (pure_exact Undefined)
 
-null_exact : Exact (typed_at 5) (TypedText 5) (TypedPlace 5)
+null_exact : ExactReader (typed_at 5) (TypedText 5) (TypedPlace 5)
 unfolding typed_at
-null_exact = renamed (λ bytes. done (Is Null, bytes)) (Nothing (Is Null)) (TypedText 5) Nowhere (TypedPlace 5) (record {
+null_exact = renamed (λ bytes. done (Is Null, bytes)) (ExactNothing (Is Null)) (TypedText 5) Nowhere (TypedPlace 5) (record {
   text_to = λ text field h. subst (λ f. TypedText 5 text f) (sym h.1) (ap (λ w. 5 ∷ w) h.0, tt);
   text_from = null_is;
   place_to = λ front place h. absurd h;
   place_from = λ front place h. absurd (no_length 5 front place (λ e. absurd cc) (λ e. absurd cc) h);
 }) (pure_exact (Is Null))
 
-number_exact : Exact (typed_at 1) (TypedText 1) (TypedPlace 1)
+number_exact : ExactReader (typed_at 1) (TypedText 1) (TypedPlace 1)
 unfolding typed_at
 number_exact = renamed (λ bytes. integer_at bytes >>= λ x. done (Is (Integer x.0), x.1)) (λ text field. (n : ℤ) × IntegerText text n × (field ≡ Is (Integer n))) (TypedText 1) Nowhere (TypedPlace 1) (record {
   text_to = λ text field h. subst (λ f. TypedText 1 text f) (sym h.2) (ap (λ w. 1 ∷ w) h.1.0, h.1.1);
@@ -222,7 +222,7 @@ number_exact = renamed (λ bytes. integer_at bytes >>= λ x. done (Is (Integer x
   place_from = λ front place h. absurd (no_length 1 front place (λ e. absurd cc) (λ e. absurd cc) h);
 }) (mapped_exact (λ n. Is (Integer n)) integer_at IntegerText Nowhere integer_exact)
 
-text_exact : Exact (typed_at 3) (TypedText 3) (TypedPlace 3)
+text_exact : ExactReader (typed_at 3) (TypedText 3) (TypedPlace 3)
 unfolding typed_at
 text_exact = renamed (λ bytes. counted_at bytes >>= λ x. done (Is (Text x.0), x.1)) (λ text field. (bytes : List ℕ) × CountedText text bytes × (field ≡ Is (Text bytes))) (TypedText 3) InLengthDigits (TypedPlace 3) (record {
   text_to = λ text field h. subst (λ f. TypedText 3 text f) (sym h.2) ((text, refl, h.1.0), h.1.1);
@@ -231,7 +231,7 @@ text_exact = renamed (λ bytes. counted_at bytes >>= λ x. done (Is (Text x.0), 
   place_from = λ front place h. h.1;
 }) (mapped_exact (λ bytes. Is (Text bytes)) counted_at CountedText InLengthDigits counted_exact)
 
-blob_exact : Exact (typed_at 4) (TypedText 4) (TypedPlace 4)
+blob_exact : ExactReader (typed_at 4) (TypedText 4) (TypedPlace 4)
 unfolding typed_at
 blob_exact = renamed (λ bytes. counted_at bytes >>= λ x. done (Is (Blob x.0), x.1)) (λ text field. (bytes : List ℕ) × CountedText text bytes × (field ≡ Is (Blob bytes))) (TypedText 4) InLengthDigits (TypedPlace 4) (record {
   text_to = λ text field h. subst (λ f. TypedText 4 text f) (sym h.2) ((text, refl, h.1.0), h.1.1);
@@ -243,7 +243,7 @@ blob_exact = renamed (λ bytes. counted_at bytes >>= λ x. done (Is (Blob x.0), 
 large : (byte : ℕ) → ltb 5 (suc (suc (suc (suc (suc (suc byte)))))) ≡ true
 large byte = lt-ltb 5 (suc (suc (suc (suc (suc (suc byte)))))) (omega arith)
 
-pub typed_exact : (rule : Rule) (byte : ℕ) → type_refusal rule byte ≡ None → Exact (typed_at byte) (TypedText byte) (TypedPlace byte)
+pub typed_exact : (rule : Rule) (byte : ℕ) → type_refusal rule byte ≡ None → ExactReader (typed_at byte) (TypedText byte) (TypedPlace byte)
 typed_exact rule zero none = undefined_exact
 typed_exact rule (suc zero) none = number_exact
 typed_exact rule (suc (suc zero)) none = absurd (cc none)

@@ -72,34 +72,34 @@ follows (PairedWith (Is old)) Undefined h = absurd cc
 follows (PairedWith (Is old)) (Is value) h = refl
 
 -- a field that follows its rule, and its spelling
-abbrev Reads : Rule → List ℕ → Field × List ℕ → Type 0
-Reads rule bytes x = Takes SpellsField bytes x × IsField x.0 × (meets rule x.0 ≡ true)
+abbrev FieldReads : Rule → List ℕ → Field × List ℕ → Type 0
+FieldReads rule bytes x = Takes SpellsField bytes x × IsField x.0 × (meets rule x.0 ≡ true)
 
-pub typed_takes : (rule : Rule) (byte : ℕ) (rest : List ℕ) (x : Field × List ℕ) → AreBytes rest → type_refusal rule byte ≡ None → typed_at byte rest ≡ Ok x → Reads rule (byte ∷ rest) x
+pub typed_takes : (rule : Rule) (byte : ℕ) (rest : List ℕ) (x : Field × List ℕ) → AreBytes rest → type_refusal rule byte ≡ None → typed_at byte rest ≡ Ok x → FieldReads rule (byte ∷ rest) x
 unfolding typed_at
 typed_takes rule zero rest x fits none e =
-    subst (λ (y : Field × List ℕ). Reads rule (0 ∷ rest) y) (ok_is (Undefined, rest) x e) (record { text = 0 ∷ []; parts = refl; spelled = refl }, tt, follows rule Undefined none)
+    subst (λ (y : Field × List ℕ). FieldReads rule (0 ∷ rest) y) (ok_is (Undefined, rest) x e) (record { text = 0 ∷ []; parts = refl; spelled = refl }, tt, follows rule Undefined none)
 typed_takes rule (suc zero) rest x fits none e =
     let b = bind_ok (integer_at rest) (λ number. Ok (Is (Integer number.0), number.1)) x e in
     let t = integer_takes rest b.0 fits b.1 in
-    subst (λ (y : Field × List ℕ). Reads rule (1 ∷ rest) y) (ok_is (Is (Integer b.0.0), b.0.1) x b.2) (record { text = 1 ∷ t.0.text; parts = ap (λ w. 1 ∷ w) t.0.parts; spelled = ap (λ w. 1 ∷ w) t.0.spelled }, t.1, follows rule (Is (Integer b.0.0)) none)
+    subst (λ (y : Field × List ℕ). FieldReads rule (1 ∷ rest) y) (ok_is (Is (Integer b.0.0), b.0.1) x b.2) (record { text = 1 ∷ t.0.text; parts = ap (λ w. 1 ∷ w) t.0.parts; spelled = ap (λ w. 1 ∷ w) t.0.spelled }, t.1, follows rule (Is (Integer b.0.0)) none)
 typed_takes rule (suc (suc zero)) rest x fits none e = absurd cc
 typed_takes rule (suc (suc (suc zero))) rest x fits none e =
     let b = bind_ok (counted_at rest) (λ bytes. Ok (Is (Text bytes.0), bytes.1)) x e in
     let t = counted_takes rest b.0 b.1 in
-    subst (λ (y : Field × List ℕ). Reads rule (3 ∷ rest) y) (ok_is (Is (Text b.0.0), b.0.1) x b.2) (record { text = 3 ∷ t.0.text; parts = ap (λ w. 3 ∷ w) t.0.parts; spelled = (t.0.text, refl, t.0.spelled) }, t.1, follows rule (Is (Text b.0.0)) none)
+    subst (λ (y : Field × List ℕ). FieldReads rule (3 ∷ rest) y) (ok_is (Is (Text b.0.0), b.0.1) x b.2) (record { text = 3 ∷ t.0.text; parts = ap (λ w. 3 ∷ w) t.0.parts; spelled = (t.0.text, refl, t.0.spelled) }, t.1, follows rule (Is (Text b.0.0)) none)
 typed_takes rule (suc (suc (suc (suc zero)))) rest x fits none e =
     let b = bind_ok (counted_at rest) (λ bytes. Ok (Is (Blob bytes.0), bytes.1)) x e in
     let t = counted_takes rest b.0 b.1 in
-    subst (λ (y : Field × List ℕ). Reads rule (4 ∷ rest) y) (ok_is (Is (Blob b.0.0), b.0.1) x b.2) (record { text = 4 ∷ t.0.text; parts = ap (λ w. 4 ∷ w) t.0.parts; spelled = (t.0.text, refl, t.0.spelled) }, t.1, follows rule (Is (Blob b.0.0)) none)
+    subst (λ (y : Field × List ℕ). FieldReads rule (4 ∷ rest) y) (ok_is (Is (Blob b.0.0), b.0.1) x b.2) (record { text = 4 ∷ t.0.text; parts = ap (λ w. 4 ∷ w) t.0.parts; spelled = (t.0.text, refl, t.0.spelled) }, t.1, follows rule (Is (Blob b.0.0)) none)
 typed_takes rule (suc (suc (suc (suc (suc zero))))) rest x fits none e =
-    subst (λ (y : Field × List ℕ). Reads rule (5 ∷ rest) y) (ok_is (Is Null, rest) x e) (record { text = 5 ∷ []; parts = refl; spelled = refl }, tt, follows rule (Is Null) none)
+    subst (λ (y : Field × List ℕ). FieldReads rule (5 ∷ rest) y) (ok_is (Is Null, rest) x e) (record { text = 5 ∷ []; parts = refl; spelled = refl }, tt, follows rule (Is Null) none)
 typed_takes rule (suc (suc (suc (suc (suc (suc byte)))))) rest x fits none e =
     let large : ltb 5 (suc (suc (suc (suc (suc (suc byte)))))) ≡ true = lt-ltb 5 (suc (suc (suc (suc (suc (suc byte)))))) (omega arith) in
     let refused : Some BadType ≡ None = sym (ap (λ b. cond b (Some BadType) (cond (eqb (suc (suc (suc (suc (suc (suc byte)))))) 2) (Some Real) (rule_refusal rule (suc (suc (suc (suc (suc (suc byte))))))))) large) ∙ none in
     absurd cc
 
-pub field_takes : (rule : Rule) (bytes : List ℕ) (x : Field × List ℕ) → AreBytes bytes → field_at rule bytes ≡ Ok x → Reads rule bytes x
+pub field_takes : (rule : Rule) (bytes : List ℕ) (x : Field × List ℕ) → AreBytes bytes → field_at rule bytes ≡ Ok x → FieldReads rule bytes x
 unfolding field_at
 field_takes rule [] x fits e = absurd cc
 field_takes rule (byte ∷ rest) x fits e =

@@ -6,8 +6,8 @@ use Rattle.std.proofs.lemmas.List.{nil_from_length, length-append}
 use Rattle.cs_model.specs.Bytes.{AreBytes}
 use Rattle.cs_model.specs.declared.change.Change.{Change}
 use Rattle.cs_model.specs.Text.{SpellsEach, SpellsChange}
-use Rattle.cs_parse.specs.declared.stop.Refusal.{Refusal}
-use Rattle.cs_parse.specs.Front.{Front, behind_item, front_at, changes_front}
+use Rattle.cs_parse.specs.declared.stop.ParseRefusal.{ParseRefusal}
+use Rattle.cs_parse.specs.Front.{Front, after_item, front_at, changes_front}
 use Rattle.cs_parse.specs.Reading.{change_at, ends_section}
 use Rattle.cs_parse.proofs.Steps.{back_fits}
 use Rattle.cs_parse.proofs.ManyLaws.{IsReader}
@@ -15,26 +15,26 @@ use Rattle.cs_parse.proofs.ChangeLaws.{IsChangeBy, IsAny, change_reader}
 
 -- ---- one step
 
-abbrev pub none_left : {A : Type 0} → List ℕ → Front A
-none_left bytes = record { items = []; rest = bytes; why = None }
+abbrev pub front_none_left : {A : Type 0} → List ℕ → Front A
+front_none_left bytes = record { items = []; rest = bytes; why = None }
 
-pub front_over : {A : Type 0} (over : List ℕ → Bool) (read : List ℕ → Result (A × List ℕ) Refusal) (fuel : ℕ) (bytes : List ℕ) → (over bytes ≡ true) ⊎ (fuel ≡ 0) → front_at over read fuel bytes ≡ record { items = []; rest = bytes; why = None }
+pub front_over : {A : Type 0} (over : List ℕ → Bool) (read : List ℕ → Result (A × List ℕ) ParseRefusal) (fuel : ℕ) (bytes : List ℕ) → (over bytes ≡ true) ⊎ (fuel ≡ 0) → front_at over read fuel bytes ≡ record { items = []; rest = bytes; why = None }
 unfolding front_at
 front_over over read zero bytes h = refl
-front_over over read (suc fuel) bytes (inl h) = ap (λ b. cond b (none_left bytes) (behind_item (front_at over read fuel) bytes (read bytes))) h
+front_over over read (suc fuel) bytes (inl h) = ap (λ b. cond b (front_none_left bytes) (after_item (front_at over read fuel) bytes (read bytes))) h
 front_over over read (suc fuel) bytes (inr h) = absurd (omega (arith, h))
 
-pub front_more : {A : Type 0} (over : List ℕ → Bool) (read : List ℕ → Result (A × List ℕ) Refusal) (fuel : ℕ) (bytes : List ℕ) → over bytes ≡ false → front_at over read (suc fuel) bytes ≡ behind_item (front_at over read fuel) bytes (read bytes)
+pub front_more : {A : Type 0} (over : List ℕ → Bool) (read : List ℕ → Result (A × List ℕ) ParseRefusal) (fuel : ℕ) (bytes : List ℕ) → over bytes ≡ false → front_at over read (suc fuel) bytes ≡ after_item (front_at over read fuel) bytes (read bytes)
 unfolding front_at
-front_more over read fuel bytes h = ap (λ b. cond b (none_left bytes) (behind_item (front_at over read fuel) bytes (read bytes))) h
+front_more over read fuel bytes h = ap (λ b. cond b (front_none_left bytes) (after_item (front_at over read fuel) bytes (read bytes))) h
 
-pub front_stops : {A : Type 0} (over : List ℕ → Bool) (read : List ℕ → Result (A × List ℕ) Refusal) (fuel : ℕ) (bytes : List ℕ) (why : Refusal) → over bytes ≡ false → read bytes ≡ Err why
+pub front_stops : {A : Type 0} (over : List ℕ → Bool) (read : List ℕ → Result (A × List ℕ) ParseRefusal) (fuel : ℕ) (bytes : List ℕ) (why : ParseRefusal) → over bytes ≡ false → read bytes ≡ Err why
     → front_at over read (suc fuel) bytes ≡ record { items = []; rest = bytes; why = Some why }
-front_stops over read fuel bytes why more e = front_more over read fuel bytes more ∙ ap (behind_item (front_at over read fuel) bytes) e
+front_stops over read fuel bytes why more e = front_more over read fuel bytes more ∙ ap (after_item (front_at over read fuel) bytes) e
 
-pub front_goes : {A : Type 0} (over : List ℕ → Bool) (read : List ℕ → Result (A × List ℕ) Refusal) (fuel : ℕ) (bytes : List ℕ) (x : A) (after : List ℕ) → over bytes ≡ false → read bytes ≡ Ok (x, after)
+pub front_goes : {A : Type 0} (over : List ℕ → Bool) (read : List ℕ → Result (A × List ℕ) ParseRefusal) (fuel : ℕ) (bytes : List ℕ) (x : A) (after : List ℕ) → over bytes ≡ false → read bytes ≡ Ok (x, after)
     → front_at over read (suc fuel) bytes ≡ record { items = x ∷ (front_at over read fuel after).items; rest = (front_at over read fuel after).rest; why = (front_at over read fuel after).why }
-front_goes over read fuel bytes x after more e = front_more over read fuel bytes more ∙ ap (behind_item (front_at over read fuel) bytes) e
+front_goes over read fuel bytes x after more e = front_more over read fuel bytes more ∙ ap (after_item (front_at over read fuel) bytes) e
 
 -- ---- what was read
 
@@ -46,12 +46,12 @@ pub record FrontSpelled {A : Type 0} (Spelling : List ℕ → A → Type 0) (IsI
   pub valid : AllByRecursion IsItem front.items
 
 -- which way a reader went
-pub tells : {A : Type 0} (r : Result A Refusal) → ((x : A) × (r ≡ Ok x)) ⊎ ((why : Refusal) × (r ≡ Err why))
+pub tells : {A : Type 0} (r : Result A ParseRefusal) → ((x : A) × (r ≡ Ok x)) ⊎ ((why : ParseRefusal) × (r ≡ Err why))
 tells (Ok x) = inl (x, refl)
 tells (Err why) = inr (why, refl)
 
-module _ {A : Type 0} (over : List ℕ → Bool) (read : List ℕ → Result (A × List ℕ) Refusal) (Spelling : List ℕ → A → Type 0) (IsItem : A → Type 0) (Follows : List ℕ → Type 0) (reader : IsReader over read Spelling IsItem Follows) where
-  none_spelled : (bytes : List ℕ) (why : Option Refusal) → FrontSpelled Spelling IsItem bytes (record { items = []; rest = bytes; why = why })
+module _ {A : Type 0} (over : List ℕ → Bool) (read : List ℕ → Result (A × List ℕ) ParseRefusal) (Spelling : List ℕ → A → Type 0) (IsItem : A → Type 0) (Follows : List ℕ → Type 0) (reader : IsReader over read Spelling IsItem Follows) where
+  none_spelled : (bytes : List ℕ) (why : Option ParseRefusal) → FrontSpelled Spelling IsItem bytes (record { items = []; rest = bytes; why = why })
   none_spelled bytes why = record { text = []; parts = refl; spelled = refl; valid = tt }
 
   pub front_spelled : (fuel : ℕ) (bytes : List ℕ) → AreBytes bytes → FrontSpelled Spelling IsItem bytes (front_at over read fuel bytes)

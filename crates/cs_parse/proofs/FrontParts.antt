@@ -8,12 +8,12 @@ use Rattle.cs_model.specs.declared.change.Change.{Change}
 use Rattle.cs_model.specs.Section.{Section}
 use Rattle.cs_model.specs.Changeset.{IsShape, IsSection, IsChangeset}
 use Rattle.cs_model.proofs.CallerLemmas.{all_append}
-use Rattle.cs_parse.specs.declared.stop.Refusal.{Refusal}
-use Rattle.cs_parse.specs.declared.stop.Refusal.TheVariants.{Bad}
+use Rattle.cs_parse.specs.declared.stop.ParseRefusal.{ParseRefusal}
+use Rattle.cs_parse.specs.declared.stop.ParseRefusal.TheVariants.{Bad}
 use Rattle.cs_parse.specs.Front.{Front, front_at, changes_front, prefixed}
 use Rattle.cs_parse.specs.Progress.{Reached, last_flags, with_changes, with_part, part_at, read_on}
 use Rattle.cs_parse.specs.Reading.{◌>>=◌, refuse, header_at, shape_at, change_at, ends_section}
-use Rattle.cs_parse.proofs.Steps.{back_fits, bind_ok, done, ok_is, chosen}
+use Rattle.cs_parse.proofs.Steps.{back_fits, bind_ok, done, ok_is, steps_chosen}
 use Rattle.cs_parse.proofs.HeaderLaws.{header_takes}
 use Rattle.cs_parse.proofs.ChangeLaws.{change_takes}
 use Rattle.cs_parse.proofs.TextLaws.{begins_none}
@@ -27,15 +27,15 @@ a_byte sections bytes part fits e = (part_shorter sections bytes part fits e, pa
 
 -- ---- one part
 
-abbrev pub headed : List Section → Shape × List ℕ → Result (List Section × List ℕ) Refusal
+abbrev pub headed : List Section → Shape × List ℕ → Result (List Section × List ℕ) ParseRefusal
 headed sections shape = Ok (sections ++ record { shape = shape.0; changes = [] } ∷ [], shape.1)
 
-abbrev pub changed : List Section → Change × List ℕ → Result (List Section × List ℕ) Refusal
-changed sections change = Ok (with_changes sections (change.0 ∷ []), change.1)
+abbrev pub front_parts_changed : List Section → Change × List ℕ → Result (List Section × List ℕ) ParseRefusal
+front_parts_changed sections change = Ok (with_changes sections (change.0 ∷ []), change.1)
 
 -- the next part by whether a header begins there
-abbrev pub by_test : List Section → List ℕ → List ℕ → Bool → Result (List Section × List ℕ) Refusal
-by_test sections flags bytes ended = cond ended (shape_at bytes >>= headed sections) (change_at flags bytes >>= changed sections)
+abbrev pub by_test : List Section → List ℕ → List ℕ → Bool → Result (List Section × List ℕ) ParseRefusal
+by_test sections flags bytes ended = cond ended (shape_at bytes >>= headed sections) (change_at flags bytes >>= front_parts_changed sections)
 
 pub part_by : (sections : List Section) (bytes : List ℕ) (flags : Option (List ℕ)) → last_flags sections ≡ flags → part_at sections bytes ≡ with_part sections flags bytes
 unfolding part_at
@@ -47,12 +47,12 @@ header_part sections bytes ended = with_any (last_flags sections) (part_by secti
   with_any None e = e
   with_any (Some flags) e = e ∙ ap (by_test sections flags bytes) ended
 
-pub change_part : (sections : List Section) (flags bytes : List ℕ) → last_flags sections ≡ Some flags → ends_section bytes ≡ false → part_at sections bytes ≡ (change_at flags bytes >>= changed sections)
+pub change_part : (sections : List Section) (flags bytes : List ℕ) → last_flags sections ≡ Some flags → ends_section bytes ≡ false → part_at sections bytes ≡ (change_at flags bytes >>= front_parts_changed sections)
 change_part sections flags bytes last more = part_by sections bytes (Some flags) last ∙ ap (by_test sections flags bytes) more
 
 -- ---- many changes at once
 
-abbrev pub behind_front : List Section → List Change → List ℕ → Option Refusal → Reached
+abbrev pub behind_front : List Section → List Change → List ℕ → Option ParseRefusal → Reached
 behind_front sections changes rest None = read_on (with_changes sections changes) rest
 behind_front sections changes rest (Some why) = record { sections = with_changes sections changes; rest = rest; why = Some why }
 
@@ -60,17 +60,17 @@ behind_front sections changes rest (Some why) = record { sections = with_changes
 abbrev pub behind_changes : List Section → Front Change → Reached
 behind_changes sections front = behind_front sections front.items front.rest front.why
 
-abbrev halted : List ℕ → Refusal → List Section → Reached
+abbrev halted : List ℕ → ParseRefusal → List Section → Reached
 halted rest why sections = record { sections = sections; rest = rest; why = Some why }
 
-first_more : (sections : List Section) (change : Change) (changes : List Change) (rest : List ℕ) (why : Option Refusal)
+front_parts_first_more : (sections : List Section) (change : Change) (changes : List Change) (rest : List ℕ) (why : Option ParseRefusal)
     → behind_front (with_changes sections (change ∷ [])) changes rest why ≡ behind_front sections (change ∷ changes) rest why
-first_more sections change changes rest None = ap (λ (s : List Section). read_on s rest) (with_both sections change changes)
-first_more sections change changes rest (Some why) = ap (halted rest why) (with_both sections change changes)
+front_parts_first_more sections change changes rest None = ap (λ (s : List Section). read_on s rest) (with_both sections change changes)
+front_parts_first_more sections change changes rest (Some why) = ap (halted rest why) (with_both sections change changes)
 
-stopped : (sections : List Section) (bytes : List ℕ) (why : Refusal) → ends_section bytes ≡ false → part_at sections bytes ≡ Err why → read_on sections bytes ≡ record { sections = sections; rest = bytes; why = Some why }
-stopped sections [] why more e = absurd (cc more)
-stopped sections (byte ∷ bytes) why more e = part_refused sections byte bytes why e
+front_parts_stopped : (sections : List Section) (bytes : List ℕ) (why : ParseRefusal) → ends_section bytes ≡ false → part_at sections bytes ≡ Err why → read_on sections bytes ≡ record { sections = sections; rest = bytes; why = Some why }
+front_parts_stopped sections [] why more e = absurd (cc more)
+front_parts_stopped sections (byte ∷ bytes) why more e = part_refused sections byte bytes why e
 
 pub changes_parts_by : (fuel : ℕ) (sections : List Section) (flags bytes : List ℕ) → last_flags sections ≡ Some flags → AreBytes bytes
     → read_on sections bytes ≡ behind_changes sections (front_at ends_section (change_at flags) fuel bytes)
@@ -85,44 +85,44 @@ changes_parts_by (suc fuel) sections flags bytes last fits =
             let t = change_takes flags bytes x.0 fits x.1 in
             let now = with_changes sections (x.0.0 ∷ []) in
             let behind = front_at ends_section (change_at flags) fuel x.0.1 in
-            part_read sections bytes (now, x.0.1) fits (change_part sections flags bytes last more ∙ ap (λ r. r >>= changed sections) x.1)
+            part_read sections bytes (now, x.0.1) fits (change_part sections flags bytes last more ∙ ap (λ r. r >>= front_parts_changed sections) x.1)
             ∙ changes_parts_by fuel now flags x.0.1 (last_same sections (x.0.0 ∷ []) ∙ last) (back_fits bytes t.0.text x.0.1 t.0.parts fits)
-            ∙ first_more sections x.0.0 behind.items behind.rest behind.why
+            ∙ front_parts_first_more sections x.0.0 behind.items behind.rest behind.why
             ∙ ap (behind_changes sections) (sym (front_goes ends_section (change_at flags) fuel bytes x.0.0 x.0.1 more x.1))
         | inr e ↦
-            stopped sections bytes e.0 more (change_part sections flags bytes last more ∙ ap (λ r. r >>= changed sections) e.1)
+            front_parts_stopped sections bytes e.0 more (change_part sections flags bytes last more ∙ ap (λ r. r >>= front_parts_changed sections) e.1)
             ∙ ap (halted bytes e.0) (sym (with_none sections))
             ∙ ap (behind_changes sections) (sym (front_stops ends_section (change_at flags) fuel bytes e.0 more e.1))
       ]
     ]
 
-pub changes_parts : (sections : List Section) (flags bytes : List ℕ) → last_flags sections ≡ Some flags → AreBytes bytes → read_on sections bytes ≡ behind_changes sections (changes_front flags bytes)
-changes_parts sections flags bytes last fits = changes_parts_by (length bytes) sections flags bytes last fits
+pub front_parts_changes_parts : (sections : List Section) (flags bytes : List ℕ) → last_flags sections ≡ Some flags → AreBytes bytes → read_on sections bytes ≡ behind_changes sections (changes_front flags bytes)
+front_parts_changes_parts sections flags bytes last fits = changes_parts_by (length bytes) sections flags bytes last fits
 
 -- the same by whether a change stopped it
 pub changes_all : (sections : List Section) (flags bytes : List ℕ) → last_flags sections ≡ Some flags → AreBytes bytes → (changes_front flags bytes).why ≡ None
     → read_on sections bytes ≡ read_on (with_changes sections (changes_front flags bytes).items) (changes_front flags bytes).rest
 changes_all sections flags bytes last fits none =
     let f = changes_front flags bytes in
-    changes_parts sections flags bytes last fits ∙ ap (behind_front sections f.items f.rest) none
+    front_parts_changes_parts sections flags bytes last fits ∙ ap (behind_front sections f.items f.rest) none
 
-pub changes_stop : (sections : List Section) (flags bytes : List ℕ) (why : Refusal) → last_flags sections ≡ Some flags → AreBytes bytes → (changes_front flags bytes).why ≡ Some why
+pub changes_stop : (sections : List Section) (flags bytes : List ℕ) (why : ParseRefusal) → last_flags sections ≡ Some flags → AreBytes bytes → (changes_front flags bytes).why ≡ Some why
     → read_on sections bytes ≡ record { sections = with_changes sections (changes_front flags bytes).items; rest = (changes_front flags bytes).rest; why = Some why }
 changes_stop sections flags bytes why last fits some =
     let f = changes_front flags bytes in
-    changes_parts sections flags bytes last fits ∙ ap (behind_front sections f.items f.rest) some
+    front_parts_changes_parts sections flags bytes last fits ∙ ap (behind_front sections f.items f.rest) some
 
 -- ---- sections in front
 
 -- what is read, with sections in front
-abbrev prefixed_part : List Section → Result (List Section × List ℕ) Refusal → Result (List Section × List ℕ) Refusal
+abbrev prefixed_part : List Section → Result (List Section × List ℕ) ParseRefusal → Result (List Section × List ℕ) ParseRefusal
 prefixed_part sections read = read >>= λ part. Ok (sections ++ part.0, part.1)
 
-header_behind : (sections more : List Section) (r : Result (Shape × List ℕ) Refusal) → (r >>= headed (sections ++ more)) ≡ prefixed_part sections (r >>= headed more)
+header_behind : (sections more : List Section) (r : Result (Shape × List ℕ) ParseRefusal) → (r >>= headed (sections ++ more)) ≡ prefixed_part sections (r >>= headed more)
 header_behind sections more (Ok shape) = ap (λ (s : List Section). done (s, shape.1)) (append_assoc sections more (record { shape = shape.0; changes = [] } ∷ []))
 header_behind sections more (Err why) = refl
 
-change_behind : (sections more : List Section) (r : Result (Change × List ℕ) Refusal) → 0 < length more → (r >>= changed (sections ++ more)) ≡ prefixed_part sections (r >>= changed more)
+change_behind : (sections more : List Section) (r : Result (Change × List ℕ) ParseRefusal) → 0 < length more → (r >>= front_parts_changed (sections ++ more)) ≡ prefixed_part sections (r >>= front_parts_changed more)
 change_behind sections more (Ok change) some = ap (λ (s : List Section). done (s, change.1)) (with_behind sections more (change.0 ∷ []) some)
 change_behind sections more (Err why) some = refl
 
@@ -141,7 +141,7 @@ part_behind sections more bytes some = by_flags (last_flags more) refl where
       ]
 
 -- the sections that a part leaves are not none
-header_some : (sections : List Section) (r : Result (Shape × List ℕ) Refusal) (part : List Section × List ℕ) → (r >>= headed sections) ≡ Ok part → 0 < length part.0
+header_some : (sections : List Section) (r : Result (Shape × List ℕ) ParseRefusal) (part : List Section × List ℕ) → (r >>= headed sections) ≡ Ok part → 0 < length part.0
 header_some sections r part e =
     let a = bind_ok r (headed sections) part e in
     let first : Section = record { shape = a.0.0; changes = [] } in
@@ -156,7 +156,7 @@ part_some sections bytes part e = by_flags (last_flags sections) refl where
       elim (cases_Bool (ends_section bytes)) as (λ w. 0 < length part.0) [
         | inl ended ↦ header_some sections (shape_at bytes) part (sym (header_part sections bytes ended) ∙ e)
         | inr more ↦
-            let a = bind_ok (change_at flags bytes) (changed sections) part (sym (change_part sections flags bytes last more) ∙ e) in
+            let a = bind_ok (change_at flags bytes) (front_parts_changed sections) part (sym (change_part sections flags bytes last more) ∙ e) in
             let is = ok_is (with_changes sections (a.0.0 ∷ []), a.0.1) part a.2 in
             omega (arith, with_changes-length sections (a.0.0 ∷ []), last_some sections flags last, ap (λ (p : List Section × List ℕ). length p.0) is)
       ]
@@ -213,7 +213,7 @@ pub shape_takes : (bytes : List ℕ) (x : Shape × List ℕ) → shape_at bytes 
 unfolding shape_at
 shape_takes [] x e = absurd cc
 shape_takes (byte ∷ rest) x e =
-    elim (chosen (byte == 84) (header_at rest) (refuse (begins_none byte) rest) (Ok x) e) as (λ w. IsShape x.0 × ((text : List ℕ) × (byte ∷ rest ≡ text ++ x.1))) [
+    elim (steps_chosen (byte == 84) (header_at rest) (refuse (begins_none byte) rest) (Ok x) e) as (λ w. IsShape x.0 × ((text : List ℕ) × (byte ∷ rest ≡ text ++ x.1))) [
       | inl is ↦
           let t = header_takes rest x is.1 in
           (t.1, (byte ∷ t.0.text, ap (λ w. byte ∷ w) t.0.parts))
@@ -237,7 +237,7 @@ part_valid sections bytes part valid fits e = by_flags (last_flags sections) ref
       elim (cases_Bool (ends_section bytes)) as (λ w. IsPartValid bytes part) [
         | inl ended ↦ header_valid sections bytes part valid (sym (header_part sections bytes ended) ∙ e)
         | inr more ↦
-            let a = bind_ok (change_at flags bytes) (changed sections) part (sym (change_part sections flags bytes last more) ∙ e) in
+            let a = bind_ok (change_at flags bytes) (front_parts_changed sections) part (sym (change_part sections flags bytes last more) ∙ e) in
             let t = change_takes flags bytes a.0 fits a.1 in
             subst (λ (p : List Section × List ℕ). IsPartValid bytes p) (ok_is (with_changes sections (a.0.0 ∷ []), a.0.1) part a.2)
             (with_valid sections flags (a.0.0 ∷ []) last valid (t.1, tt), (t.0.text, t.0.parts))

@@ -8,9 +8,9 @@ use Rattle.cs_model.specs.Changeset.{IsSection, IsChangeset}
 use Rattle.cs_model.specs.PackedChanges.{AreCanonical, unpacked_changes}
 use Rattle.cs_model.specs.Section.{Section}
 use Rattle.cs_model.proofs.CallerLemmas.{all_append}
-use Rattle.cs_parse.specs.declared.stop.Refusal.{Refusal}
+use Rattle.cs_parse.specs.declared.stop.ParseRefusal.{ParseRefusal}
 use Rattle.cs_parse.specs.Front.{said_by, Heads, HeadsTable}
-use Rattle.cs_parse.specs.Growing.{with_text, last_changes, Keeps, Opened}
+use Rattle.cs_parse.specs.Growing.{with_text, last_changes, Keeps, OpenedSection}
 use Rattle.cs_parse.specs.Progress.{last_flags, with_changes}
 use Rattle.cs_parse.proofs.SectionLists.{renewed, last_of, with_last, all_front}
 
@@ -28,13 +28,13 @@ last_is (section ∷ next ∷ sections) last (suc n) long found = last_is (next 
 
 -- ---- as code finds the last section
 
-index_is : (sections others : List Section) (last : Section) (n : ℕ) → n < length sections → last ≡ slice_index_or (sections ++ others) n last → slice_get sections n ≡ Some last
-index_is [] others last n less is = absurd (omega (arith, less))
-index_is (section ∷ sections) others last zero less is = ap (λ s. Some s) (sym is)
-index_is (section ∷ sections) others last (suc n) less is = index_is sections others last n (omega (arith, less)) is
+grow_index_is : (sections others : List Section) (last : Section) (n : ℕ) → n < length sections → last ≡ slice_index_or (sections ++ others) n last → slice_get sections n ≡ Some last
+grow_index_is [] others last n less is = absurd (omega (arith, less))
+grow_index_is (section ∷ sections) others last zero less is = ap (λ s. Some s) (sym is)
+grow_index_is (section ∷ sections) others last (suc n) less is = grow_index_is sections others last n (omega (arith, less)) is
 
 -- the last section's changes, as code finds it
-pub heads_last : (sections : List Section) (last : Section) (bytes : List ℕ) (count : ℕ) (rest : List ℕ) (canonical : Bool) (why : Option Refusal) → slice_get sections (length sections - 1) ≡ Some last
+pub heads_last : (sections : List Section) (last : Section) (bytes : List ℕ) (count : ℕ) (rest : List ℕ) (canonical : Bool) (why : Option ParseRefusal) → slice_get sections (length sections - 1) ≡ Some last
     → HeadsTable last.shape.flags bytes count rest canonical why → Heads (last_flags sections) bytes count rest canonical why
 heads_last [] last bytes count rest canonical why found heads = absurd cc
 heads_last (section ∷ sections) last bytes count rest canonical why found heads =
@@ -66,28 +66,28 @@ last_at (section ∷ next ∷ sections) last (suc n) long found =
     let rest = last_at (next ∷ sections) last n (omega arith) found in
     record { front = section ∷ rest.front; parts = ap (λ (xs : List Section). section ∷ xs) rest.parts; long = ap suc rest.long }
 
-changes_of : (front : List Section) (last : Section) → last_changes (front ++ last ∷ []) ≡ last.changes
-changes_of [] last = refl
-changes_of (section ∷ []) last = refl
-changes_of (section ∷ next ∷ front) last = changes_of (next ∷ front) last
+grow_changes_of : (front : List Section) (last : Section) → last_changes (front ++ last ∷ []) ≡ last.changes
+grow_changes_of [] last = refl
+grow_changes_of (section ∷ []) last = refl
+grow_changes_of (section ∷ next ∷ front) last = grow_changes_of (next ∷ front) last
 
-set_at : (sections : List Section) (last new : Section) (n : ℕ) (at : LastAt sections last n) → slice_set sections n new ≡ at.front ++ new ∷ []
-set_at sections last new n at = ap (λ xs. slice_set xs n new) at.parts ∙ ap (λ m. slice_set (at.front ++ last ∷ []) m new) (sym at.long) ∙ set-append_seam at.front last [] new
+grow_set_at : (sections : List Section) (last new : Section) (n : ℕ) (at : LastAt sections last n) → slice_set sections n new ≡ at.front ++ new ∷ []
+grow_set_at sections last new n at = ap (λ xs. slice_set xs n new) at.parts ∙ ap (λ m. slice_set (at.front ++ last ∷ []) m new) (sym at.long) ∙ set-append_seam at.front last [] new
 
 -- ---- its changes taken out
 
 pub opened : (sections : List Section) (last new : Section) (n : ℕ) (text : List ℕ) (count : ℕ) → suc n ≡ length sections → last ≡ slice_index_or sections n last → IsChangeset sections
     → new ≡ record last { changes = [] } → AreCanonical (length last.shape.flags) text → unpacked_changes (length last.shape.flags) text ≡ last.changes → count ≡ length last.changes
-    → Opened sections (slice_set sections n new) text count × IsChangeset (slice_set sections n new)
+    → OpenedSection sections (slice_set sections n new) text count × IsChangeset (slice_set sections n new)
 opened sections last new n text count long is valid empty own says many =
-    let found = index_is sections [] last n (omega (arith, long)) (is ∙ ap (λ xs. slice_index_or xs n last) (sym (append-nil sections))) in
+    let found = grow_index_is sections [] last n (omega (arith, long)) (is ∙ ap (λ xs. slice_index_or xs n last) (sym (append-nil sections))) in
     let at = last_at sections last n long found in
     let left = renewed last [] in
-    let now : slice_set sections n new ≡ at.front ++ left ∷ [] = set_at sections last new n at ∙ ap (λ (s : Section). at.front ++ s ∷ []) empty in
+    let now : slice_set sections n new ≡ at.front ++ left ∷ [] = grow_set_at sections last new n at ∙ ap (λ (s : Section). at.front ++ s ∷ []) empty in
     let flags : last_flags (slice_set sections n new) ≡ Some last.shape.flags = ap last_flags now ∙ last_of at.front left in
     let parts = all_front IsSection at.front (last ∷ []) (subst IsChangeset at.parts valid) in (
       record {
-        lacks = ap last_changes now ∙ changes_of at.front left;
+        lacks = ap last_changes now ∙ grow_changes_of at.front left;
         keeps = subst (λ o. Keeps o text count) (sym flags) (own, many ∙ sym (ap length says));
         whole =
             ap (λ o. with_changes (slice_set sections n new) (said_by o text)) flags
@@ -112,10 +112,10 @@ pub record PutIn (sections others : List Section) (last : Section) (n : ℕ) (te
 pub put_in : (sections others : List Section) (last : Section) (n : ℕ) (text : List ℕ) (count : ℕ) → suc n ≡ length sections → last ≡ slice_index_or (sections ++ others) n last → last_changes sections ≡ [] → Keeps (last_flags sections) text count
     → PutIn sections others last n text count
 put_in sections others last n text count long is lacks keeps =
-    let found = index_is sections others last n (omega (arith, long)) is in
+    let found = grow_index_is sections others last n (omega (arith, long)) is in
     let at = last_at sections last n long found in
     let flags : last_flags sections ≡ Some last.shape.flags = ap last_flags at.parts ∙ last_of at.front last in
-    let none : last.changes ≡ [] = sym (changes_of at.front last) ∙ sym (ap last_changes at.parts) ∙ lacks in
+    let none : last.changes ≡ [] = sym (grow_changes_of at.front last) ∙ sym (ap last_changes at.parts) ∙ lacks in
     let mine = subst (λ o. Keeps o text count) flags keeps in
     let said = unpacked_changes (length last.shape.flags) text in
     record {
@@ -125,7 +125,7 @@ put_in sections others last n text count long is lacks keeps =
       put = λ new is_new.
           set-append_left sections others n new (omega (arith, long))
           ∙ ap (λ (xs : List Section). xs ++ others)
-          (set_at sections last new n at
+          (grow_set_at sections last new n at
           ∙ ap (λ (s : Section). at.front ++ s ∷ []) is_new
           ∙ ap (λ (cs : List Change). at.front ++ renewed last (cs ++ said) ∷ []) (sym none)
           ∙ sym (with_last at.front last said)

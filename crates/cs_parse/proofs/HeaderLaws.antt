@@ -9,10 +9,10 @@ use Rattle.cs_model.specs.Changeset.{IsShape}
 use Rattle.cs_model.specs.Text.{SpellsHeader}
 use Rattle.cs_model.specs.Varint.{IsVarint}
 use Rattle.cs_parse.specs.declared.fault.FaultKind.TheVariants.{NoKey}
-use Rattle.cs_parse.specs.declared.stop.Refusal.{Refusal}
-use Rattle.cs_parse.specs.declared.stop.Refusal.TheVariants.{Short, Bad}
+use Rattle.cs_parse.specs.declared.stop.ParseRefusal.{ParseRefusal}
+use Rattle.cs_parse.specs.declared.stop.ParseRefusal.TheVariants.{Short, Bad}
 use Rattle.cs_parse.specs.Reading.{◌>>=◌, refuse, columns_at, flags_at, name_at, header_at}
-use Rattle.cs_parse.proofs.Steps.{Takes, bind_ok, done, ok_is, guard_ok, chosen}
+use Rattle.cs_parse.proofs.Steps.{Takes, bind_ok, done, ok_is, guard_ok, steps_chosen}
 use Rattle.cs_parse.proofs.NumberLaws.{columns_takes, columns_again}
 use Rattle.cs_parse.proofs.Letters.{name_takes, name_again}
 
@@ -28,7 +28,7 @@ flags_take count bytes x e =
     let front = take count bytes in
     let g = guard_ok (ltb (length bytes) count) Short (cond (any_key front) (Ok (front, drop count bytes)) (refuse NoKey (drop count bytes))) x e in
     let long : count ≤ length bytes = ltb-false _ _ g.0 in
-    elim (chosen (any_key front) (Ok (front, drop count bytes)) (refuse NoKey (drop count bytes)) (Ok x) g.1) as (λ w. HasKey count bytes x) [
+    elim (steps_chosen (any_key front) (Ok (front, drop count bytes)) (refuse NoKey (drop count bytes)) (Ok x) g.1) as (λ w. HasKey count bytes x) [
       | inl key ↦ subst (λ (y : List ℕ × List ℕ). HasKey count bytes y) (ok_is (front, drop count bytes) x key.1) (sym (take-append-drop count bytes), omega (arith, length-take count bytes), key.0)
       | inr other ↦
           let none : Err (Bad (suc (length (drop count bytes))) NoKey) ≡ done x = other.1 in
@@ -41,19 +41,19 @@ flags_again flags rest key =
     let long : ltb (length (flags ++ rest)) (length flags) ≡ false = le-ltb _ _ (omega (arith, length-append flags rest)) in
     rw (long, take_at flags rest (length flags) refl, drop_at flags rest (length flags) refl, key) refl
 
-abbrev shaped : List ℕ → List ℕ × List ℕ → Result (Shape × List ℕ) Refusal
+abbrev shaped : List ℕ → List ℕ × List ℕ → Result (Shape × List ℕ) ParseRefusal
 shaped flags name = Ok (record { name = name.0; flags = flags }, name.1)
 
-abbrev named_by : List ℕ × List ℕ → Result (Shape × List ℕ) Refusal
+abbrev named_by : List ℕ × List ℕ → Result (Shape × List ℕ) ParseRefusal
 named_by flags = name_at flags.1 >>= shaped flags.0
 
-abbrev pub HeaderText : List ℕ → Shape → Type 0
-HeaderText text shape = SpellsHeader (84 ∷ text) shape
+abbrev pub HeaderTextOf : List ℕ → Shape → Type 0
+HeaderTextOf text shape = SpellsHeader (84 ∷ text) shape
 
 joined_header : (a b c d : List ℕ) → (((a ++ b) ++ c) ++ 0 ∷ []) ++ d ≡ a ++ (b ++ (c ++ 0 ∷ d))
 joined_header a b c d = simp append_assoc
 
-pub header_takes : (bytes : List ℕ) (x : Shape × List ℕ) → header_at bytes ≡ Ok x → Takes HeaderText bytes x × IsShape x.0
+pub header_takes : (bytes : List ℕ) (x : Shape × List ℕ) → header_at bytes ≡ Ok x → Takes HeaderTextOf bytes x × IsShape x.0
 unfolding header_at
 header_takes bytes x e =
     let a = bind_ok (columns_at bytes) (λ count. flags_at count.0 count.1 >>= named_by) x e in
@@ -66,9 +66,9 @@ header_takes bytes x e =
     let text = ((count ++ b.0.0) ++ c.0.0) ++ 0 ∷ [] in
     let whole : bytes ≡ text ++ c.0.1 = t0.0.parts ∙ ap (λ w. count ++ w) (t1.0 ∙ ap (λ w. b.0.0 ++ w) t2.0.0) ∙ sym (joined_header count b.0.0 c.0.0 c.0.1) in
     let shape : Shape = record { name = c.0.0; flags = b.0.0 } in
-    let spelled : HeaderText text shape = record { count = count; parts = refl; is_count = subst (λ n. IsVarint count n) (sym t1.1) t0.0.spelled } in
+    let spelled : HeaderTextOf text shape = record { count = count; parts = refl; is_count = subst (λ n. IsVarint count n) (sym t1.1) t0.0.spelled } in
     let valid : IsShape shape = record { columns = omega (arith, t1.1, t0.1); not_more_columns = omega (arith, t1.1, t0.2); key = t1.2; named = t2.1; not_longer = t2.0.1; no_zero = t2.0.2 } in
-    subst (λ (y : Shape × List ℕ). Takes HeaderText bytes y × IsShape y.0) (ok_is (shape, c.0.1) x c.2) (record { text = text; parts = whole; spelled = spelled }, valid)
+    subst (λ (y : Shape × List ℕ). Takes HeaderTextOf bytes y × IsShape y.0) (ok_is (shape, c.0.1) x c.2) (record { text = text; parts = whole; spelled = spelled }, valid)
 
 pub header_again : (header : List ℕ) (shape : Shape) (rest : List ℕ) → (h : SpellsHeader header shape) → IsShape shape → header_at ((h.count ++ shape.flags ++ shape.name ++ 0 ∷ []) ++ rest) ≡ Ok (shape, rest)
 unfolding header_at

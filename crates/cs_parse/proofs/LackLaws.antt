@@ -7,7 +7,7 @@ use Rattle.cs_model.specs.declared.value.Value.TheVariants.{Text, Blob}
 use Rattle.cs_model.specs.declared.value.Field.TheVariants.{Is}
 use Rattle.cs_model.specs.Rule.{Rule}
 use Rattle.cs_parse.specs.declared.fault.FaultKind.{FaultKind}
-use Rattle.cs_parse.specs.declared.stop.Refusal.TheVariants.{Short}
+use Rattle.cs_parse.specs.declared.stop.ParseRefusal.TheVariants.{Short}
 use Rattle.cs_parse.specs.Lack.{LacksValue, StaysIn, LacksIn}
 use Rattle.cs_parse.specs.Place.{type_refusal}
 use Rattle.cs_parse.specs.Reading.{◌>>=◌, unless_refused, length_at, integer_at, counted_at, typed_at, field_at, record_at}
@@ -55,18 +55,18 @@ some_lacks (Some least) byte bytes left whole lacks h = (h.0, lacks least h.1)
 
 -- ---- records
 
-field_by : (rule : Rule) (byte : ℕ) (rest : List ℕ) → field_at rule (byte ∷ rest) ≡ unless_refused (type_refusal rule byte) rest (typed_at byte rest)
+lack_field_by : (rule : Rule) (byte : ℕ) (rest : List ℕ) → field_at rule (byte ∷ rest) ≡ unless_refused (type_refusal rule byte) rest (typed_at byte rest)
 unfolding field_at
-field_by rule byte rest = refl
+lack_field_by rule byte rest = refl
 
 -- a record whose first byte isn't refused, by whether it is
 field_stays : (rule : Rule) (rules : List Rule) (byte : ℕ) (rest more : List ℕ) (o : Option FaultKind) → type_refusal rule byte ≡ o → typed_at byte (rest ++ more) ≡ Err Short
     → record_at (rule ∷ rules) (byte ∷ rest) ≡ Err Short → record_at (rule ∷ rules) (byte ∷ (rest ++ more)) ≡ Err Short
 field_stays rule rules byte rest more None is typed short =
     record_more rule rules (byte ∷ (rest ++ more))
-    ∙ ap (λ r. r >>= fields_of rules) (field_by rule byte (rest ++ more) ∙ ap (λ w. unless_refused w (rest ++ more) (typed_at byte (rest ++ more))) is ∙ typed)
+    ∙ ap (λ r. r >>= fields_of rules) (lack_field_by rule byte (rest ++ more) ∙ ap (λ w. unless_refused w (rest ++ more) (typed_at byte (rest ++ more))) is ∙ typed)
 field_stays rule rules byte rest more (Some kind) is typed short =
-    let wrong = ap (λ r. r >>= fields_of rules) (field_by rule byte rest ∙ ap (λ w. unless_refused w rest (typed_at byte rest)) is) in
+    let wrong = ap (λ r. r >>= fields_of rules) (lack_field_by rule byte rest ∙ ap (λ w. unless_refused w rest (typed_at byte rest)) is) in
     let both = sym wrong ∙ sym (record_more rule rules (byte ∷ rest)) ∙ short in
     absurd cc
 

@@ -6,8 +6,8 @@ use Rattle.std.proofs.lemmas.Bool.{lt-ltb, le-ltb, ne_eqb, eqb-false, and_from, 
 use Rattle.std.proofs.lemmas.Bool.Decides.{nat_tests}
 use Rattle.std.proofs.lemmas.List.{take_all, take_rest}
 use Rattle.cs_parse.specs.declared.fault.FaultKind.TheVariants.{NameTooLong, EmptyName}
-use Rattle.cs_parse.specs.declared.stop.Refusal.{Refusal}
-use Rattle.cs_parse.specs.declared.stop.Refusal.TheVariants.{Short, Bad}
+use Rattle.cs_parse.specs.declared.stop.ParseRefusal.{ParseRefusal}
+use Rattle.cs_parse.specs.declared.stop.ParseRefusal.TheVariants.{Short, Bad}
 use Rattle.cs_parse.specs.Reading.{◌>>=◌, refuse, letters_at, name_at}
 use Rattle.cs_parse.proofs.Steps.{bind_ok, done, ok_is, guard_ok}
 
@@ -16,8 +16,8 @@ is_zero byte = byte == 0
 
 -- ---- what `position` says
 
-found_at : (n len k : ℕ) → cond (ltb n len) (Some n) None ≡ Some k → (n ≡ k) × (n < len)
-found_at n len k e = elim (cases_lt n len) as (λ w. (n ≡ k) × (n < len)) [
+letters_found_at : (n len k : ℕ) → cond (ltb n len) (Some n) None ≡ Some k → (n ≡ k) × (n < len)
+letters_found_at n len k e = elim (cases_lt n len) as (λ w. (n ≡ k) × (n < len)) [
   | inl lt ↦
       let at_n : Some n ≡ Some k = sym (ap (λ b. cond b (Some n) None) (lt-ltb n len lt)) ∙ e in
       (cc, lt)
@@ -43,29 +43,29 @@ window_is bytes k most e = elim (cases_lt (length bytes) most) as (λ w. take k 
       ap (λ n. take n bytes) same
 ]
 
-abbrev pub letter_and : ℕ → List ℕ × List ℕ → Result (List ℕ × List ℕ) Refusal
+abbrev pub letter_and : ℕ → List ℕ × List ℕ → Result (List ℕ × List ℕ) ParseRefusal
 letter_and byte letters = Ok (byte ∷ letters.0, letters.1)
 
-abbrev named : List ℕ → List ℕ → Result (List ℕ × List ℕ) Refusal
-named name rest = Ok (name, rest)
+abbrev letters_named : List ℕ → List ℕ → Result (List ℕ × List ℕ) ParseRefusal
+letters_named name rest = Ok (name, rest)
 
 pub nonzero : (b : ℕ) → (suc b == 0) ≡ false
 nonzero b = ne_eqb (suc b) 0 (λ e. absurd cc)
 
 -- ---- what reading gives, case by case
 
-pub letters_end : (most : ℕ) (rest : List ℕ) → letters_at most (zero ∷ rest) ≡ named [] rest
+pub letters_end : (most : ℕ) (rest : List ℕ) → letters_at most (zero ∷ rest) ≡ letters_named [] rest
 unfolding letters_at
 letters_end zero rest = refl
 letters_end (suc most) rest = refl
 
 pub letters_full : (b : ℕ) (rest : List ℕ) → letters_at zero (suc b ∷ rest) ≡ Err (Bad (suc (length rest)) NameTooLong)
 unfolding letters_at
-letters_full b rest = ap (λ t. cond t (named [] rest) (Err (Bad (suc (length rest)) NameTooLong))) (nonzero b)
+letters_full b rest = ap (λ t. cond t (letters_named [] rest) (Err (Bad (suc (length rest)) NameTooLong))) (nonzero b)
 
 pub letters_more : (most b : ℕ) (rest : List ℕ) → letters_at (suc most) (suc b ∷ rest) ≡ (letters_at most rest >>= letter_and (suc b))
 unfolding letters_at
-letters_more most b rest = ap (λ t. cond t (named [] rest) (letters_at most rest >>= letter_and (suc b))) (nonzero b)
+letters_more most b rest = ap (λ t. cond t (letters_named [] rest) (letters_at most rest >>= letter_and (suc b))) (nonzero b)
 
 pub letters_short : (most : ℕ) → letters_at most [] ≡ Err Short
 unfolding letters_at
@@ -77,24 +77,24 @@ place_more b rest =
     let one : 1 + position_or_len is_zero rest ≡ suc (position_or_len is_zero rest) = omega arith in
     ap (λ t. cond (not t) (1 + position_or_len is_zero rest) 0) (nonzero b) ∙ one
 
-letters_found : (most : ℕ) (bytes : List ℕ) (k : ℕ) → position_or_len is_zero (take (suc most) bytes) ≡ k → k < length (take (suc most) bytes) → letters_at most bytes ≡ named (take k bytes) (drop (suc k) bytes)
+letters_found : (most : ℕ) (bytes : List ℕ) (k : ℕ) → position_or_len is_zero (take (suc most) bytes) ≡ k → k < length (take (suc most) bytes) → letters_at most bytes ≡ letters_named (take k bytes) (drop (suc k) bytes)
 letters_found most [] k e lt = absurd (omega (arith, lt))
-letters_found most (zero ∷ rest) k e lt = letters_end most rest ∙ ap (λ n. named (take n (0 ∷ rest)) (drop (suc n) (0 ∷ rest))) e
+letters_found most (zero ∷ rest) k e lt = letters_end most rest ∙ ap (λ n. letters_named (take n (0 ∷ rest)) (drop (suc n) (0 ∷ rest))) e
 letters_found zero (suc b ∷ rest) k e lt = absurd (omega (arith, e, lt, place_more b []))
 letters_found (suc most) (suc b ∷ rest) k e lt =
     let n = position_or_len is_zero (take (suc most) rest) in
     let here : suc n ≡ k = sym (place_more b (take (suc most) rest)) ∙ e in
     let rec = letters_found most rest n refl (omega (arith, here, lt)) in
-    letters_more most b rest ∙ ap (λ r. r >>= letter_and (suc b)) rec ∙ ap (λ i. named (take i (suc b ∷ rest)) (drop (suc i) (suc b ∷ rest))) here
+    letters_more most b rest ∙ ap (λ r. r >>= letter_and (suc b)) rec ∙ ap (λ i. letters_named (take i (suc b ∷ rest)) (drop (suc i) (suc b ∷ rest))) here
 
-abbrev too_many : ℕ → List ℕ → Result (List ℕ × List ℕ) Refusal
-too_many most bytes = cond (ltb most (length bytes)) (Err (Bad (length bytes - most) NameTooLong)) (Err Short)
+abbrev letters_too_many : ℕ → List ℕ → Result (List ℕ × List ℕ) ParseRefusal
+letters_too_many most bytes = cond (ltb most (length bytes)) (Err (Bad (length bytes - most) NameTooLong)) (Err Short)
 
-stays : (a b : Bool) (x y : Refusal) (byte : ℕ) → a ≡ b → (cond a (Err x) (Err y) >>= letter_and byte) ≡ cond b (Err x) (Err y)
-stays a true x y byte e = ap (λ t. cond t (Err x) (Err y) >>= letter_and byte) e
-stays a false x y byte e = ap (λ t. cond t (Err x) (Err y) >>= letter_and byte) e
+letters_stays : (a b : Bool) (x y : ParseRefusal) (byte : ℕ) → a ≡ b → (cond a (Err x) (Err y) >>= letter_and byte) ≡ cond b (Err x) (Err y)
+letters_stays a true x y byte e = ap (λ t. cond t (Err x) (Err y) >>= letter_and byte) e
+letters_stays a false x y byte e = ap (λ t. cond t (Err x) (Err y) >>= letter_and byte) e
 
-letters_none : (most : ℕ) (bytes : List ℕ) → length (take (suc most) bytes) ≤ position_or_len is_zero (take (suc most) bytes) → letters_at most bytes ≡ too_many most bytes
+letters_none : (most : ℕ) (bytes : List ℕ) → length (take (suc most) bytes) ≤ position_or_len is_zero (take (suc most) bytes) → letters_at most bytes ≡ letters_too_many most bytes
 letters_none most [] le = letters_short most ∙ ap (λ t. cond t (Err (Bad (0 - most) NameTooLong)) (Err Short)) (sym (le-ltb most 0 (omega arith)))
 letters_none most (zero ∷ rest) le = absurd (omega (arith, le))
 letters_none zero (suc b ∷ rest) le =
@@ -103,7 +103,7 @@ letters_none zero (suc b ∷ rest) le =
 letters_none (suc most) (suc b ∷ rest) le =
     let rec = letters_none most rest (omega (arith, le, place_more b (take (suc most) rest))) in
     let left : length rest - most ≡ suc (length rest) - suc most = omega arith in
-    letters_more most b rest ∙ ap (λ r. r >>= letter_and (suc b)) rec ∙ stays (ltb most (length rest)) (ltb (suc most) (suc (length rest))) (Bad (length rest - most) NameTooLong) Short (suc b) (grind (arith, nat_tests))
+    letters_more most b rest ∙ ap (λ r. r >>= letter_and (suc b)) rec ∙ letters_stays (ltb most (length rest)) (ltb (suc most) (suc (length rest))) (Bad (length rest - most) NameTooLong) Short (suc b) (grind (arith, nat_tests))
     ∙ ap (λ n. cond (ltb (suc most) (suc (length rest))) (Err (Bad n NameTooLong)) (Err Short)) left
 
 -- ---- the two laws
@@ -154,14 +154,14 @@ name_again name rest some short whole =
 
 -- ---- for the code, whose window is as long as the lesser of two
 
-pub found_is : (bytes : List ℕ) (k end : ℕ) → k ≡ min (length bytes) 1025 → Some end ≡ position is_zero (take k bytes) → letters_at 1024 bytes ≡ named (take end bytes) (take (length bytes - (end + 1)) (drop (end + 1) bytes))
+pub found_is : (bytes : List ℕ) (k end : ℕ) → k ≡ min (length bytes) 1025 → Some end ≡ position is_zero (take k bytes) → letters_at 1024 bytes ≡ letters_named (take end bytes) (take (length bytes - (end + 1)) (drop (end + 1) bytes))
 found_is bytes k end e h =
     let w = window_is bytes k 1025 e in
-    let f = found_at (position_or_len is_zero (take 1025 bytes)) (length (take 1025 bytes)) end (sym (h ∙ ap (λ xs. position is_zero xs) w)) in
+    let f = letters_found_at (position_or_len is_zero (take 1025 bytes)) (length (take 1025 bytes)) end (sym (h ∙ ap (λ xs. position is_zero xs) w)) in
     let behind : suc end ≡ end + 1 = omega arith in
-    letters_found 1024 bytes end f.0 (omega (arith, f.0, f.1)) ∙ ap (λ i. named (take end bytes) (drop i bytes)) behind ∙ ap (λ r. named (take end bytes) r) (sym (take_rest bytes (end + 1)))
+    letters_found 1024 bytes end f.0 (omega (arith, f.0, f.1)) ∙ ap (λ i. letters_named (take end bytes) (drop i bytes)) behind ∙ ap (λ r. letters_named (take end bytes) r) (sym (take_rest bytes (end + 1)))
 
-none_is : (bytes : List ℕ) (k : ℕ) → k ≡ min (length bytes) 1025 → None ≡ position is_zero (take k bytes) → letters_at 1024 bytes ≡ too_many 1024 bytes
+none_is : (bytes : List ℕ) (k : ℕ) → k ≡ min (length bytes) 1025 → None ≡ position is_zero (take k bytes) → letters_at 1024 bytes ≡ letters_too_many 1024 bytes
 none_is bytes k e h =
     let w = window_is bytes k 1025 e in
     letters_none 1024 bytes (found_none (position_or_len is_zero (take 1025 bytes)) (length (take 1025 bytes)) (sym (h ∙ ap (λ xs. position is_zero xs) w)))

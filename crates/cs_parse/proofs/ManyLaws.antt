@@ -4,15 +4,15 @@ use Rattle.std.specs.List.{AllByRecursion}
 use Rattle.std.proofs.lemmas.Bool.{cases_Bool}
 use Rattle.std.proofs.lemmas.List.{nil_from_length, length-append}
 use Rattle.cs_model.specs.Text.{SpellsEach}
-use Rattle.cs_parse.specs.declared.stop.Refusal.{Refusal}
+use Rattle.cs_parse.specs.declared.stop.ParseRefusal.{ParseRefusal}
 use Rattle.cs_parse.specs.Reading.{◌>>=◌, many_at}
 use Rattle.cs_model.specs.Bytes.{AreBytes}
 use Rattle.cs_parse.proofs.Steps.{Takes, back_fits, bind_ok, done, ok_is}
-use Rattle.cs_parse.proofs.Loops.{then_others, rest_of, many_more, many_done}
+use Rattle.cs_parse.proofs.Loops.{then_others, loops_rest_of, many_more, many_done}
 
 -- An item's reader: where the items are over, what is read was spelled so, and what is spelled so is read where what
 -- follows may follow it.
-pub record IsReader {A : Type 0} (over : List ℕ → Bool) (read : List ℕ → Result (A × List ℕ) Refusal) (Spelling : List ℕ → A → Type 0) (IsItem : A → Type 0) (Follows : List ℕ → Type 0) : Type 0 where
+pub record IsReader {A : Type 0} (over : List ℕ → Bool) (read : List ℕ → Result (A × List ℕ) ParseRefusal) (Spelling : List ℕ → A → Type 0) (IsItem : A → Type 0) (Follows : List ℕ → Type 0) : Type 0 where
   pub at_end : over [] ≡ true
   pub long : (text : List ℕ) (a : A) → Spelling text a → 0 < length text
   pub takes : (bytes : List ℕ) (x : A × List ℕ) → AreBytes bytes → read bytes ≡ Ok x → Takes Spelling bytes x × IsItem x.0
@@ -23,19 +23,19 @@ pub record IsReader {A : Type 0} (over : List ℕ → Bool) (read : List ℕ →
 abbrev pub TakesEach : {A : Type 0} → (List ℕ → Bool) → (List ℕ → A → Type 0) → (A → Type 0) → List ℕ → List A × List ℕ → Type 0
 TakesEach over Spelling IsItem bytes x = Takes (SpellsEach Spelling) bytes x × AllByRecursion IsItem x.0 × (over x.1 ≡ true)
 
-none_taken : {A : Type 0} (over : List ℕ → Bool) (Spelling : List ℕ → A → Type 0) (IsItem : A → Type 0) (bytes : List ℕ) (x : List A × List ℕ) → over bytes ≡ true → done ([], bytes) ≡ Ok x → TakesEach over Spelling IsItem bytes x
-none_taken over Spelling IsItem bytes x ended e = subst (λ y. TakesEach over Spelling IsItem bytes y) (ok_is ([], bytes) x e) (record { text = []; parts = refl; spelled = refl }, tt, ended)
+many_none_taken : {A : Type 0} (over : List ℕ → Bool) (Spelling : List ℕ → A → Type 0) (IsItem : A → Type 0) (bytes : List ℕ) (x : List A × List ℕ) → over bytes ≡ true → done ([], bytes) ≡ Ok x → TakesEach over Spelling IsItem bytes x
+many_none_taken over Spelling IsItem bytes x ended e = subst (λ y. TakesEach over Spelling IsItem bytes y) (ok_is ([], bytes) x e) (record { text = []; parts = refl; spelled = refl }, tt, ended)
 
-pub many_takes : {A : Type 0} (over : List ℕ → Bool) (read : List ℕ → Result (A × List ℕ) Refusal) (Spelling : List ℕ → A → Type 0) (IsItem : A → Type 0) (Follows : List ℕ → Type 0) → IsReader over read Spelling IsItem Follows
+pub many_takes : {A : Type 0} (over : List ℕ → Bool) (read : List ℕ → Result (A × List ℕ) ParseRefusal) (Spelling : List ℕ → A → Type 0) (IsItem : A → Type 0) (Follows : List ℕ → Type 0) → IsReader over read Spelling IsItem Follows
     → (fuel : ℕ) (bytes : List ℕ) (x : List A × List ℕ) → AreBytes bytes → length bytes ≤ fuel → many_at over read fuel bytes ≡ Ok x → TakesEach over Spelling IsItem bytes x
 many_takes over read Spelling IsItem Follows reader zero bytes x fits enough e =
     let ended : over bytes ≡ true = ap over (nil_from_length bytes (omega arith)) ∙ reader.at_end in
-    none_taken over Spelling IsItem bytes x ended (sym (many_done over read zero bytes (inl ended)) ∙ e)
+    many_none_taken over Spelling IsItem bytes x ended (sym (many_done over read zero bytes (inl ended)) ∙ e)
 many_takes over read Spelling IsItem Follows reader (suc fuel) bytes x fits enough e =
     elim (cases_Bool (over bytes)) as (λ w. TakesEach over Spelling IsItem bytes x) [
-      | inl ended ↦ none_taken over Spelling IsItem bytes x ended (sym (many_done over read (suc fuel) bytes (inl ended)) ∙ e)
+      | inl ended ↦ many_none_taken over Spelling IsItem bytes x ended (sym (many_done over read (suc fuel) bytes (inl ended)) ∙ e)
       | inr more ↦
-          let a = bind_ok (read bytes) (rest_of over read fuel) x (sym (many_more over read fuel bytes more) ∙ e) in
+          let a = bind_ok (read bytes) (loops_rest_of over read fuel) x (sym (many_more over read fuel bytes more) ∙ e) in
           let b = bind_ok (many_at over read fuel a.0.1) (λ others. Ok (a.0.0 ∷ others.0, others.1)) x a.2 in
           let first = reader.takes bytes a.0 fits a.1 in
           let less : length a.0.1 ≤ fuel = omega (arith, ap length first.0.parts, length-append first.0.text a.0.1, reader.long first.0.text a.0.0 first.0.spelled) in
@@ -45,14 +45,14 @@ many_takes over read Spelling IsItem Follows reader (suc fuel) bytes x fits enou
           (record { text = first.0.text ++ others.0.text; parts = whole; spelled = (first.0.text, others.0.text, refl, first.0.spelled, others.0.spelled) }, (first.1, others.1), others.2)
     ]
 
-each_follows : {A : Type 0} (over : List ℕ → Bool) (read : List ℕ → Result (A × List ℕ) Refusal) (Spelling : List ℕ → A → Type 0) (IsItem : A → Type 0) (Follows : List ℕ → Type 0) → IsReader over read Spelling IsItem Follows
+each_follows : {A : Type 0} (over : List ℕ → Bool) (read : List ℕ → Result (A × List ℕ) ParseRefusal) (Spelling : List ℕ → A → Type 0) (IsItem : A → Type 0) (Follows : List ℕ → Type 0) → IsReader over read Spelling IsItem Follows
     → (text : List ℕ) (xs : List A) (rest : List ℕ) → SpellsEach Spelling text xs → Follows rest → Follows (text ++ rest)
 each_follows over read Spelling IsItem Follows reader text [] rest h last = subst (λ w. Follows (w ++ rest)) (sym h) last
 each_follows over read Spelling IsItem Follows reader text (x ∷ xs) rest h last =
     let regrouped : text ++ rest ≡ h.0 ++ (h.1 ++ rest) = ap (λ w. w ++ rest) h.2 ∙ append_assoc h.0 h.1 rest in
     subst (λ w. Follows w) (sym regrouped) (reader.follows h.0 x (h.1 ++ rest) h.3)
 
-pub many_again : {A : Type 0} (over : List ℕ → Bool) (read : List ℕ → Result (A × List ℕ) Refusal) (Spelling : List ℕ → A → Type 0) (IsItem : A → Type 0) (Follows : List ℕ → Type 0) → IsReader over read Spelling IsItem Follows
+pub many_again : {A : Type 0} (over : List ℕ → Bool) (read : List ℕ → Result (A × List ℕ) ParseRefusal) (Spelling : List ℕ → A → Type 0) (IsItem : A → Type 0) (Follows : List ℕ → Type 0) → IsReader over read Spelling IsItem Follows
     → (fuel : ℕ) (text : List ℕ) (xs : List A) (rest : List ℕ) → SpellsEach Spelling text xs → AllByRecursion IsItem xs → over rest ≡ true → Follows rest → length (text ++ rest) ≤ fuel → many_at over read fuel (text ++ rest) ≡ Ok (xs, rest)
 many_again over read Spelling IsItem Follows reader fuel text [] rest h valid ended last enough =
     ap (λ w. many_at over read fuel (w ++ rest)) h ∙ many_done over read fuel rest (inl ended)
@@ -67,5 +67,5 @@ many_again over read Spelling IsItem Follows reader (suc fuel) text (x ∷ xs) r
     let others = many_again over read Spelling IsItem Follows reader fuel back xs rest h.4 valid.1 ended last less in
     ap (many_at over read (suc fuel)) regrouped
     ∙ many_more over read fuel (front ++ (back ++ rest)) (reader.goes_on front x (back ++ rest) h.3)
-    ∙ ap (λ r. r >>= rest_of over read fuel) first
+    ∙ ap (λ r. r >>= loops_rest_of over read fuel) first
     ∙ ap (then_others x) others

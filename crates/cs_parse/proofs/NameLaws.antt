@@ -9,8 +9,8 @@ use Rattle.cs_model.specs.declared.shape.Shape.{Shape}
 use Rattle.cs_model.specs.Section.{Section}
 use Rattle.cs_parse.specs.declared.fault.FaultKind.TheVariants.{EmptyName}
 use Rattle.cs_parse.specs.declared.spot.Spot.TheVariants.{Start, Name}
-use Rattle.cs_parse.specs.declared.stop.Refusal.{Refusal}
-use Rattle.cs_parse.specs.declared.stop.Refusal.TheVariants.{Short}
+use Rattle.cs_parse.specs.declared.stop.ParseRefusal.{ParseRefusal}
+use Rattle.cs_parse.specs.declared.stop.ParseRefusal.TheVariants.{Short}
 use Rattle.cs_parse.specs.Progress.{read_on}
 use Rattle.cs_parse.specs.Reading.{◌>>=◌, refuse, columns_at, flags_at, name_at, before_name_at, header_at, shape_at, ends_section}
 use Rattle.cs_parse.specs.Spot.{InName, StaysHeader}
@@ -23,21 +23,21 @@ use Rattle.cs_parse.proofs.PartLaws.{part_refused}
 
 -- ---- up to the name
 
-abbrev shaped : List ℕ → List ℕ × List ℕ → Result (Shape × List ℕ) Refusal
-shaped flags name = Ok (record { name = name.0; flags = flags }, name.1)
+abbrev name_shaped : List ℕ → List ℕ × List ℕ → Result (Shape × List ℕ) ParseRefusal
+name_shaped flags name = Ok (record { name = name.0; flags = flags }, name.1)
 
 -- what stands behind the key bytes
-abbrev named_by : List ℕ × List ℕ → Result (Shape × List ℕ) Refusal
-named_by flags = name_at flags.1 >>= shaped flags.0
+abbrev name_named_by : List ℕ × List ℕ → Result (Shape × List ℕ) ParseRefusal
+name_named_by flags = name_at flags.1 >>= name_shaped flags.0
 
-abbrev keyed : ℕ × List ℕ → Result (List ℕ × List ℕ) Refusal
-keyed count = flags_at count.0 count.1
+abbrev name_keyed : ℕ × List ℕ → Result (List ℕ × List ℕ) ParseRefusal
+name_keyed count = flags_at count.0 count.1
 
-one_step : (r : Result (ℕ × List ℕ) Refusal) → (r >>= λ count. keyed count >>= named_by) ≡ (r >>= keyed >>= named_by)
+one_step : (r : Result (ℕ × List ℕ) ParseRefusal) → (r >>= λ count. name_keyed count >>= name_named_by) ≡ (r >>= name_keyed >>= name_named_by)
 one_step (Ok count) = refl
 one_step (Err why) = refl
 
-header_by : (bytes : List ℕ) → header_at bytes ≡ (before_name_at bytes >>= named_by)
+header_by : (bytes : List ℕ) → header_at bytes ≡ (before_name_at bytes >>= name_named_by)
 unfolding header_at before_name_at
 header_by bytes = one_step (columns_at bytes)
 
@@ -47,12 +47,12 @@ shape_begins rest = refl
 
 -- the bytes before a name, whatever stands behind them
 abbrev UpTo : List ℕ → List ℕ → List ℕ → Type 0
-UpTo bytes flags rest = (front : List ℕ) × (bytes ≡ front ++ rest) × ((back : List ℕ) → header_at (front ++ back) ≡ (name_at back >>= shaped flags))
+UpTo bytes flags rest = (front : List ℕ) × (bytes ≡ front ++ rest) × ((back : List ℕ) → header_at (front ++ back) ≡ (name_at back >>= name_shaped flags))
 
 before_takes : (bytes flags rest : List ℕ) → before_name_at bytes ≡ Ok (flags, rest) → UpTo bytes flags rest
 unfolding header_at before_name_at
 before_takes bytes flags rest e =
-    let a = bind_ok (columns_at bytes) keyed (flags, rest) e in
+    let a = bind_ok (columns_at bytes) name_keyed (flags, rest) e in
     let t0 = columns_takes bytes a.0 a.1 in
     let t1 = flags_take a.0.0 a.0.1 (flags, rest) a.2 in
     let count = t0.0.text in
@@ -60,9 +60,9 @@ before_takes bytes flags rest e =
       count ++ flags,
       parts,
       λ back. ap header_at (append_assoc count flags back)
-          ∙ ap (λ r. r >>= λ n. keyed n >>= named_by) (columns_again count a.0.0 (flags ++ back) t0.0.spelled t0.1 t0.2)
-          ∙ ap (λ n. flags_at n (flags ++ back) >>= named_by) (sym t1.1)
-          ∙ ap (λ r. r >>= named_by) (flags_again flags back t1.2),
+          ∙ ap (λ r. r >>= λ n. name_keyed n >>= name_named_by) (columns_again count a.0.0 (flags ++ back) t0.0.spelled t0.1 t0.2)
+          ∙ ap (λ n. flags_at n (flags ++ back) >>= name_named_by) (sym t1.1)
+          ∙ ap (λ r. r >>= name_named_by) (flags_again flags back t1.2),
     )
 
 -- ---- where a header begins
@@ -71,9 +71,9 @@ pub shape_none : (bytes : List ℕ) → length bytes ≡ 0 → shape_at bytes �
 unfolding shape_at
 shape_none bytes none = ap shape_at (nil_from_length bytes none)
 
-pub before_short : (bytes : List ℕ) (byte : ℕ) (rest : List ℕ) (why : Refusal) → bytes ≡ byte ∷ rest → byte ≡ 84 → before_name_at rest ≡ Err why → why ≡ Short → shape_at bytes ≡ Err Short
+pub before_short : (bytes : List ℕ) (byte : ℕ) (rest : List ℕ) (why : ParseRefusal) → bytes ≡ byte ∷ rest → byte ≡ 84 → before_name_at rest ≡ Err why → why ≡ Short → shape_at bytes ≡ Err Short
 before_short bytes byte rest why parts is e short =
-    ap shape_at (parts ∙ ap (λ b. b ∷ rest) is) ∙ shape_begins rest ∙ header_by rest ∙ ap (λ r. r >>= named_by) (e ∙ ap (λ w. Err w) short)
+    ap shape_at (parts ∙ ap (λ b. b ∷ rest) is) ∙ shape_begins rest ∙ header_by rest ∙ ap (λ r. r >>= name_named_by) (e ∙ ap (λ w. Err w) short)
 
 pub name_shorter : (bytes : List ℕ) (byte : ℕ) (rest flags name : List ℕ) → bytes ≡ byte ∷ rest → before_name_at rest ≡ Ok (flags, name) → length name ≤ length bytes
 name_shorter bytes byte rest flags name parts e =
@@ -147,7 +147,7 @@ name_still bytes place letters h short behind =
     let name = drop place bytes in
     let all : position is_zero name ≡ None = sym (ap (position is_zero) (take-append-drop letters name)) ∙ none_behind (take letters name) (drop letters name) h.no_zero behind in
     let rest : position is_zero (take (length name) name) ≡ None = ap (position is_zero) (take_all (length name) name (omega arith)) ∙ all in
-    let reads = ap (λ r. r >>= shaped h.flags) (name_short name short all) in (
+    let reads = ap (λ r. r >>= name_shaped h.flags) (name_short name short all) in (
       sym (ap shape_at (take-append-drop place bytes)) ∙ h.passes name ∙ reads,
       record { flags = h.flags; within = omega (arith, h.within, length-drop place bytes); passes = h.passes; no_zero = rest },
     )

@@ -10,39 +10,39 @@ use Rattle.cs_model.specs.Varint.{EndsVarint, IsVarint}
 use Rattle.cs_model.specs.Text.{SpellsBytes}
 use Rattle.cs_parse.specs.declared.fault.FaultKind.{FaultKind}
 use Rattle.cs_parse.specs.declared.fault.FaultKind.TheVariants.{Columns, ValueTooLong}
-use Rattle.cs_parse.specs.declared.stop.Refusal.{Refusal}
-use Rattle.cs_parse.specs.declared.stop.Refusal.TheVariants.{Short, Bad}
-use Rattle.cs_parse.specs.Reading.{◌>>=◌, within, number_at, columns_at, length_at, integer_at, counted_at}
+use Rattle.cs_parse.specs.declared.stop.ParseRefusal.{ParseRefusal}
+use Rattle.cs_parse.specs.declared.stop.ParseRefusal.TheVariants.{Short, Bad}
+use Rattle.cs_parse.specs.Reading.{◌>>=◌, number_within, number_at, columns_at, length_at, integer_at, counted_at}
 use Rattle.cs_parse.specs.Place.{factor}
 use Rattle.cs_model.specs.Bytes.{AreBytes}
-use Rattle.cs_parse.proofs.Steps.{Takes, bind_ok, done, ok_is, guard_ok, chosen}
+use Rattle.cs_parse.proofs.Steps.{Takes, bind_ok, done, ok_is, guard_ok, steps_chosen}
 use Rattle.cs_parse.proofs.Numbers.{goes, number_short, number_more, number_last, number_ends, number_goes}
 
-within_ok : (least most : ℕ) (kind : FaultKind) (n : ℕ) (rest : List ℕ) (x : ℕ × List ℕ) → within least most kind n rest ≡ Ok x → ((n, rest) ≡ x) × (least ≤ n) × (n ≤ most)
+within_ok : (least most : ℕ) (kind : FaultKind) (n : ℕ) (rest : List ℕ) (x : ℕ × List ℕ) → number_within least most kind n rest ≡ Ok x → ((n, rest) ≡ x) × (least ≤ n) × (n ≤ most)
 within_ok least most kind n rest x e =
     let g = guard_ok (ltb n least || ltb most n) (Bad (suc (length rest)) kind) (Ok (n, rest)) x e in
     let tests = or_parts (ltb n least) (ltb most n) g.0 in
     (ok_is (n, rest) x g.1, ltb-false n least tests.0, ltb-false most n tests.1)
 
-pub within_again : (least most : ℕ) (kind : FaultKind) (n : ℕ) (rest : List ℕ) → least ≤ n → n ≤ most → within least most kind n rest ≡ Ok (n, rest)
+pub within_again : (least most : ℕ) (kind : FaultKind) (n : ℕ) (rest : List ℕ) → least ≤ n → n ≤ most → number_within least most kind n rest ≡ Ok (n, rest)
 within_again least most kind n rest low high = rw (le-ltb n least low, le-ltb most n high) refl
 
 -- a number within its limits, and its spelling
 abbrev Counts : ℕ → ℕ → ℕ → ℕ → List ℕ → ℕ × List ℕ → Type 0
 Counts least most left high bytes x = Takes (EndsVarint left high) bytes x × (least ≤ x.0) × (x.0 ≤ most)
 
-last_takes : (least most left high byte n : ℕ) (rest : List ℕ) (x : ℕ × List ℕ) → EndsVarint left high (byte ∷ []) n → ((n, rest) ≡ x) × (least ≤ n) × (n ≤ most) → Counts least most left high (byte ∷ rest) x
-last_takes least most left high byte n rest x h g = subst (λ (y : ℕ × List ℕ). Counts least most left high (byte ∷ rest) y) g.0 (record { text = byte ∷ []; parts = refl; spelled = h }, g.1, g.2)
+number_last_takes : (least most left high byte n : ℕ) (rest : List ℕ) (x : ℕ × List ℕ) → EndsVarint left high (byte ∷ []) n → ((n, rest) ≡ x) × (least ≤ n) × (n ≤ most) → Counts least most left high (byte ∷ rest) x
+number_last_takes least most left high byte n rest x h g = subst (λ (y : ℕ × List ℕ). Counts least most left high (byte ∷ rest) y) g.0 (record { text = byte ∷ []; parts = refl; spelled = h }, g.1, g.2)
 
 pub number_takes : (least most : ℕ) (kind : FaultKind) (left high : ℕ) (bytes : List ℕ) (x : ℕ × List ℕ) → number_at least most kind left high bytes ≡ Ok x → Counts least most left high bytes x
 number_takes least most kind left high [] x e =
     let none : Err Short ≡ done x = sym (number_short least most kind left high) ∙ e in
     absurd cc
 number_takes least most kind zero high (byte ∷ rest) x e =
-    last_takes least most zero high byte (256 * high + byte) rest x (refl, refl) (within_ok least most kind (256 * high + byte) rest x (sym (number_last least most kind high byte rest) ∙ e))
+    number_last_takes least most zero high byte (256 * high + byte) rest x (refl, refl) (within_ok least most kind (256 * high + byte) rest x (sym (number_last least most kind high byte rest) ∙ e))
 number_takes least most kind (suc left) high (byte ∷ rest) x e =
-    elim (chosen (ltb byte 128) (within least most kind (128 * high + byte) rest) (goes least most kind left high byte rest) (Ok x) (sym (number_more least most kind left high byte rest) ∙ e)) as (λ w. Counts least most (suc left) high (byte ∷ rest) x) [
-      | inl last ↦ last_takes least most (suc left) high byte (128 * high + byte) rest x (inl (ltb-true byte 128 last.0, refl, refl)) (within_ok least most kind (128 * high + byte) rest x last.1)
+    elim (steps_chosen (ltb byte 128) (number_within least most kind (128 * high + byte) rest) (goes least most kind left high byte rest) (Ok x) (sym (number_more least most kind left high byte rest) ∙ e)) as (λ w. Counts least most (suc left) high (byte ∷ rest) x) [
+      | inl last ↦ number_last_takes least most (suc left) high byte (128 * high + byte) rest x (inl (ltb-true byte 128 last.0, refl, refl)) (within_ok least most kind (128 * high + byte) rest x last.1)
       | inr more ↦
           let g = guard_ok (ltb most (factor left * (128 * high + (byte - 128)))) (Bad (suc (length rest)) kind) (number_at least most kind left (128 * high + (byte - 128)) rest) x more.1 in
           let t = number_takes least most kind left (128 * high + (byte - 128)) rest x g.1 in
@@ -78,11 +78,11 @@ pub number_again : (least most : ℕ) (kind : FaultKind) (left high : ℕ) (text
 number_again least most kind left high [] n rest h low top = absurd h
 number_again least most kind zero high (byte ∷ text) n rest h low top =
     let only = ap (λ w. number_at least most kind zero high (byte ∷ (w ++ rest))) h.0 in
-    let value = ap (λ k. within least most kind k rest) (sym h.1) in
+    let value = ap (λ k. number_within least most kind k rest) (sym h.1) in
     only ∙ number_last least most kind high byte rest ∙ value ∙ within_again least most kind n rest low top
 number_again least most kind (suc left) high (byte ∷ text) n rest (inl h) low top =
     let only = ap (λ w. number_at least most kind (suc left) high (byte ∷ (w ++ rest))) h.1 in
-    let value = ap (λ k. within least most kind k rest) (sym h.2) in
+    let value = ap (λ k. number_within least most kind k rest) (sym h.2) in
     only ∙ number_ends least most kind left high byte rest h.0 ∙ value ∙ within_again least most kind n rest low top
 number_again least most kind (suc left) high (byte ∷ text) n rest (inr h) low top =
     let next = 128 * high + (byte - 128) in
@@ -110,13 +110,13 @@ length_again text n rest h top = number_again 0 16777216 ValueTooLong 8 0 text n
 
 -- ---- a length, and that many bytes
 
-abbrev bytes_of : ℕ × List ℕ → Result (List ℕ × List ℕ) Refusal
-bytes_of n = cond (ltb (length n.1) n.0) (Err Short) (Ok (take n.0 n.1, drop n.0 n.1))
+abbrev number_bytes_of : ℕ × List ℕ → Result (List ℕ × List ℕ) ParseRefusal
+number_bytes_of n = cond (ltb (length n.1) n.0) (Err Short) (Ok (take n.0 n.1, drop n.0 n.1))
 
 pub counted_takes : (bytes : List ℕ) (x : List ℕ × List ℕ) → counted_at bytes ≡ Ok x → Takes SpellsBytes bytes x × (length x.0 ≤ 16777216)
 unfolding counted_at
 counted_takes bytes x e =
-    let b = bind_ok (length_at bytes) bytes_of x e in
+    let b = bind_ok (length_at bytes) number_bytes_of x e in
     let n = b.0 in
     let t = length_takes bytes n b.1 in
     let g = guard_ok (ltb (length n.1) n.0) Short (Ok (take n.0 n.1, drop n.0 n.1)) x b.2 in
@@ -131,7 +131,7 @@ unfolding counted_at
 counted_again text bytes rest h top =
     let regrouped : text ++ rest ≡ h.count ++ (bytes ++ rest) = ap (λ w. w ++ rest) h.parts ∙ append_assoc h.count bytes rest in
     let long : ltb (length (bytes ++ rest)) (length bytes) ≡ false = le-ltb _ _ (omega (arith, length-append bytes rest)) in
-    let counted = ap (λ r. r >>= bytes_of) (ap length_at regrouped ∙ length_again h.count (length bytes) (bytes ++ rest) h.is_count top) in
+    let counted = ap (λ r. r >>= number_bytes_of) (ap length_at regrouped ∙ length_again h.count (length bytes) (bytes ++ rest) h.is_count top) in
     counted ∙ rw (long, take_at bytes rest (length bytes) refl, drop_at bytes rest (length bytes) refl) refl
 
 -- ---- an INTEGER
@@ -139,15 +139,15 @@ counted_again text bytes rest h top =
 abbrev pub SpellsInteger : List ℕ → ℤ → Type 0
 SpellsInteger text number = text ≡ to_be_bytes w64 (cast_unsigned w64 number)
 
-pub front_fits : (n : ℕ) (bytes : List ℕ) → n ≤ length bytes → AreBytes bytes → AreBytes (take n bytes)
-front_fits n bytes within fits i =
+pub number_front_fits : (n : ℕ) (bytes : List ℕ) → n ≤ length bytes → AreBytes bytes → AreBytes (take n bytes)
+number_front_fits n bytes within fits i =
     elim (cases_lt i n) as (λ w. get_or (take n bytes) i 0 < 256) [
       | inl lt ↦ rw (get_or-take n bytes i 0 lt) (fits i)
       | inr le ↦ rw (get_or_past (take n bytes) i 0 (omega (arith, length-take n bytes))) (omega arith)
     ]
 
-number_below : (bytes : List ℕ) → AreBytes bytes → from_be_bytes w64 bytes < 2 ^ 64
-number_below bytes fits = omega (arith, fits 0, fits 1, fits 2, fits 3, fits 4, fits 5, fits 6, fits 7)
+number_below_limit : (bytes : List ℕ) → AreBytes bytes → from_be_bytes w64 bytes < 2 ^ 64
+number_below_limit bytes fits = omega (arith, fits 0, fits 1, fits 2, fits 3, fits 4, fits 5, fits 6, fits 7)
 
 pub integer_takes : (bytes : List ℕ) (x : ℤ × List ℕ) → AreBytes bytes → integer_at bytes ≡ Ok x → Takes SpellsInteger bytes x × FitsSigned w64 x.0
 unfolding integer_at
@@ -156,21 +156,21 @@ integer_takes bytes x fits e =
     let n = from_be_bytes w64 front in
     let g = guard_ok (ltb (length bytes) 8) Short (Ok (cast_signed w64 n, drop 8 bytes)) x e in
     let long : 8 ≤ length bytes = ltb-false _ _ g.0 in
-    let eight : AreBytes front = front_fits 8 bytes long fits in
+    let eight : AreBytes front = number_front_fits 8 bytes long fits in
     let back : to_be_bytes w64 n ≡ front = be_bytes_8 front n (omega (arith, length-take 8 bytes)) eight refl in
-    let same : cast_unsigned w64 (cast_signed w64 n) ≡ n = of_z-to_z w64 n (number_below front eight) in
+    let same : cast_unsigned w64 (cast_signed w64 n) ≡ n = of_z-to_z w64 n (number_below_limit front eight) in
     let spelled : SpellsInteger front (cast_signed w64 n) = sym (ap (λ k. to_be_bytes w64 k) same ∙ back) in
     subst (λ (y : ℤ × List ℕ). Takes SpellsInteger bytes y × FitsSigned w64 y.0) (ok_is (cast_signed w64 n, drop 8 bytes) x g.1) (record { text = front; parts = sym (take-append-drop 8 bytes); spelled = spelled }, read_sfits w64 n)
 
-unsigned_below : (n : ℤ) → FitsSigned w64 n → cast_unsigned w64 n < 2 ^ 64
-unsigned_below n fits = omega (arith, ints)
+number_unsigned_below : (n : ℤ) → FitsSigned w64 n → cast_unsigned w64 n < 2 ^ 64
+number_unsigned_below n fits = omega (arith, ints)
 
-integer_by : (text rest : List ℕ) (n : ℤ) → length text ≡ 8 → cast_signed w64 (from_be_bytes w64 text) ≡ n → integer_at (text ++ rest) ≡ Ok (n, rest)
+number_integer_by : (text rest : List ℕ) (n : ℤ) → length text ≡ 8 → cast_signed w64 (from_be_bytes w64 text) ≡ n → integer_at (text ++ rest) ≡ Ok (n, rest)
 unfolding integer_at
-integer_by text rest n len value =
+number_integer_by text rest n len value =
     let long : ltb (length (text ++ rest)) 8 ≡ false = le-ltb _ _ (omega (arith, length-append text rest)) in
     rw (long, take_at text rest 8 len, drop_at text rest 8 len, value) refl
 
 pub integer_again : (n : ℤ) (rest : List ℕ) → FitsSigned w64 n → integer_at (to_be_bytes w64 (cast_unsigned w64 n) ++ rest) ≡ Ok (n, rest)
 integer_again n rest fits =
-    integer_by (to_be_bytes w64 (cast_unsigned w64 n)) rest n refl (ap (λ k. cast_signed w64 k) (from_be_bytes-to_be_bytes_8 (cast_unsigned w64 n) (unsigned_below n fits)) ∙ to_z-of_z w64 n fits)
+    number_integer_by (to_be_bytes w64 (cast_unsigned w64 n)) rest n refl (ap (λ k. cast_signed w64 k) (from_be_bytes-to_be_bytes_8 (cast_unsigned w64 n) (number_unsigned_below n fits)) ∙ to_z-of_z w64 n fits)

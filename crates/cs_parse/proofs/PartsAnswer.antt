@@ -9,11 +9,11 @@ use Rattle.cs_model.specs.Section.{Section}
 use Rattle.cs_model.specs.Changeset.{IsSection}
 use Rattle.cs_model.specs.Text.{SpellsChange, SpellsSection}
 use Rattle.cs_parse.specs.declared.fault.FaultKind.TheVariants.{Truncated}
-use Rattle.cs_parse.specs.declared.stop.Refusal.{Refusal}
-use Rattle.cs_parse.specs.Reading.{◌>>=◌, many_at, change_at, ends_section, changes_at, shape_at, section_at, is_empty, sections_at, placed, fault_of}
+use Rattle.cs_parse.specs.declared.stop.ParseRefusal.{ParseRefusal}
+use Rattle.cs_parse.specs.Reading.{◌>>=◌, many_at, change_at, ends_section, changes_at, shape_at, section_at, is_empty, sections_at, whole_answer, fault_of}
 use Rattle.cs_parse.specs.Progress.{last_flags, with_changes, with_header, with_part, part_at, read_on, Reached}
 use Rattle.cs_parse.proofs.Steps.{back_fits}
-use Rattle.cs_parse.proofs.Loops.{with_front, then_others, rest_of, many_more, many_done}
+use Rattle.cs_parse.proofs.Loops.{with_front, then_others, loops_rest_of, many_more, many_done}
 use Rattle.cs_parse.proofs.ManyLaws.{IsReader}
 use Rattle.cs_parse.proofs.PartLaws.{some_bytes, part_shorter}
 use Rattle.cs_parse.proofs.PartMore.{read_induction}
@@ -22,16 +22,16 @@ use Rattle.cs_parse.proofs.ChangeLaws.{IsChangeBy, IsAny, change_reader}
 use Rattle.cs_parse.proofs.TextLaws.{sectioned, changes_behind, CanFollow, section_reader}
 
 abbrev pub Read : Type 0
-Read = Result (List Section × List ℕ) Refusal
+Read = Result (List Section × List ℕ) ParseRefusal
 
 -- ---- more fuel than bytes changes nothing
 
 -- two ways to go on that agree where something is read
-behind_same : {A : Type 0} (r : Result (A × List ℕ) Refusal) (f g : A × List ℕ → Result (List A × List ℕ) Refusal) → ((x : A × List ℕ) → r ≡ Ok x → f x ≡ g x) → (r >>= f) ≡ (r >>= g)
+behind_same : {A : Type 0} (r : Result (A × List ℕ) ParseRefusal) (f g : A × List ℕ → Result (List A × List ℕ) ParseRefusal) → ((x : A × List ℕ) → r ≡ Ok x → f x ≡ g x) → (r >>= f) ≡ (r >>= g)
 behind_same (Ok x) f g h = h x refl
 behind_same (Err e) f g h = refl
 
-module _ {A : Type 0} (over : List ℕ → Bool) (read : List ℕ → Result (A × List ℕ) Refusal) (Spelling : List ℕ → A → Type 0) (IsItem : A → Type 0) (Follows : List ℕ → Type 0) (reader : IsReader over read Spelling IsItem Follows) where
+module _ {A : Type 0} (over : List ℕ → Bool) (read : List ℕ → Result (A × List ℕ) ParseRefusal) (Spelling : List ℕ → A → Type 0) (IsItem : A → Type 0) (Follows : List ℕ → Type 0) (reader : IsReader over read Spelling IsItem Follows) where
   left_less : (bytes : List ℕ) (x : A × List ℕ) → AreBytes bytes → read bytes ≡ Ok x → (length x.1 < length bytes) × AreBytes x.1
   left_less bytes x fits e =
       let t = (reader.takes bytes x fits e).0 in
@@ -46,35 +46,35 @@ module _ {A : Type 0} (over : List ℕ → Bool) (read : List ℕ → Result (A 
   enough (suc n) (suc m) bytes fits a b = elim (cases_Bool (over bytes)) as (λ w. many_at over read (suc n) bytes ≡ many_at over read (suc m) bytes) [
     | inl ended ↦ none_left (suc n) (suc m) bytes ended
     | inr more ↦
-        let each : (x : A × List ℕ) → read bytes ≡ Ok x → rest_of over read n x ≡ rest_of over read m x = λ x e.
+        let each : (x : A × List ℕ) → read bytes ≡ Ok x → loops_rest_of over read n x ≡ loops_rest_of over read m x = λ x e.
         let l = left_less bytes x fits e in
         ap (then_others x.0) (enough n m x.1 l.1 (omega (arith, l.0)) (omega (arith, l.0))) in
-        many_more over read n bytes more ∙ behind_same (read bytes) (rest_of over read n) (rest_of over read m) each ∙ sym (many_more over read m bytes more)
+        many_more over read n bytes more ∙ behind_same (read bytes) (loops_rest_of over read n) (loops_rest_of over read m) each ∙ sym (many_more over read m bytes more)
   ]
 
   -- the first item, and then all others
-  abbrev others_by : A × List ℕ → Result (List A × List ℕ) Refusal
+  abbrev others_by : A × List ℕ → Result (List A × List ℕ) ParseRefusal
   others_by x = then_others x.0 (many_at over read (length x.1) x.1)
 
   many_step : (bytes : List ℕ) → AreBytes bytes → over bytes ≡ false → many_at over read (length bytes) bytes ≡ (read bytes >>= others_by)
   many_step [] fits more = absurd (false≢true (sym more ∙ reader.at_end))
   many_step (byte ∷ rest) fits more =
       let bytes = byte ∷ rest in
-      let each : (x : A × List ℕ) → read bytes ≡ Ok x → rest_of over read (length rest) x ≡ others_by x = λ x e.
+      let each : (x : A × List ℕ) → read bytes ≡ Ok x → loops_rest_of over read (length rest) x ≡ others_by x = λ x e.
       let l = left_less bytes x fits e in
       ap (then_others x.0) (enough (length rest) (length x.1) x.1 l.1 (omega (arith, l.0)) (omega arith)) in
-      many_more over read (length rest) bytes more ∙ behind_same (read bytes) (rest_of over read (length rest)) others_by each
+      many_more over read (length rest) bytes more ∙ behind_same (read bytes) (loops_rest_of over read (length rest)) others_by each
 
-abbrev changes_others : List ℕ → Change × List ℕ → Result (List Change × List ℕ) Refusal
+abbrev changes_others : List ℕ → Change × List ℕ → Result (List Change × List ℕ) ParseRefusal
 changes_others flags change = then_others change.0 (changes_at flags change.1)
 
 changes_step : (flags bytes : List ℕ) → AreBytes bytes → ends_section bytes ≡ false → changes_at flags bytes ≡ (change_at flags bytes >>= changes_others flags)
 unfolding changes_at
 changes_step flags bytes fits more = many_step ends_section (change_at flags) SpellsChange (IsChangeBy flags) IsAny (change_reader flags) bytes fits more
 
-changes_over : (flags bytes : List ℕ) → ends_section bytes ≡ true → changes_at flags bytes ≡ Ok ([], bytes)
+parts_answer_changes_over : (flags bytes : List ℕ) → ends_section bytes ≡ true → changes_at flags bytes ≡ Ok ([], bytes)
 unfolding changes_at
-changes_over flags bytes ended = many_done ends_section (change_at flags) (length bytes) bytes (inl ended)
+parts_answer_changes_over flags bytes ended = many_done ends_section (change_at flags) (length bytes) bytes (inl ended)
 
 abbrev sections_others : Section × List ℕ → Read
 sections_others section = then_others section.0 (sections_at section.1)
@@ -90,18 +90,18 @@ sections_over = many_done is_empty section_at 0 [] (inr refl)
 -- ---- what finishing gives
 
 -- the last section's changes that are read more, and the sections behind it
-abbrev pub behind_changes : List Section → List Change × List ℕ → Read
-behind_changes sections changes = with_front (with_changes sections changes.0) (sections_at changes.1)
+abbrev pub parts_answer_behind_changes : List Section → List Change × List ℕ → Read
+parts_answer_behind_changes sections changes = with_front (with_changes sections changes.0) (sections_at changes.1)
 
 abbrev pub go_by : List Section → Option (List ℕ) → List ℕ → Read
 go_by sections None bytes = with_front sections (sections_at bytes)
-go_by sections (Some flags) bytes = changes_at flags bytes >>= behind_changes sections
+go_by sections (Some flags) bytes = changes_at flags bytes >>= parts_answer_behind_changes sections
 
 -- Reading on behind these sections, of which the last one may go on.
 abbrev pub go_on : List Section → List ℕ → Read
 go_on sections bytes = go_by sections (last_flags sections) bytes
 
-abbrev pub finished_by : List Section → List ℕ → Option Refusal → Read
+abbrev pub finished_by : List Section → List ℕ → Option ParseRefusal → Read
 finished_by sections rest None = Ok (sections, rest)
 finished_by sections rest (Some why) = Err why
 
@@ -117,19 +117,19 @@ go_part part = go_on part.0 part.1
 abbrev with_new : List Section → Shape × List ℕ → Read
 with_new sections shape = Ok (sections ++ record { shape = shape.0; changes = [] } ∷ [], shape.1)
 
-regroup : (front : List Section) (first : Section) (read : Read) → with_front front (then_others first read) ≡ with_front (front ++ first ∷ []) read
-regroup front first (Ok x) = ap (λ xs. Ok (xs, x.1)) (simp append_assoc)
-regroup front first (Err e) = refl
+parts_answer_regroup : (front : List Section) (first : Section) (read : Read) → with_front front (then_others first read) ≡ with_front (front ++ first ∷ []) read
+parts_answer_regroup front first (Ok x) = ap (λ xs. Ok (xs, x.1)) (simp append_assoc)
+parts_answer_regroup front first (Err e) = refl
 
 -- behind a header's changes
-new_section : (sections : List Section) (shape : Shape) (changes : Result (List Change × List ℕ) Refusal)
-    → with_front sections ((changes >>= sectioned shape) >>= sections_others) ≡ (changes >>= behind_changes (sections ++ record { shape = shape; changes = [] } ∷ []))
+new_section : (sections : List Section) (shape : Shape) (changes : Result (List Change × List ℕ) ParseRefusal)
+    → with_front sections ((changes >>= sectioned shape) >>= sections_others) ≡ (changes >>= parts_answer_behind_changes (sections ++ record { shape = shape; changes = [] } ∷ []))
 new_section sections shape (Ok x) =
-    regroup sections (record { shape = shape; changes = x.0 }) (sections_at x.1)
+    parts_answer_regroup sections (record { shape = shape; changes = x.0 }) (sections_at x.1)
     ∙ ap (λ s. with_front s (sections_at x.1)) (sym (with_last sections (record { shape = shape; changes = [] }) x.0))
 new_section sections shape (Err e) = refl
 
-behind_header : (sections : List Section) (shape : Result (Shape × List ℕ) Refusal) → with_front sections ((shape >>= changes_behind) >>= sections_others) ≡ ((shape >>= with_new sections) >>= go_part)
+behind_header : (sections : List Section) (shape : Result (Shape × List ℕ) ParseRefusal) → with_front sections ((shape >>= changes_behind) >>= sections_others) ≡ ((shape >>= with_new sections) >>= go_part)
 behind_header sections (Ok x) =
     let new : Section = record { shape = x.0; changes = [] } in
     new_section sections x.0 (changes_at x.0.flags x.1) ∙ ap (λ o. go_by (sections ++ new ∷ []) o x.1) (sym (last_of sections new))
@@ -148,13 +148,13 @@ header_step sections bytes fits more =
 abbrev with_one : List Section → Change × List ℕ → Read
 with_one sections change = Ok (with_changes sections (change.0 ∷ []), change.1)
 
-change_and_more : (sections : List Section) (change : Change) (changes : Result (List Change × List ℕ) Refusal)
-    → (then_others change changes >>= behind_changes sections) ≡ (changes >>= behind_changes (with_changes sections (change ∷ [])))
+change_and_more : (sections : List Section) (change : Change) (changes : Result (List Change × List ℕ) ParseRefusal)
+    → (then_others change changes >>= parts_answer_behind_changes sections) ≡ (changes >>= parts_answer_behind_changes (with_changes sections (change ∷ [])))
 change_and_more sections change (Ok x) = ap (λ s. with_front s (sections_at x.1)) (sym (with_both sections change x.0))
 change_and_more sections change (Err e) = refl
 
-behind_change : (sections : List Section) (flags : List ℕ) → last_flags sections ≡ Some flags → (change : Result (Change × List ℕ) Refusal)
-    → ((change >>= changes_others flags) >>= behind_changes sections) ≡ ((change >>= with_one sections) >>= go_part)
+behind_change : (sections : List Section) (flags : List ℕ) → last_flags sections ≡ Some flags → (change : Result (Change × List ℕ) ParseRefusal)
+    → ((change >>= changes_others flags) >>= parts_answer_behind_changes sections) ≡ ((change >>= with_one sections) >>= go_part)
 behind_change sections flags last (Ok x) =
     let new = with_changes sections (x.0 ∷ []) in
     change_and_more sections x.0 (changes_at flags x.1) ∙ ap (λ o. go_by new o x.1) (sym (last_same sections (x.0 ∷ []) ∙ last))
@@ -166,12 +166,12 @@ part_step : (sections : List Section) (o : Option (List ℕ)) (bytes : List ℕ)
 part_step sections None bytes last fits more = header_step sections bytes fits more
 part_step sections (Some flags) bytes last fits more = elim (cases_Bool (ends_section bytes)) as (λ w. go_by sections (Some flags) bytes ≡ (with_part sections (Some flags) bytes >>= go_part)) [
   | inl ended ↦
-      ap (λ r. r >>= behind_changes sections) (changes_over flags bytes ended)
+      ap (λ r. r >>= parts_answer_behind_changes sections) (parts_answer_changes_over flags bytes ended)
       ∙ ap (λ s. with_front s (sections_at bytes)) (with_none sections)
       ∙ header_step sections bytes fits more
       ∙ ap (λ b. cond b (with_header sections bytes) (change_at flags bytes >>= with_one sections) >>= go_part) (sym ended)
   | inr on ↦
-      ap (λ r. r >>= behind_changes sections) (changes_step flags bytes fits on)
+      ap (λ r. r >>= parts_answer_behind_changes sections) (changes_step flags bytes fits on)
       ∙ behind_change sections flags last (change_at flags bytes)
       ∙ ap (λ b. cond b (with_header sections bytes) (change_at flags bytes >>= with_one sections) >>= go_part) (sym on)
 ]
@@ -183,7 +183,7 @@ go_step sections bytes fits more = part_step sections (last_flags sections) byte
 go_nothing : (sections : List Section) (o : Option (List ℕ)) → go_by sections o [] ≡ Ok (sections, [])
 go_nothing sections None = ap (with_front sections) sections_over ∙ ap (λ s. Ok (s, [])) (append-nil sections)
 go_nothing sections (Some flags) =
-    ap (λ r. r >>= behind_changes sections) (changes_over flags [] refl)
+    ap (λ r. r >>= parts_answer_behind_changes sections) (parts_answer_changes_over flags [] refl)
     ∙ ap (with_front (with_changes sections [])) sections_over
     ∙ ap (λ s. Ok (s, [])) (append-nil (with_changes sections []) ∙ with_none sections)
 
@@ -214,16 +214,16 @@ pub text_answer : (text : List ℕ) → AreBytes text → sections_at text ≡ f
 text_answer text fits = sym (none_in_front (sections_at text)) ∙ parts_answer [] text fits
 
 -- whether all was read
-abbrev pub is_none : Option Refusal → Bool
-is_none None = true
-is_none (Some why) = false
+abbrev pub parts_answer_is_none : Option ParseRefusal → Bool
+parts_answer_is_none None = true
+parts_answer_is_none (Some why) = false
 
-abbrev RestIs : List Section → List ℕ → Reached → Type 0
-RestIs sections bytes reached = is_empty reached.rest ≡ is_none reached.why
+abbrev PartsAnswerRestIs : List Section → List ℕ → Reached → Type 0
+PartsAnswerRestIs sections bytes reached = is_empty reached.rest ≡ parts_answer_is_none reached.why
 
 -- bytes are left exactly where a part is refused
-pub rest_is : (sections : List Section) (bytes : List ℕ) → AreBytes bytes → is_empty (read_on sections bytes).rest ≡ is_none (read_on sections bytes).why
-rest_is = read_induction RestIs (record {
+pub rest_is : (sections : List Section) (bytes : List ℕ) → AreBytes bytes → is_empty (read_on sections bytes).rest ≡ parts_answer_is_none (read_on sections bytes).why
+rest_is = read_induction PartsAnswerRestIs (record {
   none = λ sections. refl;
   refused = λ sections byte bytes why fits e. some_bytes byte bytes;
   goes = λ sections bytes part fits e behind. behind;
@@ -231,13 +231,13 @@ rest_is = read_induction RestIs (record {
 
 -- ---- as code reads a text
 
-whole_by : (text : List ℕ) (sections : List Section) (rest : List ℕ) (why o : Option Refusal) → AreBytes text → read_on [] text ≡ record { sections = sections; rest = rest; why = why } → why ≡ o → sections_at text ≡ finished_by sections rest o
+whole_by : (text : List ℕ) (sections : List Section) (rest : List ℕ) (why o : Option ParseRefusal) → AreBytes text → read_on [] text ≡ record { sections = sections; rest = rest; why = why } → why ≡ o → sections_at text ≡ finished_by sections rest o
 whole_by text sections rest why o fits read is = text_answer text fits ∙ ap finished read ∙ ap (finished_by sections rest) is
 
-pub whole_read : (text : List ℕ) (sections : List Section) (rest : List ℕ) (why : Option Refusal) → AreBytes text → read_on [] text ≡ record { sections = sections; rest = rest; why = why } → why ≡ None
-    → placed (length text) (sections_at text) ≡ Ok sections
-whole_read text sections rest why fits read none = ap (placed (length text)) (whole_by text sections rest why None fits read none)
+pub whole_read : (text : List ℕ) (sections : List Section) (rest : List ℕ) (why : Option ParseRefusal) → AreBytes text → read_on [] text ≡ record { sections = sections; rest = rest; why = why } → why ≡ None
+    → whole_answer (length text) (sections_at text) ≡ Ok sections
+whole_read text sections rest why fits read none = ap (whole_answer (length text)) (whole_by text sections rest why None fits read none)
 
-pub whole_refused : (text : List ℕ) (sections : List Section) (rest : List ℕ) (why : Option Refusal) (refusal : Refusal) → AreBytes text → read_on [] text ≡ record { sections = sections; rest = rest; why = why } → why ≡ Some refusal
-    → placed (length text) (sections_at text) ≡ Err (fault_of (length text) Truncated refusal)
-whole_refused text sections rest why refusal fits read some = ap (placed (length text)) (whole_by text sections rest why (Some refusal) fits read some)
+pub whole_refused : (text : List ℕ) (sections : List Section) (rest : List ℕ) (why : Option ParseRefusal) (refusal : ParseRefusal) → AreBytes text → read_on [] text ≡ record { sections = sections; rest = rest; why = why } → why ≡ Some refusal
+    → whole_answer (length text) (sections_at text) ≡ Err (fault_of (length text) Truncated refusal)
+whole_refused text sections rest why refusal fits read some = ap (whole_answer (length text)) (whole_by text sections rest why (Some refusal) fits read some)

@@ -11,14 +11,14 @@ use Rattle.cs_parse.specs.declared.fault.FaultKind.{FaultKind}
 use Rattle.cs_parse.specs.declared.fault.FaultKind.TheVariants as kind
 use Rattle.std.specs.Prelude.{◌==◌, ◌||◌, nat_lt}
 use Rattle.cs_parse.specs.declared.fault.ParseFault.{ParseFault}
-use Rattle.cs_parse.specs.Place.{Place, Start, Between, InColumns, LastKey, FirstLetter, PastName, AtType, InLength, leaves_none, rule_refusal, type_refusal, goes_on as begins, wrong}
+use Rattle.cs_parse.specs.Place.{BytePlace, Start, Between, InColumns, LastKey, FirstLetter, PastName, AtType, InLength, leaves_none, rule_refusal, type_refusal, begins_part as begins, wrong}
 use Rattle.cs_parse.specs.Stands.{Stands}
 use Rattle.cs_parse.specs.Fault.{Viable, IsFirst, IsFault}
 use Rattle.cs_parse.specs.Reading.{answer_of}
-use Rattle.cs_parse.specs.Pieces.{may_be_mended, lasting, fault_in, behind, taken, IsLasting, GoesOn, joined, kept}
+use Rattle.cs_parse.specs.Pieces.{may_be_mended, lasting, fault_in, text_after, text_taken, IsLasting, IsFaultless, joined_pieces, text_kept}
 use Rattle.cs_model.specs.Bytes.{AreBytes}
 use Rattle.cs_parse.proofs.Steps.{back_fits, bytes_from}
-use Rattle.cs_parse.proofs.NumberLaws.{front_fits}
+use Rattle.cs_parse.proofs.NumberLaws.{number_front_fits}
 use Rattle.cs_parse.proofs.TextLaws.{answer_takes}
 use Rattle.cs_parse.proofs.FaultLaws.{refused_is_fault, fault_is_refused}
 
@@ -38,9 +38,9 @@ good true kind h = tt
 good false kind h = h
 
 -- a fault where the test holds, and else what follows
-first : (b : Bool) (kind : FaultKind) (next : Option FaultKind) → may_be_mended kind ≡ false → Lasts next → Lasts (cond b (Some kind) next)
-first true kind next h k = h
-first false kind next h k = k
+piece_first : (b : Bool) (kind : FaultKind) (next : Option FaultKind) → may_be_mended kind ≡ false → Lasts next → Lasts (cond b (Some kind) next)
+piece_first true kind next h k = h
+piece_first false kind next h k = k
 
 rule_lasts : (rule : Rule) (byte : ℕ) → Lasts (rule_refusal rule byte)
 rule_lasts Key byte = bad (byte == 0 || byte == 5) kind.KeyMissing refl
@@ -52,12 +52,12 @@ rule_lasts (PairedWith (Is value)) byte = bad (byte == 0) kind.OneSided refl
 
 type_lasts : (rule : Rule) (byte : ℕ) → Lasts (type_refusal rule byte)
 type_lasts rule byte =
-    first (nat_lt 5 byte) kind.BadType (cond (byte == 2) (Some kind.Real) (rule_refusal rule byte)) refl
-    (first (byte == 2) kind.Real (rule_refusal rule byte) refl (rule_lasts rule byte))
+    piece_first (nat_lt 5 byte) kind.BadType (cond (byte == 2) (Some kind.Real) (rule_refusal rule byte)) refl
+    (piece_first (byte == 2) kind.Real (rule_refusal rule byte) refl (rule_lasts rule byte))
 
-wrong_lasts : (place : Place) (byte : ℕ) → Lasts (wrong place byte)
-wrong_lasts Start byte = first (byte == 80) kind.Patchset (cond (byte == 84) None (Some kind.BadMarker)) refl (good (byte == 84) kind.BadMarker refl)
-wrong_lasts Between byte = first (byte == 80) kind.Patchset (cond (begins byte) None (Some kind.BadOperation)) refl (good (begins byte) kind.BadOperation refl)
+wrong_lasts : (place : BytePlace) (byte : ℕ) → Lasts (wrong place byte)
+wrong_lasts Start byte = piece_first (byte == 80) kind.Patchset (cond (byte == 84) None (Some kind.BadMarker)) refl (good (byte == 84) kind.BadMarker refl)
+wrong_lasts Between byte = piece_first (byte == 80) kind.Patchset (cond (begins byte) None (Some kind.BadOperation)) refl (good (begins byte) kind.BadOperation refl)
 wrong_lasts (InColumns left high) byte = bad (leaves_none 1 2000 left high byte) kind.Columns refl
 wrong_lasts LastKey byte = bad (byte == 0) kind.NoKey refl
 wrong_lasts FirstLetter byte = bad (byte == 0) kind.EmptyName refl
@@ -67,8 +67,8 @@ wrong_lasts (InLength left high) byte = bad (leaves_none 0 16777216 left high by
 
 -- ---- faults that last
 
-told : (fault : ParseFault) (b : Bool) → may_be_mended fault.kind ≡ b → lasting (Err fault) ≡ cond b None (Some fault)
-told fault b h = ap (λ w. cond w None (Some fault)) h
+piece_told : (fault : ParseFault) (b : Bool) → may_be_mended fault.kind ≡ b → lasting (Err fault) ≡ cond b None (Some fault)
+piece_told fault b h = ap (λ w. cond w None (Some fault)) h
 
 abbrev kind_mended : ParseFault → Bool
 kind_mended fault = may_be_mended fault.kind
@@ -92,41 +92,41 @@ lasting_is text fault fits e = elim (cases (answer_of text)) as (λ w. IsLasting
       absurd cc
   | inr h ↦ elim (mended_or_not (may_be_mended h.0.kind)) as (λ w. IsLasting text fault) [
     | inl m ↦
-        let none : None ≡ Some fault = sym (ap lasting h.1 ∙ told h.0 true m) ∙ e in
+        let none : None ≡ Some fault = sym (ap lasting h.1 ∙ piece_told h.0 true m) ∙ e in
         absurd cc
     | inr n ↦
-        let same : h.0 ≡ fault = some_is h.0 fault (sym (ap lasting h.1 ∙ told h.0 false n) ∙ e) in
+        let same : h.0 ≡ fault = some_is h.0 fault (sym (ap lasting h.1 ∙ piece_told h.0 false n) ∙ e) in
         subst (λ f. IsLasting text f) same (refused_is_fault text h.0 fits h.1, n)
   ]
 ]
 
-pub is_lasting : (text : List ℕ) (fault : ParseFault) → AreBytes text → IsLasting text fault → fault_in text ≡ Some fault
-is_lasting text fault fits h = ap lasting (fault_is_refused text fault fits h.0) ∙ told fault false h.1
+pub piece_is_lasting : (text : List ℕ) (fault : ParseFault) → AreBytes text → IsLasting text fault → fault_in text ≡ Some fault
+piece_is_lasting text fault fits h = ap lasting (fault_is_refused text fault fits h.0) ∙ piece_told fault false h.1
 
-pub goes_on : (text : List ℕ) → AreBytes text → fault_in text ≡ None → GoesOn text
-goes_on text fits e = elim (cases (answer_of text)) as (λ w. GoesOn text) [
+pub goes_on : (text : List ℕ) → AreBytes text → fault_in text ≡ None → IsFaultless text
+goes_on text fits e = elim (cases (answer_of text)) as (λ w. IsFaultless text) [
   | inl h ↦
       let s = answer_takes text h.0 fits h.1 in
       record { within_limit = s.within_limit; viable = record { more = []; bytes = bytes_from [] refl; sections = h.0; is_changeset = s.is_changeset; spelled = subst (λ w. SpellsEach SpellsSection w h.0) (sym (append-nil text)) s.sections } }
-  | inr h ↦ elim (mended_or_not (may_be_mended h.0.kind)) as (λ w. GoesOn text) [
+  | inr h ↦ elim (mended_or_not (may_be_mended h.0.kind)) as (λ w. IsFaultless text) [
     | inl m ↦ mended text h.0 m (refused_is_fault text h.0 fits h.1)
     | inr n ↦
-        let some : Some h.0 ≡ None = sym (ap lasting h.1 ∙ told h.0 false n) ∙ e in
+        let some : Some h.0 ≡ None = sym (ap lasting h.1 ∙ piece_told h.0 false n) ∙ e in
         absurd cc
   ]
 ]
   where
-    mended : (text : List ℕ) (fault : ParseFault) → may_be_mended fault.kind ≡ true → IsFault text fault → GoesOn text
+    mended : (text : List ℕ) (fault : ParseFault) → may_be_mended fault.kind ≡ true → IsFault text fault → IsFaultless text
     mended text fault m (inl h) = absurd (false≢true (sym (subst (λ o. Lasts o) h.is_wrong (wrong_lasts h.place h.byte)) ∙ m))
     mended text fault m (inr (inl h)) = absurd (false≢true (sym (ap kind_mended h.same) ∙ m))
     mended text fault m (inr (inr h)) = record { within_limit = h.within_limit; viable = h.so_far }
 
 -- ---- behind more bytes
 
-front_of : (front back : List ℕ) → AreBytes (front ++ back) → AreBytes front
-front_of front back fits =
+piece_front_of : (front back : List ℕ) → AreBytes (front ++ back) → AreBytes front
+piece_front_of front back fits =
     let n = length front in
-    subst (λ w. AreBytes w) (take-append-le n front back (omega arith) ∙ take_all n front (omega arith)) (front_fits n (front ++ back) (omega (arith, length-append front back)) fits)
+    subst (λ w. AreBytes w) (take-append-le n front back (omega arith) ∙ take_all n front (omega arith)) (number_front_fits n (front ++ back) (omega (arith, length-append front back)) fits)
 
 take_same : (n : ℕ) (text more : List ℕ) → n ≤ length text → take n (text ++ more) ≡ take n text
 take_same n text more le = take-append-le n text more le
@@ -178,20 +178,20 @@ without text piece rest fits i = elim (cases_lt i (length text)) as (λ w. get_o
 ]
 
 -- What the bytes kept of pieces are answered is what all of them are answered.
-pub kept_is_joined : (text : List ℕ) (pieces : List (List ℕ)) → AreBytes (text ++ joined pieces) → answer_of (kept text pieces) ≡ answer_of (text ++ joined pieces)
+pub kept_is_joined : (text : List ℕ) (pieces : List (List ℕ)) → AreBytes (text ++ joined_pieces pieces) → answer_of (text_kept text pieces) ≡ answer_of (text ++ joined_pieces pieces)
 kept_is_joined text [] fits = ap answer_of (sym (append-nil text))
 kept_is_joined text (piece ∷ pieces) fits =
-    let regrouped : (text ++ piece) ++ joined pieces ≡ text ++ (piece ++ joined pieces) = append_assoc text piece (joined pieces) in
-    elim (told_or_not (fault_in text)) as (λ w. answer_of (kept (taken text piece) pieces) ≡ answer_of (text ++ (piece ++ joined pieces))) [
+    let regrouped : (text ++ piece) ++ joined_pieces pieces ≡ text ++ (piece ++ joined_pieces pieces) = append_assoc text piece (joined_pieces pieces) in
+    elim (told_or_not (fault_in text)) as (λ w. answer_of (text_kept (text_taken text piece) pieces) ≡ answer_of (text ++ (piece ++ joined_pieces pieces))) [
       | inl none ↦
-          ap (λ o. answer_of (kept (behind o text piece) pieces)) none
+          ap (λ o. answer_of (text_kept (text_after o text piece) pieces)) none
           ∙ kept_is_joined (text ++ piece) pieces (subst (λ w. AreBytes w) (sym regrouped) fits) ∙ ap answer_of regrouped
       | inr some ↦
           let fault = some.0 in
-          let h = lasting_is text fault (front_of text (piece ++ joined pieces) fits) some.1 in
-          let rest : AreBytes (text ++ joined pieces) = without text piece (joined pieces) fits in
-          ap (λ o. answer_of (kept (behind o text piece) pieces)) some.1
+          let h = lasting_is text fault (piece_front_of text (piece ++ joined_pieces pieces) fits) some.1 in
+          let rest : AreBytes (text ++ joined_pieces pieces) = without text piece (joined_pieces pieces) fits in
+          ap (λ o. answer_of (text_kept (text_after o text piece) pieces)) some.1
           ∙ kept_is_joined text pieces rest
-          ∙ fault_is_refused (text ++ joined pieces) fault rest (fault_stays text (joined pieces) fault h)
-          ∙ sym (fault_is_refused (text ++ (piece ++ joined pieces)) fault fits (fault_stays text (piece ++ joined pieces) fault h))
+          ∙ fault_is_refused (text ++ joined_pieces pieces) fault rest (fault_stays text (joined_pieces pieces) fault h)
+          ∙ sym (fault_is_refused (text ++ (piece ++ joined_pieces pieces)) fault fits (fault_stays text (piece ++ joined_pieces pieces) fault h))
     ]

@@ -8,38 +8,38 @@ use Rattle.cs_model.specs.Changeset.{most_bytes}
 use Rattle.cs_parse.specs.declared.fault.FaultKind.{FaultKind}
 use Rattle.cs_parse.specs.declared.fault.FaultKind.TheVariants.{TooLong, Truncated}
 use Rattle.cs_parse.specs.declared.fault.ParseFault.{ParseFault}
-use Rattle.cs_parse.specs.declared.stop.Refusal.{Refusal}
-use Rattle.cs_parse.specs.declared.stop.Refusal.TheVariants.{Short, Bad}
+use Rattle.cs_parse.specs.declared.stop.ParseRefusal.{ParseRefusal}
+use Rattle.cs_parse.specs.declared.stop.ParseRefusal.TheVariants.{Short, Bad}
 use Rattle.cs_parse.specs.Fault.{Viable}
-use Rattle.cs_parse.specs.Reading.{sections_at, is_empty, placed, cut, answer_of}
-use Rattle.cs_parse.specs.Pieces.{may_be_mended, lasting, fault_in, reached, offset_of, GoesOn}
-use Rattle.cs_parse.specs.Progress.{Progress, broken, Reached, read_on, so_far, stopped, advanced, progress_of, ended_by, ended}
-use Rattle.cs_parse.proofs.NumberLaws.{front_fits}
+use Rattle.cs_parse.specs.Reading.{sections_at, is_empty, whole_answer, overlong_answer, answer_of}
+use Rattle.cs_parse.specs.Pieces.{may_be_mended, lasting, fault_in, offset_reached, offset_of, IsFaultless}
+use Rattle.cs_parse.specs.Progress.{Progress, broken, Reached, read_on, so_far, stopped, advanced, progress_of, answer_at_end_by, answer_at_end}
+use Rattle.cs_parse.proofs.NumberLaws.{number_front_fits}
 use Rattle.cs_parse.proofs.TextLaws.{front_long}
 use Rattle.cs_parse.proofs.ExactText.{text_stops, not_viable}
 use Rattle.cs_parse.proofs.FaultLaws.{answer_long, answer_short}
 use Rattle.cs_parse.proofs.PieceLaws.{goes_on}
-use Rattle.cs_parse.proofs.PartsAnswer.{finished_by, text_answer, is_none, rest_is}
+use Rattle.cs_parse.proofs.PartsAnswer.{finished_by, text_answer, parts_answer_is_none, rest_is}
 
 -- ---- by the length of the text
 
-abbrev too_long : Progress
-too_long = broken (record { at = most_bytes; kind = TooLong })
+abbrev progress_answers_too_long : Progress
+progress_answers_too_long = broken (record { at = most_bytes; kind = TooLong })
 
 abbrev as_reached : ℕ → Reached → Progress
 as_reached taken found = record { sections = found.sections; pending = found.rest; offset = taken; fault = None }
 
-so_far_long : (len taken : ℕ) (found : Reached) → most_bytes < len → so_far len taken found ≡ too_long
-so_far_long len taken found long = ap (λ b. cond b too_long (as_reached taken found)) (lt-ltb most_bytes len long)
+so_far_long : (len taken : ℕ) (found : Reached) → most_bytes < len → so_far len taken found ≡ progress_answers_too_long
+so_far_long len taken found long = ap (λ b. cond b progress_answers_too_long (as_reached taken found)) (lt-ltb most_bytes len long)
 
 so_far_short : (len taken : ℕ) (found : Reached) → len ≤ most_bytes → so_far len taken found ≡ as_reached taken found
-so_far_short len taken found short = ap (λ b. cond b too_long (as_reached taken found)) (le-ltb most_bytes len short)
+so_far_short len taken found short = ap (λ b. cond b progress_answers_too_long (as_reached taken found)) (le-ltb most_bytes len short)
 
-abbrev reads : List ℕ → Reached
-reads bytes = read_on [] bytes
+abbrev progress_answers_reads : List ℕ → Reached
+progress_answers_reads bytes = read_on [] bytes
 
 abbrev arrived_at : ℕ → ℕ → List ℕ → Progress
-arrived_at len taken bytes = stopped len taken (reads bytes) (reads bytes).why
+arrived_at len taken bytes = stopped len taken (progress_answers_reads bytes) (progress_answers_reads bytes).why
 
 progress_is : (text : List ℕ) → progress_of text ≡ arrived_at (length text) (length (take most_bytes text)) (take most_bytes text)
 unfolding advanced
@@ -57,50 +57,50 @@ progress_short text short = progress_is text ∙ ap (λ w. arrived_at (length te
 
 -- ---- what the bytes are answered
 
-ended_long : (len : ℕ) (found : Reached) (why : Option Refusal) → most_bytes < len → ended (stopped len most_bytes found why) ≡ cut most_bytes (finished_by found.sections found.rest why)
-ended_long len found None long = ap ended (so_far_long len most_bytes found long)
-ended_long len found (Some Short) long = ap ended (so_far_long len most_bytes found long)
+ended_long : (len : ℕ) (found : Reached) (why : Option ParseRefusal) → most_bytes < len → answer_at_end (stopped len most_bytes found why) ≡ overlong_answer most_bytes (finished_by found.sections found.rest why)
+ended_long len found None long = ap answer_at_end (so_far_long len most_bytes found long)
+ended_long len found (Some Short) long = ap answer_at_end (so_far_long len most_bytes found long)
 ended_long len found (Some (Bad left kind)) long = refl
 
 abbrev truncated : ℕ → Result (List Section) ParseFault
 truncated len = Err (record { at = len; kind = Truncated })
 
-ended_short : (len : ℕ) (found : Reached) (why : Option Refusal) → len ≤ most_bytes → is_empty found.rest ≡ is_none why → ended (stopped len len found why) ≡ placed len (finished_by found.sections found.rest why)
-ended_short len found None short left = ap ended (so_far_short len len found short) ∙ ap (λ b. cond b (Ok found.sections) (truncated len)) left
-ended_short len found (Some Short) short left = ap ended (so_far_short len len found short) ∙ ap (λ b. cond b (Ok found.sections) (truncated len)) left
+ended_short : (len : ℕ) (found : Reached) (why : Option ParseRefusal) → len ≤ most_bytes → is_empty found.rest ≡ parts_answer_is_none why → answer_at_end (stopped len len found why) ≡ whole_answer len (finished_by found.sections found.rest why)
+ended_short len found None short left = ap answer_at_end (so_far_short len len found short) ∙ ap (λ b. cond b (Ok found.sections) (truncated len)) left
+ended_short len found (Some Short) short left = ap answer_at_end (so_far_short len len found short) ∙ ap (λ b. cond b (Ok found.sections) (truncated len)) left
 ended_short len found (Some (Bad left_over kind)) short left = refl
 
-pub progress_ended : (text : List ℕ) → AreBytes text → ended (progress_of text) ≡ answer_of text
-progress_ended text fits = elim (cases_lt most_bytes (length text)) as (λ w. ended (progress_of text) ≡ answer_of text) [
+pub progress_ended : (text : List ℕ) → AreBytes text → answer_at_end (progress_of text) ≡ answer_of text
+progress_ended text fits = elim (cases_lt most_bytes (length text)) as (λ w. answer_at_end (progress_of text) ≡ answer_of text) [
   | inl long ↦
       let front = take most_bytes text in
-      let front_bytes = front_fits most_bytes text (omega arith) fits in
-      ap ended (progress_long text long)
-      ∙ ended_long (length text) (reads front) (reads front).why long
-      ∙ ap (cut most_bytes) (sym (text_answer front front_bytes))
+      let front_bytes = number_front_fits most_bytes text (omega arith) fits in
+      ap answer_at_end (progress_long text long)
+      ∙ ended_long (length text) (progress_answers_reads front) (progress_answers_reads front).why long
+      ∙ ap (overlong_answer most_bytes) (sym (text_answer front front_bytes))
       ∙ sym (answer_long text long)
   | inr short ↦
-      ap ended (progress_short text short)
-      ∙ ended_short (length text) (reads text) (reads text).why short (rest_is [] text fits)
-      ∙ ap (placed (length text)) (sym (text_answer text fits))
+      ap answer_at_end (progress_short text short)
+      ∙ ended_short (length text) (progress_answers_reads text) (progress_answers_reads text).why short (rest_is [] text fits)
+      ∙ ap (whole_answer (length text)) (sym (text_answer text fits))
       ∙ sym (answer_short text short)
 ]
 
 -- ---- the fault that no more bytes mend
 
-fault_lasts : (text : List ℕ) (fault : ParseFault) → AreBytes text → answer_of text ≡ Err fault → (GoesOn text → ⊥) → fault_in text ≡ Some fault
+fault_lasts : (text : List ℕ) (fault : ParseFault) → AreBytes text → answer_of text ≡ Err fault → (IsFaultless text → ⊥) → fault_in text ≡ Some fault
 fault_lasts text fault fits e stops = elim (cases_Bool (may_be_mended fault.kind)) as (λ w. fault_in text ≡ Some fault) [
   | inl m ↦ absurd (stops (goes_on text fits (ap lasting e ∙ ap (λ w. cond w None (Some fault)) m)))
   | inr n ↦ ap lasting e ∙ ap (λ w. cond w None (Some fault)) n
 ]
 
-viable_read : (bytes : List ℕ) (left : ℕ) (kind : FaultKind) → AreBytes bytes → Viable bytes → sections_at bytes ≡ Err (Bad left kind) → ⊥
-viable_read bytes left kind fits v e =
+progress_answers_viable_read : (bytes : List ℕ) (left : ℕ) (kind : FaultKind) → AreBytes bytes → Viable bytes → sections_at bytes ≡ Err (Bad left kind) → ⊥
+progress_answers_viable_read bytes left kind fits v e =
     let s = text_stops bytes left kind fits e in
     not_viable s.front s.place s.byte kind s.back s.stands s.is_wrong (subst (λ w. Viable w) s.parts v)
 
 -- within the limit a fault is that of a byte
-bad_found : (len : ℕ) (found : Reached) (why : Option Refusal) (fault : ParseFault) → len ≤ most_bytes → (stopped len len found why).fault ≡ Some fault → (left : ℕ) × (kind : FaultKind) × (why ≡ Some (Bad left kind))
+bad_found : (len : ℕ) (found : Reached) (why : Option ParseRefusal) (fault : ParseFault) → len ≤ most_bytes → (stopped len len found why).fault ≡ Some fault → (left : ℕ) × (kind : FaultKind) × (why ≡ Some (Bad left kind))
 bad_found len found None fault short e =
     let none : None ≡ Some fault = sym (ap (λ (p : Progress). p.fault) (so_far_short len len found short)) ∙ e in
     absurd cc
@@ -109,49 +109,49 @@ bad_found len found (Some Short) fault short e =
     absurd cc
 bad_found len found (Some (Bad left kind)) fault short e = (left, kind, refl)
 
-goes_nowhere : (text : List ℕ) (fault : ParseFault) → AreBytes text → (progress_of text).fault ≡ Some fault → GoesOn text → ⊥
+goes_nowhere : (text : List ℕ) (fault : ParseFault) → AreBytes text → (progress_of text).fault ≡ Some fault → IsFaultless text → ⊥
 goes_nowhere text fault fits e g =
-    let found = reads text in
+    let found = progress_answers_reads text in
     let b = bad_found (length text) found found.why fault g.within_limit (sym (ap (λ (p : Progress). p.fault) (progress_short text g.within_limit)) ∙ e) in
-    viable_read text b.0 b.1 fits g.viable (text_answer text fits ∙ ap (finished_by found.sections found.rest) b.2)
+    progress_answers_viable_read text b.0 b.1 fits g.viable (text_answer text fits ∙ ap (finished_by found.sections found.rest) b.2)
 
 nothing_lasts : (b : Bool) (sections : List Section) (at : ℕ) → lasting (cond b (Ok sections) (truncated at)) ≡ None
 nothing_lasts true sections at = refl
 nothing_lasts false sections at = refl
 
-fault_by : (text : List ℕ) (o : Option ParseFault) → AreBytes text → (progress_of text).fault ≡ o → o ≡ fault_in text
-fault_by text None fits e =
+progress_answers_fault_by : (text : List ℕ) (o : Option ParseFault) → AreBytes text → (progress_of text).fault ≡ o → o ≡ fault_in text
+progress_answers_fault_by text None fits e =
     let p = progress_of text in
-    let whole : answer_of text ≡ ended_by None p = sym (progress_ended text fits) ∙ ap (λ o. ended_by o p) e in
+    let whole : answer_of text ≡ answer_at_end_by None p = sym (progress_ended text fits) ∙ ap (λ o. answer_at_end_by o p) e in
     sym (ap lasting whole ∙ nothing_lasts (is_empty p.pending) p.sections p.offset)
-fault_by text (Some fault) fits e =
+progress_answers_fault_by text (Some fault) fits e =
     let p = progress_of text in
-    let whole : answer_of text ≡ Err fault = sym (progress_ended text fits) ∙ ap (λ o. ended_by o p) e in
+    let whole : answer_of text ≡ Err fault = sym (progress_ended text fits) ∙ ap (λ o. answer_at_end_by o p) e in
     sym (fault_lasts text fault fits whole (λ g. goes_nowhere text fault fits e g))
 
 pub progress_fault : (text : List ℕ) → AreBytes text → (progress_of text).fault ≡ fault_in text
-progress_fault text fits = fault_by text (progress_of text).fault fits refl
+progress_fault text fits = progress_answers_fault_by text (progress_of text).fault fits refl
 
 -- ---- how many bytes were taken, or the place of the fault
 
 abbrev IsPlaced : ℕ → Progress → Type 0
-IsPlaced len progress = progress.offset ≡ reached progress.fault len
+IsPlaced len progress = progress.offset ≡ offset_reached progress.fault len
 
-placed_long : (len : ℕ) (found : Reached) (why : Option Refusal) → most_bytes < len → IsPlaced len (stopped len most_bytes found why)
+placed_long : (len : ℕ) (found : Reached) (why : Option ParseRefusal) → most_bytes < len → IsPlaced len (stopped len most_bytes found why)
 placed_long len found None long = subst (IsPlaced len) (sym (so_far_long len most_bytes found long)) refl
 placed_long len found (Some Short) long = subst (IsPlaced len) (sym (so_far_long len most_bytes found long)) refl
 placed_long len found (Some (Bad left kind)) long = refl
 
-placed_short : (len : ℕ) (found : Reached) (why : Option Refusal) → len ≤ most_bytes → IsPlaced len (stopped len len found why)
+placed_short : (len : ℕ) (found : Reached) (why : Option ParseRefusal) → len ≤ most_bytes → IsPlaced len (stopped len len found why)
 placed_short len found None short = subst (IsPlaced len) (sym (so_far_short len len found short)) refl
 placed_short len found (Some Short) short = subst (IsPlaced len) (sym (so_far_short len len found short)) refl
 placed_short len found (Some (Bad left kind)) short = refl
 
-is_placed : (text : List ℕ) → IsPlaced (length text) (progress_of text)
-is_placed text = elim (cases_lt most_bytes (length text)) as (λ w. IsPlaced (length text) (progress_of text)) [
-  | inl long ↦ subst (IsPlaced (length text)) (sym (progress_long text long)) (placed_long (length text) (reads (take most_bytes text)) (reads (take most_bytes text)).why long)
-  | inr short ↦ subst (IsPlaced (length text)) (sym (progress_short text short)) (placed_short (length text) (reads text) (reads text).why short)
+progress_answers_is_placed : (text : List ℕ) → IsPlaced (length text) (progress_of text)
+progress_answers_is_placed text = elim (cases_lt most_bytes (length text)) as (λ w. IsPlaced (length text) (progress_of text)) [
+  | inl long ↦ subst (IsPlaced (length text)) (sym (progress_long text long)) (placed_long (length text) (progress_answers_reads (take most_bytes text)) (progress_answers_reads (take most_bytes text)).why long)
+  | inr short ↦ subst (IsPlaced (length text)) (sym (progress_short text short)) (placed_short (length text) (progress_answers_reads text) (progress_answers_reads text).why short)
 ]
 
 pub progress_offset : (text : List ℕ) → AreBytes text → (progress_of text).offset ≡ offset_of text
-progress_offset text fits = is_placed text ∙ ap (λ o. reached o (length text)) (progress_fault text fits)
+progress_offset text fits = progress_answers_is_placed text ∙ ap (λ o. offset_reached o (length text)) (progress_fault text fits)

@@ -6,12 +6,12 @@ use Rattle.cs_model.specs.Bytes.{AreBytes}
 use Rattle.cs_model.specs.declared.change.Change.{Change}
 use Rattle.cs_model.specs.declared.shape.Shape.{Shape}
 use Rattle.cs_model.specs.Section.{Section}
-use Rattle.cs_parse.specs.declared.stop.Refusal.{Refusal}
-use Rattle.cs_parse.specs.Front.{changes_front, prefixed, behind_sections, NextSection}
+use Rattle.cs_parse.specs.declared.stop.ParseRefusal.{ParseRefusal}
+use Rattle.cs_parse.specs.Front.{changes_front, prefixed, sections_reached, NextSection}
 use Rattle.cs_parse.specs.Progress.{part_at, read_on}
 use Rattle.cs_parse.specs.Reading.{◌>>=◌, shape_at, ends_section}
 use Rattle.cs_parse.proofs.FrontLaws.{changes_over, front_fits, front_shorter}
-use Rattle.cs_parse.proofs.FrontParts.{headed, part_by, changes_parts, behind_front, sections_apart}
+use Rattle.cs_parse.proofs.FrontParts.{headed, part_by, front_parts_changes_parts, behind_front, sections_apart}
 use Rattle.cs_parse.proofs.PartLaws.{nothing_behind, part_refused, part_shorter, part_rest_fits, part_read}
 
 -- ---- the next one
@@ -19,15 +19,15 @@ use Rattle.cs_parse.proofs.PartLaws.{nothing_behind, part_refused, part_shorter,
 header_first : (bytes : List ℕ) → part_at [] bytes ≡ (shape_at bytes >>= headed [])
 header_first bytes = part_by [] bytes None refl
 
-refused_first : (bytes : List ℕ) (why : Refusal) → 0 < length bytes → shape_at bytes ≡ Err why → read_on [] bytes ≡ behind_sections [] bytes (Some why)
-refused_first [] why some e = absurd (omega arith)
-refused_first (byte ∷ bytes) why some e = part_refused [] byte bytes why (header_first (byte ∷ bytes) ∙ ap (λ r. r >>= headed []) e)
+section_fronts_refused_first : (bytes : List ℕ) (why : ParseRefusal) → 0 < length bytes → shape_at bytes ≡ Err why → read_on [] bytes ≡ sections_reached [] bytes (Some why)
+section_fronts_refused_first [] why some e = absurd (omega arith)
+section_fronts_refused_first (byte ∷ bytes) why some e = part_refused [] byte bytes why (header_first (byte ∷ bytes) ∙ ap (λ r. r >>= headed []) e)
 
-pub next_refused : (old : List Section) (bytes : List ℕ) (why : Refusal) → AreBytes bytes → 0 < length bytes → shape_at bytes ≡ Err why → NextSection old old bytes bytes (Some why)
+pub next_refused : (old : List Section) (bytes : List ℕ) (why : ParseRefusal) → AreBytes bytes → 0 < length bytes → shape_at bytes ≡ Err why → NextSection old old bytes bytes (Some why)
 next_refused old bytes why fits some e = record {
   sections = [];
   added = sym (append-nil old);
-  read = refused_first bytes why some e;
+  read = section_fronts_refused_first bytes why some e;
   shorter = λ none. absurd cc;
   fits = fits;
 }
@@ -36,11 +36,11 @@ abbrev alone : Shape → List Change → List Section
 alone shape changes = record { shape = shape; changes = changes } ∷ []
 
 -- behind its changes no section goes on where none of them is stopped at
-section_read : (shape : Shape) (changes : List Change) (rest : List ℕ) (why : Option Refusal) → AreBytes rest → (why ≡ None → ends_section rest ≡ true) → behind_front (alone shape []) changes rest why ≡ behind_sections (alone shape changes) rest why
+section_read : (shape : Shape) (changes : List Change) (rest : List ℕ) (why : Option ParseRefusal) → AreBytes rest → (why ≡ None → ends_section rest ≡ true) → behind_front (alone shape []) changes rest why ≡ sections_reached (alone shape changes) rest why
 section_read shape changes rest None fits over = sections_apart (alone shape changes) rest fits (over refl)
 section_read shape changes rest (Some why) fits over = refl
 
-pub next_read : (old new : List Section) (bytes rest after : List ℕ) (shape : Shape) (changes : List Change) (why : Option Refusal) → AreBytes bytes → shape_at bytes ≡ Ok (shape, rest)
+pub next_read : (old new : List Section) (bytes rest after : List ℕ) (shape : Shape) (changes : List Change) (why : Option ParseRefusal) → AreBytes bytes → shape_at bytes ≡ Ok (shape, rest)
     → changes ≡ (changes_front shape.flags rest).items → after ≡ (changes_front shape.flags rest).rest → why ≡ (changes_front shape.flags rest).why
     → new ≡ old ++ alone shape changes → NextSection old new bytes after why
 next_read old new bytes rest after shape changes why fits read are is reason added =
@@ -56,7 +56,7 @@ next_read old new bytes rest after shape changes why fits read are is reason add
     record {
       sections = alone shape changes;
       added = added;
-      read = part_read [] bytes first fits part ∙ changes_parts (alone shape []) shape.flags rest refl fits_rest ∙ parts ∙ section_read shape changes after why after_fits over;
+      read = part_read [] bytes first fits part ∙ front_parts_changes_parts (alone shape []) shape.flags rest refl fits_rest ∙ parts ∙ section_read shape changes after why after_fits over;
       shorter = λ none. omega (arith, less, front_shorter shape.flags rest fits_rest, ap length is);
       fits = after_fits;
     }
@@ -71,7 +71,7 @@ pub record Along (sections : List Section) (rest : List ℕ) (bytes : List ℕ) 
 pub along_start : (bytes : List ℕ) → AreBytes bytes → Along [] bytes bytes
 along_start bytes fits = record { fits = fits; read = refl }
 
-pub along_goes : (old new : List Section) (rest after bytes : List ℕ) (why : Option Refusal) → is_some why ≡ false → NextSection old new rest after why → Along old rest bytes → Along new after bytes
+pub along_goes : (old new : List Section) (rest after bytes : List ℕ) (why : Option ParseRefusal) → is_some why ≡ false → NextSection old new rest after why → Along old rest bytes → Along new after bytes
 along_goes old new rest after bytes (Some why) none next along = absurd cc
 along_goes old new rest after bytes None none next along = record {
   fits = next.fits;
@@ -82,7 +82,7 @@ along_goes old new rest after bytes None none next along = record {
       ∙ along.read;
 }
 
-pub along_stops : (old new : List Section) (rest after bytes : List ℕ) (why : Option Refusal) → is_some why ≡ true → NextSection old new rest after why → Along old rest bytes → read_on [] bytes ≡ record { sections = new; rest = after; why = why }
+pub along_stops : (old new : List Section) (rest after bytes : List ℕ) (why : Option ParseRefusal) → is_some why ≡ true → NextSection old new rest after why → Along old rest bytes → read_on [] bytes ≡ record { sections = new; rest = after; why = why }
 along_stops old new rest after bytes None some next along = absurd cc
 along_stops old new rest after bytes (Some why) some next along =
     sym along.read ∙ ap (prefixed old) next.read ∙ ap (λ s. record { sections = s; rest = after; why = Some why }) (sym next.added)

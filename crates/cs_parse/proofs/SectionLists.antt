@@ -14,21 +14,21 @@ abbrev pub renewed : Section → List Change → Section
 renewed section changes = record { shape = section.shape; changes = changes }
 
 -- a section with changes more
-abbrev pub longer : Section → List Change → Section
-longer section changes = renewed section (section.changes ++ changes)
+abbrev pub section_lists_longer : Section → List Change → Section
+section_lists_longer section changes = renewed section (section.changes ++ changes)
 
 -- ---- a last section
 
-abbrev pub Ended : List Section → Type 0
-Ended sections = (front : List Section) × (last : Section) × (sections ≡ front ++ last ∷ [])
+abbrev pub SectionListsEnded : List Section → Type 0
+SectionListsEnded sections = (front : List Section) × (last : Section) × (sections ≡ front ++ last ∷ [])
 
-pub ended_more : (section : Section) (sections : List Section) → Ended (section ∷ sections)
+pub ended_more : (section : Section) (sections : List Section) → SectionListsEnded (section ∷ sections)
 ended_more section [] = ([], section, refl)
 ended_more section (next ∷ sections) =
     let e = ended_more next sections in
     (section ∷ e.0, e.1, ap (λ (xs : List Section). section ∷ xs) e.2)
 
-pub ended_or : (sections : List Section) → (sections ≡ []) ⊎ Ended sections
+pub ended_or : (sections : List Section) → (sections ≡ []) ⊎ SectionListsEnded sections
 ended_or [] = inl refl
 ended_or (section ∷ sections) = inr (ended_more section sections)
 
@@ -59,7 +59,7 @@ with_append sections some more = elim (ended_or sections) as (λ w. with_changes
       let together : (last.changes ++ some) ++ more ≡ last.changes ++ (some ++ more) = append_assoc last.changes some more in
       ap (λ s. with_changes (with_changes s some) more) e.2
       ∙ ap (λ s. with_changes s more) (with_last front last some)
-      ∙ with_last front (longer last some) more
+      ∙ with_last front (section_lists_longer last some) more
       ∙ ap (λ (cs : List Change). front ++ renewed last cs ∷ []) together
       ∙ sym (with_last front last (some ++ more))
       ∙ ap (λ s. with_changes s (some ++ more)) (sym e.2)
@@ -74,7 +74,7 @@ last_same sections changes = elim (ended_or sections) as (λ w. last_flags (with
   | inr e ↦
       ap (λ s. last_flags (with_changes s changes)) e.2
       ∙ ap last_flags (with_last e.0 e.1 changes)
-      ∙ last_of e.0 (longer e.1 changes)
+      ∙ last_of e.0 (section_lists_longer e.1 changes)
       ∙ sym (last_of e.0 e.1)
       ∙ ap last_flags (sym e.2)
 ]

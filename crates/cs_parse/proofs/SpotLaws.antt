@@ -8,12 +8,12 @@ use Rattle.cs_model.specs.declared.value.Field.{Field}
 use Rattle.cs_model.specs.declared.change.Op.{Op}
 use Rattle.cs_model.specs.declared.change.Op.TheVariants.{Insert, Update, Delete}
 use Rattle.cs_model.specs.Rule.{Rule, row_rule, old_rule, new_rule, new_rules}
-use Rattle.cs_parse.specs.declared.stop.Refusal.{Refusal}
-use Rattle.cs_parse.specs.declared.stop.Refusal.TheVariants.{Short}
+use Rattle.cs_parse.specs.declared.stop.ParseRefusal.{ParseRefusal}
+use Rattle.cs_parse.specs.declared.stop.ParseRefusal.TheVariants.{Short}
 use Rattle.cs_parse.specs.declared.spot.Spot.{Spot}
 use Rattle.cs_parse.specs.declared.spot.Spot.TheVariants.{Start, Row, Old, New, Name}
 use Rattle.cs_parse.specs.Reading.{◌>>=◌, op_of, operated, field_at, record_at, records_at, marked_at, change_at}
-use Rattle.cs_parse.specs.Spot.{Passes, Halts, HaltsNew, IsBack, Begins, InFirst, PassedFirst, InNew, HasOne, IsSpot}
+use Rattle.cs_parse.specs.Spot.{Passes, Halts, HaltsNew, IsBack, BeginsChangeOf, InFirst, PassedFirst, SpotInNew, HasOne, IsSpot}
 use Rattle.cs_parse.proofs.Steps.{done, back_fits}
 use Rattle.cs_parse.proofs.FieldLaws.{record_takes, record_again}
 use Rattle.cs_parse.proofs.ExactFields.{field_exact}
@@ -23,23 +23,23 @@ use Rattle.cs_parse.proofs.NameLaws.{name_more}
 
 -- ---- a record in two parts
 
-abbrev Read : Type 0
-Read = Result (List Field × List ℕ) Refusal
+abbrev SpotRead : Type 0
+SpotRead = Result (List Field × List ℕ) ParseRefusal
 
 -- what is read behind these fields
-abbrev behind_fields : List Field → Read → Read
+abbrev behind_fields : List Field → SpotRead → SpotRead
 behind_fields fields read = read >>= λ x. done (fields ++ x.0, x.1)
 
-no_fields : (read : Read) → read ≡ behind_fields [] read
-no_fields (Ok x) = refl
-no_fields (Err e) = refl
+spot_no_fields : (read : SpotRead) → read ≡ behind_fields [] read
+spot_no_fields (Ok x) = refl
+spot_no_fields (Err e) = refl
 
-fields_joined : (front fields : List Field) (read : Read) → behind_fields front (behind_fields fields read) ≡ behind_fields (front ++ fields) read
+fields_joined : (front fields : List Field) (read : SpotRead) → behind_fields front (behind_fields fields read) ≡ behind_fields (front ++ fields) read
 fields_joined front fields (Ok x) = ap (λ w. done (w, x.1)) (sym (append_assoc front fields x.0))
 fields_joined front fields (Err e) = refl
 
 pub none_passed : (rules : List Rule) (bytes : List ℕ) → Passes rules rules bytes bytes
-none_passed rules bytes = record { fields = []; text = []; parts = refl; reads = λ back. no_fields (record_at rules back) }
+none_passed rules bytes = record { fields = []; text = []; parts = refl; reads = λ back. spot_no_fields (record_at rules back) }
 
 one_passed : (rule : Rule) (rules : List Rule) (bytes : List ℕ) (field : Field) (rest : List ℕ) → AreBytes bytes → field_at rule bytes ≡ Ok (field, rest) → Passes (rule ∷ rules) rules bytes rest
 one_passed rule rules bytes field rest fits e =
@@ -79,7 +79,7 @@ passed_all : (rules : List Rule) (bytes rest : List ℕ) → Passes rules [] byt
 unfolding record_at
 passed_all rules bytes rest p = (p.fields ++ [], passed_reads rules [] bytes rest p)
 
-field_short : (rule : Rule) (rules : List Rule) (bytes : List ℕ) (why : Refusal) → field_at rule bytes ≡ Err why → why ≡ Short → record_at (rule ∷ rules) bytes ≡ Err Short
+field_short : (rule : Rule) (rules : List Rule) (bytes : List ℕ) (why : ParseRefusal) → field_at rule bytes ≡ Err why → why ≡ Short → record_at (rule ∷ rules) bytes ≡ Err Short
 field_short rule rules bytes why e is = record_more rule rules bytes ∙ ap (λ r. r >>= fields_of rules) (e ∙ ap (λ w. Err w) is)
 
 -- a record that is whole is so with any bytes behind it
@@ -91,8 +91,8 @@ record_longer rules bytes fields rest more fits e =
 -- ---- places
 
 -- where the bytes begin that are left
-place_of : (bytes front rest : List ℕ) → bytes ≡ front ++ rest → drop (length bytes - length rest) bytes ≡ rest
-place_of bytes front rest e =
+spot_place_of : (bytes front rest : List ℕ) → bytes ≡ front ++ rest → drop (length bytes - length rest) bytes ≡ rest
+spot_place_of bytes front rest e =
     let n : length bytes - length rest ≡ length front = omega (arith, ap length e, length-append front rest) in
     ap (λ k. drop k bytes) n ∙ ap (drop (length front)) e ∙ drop-append_seam front rest
 
@@ -117,7 +117,7 @@ rules_more rule flags bytes i rest field after fits lt e p =
     (subst (λ w. Passes (map rule w) others rest after) (sym (drop_more flags i 0 lt)) one)
 
 -- it ends too early
-pub rules_halt : (rule : ℕ → Rule) (flags bytes : List ℕ) (i : ℕ) (rest : List ℕ) (why : Refusal) → i < length flags → field_at (rule (get_or flags i 0)) rest ≡ Err why → why ≡ Short
+pub rules_halt : (rule : ℕ → Rule) (flags bytes : List ℕ) (i : ℕ) (rest : List ℕ) (why : ParseRefusal) → i < length flags → field_at (rule (get_or flags i 0)) rest ≡ Err why → why ≡ Short
     → Passes (map rule flags) (map rule (drop i flags)) bytes rest → Halts rule flags bytes i rest
 rules_halt rule flags bytes i rest why lt e is p = record {
   columns = omega arith;
@@ -162,7 +162,7 @@ new_more flags before bytes i old rest field after fits lt begins e p =
     both_passed (new_rules flags before) (new_rules (drop i flags) (drop i before)) others bytes rest after p
     (subst (λ w. Passes w others rest after) (sym (new_column flags before i old lt begins)) one)
 
-pub new_halt : (flags : List ℕ) (before : List Field) (left bytes : List ℕ) (i : ℕ) (first : Field) (old rest : List ℕ) (why : Refusal) → i < length flags → drop i before ≡ first ∷ drop (i + 1) before
+pub new_halt : (flags : List ℕ) (before : List Field) (left bytes : List ℕ) (i : ℕ) (first : Field) (old rest : List ℕ) (why : ParseRefusal) → i < length flags → drop i before ≡ first ∷ drop (i + 1) before
     → record_at (map old_rule (drop i flags)) old ≡ Ok (drop i before, left) → field_at (new_rule (get_or flags i 0) first) rest ≡ Err why → why ≡ Short
     → Passes (new_rules flags before) (new_rules (drop i flags) (drop i before)) bytes rest → HaltsNew flags before left bytes i old rest
 new_halt flags before left bytes i first old rest why lt begins reads e is p = record {
@@ -183,7 +183,7 @@ pub first_passed : (op : Op) (rule : ℕ → Rule) (flags bytes : List ℕ) (fie
 first_passed op rule flags bytes fields place columns front count rest columns_are front_is first halts =
     let left = ap (λ w. map rule (drop count w)) columns_are ∙ left_columns rule flags fields count in
     let back = back_of_drop bytes place halts.passes.text rest (sym front_is ∙ halts.passes.parts) in
-    let here : drop (length bytes - length rest) bytes ≡ rest = place_of bytes back.0 rest back.1 in
+    let here : drop (length bytes - length rest) bytes ≡ rest = spot_place_of bytes back.0 rest back.1 in
     let len = ap length columns_are ∙ length-drop fields flags in
     let start : Passes (map rule flags) (map rule columns) first.records front =
     subst (λ w. Passes (map rule flags) (map rule w) first.records front) (sym columns_are) (subst (λ w. Passes (map rule flags) (map rule (drop fields flags)) first.records w) (sym front_is) first.passes) in
@@ -200,17 +200,17 @@ first_passed op rule flags bytes fields place columns front count rest columns_a
     }
 
 -- and of a new one
-pub new_reached : (flags bytes : List ℕ) (fields place old count : ℕ) (old_rest rest : List ℕ) (new : InNew flags bytes fields place old) → IsBack bytes old_rest
+pub new_reached : (flags bytes : List ℕ) (fields place old count : ℕ) (old_rest rest : List ℕ) (new : SpotInNew flags bytes fields place old) → IsBack bytes old_rest
     → HaltsNew (drop fields flags) (drop fields new.before) new.left (drop place bytes) count old_rest rest
-    → (next : InNew flags bytes (fields + count) (length bytes - length rest) (length bytes - length old_rest))
+    → (next : SpotInNew flags bytes (fields + count) (length bytes - length rest) (length bytes - length old_rest))
     × (record_at (new_rules (drop (fields + count) flags) (drop (fields + count) next.before)) (drop (length bytes - length rest) bytes) ≡ Err Short)
 new_reached flags bytes fields place old count old_rest rest new old_back halts =
     let columns_are = drop-drop count fields flags in
     let before_is = drop-drop count fields new.before in
     let left = ap (λ w. new_rules w (drop count (drop fields new.before))) columns_are ∙ ap (new_rules (drop (fields + count) flags)) before_is in
     let back = back_of_drop bytes place halts.passes.text rest halts.passes.parts in
-    let here : drop (length bytes - length rest) bytes ≡ rest = place_of bytes back.0 rest back.1 in
-    let old_here : drop (length bytes - length old_rest) bytes ≡ old_rest = place_of bytes old_back.0 old_rest old_back.1 in
+    let here : drop (length bytes - length rest) bytes ≡ rest = spot_place_of bytes back.0 rest back.1 in
+    let old_here : drop (length bytes - length old_rest) bytes ≡ old_rest = spot_place_of bytes old_back.0 old_rest old_back.1 in
     let behind = new_rules (drop count (drop fields flags)) (drop count (drop fields new.before)) in
     let whole = both_passed (new_rules flags new.before) (new_rules (drop fields flags) (drop fields new.before)) behind new.left (drop place bytes) rest new.passes halts.passes in (
       record {
@@ -231,11 +231,11 @@ new_reached flags bytes fields place old count old_rest rest new old_back halts 
 
 -- ---- changes that are short
 
-abbrev new_records : List ℕ → List Field × List ℕ → Result ((List Field × List Field) × List ℕ) Refusal
+abbrev new_records : List ℕ → List Field × List ℕ → Result ((List Field × List Field) × List ℕ) ParseRefusal
 new_records flags old = record_at (new_rules flags old.0) old.1 >>= λ new. done ((old.0, new.0), new.1)
 
 -- a change ends too early where its records do
-pub records_short : (op : Op) (flags bytes records : List ℕ) → Begins op bytes records → records_at flags op records ≡ Err Short → change_at flags bytes ≡ Err Short
+pub records_short : (op : Op) (flags bytes records : List ℕ) → BeginsChangeOf op bytes records → records_at flags op records ≡ Err Short → change_at flags bytes ≡ Err Short
 unfolding change_at marked_at
 records_short op flags bytes records b e =
     ap (change_at flags) b.parts ∙ ap (λ o. operated flags o b.byte (b.mark ∷ records)) b.is_op ∙ ap (λ r. r >>= marked op b.mark) e
@@ -256,7 +256,7 @@ new_short flags records before left old e = ap (λ r. r >>= new_records flags) o
 
 -- how far the new record was gone over this time
 pub new_halts : (flags bytes : List ℕ) (fields place old : ℕ) (columns old_front front : List ℕ) (count : ℕ) (old_rest rest : List ℕ) → columns ≡ drop fields flags → old_front ≡ drop old bytes → front ≡ drop place bytes
-    → (new : InNew flags bytes fields place old)
+    → (new : SpotInNew flags bytes fields place old)
     → ((before : List Field) (left : List ℕ) → record_at (map old_rule columns) old_front ≡ Ok (before, left) → HaltsNew columns before left front count old_rest rest)
     → HaltsNew (drop fields flags) (drop fields new.before) new.left (drop place bytes) count old_rest rest
 new_halts flags bytes fields place old columns old_front front count old_rest rest columns_are old_is front_is new halts =
@@ -270,7 +270,7 @@ more_columns flags fields count le more = omega (arith, length-drop fields flags
 -- ---- where a record begins
 
 -- where the old record is whole the new one begins
-pub new_begins : (flags bytes : List ℕ) (fields place : ℕ) → length flags ≤ fields → InFirst Update old_rule flags bytes fields place → InNew flags bytes 0 place 2
+pub new_begins : (flags bytes : List ℕ) (fields place : ℕ) → length flags ≤ fields → InFirst Update old_rule flags bytes fields place → SpotInNew flags bytes 0 place 2
 new_begins flags bytes fields place le first =
     let none = ap (map old_rule) (drop_all fields flags le) in
     let whole = passed_all (map old_rule flags) first.records (drop place bytes) (subst (λ w. Passes (map old_rule flags) w first.records (drop place bytes)) none first.passes) in
@@ -326,37 +326,37 @@ some_mark : (rest : List ℕ) → false ≡ (length rest == 0) → (mark : ℕ) 
 some_mark [] some = absurd cc
 some_mark (mark ∷ records) some = (mark, records, refl)
 
-begun : (op : Op) (rule : ℕ → Rule) (flags bytes : List ℕ) (byte : ℕ) (rest : List ℕ) → bytes ≡ byte ∷ rest → op_of byte ≡ Some op → false ≡ (length rest == 0) → InFirst op rule flags bytes 0 2
-begun op rule flags bytes byte rest parts is some =
+spot_begun : (op : Op) (rule : ℕ → Rule) (flags bytes : List ℕ) (byte : ℕ) (rest : List ℕ) → bytes ≡ byte ∷ rest → op_of byte ≡ Some op → false ≡ (length rest == 0) → InFirst op rule flags bytes 0 2
+spot_begun op rule flags bytes byte rest parts is some =
     let m = some_mark rest some in
     first_begins op rule flags bytes byte m.0 m.1 (parts ∙ ap (λ w. byte ∷ w) m.2) is
 
 pub row_begun : (flags bytes : List ℕ) (byte : ℕ) (rest : List ℕ) → bytes ≡ byte ∷ rest → (byte ≡ 9) ⊎ (byte ≡ 18) → false ≡ (length rest == 0) → IsSpot flags bytes (Row 0 2)
-row_begun flags bytes byte rest parts (inl e) some = (Delete, tt, begun Delete row_rule flags bytes byte rest parts (ap op_of e) some)
-row_begun flags bytes byte rest parts (inr e) some = (Insert, tt, begun Insert row_rule flags bytes byte rest parts (ap op_of e) some)
+row_begun flags bytes byte rest parts (inl e) some = (Delete, tt, spot_begun Delete row_rule flags bytes byte rest parts (ap op_of e) some)
+row_begun flags bytes byte rest parts (inr e) some = (Insert, tt, spot_begun Insert row_rule flags bytes byte rest parts (ap op_of e) some)
 
 pub old_begun : (flags bytes : List ℕ) (byte : ℕ) (rest : List ℕ) → bytes ≡ byte ∷ rest → byte ≡ 23 → false ≡ (length rest == 0) → IsSpot flags bytes (Old 0 2)
-old_begun flags bytes byte rest parts e some = begun Update old_rule flags bytes byte rest parts (ap op_of e) some
+old_begun flags bytes byte rest parts e some = spot_begun Update old_rule flags bytes byte rest parts (ap op_of e) some
 
 -- ---- more bytes
 
-begins_more : (op : Op) (bytes records more : List ℕ) → Begins op bytes records → Begins op (bytes ++ more) (records ++ more)
+begins_more : (op : Op) (bytes records more : List ℕ) → BeginsChangeOf op bytes records → BeginsChangeOf op (bytes ++ more) (records ++ more)
 begins_more op bytes records more b = record { byte = b.byte; mark = b.mark; parts = ap (λ w. w ++ more) b.parts; is_op = b.is_op }
 
-within_more : (bytes more : List ℕ) (place : ℕ) → place ≤ length bytes → place ≤ length (bytes ++ more)
-within_more bytes more place le = omega (arith, length-append bytes more)
+spot_within_more : (bytes more : List ℕ) (place : ℕ) → place ≤ length bytes → place ≤ length (bytes ++ more)
+spot_within_more bytes more place le = omega (arith, length-append bytes more)
 
 pub first_more : (op : Op) (rule : ℕ → Rule) (flags bytes : List ℕ) (fields place : ℕ) (more : List ℕ) → InFirst op rule flags bytes fields place → InFirst op rule flags (bytes ++ more) fields place
 first_more op rule flags bytes fields place more first = record {
   records = first.records ++ more;
   begins = begins_more op bytes first.records more first.begins;
   columns = first.columns;
-  within = within_more bytes more place first.within;
+  within = spot_within_more bytes more place first.within;
   passes = subst (λ w. Passes (map rule flags) (map rule (drop fields flags)) (first.records ++ more) w) (sym (drop-append-le place bytes more first.within))
       (passed_more (map rule flags) (map rule (drop fields flags)) first.records (drop place bytes) more first.passes);
 }
 
-pub new_longer : (flags bytes : List ℕ) (fields place old : ℕ) (more : List ℕ) → AreBytes bytes → InNew flags bytes fields place old → InNew flags (bytes ++ more) fields place old
+pub new_longer : (flags bytes : List ℕ) (fields place old : ℕ) (more : List ℕ) → AreBytes bytes → SpotInNew flags bytes fields place old → SpotInNew flags (bytes ++ more) fields place old
 new_longer flags bytes fields place old more fits new = record {
   records = new.records ++ more;
   begins = begins_more Update bytes new.records more new.begins;
@@ -364,8 +364,8 @@ new_longer flags bytes fields place old more fits new = record {
   left = new.left ++ more;
   old_read = record_longer (map old_rule flags) new.records new.before new.left more (back_fits bytes (new.begins.byte ∷ new.begins.mark ∷ []) new.records new.begins.parts fits) new.old_read;
   columns = new.columns;
-  within = within_more bytes more place new.within;
-  old_within = within_more bytes more old new.old_within;
+  within = spot_within_more bytes more place new.within;
+  old_within = spot_within_more bytes more old new.old_within;
   old_left = ap (record_at (map old_rule (drop fields flags))) (drop-append-le old bytes more new.old_within)
       ∙ record_longer (map old_rule (drop fields flags)) (drop old bytes) (drop fields new.before) new.left more (fits_from bytes old fits) new.old_left;
   passes = subst (λ w. Passes (new_rules flags new.before) (new_rules (drop fields flags) (drop fields new.before)) (new.left ++ more) w) (sym (drop-append-le place bytes more new.within))
@@ -373,7 +373,7 @@ new_longer flags bytes fields place old more fits new = record {
 }
 
 -- the old record is the one that it was
-pub longer_before : (flags bytes : List ℕ) (fields place old : ℕ) (more : List ℕ) (fits : AreBytes bytes) (new : InNew flags bytes fields place old) → (new_longer flags bytes fields place old more fits new).before ≡ new.before
+pub longer_before : (flags bytes : List ℕ) (fields place old : ℕ) (more : List ℕ) (fits : AreBytes bytes) (new : SpotInNew flags bytes fields place old) → (new_longer flags bytes fields place old more fits new).before ≡ new.before
 unfolding new_longer
 longer_before flags bytes fields place old more fits new = refl
 

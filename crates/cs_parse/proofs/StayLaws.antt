@@ -5,11 +5,11 @@ use Rattle.cs_model.specs.Bytes.{AreBytes}
 use Rattle.cs_model.specs.declared.change.Op.{Op}
 use Rattle.cs_model.specs.declared.change.Op.TheVariants.{Update}
 use Rattle.cs_model.specs.Rule.{Rule, row_rule, old_rule, new_rules}
-use Rattle.cs_parse.specs.declared.stop.Refusal.TheVariants.{Short}
+use Rattle.cs_parse.specs.declared.stop.ParseRefusal.TheVariants.{Short}
 use Rattle.cs_parse.specs.declared.spot.Spot.TheVariants.{Start, Row, Old, New}
 use Rattle.cs_parse.specs.Lack.{StaysIn}
 use Rattle.cs_parse.specs.Reading.{record_at, change_at}
-use Rattle.cs_parse.specs.Spot.{IsBack, HaltsNew, PassedFirst, InNew, HasOne, StaysShort}
+use Rattle.cs_parse.specs.Spot.{IsBack, HaltsNew, PassedFirst, SpotInNew, HasOne, StaysShort}
 use Rattle.cs_parse.proofs.SpotLaws.{passed_short, records_short, row_records, old_records, new_short, first_more, new_longer, longer_before, new_reached, back_of_drop}
 
 pub start_stays : (flags bytes : List ℕ) → change_at flags bytes ≡ Err Short → StaysShort flags bytes (Some Start)
@@ -49,12 +49,12 @@ old_short flags bytes fields place less p = (
 
 -- ---- new records
 
-new_change : (flags bytes : List ℕ) (fields place old : ℕ) (new : InNew flags bytes fields place old) → record_at (new_rules (drop fields flags) (drop fields new.before)) (drop place bytes) ≡ Err Short → change_at flags bytes ≡ Err Short
+new_change : (flags bytes : List ℕ) (fields place old : ℕ) (new : SpotInNew flags bytes fields place old) → record_at (new_rules (drop fields flags) (drop fields new.before)) (drop place bytes) ≡ Err Short → change_at flags bytes ≡ Err Short
 new_change flags bytes fields place old new e =
     let short = passed_short (new_rules flags new.before) (new_rules (drop fields flags) (drop fields new.before)) new.left (drop place bytes) new.passes e in
     records_short Update flags bytes new.records new.begins (new_short flags new.records new.before new.left new.old_read short)
 
-new_stays : (flags bytes : List ℕ) (fields place old : ℕ) → AreBytes bytes → (new : InNew flags bytes fields place old) → record_at (new_rules (drop fields flags) (drop fields new.before)) (drop place bytes) ≡ Err Short → StaysShort flags bytes (Some (New fields place old))
+new_stays : (flags bytes : List ℕ) (fields place old : ℕ) → AreBytes bytes → (new : SpotInNew flags bytes fields place old) → record_at (new_rules (drop fields flags) (drop fields new.before)) (drop place bytes) ≡ Err Short → StaysShort flags bytes (Some (New fields place old))
 new_stays flags bytes fields place old fits new e =
     let rules = new_rules (drop fields flags) (drop fields new.before) in (
       new_change flags bytes fields place old new e,
@@ -65,7 +65,7 @@ new_stays flags bytes fields place old fits new e =
           (ap (λ w. record_at (new_rules (drop fields flags) (drop fields w)) (drop place (bytes ++ more))) same ∙ ap (record_at rules) (drop-append-le place bytes more new.within) ∙ stays rules e)),
     )
 
-pub new_passed : (flags bytes : List ℕ) (fields place old : ℕ) (old_front : List ℕ) (count : ℕ) (old_rest rest : List ℕ) → AreBytes bytes → old_front ≡ drop old bytes → IsBack old_front old_rest → (new : InNew flags bytes fields place old)
+pub new_passed : (flags bytes : List ℕ) (fields place old : ℕ) (old_front : List ℕ) (count : ℕ) (old_rest rest : List ℕ) → AreBytes bytes → old_front ≡ drop old bytes → IsBack old_front old_rest → (new : SpotInNew flags bytes fields place old)
     → HaltsNew (drop fields flags) (drop fields new.before) new.left (drop place bytes) count old_rest rest → StaysShort flags bytes (Some (New (fields + count) (length bytes - length rest) (length bytes - length old_rest)))
 new_passed flags bytes fields place old old_front count old_rest rest fits old_is old_back new halts =
     let r = new_reached flags bytes fields place old count old_rest rest new (back_of_drop bytes old old_back.0 old_rest (sym old_is ∙ old_back.1)) halts in

@@ -7,19 +7,19 @@ use Rattle.std.proofs.lemmas.Bool.{and_from, and_parts, lt-ltb, ltb-true}
 use Rattle.std.proofs.lemmas.List.{get_or_past}
 use Rattle.cs_model.specs.Bytes.{AreBytes}
 use Rattle.cs_parse.specs.declared.fault.FaultKind.{FaultKind}
-use Rattle.cs_parse.specs.declared.stop.Refusal.{Refusal}
+use Rattle.cs_parse.specs.declared.stop.ParseRefusal.{ParseRefusal}
 use Rattle.cs_parse.specs.Reading.{◌>>=◌, unless_refused}
 
 -- the same as AreBytes, as a test
-abbrev pub are_bytes : List ℕ → Type 0
-are_bytes bytes = list_all (λ byte. nat_lt byte 256) bytes ≡ true
+abbrev pub steps_are_bytes : List ℕ → Type 0
+steps_are_bytes bytes = list_all (λ byte. nat_lt byte 256) bytes ≡ true
 
-pub bytes_from : (bytes : List ℕ) → are_bytes bytes → AreBytes bytes
+pub bytes_from : (bytes : List ℕ) → steps_are_bytes bytes → AreBytes bytes
 bytes_from [] h i = subst (λ n. n < 256) (sym (get_or_past [] i 0 (omega arith))) (omega arith)
 bytes_from (byte ∷ bytes) h zero = ltb-true byte 256 (and_parts (ltb byte 256) _ h).0
 bytes_from (byte ∷ bytes) h (suc i) = bytes_from bytes (and_parts (ltb byte 256) _ h).1 i
 
-pub bytes_to : (bytes : List ℕ) → AreBytes bytes → are_bytes bytes
+pub bytes_to : (bytes : List ℕ) → AreBytes bytes → steps_are_bytes bytes
 bytes_to [] fits = refl
 bytes_to (byte ∷ bytes) fits = and_from (ltb byte 256) _ (lt-ltb byte 256 (fits 0)) (bytes_to bytes (λ i. fits (suc i)))
 
@@ -33,27 +33,27 @@ pub back_fits : (bytes front back : List ℕ) → bytes ≡ front ++ back → Ar
 back_fits bytes front back e fits i = subst (λ n. n < 256) (get_or-append-add front back i 0) (subst (λ w. get_or w (length front + i) 0 < 256) e (fits (length front + i)))
 
 -- the value of a step that did not fail
-pub bind_ok : {A B : Type 0} (r : Result A Refusal) (f : A → Result B Refusal) (y : B) → (r >>= f) ≡ Ok y → (x : A) × (r ≡ Ok x) × (f x ≡ Ok y)
+pub bind_ok : {A B : Type 0} (r : Result A ParseRefusal) (f : A → Result B ParseRefusal) (y : B) → (r >>= f) ≡ Ok y → (x : A) × (r ≡ Ok x) × (f x ≡ Ok y)
 bind_ok (Ok x) f y e = (x, refl, e)
 bind_ok (Err d) f y e = absurd cc
 
-abbrev pub done : {A : Type 0} → A → Result A Refusal
+abbrev pub done : {A : Type 0} → A → Result A ParseRefusal
 done x = Ok x
 
 pub ok_is : {A : Type 0} (x y : A) → done x ≡ done y → x ≡ y
 ok_is x y e = cc
 
 -- a test that did not fail
-pub guard_ok : {A : Type 0} (b : Bool) (d : Refusal) (x : Result A Refusal) (y : A) → cond b (Err d) x ≡ Ok y → (b ≡ false) × (x ≡ Ok y)
+pub guard_ok : {A : Type 0} (b : Bool) (d : ParseRefusal) (x : Result A ParseRefusal) (y : A) → cond b (Err d) x ≡ Ok y → (b ≡ false) × (x ≡ Ok y)
 guard_ok true d x y e = absurd cc
 guard_ok false d x y e = (refl, e)
 
 -- which way a test went
-pub chosen : {A : Type 0} (b : Bool) (x y z : A) → cond b x y ≡ z → ((b ≡ true) × (x ≡ z)) ⊎ ((b ≡ false) × (y ≡ z))
-chosen true x y z e = inl (refl, e)
-chosen false x y z e = inr (refl, e)
+pub steps_chosen : {A : Type 0} (b : Bool) (x y z : A) → cond b x y ≡ z → ((b ≡ true) × (x ≡ z)) ⊎ ((b ≡ false) × (y ≡ z))
+steps_chosen true x y z e = inl (refl, e)
+steps_chosen false x y z e = inr (refl, e)
 
-pub unless_ok : {A : Type 0} (o : Option FaultKind) (rest : List ℕ) (read : Result A Refusal) (x : A) → unless_refused o rest read ≡ Ok x → (o ≡ None) × (read ≡ Ok x)
+pub unless_ok : {A : Type 0} (o : Option FaultKind) (rest : List ℕ) (read : Result A ParseRefusal) (x : A) → unless_refused o rest read ≡ Ok x → (o ≡ None) × (read ≡ Ok x)
 unless_ok None rest read x e = (refl, e)
 unless_ok (Some kind) rest read x e = absurd cc
 

@@ -10,14 +10,14 @@ use Rattle.cs_parse.specs.declared.fault.FaultKind.TheVariants.{TooLong}
 use Rattle.cs_parse.specs.declared.fault.ParseFault.{ParseFault}
 use Rattle.cs_parse.specs.declared.spot.Spot.{Spot}
 use Rattle.cs_parse.specs.declared.spot.Spot.TheVariants.{Start, Row, Old, New, Name}
-use Rattle.cs_parse.specs.declared.stop.Refusal.TheVariants.{Short}
+use Rattle.cs_parse.specs.declared.stop.ParseRefusal.TheVariants.{Short}
 use Rattle.cs_parse.specs.Front.{Waits, KeepsSpot}
 use Rattle.cs_parse.specs.Lack.{HasNoZero, LacksInHeader, WaitsFor, IsPaused}
-use Rattle.cs_parse.specs.Progress.{Progress, Reached, broken, last_flags, parts_at, read_on, arrived, within, advance, advanced}
+use Rattle.cs_parse.specs.Progress.{Progress, Reached, broken, last_flags, parts_at, read_on, arrived, piece_within, advance, advanced}
 use Rattle.cs_parse.specs.Reading.{◌>>=◌, change_at, ends_section}
 use Rattle.cs_parse.specs.Spot.{IsSpot, IsHeaderSpot}
 use Rattle.cs_parse.proofs.Exact.{are_bytes-append}
-use Rattle.cs_parse.proofs.FrontParts.{change_part, changed}
+use Rattle.cs_parse.proofs.FrontParts.{change_part, front_parts_changed}
 use Rattle.cs_parse.proofs.NameLaws.{none_behind, header_waits}
 use Rattle.cs_parse.proofs.PartLaws.{part_refused}
 use Rattle.cs_parse.proofs.Steps.{bytes_from, bytes_to}
@@ -54,7 +54,7 @@ pub short_waits : (sections : List Section) (flags bytes : List ℕ) → last_fl
     → read_on sections bytes ≡ record { sections = sections; rest = bytes; why = Some Short }
 short_waits sections flags [] last more short = absurd cc
 short_waits sections flags (byte ∷ bytes) last more short =
-    part_refused sections byte bytes Short (change_part sections flags (byte ∷ bytes) last more ∙ ap (λ r. r >>= changed sections) short)
+    part_refused sections byte bytes Short (change_part sections flags (byte ∷ bytes) last more ∙ ap (λ r. r >>= front_parts_changed sections) short)
 
 -- ---- with fewer bytes than are lacking
 
@@ -110,23 +110,23 @@ keeps_as flags others bytes same spot e f keeps = subst (λ w. KeepsSpot others 
 
 -- ---- the progress behind bytes that aren't looked at
 
-abbrev behind : Progress → List ℕ → Progress
-behind old piece = record { sections = old.sections; pending = old.pending ++ piece; offset = old.offset + length piece; fault = None }
+abbrev wait_behind : Progress → List ℕ → Progress
+wait_behind old piece = record { sections = old.sections; pending = old.pending ++ piece; offset = old.offset + length piece; fault = None }
 
-advance_paused : (old : Progress) (piece : List ℕ) → old.offset + length piece ≤ most_bytes → read_on old.sections (old.pending ++ piece) ≡ waiting old.sections (old.pending ++ piece) → advance None old piece ≡ behind old piece
+advance_paused : (old : Progress) (piece : List ℕ) → old.offset + length piece ≤ most_bytes → read_on old.sections (old.pending ++ piece) ≡ waiting old.sections (old.pending ++ piece) → advance None old piece ≡ wait_behind old piece
 advance_paused old piece room waits =
     let len = old.offset + length piece in
-    let all : within old piece ≡ piece = take_all (most_bytes - old.offset) piece (omega (arith, room)) in
+    let all : piece_within old piece ≡ piece = take_all (most_bytes - old.offset) piece (omega (arith, room)) in
     ap (λ w. arrived len (old.offset + length w) (read_on old.sections (old.pending ++ w))) all
     ∙ ap (λ r. arrived len len r) waits
-    ∙ ap (λ b. cond b (broken (record { at = most_bytes; kind = TooLong })) (behind old piece)) (le-ltb most_bytes len room)
+    ∙ ap (λ b. cond b (broken (record { at = most_bytes; kind = TooLong })) (wait_behind old piece)) (le-ltb most_bytes len room)
 
 pub paused_fed : (old new : Progress) (piece : List ℕ) (header : Bool) (least : ℕ) → old.offset + least ≤ most_bytes → length piece < least → (IsTrue header → HasNoZero piece) → IsPaused old.fault old.sections old.pending header least
     → new ≡ record { sections = old.sections; pending = old.pending ++ piece; offset = old.offset + length piece; fault = old.fault } → ((advanced old piece).fault ≡ None) × (new ≡ advanced old piece)
 unfolding advanced
 paused_fed old new piece header least room less none p new_is =
     let no_fault = p.no_fault (omega (arith, less)) in
-    let whole : advanced old piece ≡ behind old piece = ap (λ o. advance o old piece) no_fault ∙ advance_paused old piece (omega (arith, room, less)) (p.lacks piece less none) in (
+    let whole : advanced old piece ≡ wait_behind old piece = ap (λ o. advance o old piece) no_fault ∙ advance_paused old piece (omega (arith, room, less)) (p.lacks piece less none) in (
       ap (λ (q : Progress). q.fault) whole,
       new_is ∙ ap (λ o. record { sections = old.sections; pending = old.pending ++ piece; offset = old.offset + length piece; fault = o }) no_fault ∙ sym whole,
     )

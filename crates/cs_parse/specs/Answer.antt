@@ -15,19 +15,19 @@ IsRead (Err (Fault fault)) changeset = ⊥
 IsRead (Err Memory) changeset = Unit {0}
 
 -- The answer is this one. Memory runs out only where this one is a changeset.
-abbrev pub Answers : Result (List Section) ParseError → Result (List Section) ParseFault → Type 0
-Answers (Ok found) answer = answer ≡ Ok found
-Answers (Err (Fault fault)) answer = answer ≡ Err fault
-Answers (Err Memory) answer = IsOk answer
+abbrev pub ParseAnswers : Result (List Section) ParseError → Result (List Section) ParseFault → Type 0
+ParseAnswers (Ok found) answer = answer ≡ Ok found
+ParseAnswers (Err (Fault fault)) answer = answer ≡ Err fault
+ParseAnswers (Err Memory) answer = IsOk answer
 
 -- the text spells a changeset
 abbrev pub IsSpelled : List ℕ → Type 0
 IsSpelled text = (changeset : List Section) × Spells text changeset
 
 -- the error tells the text's fault, or that memory ran out for the changeset that it spells
-abbrev pub Tells : ParseError → List ℕ → Type 0
-Tells (Fault fault) text = IsFault text fault
-Tells Memory text = IsSpelled text
+abbrev pub ReportsFault : ParseError → List ℕ → Type 0
+ReportsFault (Fault fault) text = IsFault text fault
+ReportsFault Memory text = IsSpelled text
 
 -- the text spells one changeset, and has no fault
 pub record HasChangeset (text : List ℕ) : Type 0 where

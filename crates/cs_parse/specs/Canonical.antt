@@ -5,7 +5,7 @@ use Rattle.cs_model.specs.declared.value.Value.TheVariants.{Integer, Text, Blob,
 use Rattle.cs_model.specs.declared.value.Field.{Field}
 use Rattle.cs_model.specs.declared.value.Field.TheVariants.{Undefined, Is}
 use Rattle.cs_model.specs.Packed.{packed}
-use Rattle.cs_parse.specs.declared.stop.Refusal.{Refusal}
+use Rattle.cs_parse.specs.declared.stop.ParseRefusal.{ParseRefusal}
 
 -- a length in its shortest spelling, and that many bytes
 abbrev pub counted_bytes : List ℕ → List ℕ
@@ -20,7 +20,7 @@ HasShortest (Is (Blob value)) bytes rest = bytes ≡ counted_bytes value ++ rest
 HasShortest (Is Null) bytes rest = Unit {0}
 
 -- The bytes begin with the canonical ones of what is read from them, where it is read.
-abbrev pub IsCanonical : {A : Type 0} → (A → List ℕ) → List ℕ → Result (A × List ℕ) Refusal → Type 0
+abbrev pub IsCanonical : {A : Type 0} → (A → List ℕ) → List ℕ → Result (A × List ℕ) ParseRefusal → Type 0
 IsCanonical own bytes read = (x : _ × List ℕ) → read ≡ Ok x → bytes ≡ own x.0 ++ x.1
 
 -- the canonical bytes of a change's two records

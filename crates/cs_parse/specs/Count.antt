@@ -4,7 +4,7 @@ use Rattle.cs_model.specs.Section.{Section}
 use Rattle.cs_model.specs.Changeset.{all_changes}
 use Rattle.cs_model.specs.Text.{Spells}
 use Rattle.cs_parse.specs.declared.fault.ParseFault.{ParseFault}
-use Rattle.cs_parse.specs.declared.stop.Refusal.{Refusal}
+use Rattle.cs_parse.specs.declared.stop.ParseRefusal.{ParseRefusal}
 use Rattle.cs_parse.specs.Reading.{◌>>=◌}
 
 -- how many changes a changeset has
@@ -12,7 +12,7 @@ abbrev pub changes_in : List Section → ℕ
 changes_in sections = length (all_changes sections)
 
 -- the text spells a changeset of so many changes
-pub record HasChanges (text : List ℕ) (count : ℕ) : Type 0 where
+pub record HasChangeCount (text : List ℕ) (count : ℕ) : Type 0 where
   pub changeset : List Section
   pub spelled : Spells text changeset
   pub is_count : count ≡ changes_in changeset
@@ -23,9 +23,9 @@ counted_answer (Ok sections) = Ok (changes_in sections)
 counted_answer (Err fault) = Err fault
 
 -- what reading gives, with a number of it in place of its value
-abbrev pub counted : {A : Type 0} → (A → ℕ) → Result (A × List ℕ) Refusal → Result (ℕ × List ℕ) Refusal
+abbrev pub counted : {A : Type 0} → (A → ℕ) → Result (A × List ℕ) ParseRefusal → Result (ℕ × List ℕ) ParseRefusal
 counted count read = read >>= λ x. Ok (count x.0, x.1)
 
 -- the bytes behind what is read
-abbrev pub behind : {A : Type 0} → Result (A × List ℕ) Refusal → Result (List ℕ) Refusal
-behind read = read >>= λ x. Ok x.1
+abbrev pub bytes_after : {A : Type 0} → Result (A × List ℕ) ParseRefusal → Result (List ℕ) ParseRefusal
+bytes_after read = read >>= λ x. Ok x.1

@@ -15,9 +15,9 @@ admitted changeset None = Ok changeset
 admitted changeset (Some fault) = Err (Refused fault)
 
 -- what a text spells, where it spells a changeset and the schema admits it; else the text's fault, or the first section that is refused
-abbrev pub end_of : List Shape → Result (List Section) ParseFault → Result (List Section) EndError
-end_of schema (Ok changeset) = admitted changeset (refusal_of schema changeset)
-end_of schema (Err fault) = Err (Fault fault)
+abbrev pub admitted_answer : List Shape → Result (List Section) ParseFault → Result (List Section) EndError
+admitted_answer schema (Ok changeset) = admitted changeset (refusal_of schema changeset)
+admitted_answer schema (Err fault) = Err (Fault fault)
 
 -- the parser behind it: a new one, or where it isn't Ok as it was
 abbrev pub left_by : Result (List Section) EndError → Progress → Progress

@@ -6,7 +6,7 @@ use Rattle.cs_model.specs.Changeset.{IsChangeset, most_bytes}
 use Rattle.cs_model.specs.Text.{SpellsEach, SpellsSection, Spells}
 use Rattle.cs_parse.specs.declared.fault.FaultKind.TheVariants.{TooLong, Truncated}
 use Rattle.cs_parse.specs.declared.fault.ParseFault.{ParseFault}
-use Rattle.cs_parse.specs.Place.{Place, wrong}
+use Rattle.cs_parse.specs.Place.{BytePlace, wrong}
 use Rattle.cs_parse.specs.Stands.{Stands}
 
 -- Some text that begins so is that of a changeset, the limit on the whole set aside.
@@ -28,7 +28,7 @@ pub record IsFirst (text : List ℕ) (n : ℕ) : Type 0 where
 pub record AtByte (text : List ℕ) (fault : ParseFault) : Type 0 where
   pub first : IsFirst text fault.at
   pub within_limit : fault.at < most_bytes
-  pub place : Place
+  pub place : BytePlace
   pub byte : ℕ
   pub is_byte : slice_get text fault.at ≡ Some byte
   pub stands : Stands (take fault.at text) place

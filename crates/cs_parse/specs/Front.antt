@@ -6,8 +6,8 @@ use Rattle.cs_model.specs.declared.change.Change.{Change}
 use Rattle.cs_model.specs.PackedChanges.{AreCanonical, Fit, changes_bytes, unpacked_changes}
 use Rattle.cs_model.specs.Changeset.{IsChangeset}
 use Rattle.cs_model.specs.Section.{Section}
-use Rattle.cs_parse.specs.declared.stop.Refusal.{Refusal}
-use Rattle.cs_parse.specs.declared.stop.Refusal.TheVariants.{Short, Bad}
+use Rattle.cs_parse.specs.declared.stop.ParseRefusal.{ParseRefusal}
+use Rattle.cs_parse.specs.declared.stop.ParseRefusal.TheVariants.{Short, Bad}
 use Rattle.cs_parse.specs.declared.fault.ParseFault.{ParseFault}
 use Rattle.cs_parse.specs.Progress.{Progress, Reached, last_flags, with_changes, read_on, arrived, so_far, broken}
 use Rattle.cs_parse.specs.declared.fault.ParseError.{ParseError}
@@ -20,18 +20,18 @@ use Rattle.cs_parse.specs.declared.spot.Spot.{Spot}
 pub record Front (A : Type 0) : Type 0 where
   pub items : List A
   pub rest : List ℕ
-  pub why : Option Refusal
+  pub why : Option ParseRefusal
 
-abbrev pub behind_item : {A : Type 0} → (List ℕ → Front A) → List ℕ → Result (A × List ℕ) Refusal → Front A
-behind_item go_on bytes (Ok item) = record { items = item.0 ∷ (go_on item.1).items; rest = (go_on item.1).rest; why = (go_on item.1).why }
-behind_item go_on bytes (Err why) = record { items = []; rest = bytes; why = Some why }
+abbrev pub after_item : {A : Type 0} → (List ℕ → Front A) → List ℕ → Result (A × List ℕ) ParseRefusal → Front A
+after_item go_on bytes (Ok item) = record { items = item.0 ∷ (go_on item.1).items; rest = (go_on item.1).rest; why = (go_on item.1).why }
+after_item go_on bytes (Err why) = record { items = []; rest = bytes; why = Some why }
 
 -- Each item takes one from `fuel`, and where it is at least the number of bytes, it doesn't run out.
-unfoldable pub front_at : {A : Type 0} → (List ℕ → Bool) → (List ℕ → Result (A × List ℕ) Refusal) → ℕ → List ℕ → Front A
+unfoldable pub front_at : {A : Type 0} → (List ℕ → Bool) → (List ℕ → Result (A × List ℕ) ParseRefusal) → ℕ → List ℕ → Front A
 front_at over read zero bytes = record { items = []; rest = bytes; why = None }
 front_at over read (suc fuel) bytes =
     if over bytes then record { items = []; rest = bytes; why = None }
-    else behind_item (front_at over read fuel) bytes (read bytes)
+    else after_item (front_at over read fuel) bytes (read bytes)
 
 -- the changes of a section, as many as are whole
 abbrev pub changes_front : List ℕ → List ℕ → Front Change
@@ -44,15 +44,15 @@ abbrev pub prefixed : List Section → Reached → Reached
 prefixed sections reached = record { sections = sections ++ reached.sections; rest = reached.rest; why = reached.why }
 
 -- Sections that were read, and either why no more is, or what the bytes behind them give.
-abbrev pub behind_sections : List Section → List ℕ → Option Refusal → Reached
-behind_sections sections rest None = prefixed sections (read_on [] rest)
-behind_sections sections rest (Some why) = record { sections = sections; rest = rest; why = Some why }
+abbrev pub sections_reached : List Section → List ℕ → Option ParseRefusal → Reached
+sections_reached sections rest None = prefixed sections (read_on [] rest)
+sections_reached sections rest (Some why) = record { sections = sections; rest = rest; why = Some why }
 
 -- A list of sections grew by the next one of some bytes, as far as it is whole.
-pub record NextSection (old new : List Section) (bytes rest : List ℕ) (why : Option Refusal) : Type 0 where
+pub record NextSection (old new : List Section) (bytes rest : List ℕ) (why : Option ParseRefusal) : Type 0 where
   pub sections : List Section
   pub added : new ≡ old ++ sections
-  pub read : read_on [] bytes ≡ behind_sections sections rest why
+  pub read : read_on [] bytes ≡ sections_reached sections rest why
   pub shorter : why ≡ None → length rest < length bytes
   pub fits : AreBytes rest
 
@@ -64,24 +64,24 @@ pub record JoinsTable (flags text : List ℕ) (count : ℕ) (canonical : Bool) :
   pub many : count ≡ length (unpacked_changes (length flags) text)
   pub packs : IsTrue canonical → AreCanonical (length flags) text
 
-abbrev pub Joins : Option (List ℕ) → List ℕ → ℕ → Bool → Type 0
-Joins None text count canonical = (text ≡ []) × (count ≡ 0)
-Joins (Some flags) text count canonical = JoinsTable flags text count canonical
+abbrev pub JoinsSection : Option (List ℕ) → List ℕ → ℕ → Bool → Type 0
+JoinsSection None text count canonical = (text ≡ []) × (count ≡ 0)
+JoinsSection (Some flags) text count canonical = JoinsTable flags text count canonical
 
 -- What is whole at the front of bytes behind sections, of which the last one's table has these key bytes: so many changes,
 -- whether their bytes are the canonical ones, the bytes behind them, and why the next change isn't read.
-pub record HeadsTable (flags bytes : List ℕ) (count : ℕ) (rest : List ℕ) (canonical : Bool) (why : Option Refusal) : Type 0 where
+pub record HeadsTable (flags bytes : List ℕ) (count : ℕ) (rest : List ℕ) (canonical : Bool) (why : Option ParseRefusal) : Type 0 where
   pub many : count ≡ length (changes_front flags bytes).items
   pub left : rest ≡ (changes_front flags bytes).rest
   pub own : IsTrue canonical → bytes ≡ changes_bytes (changes_front flags bytes).items ++ (changes_front flags bytes).rest
   pub reason : why ≡ (changes_front flags bytes).why
 
-abbrev pub Heads : Option (List ℕ) → List ℕ → ℕ → List ℕ → Bool → Option Refusal → Type 0
+abbrev pub Heads : Option (List ℕ) → List ℕ → ℕ → List ℕ → Bool → Option ParseRefusal → Type 0
 Heads None bytes count rest canonical why = (rest ≡ bytes) × (why ≡ None) × (count ≡ 0)
 Heads (Some flags) bytes count rest canonical why = HeadsTable flags bytes count rest canonical why
 
 -- What is whole behind these changes: sections, the bytes behind them, and why no more is read; none where a change isn't read.
-abbrev pub Tails : Option Refusal → List ℕ → List Section → List ℕ → Option Refusal → Type 0
+abbrev pub Tails : Option ParseRefusal → List ℕ → List Section → List ℕ → Option ParseRefusal → Type 0
 Tails None bytes sections rest why = read_on [] bytes ≡ record { sections = sections; rest = rest; why = why }
 Tails (Some stopped) bytes sections rest why = (sections ≡ []) × (rest ≡ bytes) × (why ≡ Some stopped)
 
@@ -91,7 +91,7 @@ said_by None text = []
 said_by (Some flags) text = unpacked_changes (length flags) text
 
 -- the fault of a text of which so many bytes are taken, where reading them is stopped by a byte that is wrong
-abbrev pub fault_by : ℕ → Option Refusal → Option ParseFault
+abbrev pub fault_by : ℕ → Option ParseRefusal → Option ParseFault
 fault_by taken None = None
 fault_by taken (Some Short) = None
 fault_by taken (Some (Bad left kind)) = Some (record { at = taken - left; kind = kind })
@@ -100,7 +100,7 @@ fault_by taken (Some (Bad left kind)) = Some (record { at = taken - left; kind =
 -- are changes of the last section, these sections stand behind them, and the rest is left.
 pub record Brings (taken len count : ℕ) (canonical : Bool) (more : List Section) (rest : List ℕ) (old : List Section) (bytes : List ℕ) : Type 0 where
   pub inside : len ≤ length bytes
-  pub joins : Joins (last_flags old) (take len bytes) count canonical
+  pub joins : JoinsSection (last_flags old) (take len bytes) count canonical
   pub sections : (read_on old bytes).sections ≡ with_changes old (said_by (last_flags old) (take len bytes)) ++ more
   pub left : (read_on old bytes).rest ≡ rest
   pub alone : more ≡ [] → rest ≡ drop len bytes

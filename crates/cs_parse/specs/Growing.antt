@@ -36,13 +36,13 @@ pub record IsGrowing (sections : List Section) (bytes : List ℕ) (kept count : 
   pub valid : IsChangeset (with_text sections (take kept bytes))
 
 -- The last section's changes were taken out of a changeset, as their canonical bytes, so many in number.
-pub record Opened (old new : List Section) (text : List ℕ) (count : ℕ) : Type 0 where
+pub record OpenedSection (old new : List Section) (text : List ℕ) (count : ℕ) : Type 0 where
   pub lacks : last_changes new ≡ []
   pub keeps : Keeps (last_flags new) text count
   pub whole : with_text new text ≡ old
   pub valid : IsChangeset old
 
 -- Bytes in which `len` of them, those behind the first `kept`, were put in their canonical form, which takes `own` bytes.
-pub record Settled (flags : Option (List ℕ)) (kept len own : ℕ) (old new : List ℕ) : Type 0 where
+pub record SettledBytes (flags : Option (List ℕ)) (kept len own : ℕ) (old new : List ℕ) : Type 0 where
   pub many : own ≡ length (own_bytes flags (take len (drop kept old)))
   pub bytes : new ≡ take kept old ++ (own_bytes flags (take len (drop kept old)) ++ drop (kept + len) old)

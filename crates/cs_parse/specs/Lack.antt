@@ -5,7 +5,7 @@ use Rattle.cs_model.specs.Section.{Section}
 use Rattle.cs_parse.specs.declared.fault.ParseFault.{ParseFault}
 use Rattle.cs_parse.specs.declared.spot.Spot.{Spot}
 use Rattle.cs_parse.specs.declared.spot.Spot.TheVariants.{Start, Row, Old, New, Name}
-use Rattle.cs_parse.specs.declared.stop.Refusal.TheVariants.{Short}
+use Rattle.cs_parse.specs.declared.stop.ParseRefusal.TheVariants.{Short}
 use Rattle.cs_parse.specs.Progress.{read_on}
 use Rattle.cs_parse.specs.Reading.{typed_at, record_at, shape_at}
 

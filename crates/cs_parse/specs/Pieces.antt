@@ -26,40 +26,40 @@ abbrev pub fault_in : List ℕ → Option ParseFault
 fault_in text = lasting (answer_of text)
 
 -- The text once a piece has come. Behind a fault nothing is added.
-abbrev pub behind : Option ParseFault → List ℕ → List ℕ → List ℕ
-behind None text piece = text ++ piece
-behind (Some fault) text piece = text
+abbrev pub text_after : Option ParseFault → List ℕ → List ℕ → List ℕ
+text_after None text piece = text ++ piece
+text_after (Some fault) text piece = text
 
-abbrev pub taken : List ℕ → List ℕ → List ℕ
-taken text piece = behind (fault_in text) text piece
+abbrev pub text_taken : List ℕ → List ℕ → List ℕ
+text_taken text piece = text_after (fault_in text) text piece
 
 -- how many bytes were taken, or the place of the fault
-abbrev pub reached : Option ParseFault → ℕ → ℕ
-reached None len = len
-reached (Some fault) len = fault.at
+abbrev pub offset_reached : Option ParseFault → ℕ → ℕ
+offset_reached None len = len
+offset_reached (Some fault) len = fault.at
 
 abbrev pub offset_of : List ℕ → ℕ
-offset_of text = reached (fault_in text) (length text)
+offset_of text = offset_reached (fault_in text) (length text)
 
 -- a fault of the text that no more bytes mend
 abbrev pub IsLasting : List ℕ → ParseFault → Type 0
 IsLasting text fault = IsFault text fault × (may_be_mended fault.kind ≡ false)
 
 -- A text without such a fault: it is within the limit, and some text that begins so is that of a changeset.
-pub record GoesOn (text : List ℕ) : Type 0 where
+pub record IsFaultless (text : List ℕ) : Type 0 where
   pub within_limit : length text ≤ most_bytes
   pub viable : Viable text
 
 -- the error tells such a fault, unless memory ran out
-abbrev pub TellsLasting : ParseError → List ℕ → Type 0
-TellsLasting (Fault fault) text = IsLasting text fault
-TellsLasting Memory text = Unit {0}
+abbrev pub ReportsLasting : ParseError → List ℕ → Type 0
+ReportsLasting (Fault fault) text = IsLasting text fault
+ReportsLasting Memory text = Unit {0}
 
 -- pieces one after another
-abbrev pub joined : List (List ℕ) → List ℕ
-joined pieces = flat_map (λ piece. piece) pieces
+abbrev pub joined_pieces : List (List ℕ) → List ℕ
+joined_pieces pieces = flat_map (λ piece. piece) pieces
 
 -- what is kept of a text and pieces behind it
-abbrev pub kept : List ℕ → List (List ℕ) → List ℕ
-kept text [] = text
-kept text (piece ∷ pieces) = kept (taken text piece) pieces
+abbrev pub text_kept : List ℕ → List (List ℕ) → List ℕ
+text_kept text [] = text
+text_kept text (piece ∷ pieces) = text_kept (text_taken text piece) pieces

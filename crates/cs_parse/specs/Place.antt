@@ -9,15 +9,15 @@ use Rattle.cs_parse.specs.declared.fault.FaultKind.TheVariants.{BadMarker, Patch
 -- tells how many bytes may still have the high bit. LastKey: on the last key byte, where all before it are zero.
 -- FirstLetter: where the name begins. PastName: behind 1,024 bytes of name. AtType: where a field begins, in a column
 -- with this rule. InLength: in the length of a value, told as for the number of columns.
-pub data Place : Type 0 where
-  Start : Place
-  Between : Place
-  InColumns : ℕ → ℕ → Place
-  LastKey : Place
-  FirstLetter : Place
-  PastName : Place
-  AtType : Rule → Place
-  InLength : ℕ → ℕ → Place
+pub data BytePlace : Type 0 where
+  Start : BytePlace
+  Between : BytePlace
+  InColumns : ℕ → ℕ → BytePlace
+  LastKey : BytePlace
+  FirstLetter : BytePlace
+  PastName : BytePlace
+  AtType : Rule → BytePlace
+  InLength : ℕ → ℕ → BytePlace
 
 -- how much the next byte moves what was read before it, where `left` more bytes may have the high bit
 abbrev pub factor : ℕ → ℕ
@@ -53,13 +53,13 @@ type_refusal rule byte =
     else rule_refusal rule byte
 
 -- `T` begins a header, and 9, 18 and 23 a change
-abbrev pub goes_on : ℕ → Bool
-goes_on byte = byte == 84 || (byte == 9 || (byte == 18 || byte == 23))
+abbrev pub begins_part : ℕ → Bool
+begins_part byte = byte == 84 || (byte == 9 || (byte == 18 || byte == 23))
 
 -- The table of faults: what is wrong with a byte that stands there, if anything is.
-abbrev pub wrong : Place → ℕ → Option FaultKind
+abbrev pub wrong : BytePlace → ℕ → Option FaultKind
 wrong Start byte = if byte == 80 then Some Patchset else if byte == 84 then None else Some BadMarker
-wrong Between byte = if byte == 80 then Some Patchset else if goes_on byte then None else Some BadOperation
+wrong Between byte = if byte == 80 then Some Patchset else if begins_part byte then None else Some BadOperation
 wrong (InColumns left high) byte = if leaves_none 1 2000 left high byte then Some Columns else None
 wrong LastKey byte = if byte == 0 then Some NoKey else None
 wrong FirstLetter byte = if byte == 0 then Some EmptyName else None

@@ -11,8 +11,8 @@ use Rattle.cs_parse.specs.declared.fault.FaultKind.TheVariants.{TooLong, Truncat
 use Rattle.cs_parse.specs.declared.fault.ParseError.{ParseError}
 use Rattle.cs_parse.specs.declared.fault.ParseError.TheVariants.{Fault, Memory}
 use Rattle.cs_parse.specs.declared.fault.ParseFault.{ParseFault}
-use Rattle.cs_parse.specs.declared.stop.Refusal.{Refusal}
-use Rattle.cs_parse.specs.declared.stop.Refusal.TheVariants.{Short, Bad}
+use Rattle.cs_parse.specs.declared.stop.ParseRefusal.{ParseRefusal}
+use Rattle.cs_parse.specs.declared.stop.ParseRefusal.TheVariants.{Short, Bad}
 use Rattle.cs_parse.specs.Reading.{◌>>=◌, shape_at, change_at, ends_section, is_empty}
 
 -- What was read of a text: the sections, of which the last one may go on; the bytes behind them, of a header or a change
@@ -56,19 +56,19 @@ with_changes (section ∷ []) changes = record { shape = section.shape; changes 
 with_changes (section ∷ next ∷ sections) changes = section ∷ with_changes (next ∷ sections) changes
 
 -- a section more, which has no changes yet, where a header is read
-abbrev pub with_header : List Section → List ℕ → Result (List Section × List ℕ) Refusal
+abbrev pub with_header : List Section → List ℕ → Result (List Section × List ℕ) ParseRefusal
 with_header sections bytes = do
   shape ← shape_at bytes
   Ok (sections ++ record { shape = shape.0; changes = [] } ∷ [], shape.1)
 
 -- the next part behind these sections, where the last one's key bytes are known: a header where one begins, else a change
-abbrev pub with_part : List Section → Option (List ℕ) → List ℕ → Result (List Section × List ℕ) Refusal
+abbrev pub with_part : List Section → Option (List ℕ) → List ℕ → Result (List Section × List ℕ) ParseRefusal
 with_part sections None bytes = with_header sections bytes
 with_part sections (Some flags) bytes = if ends_section bytes then with_header sections bytes else (do
   change ← change_at flags bytes
   Ok (with_changes sections (change.0 ∷ []), change.1))
 
-unfoldable pub part_at : List Section → List ℕ → Result (List Section × List ℕ) Refusal
+unfoldable pub part_at : List Section → List ℕ → Result (List Section × List ℕ) ParseRefusal
 part_at sections bytes = with_part sections (last_flags sections) bytes
 
 -- ---- all parts that are whole
@@ -77,18 +77,18 @@ part_at sections bytes = with_part sections (last_flags sections) bytes
 pub record Reached : Type 0 where
   pub sections : List Section
   pub rest : List ℕ
-  pub why : Option Refusal
+  pub why : Option ParseRefusal
 
-abbrev pub behind_part : (List Section → List ℕ → Reached) → List Section → List ℕ → Result (List Section × List ℕ) Refusal → Reached
-behind_part go_on sections bytes (Ok part) = go_on part.0 part.1
-behind_part go_on sections bytes (Err why) = record { sections = sections; rest = bytes; why = Some why }
+abbrev pub after_part : (List Section → List ℕ → Reached) → List Section → List ℕ → Result (List Section × List ℕ) ParseRefusal → Reached
+after_part go_on sections bytes (Ok part) = go_on part.0 part.1
+after_part go_on sections bytes (Err why) = record { sections = sections; rest = bytes; why = Some why }
 
 -- One part after another. Each takes one from `fuel`, and where it is at least the number of bytes, it doesn't run out.
 unfoldable pub parts_at : ℕ → List Section → List ℕ → Reached
 parts_at zero sections bytes = record { sections = sections; rest = bytes; why = None }
 parts_at (suc fuel) sections bytes =
     if is_empty bytes then record { sections = sections; rest = bytes; why = None }
-    else behind_part (parts_at fuel) sections bytes (part_at sections bytes)
+    else after_part (parts_at fuel) sections bytes (part_at sections bytes)
 
 -- all parts behind these sections
 abbrev pub read_on : List Section → List ℕ → Reached
@@ -103,7 +103,7 @@ so_far len taken reached =
     else record { sections = reached.sections; pending = reached.rest; offset = taken; fault = None }
 
 -- The same, by why reading went no further: a byte that can't stand in its place is found before the text is found too long.
-abbrev pub stopped : ℕ → ℕ → Reached → Option Refusal → Progress
+abbrev pub stopped : ℕ → ℕ → Reached → Option ParseRefusal → Progress
 stopped len taken reached None = so_far len taken reached
 stopped len taken reached (Some Short) = so_far len taken reached
 stopped len taken reached (Some (Bad left kind)) = broken (record { at = taken - left; kind = kind })
@@ -112,13 +112,13 @@ abbrev pub arrived : ℕ → ℕ → Reached → Progress
 arrived len taken reached = stopped len taken reached reached.why
 
 -- a piece's bytes within the limit
-abbrev pub within : Progress → List ℕ → List ℕ
-within old piece = take (most_bytes - old.offset) piece
+abbrev pub piece_within : Progress → List ℕ → List ℕ
+piece_within old piece = take (most_bytes - old.offset) piece
 
 abbrev pub advance : Option ParseFault → Progress → List ℕ → Progress
 advance (Some fault) old piece = old
 advance None old piece =
-    arrived (old.offset + length piece) (old.offset + length (within old piece)) (read_on old.sections (old.pending ++ within old piece))
+    arrived (old.offset + length piece) (old.offset + length (piece_within old piece)) (read_on old.sections (old.pending ++ piece_within old piece))
 
 -- the progress once a piece has come
 unfoldable pub advanced : Progress → List ℕ → Progress
@@ -129,20 +129,20 @@ abbrev pub progress_of : List ℕ → Progress
 progress_of text = advanced nothing text
 
 -- What the bytes so far are answered: their sections where they end behind a whole part.
-abbrev pub ended_by : Option ParseFault → Progress → Result (List Section) ParseFault
-ended_by (Some fault) progress = Err fault
-ended_by None progress =
+abbrev pub answer_at_end_by : Option ParseFault → Progress → Result (List Section) ParseFault
+answer_at_end_by (Some fault) progress = Err fault
+answer_at_end_by None progress =
     if is_empty progress.pending then Ok progress.sections else Err (record { at = progress.offset; kind = Truncated })
 
-abbrev pub ended : Progress → Result (List Section) ParseFault
-ended progress = ended_by progress.fault progress
+abbrev pub answer_at_end : Progress → Result (List Section) ParseFault
+answer_at_end progress = answer_at_end_by progress.fault progress
 
 -- What `feed` answers, and the progress behind it: the fault of the text with the piece, or none; without memory nothing is
 -- taken.
-abbrev pub Fed : {A : Type 0} → Result A ParseError → Progress → List ℕ → Progress → Type 0
-Fed (Ok done) old piece new = ((advanced old piece).fault ≡ None) × (new ≡ advanced old piece)
-Fed (Err (Fault fault)) old piece new = ((advanced old piece).fault ≡ Some fault) × (new ≡ advanced old piece)
-Fed (Err Memory) old piece new = new ≡ old
+abbrev pub FeedAnswers : {A : Type 0} → Result A ParseError → Progress → List ℕ → Progress → Type 0
+FeedAnswers (Ok done) old piece new = ((advanced old piece).fault ≡ None) × (new ≡ advanced old piece)
+FeedAnswers (Err (Fault fault)) old piece new = ((advanced old piece).fault ≡ Some fault) × (new ≡ advanced old piece)
+FeedAnswers (Err Memory) old piece new = new ≡ old
 
 -- A text that a parser with this progress may have taken. All that it answers is said of each of these.
 pub record Took (progress : Progress) (text : List ℕ) : Type 0 where
@@ -150,7 +150,7 @@ pub record Took (progress : Progress) (text : List ℕ) : Type 0 where
   pub read : progress ≡ progress_of text
 
 -- What was taken once a piece has come behind this text: the text with the piece; the text alone where memory ran out.
-abbrev pub Takes : {A : Type 0} → Result A ParseError → List ℕ → List ℕ → Progress → Type 0
-Takes (Ok done) text piece new = Took new (text ++ piece)
-Takes (Err (Fault fault)) text piece new = Took new (text ++ piece)
-Takes (Err Memory) text piece new = Took new text
+abbrev pub TakesPiece : {A : Type 0} → Result A ParseError → List ℕ → List ℕ → Progress → Type 0
+TakesPiece (Ok done) text piece new = Took new (text ++ piece)
+TakesPiece (Err (Fault fault)) text piece new = Took new (text ++ piece)
+TakesPiece (Err Memory) text piece new = Took new text

@@ -17,26 +17,26 @@ use Rattle.cs_parse.specs.declared.fault.FaultKind.{FaultKind}
 use Rattle.cs_parse.specs.declared.fault.FaultKind.TheVariants.{BadMarker, Patchset, Columns, NoKey, EmptyName, NameTooLong, BadOperation, ValueTooLong, TooLong, Truncated}
 use Rattle.cs_parse.specs.Place.{factor, type_refusal}
 use Rattle.cs_parse.specs.declared.fault.ParseFault.{ParseFault}
-use Rattle.cs_parse.specs.declared.stop.Refusal.{Refusal}
-use Rattle.cs_parse.specs.declared.stop.Refusal.TheVariants.{Short, Bad}
+use Rattle.cs_parse.specs.declared.stop.ParseRefusal.{ParseRefusal}
+use Rattle.cs_parse.specs.declared.stop.ParseRefusal.TheVariants.{Short, Bad}
 
 infixl 10 ◌>>=◌
-abbrev pub ◌>>=◌ : {A B : Type 0} → Result A Refusal → (A → Result B Refusal) → Result B Refusal
+abbrev pub ◌>>=◌ : {A B : Type 0} → Result A ParseRefusal → (A → Result B ParseRefusal) → Result B ParseRefusal
 (Ok x) >>= f = f x
 (Err e) >>= f = Err e
 
 -- What a function returned, seen by view, is what reading gives.
-abbrev pub Reads : {X Y : Type 0} → (X → Y) → Result X Refusal → Result Y Refusal → Type 0
+abbrev pub Reads : {X Y : Type 0} → (X → Y) → Result X ParseRefusal → Result Y ParseRefusal → Type 0
 Reads view (Ok x) read = read ≡ Ok (view x)
 Reads view (Err refusal) read = read ≡ Err refusal
 
 -- refused at a byte, behind which `rest` stands
-abbrev pub refuse : {A : Type 0} → FaultKind → List ℕ → Result A Refusal
+abbrev pub refuse : {A : Type 0} → FaultKind → List ℕ → Result A ParseRefusal
 refuse kind rest = Err (Bad (suc (length rest)) kind)
 
 -- One item after another, until the bytes are over for them. Each turn takes one from `fuel`, and where it is at
 -- least the number of bytes, it doesn't run out.
-unfoldable pub many_at : {A : Type 0} → (List ℕ → Bool) → (List ℕ → Result (A × List ℕ) Refusal) → ℕ → List ℕ → Result (List A × List ℕ) Refusal
+unfoldable pub many_at : {A : Type 0} → (List ℕ → Bool) → (List ℕ → Result (A × List ℕ) ParseRefusal) → ℕ → List ℕ → Result (List A × List ℕ) ParseRefusal
 many_at over read zero bytes = Ok ([], bytes)
 many_at over read (suc fuel) bytes = if over bytes then Ok ([], bytes) else (do
   first ← read bytes
@@ -46,41 +46,41 @@ many_at over read (suc fuel) bytes = if over bytes then Ok ([], bytes) else (do
 -- ---- numbers
 
 -- a number whose last byte stands before `rest`
-abbrev pub within : ℕ → ℕ → FaultKind → ℕ → List ℕ → Result (ℕ × List ℕ) Refusal
-within least most kind n rest = if nat_lt n least || nat_lt most n then refuse kind rest else Ok (n, rest)
+abbrev pub number_within : ℕ → ℕ → FaultKind → ℕ → List ℕ → Result (ℕ × List ℕ) ParseRefusal
+number_within least most kind n rest = if nat_lt n least || nat_lt most n then refuse kind rest else Ok (n, rest)
 
 -- The rest of a varint, where `high` stands for the bits read before it, and `left` bytes may still have the high
 -- bit. It is refused at the first byte after which every number is out of its limits.
-unfoldable pub number_at : ℕ → ℕ → FaultKind → ℕ → ℕ → List ℕ → Result (ℕ × List ℕ) Refusal
+unfoldable pub number_at : ℕ → ℕ → FaultKind → ℕ → ℕ → List ℕ → Result (ℕ × List ℕ) ParseRefusal
 number_at least most kind left high [] = Err Short
-number_at least most kind zero high (byte ∷ rest) = within least most kind (256 * high + byte) rest
+number_at least most kind zero high (byte ∷ rest) = number_within least most kind (256 * high + byte) rest
 number_at least most kind (suc left) high (byte ∷ rest) =
-    if nat_lt byte 128 then within least most kind (128 * high + byte) rest
+    if nat_lt byte 128 then number_within least most kind (128 * high + byte) rest
     else if nat_lt most (factor left * (128 * high + (byte - 128))) then refuse kind rest
     else number_at least most kind left (128 * high + (byte - 128)) rest
 
 -- how many columns a table has
-unfoldable pub columns_at : List ℕ → Result (ℕ × List ℕ) Refusal
+unfoldable pub columns_at : List ℕ → Result (ℕ × List ℕ) ParseRefusal
 columns_at bytes = number_at 1 2000 Columns 8 0 bytes
 
 -- how many bytes a value has
-unfoldable pub length_at : List ℕ → Result (ℕ × List ℕ) Refusal
+unfoldable pub length_at : List ℕ → Result (ℕ × List ℕ) ParseRefusal
 length_at bytes = number_at 0 16777216 ValueTooLong 8 0 bytes
 
 -- ---- fields
 
 -- an INTEGER's eight bytes
-unfoldable pub integer_at : List ℕ → Result (ℤ × List ℕ) Refusal
+unfoldable pub integer_at : List ℕ → Result (ℤ × List ℕ) ParseRefusal
 integer_at bytes = if nat_lt (length bytes) 8 then Err Short else Ok (cast_signed w64 (from_be_bytes w64 (take 8 bytes)), drop 8 bytes)
 
 -- a length, and that many bytes
-unfoldable pub counted_at : List ℕ → Result (List ℕ × List ℕ) Refusal
+unfoldable pub counted_at : List ℕ → Result (List ℕ × List ℕ) ParseRefusal
 counted_at bytes = do
   n ← length_at bytes
   if nat_lt (length n.1) n.0 then Err Short else Ok (take n.0 n.1, drop n.0 n.1)
 
 -- a field behind its type byte, which isn't refused
-unfoldable pub typed_at : ℕ → List ℕ → Result (Field × List ℕ) Refusal
+unfoldable pub typed_at : ℕ → List ℕ → Result (Field × List ℕ) ParseRefusal
 typed_at byte rest =
     if byte == 0 then Ok (Undefined, rest)
     else if byte == 1 then (do
@@ -94,18 +94,18 @@ typed_at byte rest =
       Ok (Is (Blob bytes.0), bytes.1))
     else Ok (Is Null, rest)
 
-abbrev pub unless_refused : {A : Type 0} → Option FaultKind → List ℕ → Result A Refusal → Result A Refusal
+abbrev pub unless_refused : {A : Type 0} → Option FaultKind → List ℕ → Result A ParseRefusal → Result A ParseRefusal
 unless_refused None rest read = read
 unless_refused (Some kind) rest read = refuse kind rest
 
-unfoldable pub field_at : Rule → List ℕ → Result (Field × List ℕ) Refusal
+unfoldable pub field_at : Rule → List ℕ → Result (Field × List ℕ) ParseRefusal
 field_at rule [] = Err Short
 field_at rule (byte ∷ rest) = unless_refused (type_refusal rule byte) rest (typed_at byte rest)
 
 -- ---- records and changes
 
 -- a field for each rule
-unfoldable pub record_at : List Rule → List ℕ → Result (List Field × List ℕ) Refusal
+unfoldable pub record_at : List Rule → List ℕ → Result (List Field × List ℕ) ParseRefusal
 record_at [] bytes = Ok ([], bytes)
 record_at (rule ∷ rules) bytes = do
   field ← field_at rule bytes
@@ -113,7 +113,7 @@ record_at (rule ∷ rules) bytes = do
   Ok (field.0 ∷ fields.0, fields.1)
 
 -- the old record and the new one of a change with this operation, of a table with these key bytes
-unfoldable pub records_at : List ℕ → Op → List ℕ → Result ((List Field × List Field) × List ℕ) Refusal
+unfoldable pub records_at : List ℕ → Op → List ℕ → Result ((List Field × List Field) × List ℕ) ParseRefusal
 records_at flags Insert bytes = do
   row ← record_at (map row_rule flags) bytes
   Ok (([], row.0), row.1)
@@ -126,7 +126,7 @@ records_at flags Delete bytes = do
   Ok ((row.0, []), row.1)
 
 -- a change behind its operation byte
-unfoldable pub marked_at : List ℕ → Op → List ℕ → Result (Change × List ℕ) Refusal
+unfoldable pub marked_at : List ℕ → Op → List ℕ → Result (Change × List ℕ) ParseRefusal
 marked_at flags op [] = Err Short
 marked_at flags op (mark ∷ rest) = do
   records ← records_at flags op rest
@@ -141,12 +141,12 @@ op_of byte =
     else None
 
 -- a change behind its first byte, which is that of this operation, or of none
-abbrev pub operated : List ℕ → Option Op → ℕ → List ℕ → Result (Change × List ℕ) Refusal
+abbrev pub operated : List ℕ → Option Op → ℕ → List ℕ → Result (Change × List ℕ) ParseRefusal
 operated flags (Some op) byte rest = marked_at flags op rest
 operated flags None byte rest = refuse (if byte == 80 then Patchset else BadOperation) rest
 
 -- a change of a table with these key bytes
-unfoldable pub change_at : List ℕ → List ℕ → Result (Change × List ℕ) Refusal
+unfoldable pub change_at : List ℕ → List ℕ → Result (Change × List ℕ) ParseRefusal
 change_at flags [] = Err Short
 change_at flags (byte ∷ rest) = operated flags (op_of byte) byte rest
 
@@ -155,20 +155,20 @@ abbrev pub ends_section : List ℕ → Bool
 ends_section [] = true
 ends_section (byte ∷ rest) = byte == 84
 
-unfoldable pub changes_at : List ℕ → List ℕ → Result (List Change × List ℕ) Refusal
+unfoldable pub changes_at : List ℕ → List ℕ → Result (List Change × List ℕ) ParseRefusal
 changes_at flags bytes = many_at ends_section (change_at flags) (length bytes) bytes
 
 -- ---- headers
 
 -- key bytes, at least one, of which the last is refused where all are zero
-unfoldable pub flags_at : ℕ → List ℕ → Result (List ℕ × List ℕ) Refusal
+unfoldable pub flags_at : ℕ → List ℕ → Result (List ℕ × List ℕ) ParseRefusal
 flags_at count bytes =
     if nat_lt (length bytes) count then Err Short
     else if list_any (λ flag. nat_lt 0 flag) (take count bytes) then Ok (take count bytes, drop count bytes)
     else refuse NoKey (drop count bytes)
 
 -- the bytes up to a zero byte, at most so many
-unfoldable pub letters_at : ℕ → List ℕ → Result (List ℕ × List ℕ) Refusal
+unfoldable pub letters_at : ℕ → List ℕ → Result (List ℕ × List ℕ) ParseRefusal
 letters_at most [] = Err Short
 letters_at zero (byte ∷ rest) = if byte == 0 then Ok ([], rest) else refuse NameTooLong rest
 letters_at (suc most) (byte ∷ rest) = if byte == 0 then Ok ([], rest) else (do
@@ -176,19 +176,19 @@ letters_at (suc most) (byte ∷ rest) = if byte == 0 then Ok ([], rest) else (do
   Ok (byte ∷ letters.0, letters.1))
 
 -- A name, and the zero byte behind it, which is refused where no byte stands before it.
-unfoldable pub name_at : List ℕ → Result (List ℕ × List ℕ) Refusal
+unfoldable pub name_at : List ℕ → Result (List ℕ × List ℕ) ParseRefusal
 name_at bytes = do
   name ← letters_at 1024 bytes
   if length name.0 == 0 then refuse EmptyName name.1 else Ok name
 
 -- a header behind its `T`, as far as its name: the key bytes
-unfoldable pub before_name_at : List ℕ → Result (List ℕ × List ℕ) Refusal
+unfoldable pub before_name_at : List ℕ → Result (List ℕ × List ℕ) ParseRefusal
 before_name_at bytes = do
   count ← columns_at bytes
   flags_at count.0 count.1
 
 -- a header behind its `T`
-unfoldable pub header_at : List ℕ → Result (Shape × List ℕ) Refusal
+unfoldable pub header_at : List ℕ → Result (Shape × List ℕ) ParseRefusal
 header_at bytes = do
   count ← columns_at bytes
   flags ← flags_at count.0 count.1
@@ -198,12 +198,12 @@ header_at bytes = do
 -- ---- whole texts
 
 -- A section's shape. The changes before it end where it begins with `T`, so that another first byte is the text's.
-unfoldable pub shape_at : List ℕ → Result (Shape × List ℕ) Refusal
+unfoldable pub shape_at : List ℕ → Result (Shape × List ℕ) ParseRefusal
 shape_at [] = Err Short
 shape_at (byte ∷ rest) = if byte == 84 then header_at rest else refuse (if byte == 80 then Patchset else BadMarker) rest
 
 -- a section
-unfoldable pub section_at : List ℕ → Result (Section × List ℕ) Refusal
+unfoldable pub section_at : List ℕ → Result (Section × List ℕ) ParseRefusal
 section_at bytes = do
   shape ← shape_at bytes
   changes ← changes_at shape.0.flags shape.1
@@ -212,27 +212,27 @@ section_at bytes = do
 abbrev pub is_empty : List ℕ → Bool
 is_empty bytes = length bytes == 0
 
-unfoldable pub sections_at : List ℕ → Result (List Section × List ℕ) Refusal
+unfoldable pub sections_at : List ℕ → Result (List Section × List ℕ) ParseRefusal
 sections_at bytes = many_at is_empty section_at (length bytes) bytes
 
 -- The fault of a text of which the first `len` bytes are read, and what it is when they end too early.
-abbrev pub fault_of : ℕ → FaultKind → Refusal → ParseFault
+abbrev pub fault_of : ℕ → FaultKind → ParseRefusal → ParseFault
 fault_of len ended Short = record { at = len; kind = ended }
 fault_of len ended (Bad left kind) = record { at = len - left; kind = kind }
 
 -- the answer for a text of so many bytes, which is read whole
-abbrev pub placed : ℕ → Result (List Section × List ℕ) Refusal → Result (List Section) ParseFault
-placed len (Ok read) = Ok read.0
-placed len (Err refusal) = Err (fault_of len Truncated refusal)
+abbrev pub whole_answer : ℕ → Result (List Section × List ℕ) ParseRefusal → Result (List Section) ParseFault
+whole_answer len (Ok read) = Ok read.0
+whole_answer len (Err refusal) = Err (fault_of len Truncated refusal)
 
 -- The answer for a longer text, of which so many bytes are read: a byte that can't stand in its place is found before
 -- the text is found too long.
-abbrev pub cut : ℕ → Result (List Section × List ℕ) Refusal → Result (List Section) ParseFault
-cut len (Ok read) = Err (fault_of len TooLong Short)
-cut len (Err refusal) = Err (fault_of len TooLong refusal)
+abbrev pub overlong_answer : ℕ → Result (List Section × List ℕ) ParseRefusal → Result (List Section) ParseFault
+overlong_answer len (Ok read) = Err (fault_of len TooLong Short)
+overlong_answer len (Err refusal) = Err (fault_of len TooLong refusal)
 
 -- what reading a text gives
 unfoldable pub answer_of : List ℕ → Result (List Section) ParseFault
 answer_of text =
-    if nat_lt most_bytes (length text) then cut most_bytes (sections_at (take most_bytes text))
-    else placed (length text) (sections_at text)
+    if nat_lt most_bytes (length text) then overlong_answer most_bytes (sections_at (take most_bytes text))
+    else whole_answer (length text) (sections_at text)

@@ -4,7 +4,7 @@ use Rattle.cs_model.specs.declared.value.Field.{Field}
 use Rattle.cs_model.specs.declared.change.Op.{Op}
 use Rattle.cs_model.specs.declared.change.Op.TheVariants.{Insert, Update, Delete}
 use Rattle.cs_model.specs.Rule.{Rule, row_rule, old_rule, new_rules}
-use Rattle.cs_parse.specs.declared.stop.Refusal.TheVariants.{Short}
+use Rattle.cs_parse.specs.declared.stop.ParseRefusal.TheVariants.{Short}
 use Rattle.cs_parse.specs.declared.spot.Spot.{Spot}
 use Rattle.cs_parse.specs.declared.spot.Spot.TheVariants.{Start, Row, Old, New, Name}
 use Rattle.cs_parse.specs.Lack.{StaysAt, LacksInHeader, room_at}
@@ -41,7 +41,7 @@ IsBack bytes rest = (front : List ℕ) × (bytes ≡ front ++ rest)
 -- ---- changes
 
 -- a change begins with this operation's byte and a mark, and these bytes stand behind them
-pub record Begins (op : Op) (bytes rest : List ℕ) : Type 0 where
+pub record BeginsChangeOf (op : Op) (bytes rest : List ℕ) : Type 0 where
   pub byte : ℕ
   pub mark : ℕ
   pub parts : bytes ≡ byte ∷ mark ∷ rest
@@ -50,7 +50,7 @@ pub record Begins (op : Op) (bytes rest : List ℕ) : Type 0 where
 -- In the first record of a change so many fields were passed, and the next one begins at this place.
 pub record InFirst (op : Op) (rule : ℕ → Rule) (flags bytes : List ℕ) (fields place : ℕ) : Type 0 where
   pub records : List ℕ
-  pub begins : Begins op bytes records
+  pub begins : BeginsChangeOf op bytes records
   pub columns : fields ≤ length flags
   pub within : place ≤ length bytes
   pub passes : Passes (map rule flags) (map rule (drop fields flags)) records (drop place bytes)
@@ -61,9 +61,9 @@ pub record PassedFirst (op : Op) (rule : ℕ → Rule) (flags bytes : List ℕ) 
   pub short : fields < length flags → record_at (map rule (drop fields flags)) (drop place bytes) ≡ Err Short
 
 -- The same of an UPDATE's new record, where the old record's field of the next column begins at `old`.
-pub record InNew (flags bytes : List ℕ) (fields place old : ℕ) : Type 0 where
+pub record SpotInNew (flags bytes : List ℕ) (fields place old : ℕ) : Type 0 where
   pub records : List ℕ
-  pub begins : Begins Update bytes records
+  pub begins : BeginsChangeOf Update bytes records
   pub before : List Field
   pub left : List ℕ
   pub old_read : record_at (map old_rule flags) records ≡ Ok (before, left)
@@ -96,7 +96,7 @@ abbrev pub IsSpot : List ℕ → List ℕ → Spot → Type 0
 IsSpot flags bytes Start = Unit {0}
 IsSpot flags bytes (Row fields place) = (op : Op) × HasOne op × InFirst op row_rule flags bytes fields place
 IsSpot flags bytes (Old fields place) = InFirst Update old_rule flags bytes fields place
-IsSpot flags bytes (New fields place old) = InNew flags bytes fields place old
+IsSpot flags bytes (New fields place old) = SpotInNew flags bytes fields place old
 IsSpot flags bytes (Name place letters) = InName bytes place letters
 
 -- the same of a header, whatever table stands before it; of a spot in a change nothing is said

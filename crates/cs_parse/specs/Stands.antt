@@ -11,7 +11,7 @@ use Rattle.cs_model.specs.Rule.{Rule, meets, row_rule, old_rule, new_rules}
 use Rattle.cs_model.specs.Changeset.{IsField, Obeys, IsShape, IsChange, IsChangeset}
 use Rattle.cs_model.specs.Varint.{IsVarint}
 use Rattle.cs_model.specs.Text.{SpellsField, SpellsEach, op_byte, SpellsChange, SpellsHeader, SpellsSection}
-use Rattle.cs_parse.specs.Place.{Place, Start, Between, InColumns, LastKey, FirstLetter, PastName, AtType, InLength, factor, type_refusal}
+use Rattle.cs_parse.specs.Place.{BytePlace, Start, Between, InColumns, LastKey, FirstLetter, PastName, AtType, InLength, factor, type_refusal}
 
 -- A number that isn't whole: bytes with the high bit, behind each of which a number up to `most` can come. They stand
 -- for `high`, and `left` more may have the high bit.
@@ -23,13 +23,13 @@ Unfinished most (suc more) so_far (byte ∷ bytes) left high =
 
 -- ---- in a header, behind its `T`
 
-pub record InNumber (front : List ℕ) (place : Place) : Type 0 where
+pub record InNumber (front : List ℕ) (place : BytePlace) : Type 0 where
   pub left : ℕ
   pub high : ℕ
   pub digits : Unfinished 2000 8 0 front left high
   pub stands : place ≡ InColumns left high
 
-pub record OnLastKey (front : List ℕ) (place : Place) : Type 0 where
+pub record OnLastKey (front : List ℕ) (place : BytePlace) : Type 0 where
   pub count : List ℕ
   pub flags : List ℕ
   pub parts : front ≡ count ++ flags
@@ -38,7 +38,7 @@ pub record OnLastKey (front : List ℕ) (place : Place) : Type 0 where
   pub no_key : list_any (λ flag. nat_lt 0 flag) flags ≡ false
   pub stands : place ≡ LastKey
 
-pub record OnName (front : List ℕ) (place : Place) : Type 0 where
+pub record OnName (front : List ℕ) (place : BytePlace) : Type 0 where
   pub count : List ℕ
   pub flags : List ℕ
   pub parts : front ≡ count ++ flags
@@ -47,7 +47,7 @@ pub record OnName (front : List ℕ) (place : Place) : Type 0 where
   pub key : list_any (λ flag. nat_lt 0 flag) flags ≡ true
   pub stands : place ≡ FirstLetter
 
-pub record BehindName (front : List ℕ) (place : Place) : Type 0 where
+pub record AfterName (front : List ℕ) (place : BytePlace) : Type 0 where
   pub count : List ℕ
   pub flags : List ℕ
   pub name : List ℕ
@@ -59,13 +59,13 @@ pub record BehindName (front : List ℕ) (place : Place) : Type 0 where
   pub no_zero : list_all (λ byte. nat_lt 0 byte) name ≡ true
   pub stands : place ≡ PastName
 
-abbrev pub InHeader : List ℕ → Place → Type 0
-InHeader front place = InNumber front place ⊎ OnLastKey front place ⊎ OnName front place ⊎ BehindName front place
+abbrev pub InHeader : List ℕ → BytePlace → Type 0
+InHeader front place = InNumber front place ⊎ OnLastKey front place ⊎ OnName front place ⊎ AfterName front place
 
 -- ---- in a record
 
 -- behind the type byte of a TEXT or a BLOB, in its length
-pub record InValue (rule : Rule) (front : List ℕ) (place : Place) : Type 0 where
+pub record InValue (rule : Rule) (front : List ℕ) (place : BytePlace) : Type 0 where
   pub kind : ℕ
   pub digits : List ℕ
   pub left : ℕ
@@ -76,11 +76,11 @@ pub record InValue (rule : Rule) (front : List ℕ) (place : Place) : Type 0 whe
   pub unfinished : Unfinished 16777216 8 0 digits left high
   pub stands : place ≡ InLength left high
 
-abbrev pub InField : Rule → List ℕ → Place → Type 0
+abbrev pub InField : Rule → List ℕ → BytePlace → Type 0
 InField rule front place = ((front ≡ []) × (place ≡ AtType rule)) ⊎ InValue rule front place
 
 -- a field under each rule, as far as they are there: in one of them, behind those before it
-abbrev pub InRecord : List Rule → List ℕ → Place → Type 0
+abbrev pub InRecord : List Rule → List ℕ → BytePlace → Type 0
 InRecord [] front place = ⊥
 InRecord (rule ∷ rules) front place =
     InField rule front place
@@ -90,7 +90,7 @@ InRecord (rule ∷ rules) front place =
 -- ---- in a change
 
 -- in the new record of an UPDATE, behind its old one
-pub record InNew (flags front : List ℕ) (place : Place) : Type 0 where
+pub record InNewRecord (flags front : List ℕ) (place : BytePlace) : Type 0 where
   pub old : List ℕ
   pub before : List Field
   pub new : List ℕ
@@ -99,13 +99,13 @@ pub record InNew (flags front : List ℕ) (place : Place) : Type 0 where
   pub obeys : Obeys (map old_rule flags) before
   pub stands : InRecord (new_rules flags before) new place
 
-abbrev pub InRecords : List ℕ → Op → List ℕ → Place → Type 0
+abbrev pub InRecords : List ℕ → Op → List ℕ → BytePlace → Type 0
 InRecords flags Insert front place = InRecord (map row_rule flags) front place
-InRecords flags Update front place = InRecord (map old_rule flags) front place ⊎ InNew flags front place
+InRecords flags Update front place = InRecord (map old_rule flags) front place ⊎ InNewRecord flags front place
 InRecords flags Delete front place = InRecord (map row_rule flags) front place
 
 -- behind the operation and the indirect byte
-pub record InChange (flags front : List ℕ) (place : Place) : Type 0 where
+pub record InChange (flags front : List ℕ) (place : BytePlace) : Type 0 where
   pub op : Op
   pub mark : ℕ
   pub fields : List ℕ
@@ -113,12 +113,12 @@ pub record InChange (flags front : List ℕ) (place : Place) : Type 0 where
   pub stands : InRecords flags op fields place
 
 -- where a change begins, or in one
-abbrev pub AtChange : List ℕ → List ℕ → Place → Type 0
+abbrev pub AtChange : List ℕ → List ℕ → BytePlace → Type 0
 AtChange flags front place = ((front ≡ []) × (place ≡ Between)) ⊎ InChange flags front place
 
 -- ---- in a section, from its `T` on
 
-pub record BehindHeader (front : List ℕ) (place : Place) : Type 0 where
+pub record AfterHeader (front : List ℕ) (place : BytePlace) : Type 0 where
   pub header : List ℕ
   pub shape : Shape
   pub body : List ℕ
@@ -131,13 +131,13 @@ pub record BehindHeader (front : List ℕ) (place : Place) : Type 0 where
   pub are_changes : AllByRecursion (IsChange shape) changes
   pub stands : AtChange shape.flags part place
 
-abbrev pub InSection : List ℕ → Place → Type 0
-InSection front place = ((rest : List ℕ) × (front ≡ 84 ∷ rest) × InHeader rest place) ⊎ BehindHeader front place
+abbrev pub InSection : List ℕ → BytePlace → Type 0
+InSection front place = ((rest : List ℕ) × (front ≡ 84 ∷ rest) × InHeader rest place) ⊎ AfterHeader front place
 
 -- ---- in a text
 
 -- in a section, behind those before it
-pub record BehindSections (front : List ℕ) (place : Place) : Type 0 where
+pub record AfterSections (front : List ℕ) (place : BytePlace) : Type 0 where
   pub whole : List ℕ
   pub sections : List Section
   pub part : List ℕ
@@ -147,5 +147,5 @@ pub record BehindSections (front : List ℕ) (place : Place) : Type 0 where
   pub stands : InSection part place
 
 -- The byte behind these stands there.
-abbrev pub Stands : List ℕ → Place → Type 0
-Stands front place = ((front ≡ []) × (place ≡ Start)) ⊎ BehindSections front place
+abbrev pub Stands : List ℕ → BytePlace → Type 0
+Stands front place = ((front ≡ []) × (place ≡ Start)) ⊎ AfterSections front place

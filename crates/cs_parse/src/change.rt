@@ -5,16 +5,16 @@ ghost use Rattle.std.specs.List.{AllByRecursion};
 ghost use Rattle.cs_model.specs.Text.{op_byte};
 ghost use Rattle.cs_model.specs.PackedChanges.{change_bytes, changes_bytes, Fit, unpacked_changes, AreCanonical};
 ghost use Rattle.cs_parse.specs.declared.fault.FaultKind.TheVariants.{Patchset, BadOperation};
-ghost use Rattle.cs_parse.specs.declared.stop.Refusal.TheVariants.{Bad};
+ghost use Rattle.cs_parse.specs.declared.stop.ParseRefusal.TheVariants.{Bad};
 ghost use Rattle.cs_parse.specs.Canonical.{IsCanonical};
-ghost use Rattle.cs_parse.specs.Count.{behind, counted};
+ghost use Rattle.cs_parse.specs.Count.{bytes_after, counted};
 ghost use Rattle.cs_parse.specs.Front.{changes_front};
 ghost use Rattle.cs_parse.specs.Reading.{Reads, op_of, marked_at, change_at, ends_section, changes_at};
 
 use crate::canonical::both;
 use crate::fault::FaultKind;
 use crate::record::skip_records;
-use crate::stop::Refusal;
+use crate::stop::ParseRefusal;
 use cs_model::laws::{changes_fit, spelled_is_said};
 use cs_model::{Changes, Op};
 use std::alloc::{AllocError, Global};
@@ -33,20 +33,20 @@ fn op_by_byte(byte: u8) -> Option<Op>
 
 // The bytes behind a change whose operation byte was read, and whether its own are the canonical ones.
 #[tactic(auto, unfolding(crate::specs::Reading::marked_at))]
-fn skip_marked<'a>(flags: &[u8], op: Op, bytes: &'a [u8]) -> Result<(&'a [u8], bool), Refusal>
-    ensures read { Reads (λ x. x.0.now) result (behind (marked_at flags.now op bytes.now)) }
+fn skip_marked<'a>(flags: &[u8], op: Op, bytes: &'a [u8]) -> Result<(&'a [u8], bool), ParseRefusal>
+    ensures read { Reads (λ x. x.0.now) result (bytes_after (marked_at flags.now op bytes.now)) }
     ensures canonical { IfOk result (λ x. IsTrue x.1
         → IsCanonical change_bytes (op_byte op ∷ bytes.now) (marked_at flags.now op bytes.now)) }
 {
     let Some((&mark, rest)) = bytes.split_first() else {
-        return Err(Refusal::Short);
+        return Err(ParseRefusal::Short);
     };
     let (rest, canonical) = skip_records(flags, op, rest)?;
     Ok((rest, both(mark <= 1, canonical)))
 }
 
 // why no change begins with this byte, which is the first of `left` bytes
-fn no_change(byte: u8, left: usize) -> Refusal
+fn no_change(byte: u8, left: usize) -> ParseRefusal
     ensures { result ≡ Bad left (if byte == 80 then Patchset else BadOperation) }
 {
     let kind = if byte == 0x50 {
@@ -54,18 +54,18 @@ fn no_change(byte: u8, left: usize) -> Refusal
     } else {
         FaultKind::BadOperation
     };
-    Refusal::Bad { left, kind }
+    ParseRefusal::Bad { left, kind }
 }
 
 // the bytes behind a change, and whether its own are the canonical ones
 #[tactic(auto, unfolding(crate::specs::Reading::change_at))]
-fn skip_change<'a>(flags: &[u8], bytes: &'a [u8]) -> Result<(&'a [u8], bool), Refusal>
-    ensures read { Reads (λ x. x.0.now) result (behind (change_at flags.now bytes.now)) }
+fn skip_change<'a>(flags: &[u8], bytes: &'a [u8]) -> Result<(&'a [u8], bool), ParseRefusal>
+    ensures read { Reads (λ x. x.0.now) result (bytes_after (change_at flags.now bytes.now)) }
     ensures canonical { IfOk result (λ x. IsTrue x.1
         → IsCanonical change_bytes bytes.now (change_at flags.now bytes.now)) }
 {
     let Some((&byte, rest)) = bytes.split_first() else {
-        return Err(Refusal::Short);
+        return Err(ParseRefusal::Short);
     };
     match op_by_byte(byte) {
         Some(op) => skip_marked(flags, op, rest),
@@ -85,7 +85,7 @@ pub fn is_over(bytes: &[u8]) -> bool
 
 /// As many changes of a section as are whole: how many, the bytes behind them, whether their own are the canonical ones, and
 /// why the next one isn't read; nothing where the next header follows, or the end.
-pub fn whole_changes<'a>(flags: &[u8], bytes: &'a [u8]) -> (usize, &'a [u8], bool, Option<Refusal>)
+pub fn whole_changes<'a>(flags: &[u8], bytes: &'a [u8]) -> (usize, &'a [u8], bool, Option<ParseRefusal>)
     ensures count { result.0 ≡ length (changes_front flags.now bytes.now).items }
     ensures rest { result.1.now ≡ (changes_front flags.now bytes.now).rest }
     ensures canonical { IsTrue result.2
@@ -113,7 +113,7 @@ pub fn whole_changes<'a>(flags: &[u8], bytes: &'a [u8]) -> (usize, &'a [u8], boo
 }
 
 /// How many changes a section has, up to the next header or the end, and the bytes behind them.
-pub fn changes_counted<'a>(flags: &[u8], bytes: &'a [u8]) -> Result<(usize, &'a [u8]), Refusal>
+pub fn changes_counted<'a>(flags: &[u8], bytes: &'a [u8]) -> Result<(usize, &'a [u8]), ParseRefusal>
     ensures { Reads (λ x. (x.0, x.1.now)) result (counted length (changes_at flags.now bytes.now)) }
 {
     let (count, rest, _, why) = whole_changes(flags, bytes);
@@ -150,7 +150,7 @@ pub fn changes_of<'a>(
     alloc: Global,
     flags: &[u8],
     bytes: &'a [u8],
-) -> Result<(Changes, &'a [u8], Option<Refusal>), AllocError>
+) -> Result<(Changes, &'a [u8], Option<ParseRefusal>), AllocError>
     ensures changes { IfOk result (λ x. x.0.1 ≡ (changes_front flags.now bytes.now).items) }
     ensures columns { IfOk result (λ x. x.0.0 ≡ length flags.now) }
     ensures rest { IfOk result (λ x. x.1.now ≡ (changes_front flags.now bytes.now).rest) }

@@ -2,8 +2,8 @@
 
 ghost use Rattle.std.specs.Prelude.{◌≡◌, ℕ, List};
 ghost use Rattle.cs_parse.specs.Answer.{Shows};
-ghost use Rattle.cs_parse.specs.End.{end_of, left_by};
-ghost use Rattle.cs_parse.specs.Progress.{ended, Took};
+ghost use Rattle.cs_parse.specs.End.{admitted_answer, left_by};
+ghost use Rattle.cs_parse.specs.Progress.{answer_at_end, Took};
 ghost use Rattle.cs_parse.specs.Reading.{answer_of};
 
 use crate::fault::ParseFault;
@@ -31,10 +31,10 @@ impl PieceParser {
     /// Refuses `Fault`, as `finish` does, and then `Refused` with the first section that the schema refuses; both leave the
     /// parser as it was, so that feeding may go on.
     pub fn end(&mut self, alloc: Global, schema: &Schema) -> Result<Changeset, EndError>
-        ensures answer { result ≡ end_of schema.now (ended self.old) }
+        ensures answer { result ≡ admitted_answer schema.now (answer_at_end self.old) }
         ensures left { self.new ≡ left_by result self.old }
         ensures text { (text : List ℕ) → Took self.old text
-            → result ≡ end_of schema.now (answer_of text) }
+            → result ≡ admitted_answer schema.now (answer_of text) }
     {
         progress_tells();
         self.end_by(alloc, schema)
@@ -42,7 +42,7 @@ impl PieceParser {
 
     // the same, as the answer is determined by the progress
     fn end_by(&mut self, alloc: Global, schema: &Schema) -> Result<Changeset, EndError>
-        ensures answer { result ≡ end_of schema.now (ended self.old) }
+        ensures answer { result ≡ admitted_answer schema.now (answer_at_end self.old) }
         ensures left { self.new ≡ left_by result self.old }
     {
         let changeset = match spelled(self) {
@@ -58,7 +58,7 @@ impl PieceParser {
 
 // the changeset that the bytes so far spell, or their fault
 fn spelled(parser: &PieceParser) -> Result<&Changeset, ParseFault>
-    ensures { Shows result (ended parser.now) }
+    ensures { Shows result (answer_at_end parser.now) }
 {
     parser.finish()
 }

@@ -10,20 +10,20 @@ ghost use Rattle.cs_parse.specs.Reading.{Reads, counted_at, typed_at, field_at};
 use crate::canonical::both;
 use crate::number::{integer_of, length_of};
 use crate::rule::{FieldRule, type_fault};
-use crate::stop::Refusal;
+use crate::stop::ParseRefusal;
 use cs_model::FieldRef;
 
 // A length, and that many bytes, and whether these are the canonical ones, as those before them are.
 #[tactic(auto, unfolding(crate::specs::Reading::counted_at))]
 #[inline(always)]
-fn counted_of(bytes: &[u8], canonical: bool) -> Result<(&[u8], &[u8], bool), Refusal>
+fn counted_of(bytes: &[u8], canonical: bool) -> Result<(&[u8], &[u8], bool), ParseRefusal>
     ensures read { Reads (λ x. (x.0.now, x.1.now)) result (counted_at bytes.now) }
     ensures canonical { IfOk result (λ x. IsTrue x.2
         → IsTrue canonical × (bytes.now ≡ counted_bytes x.0.now ++ x.1.now)) }
 {
     let (len, rest, shortest) = length_of(bytes)?;
     if rest.len() < len {
-        return Err(Refusal::Short);
+        return Err(ParseRefusal::Short);
     }
     let (value, after) = rest.split_at(len);
     Ok((value, after, both(canonical, shortest)))
@@ -32,7 +32,7 @@ fn counted_of(bytes: &[u8], canonical: bool) -> Result<(&[u8], &[u8], bool), Ref
 // A field behind its type byte, which isn't refused. Only what has a length can be spelled in several ways.
 #[tactic(auto, unfolding(crate::specs::Reading::typed_at))]
 #[inline(always)]
-fn typed_of(byte: u8, rest: &[u8], canonical: bool) -> Result<(FieldRef, &[u8], bool), Refusal>
+fn typed_of(byte: u8, rest: &[u8], canonical: bool) -> Result<(FieldRef, &[u8], bool), ParseRefusal>
     ensures read { Reads (λ x. (field_seen x.0, x.1.now)) result (typed_at byte rest.now) }
     ensures canonical { IfOk result (λ x. IsTrue x.2
         → IsTrue canonical × HasShortest (field_seen x.0) rest.now x.1.now) }
@@ -62,16 +62,16 @@ pub fn field_in(
     rule: FieldRule,
     bytes: &[u8],
     canonical: bool,
-) -> Result<(FieldRef, &[u8], bool), Refusal>
+) -> Result<(FieldRef, &[u8], bool), ParseRefusal>
     ensures read { Reads (λ x. (field_seen x.0, x.1.now)) result (field_at (rule_of rule) bytes.now) }
     ensures canonical { IfOk result (λ x. IsTrue x.2
         → IsTrue canonical × (bytes.now ≡ field_bytes (field_seen x.0) ++ x.1.now)) }
 {
     let Some((&byte, rest)) = bytes.split_first() else {
-        return Err(Refusal::Short);
+        return Err(ParseRefusal::Short);
     };
     if let Some(kind) = type_fault(rule, byte) {
-        return Err(Refusal::Bad {
+        return Err(ParseRefusal::Bad {
             left: bytes.len(),
             kind,
         });

@@ -5,7 +5,7 @@ ghost use Rattle.cs_model.specs.Section.{Section};
 ghost use Rattle.cs_parse.specs.Front.{fault_by, Brings, IsBroken, Grows, Heads, Tails, Waits, KeepsSpot};
 ghost use Rattle.cs_parse.specs.Lack.{WaitsFor};
 ghost use Rattle.cs_parse.specs.Progress.{last_flags, read_on};
-ghost use Rattle.cs_parse.specs.declared.stop.Refusal.TheVariants.{Short};
+ghost use Rattle.cs_parse.specs.declared.stop.ParseRefusal.TheVariants.{Short};
 
 use crate::change::{is_over, whole_changes};
 use crate::fault::{ParseError, ParseFault};
@@ -13,14 +13,14 @@ use crate::growing::Growing;
 use crate::name::header_short;
 use crate::section::whole_sections;
 use crate::spot::{Spot, still_short};
-use crate::stop::Refusal;
+use crate::stop::ParseRefusal;
 use cs_model::Section;
 use cs_model::laws::{changes_fit, spelled_is_said};
 use std::alloc::{AllocError, Global};
 
 // The whole changes at the front of bytes behind these sections, which are of the last one's table: how many, the bytes behind
 // them, whether their own are the canonical ones, and why the next one isn't read.
-fn head_of<'a>(sections: &[Section], bytes: &'a [u8]) -> (usize, &'a [u8], bool, Option<Refusal>)
+fn head_of<'a>(sections: &[Section], bytes: &'a [u8]) -> (usize, &'a [u8], bool, Option<ParseRefusal>)
     ensures { Heads (last_flags sections.now) bytes.now result.0 result.1.now result.2 result.3 }
 {
     match sections.last() {
@@ -33,9 +33,9 @@ fn head_of<'a>(sections: &[Section], bytes: &'a [u8]) -> (usize, &'a [u8], bool,
 // where a change isn't read.
 fn tail_of(
     alloc: Global,
-    stopped: Option<Refusal>,
+    stopped: Option<ParseRefusal>,
     bytes: &[u8],
-) -> Result<(Vec<Section>, &[u8], Option<Refusal>), AllocError>
+) -> Result<(Vec<Section>, &[u8], Option<ParseRefusal>), AllocError>
     ensures { IfOk result (λ x. Tails stopped bytes.now x.0.items x.1.now x.2) }
 {
     match stopped {
@@ -45,15 +45,15 @@ fn tail_of(
 }
 
 // The fault of a text of which so many bytes are taken, where reading them is stopped by a byte that is wrong.
-fn wrong_in(taken: usize, why: Option<Refusal>) -> Option<ParseFault>
+fn wrong_in(taken: usize, why: Option<ParseRefusal>) -> Option<ParseFault>
     ensures { result ≡ fault_by taken why }
 {
     match why {
-        Some(Refusal::Bad { left, kind }) => Some(ParseFault {
+        Some(ParseRefusal::Bad { left, kind }) => Some(ParseFault {
             at: taken.saturating_sub(left),
             kind,
         }),
-        Some(Refusal::Short) => None,
+        Some(ParseRefusal::Short) => None,
         None => None,
     }
 }

@@ -2,8 +2,8 @@
 
 ghost use Rattle.std.specs.Prelude.{◌≡◌, ◌≤◌, ◌<◌, ◌+◌, [], ◌++◌, take, drop, length, IfOk, OnOk, OnErr, MatchOption};
 ghost use Rattle.cs_model.specs.Changeset.{IsChangeset};
-ghost use Rattle.cs_parse.specs.Front.{Joins};
-ghost use Rattle.cs_parse.specs.Growing.{with_text, last_changes, Keeps, Opened};
+ghost use Rattle.cs_parse.specs.Front.{JoinsSection};
+ghost use Rattle.cs_parse.specs.Growing.{with_text, last_changes, Keeps, OpenedSection};
 ghost use Rattle.cs_parse.specs.Progress.{last_flags};
 
 use crate::respell::settle;
@@ -50,7 +50,7 @@ fn no_changes(alloc: Global) -> Changeset
 
 // Takes the last section's changes out, as their bytes, in one move.
 fn take_last(alloc: Global, changeset: &mut Changeset) -> (Vec<u8>, usize)
-    ensures { Opened changeset.old changeset.new result.0.items result.1 }
+    ensures { OpenedSection changeset.old changeset.new result.0.items result.1 }
 {
     let mut sections = mem::replace(changeset, no_changes(alloc))
         .into_seq()
@@ -63,7 +63,7 @@ fn take_last(alloc: Global, changeset: &mut Changeset) -> (Vec<u8>, usize)
 // the same of a list of sections
 fn take_from(alloc: Global, sections: &mut Vec<Section>) -> (Vec<u8>, usize)
     requires { IsChangeset sections.old.items }
-    ensures opened { Opened sections.old.items sections.new.items result.0.items result.1 }
+    ensures opened { OpenedSection sections.old.items sections.new.items result.0.items result.1 }
     ensures valid { IsChangeset sections.new.items }
 {
     let len = sections.len();
@@ -288,7 +288,7 @@ impl Growing {
         canonical: bool,
     ) -> Result<(), AllocError>
         requires inside { len ≤ length self.old.1 }
-        requires joins { Joins (last_flags self.old.0) (take len self.old.1) count canonical }
+        requires joins { JoinsSection (last_flags self.old.0) (take len self.old.1) count canonical }
         requires valid { IsChangeset (with_text self.old.0 (take len self.old.1)) }
         ensures ok { OnOk result (self.new
             ≡ (with_text self.old.0 (take len self.old.1), drop len self.old.1)) }
@@ -330,7 +330,7 @@ impl Growing {
     ) -> Result<(), AllocError>
         requires waits { 0 < length self.old.1 }
         requires inside { len ≤ length self.old.1 }
-        requires joins { Joins (last_flags self.old.0) (take len self.old.1) count canonical }
+        requires joins { JoinsSection (last_flags self.old.0) (take len self.old.1) count canonical }
         requires valid { IsChangeset (with_text self.old.0 (take len self.old.1)) }
         requires some { 0 < length others.0 }
         ensures ok { OnOk result (self.new

@@ -7,7 +7,7 @@ ghost use Rattle.cs_parse.specs.Seen.{shape_seen};
 
 use crate::fault::FaultKind;
 use crate::number::columns_of;
-use crate::stop::Refusal;
+use crate::stop::ParseRefusal;
 use cs_model::{Seq, Shape};
 use memchr::memchr;
 use std::alloc::{AllocError, Global};
@@ -29,15 +29,15 @@ fn any_nonzero(bytes: &[u8]) -> bool
 
 // the key bytes of a table with `count` columns
 #[tactic(auto, unfolding(crate::specs::Reading::flags_at))]
-fn flags_of(count: usize, bytes: &[u8]) -> Result<(&[u8], &[u8]), Refusal>
+fn flags_of(count: usize, bytes: &[u8]) -> Result<(&[u8], &[u8]), ParseRefusal>
     ensures { Reads (λ x. (x.0.now, x.1.now)) result (flags_at count bytes.now) }
 {
     if bytes.len() < count {
-        return Err(Refusal::Short);
+        return Err(ParseRefusal::Short);
     }
     let (flags, rest) = bytes.split_at(count);
     if !any_nonzero(flags) {
-        return Err(Refusal::Bad {
+        return Err(ParseRefusal::Bad {
             left: rest.len() + 1,
             kind: FaultKind::NoKey,
         });
@@ -55,28 +55,28 @@ pub fn first_zero(bytes: &[u8]) -> Option<usize>
 
 // The bytes before the first zero byte, and those behind it. No more than the 1,025 that a name and its end can
 // take are looked at.
-fn letters_of(bytes: &[u8]) -> Result<(&[u8], &[u8]), Refusal>
+fn letters_of(bytes: &[u8]) -> Result<(&[u8], &[u8]), ParseRefusal>
     ensures { Reads (λ x. (x.0.now, x.1.now)) result (letters_at 1024 bytes.now) }
 {
     let window = &bytes[..bytes.len().min(1025)];
     match first_zero(window) {
         Some(end) => Ok((&bytes[..end], &bytes[end + 1..])),
-        None if bytes.len() > 1024 => Err(Refusal::Bad {
+        None if bytes.len() > 1024 => Err(ParseRefusal::Bad {
             left: bytes.len() - 1024,
             kind: FaultKind::NameTooLong,
         }),
-        None => Err(Refusal::Short),
+        None => Err(ParseRefusal::Short),
     }
 }
 
 // a table's name, and the bytes behind the zero byte that ends it
 #[tactic(auto, unfolding(crate::specs::Reading::name_at))]
-fn name_of(bytes: &[u8]) -> Result<(&[u8], &[u8]), Refusal>
+fn name_of(bytes: &[u8]) -> Result<(&[u8], &[u8]), ParseRefusal>
     ensures { Reads (λ x. (x.0.now, x.1.now)) result (name_at bytes.now) }
 {
     let (name, rest) = letters_of(bytes)?;
     if name.is_empty() {
-        return Err(Refusal::Bad {
+        return Err(ParseRefusal::Bad {
             left: rest.len() + 1,
             kind: FaultKind::EmptyName,
         });
@@ -86,7 +86,7 @@ fn name_of(bytes: &[u8]) -> Result<(&[u8], &[u8]), Refusal>
 
 /// A header's key bytes, which stand behind its `T` and the number of columns, and the bytes from its name on.
 #[tactic(auto, unfolding(crate::specs::Reading::before_name_at))]
-pub fn before_name(bytes: &[u8]) -> Result<(&[u8], &[u8]), Refusal>
+pub fn before_name(bytes: &[u8]) -> Result<(&[u8], &[u8]), ParseRefusal>
     ensures { Reads (λ x. (x.0.now, x.1.now)) result (before_name_at bytes.now) }
 {
     let (count, rest) = columns_of(bytes)?;
@@ -96,7 +96,7 @@ pub fn before_name(bytes: &[u8]) -> Result<(&[u8], &[u8]), Refusal>
 
 /// A header behind its `T`, where it stands.
 #[tactic(auto, unfolding(crate::specs::Reading::header_at, crate::specs::Reading::before_name_at))]
-pub fn header_of(bytes: &[u8]) -> Result<(ShapeRef, &[u8]), Refusal>
+pub fn header_of(bytes: &[u8]) -> Result<(ShapeRef, &[u8]), ParseRefusal>
     ensures { Reads (λ x. (shape_seen x.0, x.1.now)) result (header_at bytes.now) }
 {
     let (flags, rest) = before_name(bytes)?;

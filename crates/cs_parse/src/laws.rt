@@ -7,8 +7,8 @@ ghost use Rattle.cs_model.specs.Text.{Spells};
 ghost use Rattle.cs_parse.specs.declared.fault.ParseFault.{ParseFault};
 ghost use Rattle.cs_parse.specs.Answer.{HasChangeset, HasFault};
 ghost use Rattle.cs_parse.specs.Fault.{IsFault};
-ghost use Rattle.cs_parse.specs.Pieces.{fault_in, offset_of, IsLasting, joined, kept};
-ghost use Rattle.cs_parse.specs.Progress.{nothing, advanced, ended, progress_of};
+ghost use Rattle.cs_parse.specs.Pieces.{fault_in, offset_of, IsLasting, joined_pieces, text_kept};
+ghost use Rattle.cs_parse.specs.Progress.{nothing, advanced, answer_at_end, progress_of};
 ghost use Rattle.cs_parse.specs.Reading.{answer_of};
 
 /// What reading a text gives is what the text spells.
@@ -30,8 +30,8 @@ pub fn every_text()
 
 /// However a text was cut into pieces, the bytes kept of them are answered as the whole text is.
 pub fn pieces_are_joined()
-    ensures { (pieces : List (List ℕ)) → AreBytes (joined pieces)
-        → answer_of (kept [] pieces) ≡ answer_of (joined pieces) }
+    ensures { (pieces : List (List ℕ)) → AreBytes (joined_pieces pieces)
+        → answer_of (text_kept [] pieces) ≡ answer_of (joined_pieces pieces) }
 {}
 
 /// The fault that feeding tells is the one of the text that no more bytes mend.
@@ -49,7 +49,7 @@ pub fn progress_goes_on()
 
 /// How far a text is read tells what reading it answers, the fault that no more bytes mend, and how many bytes are taken.
 pub fn progress_tells()
-    ensures answer { (text : List ℕ) → AreBytes text → ended (progress_of text) ≡ answer_of text }
+    ensures answer { (text : List ℕ) → AreBytes text → answer_at_end (progress_of text) ≡ answer_of text }
     ensures fault { (text : List ℕ) → AreBytes text
         → (progress_of text).fault ≡ fault_in text }
     ensures offset { (text : List ℕ) → AreBytes text

@@ -7,7 +7,7 @@ ghost use Rattle.cs_parse.specs.Spot.{InName, IsSpot, IsHeaderSpot, StaysHeader}
 
 use crate::header::{before_name, first_zero};
 use crate::spot::Spot;
-use crate::stop::Refusal;
+use crate::stop::ParseRefusal;
 
 // Goes on in a header's name, of which so many bytes were looked at.
 fn name_spot(bytes: &[u8], at: usize, letters: usize) -> Option<Spot>
@@ -41,8 +41,8 @@ fn first_name(bytes: &[u8]) -> Option<Spot>
     }
     match before_name(rest) {
         Ok((_, name)) => name_spot(bytes, bytes.len() - name.len(), 0),
-        Err(Refusal::Short) => Some(Spot::Start),
-        Err(Refusal::Bad { .. }) => None,
+        Err(ParseRefusal::Short) => Some(Spot::Start),
+        Err(ParseRefusal::Bad { .. }) => None,
     }
 }
 

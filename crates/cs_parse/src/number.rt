@@ -3,10 +3,10 @@
 ghost use Rattle.std.specs.Prelude.{◌≡◌, ◌≤◌, ◌*◌, ◌++◌, length, nat_eq, IfOk, IsTrue};
 ghost use Rattle.cs_model.specs.Varint.{varint};
 ghost use Rattle.cs_parse.specs.Place.{factor};
-ghost use Rattle.cs_parse.specs.Reading.{Reads, within, number_at, columns_at, length_at, integer_at};
+ghost use Rattle.cs_parse.specs.Reading.{Reads, number_within, number_at, columns_at, length_at, integer_at};
 
 use crate::fault::FaultKind;
-use crate::stop::Refusal;
+use crate::stop::ParseRefusal;
 use cs_model::laws::varint_spelled;
 use cs_model::varint_strip;
 
@@ -17,11 +17,11 @@ fn limited(
     least: u64,
     most: u64,
     kind: FaultKind,
-) -> Result<(u64, &[u8]), Refusal>
-    ensures { Reads (λ x. (x.0, x.1.now)) result (within least most kind value rest.now) }
+) -> Result<(u64, &[u8]), ParseRefusal>
+    ensures { Reads (λ x. (x.0, x.1.now)) result (number_within least most kind value rest.now) }
 {
     if value < least || most < value {
-        return Err(Refusal::Bad {
+        return Err(ParseRefusal::Bad {
             left: rest.len() + 1,
             kind,
         });
@@ -31,7 +31,7 @@ fn limited(
 
 // A varint from `least` to `most`. It is refused at the first byte after which no number within the limits can
 // come, so that a hostile number is never read to its end.
-fn number_of(bytes: &[u8], least: u64, most: u64, kind: FaultKind) -> Result<(u64, &[u8]), Refusal>
+fn number_of(bytes: &[u8], least: u64, most: u64, kind: FaultKind) -> Result<(u64, &[u8]), ParseRefusal>
     requires { most ≤ 16777216 }
     ensures { Reads (λ x. (x.0, x.1.now)) result (number_at least most kind 8 0 bytes.now) }
 {
@@ -39,7 +39,7 @@ fn number_of(bytes: &[u8], least: u64, most: u64, kind: FaultKind) -> Result<(u6
     let mut rest = bytes;
     for read in 0..8_usize {
         let Some((&byte, after)) = rest.split_first() else {
-            return Err(Refusal::Short);
+            return Err(ParseRefusal::Short);
         };
         if byte < 128 {
             return limited(128 * high + u64::from(byte), after, least, most, kind);
@@ -47,7 +47,7 @@ fn number_of(bytes: &[u8], least: u64, most: u64, kind: FaultKind) -> Result<(u6
         high = 128 * high + u64::from(byte - 128);
         let shift: u64 = if read == 7 { 256 } else { 128 };
         if most < shift * high {
-            return Err(Refusal::Bad {
+            return Err(ParseRefusal::Bad {
                 left: rest.len(),
                 kind,
             });
@@ -55,7 +55,7 @@ fn number_of(bytes: &[u8], least: u64, most: u64, kind: FaultKind) -> Result<(u6
         rest = after;
     }
     let Some((&byte, after)) = rest.split_first() else {
-        return Err(Refusal::Short);
+        return Err(ParseRefusal::Short);
     };
     // the ninth byte is the last, whatever it says
     limited(256 * high + u64::from(byte), after, least, most, kind)
@@ -63,7 +63,7 @@ fn number_of(bytes: &[u8], least: u64, most: u64, kind: FaultKind) -> Result<(u6
 
 /// How many columns a table has, 1 to 2,000.
 #[tactic(auto, unfolding(crate::specs::Reading::columns_at))]
-pub fn columns_of(bytes: &[u8]) -> Result<(usize, &[u8]), Refusal>
+pub fn columns_of(bytes: &[u8]) -> Result<(usize, &[u8]), ParseRefusal>
     ensures { Reads (λ x. (x.0, x.1.now)) result (columns_at bytes.now) }
 {
     let (count, rest) = number_of(bytes, 1, 2000, FaultKind::Columns)?;
@@ -72,7 +72,7 @@ pub fn columns_of(bytes: &[u8]) -> Result<(usize, &[u8]), Refusal>
 
 /// How many bytes a value has, at most 16,777,216, and whether this is spelled in the fewest bytes.
 #[inline(always)]
-pub fn length_of(bytes: &[u8]) -> Result<(usize, &[u8], bool), Refusal>
+pub fn length_of(bytes: &[u8]) -> Result<(usize, &[u8], bool), ParseRefusal>
     ensures read { Reads (λ x. (x.0, x.1.now)) result (length_at bytes.now) }
     ensures canonical { IfOk result (λ x. IsTrue x.2 → bytes.now ≡ varint x.0 ++ x.1.now) }
 {
@@ -87,7 +87,7 @@ pub fn length_of(bytes: &[u8]) -> Result<(usize, &[u8], bool), Refusal>
 
 // the same, for a length of any number of bytes
 #[tactic(auto, unfolding(crate::specs::Reading::length_at))]
-fn long_length_of(bytes: &[u8]) -> Result<(usize, &[u8], bool), Refusal>
+fn long_length_of(bytes: &[u8]) -> Result<(usize, &[u8], bool), ParseRefusal>
     ensures read { Reads (λ x. (x.0, x.1.now)) result (length_at bytes.now) }
     ensures canonical { IfOk result (λ x. IsTrue x.2 → bytes.now ≡ varint x.0 ++ x.1.now) }
 {
@@ -99,11 +99,11 @@ fn long_length_of(bytes: &[u8]) -> Result<(usize, &[u8], bool), Refusal>
 
 /// An INTEGER's eight bytes.
 #[tactic(auto, unfolding(crate::specs::Reading::integer_at))]
-pub fn integer_of(bytes: &[u8]) -> Result<(i64, &[u8]), Refusal>
+pub fn integer_of(bytes: &[u8]) -> Result<(i64, &[u8]), ParseRefusal>
     ensures { Reads (λ x. (x.0, x.1.now)) result (integer_at bytes.now) }
 {
     if bytes.len() < 8 {
-        return Err(Refusal::Short);
+        return Err(ParseRefusal::Short);
     }
     let (front, rest) = bytes.split_at(8);
     let number = i64::from_be_bytes([

@@ -7,8 +7,8 @@ ghost use Rattle.cs_parse.specs.Answer.{Shows};
 ghost use Rattle.cs_parse.specs.Fault.{IsFault};
 ghost use Rattle.cs_parse.specs.Front.{TakesIn};
 ghost use Rattle.cs_parse.specs.Lack.{HasNoZero};
-ghost use Rattle.cs_parse.specs.Pieces.{offset_of, IsLasting, TellsLasting, GoesOn};
-ghost use Rattle.cs_parse.specs.Progress.{nothing, broken, advanced, ended, progress_of, Fed, Took, Takes};
+ghost use Rattle.cs_parse.specs.Pieces.{offset_of, IsLasting, ReportsLasting, IsFaultless};
+ghost use Rattle.cs_parse.specs.Progress.{nothing, broken, advanced, answer_at_end, progress_of, FeedAnswers, Took, TakesPiece};
 ghost use Rattle.cs_parse.specs.Reading.{answer_of};
 ghost use Rattle.cs_parse.specs.declared.fault.ParseFault.{ParseFault};
 
@@ -88,16 +88,16 @@ impl PieceParser {
     /// behind a fault.
     pub fn feed(&mut self, alloc: Global, piece: &[u8]) -> Result<(), ParseError>
         // The piece is read behind what was read before, unless the text has a fault that lasts or memory runs out.
-        ensures fed { Fed result self.old piece.now self.new }
+        ensures fed { FeedAnswers result self.old piece.now self.new }
         // What is told is the fault of the text, and no more bytes mend it.
         ensures told { (text : List ℕ) → Took self.old text
-            → IfErr result (λ error. TellsLasting error (text ++ piece.now)) }
+            → IfErr result (λ error. ReportsLasting error (text ++ piece.now)) }
         // Where none is told, the text goes on.
         ensures going { (text : List ℕ) → Took self.old text
-            → OnOk result (GoesOn (text ++ piece.now)) }
+            → OnOk result (IsFaultless (text ++ piece.now)) }
         // The text is taken with the piece, behind a fault too; where memory runs out it is taken alone.
         ensures taken { (text : List ℕ) → Took self.old text
-            → Takes result text piece.now self.new }
+            → TakesPiece result text piece.now self.new }
         // A fault that was told before is told again.
         ensures again { (text : List ℕ) (fault : ParseFault) → Took self.old text
             → IsLasting text fault → result ≡ Err (ParseError.Fault fault) }
@@ -112,7 +112,7 @@ impl PieceParser {
     // wait, and so are those of a name; that is all that most calls do where pieces are short.
     #[inline(always)]
     fn fed(&mut self, alloc: Global, piece: &[u8]) -> Result<(), ParseError>
-        ensures fed { Fed result self.old piece.now self.new }
+        ensures fed { FeedAnswers result self.old piece.now self.new }
         ensures again { (fault : ParseFault) → self.old.fault ≡ Some fault
             → result ≡ Err (ParseError.Fault fault) }
     {
@@ -128,7 +128,7 @@ impl PieceParser {
     // the same, where the bytes are looked at
     #[tactic(auto, unfolding(crate::specs::Progress::advanced))]
     fn read_in(&mut self, alloc: Global, piece: &[u8]) -> Result<(), ParseError>
-        ensures fed { Fed result self.old piece.now self.new }
+        ensures fed { FeedAnswers result self.old piece.now self.new }
         ensures again { (fault : ParseFault) → self.old.fault ≡ Some fault
             → result ≡ Err (ParseError.Fault fault) }
     {
@@ -205,14 +205,14 @@ impl PieceParser {
             → IfOk result (λ changeset. Spells text changeset.now) }
         ensures faulty { (text : List ℕ) → Took self.now text
             → IfErr result (λ fault. IsFault text fault) }
-        ensures exact { Shows result (ended self.now) }
+        ensures exact { Shows result (answer_at_end self.now) }
     {
         self.finished()
     }
 
     // the same, as the answer is determined by the progress
     fn finished(&self) -> Result<&Changeset, ParseFault>
-        ensures { Shows result (ended self.now) }
+        ensures { Shows result (answer_at_end self.now) }
     {
         if let Some(fault) = self.fault {
             return Err(fault);
@@ -228,8 +228,8 @@ impl PieceParser {
 
     /// The changeset that `finish` shows, without a copy. The parser is left as a new one.
     pub fn take(&mut self, alloc: Global) -> Changeset
-        requires { IsOk (ended self.old) }
-        ensures changeset { ended self.old ≡ Ok result }
+        requires { IsOk (answer_at_end self.old) }
+        ensures changeset { answer_at_end self.old ≡ Ok result }
         ensures text { (text : List ℕ) → Took self.old text → Spells text result }
         ensures new { self.new ≡ nothing }
     {
@@ -238,8 +238,8 @@ impl PieceParser {
 
     // the same, as the answer is determined by the progress
     fn taken(&mut self, alloc: Global) -> Changeset
-        requires { IsOk (ended self.old) }
-        ensures changeset { ended self.old ≡ Ok result }
+        requires { IsOk (answer_at_end self.old) }
+        ensures changeset { answer_at_end self.old ≡ Ok result }
         ensures new { self.new ≡ nothing }
     {
         let parser = mem::replace(self, PieceParser::new(alloc));
@@ -249,7 +249,7 @@ impl PieceParser {
 
     /// What `finish` shows, as the parser's end: the changeset without a copy.
     pub fn into_changeset(self) -> Result<Changeset, ParseFault>
-        ensures changeset { result ≡ ended self }
+        ensures changeset { result ≡ answer_at_end self }
         ensures text { (text : List ℕ) → Took self text → result ≡ answer_of text }
     {
         self.into_ended()
@@ -257,7 +257,7 @@ impl PieceParser {
 
     // the same, as the answer is determined by the progress
     fn into_ended(self) -> Result<Changeset, ParseFault>
-        ensures { result ≡ ended self }
+        ensures { result ≡ answer_at_end self }
     {
         if let Err(fault) = self.finish() {
             return Err(fault);

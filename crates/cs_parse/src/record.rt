@@ -6,14 +6,14 @@ ghost use Rattle.cs_model.specs.Packed.{packed};
 ghost use Rattle.cs_model.specs.declared.value.Field.{Field};
 ghost use Rattle.cs_model.specs.Rule.{old_rule, new_rules};
 ghost use Rattle.cs_parse.specs.Canonical.{IsCanonical, both_packed};
-ghost use Rattle.cs_parse.specs.Count.{behind};
+ghost use Rattle.cs_parse.specs.Count.{bytes_after};
 ghost use Rattle.cs_parse.specs.FieldRules.{rule_of, column_rule};
 ghost use Rattle.cs_parse.specs.Reading.{Reads, record_at, records_at};
 
 use crate::canonical::both;
 use crate::field::field_in;
 use crate::rule::{FieldRule, rule_by_flag, rule_by_old};
-use crate::stop::Refusal;
+use crate::stop::ParseRefusal;
 use cs_model::Op;
 
 // The bytes behind a record, where the columns outside the key have this rule, and whether its own are the canonical ones.
@@ -22,9 +22,9 @@ fn skip_record<'a>(
     outside: FieldRule,
     flags: &[u8],
     bytes: &'a [u8],
-) -> Result<(&'a [u8], bool), Refusal>
+) -> Result<(&'a [u8], bool), ParseRefusal>
     ensures read { Reads (λ x. x.0.now) result
-        (behind (record_at (map (column_rule (rule_of outside)) flags.now) bytes.now)) }
+        (bytes_after (record_at (map (column_rule (rule_of outside)) flags.now) bytes.now)) }
     ensures canonical { IfOk result (λ x. IsTrue x.1 → IsCanonical packed bytes.now
         (record_at (map (column_rule (rule_of outside)) flags.now) bytes.now)) }
 {
@@ -40,11 +40,11 @@ fn skip_record<'a>(
 
 // The same of an UPDATE's new record. Its rules come from the old one, which begins at `old` and is read again, field by
 // field beside the new one.
-fn skip_new<'a>(flags: &[u8], old: &[u8], bytes: &'a [u8]) -> Result<(&'a [u8], bool), Refusal>
+fn skip_new<'a>(flags: &[u8], old: &[u8], bytes: &'a [u8]) -> Result<(&'a [u8], bool), ParseRefusal>
     ensures read { (before : List Field) (left : List ℕ)
         → record_at (map old_rule flags.now) old.now ≡ Ok (before, left)
         → Reads (λ x. x.0.now) result
-        (behind (record_at (new_rules flags.now before) bytes.now)) }
+        (bytes_after (record_at (new_rules flags.now before) bytes.now)) }
     ensures canonical { (before : List Field) (left : List ℕ)
         → record_at (map old_rule flags.now) old.now ≡ Ok (before, left)
         → IfOk result (λ x. IsTrue x.1 → IsCanonical packed bytes.now
@@ -66,8 +66,8 @@ fn skip_new<'a>(flags: &[u8], old: &[u8], bytes: &'a [u8]) -> Result<(&'a [u8], 
 /// The bytes behind a change's records, of which an INSERT has no old one and a DELETE no new one, and whether their own are
 /// the canonical ones.
 #[tactic(auto, unfolding(crate::specs::Reading::records_at))]
-pub fn skip_records<'a>(flags: &[u8], op: Op, bytes: &'a [u8]) -> Result<(&'a [u8], bool), Refusal>
-    ensures read { Reads (λ x. x.0.now) result (behind (records_at flags.now op bytes.now)) }
+pub fn skip_records<'a>(flags: &[u8], op: Op, bytes: &'a [u8]) -> Result<(&'a [u8], bool), ParseRefusal>
+    ensures read { Reads (λ x. x.0.now) result (bytes_after (records_at flags.now op bytes.now)) }
     ensures canonical { IfOk result (λ x. IsTrue x.1
         → IsCanonical both_packed bytes.now (records_at flags.now op bytes.now)) }
 {

@@ -3,8 +3,8 @@
 ghost use Rattle.std.specs.Prelude.{◌≡◌, ◌≤◌, ◌+◌, ◌++◌, take, drop, length, IfOk, OnOk, OnErr};
 ghost use Rattle.std.specs.List.{AllByRecursion};
 ghost use Rattle.cs_model.specs.PackedChanges.{changes_bytes, Fit, unpacked_changes};
-ghost use Rattle.cs_parse.specs.Front.{Joins};
-ghost use Rattle.cs_parse.specs.Growing.{Settled};
+ghost use Rattle.cs_parse.specs.Front.{JoinsSection};
+ghost use Rattle.cs_parse.specs.Growing.{SettledBytes};
 ghost use Rattle.cs_parse.specs.Progress.{last_flags};
 
 use cs_model::{Changes, Section};
@@ -79,9 +79,9 @@ pub fn settle(
     canonical: bool,
 ) -> Result<usize, AllocError>
     requires inside { kept + len ≤ length bytes.old.items }
-    requires joins { Joins (last_flags sections.now) (take len (drop kept bytes.old.items)) count canonical }
+    requires joins { JoinsSection (last_flags sections.now) (take len (drop kept bytes.old.items)) count canonical }
     ensures ok { IfOk result (λ own.
-        Settled (last_flags sections.now) kept len own bytes.old.items bytes.new.items) }
+        SettledBytes (last_flags sections.now) kept len own bytes.old.items bytes.new.items) }
     ensures err { OnErr result (bytes.new.items ≡ bytes.old.items) }
 {
     if canonical {

@@ -10,18 +10,18 @@ ghost use Rattle.cs_parse.specs.Seen.{shape_seen};
 use crate::change::{changes_counted, changes_of};
 use crate::fault::FaultKind;
 use crate::header::{ShapeRef, header_of, shape_of};
-use crate::stop::Refusal;
+use crate::stop::ParseRefusal;
 use cs_model::Section;
 use std::alloc::{AllocError, Global};
 
 // A section's shape, where it stands. The section before it ends only where a `T` follows, so another first byte is the
 // text's.
 #[tactic(auto, unfolding(crate::specs::Reading::shape_at))]
-fn shape_in(bytes: &[u8]) -> Result<(ShapeRef, &[u8]), Refusal>
+fn shape_in(bytes: &[u8]) -> Result<(ShapeRef, &[u8]), ParseRefusal>
     ensures { Reads (λ x. (shape_seen x.0, x.1.now)) result (shape_at bytes.now) }
 {
     let Some((&byte, rest)) = bytes.split_first() else {
-        return Err(Refusal::Short);
+        return Err(ParseRefusal::Short);
     };
     if byte == 0x54 {
         return header_of(rest);
@@ -31,7 +31,7 @@ fn shape_in(bytes: &[u8]) -> Result<(ShapeRef, &[u8]), Refusal>
     } else {
         FaultKind::BadMarker
     };
-    Err(Refusal::Bad {
+    Err(ParseRefusal::Bad {
         left: bytes.len(),
         kind,
     })
@@ -43,7 +43,7 @@ fn next_section<'a>(
     alloc: Global,
     sections: &mut Vec<Section>,
     bytes: &'a [u8],
-) -> Result<(&'a [u8], Option<Refusal>), AllocError>
+) -> Result<(&'a [u8], Option<ParseRefusal>), AllocError>
     requires { 0 < length bytes.now }
     ensures { IfOk result (λ x. NextSection
         sections.old.items sections.new.items bytes.now x.0.now x.1) }
@@ -61,7 +61,7 @@ fn next_section<'a>(
 pub fn whole_sections(
     alloc: Global,
     bytes: &[u8],
-) -> Result<(Vec<Section>, &[u8], Option<Refusal>), AllocError>
+) -> Result<(Vec<Section>, &[u8], Option<ParseRefusal>), AllocError>
     ensures { IfOk result (λ x. read_on [] bytes.now
         ≡ record { sections = x.0.items; rest = x.1.now; why = x.2 }) }
 {
@@ -83,7 +83,7 @@ pub fn whole_sections(
 
 // how many changes the next section has, and the bytes behind it
 #[tactic(auto, unfolding(crate::specs::Reading::section_at))]
-fn section_counted(bytes: &[u8]) -> Result<(usize, &[u8]), Refusal>
+fn section_counted(bytes: &[u8]) -> Result<(usize, &[u8]), ParseRefusal>
     ensures { Reads (λ x. (x.0, x.1.now)) result
         (counted (λ section. length section.changes) (section_at bytes.now)) }
 {
@@ -93,7 +93,7 @@ fn section_counted(bytes: &[u8]) -> Result<(usize, &[u8]), Refusal>
 }
 
 /// How many changes a text has, and the bytes behind it, of which there are none.
-pub fn sections_counted(bytes: &[u8]) -> Result<(usize, &[u8]), Refusal>
+pub fn sections_counted(bytes: &[u8]) -> Result<(usize, &[u8]), ParseRefusal>
     ensures { Reads (λ x. (x.0, x.1.now)) result (counted changes_in (sections_at bytes.now)) }
 {
     let mut count: usize = 0;

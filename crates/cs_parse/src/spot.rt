@@ -9,14 +9,14 @@ ghost use Rattle.cs_model.specs.Rule.{old_rule};
 ghost use Rattle.cs_parse.specs.FieldRules.{rule_of, column_rule};
 ghost use Rattle.cs_parse.specs.Lack.{place_of, StaysAt};
 ghost use Rattle.cs_parse.specs.Reading.{record_at, change_at};
-ghost use Rattle.cs_parse.specs.Spot.{Halts, HaltsNew, IsBack, InFirst, PassedFirst, InNew, IsSpot, StaysShort};
+ghost use Rattle.cs_parse.specs.Spot.{Halts, HaltsNew, IsBack, InFirst, PassedFirst, SpotInNew, IsSpot, StaysShort};
 ghost use Rattle.cs_parse.specs.declared.spot.Spot.TheVariants.{Start, Row, Old};
-ghost use Rattle.cs_parse.specs.declared.stop.Refusal.TheVariants.{Short};
+ghost use Rattle.cs_parse.specs.declared.stop.ParseRefusal.TheVariants.{Short};
 
 use crate::field::field_in;
 use crate::lack::field_lacks;
 use crate::rule::{FieldRule, rule_by_flag, rule_by_old};
-use crate::stop::Refusal;
+use crate::stop::ParseRefusal;
 
 /// The first field of a change that isn't whole: `fields` of its record stand before it, and it begins at `at`. Of a header it is
 /// the name. Places are counted from the first byte of the change or the header.
@@ -66,8 +66,8 @@ fn pass_fields<'a>(outside: FieldRule, flags: &[u8], bytes: &'a [u8]) -> Option<
     for (passed, &flag) in flags.iter().enumerate() {
         match field_in(rule_by_flag(flag, outside), rest, true) {
             Ok((_, after, _)) => rest = after,
-            Err(Refusal::Short) => return Some((passed, rest)),
-            Err(Refusal::Bad { .. }) => return None,
+            Err(ParseRefusal::Short) => return Some((passed, rest)),
+            Err(ParseRefusal::Bad { .. }) => return None,
         }
     }
     Some((flags.len(), rest))
@@ -90,8 +90,8 @@ fn pass_new<'a>(flags: &[u8], old: &'a [u8], bytes: &'a [u8]) -> Option<(usize, 
         };
         match field_in(rule_by_old(flag, field.has_value()), rest, true) {
             Ok((_, after, _)) => rest = after,
-            Err(Refusal::Short) => return Some((passed, old_rest, rest)),
-            Err(Refusal::Bad { .. }) => return None,
+            Err(ParseRefusal::Short) => return Some((passed, old_rest, rest)),
+            Err(ParseRefusal::Bad { .. }) => return None,
         }
         old_rest = old_after;
     }
@@ -132,7 +132,7 @@ fn row_spot(flags: &[u8], bytes: &[u8], fields: usize, at: usize) -> Option<Spot
 
 // goes on in the new record of an UPDATE
 fn new_spot(flags: &[u8], bytes: &[u8], fields: usize, at: usize, old: usize) -> Option<Spot>
-    requires { InNew flags.now bytes.now fields at old }
+    requires { SpotInNew flags.now bytes.now fields at old }
     ensures { StaysShort flags.now bytes.now result }
 {
     let (_, columns) = flags.split_at(fields);

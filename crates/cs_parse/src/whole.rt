@@ -6,13 +6,13 @@ ghost use Rattle.cs_parse.specs.Fault.{IsFault};
 ghost use Rattle.cs_model.specs.Section.{Section};
 ghost use Rattle.cs_model.specs.Text.{Spells};
 ghost use Rattle.cs_model.specs.Changeset.{most_bytes};
-ghost use Rattle.cs_parse.specs.Answer.{IsRead, Answers, Tells};
-ghost use Rattle.cs_parse.specs.Count.{changes_in, counted_answer, HasChanges};
-ghost use Rattle.cs_parse.specs.Reading.{answer_of, fault_of, sections_at, placed, cut};
+ghost use Rattle.cs_parse.specs.Answer.{IsRead, ParseAnswers, ReportsFault};
+ghost use Rattle.cs_parse.specs.Count.{changes_in, counted_answer, HasChangeCount};
+ghost use Rattle.cs_parse.specs.Reading.{answer_of, fault_of, sections_at, whole_answer, overlong_answer};
 
 use crate::fault::{FaultKind, ParseError, ParseFault};
 use crate::section::{sections_counted, whole_sections};
-use crate::stop::Refusal;
+use crate::stop::ParseRefusal;
 use cs_model::{Changeset, Section, Seq};
 use std::alloc::Global;
 
@@ -20,16 +20,16 @@ use std::alloc::Global;
 pub const MOST_BYTES: usize = 16_777_216;
 
 // The fault of a text of which the first `len` bytes are read, and what it is when they end too early.
-fn fault_from(refusal: Refusal, len: usize, ended: FaultKind) -> ParseFault
+fn fault_from(refusal: ParseRefusal, len: usize, ended: FaultKind) -> ParseFault
     ensures { result ≡ fault_of len ended refusal }
 {
     match refusal {
-        Refusal::Short => ParseFault {
+        ParseRefusal::Short => ParseFault {
             at: len,
             kind: ended,
         },
         // the byte stands in the text, so that no more bytes are left than it has
-        Refusal::Bad { left, kind } => ParseFault {
+        ParseRefusal::Bad { left, kind } => ParseFault {
             at: len.saturating_sub(left),
             kind,
         },
@@ -38,7 +38,7 @@ fn fault_from(refusal: Refusal, len: usize, ended: FaultKind) -> ParseFault
 
 // the sections of a text that isn't too long
 fn whole_of(alloc: Global, text: &[u8]) -> Result<Seq<Section>, ParseError>
-    ensures { Answers result (placed (length text.now) (sections_at text.now)) }
+    ensures { ParseAnswers result (whole_answer (length text.now) (sections_at text.now)) }
 {
     match whole_sections(alloc, text) {
         Ok((sections, _, None)) => Ok(Seq::from_vec(sections)),
@@ -53,7 +53,7 @@ fn whole_of(alloc: Global, text: &[u8]) -> Result<Seq<Section>, ParseError>
 
 // What is told where memory runs out: a fault is found without any.
 fn unbuilt(text: &[u8]) -> ParseError
-    ensures { Answers (Err result) (placed (length text.now) (sections_at text.now)) }
+    ensures { ParseAnswers (Err result) (whole_answer (length text.now) (sections_at text.now)) }
 {
     match sections_counted(text) {
         Ok(_) => ParseError::Memory,
@@ -63,10 +63,10 @@ fn unbuilt(text: &[u8]) -> ParseError
 
 // what is wrong with a text that is too long and begins so
 fn cut_of(front: &[u8]) -> ParseFault
-    ensures { cut (length front.now) (sections_at front.now) ≡ Err result }
+    ensures { overlong_answer (length front.now) (sections_at front.now) ≡ Err result }
 {
     let refusal = match sections_counted(front) {
-        Ok(_) => Refusal::Short,
+        Ok(_) => ParseRefusal::Short,
         Err(refusal) => refusal,
     };
     fault_from(refusal, front.len(), FaultKind::TooLong)
@@ -75,7 +75,7 @@ fn cut_of(front: &[u8]) -> ParseFault
 // the sections of a text
 #[tactic(auto, unfolding(crate::specs::Reading::answer_of))]
 fn read(alloc: Global, text: &[u8]) -> Result<Seq<Section>, ParseError>
-    ensures { Answers result (answer_of text.now) }
+    ensures { ParseAnswers result (answer_of text.now) }
 {
     if text.len() > MOST_BYTES {
         return Err(ParseError::Fault(cut_of(&text[..MOST_BYTES])));
@@ -94,12 +94,12 @@ pub fn parse(alloc: Global, text: &[u8]) -> Result<Changeset, ParseError>
     ensures only { (changeset : List Section) → Spells text.now changeset
         → IsRead result changeset }
     // What is told is the text's fault; or memory ran out, and the text spells a changeset.
-    ensures faulty { IfErr result (λ error. Tells error text.now) }
+    ensures faulty { IfErr result (λ error. ReportsFault error text.now) }
     // The text's fault is told, whether there is memory or not.
     ensures the_fault { (fault : ParseFault) → IsFault text.now fault
         → result ≡ Err (ParseError.Fault fault) }
     // And the answer is determined by the text.
-    ensures exact { Answers result (answer_of text.now) }
+    ensures exact { ParseAnswers result (answer_of text.now) }
 {
     let sections = read(alloc, text)?;
     Ok(Changeset::from_seq(sections))
@@ -123,7 +123,7 @@ fn counted(text: &[u8]) -> Result<usize, ParseFault>
 /// read where it stands and left behind: the way to check a text of which nothing is kept.
 pub fn count_changes(text: &[u8]) -> Result<usize, ParseFault>
     // What is counted is spelled so.
-    ensures found { IfOk result (λ count. HasChanges text.now count) }
+    ensures found { IfOk result (λ count. HasChangeCount text.now count) }
     // What is spelled so is counted.
     ensures only { (changeset : List Section) → Spells text.now changeset
         → result ≡ Ok (changes_in changeset) }

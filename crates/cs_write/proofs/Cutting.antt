@@ -27,33 +27,33 @@ cut_more max text piece rest (next ∷ more) some off cut =
     (omega (arith, off.size, ap length off.parts, length-append piece rest, cut_has max rest next more some cut), (rest, off.parts, cut))
 
 -- every text can be cut
-cut_within : (fuel max : ℕ) (text : List ℕ) → 0 < max → length text ≤ fuel → (pieces : List (List ℕ)) × IsCut max text pieces
-cut_within fuel max [] some fits = ([], refl)
-cut_within zero max (byte ∷ text) some fits = absurd (omega (arith, fits))
-cut_within (suc fuel) max (byte ∷ text) some fits =
+cutting_cut_within : (fuel max : ℕ) (text : List ℕ) → 0 < max → length text ≤ fuel → (pieces : List (List ℕ)) × IsCut max text pieces
+cutting_cut_within fuel max [] some fits = ([], refl)
+cutting_cut_within zero max (byte ∷ text) some fits = absurd (omega (arith, fits))
+cutting_cut_within (suc fuel) max (byte ∷ text) some fits =
     let whole = byte ∷ text in
     let piece = take max whole in
     let rest = drop max whole in
-    let more = cut_within fuel max rest some (omega (arith, fits, length-drop max whole)) in
+    let more = cutting_cut_within fuel max rest some (omega (arith, fits, length-drop max whole)) in
     let off : CutOff max whole piece rest = record { parts = sym (take-append-drop max whole); size = length-take max whole; some = omega arith } in
     (piece ∷ more.0, cut_more max whole piece rest more.0 some off more.1)
 
 -- The pieces in front were taken, and whatever cuts the rest cuts the whole text behind them.
-pub record Progress (max : ℕ) (whole rest : List ℕ) (taken_old taken_new failed_old failed_new : List (List ℕ)) : Type 0 where
+pub record CuttingProgress (max : ℕ) (whole rest : List ℕ) (taken_old taken_new failed_old failed_new : List (List ℕ)) : Type 0 where
   pub front : List (List ℕ)
   pub taken : taken_new ≡ taken_old ++ front
   pub failed : failed_new ≡ failed_old
   pub cuts : (back : List (List ℕ)) → IsCut max rest back → IsCut max whole (front ++ back)
 
-pub begins : {max : ℕ} {whole rest : List ℕ} {taken failed : List (List ℕ)} → rest ≡ whole → Progress max whole rest taken taken failed failed
+pub begins : {max : ℕ} {whole rest : List ℕ} {taken failed : List (List ℕ)} → rest ≡ whole → CuttingProgress max whole rest taken taken failed failed
 begins {max} {taken = taken} is = record { front = []; taken = sym (append-nil taken); failed = refl; cuts = λ back cut. subst (λ t. IsCut max t back) is cut }
 
 -- a piece more is taken
-pub goes_on : {max : ℕ} {whole text piece rest : List ℕ} {taken_old taken taken_new failed_old failed failed_new : List (List ℕ)} → 0 < max
-    → Progress max whole text taken_old taken failed_old failed → CutOff max text piece rest
+pub cutting_goes_on : {max : ℕ} {whole text piece rest : List ℕ} {taken_old taken taken_new failed_old failed failed_new : List (List ℕ)} → 0 < max
+    → CuttingProgress max whole text taken_old taken failed_old failed → CutOff max text piece rest
     → taken_new ≡ taken ++ piece ∷ [] → failed_new ≡ failed
-    → Progress max whole rest taken_old taken_new failed_old failed_new
-goes_on {max} {whole} {text} {piece} {rest} {taken_old} some h off takes same = record {
+    → CuttingProgress max whole rest taken_old taken_new failed_old failed_new
+cutting_goes_on {max} {whole} {text} {piece} {rest} {taken_old} some h off takes same = record {
   front = h.front ++ piece ∷ [];
   taken = takes ∙ ap (λ (l : List (List ℕ)). l ++ piece ∷ []) h.taken ∙ append_assoc taken_old h.front (piece ∷ []);
   failed = same ∙ h.failed;
@@ -62,7 +62,7 @@ goes_on {max} {whole} {text} {piece} {rest} {taken_old} some h off takes same = 
 
 -- nothing is left
 pub ends : {max : ℕ} {whole rest : List ℕ} {taken_old taken_new failed_old failed_new : List (List ℕ)}
-    → Progress max whole rest taken_old taken_new failed_old failed_new → rest ≡ []
+    → CuttingProgress max whole rest taken_old taken_new failed_old failed_new → rest ≡ []
     → TakesAll max whole taken_old taken_new failed_old failed_new
 ends {max} {whole} h none = record {
   pieces = h.front;
@@ -73,11 +73,11 @@ ends {max} {whole} h none = record {
 
 -- a piece fails
 pub stops : {max : ℕ} {whole text piece rest : List ℕ} {taken_old taken taken_new failed_old failed failed_new : List (List ℕ)} → 0 < max
-    → Progress max whole text taken_old taken failed_old failed → CutOff max text piece rest
+    → CuttingProgress max whole text taken_old taken failed_old failed → CutOff max text piece rest
     → taken_new ≡ taken → failed_new ≡ failed ++ piece ∷ []
     → FailsAt max whole taken_old taken_new failed_old failed_new
 stops {max} {whole} {text} {piece} {rest} some h off same fails =
-    let more = cut_within (length rest) max rest some (omega arith) in
+    let more = cutting_cut_within (length rest) max rest some (omega arith) in
     record {
       front = h.front;
       piece = piece;

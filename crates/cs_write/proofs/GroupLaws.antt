@@ -49,19 +49,19 @@ unfound (Some x) h = absurd (false≢true (sym h))
 
 -- ---- in the list
 
-with_more : (shape : Shape) (sections : List Section) (x : Section) → same_shape x.shape shape ≡ true → with_shape shape (sections ++ x ∷ []) ≡ with_shape shape sections ++ x ∷ []
-with_more shape sections x hit = filter-append (λ s. same_shape s.shape shape) sections (x ∷ []) ∙ ap (λ b. with_shape shape sections ++ cond b (x ∷ []) []) hit
+group_with_more : (shape : Shape) (sections : List Section) (x : Section) → same_shape x.shape shape ≡ true → with_shape shape (sections ++ x ∷ []) ≡ with_shape shape sections ++ x ∷ []
+group_with_more shape sections x hit = filter-append (λ s. same_shape s.shape shape) sections (x ∷ []) ∙ ap (λ b. with_shape shape sections ++ cond b (x ∷ []) []) hit
 
 with_same : (shape : Shape) (sections : List Section) (x : Section) → same_shape x.shape shape ≡ false → with_shape shape (sections ++ x ∷ []) ≡ with_shape shape sections
 with_same shape sections x other = filter-append (λ s. same_shape s.shape shape) sections (x ∷ []) ∙ ap (λ b. with_shape shape sections ++ cond b (x ∷ []) []) other ∙ append-nil (with_shape shape sections)
 
 -- how the list begins
-abbrev pub begun : Bool → List Shape → Section → List Section → List Group
-begun b earlier s ss = cond b (by_shape earlier ss) ((s.shape, s ∷ with_shape s.shape ss) ∷ by_shape (s.shape ∷ earlier) ss)
+abbrev pub group_begun : Bool → List Shape → Section → List Section → List Group
+group_begun b earlier s ss = cond b (by_shape earlier ss) ((s.shape, s ∷ with_shape s.shape ss) ∷ by_shape (s.shape ∷ earlier) ss)
 
-pub by_shape-cons : (earlier : List Shape) (s : Section) (ss : List Section) (b : Bool) → has_shape earlier s.shape ≡ b → by_shape earlier (s ∷ ss) ≡ begun b earlier s ss
+pub by_shape-cons : (earlier : List Shape) (s : Section) (ss : List Section) (b : Bool) → has_shape earlier s.shape ≡ b → by_shape earlier (s ∷ ss) ≡ group_begun b earlier s ss
 unfolding by_shape
-by_shape-cons earlier s ss b h = ap (λ w. begun w earlier s ss) h
+by_shape-cons earlier s ss b h = ap (λ w. group_begun w earlier s ss) h
 
 -- a section whose shape stood earlier adds nothing
 by_shape-old : (earlier : List Shape) (ss : List Section) (x : Section) → has_shape earlier x.shape ≡ true → by_shape earlier (ss ++ x ∷ []) ≡ by_shape earlier ss
@@ -79,10 +79,10 @@ by_shape-old earlier (s ∷ ss) x h =
           ∙ sym (by_shape-cons earlier s ss false fresh)
     ]
 
-abbrev joins : Bool → Group → List Group → Section → List Group
-joins b group groups x = cond b ((group.0, group.1 ++ x ∷ []) ∷ groups) (group ∷ added groups x)
+abbrev group_joins : Bool → Group → List Group → Section → List Group
+group_joins b group groups x = cond b ((group.0, group.1 ++ x ∷ []) ∷ groups) (group ∷ added groups x)
 
-only : (earlier : List Shape) (x : Section) → begun false earlier x [] ≡ added (by_shape earlier []) x
+only : (earlier : List Shape) (x : Section) → group_begun false earlier x [] ≡ added (by_shape earlier []) x
 unfolding by_shape
 only earlier x = refl
 
@@ -95,13 +95,13 @@ by_shape-more earlier (s ∷ ss) x h =
       | inr fresh ↦ elim (cases_Bool (same_shape x.shape s.shape)) [
         | inl hit ↦
             by_shape-cons earlier s (ss ++ x ∷ []) false fresh
-            ∙ (λ i. (s.shape, s ∷ with_more s.shape ss x hit i) ∷ by_shape-old (s.shape ∷ earlier) ss x (or_left (same_shape s.shape x.shape) (has_shape earlier x.shape) (flip x.shape s.shape true hit)) i)
-            ∙ ap (λ b. joins b (s.shape, s ∷ with_shape s.shape ss) (by_shape (s.shape ∷ earlier) ss) x) (sym hit)
+            ∙ (λ i. (s.shape, s ∷ group_with_more s.shape ss x hit i) ∷ by_shape-old (s.shape ∷ earlier) ss x (or_left (same_shape s.shape x.shape) (has_shape earlier x.shape) (flip x.shape s.shape true hit)) i)
+            ∙ ap (λ b. group_joins b (s.shape, s ∷ with_shape s.shape ss) (by_shape (s.shape ∷ earlier) ss) x) (sym hit)
             ∙ ap (λ g. added g x) (sym (by_shape-cons earlier s ss false fresh))
         | inr other ↦
             by_shape-cons earlier s (ss ++ x ∷ []) false fresh
             ∙ (λ i. (s.shape, s ∷ with_same s.shape ss x other i) ∷ by_shape-more (s.shape ∷ earlier) ss x (or_from (same_shape s.shape x.shape) (has_shape earlier x.shape) (flip x.shape s.shape false other) h) i)
-            ∙ ap (λ b. joins b (s.shape, s ∷ with_shape s.shape ss) (by_shape (s.shape ∷ earlier) ss) x) (sym other)
+            ∙ ap (λ b. group_joins b (s.shape, s ∷ with_shape s.shape ss) (by_shape (s.shape ∷ earlier) ss) x) (sym other)
             ∙ ap (λ g. added g x) (sym (by_shape-cons earlier s ss false fresh))
       ]
     ]

@@ -34,18 +34,18 @@ checked m n k None h is = elim (held-cases k).1 [
 ]
 
 -- so much of a length was counted that the rest makes it whole
-pub record Counted (len : Option ℕ) (rest whole : ℕ) : Type 0 where
+pub record HeldCounted (len : Option ℕ) (rest whole : ℕ) : Type 0 where
   pub front : ℕ
   pub is_front : len ≡ held front
   pub parts : front + rest ≡ whole
 
-pub begins : (rest whole : ℕ) → rest ≡ whole → Counted (Some 0) rest whole
-begins rest whole is = record { front = 0; is_front = held-small 0 (omega arith); parts = omega (arith, is) }
+pub held_begins : (rest whole : ℕ) → rest ≡ whole → HeldCounted (Some 0) rest whole
+held_begins rest whole is = record { front = 0; is_front = held-small 0 (omega arith); parts = omega (arith, is) }
 
-pub ends : (len : Option ℕ) (rest whole : ℕ) → rest ≡ 0 → Counted len rest whole → len ≡ held whole
-ends len rest whole none h = h.is_front ∙ ap held (omega (arith, h.parts, none))
+pub held_ends : (len : Option ℕ) (rest whole : ℕ) → rest ≡ 0 → HeldCounted len rest whole → len ≡ held whole
+held_ends len rest whole none h = h.is_front ∙ ap held (omega (arith, h.parts, none))
 
 -- a part more
-pub goes_on : (len part next : Option ℕ) (n before rest whole : ℕ) → ((m k : ℕ) → len ≡ held m → part ≡ held k → next ≡ held (m + k)) → part ≡ held n → Counted len before whole → before ≡ n + rest → Counted next rest whole
-goes_on len part next n before rest whole together is_part h split =
+pub held_goes_on : (len part next : Option ℕ) (n before rest whole : ℕ) → ((m k : ℕ) → len ≡ held m → part ≡ held k → next ≡ held (m + k)) → part ≡ held n → HeldCounted len before whole → before ≡ n + rest → HeldCounted next rest whole
+held_goes_on len part next n before rest whole together is_part h split =
     record { front = h.front + n; is_front = together h.front n h.is_front is_part; parts = omega (arith, h.parts, split) }

@@ -35,14 +35,14 @@ pub two : (at next : ℕ) (a b out between after : List ℕ) → at + length a �
 two at next a b out between after room is_next is_between is_after = is_after ∙ (λ i. laid (is_next i) b (is_between i)) ∙ laid_more at a b out room
 
 -- So much of a text was laid that the rest, laid behind it, makes it whole.
-pub record Laid (at : ℕ) (rest out : List ℕ) (start : ℕ) (whole before : List ℕ) : Type 0 where
+pub record LayingLaid (at : ℕ) (rest out : List ℕ) (start : ℕ) (whole before : List ℕ) : Type 0 where
   pub end : at + length rest ≡ start + length whole
   pub size : length out ≡ length before
   pub same : laid at rest out ≡ laid start whole before
 
 -- a text more
-pub goes_on : (at next : ℕ) (text both rest out after : List ℕ) (start : ℕ) (whole before : List ℕ) → start + length whole ≤ length before → next ≡ at + length text → after ≡ laid at text out → Laid at both out start whole before → both ≡ text ++ rest → Laid next rest after start whole before
-goes_on at next text both rest out after start whole before room is_next is_after h parts =
+pub laying_goes_on : (at next : ℕ) (text both rest out after : List ℕ) (start : ℕ) (whole before : List ℕ) → start + length whole ≤ length before → next ≡ at + length text → after ≡ laid at text out → LayingLaid at both out start whole before → both ≡ text ++ rest → LayingLaid next rest after start whole before
+laying_goes_on at next text both rest out after start whole before room is_next is_after h parts =
     let long = ap length parts ∙ length-append text rest in
     let within : at + length text ≤ length out = omega (arith, room, h.end, h.size, long) in
     record {
@@ -51,5 +51,5 @@ goes_on at next text both rest out after start whole before room is_next is_afte
       same = (λ i. laid (is_next i) rest (is_after i)) ∙ laid_more at text rest out within ∙ ap (λ t. laid at t out) (sym parts) ∙ h.same;
     }
 
-pub ends : (at : ℕ) (rest out : List ℕ) (start : ℕ) (whole before : List ℕ) → rest ≡ [] → Laid at rest out start whole before → out ≡ laid start whole before
-ends at rest out start whole before none h = sym (laid_none at out) ∙ ap (λ t. laid at t out) (sym none) ∙ h.same
+pub laying_ends : (at : ℕ) (rest out : List ℕ) (start : ℕ) (whole before : List ℕ) → rest ≡ [] → LayingLaid at rest out start whole before → out ≡ laid start whole before
+laying_ends at rest out start whole before none h = sym (laid_none at out) ∙ ap (λ t. laid at t out) (sym none) ∙ h.same

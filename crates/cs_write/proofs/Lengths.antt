@@ -23,14 +23,14 @@ shorter n small =
     ∙ length-append (short_groups 8 (n / 128)) ((n % 128) ∷ []) ∙ omega arith
 
 -- a group more
-pub one_more : (k rest : ℕ) → 0 < rest → length (short_groups (suc k) rest) ≡ 1 + length (short_groups k (rest / 128))
-one_more k zero some = absurd (omega (arith, some))
-one_more k (suc rest) some = length-append (short_groups k (suc rest / 128)) ((128 + suc rest % 128) ∷ []) ∙ omega arith
+pub lengths_one_more : (k rest : ℕ) → 0 < rest → length (short_groups (suc k) rest) ≡ 1 + length (short_groups k (rest / 128))
+lengths_one_more k zero some = absurd (omega (arith, some))
+lengths_one_more k (suc rest) some = length-append (short_groups k (suc rest / 128)) ((128 + suc rest % 128) ∷ []) ∙ omega arith
 
-pub no_more : (k rest : ℕ) → rest ≡ 0 → length (short_groups k rest) ≡ 0
-no_more zero rest none = refl
-no_more (suc k) zero none = refl
-no_more (suc k) (suc rest) none = absurd (omega (arith, none))
+pub lengths_no_more : (k rest : ℕ) → rest ≡ 0 → length (short_groups k rest) ≡ 0
+lengths_no_more zero rest none = refl
+lengths_no_more (suc k) zero none = refl
+lengths_no_more (suc k) (suc rest) none = absurd (omega (arith, none))
 
 -- with so much left, a turn is left
 pub turns_left : (len rest : ℕ) → 0 < rest → len ≤ 8 → rest < 128 ^ (8 - len) → len < 8

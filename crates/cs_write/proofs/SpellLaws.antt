@@ -23,9 +23,9 @@ use Rattle.cs_write.proofs.FormLaws.{canon_fits}
 abbrev pub AreSpelled : Type 0
 AreSpelled = (n : ℕ) → n < 2 ^ 64 → IsVarint (varint n) n
 
-each : {A : Type 0} (Spelling : List ℕ → A → Type 0) (text : A → List ℕ) (P : A → Type 0) → ((x : A) → P x → Spelling (text x) x) → (xs : List A) → AllByRecursion P xs → SpellsEach Spelling (flat_map text xs) xs
-each Spelling text P one [] h = refl
-each Spelling text P one (x ∷ xs) h = (text x, flat_map text xs, refl, one x h.0, each Spelling text P one xs h.1)
+spell_each : {A : Type 0} (Spelling : List ℕ → A → Type 0) (text : A → List ℕ) (P : A → Type 0) → ((x : A) → P x → Spelling (text x) x) → (xs : List A) → AllByRecursion P xs → SpellsEach Spelling (flat_map text xs) xs
+spell_each Spelling text P one [] h = refl
+spell_each Spelling text P one (x ∷ xs) h = (text x, flat_map text xs, refl, one x h.0, spell_each Spelling text P one xs h.1)
 
 field_spelled : AreSpelled → (f : Field) → IsField f → SpellsField (field_bytes f) f
 field_spelled spelled Undefined h = refl
@@ -34,20 +34,20 @@ field_spelled spelled (Is (Text bytes)) h = (varint (length bytes) ++ bytes, ref
 field_spelled spelled (Is (Blob bytes)) h = (varint (length bytes) ++ bytes, refl, record { count = varint (length bytes); parts = refl; is_count = spelled (length bytes) (omega (arith, h)) })
 field_spelled spelled (Is Null) h = refl
 
-fields_of : (rules : List Rule) (fields : List Field) → Obeys rules fields → AllByRecursion IsField fields
-fields_of [] [] h = tt
-fields_of [] (f ∷ fields) h = absurd h
-fields_of (r ∷ rules) [] h = tt
-fields_of (r ∷ rules) (f ∷ fields) h = (h.0, fields_of rules fields h.2)
+spell_fields_of : (rules : List Rule) (fields : List Field) → Obeys rules fields → AllByRecursion IsField fields
+spell_fields_of [] [] h = tt
+spell_fields_of [] (f ∷ fields) h = absurd h
+spell_fields_of (r ∷ rules) [] h = tt
+spell_fields_of (r ∷ rules) (f ∷ fields) h = (h.0, spell_fields_of rules fields h.2)
 
-nothing : (fields : List Field) → fields ≡ [] → AllByRecursion IsField fields
-nothing [] h = tt
-nothing (f ∷ fields) h = absurd cc
+spell_nothing : (fields : List Field) → fields ≡ [] → AllByRecursion IsField fields
+spell_nothing [] h = tt
+spell_nothing (f ∷ fields) h = absurd cc
 
 records_of : (flags : List ℕ) (op : Op) (before after : List Field) → AreRecords flags op before after → AllByRecursion IsField before × AllByRecursion IsField after
-records_of flags Insert before after h = (nothing before h.0, fields_of (map row_rule flags) after h.1)
-records_of flags Update before after h = (fields_of (map old_rule flags) before h.0, fields_of (new_rules flags before) after h.1)
-records_of flags Delete before after h = (fields_of (map row_rule flags) before h.0, nothing after h.1)
+records_of flags Insert before after h = (spell_nothing before h.0, spell_fields_of (map row_rule flags) after h.1)
+records_of flags Update before after h = (spell_fields_of (map old_rule flags) before h.0, spell_fields_of (new_rules flags before) after h.1)
+records_of flags Delete before after h = (spell_fields_of (map row_rule flags) before h.0, spell_nothing after h.1)
 
 indirect_spelled : (indirect : Bool) → SpellsIndirect (mark indirect) indirect
 indirect_spelled true = λ e. absurd cc
@@ -62,8 +62,8 @@ change_spelled spelled shape change h =
       new = packed change.after;
       parts = refl;
       is_indirect = indirect_spelled change.indirect;
-      is_old = each SpellsField field_bytes IsField (field_spelled spelled) change.before records.0;
-      is_new = each SpellsField field_bytes IsField (field_spelled spelled) change.after records.1;
+      is_old = spell_each SpellsField field_bytes IsField (field_spelled spelled) change.before records.0;
+      is_new = spell_each SpellsField field_bytes IsField (field_spelled spelled) change.after records.1;
     }
 
 header_is : (a b c : List ℕ) → 84 ∷ (a ++ (b ++ (c ++ 0 ∷ []))) ≡ 84 ∷ (((a ++ b) ++ c) ++ 0 ∷ [])
@@ -76,10 +76,10 @@ section_spelled spelled section h =
       body = changes_bytes section.changes;
       parts = refl;
       is_header = record { count = varint (length section.shape.flags); parts = header_is (varint (length section.shape.flags)) section.shape.flags section.shape.name; is_count = spelled (length section.shape.flags) (omega (arith, h.0.not_more_columns)) };
-      is_body = each SpellsChange change_bytes (IsChange section.shape) (change_spelled spelled section.shape) section.changes h.1;
+      is_body = spell_each SpellsChange change_bytes (IsChange section.shape) (change_spelled spelled section.shape) section.changes h.1;
     }
 
 pub text_spelled : AreSpelled → (sections : List Section) → IsChangeset sections → length (text_of sections) ≤ most_bytes → Spells (text_of sections) (canon sections)
 text_spelled spelled sections h within =
     let valid = canon_fits sections h in
-    record { is_changeset = valid; within_limit = within; sections = each SpellsSection section_text IsSection (section_spelled spelled) (canon sections) valid }
+    record { is_changeset = valid; within_limit = within; sections = spell_each SpellsSection section_text IsSection (section_spelled spelled) (canon sections) valid }

@@ -22,8 +22,8 @@ by_shape earlier (section ∷ sections) =
     else (section.shape, section ∷ with_shape section.shape sections) ∷ by_shape (section.shape ∷ earlier) sections
 
 -- one section for a group
-abbrev pub joined : Group → Section
-joined group = record { shape = group.0; changes = all_changes group.1 }
+abbrev pub joined_section : Group → Section
+joined_section group = record { shape = group.0; changes = all_changes group.1 }
 
 abbrev pub has_changes : Section → Bool
 has_changes section = nat_lt 0 (length section.changes)
@@ -31,7 +31,7 @@ has_changes section = nat_lt 0 (length section.changes)
 -- The canonical form: one section for each shape, at the place of the first with that shape, with the changes of all
 -- of them in order; and none without changes.
 abbrev pub canon_of : List Group → List Section
-canon_of groups = filter has_changes (map joined groups)
+canon_of groups = filter has_changes (map joined_section groups)
 
 abbrev pub canon : List Section → List Section
 canon sections = canon_of (by_shape [] sections)

@@ -3,7 +3,7 @@ use Rattle.std.specs.Prelude.{ℕ, List, [], ◌∷◌, ◌++◌, length, ◌≡
 use Rattle.std.specs.List.{AllByRecursion, flat_map}
 use Rattle.cs_model.specs.Section.{Section}
 use Rattle.cs_model.specs.Schema.{same_shape}
-use Rattle.cs_write.specs.Canon.{Group, joined, has_changes}
+use Rattle.cs_write.specs.Canon.{Group, joined_section, has_changes}
 use Rattle.cs_write.specs.Text.{section_text}
 
 -- the groups with one section more: it joins that of its shape, or begins the last one
@@ -14,7 +14,7 @@ added (group ∷ groups) section =
 
 -- a group's text: nothing where it has no change
 abbrev pub group_text : Group → List ℕ
-group_text group = if has_changes (joined group) then section_text (joined group) else []
+group_text group = if has_changes (joined_section group) then section_text (joined_section group) else []
 
 abbrev pub groups_text : List Group → List ℕ
 groups_text groups = flat_map group_text groups

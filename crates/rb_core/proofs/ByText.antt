@@ -48,8 +48,8 @@ ProgressTellsFault = (text : List ℕ) → AreBytes text → (progress_of text).
 fault_took : (progress : Progress) (text : List ℕ) → Took progress text → ProgressTellsFault → progress.fault ≡ fault_in text
 fault_took progress text took tells = ap (λ p. p.fault) took.read ∙ tells text took.bytes
 
-answer_took : (progress : Progress) (text : List ℕ) → Took progress text → ProgressTells → stream.ended progress ≡ answer_of text
-answer_took progress text took tells = ap (λ p. stream.ended p) took.read ∙ tells text took.bytes
+answer_took : (progress : Progress) (text : List ℕ) → Took progress text → ProgressTells → stream.answer_at_end progress ≡ answer_of text
+answer_took progress text took tells = ap (λ p. stream.answer_at_end p) took.read ∙ tells text took.bytes
 
 -- ---- bytes come
 
@@ -96,29 +96,29 @@ pub feed_by_text : FeedingTells → ProgressGoesOn → ProgressTellsFault → (o
     → Took publisher.stream text → AreBytes bytes → outcome old (event.Feed p bytes) ≡ (given, new) → FeedsByText old p publisher text bytes given new
 unfolding outcome
 feed_by_text feeding goes tells old p bytes publisher text given new found took more is =
-    subst (Of (FeedsByText old p publisher text bytes)) is (subst (λ o. Of (FeedsByText old p publisher text bytes) (out.fed old p bytes o)) (sym found) (fed_by_text feeding goes tells old p publisher text bytes found took more))
+    subst (Of (FeedsByText old p publisher text bytes)) is (subst (λ o. Of (FeedsByText old p publisher text bytes) (out.fed_by old p bytes o)) (sym found) (fed_by_text feeding goes tells old p publisher text bytes found took more))
 
 -- ---- a stream ends
 
 abbrev IsStaged : State → ℕ → Publisher → List Section → Reply → State → Type 0
 IsStaged old p publisher changeset given new = (given ≡ reply.Staged) × (new ≡ with_publisher old p (record publisher { stream = nothing; staged = Some changeset }))
 
-abbrev Stays : State → Reply → Reply → State → Type 0
-Stays old answer given new = (given ≡ answer) × (new ≡ old)
+abbrev ByTextStays : State → Reply → Reply → State → Type 0
+ByTextStays old answer given new = (given ≡ answer) × (new ≡ old)
 
-staged_if : (old : State) (p : ℕ) (publisher : Publisher) (changeset : List Section) (first : Option SectionFault) → first ≡ None → Of (IsStaged old p publisher changeset) (out.staged old p publisher (end.admitted changeset first))
+staged_if : (old : State) (p : ℕ) (publisher : Publisher) (changeset : List Section) (first : Option SectionFault) → first ≡ None → Of (IsStaged old p publisher changeset) (out.staged_by old p publisher (end.admitted changeset first))
 staged_if old p publisher changeset None is = (refl, refl)
 staged_if old p publisher changeset (Some fault) is = absurd (let none : Some fault ≡ None = is in cc)
 
 refused_if : (old : State) (p : ℕ) (publisher : Publisher) (changeset : List Section) (first : Option SectionFault) (fault : SectionFault) → first ≡ Some fault
-    → Of (Stays old (reply.Refused (fault_refusal fault))) (out.staged old p publisher (end.admitted changeset first))
+    → Of (ByTextStays old (reply.Refused (fault_refusal fault))) (out.staged_by old p publisher (end.admitted changeset first))
 refused_if old p publisher changeset None fault is = absurd (let some : None ≡ Some fault = is in cc)
 refused_if old p publisher changeset (Some first) fault is =
     let same : first ≡ fault = cc is in
     (ap (λ f. reply.Refused (fault_refusal f)) same, refl)
 
-answered_by_text : ReadingIsSpelling → RefusingIsFault → ProgressTells → (old : State) (p : ℕ) (publisher : Publisher) (text : List ℕ) (answer : Result (List Section) ParseFault) → stream.ended publisher.stream ≡ answer
-    → Took publisher.stream text → Of (EndsByText old p publisher text) (out.staged old p publisher (end.end_of old.schema answer))
+answered_by_text : ReadingIsSpelling → RefusingIsFault → ProgressTells → (old : State) (p : ℕ) (publisher : Publisher) (text : List ℕ) (answer : Result (List Section) ParseFault) → stream.answer_at_end publisher.stream ≡ answer
+    → Took publisher.stream text → Of (EndsByText old p publisher text) (out.staged_by old p publisher (end.admitted_answer old.schema answer))
 answered_by_text reading refusing tells old p publisher text (Ok changeset) is took =
     let read : Ok changeset ≡ answer_of text = sym is ∙ answer_took publisher.stream text took tells in
     let first = refusal_of old.schema changeset in
@@ -126,7 +126,7 @@ answered_by_text reading refusing tells old p publisher text (Ok changeset) is t
     record {
       stages = λ other spells none.
           let same = one other spells in
-          subst (λ (x : List Section). Of (IsStaged old p publisher x) (out.staged old p publisher (end.admitted changeset first))) same (staged_if old p publisher changeset first (ap (refusal_of old.schema) same ∙ none));
+          subst (λ (x : List Section). Of (IsStaged old p publisher x) (out.staged_by old p publisher (end.admitted changeset first))) same (staged_if old p publisher changeset first (ap (refusal_of old.schema) same ∙ none));
       refuses = λ other fault spells some. refused_if old p publisher changeset first fault (ap (refusal_of old.schema) (one other spells) ∙ some);
       faults = λ fault h. absurd (let e : Ok changeset ≡ Err fault = read ∙ (refusing text fault took.bytes).1 h in cc);
     }
@@ -145,6 +145,6 @@ pub end_by_text : ReadingIsSpelling → RefusingIsFault → ProgressTells → (o
     → Took publisher.stream text → outcome old (event.End p) ≡ (given, new) → EndsByText old p publisher text given new
 unfolding outcome
 end_by_text reading refusing tells old p publisher text given new found none took is =
-    let ends = answered_by_text reading refusing tells old p publisher text (stream.ended publisher.stream) refl took in
+    let ends = answered_by_text reading refusing tells old p publisher text (stream.answer_at_end publisher.stream) refl took in
     let free = subst (λ staged. Of (EndsByText old p publisher text) (out.ended_by old p publisher staged)) (sym none) ends in
-    subst (Of (EndsByText old p publisher text)) is (subst (λ o. Of (EndsByText old p publisher text) (out.ended old p o)) (sym found) free)
+    subst (Of (EndsByText old p publisher text)) is (subst (λ o. Of (EndsByText old p publisher text) (out.ended_for old p o)) (sym found) free)

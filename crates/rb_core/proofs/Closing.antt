@@ -7,7 +7,7 @@ use Rattle.rb_desk.proofs.PictureLaws.{get_set, get_set_other}
 use Rattle.rb_sequence.specs.Entry.{Entry}
 use Rattle.rb_core.specs.World.{Subscriber, World}
 use Rattle.rb_core.specs.Moves.{with_subscriber, Leads, StaysClosed}
-use Rattle.rb_core.proofs.Moving.{get_push, Keeps, kept_through}
+use Rattle.rb_core.proofs.Moving.{get_push, MovingKeeps, kept_through}
 
 -- ---- the sequence
 
@@ -18,7 +18,7 @@ record IsClosed (last : ℕ) (sequence : List Entry) (world : World) : Type 0 wh
 not_open : (last : ℕ) (o : Option ℕ) → o ≡ Some last → o ≡ None → ⊥
 not_open last o some none = absurd (cc (sym some ∙ none))
 
-closed_kept : (last : ℕ) (sequence : List Entry) → Keeps (IsClosed last sequence)
+closed_kept : (last : ℕ) (sequence : List Entry) → MovingKeeps (IsClosed last sequence)
 closed_kept last sequence = record {
   comes = λ old new move h. subst (IsClosed last sequence) (sym move) (record { closed = h.closed; same = h.same });
   stages = λ old new move h. subst (IsClosed last sequence) (sym move.kept) (record { closed = h.closed; same = h.same });
@@ -41,16 +41,16 @@ nothing_placed old mids new last closed leads =
 -- ---- a subscription
 
 -- one that is closed, and has these entries and tables
-record HasLeft (accepted : List Entry) (rows : tables.State) (q : Subscriber) : Type 0 where
+record HasLeft (accepted : List Entry) (rows : tables.TableState) (q : Subscriber) : Type 0 where
   closed : q.closed ≡ true
   accepted_same : q.accepted ≡ accepted
   tables_same : q.tables ≡ rows
 
-abbrev Left : ℕ → List Entry → tables.State → World → Type 0
+abbrev Left : ℕ → List Entry → tables.TableState → World → Type 0
 Left s accepted rows world = (q : Subscriber) × (slice_get world.subscribers s ≡ Some q) × HasLeft accepted rows q
 
 -- one subscription becomes another, and stays closed where it is closed
-becomes : (s : ℕ) (accepted : List Entry) (rows : tables.State) (subs : List Subscriber) (at : ℕ) (q r : Subscriber) → slice_get subs at ≡ Some q → (HasLeft accepted rows q → HasLeft accepted rows r)
+becomes : (s : ℕ) (accepted : List Entry) (rows : tables.TableState) (subs : List Subscriber) (at : ℕ) (q r : Subscriber) → slice_get subs at ≡ Some q → (HasLeft accepted rows q → HasLeft accepted rows r)
     → (x : Subscriber) → slice_get subs s ≡ Some x → HasLeft accepted rows x → (y : Subscriber) × (slice_get (slice_set subs at r) s ≡ Some y) × HasLeft accepted rows y
 becomes s accepted rows subs at q r found stays x here left = elim (eqb_tells at s) as (λ w. (y : Subscriber) × (slice_get (slice_set subs at r) s ≡ Some y) × HasLeft accepted rows y) [
   | inl is ↦
@@ -60,7 +60,7 @@ becomes s accepted rows subs at q r found stays x here left = elim (eqb_tells at
   | inr other ↦ (x, get_set_other subs at s r (λ e. other.1 (sym e)) ∙ here, left)
 ]
 
-left_kept : (s : ℕ) (accepted : List Entry) (rows : tables.State) → Keeps (Left s accepted rows)
+left_kept : (s : ℕ) (accepted : List Entry) (rows : tables.TableState) → MovingKeeps (Left s accepted rows)
 left_kept s accepted rows = record {
   comes = λ old new move h. subst (Left s accepted rows) (sym move) (h.0, h.1, h.2);
   stages = λ old new move h. subst (Left s accepted rows) (sym move.kept) (h.0, h.1, h.2);

@@ -1,77 +1,78 @@
 -- What the desk's laws say of its calls, as the lemmas here take it: what a call keeps, and what it shows in the outline.
 use Rattle.std.proofs.Common.{◌≡◌, ℕ, Result, Ok, refl, subst}
 use Rattle.rb_desk.specs.declared.delivery.Delivery.{Delivery}
-use Rattle.rb_desk.specs.declared.refusal.Refusal.{Refusal}
+use Rattle.rb_desk.specs.declared.refusal.DeskRefusal.{DeskRefusal}
 use Rattle.rb_desk.specs.declared.step.Step.{Step}
 use Rattle.rb_desk.specs.declared.step.Step.TheVariants as step
 use Rattle.rb_desk.specs.Calls.{subscribe, take, take_any, ack, nack, expire, reconnect, unsubscribe, prepare, place, close}
 use Rattle.rb_desk.specs.IsPicture.{IsPicture}
-use Rattle.rb_desk.specs.Outline.{outline, Joins, Hands, Relinks, Leaves, Places, Ends}
+use Rattle.rb_desk.specs.Outline.{outline_of}
+use Rattle.rb_desk.specs.Outline as outline
 use Rattle.rb_desk.specs.Picture.{Picture}
-use Rattle.rb_desk.specs.Steps.{after}
+use Rattle.rb_desk.specs.Steps.{after_step}
 
 -- every call keeps what a picture keeps
 abbrev pub KeepsPictures : Type 0
-KeepsPictures = (old : Picture) (step : Step) → IsPicture old → IsPicture (after old step)
+KeepsPictures = (old : Picture) (step : Step) → IsPicture old → IsPicture (after_step old step)
 
 -- what each call changes in the outline
-pub record Shows : Type 0 where
-  pub subscribes : (old : Picture) (start s link : ℕ) (new : Picture) → subscribe old start ≡ (Ok (s, link), new) → Joins (outline old) (outline new) start s link
-  pub takes : (old : Picture) (s link cursor now : ℕ) (delivery : Delivery) (new : Picture) → IsPicture old → take old s link cursor now ≡ (Ok delivery, new) → (delivery.sub ≡ s) × Hands (outline old) (outline new) delivery
-  pub takes_any : (old : Picture) (now : ℕ) (delivery : Delivery) (new : Picture) → IsPicture old → take_any old now ≡ (Ok delivery, new) → Hands (outline old) (outline new) delivery
-  pub acks : (old : Picture) (s link number cursor floor : ℕ) (new : Picture) → ack old s link number cursor ≡ (Ok floor, new) → outline new ≡ outline old
-  pub nacks : (old : Picture) (s link number : ℕ) (new : Picture) → nack old s link number ≡ (Ok tt, new) → outline new ≡ outline old
-  pub expires : (old : Picture) (now many : ℕ) (new : Picture) → expire old now ≡ (many, new) → outline new ≡ outline old
-  pub reconnects : (old : Picture) (s cursor link : ℕ) (new : Picture) → reconnect old s cursor ≡ (Ok link, new) → Relinks (outline old) (outline new) s link
-  pub unsubscribes : (old : Picture) (s link : ℕ) (new : Picture) → unsubscribe old s link ≡ (Ok tt, new) → Leaves (outline old) (outline new) s
-  pub places : (old : Picture) (number : ℕ) → prepare old ≡ Ok number → Places (outline old) (outline (place old)) number
-  pub closes : (old : Picture) (last : ℕ) (new : Picture) → IsPicture old → close old ≡ (last, new) → Ends (outline old) (outline new) last
+pub record DeskShows : Type 0 where
+  pub subscribes : (old : Picture) (start s link : ℕ) (new : Picture) → subscribe old start ≡ (Ok (s, link), new) → outline.Subscribes (outline_of old) (outline_of new) start s link
+  pub takes : (old : Picture) (s link cursor now : ℕ) (delivery : Delivery) (new : Picture) → IsPicture old → take old s link cursor now ≡ (Ok delivery, new) → (delivery.sub ≡ s) × outline.Delivers (outline_of old) (outline_of new) delivery
+  pub takes_any : (old : Picture) (now : ℕ) (delivery : Delivery) (new : Picture) → IsPicture old → take_any old now ≡ (Ok delivery, new) → outline.Delivers (outline_of old) (outline_of new) delivery
+  pub acks : (old : Picture) (s link number cursor floor : ℕ) (new : Picture) → ack old s link number cursor ≡ (Ok floor, new) → outline_of new ≡ outline_of old
+  pub nacks : (old : Picture) (s link number : ℕ) (new : Picture) → nack old s link number ≡ (Ok tt, new) → outline_of new ≡ outline_of old
+  pub expires : (old : Picture) (now many : ℕ) (new : Picture) → expire old now ≡ (many, new) → outline_of new ≡ outline_of old
+  pub reconnects : (old : Picture) (s cursor link : ℕ) (new : Picture) → reconnect old s cursor ≡ (Ok link, new) → outline.Reconnects (outline_of old) (outline_of new) s link
+  pub unsubscribes : (old : Picture) (s link : ℕ) (new : Picture) → unsubscribe old s link ≡ (Ok tt, new) → outline.Unsubscribes (outline_of old) (outline_of new) s
+  pub places : (old : Picture) (number : ℕ) → prepare old ≡ Ok number → outline.Places (outline_of old) (outline_of (place old)) number
+  pub closes : (old : Picture) (last : ℕ) (new : Picture) → IsPicture old → close old ≡ (last, new) → outline.Closes (outline_of old) (outline_of new) last
 
 -- a call's answer beside the picture that it leaves
-abbrev pub beside : {A : Type 0} → Picture → Result A Refusal → Result A Refusal × Picture
+abbrev pub beside : {A : Type 0} → Picture → Result A BrokerRefusal → Result A BrokerRefusal × Picture
 beside new answer = (answer, new)
 
 -- ---- what each call keeps
 
 pub subscribe_keeps : KeepsPictures → (old : Picture) (start : ℕ) → IsPicture old → IsPicture (subscribe old start).1
-unfolding after
+unfolding after_step
 subscribe_keeps keeps old start good = keeps old (step.Subscribe start) good
 
 pub take_keeps : KeepsPictures → (old : Picture) (s link cursor now : ℕ) → IsPicture old → IsPicture (take old s link cursor now).1
-unfolding after
+unfolding after_step
 take_keeps keeps old s link cursor now good = keeps old (step.Take s link cursor now) good
 
 pub take_any_keeps : KeepsPictures → (old : Picture) (now : ℕ) → IsPicture old → IsPicture (take_any old now).1
-unfolding after
+unfolding after_step
 take_any_keeps keeps old now good = keeps old (step.TakeAny now) good
 
 pub ack_keeps : KeepsPictures → (old : Picture) (s link number cursor : ℕ) → IsPicture old → IsPicture (ack old s link number cursor).1
-unfolding after
+unfolding after_step
 ack_keeps keeps old s link number cursor good = keeps old (step.Ack s link number cursor) good
 
 pub nack_keeps : KeepsPictures → (old : Picture) (s link number : ℕ) → IsPicture old → IsPicture (nack old s link number).1
-unfolding after
+unfolding after_step
 nack_keeps keeps old s link number good = keeps old (step.Nack s link number) good
 
 pub expire_keeps : KeepsPictures → (old : Picture) (now : ℕ) → IsPicture old → IsPicture (expire old now).1
-unfolding after
+unfolding after_step
 expire_keeps keeps old now good = keeps old (step.Expire now) good
 
 pub reconnect_keeps : KeepsPictures → (old : Picture) (s cursor : ℕ) → IsPicture old → IsPicture (reconnect old s cursor).1
-unfolding after
+unfolding after_step
 reconnect_keeps keeps old s cursor good = keeps old (step.Reconnect s cursor) good
 
 pub unsubscribe_keeps : KeepsPictures → (old : Picture) (s link : ℕ) → IsPicture old → IsPicture (unsubscribe old s link).1
-unfolding after
+unfolding after_step
 unsubscribe_keeps keeps old s link good = keeps old (step.Unsubscribe s link) good
 
 pub close_keeps : KeepsPictures → (old : Picture) → IsPicture old → IsPicture (close old).1
-unfolding after
+unfolding after_step
 close_keeps keeps old good = keeps old step.Close good
 
 -- a placement, where the desk has a number for it
-placed_step : (old : Picture) (number : ℕ) → prepare old ≡ Ok number → after old step.Place ≡ place old
-unfolding after
+placed_step : (old : Picture) (number : ℕ) → prepare old ≡ Ok number → after_step old step.Place ≡ place old
+unfolding after_step
 placed_step old number ready = rw ready refl
 
 pub place_keeps : KeepsPictures → (old : Picture) (number : ℕ) → prepare old ≡ Ok number → IsPicture old → IsPicture (place old)

@@ -3,7 +3,7 @@ use Rattle.std.proofs.Common.{◌≡◌, ℕ, zero, suc, ◌⊎◌, inl, inr, Li
 use Rattle.std.specs.Prelude.{slice_get, slice_set}
 use Rattle.std.specs.List.{AllByRecursion}
 use Rattle.rb_core.specs.World.{World}
-use Rattle.rb_core.specs.Moves.{IsIn, Comes, Stages, Sends, Pulls, Places, Ends, Begins, Offers, Takes, Reconnects, Leaves, Moves, Leads}
+use Rattle.rb_core.specs.Moves.{IsIn, AddsPublisher, Streams, Sends, Pulls, Places, Closes, Subscribes, Delivers, Accepts, Reconnects, Unsubscribes, Moves, Leads}
 
 -- ---- lists
 
@@ -39,20 +39,20 @@ get_push (z ∷ xs) y x (suc i) e = get_push xs y x i e
 -- ---- moves
 
 -- what each kind of move keeps
-pub record Keeps (P : World → Type 0) : Type 0 where
-  pub comes : (old new : World) → Comes old new → P old → P new
-  pub stages : (old new : World) → Stages old new → P old → P new
+pub record MovingKeeps (P : World → Type 0) : Type 0 where
+  pub comes : (old new : World) → AddsPublisher old new → P old → P new
+  pub stages : (old new : World) → Streams old new → P old → P new
   pub sends : (old new : World) → Sends old new → P old → P new
   pub pulls : (old new : World) → Pulls old new → P old → P new
   pub places : (old new : World) → Places old new → P old → P new
-  pub ends : (old new : World) → Ends old new → P old → P new
-  pub begins : (old new : World) → Begins old new → P old → P new
-  pub offers : (old new : World) → Offers old new → P old → P new
-  pub takes : (old new : World) → Takes old new → P old → P new
+  pub ends : (old new : World) → Closes old new → P old → P new
+  pub begins : (old new : World) → Subscribes old new → P old → P new
+  pub offers : (old new : World) → Delivers old new → P old → P new
+  pub takes : (old new : World) → Accepts old new → P old → P new
   pub reconnects : (old new : World) → Reconnects old new → P old → P new
-  pub leaves : (old new : World) → Leaves old new → P old → P new
+  pub leaves : (old new : World) → Unsubscribes old new → P old → P new
 
-kept_by : (P : World → Type 0) → Keeps P → (old new : World) → Moves old new → P old → P new
+kept_by : (P : World → Type 0) → MovingKeeps P → (old new : World) → Moves old new → P old → P new
 kept_by P keeps old new move h = elim move as (λ w. P new) [
   | inl same ↦ subst P (sym same) h
   | inr m ↦ elim m as (λ w. P new) [
@@ -89,6 +89,6 @@ kept_by P keeps old new move h = elim move as (λ w. P new) [
 ]
 
 -- what every move keeps holds behind all of them
-pub kept_through : (P : World → Type 0) → Keeps P → (old : World) (mids : List World) (new : World) → Leads old mids new → P old → P new
+pub kept_through : (P : World → Type 0) → MovingKeeps P → (old : World) (mids : List World) (new : World) → Leads old mids new → P old → P new
 kept_through P keeps old [] new leads h = subst P (sym leads) h
 kept_through P keeps old (mid ∷ rest) new leads h = kept_through P keeps mid rest new leads.1 (kept_by P keeps old mid leads.0 h)

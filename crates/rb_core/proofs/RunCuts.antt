@@ -9,8 +9,8 @@ use Rattle.rb_core.specs.declared.event.Event.{Event}
 use Rattle.rb_core.specs.Moves.{StaysClosed}
 use Rattle.rb_core.specs.Run.{Answer, Run, FeedsBytes}
 use Rattle.rb_core.specs.State.{State, empty_world}
-use Rattle.rb_core.specs.Told.{world_told, Tells}
-use Rattle.rb_core.specs.World.{Subscriber, begun}
+use Rattle.rb_core.specs.Told.{world_told, IsToldBy}
+use Rattle.rb_core.specs.World.{Subscriber, world_begun}
 use Rattle.rb_core.proofs.Telling.{IsTold}
 
 -- what follows of an answer that is Ok
@@ -39,17 +39,17 @@ all_drop P zero xs all = all
 all_drop P (suc n) [] all = tt
 all_drop P (suc n) (x ∷ xs) all = all_drop P n xs all.1
 
-both_parts : {A : Type 0} (n : ℕ) (xs : List A) → take n xs ++ drop n xs ≡ xs
-both_parts zero xs = refl
-both_parts (suc n) [] = refl
-both_parts (suc n) (x ∷ xs) = ap (λ zs. x ∷ zs) (both_parts n xs)
+run_cuts_both_parts : {A : Type 0} (n : ℕ) (xs : List A) → take n xs ++ drop n xs ≡ xs
+run_cuts_both_parts zero xs = refl
+run_cuts_both_parts (suc n) [] = refl
+run_cuts_both_parts (suc n) (x ∷ xs) = ap (λ zs. x ∷ zs) (run_cuts_both_parts n xs)
 
 -- ---- what was closed by then
 
 -- what events and answers tell is what the broker has
 abbrev pub AreTold : Type 0
 AreTold = (limits : Limits) (schema : List Shape) (events : List Event) (answers : List Answer) (new : State) → AreInRange limits → AllByRecursion FeedsBytes events → Run (empty_world limits schema) events answers new
-    → IsTold schema begun new (world_told schema events answers)
+    → IsTold schema world_begun new (world_told schema events answers)
 
 -- a closed sequence stays closed, and so does a closed subscription
 abbrev pub SequenceStays : Type 0
@@ -66,7 +66,7 @@ pub closed_by_then : AreTold → SequenceStays → (limits : Limits) (schema : L
 closed_by_then told stays limits schema events answers new ranges feeds run n last closing =
     let cut = cut_run n (empty_world limits schema) events answers new run in
     let first = all_take FeedsBytes n events feeds in
-    let tells : Tells schema cut.0 (world_told schema (take n events) (take n answers)) = (told limits schema (take n events) (take n answers) cut.0 ranges first cut.1).1 in
+    let tells : IsToldBy schema cut.0 (world_told schema (take n events) (take n answers)) = (told limits schema (take n events) (take n answers) cut.0 ranges first cut.1).1 in
     let after = stays limits schema (take n events) (drop n events) (take n answers) (drop n answers) cut.0 new last ranges first (all_drop FeedsBytes n events feeds) cut.1 cut.2 (sym tells.closing ∙ closing) in
     (after.0, after.1 ∙ sym tells.sequence)
 
@@ -76,5 +76,5 @@ pub left_by_then : SubscriptionStays → (limits : Limits) (schema : List Shape)
 left_by_then stays limits schema events answers new ranges feeds run n s subscriber found closed =
     let cut = cut_run n (empty_world limits schema) events answers new run in
     let after = stays limits schema (take n events) (drop n events) (take n answers) (drop n answers) cut.0 new s subscriber ranges (all_take FeedsBytes n events feeds) (all_drop FeedsBytes n events feeds) cut.1 cut.2 found closed in
-    let whole = ap (λ (es : List Event). world_told schema es (take n answers ++ drop n answers)) (both_parts n events) ∙ ap (world_told schema events) (both_parts n answers) in
+    let whole = ap (λ (es : List Event). world_told schema es (take n answers ++ drop n answers)) (run_cuts_both_parts n events) ∙ ap (world_told schema events) (run_cuts_both_parts n answers) in
     (after.0, ap (λ w. slice_get w.subscribers s) (sym whole) ∙ after.1, after.2)

@@ -5,28 +5,28 @@ use Rattle.std.specs.List.{AllByRecursion}
 use Rattle.cs_model.specs.declared.shape.Shape.{Shape}
 use Rattle.rb_desk.specs.IsPicture.{IsPicture}
 use Rattle.rb_desk.specs.Limits.{Limits}
-use Rattle.rb_desk.specs.Picture.{opening}
+use Rattle.rb_desk.specs.Picture.{empty_picture}
 use Rattle.rb_core.specs.declared.event.Event.{Event}
 use Rattle.rb_core.specs.declared.event.Event.TheVariants as event
 use Rattle.rb_core.specs.declared.reply.Reply.{Reply}
 use Rattle.rb_core.specs.Outcome.{outcome}
 use Rattle.rb_core.specs.Run.{Answer, Stepped, Run, FeedsBytes}
 use Rattle.rb_core.specs.State.{State, IsWorld, empty_world}
-use Rattle.rb_core.specs.Told.{told_by, told_from, world_told, Tells}
-use Rattle.rb_core.specs.World.{World, begun}
-use Rattle.rb_core.proofs.Telling.{IsTold, no_move, both_courses, Goes}
+use Rattle.rb_core.specs.Told.{told_by, told_from, world_told, IsToldBy}
+use Rattle.rb_core.specs.World.{World, world_begun}
+use Rattle.rb_core.proofs.Telling.{IsTold, no_move, both_courses, TellingGoes}
 use Rattle.rb_core.proofs.TellPublishers.{BeginsWithNothing, ProgressGoesOn, ProgressTells, publisher_tells, feed_tells, reset_tells, end_tells, send_tells}
 use Rattle.rb_core.proofs.TellSequence.{PlaceShows, CloseShows, turn_tells, close_tells}
 use Rattle.rb_core.proofs.TellSubscriptions.{SubscribeShows, ReconnectShows, UnsubscribeShows, subscribe_tells, reconnect_tells, unsubscribe_tells}
 use Rattle.rb_core.proofs.TellDeliveries.{TakeShows, TakeAnyShows, AckShows, NackShows, ExpireShows, AcceptSteps, take_tells, take_any_tells, accept_tells, ack_tells, nack_tells, expire_tells}
 
 -- every event keeps what a world keeps
-abbrev pub KeepsWorlds : Type 0
-KeepsWorlds = (old : State) (event : Event) (given : Reply) (new : State) → IsWorld old → outcome old event ≡ (given, new) → IsWorld new
+abbrev pub TellRunsKeepsWorlds : Type 0
+TellRunsKeepsWorlds = (old : State) (event : Event) (given : Reply) (new : State) → IsWorld old → outcome old event ≡ (given, new) → IsWorld new
 
 -- the laws of streams, of the desk and of the ends
-pub record Laws : Type 0 where
-  pub keeps : KeepsWorlds
+pub record TellRunsLaws : Type 0 where
+  pub keeps : TellRunsKeepsWorlds
   pub begins : BeginsWithNothing
   pub goes : ProgressGoesOn
   pub tells : ProgressTells
@@ -42,7 +42,7 @@ pub record Laws : Type 0 where
   pub nack : NackShows
   pub expire : ExpireShows
 
-outcome_tells : Laws → (schema : List Shape) (old : State) (world : World) (event : Event) → FeedsBytes event → IsWorld old → Tells schema old world → Goes schema world event (outcome old event)
+outcome_tells : TellRunsLaws → (schema : List Shape) (old : State) (world : World) (event : Event) → FeedsBytes event → IsWorld old → IsToldBy schema old world → TellingGoes schema world event (outcome old event)
 unfolding outcome
 outcome_tells laws schema old world event.Publisher feeds good h = publisher_tells laws.begins schema old world h
 outcome_tells laws schema old world (event.Feed p bytes) feeds good h = feed_tells laws.goes schema old world p bytes (slice_get old.publishers p) refl feeds h
@@ -63,15 +63,15 @@ outcome_tells laws schema old world (event.Unsubscribe s) feeds good h = unsubsc
 
 -- ---- steps and runs
 
-step_tells : Laws → (schema : List Shape) (old : State) (world : World) (event : Event) (answer : Answer) (new : State) → FeedsBytes event → IsWorld old → Tells schema old world → Stepped old event answer new
+step_tells : TellRunsLaws → (schema : List Shape) (old : State) (world : World) (event : Event) (answer : Answer) (new : State) → FeedsBytes event → IsWorld old → IsToldBy schema old world → Stepped old event answer new
     → IsTold schema world new (told_by schema world event answer) × IsWorld new
 step_tells laws schema old world event (Ok given) new feeds good h step =
-    (subst (λ (r : Reply × State). Goes schema world event r) step (outcome_tells laws schema old world event feeds good h), laws.keeps old event given new good step)
-step_tells laws schema old world event (Err e) new feeds good h step = ((no_move world world refl, subst (λ w. Tells schema w world) (sym step) h), subst IsWorld (sym step) good)
+    (subst (λ (r : Reply × State). TellingGoes schema world event r) step (outcome_tells laws schema old world event feeds good h), laws.keeps old event given new good step)
+step_tells laws schema old world event (Err e) new feeds good h step = ((no_move world world refl, subst (λ w. IsToldBy schema w world) (sym step) h), subst IsWorld (sym step) good)
 
-run_tells : Laws → (schema : List Shape) (old : State) (world : World) (events : List Event) (answers : List Answer) (new : State) → AllByRecursion FeedsBytes events → IsWorld old → Tells schema old world → Run old events answers new
+run_tells : TellRunsLaws → (schema : List Shape) (old : State) (world : World) (events : List Event) (answers : List Answer) (new : State) → AllByRecursion FeedsBytes events → IsWorld old → IsToldBy schema old world → Run old events answers new
     → IsTold schema world new (told_from schema world events answers)
-run_tells laws schema old world [] [] new feeds good h run = (no_move world world refl, subst (λ w. Tells schema w world) (sym run) h)
+run_tells laws schema old world [] [] new feeds good h run = (no_move world world refl, subst (λ w. IsToldBy schema w world) (sym run) h)
 run_tells laws schema old world [] (answer ∷ answers) new feeds good h run = absurd run
 run_tells laws schema old world (event ∷ events) [] new feeds good h run = absurd run
 run_tells laws schema old world (event ∷ events) (answer ∷ answers) new feeds good h run =
@@ -82,20 +82,20 @@ run_tells laws schema old world (event ∷ events) (answer ∷ answers) new feed
 
 -- ---- the beginning
 
-empty_is_world : (limits : Limits) (schema : List Shape) → IsPicture (opening limits) → IsWorld (empty_world limits schema)
+empty_is_world : (limits : Limits) (schema : List Shape) → IsPicture (empty_picture limits) → IsWorld (empty_world limits schema)
 empty_is_world limits schema picture = record { picture = picture; front = refl; members = refl; entries = tt; deliveries = tt; next = refl; are_of = tt }
 
-nothing_tells : (limits : Limits) (schema : List Shape) → Tells schema (empty_world limits schema) begun
+nothing_tells : (limits : Limits) (schema : List Shape) → IsToldBy schema (empty_world limits schema) world_begun
 nothing_tells limits schema = record { served = refl; senders = tt; intake = refl; hand = refl; sequence = refl; closing = refl; ends = refl; offers = tt; links = tt; numbers = tt; bases = tt }
 
-pub are_told : Laws → (limits : Limits) (schema : List Shape) (events : List Event) (answers : List Answer) (new : State) → IsPicture (opening limits) → AllByRecursion FeedsBytes events → Run (empty_world limits schema) events answers new
-    → IsTold schema begun new (world_told schema events answers)
-are_told laws limits schema events answers new picture feeds run =
-    run_tells laws schema (empty_world limits schema) begun events answers new feeds (empty_is_world limits schema picture) (nothing_tells limits schema) run
+pub tell_runs_are_told : TellRunsLaws → (limits : Limits) (schema : List Shape) (events : List Event) (answers : List Answer) (new : State) → IsPicture (empty_picture limits) → AllByRecursion FeedsBytes events → Run (empty_world limits schema) events answers new
+    → IsTold schema world_begun new (world_told schema events answers)
+tell_runs_are_told laws limits schema events answers new picture feeds run =
+    run_tells laws schema (empty_world limits schema) world_begun events answers new feeds (empty_is_world limits schema picture) (nothing_tells limits schema) run
 
 -- ---- runs that go on
 
-run_good : Laws → (old : State) (events : List Event) (answers : List Answer) (new : State) → IsWorld old → Run old events answers new → IsWorld new
+run_good : TellRunsLaws → (old : State) (events : List Event) (answers : List Answer) (new : State) → IsWorld old → Run old events answers new → IsWorld new
 run_good laws old [] [] new good run = subst IsWorld (sym run) good
 run_good laws old [] (answer ∷ answers) new good run = absurd run
 run_good laws old (event ∷ events) [] new good run = absurd run
@@ -110,10 +110,10 @@ told_on schema old world [] more (answer ∷ answers) later mid run = absurd run
 told_on schema old world (event ∷ events) more [] later mid run = absurd run
 told_on schema old world (event ∷ events) more (answer ∷ answers) later mid run = told_on schema run.0 (told_by schema world event answer) events more answers later mid run.2
 
-pub go_on : Laws → (limits : Limits) (schema : List Shape) (events more : List Event) (answers later : List Answer) (mid new : State) → IsPicture (opening limits) → AllByRecursion FeedsBytes events → AllByRecursion FeedsBytes more
+pub tell_runs_go_on : TellRunsLaws → (limits : Limits) (schema : List Shape) (events more : List Event) (answers later : List Answer) (mid new : State) → IsPicture (empty_picture limits) → AllByRecursion FeedsBytes events → AllByRecursion FeedsBytes more
     → Run (empty_world limits schema) events answers mid → Run mid more later new → IsTold schema (world_told schema events answers) new (world_told schema (events ++ more) (answers ++ later))
-go_on laws limits schema events more answers later mid new picture feeds others run on =
-    let before = are_told laws limits schema events answers mid picture feeds run in
+tell_runs_go_on laws limits schema events more answers later mid new picture feeds others run on =
+    let before = tell_runs_are_told laws limits schema events answers mid picture feeds run in
     let good = run_good laws (empty_world limits schema) events answers mid (empty_is_world limits schema picture) run in
-    subst (λ (w : World). IsTold schema (world_told schema events answers) new w) (sym (told_on schema (empty_world limits schema) begun events more answers later mid run))
+    subst (λ (w : World). IsTold schema (world_told schema events answers) new w) (sym (told_on schema (empty_world limits schema) world_begun events more answers later mid run))
     (run_tells laws schema mid (world_told schema events answers) more later new others good before.1 on)

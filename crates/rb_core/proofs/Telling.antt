@@ -5,7 +5,7 @@ use Rattle.std.specs.List.{AllByRecursion}
 use Rattle.std.proofs.lemmas.Bool.Decides.{eqb_tells}
 use Rattle.cs_model.specs.declared.shape.Shape.{Shape}
 use Rattle.rb_desk.specs.declared.delivery.Delivery.{Delivery}
-use Rattle.rb_desk.specs.Outline.{Member, outline}
+use Rattle.rb_desk.specs.Outline.{Member, outline_of}
 use Rattle.rb_desk.specs.Picture.{Picture}
 use Rattle.rb_desk.proofs.PictureLaws.{get_set, get_set_other}
 use Rattle.rb_subscriber.specs.Endpoint.{Endpoint}
@@ -14,8 +14,8 @@ use Rattle.rb_core.specs.declared.reply.Reply.{Reply}
 use Rattle.rb_core.specs.Moves.{with_subscriber, IsIn, IsNew, IsUnused, Moves, Leads}
 use Rattle.rb_core.specs.Outcome.{with_endpoint}
 use Rattle.rb_core.specs.State.{State, IsWorld, empty_tables, member_of_end}
-use Rattle.rb_core.specs.Told.{told, subscriber_set, subscriber_changed, IsOffered, AreBelow, Tells}
-use Rattle.rb_core.specs.World.{Subscriber, World, end_of}
+use Rattle.rb_core.specs.Told.{told, subscriber_set, subscriber_changed, IsDelivered, AreBelow, IsToldBy}
+use Rattle.rb_core.specs.World.{Subscriber, World, endpoint_of}
 use Rattle.rb_core.proofs.Moving.{all_set, all_get, all_map}
 use Rattle.rb_core.proofs.Pairs.{get_of_map, map_set}
 
@@ -42,19 +42,19 @@ both_courses old mid new one other = (one.0 ++ other.0, leads_on old mid new one
 
 -- a course of moves leads to a world, and it is what the broker has
 abbrev pub IsTold : List Shape → World → State → World → Type 0
-IsTold schema old state new = Course old new × Tells schema state new
+IsTold schema old state new = Course old new × IsToldBy schema state new
 
 -- so it is with what an event and its answer tell
-abbrev pub Goes : List Shape → World → Event → Reply × State → Type 0
-Goes schema world event r = IsTold schema world r.1 (told schema world event r.0)
+abbrev pub TellingGoes : List Shape → World → Event → Reply × State → Type 0
+TellingGoes schema world event r = IsTold schema world r.1 (told schema world event r.0)
 
 -- it tells nothing, and nothing that was told has changed
-pub nothing_told : (schema : List Shape) (world : World) (event : Event) (given : Reply) (new : State) → told schema world event given ≡ world → Tells schema new world → Goes schema world event (given, new)
-nothing_told schema world event given new same h = (([], same), subst (Tells schema new) (sym same) h)
+pub nothing_told : (schema : List Shape) (world : World) (event : Event) (given : Reply) (new : State) → told schema world event given ≡ world → IsToldBy schema new world → TellingGoes schema world event (given, new)
+nothing_told schema world event given new same h = (([], same), subst (IsToldBy schema new) (sym same) h)
 
 -- it tells one move
-pub move_told : (schema : List Shape) (old new : World) (event : Event) (given : Reply) (state : State) → told schema old event given ≡ new → Moves old new → Tells schema state new → Goes schema old event (given, state)
-move_told schema old new event given state is move h = ((new ∷ [], (move, is)), subst (Tells schema state) (sym is) h)
+pub move_told : (schema : List Shape) (old new : World) (event : Event) (given : Reply) (state : State) → told schema old event given ≡ new → Moves old new → IsToldBy schema state new → TellingGoes schema old event (given, state)
+move_told schema old new event given state is move h = ((new ∷ [], (move, is)), subst (IsToldBy schema state) (sym is) h)
 
 -- both ways of a test
 pub either : (P : Reply × State → Type 0) (b : Bool) (x y : Reply × State) → P x → P y → P (cond b x y)
@@ -90,23 +90,23 @@ pub changed_is : (old : World) (s : ℕ) (change : Subscriber → Subscriber) (q
 changed_is old s change q found = ap (subscriber_set old s change) found
 
 -- an end's subscription, and that of a member
-pub subscriber_of_end : (schema : List Shape) (old : State) (world : World) (s : ℕ) (end : Endpoint) → Tells schema old world → slice_get old.endpoints s ≡ Some end → (q : Subscriber) × (slice_get world.subscribers s ≡ Some q) × (end_of q ≡ end)
-subscriber_of_end schema old world s end h found = get_of_map end_of world.subscribers s end (ap (λ ends. slice_get ends s) h.ends ∙ found)
+pub subscriber_of_end : (schema : List Shape) (old : State) (world : World) (s : ℕ) (end : Endpoint) → IsToldBy schema old world → slice_get old.endpoints s ≡ Some end → (q : Subscriber) × (slice_get world.subscribers s ≡ Some q) × (endpoint_of q ≡ end)
+subscriber_of_end schema old world s end h found = get_of_map endpoint_of world.subscribers s end (ap (λ ends. slice_get ends s) h.ends ∙ found)
 
-pub subscriber_of_member : (schema : List Shape) (old : State) (world : World) (s : ℕ) (member : Member) → IsWorld old → Tells schema old world → slice_get (outline old.desk).members s ≡ Some member
-    → (q : Subscriber) × (slice_get world.subscribers s ≡ Some q) × (member_of_end (end_of q) ≡ member)
+pub subscriber_of_member : (schema : List Shape) (old : State) (world : World) (s : ℕ) (member : Member) → IsWorld old → IsToldBy schema old world → slice_get (outline_of old.desk).members s ≡ Some member
+    → (q : Subscriber) × (slice_get world.subscribers s ≡ Some q) × (member_of_end (endpoint_of q) ≡ member)
 subscriber_of_member schema old world s member good h found =
     let end = get_of_map member_of_end old.endpoints s member (ap (λ members. slice_get members s) good.members ∙ found) in
     let q = subscriber_of_end schema old world s end.0 h end.1 in
     (q.0, q.1, ap member_of_end q.2 ∙ end.2)
 
 -- deliveries stay offered where the offers to one subscription only grow
-pub still_offered : (subs : List Subscriber) (s : ℕ) (q r : Subscriber) (deliveries : List Delivery) → slice_get subs s ≡ Some q → ((d : Delivery) → IsIn d q.offers → IsIn d r.offers) → AllByRecursion (IsOffered subs) deliveries
-    → AllByRecursion (IsOffered (slice_set subs s r)) deliveries
-still_offered subs s q r deliveries found grows all = all_map (IsOffered subs) (IsOffered (slice_set subs s r)) deliveries stays all
+pub still_offered : (subs : List Subscriber) (s : ℕ) (q r : Subscriber) (deliveries : List Delivery) → slice_get subs s ≡ Some q → ((d : Delivery) → IsIn d q.offers → IsIn d r.offers) → AllByRecursion (IsDelivered subs) deliveries
+    → AllByRecursion (IsDelivered (slice_set subs s r)) deliveries
+still_offered subs s q r deliveries found grows all = all_map (IsDelivered subs) (IsDelivered (slice_set subs s r)) deliveries stays all
   where
-    stays : (d : Delivery) → IsOffered subs d → IsOffered (slice_set subs s r) d
-    stays d h = elim (eqb_tells s d.sub) as (λ w. IsOffered (slice_set subs s r) d) [
+    stays : (d : Delivery) → IsDelivered subs d → IsDelivered (slice_set subs s r) d
+    stays d h = elim (eqb_tells s d.sub) as (λ w. IsDelivered (slice_set subs s r) d) [
       | inl is ↦
           let here : slice_get subs d.sub ≡ Some q = subst (λ n. slice_get subs n ≡ Some q) is.1 found in
           let same : h.0 ≡ q = cc (sym h.1 ∙ here) in
@@ -116,16 +116,16 @@ still_offered subs s q r deliveries found grows all = all_map (IsOffered subs) (
     ]
 
 -- one subscription becomes another that began with the same tables and has the same offers, and so does its end
-pub with_both : (schema : List Shape) (old : State) (world : World) (s : ℕ) (q r : Subscriber) (end : Endpoint) → slice_get world.subscribers s ≡ Some q → r.base ≡ q.base → r.offers ≡ q.offers → end_of r ≡ end → Tells schema old world
-    → Tells schema (with_endpoint old s end) (with_subscriber world s r)
-with_both schema old world s q r end found base same is h = record {
+pub telling_with_both : (schema : List Shape) (old : State) (world : World) (s : ℕ) (q r : Subscriber) (end : Endpoint) → slice_get world.subscribers s ≡ Some q → r.base ≡ q.base → r.offers ≡ q.offers → endpoint_of r ≡ end → IsToldBy schema old world
+    → IsToldBy schema (with_endpoint old s end) (with_subscriber world s r)
+telling_with_both schema old world s q r end found base same is h = record {
   served = h.served;
   senders = h.senders;
   intake = h.intake;
   hand = h.hand;
   sequence = h.sequence;
   closing = h.closing;
-  ends = map_set end_of world.subscribers s r ∙ ap (λ ends. slice_set ends s (end_of r)) h.ends ∙ ap (slice_set old.endpoints s) is;
+  ends = map_set endpoint_of world.subscribers s r ∙ ap (λ ends. slice_set ends s (endpoint_of r)) h.ends ∙ ap (slice_set old.endpoints s) is;
   offers = still_offered world.subscribers s q r old.deliveries found (λ d here. subst (IsIn d) (sym same) here) h.offers;
   links = h.links;
   numbers = all_set (AreBelow old.desk.next_delivery) world.subscribers s r h.numbers (subst (AllByRecursion (λ (o : Delivery). o.number < old.desk.next_delivery)) (sym same) (all_get (AreBelow old.desk.next_delivery) world.subscribers s q h.numbers found));
@@ -135,8 +135,8 @@ with_both schema old world s q r end found base same is h = record {
 -- ---- the desk
 
 -- the desk changes in nothing that is told
-pub with_desk : (schema : List Shape) (old : State) (world : World) (desk : Picture) → desk.closing ≡ old.desk.closing → desk.next_link ≡ old.desk.next_link → desk.next_delivery ≡ old.desk.next_delivery → Tells schema old world
-    → Tells schema (record old { desk = desk }) world
+pub with_desk : (schema : List Shape) (old : State) (world : World) (desk : Picture) → desk.closing ≡ old.desk.closing → desk.next_link ≡ old.desk.next_link → desk.next_delivery ≡ old.desk.next_delivery → IsToldBy schema old world
+    → IsToldBy schema (record old { desk = desk }) world
 with_desk schema old world desk closing link delivery h = record {
   served = h.served;
   senders = h.senders;
@@ -153,7 +153,7 @@ with_desk schema old world desk closing link delivery h = record {
 
 -- it gives a link
 pub with_link : (schema : List Shape) (old : State) (world : World) (desk : Picture) (link : ℕ) → desk.closing ≡ old.desk.closing → link ≡ old.desk.next_link → desk.next_link ≡ suc link → desk.next_delivery ≡ old.desk.next_delivery
-    → Tells schema old world → Tells schema (record old { desk = desk }) (record world { links = link ∷ world.links })
+    → IsToldBy schema old world → IsToldBy schema (record old { desk = desk }) (record world { links = link ∷ world.links })
 with_link schema old world desk link closing given next delivery h = record {
   served = h.served;
   senders = h.senders;

@@ -5,8 +5,8 @@ use Rattle.cs_model.specs.declared.shape.Shape.{Shape}
 use Rattle.rb_subscriber.specs.Accept.{AppliesSingly}
 use Rattle.rb_core.specs.Moves.{Leads, HasRun, StaysClosed}
 use Rattle.rb_core.specs.State.{State, empty_tables}
-use Rattle.rb_core.specs.Told.{Tells}
-use Rattle.rb_core.specs.World.{Subscriber, World, begun, end_of}
+use Rattle.rb_core.specs.Told.{IsToldBy}
+use Rattle.rb_core.specs.World.{Subscriber, World, world_begun, endpoint_of}
 use Rattle.rb_core.proofs.Closing.{nothing_placed, nothing_accepted}
 use Rattle.rb_core.proofs.Moving.{all_get}
 use Rattle.rb_core.proofs.Telling.{BeginsEmpty, IsTold}
@@ -18,16 +18,16 @@ mapped_at f (y ∷ xs) zero x e = let same : y ≡ x = cc e in ap (λ z. Some (f
 mapped_at f (y ∷ xs) (suc i) x e = mapped_at f xs i x e
 
 -- a subscription of which the course says that it has its run, in a broker that was told so
-pub gapless_run : ((mids : List World) (new : World) (s : ℕ) (subscriber : Subscriber) → Leads begun mids new → slice_get new.subscribers s ≡ Some subscriber → HasRun new.sequence subscriber)
-    → (schema : List Shape) (new : State) (world : World) (s : ℕ) (subscriber : Subscriber) → IsTold schema begun new world → slice_get world.subscribers s ≡ Some subscriber
-    → HasRun new.sequence subscriber × (slice_get new.endpoints s ≡ Some (end_of subscriber))
+pub gapless_run : ((mids : List World) (new : World) (s : ℕ) (subscriber : Subscriber) → Leads world_begun mids new → slice_get new.subscribers s ≡ Some subscriber → HasRun new.sequence subscriber)
+    → (schema : List Shape) (new : State) (world : World) (s : ℕ) (subscriber : Subscriber) → IsTold schema world_begun new world → slice_get world.subscribers s ≡ Some subscriber
+    → HasRun new.sequence subscriber × (slice_get new.endpoints s ≡ Some (endpoint_of subscriber))
 gapless_run law schema new world s subscriber told found = (
   subst (λ sequence. HasRun sequence subscriber) told.1.sequence (law told.0.0 world s subscriber told.0.1 found),
-  ap (λ es. slice_get es s) (sym told.1.ends) ∙ mapped_at end_of world.subscribers s subscriber found,
+  ap (λ es. slice_get es s) (sym told.1.ends) ∙ mapped_at endpoint_of world.subscribers s subscriber found,
 )
 
 -- nothing is placed behind a close, nor accepted behind one
-pub closed_run : (schema : List Shape) (mid new : State) (old world : World) (last : ℕ) → Tells schema mid old → IsTold schema old new world → mid.desk.closing ≡ Some last
+pub closed_run : (schema : List Shape) (mid new : State) (old world : World) (last : ℕ) → IsToldBy schema mid old → IsTold schema old new world → mid.desk.closing ≡ Some last
     → (new.desk.closing ≡ Some last) × (new.sequence ≡ mid.sequence)
 closed_run schema mid new old world last before told closing =
     let stays = nothing_placed old told.0.0 world last (before.closing ∙ closing) told.0.1 in
@@ -38,8 +38,8 @@ pub left_run : (schema : List Shape) (new : State) (old world : World) (s : ℕ)
 left_run schema new old world s subscriber told found closed = nothing_accepted old told.0.0 world s subscriber found closed told.0.1
 
 -- a subscription of which the course says that its tables follow from those that it began with
-pub singly_run : ((mids : List World) (new : World) (s : ℕ) (subscriber : Subscriber) → Leads begun mids new → slice_get new.subscribers s ≡ Some subscriber → AppliesSingly subscriber.base subscriber.accepted subscriber.tables)
-    → (schema : List Shape) (new : State) (world : World) (s : ℕ) (subscriber : Subscriber) → IsTold schema begun new world → slice_get world.subscribers s ≡ Some subscriber
+pub singly_run : ((mids : List World) (new : World) (s : ℕ) (subscriber : Subscriber) → Leads world_begun mids new → slice_get new.subscribers s ≡ Some subscriber → AppliesSingly subscriber.base subscriber.accepted subscriber.tables)
+    → (schema : List Shape) (new : State) (world : World) (s : ℕ) (subscriber : Subscriber) → IsTold schema world_begun new world → slice_get world.subscribers s ≡ Some subscriber
     → AppliesSingly (empty_tables schema) subscriber.accepted subscriber.tables
 singly_run law schema new world s subscriber told found =
     subst (λ t. AppliesSingly t subscriber.accepted subscriber.tables) (all_get (BeginsEmpty schema) world.subscribers s subscriber told.1.bases found) (law told.0.0 world s subscriber told.0.1 found)

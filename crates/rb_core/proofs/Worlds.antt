@@ -6,7 +6,8 @@ use Rattle.std.proofs.lemmas.Option.{slice_get-map, slice_get_within}
 use Rattle.cs_model.proofs.CallerLemmas.{all_push}
 use Rattle.rb_desk.specs.declared.delivery.Delivery.{Delivery}
 use Rattle.rb_desk.specs.IsPicture.{IsPicture}
-use Rattle.rb_desk.specs.Outline.{Member, Outline, outline, Hands, Places}
+use Rattle.rb_desk.specs.Outline.{Member, Outline, outline_of}
+use Rattle.rb_desk.specs.Outline as outline
 use Rattle.rb_desk.specs.Picture.{Picture}
 use Rattle.rb_sequence.specs.declared.item.Item.{Item}
 use Rattle.rb_sequence.specs.Entry.{Entry}
@@ -18,8 +19,8 @@ use Rattle.rb_core.proofs.Numbers.{numbered_push}
 
 -- ---- lists
 
-one_more : {A : Type 0} (xs : List A) (x : A) → length (xs ++ x ∷ []) ≡ suc (length xs)
-one_more xs x = omega (arith, length-append xs (x ∷ []))
+worlds_one_more : {A : Type 0} (xs : List A) (x : A) → length (xs ++ x ∷ []) ≡ suc (length xs)
+worlds_one_more xs x = omega (arith, length-append xs (x ∷ []))
 
 -- a delivery stays one of a subscription, and its numbers placed, where both lists grow
 still_of : (endpoints endpoints' : List Endpoint) (sequence sequence' : List Entry) (ds : List Delivery) → length endpoints ≤ length endpoints' → length sequence ≤ length sequence'
@@ -40,14 +41,14 @@ same_end (e ∷ endpoints) zero old new found same =
 same_end (e ∷ endpoints) (suc s) old new found same = ap (λ (ms : List Member). member_of_end e ∷ ms) (same_end endpoints s old new found same)
 
 -- the member that the desk finds is that of the end at this place
-pub found_end : (w : State) (s : ℕ) (end : Endpoint) (member : Member) → IsWorld w → slice_get w.endpoints s ≡ Some end → slice_get (outline w.desk).members s ≡ Some member → member ≡ member_of_end end
+pub found_end : (w : State) (s : ℕ) (end : Endpoint) (member : Member) → IsWorld w → slice_get w.endpoints s ≡ Some end → slice_get (outline_of w.desk).members s ≡ Some member → member ≡ member_of_end end
 found_end w s end member good here found =
     let is : slice_get (map member_of_end w.endpoints) s ≡ Some (member_of_end end) = slice_get-map member_of_end w.endpoints s ∙ ap (option_map member_of_end) here in
     let there : slice_get (map member_of_end w.endpoints) s ≡ Some member = ap (λ (ms : List Member). slice_get ms s) good.members ∙ found in
     cc (sym there ∙ is)
 
 -- and it is there
-pub end_within : (w : State) (s : ℕ) (member : Member) → IsWorld w → slice_get (outline w.desk).members s ≡ Some member → s < length w.endpoints
+pub end_within : (w : State) (s : ℕ) (member : Member) → IsWorld w → slice_get (outline_of w.desk).members s ≡ Some member → s < length w.endpoints
 end_within w s member good found =
     let there : slice_get (map member_of_end w.endpoints) s ≡ Some member = ap (λ (ms : List Member). slice_get ms s) good.members ∙ found in
     omega (arith, slice_get_within (map member_of_end w.endpoints) s member there, length-map w.endpoints member_of_end)
@@ -67,9 +68,9 @@ apart old publishers intake hand good = record {
 }
 
 -- the desk and the ends change together, where nothing is placed or handed over
-pub changed : (old : State) (desk : Picture) (endpoints : List Endpoint) → IsWorld old → IsPicture desk → desk.front ≡ old.desk.front → desk.next_delivery ≡ old.desk.next_delivery
-    → map member_of_end endpoints ≡ (outline desk).members → length old.endpoints ≤ length endpoints → IsWorld (record old { desk = desk; endpoints = endpoints })
-changed old desk endpoints good picture front next members more = record {
+pub worlds_changed : (old : State) (desk : Picture) (endpoints : List Endpoint) → IsWorld old → IsPicture desk → desk.front ≡ old.desk.front → desk.next_delivery ≡ old.desk.next_delivery
+    → map member_of_end endpoints ≡ (outline_of desk).members → length old.endpoints ≤ length endpoints → IsWorld (record old { desk = desk; endpoints = endpoints })
+worlds_changed old desk endpoints good picture front next members more = record {
   picture = picture;
   front = front ∙ good.front;
   members = members;
@@ -80,13 +81,13 @@ changed old desk endpoints good picture front next members more = record {
 }
 
 -- the desk alone, where its outline stays
-pub same_outline : (old : State) (desk : Picture) → IsWorld old → IsPicture desk → outline desk ≡ outline old.desk → IsWorld (record old { desk = desk })
+pub same_outline : (old : State) (desk : Picture) → IsWorld old → IsPicture desk → outline_of desk ≡ outline_of old.desk → IsWorld (record old { desk = desk })
 same_outline old desk good picture same =
-    changed old desk old.endpoints good picture (ap (λ (o : Outline). o.front) same) (ap (λ (o : Outline). o.next_delivery) same)
+    worlds_changed old desk old.endpoints good picture (ap (λ (o : Outline). o.front) same) (ap (λ (o : Outline). o.next_delivery) same)
     (good.members ∙ sym (ap (λ (o : Outline). o.members) same)) (omega arith)
 
 -- a delivery is handed over
-pub handed_over : (old : State) (desk : Picture) (delivery : Delivery) → IsWorld old → IsPicture desk → Hands (outline old.desk) (outline desk) delivery
+pub handed_over : (old : State) (desk : Picture) (delivery : Delivery) → IsWorld old → IsPicture desk → outline.Delivers (outline_of old.desk) (outline_of desk) delivery
     → IsWorld (record old { desk = desk; deliveries = old.deliveries ++ delivery ∷ [] })
 handed_over old desk delivery good picture hands =
     let front : desk.front ≡ old.desk.front = ap (λ (o : Outline). o.front) hands.kept in
@@ -98,7 +99,7 @@ handed_over old desk delivery good picture hands =
       members = good.members ∙ sym (ap (λ (o : Outline). o.members) hands.kept);
       entries = good.entries;
       deliveries = numbered_push (λ (d : Delivery). d.number) 1 old.deliveries delivery good.deliveries (omega (arith, number));
-      next = omega (arith, next, number, one_more old.deliveries delivery);
+      next = omega (arith, next, number, worlds_one_more old.deliveries delivery);
       are_of = all_push (IsOf old.endpoints old.sequence) old.deliveries delivery good.are_of (end_within old delivery.sub hands.member good hands.found, omega (arith, hands.placed, good.front));
     }
 
@@ -106,12 +107,12 @@ handed_over old desk delivery good picture hands =
 abbrev pub entry_as : ℕ → Item → Entry
 entry_as number item = record { number = number; item = item }
 
-pub placed_next : (old : State) (desk : Picture) (number : ℕ) (item : Item) → IsWorld old → IsPicture desk → Places (outline old.desk) (outline desk) number
+pub placed_next : (old : State) (desk : Picture) (number : ℕ) (item : Item) → IsWorld old → IsPicture desk → outline.Places (outline_of old.desk) (outline_of desk) number
     → IsWorld (record old { hand = None; sequence = old.sequence ++ entry_as number item ∷ []; desk = desk })
 placed_next old desk number item good picture places =
     let front : desk.front ≡ number = ap (λ (o : Outline). o.front) places.kept in
     let is : number ≡ suc (length old.sequence) = places.next ∙ ap suc good.front in
-    let longer = one_more old.sequence (entry_as number item) in
+    let longer = worlds_one_more old.sequence (entry_as number item) in
     record {
       picture = picture;
       front = omega (arith, front, is, longer);

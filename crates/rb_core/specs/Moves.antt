@@ -7,9 +7,9 @@ use Rattle.cs_apply.specs.State as tables
 use Rattle.rb_desk.specs.declared.delivery.Delivery.{Delivery}
 use Rattle.rb_sequence.specs.declared.item.Item.{Item}
 use Rattle.rb_sequence.specs.Entry.{Entry}
-use Rattle.rb_subscriber.specs.Accept.{part, brought, Accepts}
+use Rattle.rb_subscriber.specs.Accept.{part, brought, AcceptsDelivery}
 use Rattle.rb_subscriber.specs.Endpoint.{Endpoint}
-use Rattle.rb_core.specs.World.{Sender, Subscriber, World, begun, cursor, end_of}
+use Rattle.rb_core.specs.World.{Sender, Subscriber, World, world_begun, cursor, endpoint_of}
 
 abbrev pub with_sender : World → ℕ → Sender → World
 with_sender old p sender = record old { senders = slice_set old.senders p sender }
@@ -33,11 +33,11 @@ IsUnused number q = AllByRecursion (λ offer. offer.number ≡ number → ⊥) q
 -- ---- publishers
 
 -- a publisher comes
-abbrev pub Comes : World → World → Type 0
-Comes old new = new ≡ record old { senders = old.senders ++ record { text = []; staged = None; sent = [] } ∷ [] }
+abbrev pub AddsPublisher : World → World → Type 0
+AddsPublisher old new = new ≡ record old { senders = old.senders ++ record { text = []; staged = None; sent = [] } ∷ [] }
 
 -- a publisher's text and what it staged change, and nothing else
-pub record Stages (old new : World) : Type 0 where
+pub record Streams (old new : World) : Type 0 where
   pub p : ℕ
   pub before : Sender
   pub after : Sender
@@ -75,17 +75,17 @@ pub record Places (old new : World) : Type 0 where
   pub kept : new ≡ record old { hand = None; sequence = old.sequence ++ record { number = suc (length old.sequence); item = item } ∷ [] }
 
 -- the sequence is closed: its last number is the closing number
-pub record Ends (old new : World) : Type 0 where
+pub record Closes (old new : World) : Type 0 where
   pub not_closed : old.closing ≡ None
   pub kept : new ≡ record old { closing = Some (length old.sequence) }
 
 -- ---- subscriptions
 
 -- one begins behind a number that is placed, under a link that was never drawn before, with some tables
-pub record Begins (old new : World) : Type 0 where
+pub record Subscribes (old new : World) : Type 0 where
   pub start : ℕ
   pub link : ℕ
-  pub base : tables.State
+  pub base : tables.TableState
   pub placed : start ≤ length old.sequence
   pub new_link : IsNew old.links link
   pub kept : new ≡ record old {
@@ -94,7 +94,7 @@ pub record Begins (old new : World) : Type 0 where
   }
 
 -- one is offered numbers that are placed, under its present link, as a delivery whose number was never used
-pub record Offers (old new : World) : Type 0 where
+pub record Delivers (old new : World) : Type 0 where
   pub s : ℕ
   pub subscriber : Subscriber
   pub delivery : Delivery
@@ -107,15 +107,15 @@ pub record Offers (old new : World) : Type 0 where
   pub kept : new ≡ with_subscriber old s (record subscriber { offers = subscriber.offers ++ delivery ∷ [] })
 
 -- one accepts a delivery that it was offered, as its end does
-pub record Takes (old new : World) : Type 0 where
+pub record Accepts (old new : World) : Type 0 where
   pub s : ℕ
   pub subscriber : Subscriber
   pub delivery : Delivery
   pub end : Endpoint
   pub found : slice_get old.subscribers s ≡ Some subscriber
   pub offered : IsIn delivery subscriber.offers
-  pub accepts : Accepts (end_of subscriber) old.sequence delivery end
-  pub kept : new ≡ with_subscriber old s (record subscriber { accepted = subscriber.accepted ++ brought (end_of subscriber) old.sequence delivery; tables = end.tables })
+  pub accepts : AcceptsDelivery (endpoint_of subscriber) old.sequence delivery end
+  pub kept : new ≡ with_subscriber old s (record subscriber { accepted = subscriber.accepted ++ brought (endpoint_of subscriber) old.sequence delivery; tables = end.tables })
 
 -- one goes on under a link that was never drawn before
 pub record Reconnects (old new : World) : Type 0 where
@@ -127,7 +127,7 @@ pub record Reconnects (old new : World) : Type 0 where
   pub kept : new ≡ record (with_subscriber old s (record subscriber { link = link })) { links = link ∷ old.links }
 
 -- one is closed
-pub record Leaves (old new : World) : Type 0 where
+pub record Unsubscribes (old new : World) : Type 0 where
   pub s : ℕ
   pub subscriber : Subscriber
   pub found : slice_get old.subscribers s ≡ Some subscriber
@@ -137,8 +137,8 @@ pub record Leaves (old new : World) : Type 0 where
 
 abbrev pub Moves : World → World → Type 0
 Moves old new =
-    (new ≡ old) ⊎ (Comes old new ⊎ (Stages old new ⊎ (Sends old new ⊎ (Pulls old new ⊎ (Places old new ⊎ (Ends old new
-    ⊎ (Begins old new ⊎ (Offers old new ⊎ (Takes old new ⊎ (Reconnects old new ⊎ Leaves old new))))))))))
+    (new ≡ old) ⊎ (AddsPublisher old new ⊎ (Streams old new ⊎ (Sends old new ⊎ (Pulls old new ⊎ (Places old new ⊎ (Closes old new
+    ⊎ (Subscribes old new ⊎ (Delivers old new ⊎ (Accepts old new ⊎ (Reconnects old new ⊎ Unsubscribes old new))))))))))
 
 -- one move after another, through these worlds
 abbrev pub Leads : World → List World → World → Type 0

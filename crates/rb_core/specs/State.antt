@@ -10,8 +10,8 @@ use Rattle.rb_desk.specs.contracts.delivery.Delivery as delivery
 use Rattle.rb_desk.specs.declared.delivery.Delivery.{Delivery}
 use Rattle.rb_desk.specs.IsPicture.{IsPicture}
 use Rattle.rb_desk.specs.Limits.{Limits}
-use Rattle.rb_desk.specs.Outline.{Member, outline}
-use Rattle.rb_desk.specs.Picture.{Picture, opening, picture_code}
+use Rattle.rb_desk.specs.Outline.{Member, outline_of}
+use Rattle.rb_desk.specs.Picture.{Picture, empty_picture, picture_code}
 use Rattle.rb_sequence.specs.contracts.item.Item as item
 use Rattle.rb_sequence.specs.declared.item.Item.{Item}
 use Rattle.rb_sequence.specs.Entry.{Entry, entry_code}
@@ -40,13 +40,13 @@ empty_world limits schema = record {
   intake = [];
   hand = None;
   sequence = [];
-  desk = opening limits;
+  desk = empty_picture limits;
   endpoints = [];
   deliveries = [];
 }
 
 -- tables without rows, every one of them kept
-abbrev pub empty_tables : List Shape → tables.State
+abbrev pub empty_tables : List Shape → tables.TableState
 empty_tables schema = record { schema = schema; kept = replicate (length schema) true; rows = map.empty }
 
 -- an end as the desk knows its subscription
@@ -67,7 +67,7 @@ IsOf endpoints sequence d = (d.sub < length endpoints) × (d.last ≤ length seq
 pub record IsWorld (w : State) : Type 0 where
   pub picture : IsPicture w.desk
   pub front : w.desk.front ≡ length w.sequence
-  pub members : map member_of_end w.endpoints ≡ (outline w.desk).members
+  pub members : map member_of_end w.endpoints ≡ (outline_of w.desk).members
   pub entries : AreNumbered (λ entry. entry.number) 1 w.sequence
   pub deliveries : AreNumbered (λ d. d.number) 1 w.deliveries
   pub next : w.desk.next_delivery ≡ suc (length w.deliveries)

@@ -13,7 +13,7 @@ use Rattle.cs_apply.specs.State as tables
 use Rattle.rb_desk.specs.declared.delivery.Delivery.{Delivery}
 use Rattle.rb_sequence.specs.declared.item.Item.{Item}
 use Rattle.rb_sequence.specs.Entry.{Entry}
-use Rattle.rb_subscriber.specs.Accept.{part, joined}
+use Rattle.rb_subscriber.specs.Accept.{part, joined_bodies}
 use Rattle.rb_core.specs.declared.event.Event.{Event}
 use Rattle.rb_core.specs.declared.event.Event.TheVariants as event
 use Rattle.rb_core.specs.declared.publisher.Publisher.{Publisher}
@@ -22,7 +22,7 @@ use Rattle.rb_core.specs.declared.reply.Reply.TheVariants as reply
 use Rattle.rb_core.specs.Moves.{with_sender, with_subscriber, IsIn}
 use Rattle.rb_core.specs.Run.{Answer}
 use Rattle.rb_core.specs.State.{State, empty_tables}
-use Rattle.rb_core.specs.World.{Sender, Subscriber, World, begun, cursor, end_of}
+use Rattle.rb_core.specs.World.{Sender, Subscriber, World, world_begun, cursor, endpoint_of}
 
 -- a publisher, or a subscription, changed so where there is one of this number
 abbrev pub sender_set : World → ℕ → (Sender → Sender) → Option Sender → World
@@ -42,39 +42,39 @@ subscriber_changed old s change = subscriber_set old s change (slice_get old.sub
 -- ---- publishers
 
 -- one comes: nothing of it is fed, staged or sent
-abbrev pub came : World → World
-came old = record old { senders = old.senders ++ record { text = []; staged = None; sent = [] } ∷ [] }
+abbrev pub publisher_added : World → World
+publisher_added old = record old { senders = old.senders ++ record { text = []; staged = None; sent = [] } ∷ [] }
 
 -- bytes stand behind its text, also where they bring a fault; its text is empty again
 abbrev pub fed : List ℕ → Sender → Sender
 fed bytes sender = record sender { text = sender.text ++ bytes }
 
-abbrev pub emptied : Sender → Sender
-emptied sender = record sender { text = [] }
+abbrev pub reset : Sender → Sender
+reset sender = record sender { text = [] }
 
 -- what its text spells is staged, and the text is empty again
-abbrev pub spelled : Result (List Section) ParseFault → Option (List Section)
-spelled (Ok changeset) = Some changeset
-spelled (Err fault) = None
+abbrev pub staged_by_text : Result (List Section) ParseFault → Option (List Section)
+staged_by_text (Ok changeset) = Some changeset
+staged_by_text (Err fault) = None
 
-abbrev pub staged : Sender → Sender
-staged sender = record sender { text = []; staged = spelled (answer_of sender.text) }
+abbrev pub ended : Sender → Sender
+ended sender = record sender { text = []; staged = staged_by_text (answer_of sender.text) }
 
 -- what it staged is sent, as its sending of this number, and waits behind all others
-abbrev pub queued : World → ℕ → Sender → Item → World
-queued old p sender item =
+abbrev pub with_sent : World → ℕ → Sender → Item → World
+with_sent old p sender item =
     record (with_sender old p (record sender { staged = None; sent = sender.sent ++ item ∷ [] })) { intake = old.intake ++ item ∷ [] }
 
-abbrev pub sent_from : World → ℕ → ℕ → Sender → Option (List Section) → World
-sent_from old p own sender None = old
-sent_from old p own sender (Some body) = queued old p sender (record { publisher = p; own = own; origin = Sent; body = body })
+abbrev pub sent_staged : World → ℕ → ℕ → Sender → Option (List Section) → World
+sent_staged old p own sender None = old
+sent_staged old p own sender (Some body) = with_sent old p sender (record { publisher = p; own = own; origin = Sent; body = body })
 
-abbrev pub sent_by : World → ℕ → ℕ → Option Sender → World
-sent_by old p own None = old
-sent_by old p own (Some sender) = sent_from old p own sender sender.staged
+abbrev pub sent_of : World → ℕ → ℕ → Option Sender → World
+sent_of old p own None = old
+sent_of old p own (Some sender) = sent_staged old p own sender sender.staged
 
 abbrev pub sent : World → ℕ → ℕ → World
-sent old p own = sent_by old p own (slice_get old.senders p)
+sent old p own = sent_of old p own (slice_get old.senders p)
 
 -- ---- the sequence
 
@@ -105,45 +105,45 @@ subscribed schema old start link = record old {
       ++ record { start = start; base = empty_tables schema; accepted = []; tables = empty_tables schema; link = link; closed = false; offers = [] } ∷ [];
 }
 
-abbrev pub offered : Delivery → Subscriber → Subscriber
-offered delivery q = record q { offers = q.offers ++ delivery ∷ [] }
+abbrev pub delivered : Delivery → Subscriber → Subscriber
+delivered delivery q = record q { offers = q.offers ++ delivery ∷ [] }
 
 -- it has accepted up to this number: the entries from its cursor to there, which are applied to its tables
-abbrev pub if_applied : tables.State → Result tables.State Conflict → tables.State
+abbrev pub if_applied : tables.TableState → Result tables.TableState Conflict → tables.TableState
 if_applied old (Ok new) = new
 if_applied old (Err conflict) = old
 
 abbrev pub with_accepted : List Entry → Subscriber → Subscriber
-with_accepted entries q = record q { accepted = q.accepted ++ entries; tables = if_applied q.tables (single q.tables (joined entries)) }
+with_accepted entries q = record q { accepted = q.accepted ++ entries; tables = if_applied q.tables (single q.tables (joined_bodies entries)) }
 
 abbrev pub accepted : List Entry → ℕ → Subscriber → Subscriber
 accepted sequence last q = with_accepted (part sequence (cursor q) (last - cursor q)) q
 
-abbrev pub relinked : ℕ → Subscriber → Subscriber
-relinked link q = record q { link = link }
+abbrev pub reconnected : ℕ → Subscriber → Subscriber
+reconnected link q = record q { link = link }
 
-abbrev pub closed : Subscriber → Subscriber
-closed q = record q { closed = true }
+abbrev pub unsubscribed : Subscriber → Subscriber
+unsubscribed q = record q { closed = true }
 
 -- ---- all of these
 
 -- the world once an event is answered so; any other answer tells nothing
 abbrev pub told : List Shape → World → Event → Reply → World
-told schema old event.Publisher (reply.Publisher p) = came old
+told schema old event.Publisher (reply.Publisher p) = publisher_added old
 told schema old (event.Feed p bytes) reply.Fed = sender_changed old p (fed bytes)
 told schema old (event.Feed p bytes) (reply.Fault fault) = sender_changed old p (fed bytes)
-told schema old (event.Reset p) reply.Reset = sender_changed old p emptied
-told schema old (event.End p) reply.Staged = sender_changed old p staged
+told schema old (event.Reset p) reply.Reset = sender_changed old p reset
+told schema old (event.End p) reply.Staged = sender_changed old p ended
 told schema old (event.Send p) (reply.Sent own) = sent old p own
 told schema old event.Turn (reply.Placed number) = placed (pulled old) number
 told schema old event.Turn (reply.Refused why) = pulled old
 told schema old event.Close (reply.Closed last) = record old { closing = Some last }
 told schema old (event.Subscribe start) (reply.Subscriber s link) = subscribed schema old start link
-told schema old (event.Take s now) (reply.Delivery delivery) = subscriber_changed old delivery.sub (offered delivery)
-told schema old (event.TakeAny now) (reply.Delivery delivery) = subscriber_changed old delivery.sub (offered delivery)
+told schema old (event.Take s now) (reply.Delivery delivery) = subscriber_changed old delivery.sub (delivered delivery)
+told schema old (event.TakeAny now) (reply.Delivery delivery) = subscriber_changed old delivery.sub (delivered delivery)
 told schema old (event.Accept d) (reply.Accepted s last) = subscriber_changed old s (accepted old.sequence last)
-told schema old (event.Reconnect s cursor) (reply.Link link) = record (subscriber_changed old s (relinked link)) { links = link ∷ old.links }
-told schema old (event.Unsubscribe s) reply.Unsubscribed = subscriber_changed old s closed
+told schema old (event.Reconnect s cursor) (reply.Link link) = record (subscriber_changed old s (reconnected link)) { links = link ∷ old.links }
+told schema old (event.Unsubscribe s) reply.Unsubscribed = subscriber_changed old s unsubscribed
 told schema old event given = old
 
 -- want of memory tells nothing
@@ -159,7 +159,7 @@ told_from schema old (event ∷ events) (answer ∷ answers) = told_from schema 
 
 -- the world that these events and answers tell, from the first one on
 abbrev pub world_told : List Shape → List Event → List Answer → World
-world_told schema events answers = told_from schema begun events answers
+world_told schema events answers = told_from schema world_begun events answers
 
 -- ---- the broker's own knowledge
 
@@ -177,8 +177,8 @@ pub record IsSender (publisher : Publisher) (sender : Sender) : Type 0 where
   pub sent : publisher.sent ≡ length sender.sent
 
 -- a delivery was offered to its subscription
-abbrev pub IsOffered : List Subscriber → Delivery → Type 0
-IsOffered subscribers delivery = (q : Subscriber) × (slice_get subscribers delivery.sub ≡ Some q) × IsIn delivery q.offers
+abbrev pub IsDelivered : List Subscriber → Delivery → Type 0
+IsDelivered subscribers delivery = (q : Subscriber) × (slice_get subscribers delivery.sub ≡ Some q) × IsIn delivery q.offers
 
 -- the deliveries that were offered to a subscription have numbers below this one
 abbrev pub AreBelow : ℕ → Subscriber → Type 0
@@ -187,15 +187,15 @@ AreBelow next q = AllByRecursion (λ offer. offer.number < next) q.offers
 -- A broker's state is what was told: publisher by publisher, what waits, the item in hand, the sequence and its closing number, end by
 -- end. All its deliveries were offered, and all links and numbers so far are below the next ones. Each subscription began with empty
 -- tables.
-pub record Tells (schema : List Shape) (state : State) (world : World) : Type 0 where
+pub record IsToldBy (schema : List Shape) (state : State) (world : World) : Type 0 where
   pub served : state.schema ≡ schema
   pub senders : Paired IsSender state.publishers world.senders
   pub intake : world.intake ≡ state.intake
   pub hand : world.hand ≡ state.hand
   pub sequence : world.sequence ≡ state.sequence
   pub closing : world.closing ≡ state.desk.closing
-  pub ends : map end_of world.subscribers ≡ state.endpoints
-  pub offers : AllByRecursion (IsOffered world.subscribers) state.deliveries
+  pub ends : map endpoint_of world.subscribers ≡ state.endpoints
+  pub offers : AllByRecursion (IsDelivered world.subscribers) state.deliveries
   pub links : AllByRecursion (λ link. link < state.desk.next_link) world.links
   pub numbers : AllByRecursion (AreBelow state.desk.next_delivery) world.subscribers
   pub bases : AllByRecursion (λ q. q.base ≡ empty_tables schema) world.subscribers

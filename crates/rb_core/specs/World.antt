@@ -17,9 +17,9 @@ pub record Sender : Type 0 where
 -- tables, its present link, whether it is closed, and all deliveries that it was ever offered.
 pub record Subscriber : Type 0 where
   pub start : ℕ
-  pub base : tables.State
+  pub base : tables.TableState
   pub accepted : List Entry
-  pub tables : tables.State
+  pub tables : tables.TableState
   pub link : ℕ
   pub closed : Bool
   pub offers : List Delivery
@@ -37,13 +37,13 @@ pub record World : Type 0 where
   pub subscribers : List Subscriber
 
 -- the world before anything happened
-abbrev pub begun : World
-begun = record { senders = []; intake = []; hand = None; sequence = []; closing = None; links = []; subscribers = [] }
+abbrev pub world_begun : World
+world_begun = record { senders = []; intake = []; hand = None; sequence = []; closing = None; links = []; subscribers = [] }
 
 -- how far a subscription has accepted
 abbrev pub cursor : Subscriber → ℕ
 cursor q = q.start + length q.accepted
 
 -- its end, as the one that accepts knows it
-abbrev pub end_of : Subscriber → Endpoint
-end_of q = record { start = q.start; cursor = cursor q; link = q.link; closed = q.closed; tables = q.tables }
+abbrev pub endpoint_of : Subscriber → Endpoint
+endpoint_of q = record { start = q.start; cursor = cursor q; link = q.link; closed = q.closed; tables = q.tables }

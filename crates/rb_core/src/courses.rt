@@ -3,7 +3,7 @@
 
 ghost use Rattle.std.specs.Prelude.{◌≡◌, ℕ, true, List, Some, slice_get};
 ghost use Rattle.rb_core.specs.Moves.{Leads, HasRun, StaysClosed, items_of, own_of, IsFront};
-ghost use Rattle.rb_core.specs.World.{Sender, Subscriber, World, begun};
+ghost use Rattle.rb_core.specs.World.{Sender, Subscriber, World, world_begun};
 ghost use Rattle.rb_sequence.specs.Entry.{Entry};
 ghost use Rattle.rb_subscriber.specs.Accept.{AppliesSingly};
 
@@ -13,7 +13,7 @@ use cs_apply::laws::applying_goes_on;
 /// and each one comes once. So it is at every time, since each time is the end of what happened before.
 pub fn accepted_is_gapless()
     ensures { (mids : List World) (new : World) (s : ℕ) (subscriber : Subscriber)
-        → Leads begun mids new → slice_get new.subscribers s ≡ Some subscriber
+        → Leads world_begun mids new → slice_get new.subscribers s ≡ Some subscriber
         → HasRun new.sequence subscriber }
 {}
 
@@ -33,10 +33,10 @@ pub fn nothing_after_close()
 /// no two entries have the same publisher and the same own number, so that each sending is placed once.
 pub fn sendings_come_once_in_order()
     ensures order { (mids : List World) (new : World) (p : ℕ) (sender : Sender)
-        → Leads begun mids new → slice_get new.senders p ≡ Some sender
+        → Leads world_begun mids new → slice_get new.senders p ≡ Some sender
         → IsFront (own_of p (items_of new.sequence)) sender.sent }
     ensures once { (mids : List World) (new : World) (i j : ℕ) (a b : Entry)
-        → Leads begun mids new → slice_get new.sequence i ≡ Some a
+        → Leads world_begun mids new → slice_get new.sequence i ≡ Some a
         → slice_get new.sequence j ≡ Some b → a.item.publisher ≡ b.item.publisher
         → a.item.own ≡ b.item.own → i ≡ j }
 {}
@@ -45,7 +45,7 @@ pub fn sendings_come_once_in_order()
 /// to the tables that it began with, one after another.
 pub fn tables_apply_singly()
     ensures { (mids : List World) (new : World) (s : ℕ) (subscriber : Subscriber)
-        → Leads begun mids new → slice_get new.subscribers s ≡ Some subscriber
+        → Leads world_begun mids new → slice_get new.subscribers s ≡ Some subscriber
         → AppliesSingly subscriber.base subscriber.accepted subscriber.tables }
 {
     applying_goes_on();

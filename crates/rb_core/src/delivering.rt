@@ -2,11 +2,12 @@
 
 ghost use Rattle.std.specs.Prelude.{◌≡◌, IfOk, IfSome, OnErr};
 ghost use Rattle.std.specs.Option.{option_copied};
-ghost use Rattle.rb_core.specs.Outcome.{delivery_of, accept_outcome, ack_outcome, nack_outcome, expire_outcome};
+ghost use Rattle.rb_core.specs.Outcome.{delivery_of};
+ghost use Rattle.rb_core.specs.Outcome as outcome;
 ghost use Rattle.rb_core.specs.State.{AreNumbered, IsOf, IsWorld};
 
 use crate::parts::Parts;
-use crate::reply::{Refusal, Reply};
+use crate::reply::{BrokerRefusal, Reply};
 use crate::world::refused;
 use rb_desk::{Delivery, DeskError};
 use rb_subscriber::AcceptError;
@@ -34,17 +35,17 @@ impl Parts {
     /// Applies a delivery's entries to its subscription's tables.
     pub(crate) fn accept(&mut self, alloc: Global, delivery: u64) -> Result<Reply, AllocError>
         requires { IsWorld self.old }
-        ensures ok { IfOk result (λ reply. accept_outcome self.old delivery ≡ (reply, self.new)) }
+        ensures ok { IfOk result (λ reply. outcome.accepted self.old delivery ≡ (reply, self.new)) }
         ensures err { OnErr result (self.new ≡ self.old) }
     {
         let Some(delivery) = self.known(delivery) else {
-            return refused(Refusal::NoDelivery);
+            return refused(BrokerRefusal::NoDelivery);
         };
         let subscription = delivery.sub();
         let end = &mut self.endpoints[subscription as usize];
         let cursor = match end.accept(alloc, &self.sequence, &delivery) {
             Ok(cursor) => cursor,
-            Err(AcceptError::Refused(why)) => return Ok(Reply::Refused(Refusal::Accept(why))),
+            Err(AcceptError::Refused(why)) => return Ok(Reply::Refused(BrokerRefusal::Accept(why))),
             Err(AcceptError::Memory) => return Err(AllocError),
         };
         Ok(Reply::Accepted {
@@ -56,11 +57,11 @@ impl Parts {
     /// Settles a delivery's entries, all of which its subscription has accepted.
     pub(crate) fn ack(&mut self, delivery: u64) -> Result<Reply, AllocError>
         requires { IsWorld self.old }
-        ensures ok { IfOk result (λ reply. ack_outcome self.old delivery ≡ (reply, self.new)) }
+        ensures ok { IfOk result (λ reply. outcome.acked self.old delivery ≡ (reply, self.new)) }
         ensures err { OnErr result (self.new ≡ self.old) }
     {
         let Some(delivery) = self.known(delivery) else {
-            return refused(Refusal::NoDelivery);
+            return refused(BrokerRefusal::NoDelivery);
         };
         let sub = delivery.sub();
         let cursor = self.endpoints[sub as usize].cursor();
@@ -69,32 +70,32 @@ impl Parts {
             .ack(sub, delivery.link(), delivery.number(), cursor)
         {
             Ok(floor) => Ok(Reply::Floor(floor)),
-            Err(why) => refused(Refusal::Desk(why)),
+            Err(why) => refused(BrokerRefusal::Desk(why)),
         }
     }
 
     /// Gives a delivery's entries back.
     pub(crate) fn nack(&mut self, delivery: u64) -> Result<Reply, AllocError>
         requires { IsWorld self.old }
-        ensures ok { IfOk result (λ reply. nack_outcome self.old delivery ≡ (reply, self.new)) }
+        ensures ok { IfOk result (λ reply. outcome.nacked self.old delivery ≡ (reply, self.new)) }
         ensures err { OnErr result (self.new ≡ self.old) }
     {
         let Some(delivery) = self.known(delivery) else {
-            return refused(Refusal::NoDelivery);
+            return refused(BrokerRefusal::NoDelivery);
         };
         match self
             .desk
             .nack(delivery.sub(), delivery.link(), delivery.number())
         {
             Ok(()) => Ok(Reply::Returned),
-            Err(DeskError::Refused(why)) => refused(Refusal::Desk(why)),
+            Err(DeskError::Refused(why)) => refused(BrokerRefusal::Desk(why)),
             Err(DeskError::Memory) => Err(AllocError),
         }
     }
 
     /// Gives all deliveries back that are out too long.
     pub(crate) fn expire(&mut self, now: u64) -> Result<Reply, AllocError>
-        ensures ok { IfOk result (λ reply. expire_outcome self.old now ≡ (reply, self.new)) }
+        ensures ok { IfOk result (λ reply. outcome.expired self.old now ≡ (reply, self.new)) }
         ensures err { OnErr result (self.new ≡ self.old) }
     {
         Ok(Reply::Expired(self.desk.expire(now)?))

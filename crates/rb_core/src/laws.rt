@@ -17,8 +17,8 @@ ghost use Rattle.rb_core.specs.Outcome.{outcome};
 ghost use Rattle.rb_core.specs.Run.{Answer, Run, FeedsBytes};
 ghost use Rattle.rb_core.specs.State.{State, IsWorld, empty_tables, empty_world};
 ghost use Rattle.rb_core.specs.Texts.{FeedsByText, EndsByText};
-ghost use Rattle.rb_core.specs.Told.{world_told, Tells};
-ghost use Rattle.rb_core.specs.World.{Sender, Subscriber, World, begun, end_of};
+ghost use Rattle.rb_core.specs.Told.{world_told, IsToldBy};
+ghost use Rattle.rb_core.specs.World.{Sender, Subscriber, World, world_begun, endpoint_of};
 ghost use Rattle.rb_desk.specs.IsPicture.{AreInRange};
 ghost use Rattle.rb_desk.specs.Limits.{Limits};
 ghost use Rattle.rb_sequence.specs.Entry.{Entry};
@@ -70,14 +70,14 @@ pub fn runs_are_told()
     ensures told { (limits : Limits) (schema : List Shape) (events : List Event)
         (answers : List Answer) (new : State) → AreInRange limits
         → AllByRecursion FeedsBytes events → Run (empty_world limits schema) events answers new
-        → ((mids : List World) × Leads begun mids (world_told schema events answers))
-        × Tells schema new (world_told schema events answers) }
+        → ((mids : List World) × Leads world_begun mids (world_told schema events answers))
+        × IsToldBy schema new (world_told schema events answers) }
     ensures goes_on { (limits : Limits) (schema : List Shape) (events more : List Event)
         (answers later : List Answer) (mid new : State) → AreInRange limits
         → AllByRecursion FeedsBytes events → AllByRecursion FeedsBytes more
         → Run (empty_world limits schema) events answers mid → Run mid more later new
         → ((mids : List World) × Leads (world_told schema events answers) mids (world_told schema (events ++ more) (answers ++ later)))
-        × Tells schema new (world_told schema (events ++ more) (answers ++ later)) }
+        × IsToldBy schema new (world_told schema (events ++ more) (answers ++ later)) }
 {
     events_keep_worlds();
     replays_are_pictures();
@@ -106,7 +106,7 @@ pub fn accepted_is_gapless()
         (answers : List Answer) (new : State) (s : ℕ) (subscriber : Subscriber) → AreInRange limits
         → AllByRecursion FeedsBytes events → Run (empty_world limits schema) events answers new
         → slice_get (world_told schema events answers).subscribers s ≡ Some subscriber
-        → HasRun new.sequence subscriber × (slice_get new.endpoints s ≡ Some (end_of subscriber)) }
+        → HasRun new.sequence subscriber × (slice_get new.endpoints s ≡ Some (endpoint_of subscriber)) }
 {
     runs_are_told();
     courses::accepted_is_gapless();

@@ -20,6 +20,6 @@ pub use event::Event;
 pub use publisher::Publisher;
 pub use rb_desk::{Config, ConfigFault, Delivery};
 pub use rb_sequence::{Entry, Item};
-pub use reply::{Refusal, Reply};
+pub use reply::{BrokerRefusal, Reply};
 pub use runs::run;
 pub use world::World;

@@ -2,14 +2,15 @@
 
 ghost use Rattle.std.specs.Prelude.{◌≡◌, ◌<◌, List, Some, length, slice_get, nat_le, IfOk, OnErr};
 ghost use Rattle.cs_model.specs.Section.{Section};
-ghost use Rattle.cs_parse.specs.End.{end_of, left_by};
-ghost use Rattle.cs_parse.specs.Progress.{ended};
-ghost use Rattle.rb_core.specs.Outcome.{publisher_outcome, feed_outcome, reset_outcome, end_outcome, send_outcome, end_reply, queued};
+ghost use Rattle.cs_parse.specs.End.{admitted_answer, left_by};
+ghost use Rattle.cs_parse.specs.Progress.{answer_at_end};
+ghost use Rattle.rb_core.specs.Outcome.{end_reply};
+ghost use Rattle.rb_core.specs.Outcome as outcome;
 ghost use Rattle.rb_core.specs.declared.publisher.Publisher.{Publisher};
 
 use crate::parts::Parts;
 use crate::publisher::Publisher;
-use crate::reply::{Refusal, Reply};
+use crate::reply::{BrokerRefusal, Reply};
 use crate::world::refused;
 use cs_model::{Changeset, Origin, Schema, SectionFault};
 use cs_parse::{EndError, ParseError, PieceParser};
@@ -22,11 +23,11 @@ const MOST_PUBLISHERS: usize = 64;
 impl Parts {
     /// One publisher more, with an empty stream. It is answered with its number, from 0.
     pub(crate) fn publisher(&mut self, alloc: Global) -> Result<Reply, AllocError>
-        ensures ok { IfOk result (λ reply. publisher_outcome self.old ≡ (reply, self.new)) }
+        ensures ok { IfOk result (λ reply. outcome.publisher_added self.old ≡ (reply, self.new)) }
         ensures err { OnErr result (self.new ≡ self.old) }
     {
         if self.publishers.len() >= MOST_PUBLISHERS {
-            return refused(Refusal::TooMany);
+            return refused(BrokerRefusal::TooMany);
         }
         let number = self.publishers.len() as u64;
         self.publishers.push(Publisher {
@@ -46,12 +47,12 @@ impl Parts {
         bytes: &[u8],
     ) -> Result<Reply, AllocError>
         ensures ok { IfOk result (λ reply.
-            feed_outcome self.old publisher bytes.now ≡ (reply, self.new)) }
+            outcome.fed self.old publisher bytes.now ≡ (reply, self.new)) }
         ensures err { OnErr result (self.new ≡ self.old) }
     {
         let p = publisher as usize;
         if p >= self.publishers.len() {
-            return refused(Refusal::NoPublisher);
+            return refused(BrokerRefusal::NoPublisher);
         }
         let found = &mut self.publishers[p];
         match found.stream.feed(alloc, bytes) {
@@ -63,12 +64,12 @@ impl Parts {
 
     /// Empties a publisher's stream; what is staged stays.
     pub(crate) fn reset(&mut self, alloc: Global, publisher: u64) -> Result<Reply, AllocError>
-        ensures ok { IfOk result (λ reply. reset_outcome self.old publisher ≡ (reply, self.new)) }
+        ensures ok { IfOk result (λ reply. outcome.reset self.old publisher ≡ (reply, self.new)) }
         ensures err { OnErr result (self.new ≡ self.old) }
     {
         let p = publisher as usize;
         if p >= self.publishers.len() {
-            return refused(Refusal::NoPublisher);
+            return refused(BrokerRefusal::NoPublisher);
         }
         let found = &mut self.publishers[p];
         found.stream = PieceParser::new(alloc);
@@ -77,15 +78,15 @@ impl Parts {
 
     /// Ends a publisher's stream: the changeset that it spells is staged, where the schema admits it, and a new stream begins.
     pub(crate) fn end(&mut self, alloc: Global, publisher: u64) -> Result<Reply, AllocError>
-        ensures ok { IfOk result (λ reply. end_outcome self.old publisher ≡ (reply, self.new)) }
+        ensures ok { IfOk result (λ reply. outcome.ended self.old publisher ≡ (reply, self.new)) }
         ensures err { OnErr result (self.new ≡ self.old) }
     {
         let p = publisher as usize;
         if p >= self.publishers.len() {
-            return refused(Refusal::NoPublisher);
+            return refused(BrokerRefusal::NoPublisher);
         }
         if self.publishers[p].staged.is_some() {
-            return refused(Refusal::Holding);
+            return refused(BrokerRefusal::Holding);
         }
         let found = &mut self.publishers[p];
         let changeset = match end_of(alloc, &mut found.stream, &self.schema) {
@@ -98,21 +99,21 @@ impl Parts {
 
     /// Puts what a publisher staged at the end of the intake, with its number among that publisher's.
     pub(crate) fn send(&mut self, publisher: u64) -> Result<Reply, AllocError>
-        ensures ok { IfOk result (λ reply. send_outcome self.old publisher ≡ (reply, self.new)) }
+        ensures ok { IfOk result (λ reply. outcome.sent self.old publisher ≡ (reply, self.new)) }
         ensures err { OnErr result (self.new ≡ self.old) }
     {
         let p = publisher as usize;
         if p >= self.publishers.len() {
-            return refused(Refusal::NoPublisher);
+            return refused(BrokerRefusal::NoPublisher);
         }
         if self.publishers[p].staged.is_none() {
-            return refused(Refusal::NothingStaged);
+            return refused(BrokerRefusal::NothingStaged);
         }
         if self.desk.closing().is_some() {
-            return refused(Refusal::Closed);
+            return refused(BrokerRefusal::Closed);
         }
         if self.is_full() {
-            return refused(Refusal::Full);
+            return refused(BrokerRefusal::Full);
         }
         self.queue(publisher)
     }
@@ -129,7 +130,7 @@ impl Parts {
         requires { publisher < length self.old.publishers }
         ensures ok { IfOk result (λ reply. (found : Publisher) (changeset : List Section)
             → slice_get self.old.publishers publisher ≡ Some found → found.staged ≡ Some changeset
-            → queued self.old publisher found changeset ≡ (reply, self.new)) }
+            → outcome.sent_item self.old publisher found changeset ≡ (reply, self.new)) }
         ensures err { OnErr result (self.new ≡ self.old) }
     {
         let p = publisher as usize;
@@ -139,7 +140,7 @@ impl Parts {
         let found = &mut self.publishers[p];
         found.sent = own;
         match found.staged.take() {
-            None => refused(Refusal::NothingStaged),
+            None => refused(BrokerRefusal::NothingStaged),
             Some(body) => {
                 self.intake.push_back(Item {
                     publisher,
@@ -155,7 +156,7 @@ impl Parts {
 
 // the changeset that a stream ends with, where the schema admits it
 fn end_of(alloc: Global, stream: &mut PieceParser, schema: &Schema) -> Result<Changeset, EndError>
-    ensures answer { result ≡ end_of schema.now (ended stream.old) }
+    ensures answer { result ≡ admitted_answer schema.now (answer_at_end stream.old) }
     ensures left { stream.new ≡ left_by result stream.old }
 {
     stream.end(alloc, schema)
@@ -168,10 +169,10 @@ fn reply_for(error: EndError) -> Reply
     match error {
         EndError::Fault(fault) => Reply::Fault(fault),
         EndError::Refused(SectionFault::UnknownTable(i)) => {
-            Reply::Refused(Refusal::UnknownTable(i as u64))
+            Reply::Refused(BrokerRefusal::UnknownTable(i as u64))
         }
         EndError::Refused(SectionFault::ShapeDiffers(i)) => {
-            Reply::Refused(Refusal::ShapeDiffers(i as u64))
+            Reply::Refused(BrokerRefusal::ShapeDiffers(i as u64))
         }
     }
 }

@@ -1,8 +1,8 @@
 //! What a world answers.
 
 use cs_parse::ParseFault;
-use rb_desk::{Delivery, Refusal as DeskRefusal};
-use rb_subscriber::Refusal as EndRefusal;
+use rb_desk::{Delivery, DeskRefusal};
+use rb_subscriber::AcceptRefusal;
 use thiserror::Error;
 
 /// The answer to an event.
@@ -44,13 +44,13 @@ pub enum Reply {
     /// answers the same and takes nothing; an `End` leaves the stream as it is.
     Fault(ParseFault),
     /// The event is refused.
-    Refused(Refusal),
+    Refused(BrokerRefusal),
 }
 
 /// Why `World::step` refuses an event. The world is as it was before, but that a turn which the desk refuses has pulled the item that
 /// it keeps in hand. Where several hold, the first in the event's documentation is told.
 #[derive(Clone, Copy, Debug, PartialEq, Eq, Error)]
-pub enum Refusal {
+pub enum BrokerRefusal {
     /// `Feed`, `Reset`, `End`, `Send`: no publisher has this number.
     #[error("there is no such publisher")]
     NoPublisher,
@@ -83,5 +83,5 @@ pub enum Refusal {
     Desk(DeskRefusal),
     /// `Accept`: the subscription's end refuses it.
     #[error(transparent)]
-    Accept(EndRefusal),
+    Accept(AcceptRefusal),
 }

@@ -7,7 +7,7 @@ ghost use Rattle.rb_core.specs.Moves.{HasRun, StaysClosed, items_of, own_of, IsF
 ghost use Rattle.rb_core.specs.Run.{Run, FeedsBytes};
 ghost use Rattle.rb_core.specs.State.{empty_tables, empty_world};
 ghost use Rattle.rb_core.specs.Told.{world_told};
-ghost use Rattle.rb_core.specs.World.{Sender, Subscriber, end_of};
+ghost use Rattle.rb_core.specs.World.{Sender, Subscriber, endpoint_of};
 ghost use Rattle.rb_sequence.specs.Entry.{Entry};
 ghost use Rattle.rb_subscriber.specs.Accept.{AppliesSingly};
 
@@ -39,7 +39,7 @@ pub fn run(
     // What a subscription accepted is one run of the sequence behind its start, and its end is what it accepted.
     ensures gapless { IfOk result (λ r. (s : ℕ) (subscriber : Subscriber)
         → slice_get (world_told schema events.now r.1.items).subscribers s ≡ Some subscriber
-        → HasRun r.0.sequence subscriber × (slice_get r.0.endpoints s ≡ Some (end_of subscriber))) }
+        → HasRun r.0.sequence subscriber × (slice_get r.0.endpoints s ≡ Some (endpoint_of subscriber))) }
     // What stands in the sequence of a publisher is the front of what it sent, in that order.
     ensures in_order { IfOk result (λ r. (p : ℕ) (sender : Sender)
         → slice_get (world_told schema events.now r.1.items).senders p ≡ Some sender

@@ -3,10 +3,11 @@
 ghost use Rattle.std.specs.Prelude.{◌≡◌, None, IfOk, OnErr, IsOk};
 ghost use Rattle.std.specs.Option.{option_copied};
 ghost use Rattle.rb_desk.specs.Calls.{prepare};
-ghost use Rattle.rb_core.specs.Outcome.{hand_of, rest_of, pulled, turn_outcome, close_outcome};
+ghost use Rattle.rb_core.specs.Outcome.{hand_of, rest_of};
+ghost use Rattle.rb_core.specs.Outcome as outcome;
 
 use crate::parts::Parts;
-use crate::reply::{Refusal, Reply};
+use crate::reply::{BrokerRefusal, Reply};
 use crate::world::refused;
 use rb_sequence::{Entry, Item};
 use std::alloc::{AllocError, Global};
@@ -16,7 +17,7 @@ impl Parts {
     /// Moves the item in hand, or where there is none the first that waits, to the end of the sequence, and answers its number, from
     /// 1. Where the desk refuses the number the item stays in hand.
     pub(crate) fn turn(&mut self, alloc: Global) -> Result<Reply, AllocError>
-        ensures ok { IfOk result (λ reply. turn_outcome self.old ≡ (reply, self.new)) }
+        ensures ok { IfOk result (λ reply. outcome.turned self.old ≡ (reply, self.new)) }
         ensures err { OnErr result (self.new ≡ self.old) }
     {
         if self.next_item().is_none() {
@@ -24,7 +25,7 @@ impl Parts {
         }
         if let Err(why) = self.desk.prepare() {
             self.pull();
-            return refused(Refusal::Desk(why));
+            return refused(BrokerRefusal::Desk(why));
         }
         self.place_next(alloc)
     }
@@ -32,7 +33,7 @@ impl Parts {
     // The same where there is an item and the desk has a number. All memory is taken before anything moves.
     fn place_next(&mut self, alloc: Global) -> Result<Reply, AllocError>
         requires { IsOk (prepare self.old.desk) }
-        ensures ok { IfOk result (λ reply. turn_outcome self.old ≡ (reply, self.new)) }
+        ensures ok { IfOk result (λ reply. outcome.turned self.old ≡ (reply, self.new)) }
         ensures err { OnErr result (self.new ≡ self.old) }
     {
         let text = match self.next_item() {
@@ -62,7 +63,7 @@ impl Parts {
 
     // fills an empty hand
     fn pull(&mut self)
-        ensures { self.new ≡ pulled self.old }
+        ensures { self.new ≡ outcome.pulled self.old }
     {
         if self.hand.is_none() {
             self.hand = self.intake.pop_front();
@@ -71,7 +72,7 @@ impl Parts {
 
     /// Closes the sequence, and answers its last number.
     pub(crate) fn close(&mut self) -> Result<Reply, AllocError>
-        ensures ok { IfOk result (λ reply. close_outcome self.old ≡ (reply, self.new)) }
+        ensures ok { IfOk result (λ reply. outcome.closed self.old ≡ (reply, self.new)) }
         ensures err { OnErr result (self.new ≡ self.old) }
     {
         Ok(Reply::Closed(self.desk.close()))

@@ -2,15 +2,15 @@
 
 ghost use Rattle.std.specs.Prelude.{◌≡◌, IfOk, OnErr};
 ghost use Rattle.std.specs.Arc.{arc_value};
-ghost use Rattle.rb_core.specs.Outcome.{subscribe_outcome, take_outcome, take_any_outcome, reconnect_outcome, unsubscribe_outcome};
+ghost use Rattle.rb_core.specs.Outcome as outcome;
 ghost use Rattle.rb_core.specs.State.{empty_tables};
 
 use crate::parts::Parts;
-use crate::reply::{Refusal, Reply};
+use crate::reply::{BrokerRefusal, Reply};
 use crate::world::refused;
 use cs_apply::Tables;
 use cs_model::Schema;
-use rb_desk::{DeskError, Refusal as DeskRefusal};
+use rb_desk::{DeskError, DeskRefusal};
 use rb_subscriber::Endpoint;
 use std::alloc::{AllocError, Global};
 use std::sync::Arc;
@@ -18,7 +18,7 @@ use std::sync::Arc;
 impl Parts {
     /// One subscription more, of the entries behind number `start`, with empty tables.
     pub(crate) fn subscribe(&mut self, alloc: Global, start: u64) -> Result<Reply, AllocError>
-        ensures ok { IfOk result (λ reply. subscribe_outcome self.old start ≡ (reply, self.new)) }
+        ensures ok { IfOk result (λ reply. outcome.subscribed self.old start ≡ (reply, self.new)) }
         ensures err { OnErr result (self.new ≡ self.old) }
     {
         let tables = tables_of(alloc, &self.schema)?;
@@ -29,18 +29,18 @@ impl Parts {
                     .push_reserved(Endpoint::new(start, link, tables));
                 Ok(Reply::Subscriber { subscription, link })
             }
-            Err(DeskError::Refused(why)) => refused(Refusal::Desk(why)),
+            Err(DeskError::Refused(why)) => refused(BrokerRefusal::Desk(why)),
             Err(DeskError::Memory) => Err(AllocError),
         }
     }
 
     /// Hands a subscription the first of its entries that are ready, as a delivery.
     pub(crate) fn take(&mut self, subscription: u64, now: u64) -> Result<Reply, AllocError>
-        ensures ok { IfOk result (λ reply. take_outcome self.old subscription now ≡ (reply, self.new)) }
+        ensures ok { IfOk result (λ reply. outcome.delivered self.old subscription now ≡ (reply, self.new)) }
         ensures err { OnErr result (self.new ≡ self.old) }
     {
         let Some(end) = self.endpoints.get(subscription as usize) else {
-            return refused(Refusal::Desk(DeskRefusal::NoSuch));
+            return refused(BrokerRefusal::Desk(DeskRefusal::NoSuch));
         };
         self.deliveries.reserve(1)?;
         match self.desk.take(subscription, end.link(), end.cursor(), now) {
@@ -48,14 +48,14 @@ impl Parts {
                 self.deliveries.push_reserved(delivery);
                 Ok(Reply::Delivery(delivery))
             }
-            Err(DeskError::Refused(why)) => refused(Refusal::Desk(why)),
+            Err(DeskError::Refused(why)) => refused(BrokerRefusal::Desk(why)),
             Err(DeskError::Memory) => Err(AllocError),
         }
     }
 
     /// Hands over the entries that are ready longest, among those of subscriptions with room, as a delivery.
     pub(crate) fn take_any(&mut self, now: u64) -> Result<Reply, AllocError>
-        ensures ok { IfOk result (λ reply. take_any_outcome self.old now ≡ (reply, self.new)) }
+        ensures ok { IfOk result (λ reply. outcome.delivered_any self.old now ≡ (reply, self.new)) }
         ensures err { OnErr result (self.new ≡ self.old) }
     {
         self.deliveries.reserve(1)?;
@@ -64,7 +64,7 @@ impl Parts {
                 self.deliveries.push_reserved(delivery);
                 Ok(Reply::Delivery(delivery))
             }
-            Err(DeskError::Refused(why)) => refused(Refusal::Desk(why)),
+            Err(DeskError::Refused(why)) => refused(BrokerRefusal::Desk(why)),
             Err(DeskError::Memory) => Err(AllocError),
         }
     }
@@ -77,31 +77,31 @@ impl Parts {
         cursor: u64,
     ) -> Result<Reply, AllocError>
         ensures ok { IfOk result (λ reply.
-            reconnect_outcome self.old subscription cursor ≡ (reply, self.new)) }
+            outcome.reconnected self.old subscription cursor ≡ (reply, self.new)) }
         ensures err { OnErr result (self.new ≡ self.old) }
     {
         let s = subscription as usize;
         if s >= self.endpoints.len() {
-            return refused(Refusal::Desk(DeskRefusal::NoSuch));
+            return refused(BrokerRefusal::Desk(DeskRefusal::NoSuch));
         }
         match self.desk.reconnect(alloc, subscription, cursor) {
             Ok(link) => {
                 self.endpoints[s].reconnect(link);
                 Ok(Reply::Link(link))
             }
-            Err(DeskError::Refused(why)) => refused(Refusal::Desk(why)),
+            Err(DeskError::Refused(why)) => refused(BrokerRefusal::Desk(why)),
             Err(DeskError::Memory) => Err(AllocError),
         }
     }
 
     /// Closes a subscription.
     pub(crate) fn unsubscribe(&mut self, subscription: u64) -> Result<Reply, AllocError>
-        ensures ok { IfOk result (λ reply. unsubscribe_outcome self.old subscription ≡ (reply, self.new)) }
+        ensures ok { IfOk result (λ reply. outcome.unsubscribed self.old subscription ≡ (reply, self.new)) }
         ensures err { OnErr result (self.new ≡ self.old) }
     {
         let s = subscription as usize;
         if s >= self.endpoints.len() {
-            return refused(Refusal::Desk(DeskRefusal::NoSuch));
+            return refused(BrokerRefusal::Desk(DeskRefusal::NoSuch));
         }
         let link = self.endpoints[s].link();
         match self.desk.unsubscribe(subscription, link) {
@@ -109,7 +109,7 @@ impl Parts {
                 self.endpoints[s].close();
                 Ok(Reply::Unsubscribed)
             }
-            Err(why) => refused(Refusal::Desk(why)),
+            Err(why) => refused(BrokerRefusal::Desk(why)),
         }
     }
 }

@@ -10,7 +10,7 @@ ghost use Rattle.rb_core.specs.State.{empty_world, IsWorld, how_many_wait};
 use crate::event::Event;
 use crate::laws::events_keep_worlds;
 use crate::parts::Parts;
-use crate::reply::{Refusal, Reply};
+use crate::reply::{BrokerRefusal, Reply};
 use cs_model::{Row, RowKey, Schema};
 use rb_desk::Config;
 use rb_sequence::Entry;
@@ -135,7 +135,7 @@ impl Parts {
     }
 }
 
-pub(crate) fn refused(why: Refusal) -> Result<Reply, AllocError>
+pub(crate) fn refused(why: BrokerRefusal) -> Result<Reply, AllocError>
     ensures { result ≡ Ok (Reply.Refused why) }
 {
     Ok(Reply::Refused(why))

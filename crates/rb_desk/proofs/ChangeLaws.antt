@@ -34,9 +34,9 @@ own_entry s first None h is b same = tt
 own_entry s first (Some e) h is b same = ap (λ x. not (is_span s first x)) is ∙ ap (λ c. not (c && (h.span.first == first))) (eq-eqb s s refl) ∙ ap not same
 
 -- of an entry that passes, and others, all or the others are left
-one_left : (test : Ticket × (ℕ × ℕ) → Bool) (o : Option (Ticket × (ℕ × ℕ))) (es : List (Ticket × (ℕ × ℕ))) → IfSome o (λ e. test e ≡ true) → filter test (cons_option o es) ≡ cons_option o (filter test es)
-one_left test None es h = refl
-one_left test (Some e) es h = ap (λ b. cond b (e ∷ filter test es) (filter test es)) h
+change_one_left : (test : Ticket × (ℕ × ℕ) → Bool) (o : Option (Ticket × (ℕ × ℕ))) (es : List (Ticket × (ℕ × ℕ))) → IfSome o (λ e. test e ≡ true) → filter test (cons_option o es) ≡ cons_option o (filter test es)
+change_one_left test None es h = refl
+change_one_left test (Some e) es h = ap (λ b. cond b (e ∷ filter test es) (filter test es)) h
 
 one_gone : (test : Ticket × (ℕ × ℕ) → Bool) (o : Option (Ticket × (ℕ × ℕ))) (es : List (Ticket × (ℕ × ℕ))) → IfSome o (λ e. test e ≡ false) → filter test (cons_option o es) ≡ filter test es
 one_gone test None es h = refl
@@ -46,7 +46,7 @@ one_gone test (Some e) es h = ap (λ b. cond b (e ∷ filter test es) (filter te
 others_left : (at : At) (s first : ℕ) (xs : List Held) → Tagged at → AllByRecursion (Other first) xs → filter (λ e. not (is_span s first e.1)) (filter_map (at s) xs) ≡ filter_map (at s) xs
 others_left at s first [] tagged others = refl
 others_left at s first (h ∷ xs) tagged others =
-    one_left (λ e. not (is_span s first e.1)) (at s h) (filter_map (at s) xs) (own_entry s first (at s h) h (tagged s h) false others.0)
+    change_one_left (λ e. not (is_span s first e.1)) (at s h) (filter_map (at s) xs) (own_entry s first (at s h) h (tagged s h) false others.0)
     ∙ ap (cons_option (at s h)) (others_left at s first xs tagged others.1)
 
 -- a span with another status and ticket

@@ -10,14 +10,14 @@ use Rattle.rb_desk.specs.declared.span.Span.{Span}
 use Rattle.rb_desk.specs.declared.span.Status.{Status}
 use Rattle.rb_desk.specs.declared.span.Status.TheVariants.{Ready, InFlight, Settled}
 use Rattle.rb_desk.specs.declared.sub.Sub.{Sub}
-use Rattle.rb_desk.specs.Spans.{fresh, cut, is_ready}
-use Rattle.rb_desk.specs.Lanes.{Joins, cut_lane, ticketed, with_birth, birth, spans_of, lane_held, earlier}
+use Rattle.rb_desk.specs.Spans.{fresh, cut_spans, is_ready}
+use Rattle.rb_desk.specs.Lanes.{FollowOn, cut_lane, ticketed, with_birth, birth, spans_of, lane_held, earlier}
 use Rattle.rb_desk.specs.Orders.{order, all_at, ready_at, out_at, out_at_status}
 use Rattle.rb_desk.specs.Limits.{Limits}
 use Rattle.rb_desk.specs.Picture.{Picture, Subscription}
-use Rattle.rb_desk.specs.Calls.{named, subscribed, reconnected, unsubscribed}
+use Rattle.rb_desk.specs.Calls.{named, subscribed_picture, reconnected_picture, unsubscribed_picture}
 use Rattle.rb_desk.specs.Shown.{shown, shown_sub, sub_held, IsDrawn, IsGiven, IsKnown, Belongs, new_sub, reconnected_sub, closed_sub}
-use Rattle.rb_desk.proofs.CutLaws.{ends, cut_induction}
+use Rattle.rb_desk.proofs.CutLaws.{cut_ends, cut_induction}
 use Rattle.rb_desk.proofs.LaneLaws.{lane_spans_is, joins_reach}
 use Rattle.rb_desk.proofs.Line.{all_both, all_then}
 use Rattle.rb_desk.proofs.KnownLaws.{all_set, all_get}
@@ -48,13 +48,13 @@ birth_drawn front turn first cutting h le = by (nat_le first cutting.front)
 
 -- what holds of each span that begins and ends between two numbers holds of a cutting
 pub cutting_all : (batch b : ℕ) (cutting : Ticket) (P : Held → Type 0) → 1 ≤ batch → (low : ℕ)
-    → ((x end : ℕ) → low ≤ x → x ≤ end → end ≤ b → P (with_birth cutting (fresh x end))) → AllByRecursion P (ticketed cutting (cut batch low b))
+    → ((x end : ℕ) → low ≤ x → x ≤ end → end ≤ b → P (with_birth cutting (fresh x end))) → AllByRecursion P (ticketed cutting (cut_spans batch low b))
 cutting_all batch b cutting P one low =
     cut_induction batch b (λ low spans. ((x end : ℕ) → low ≤ x → x ≤ end → end ≤ b → P (with_birth cutting (fresh x end))) → AllByRecursion P (ticketed cutting spans)) one
-    (λ a h each. tt) (λ a h rest each. (each a (ends batch a b) (omega arith) (omega arith) (omega arith), rest (λ x end l m n. each x end (omega arith) m n))) (suc b - low) low (omega arith)
+    (λ a h each. tt) (λ a h rest each. (each a (cut_ends batch a b) (omega arith) (omega arith) (omega arith), rest (λ x end l m n. each x end (omega arith) m n))) (suc b - low) low (omega arith)
 
 -- what holds of those that were taken before and of the cutting's holds of each of a subscription
-pub sub_all : (batch front : ℕ) (P : Held → Type 0) (sub : Sub) → AllByRecursion P sub.lane.held → AllByRecursion P (ticketed sub.lane.cutting (cut batch sub.lane.next front)) → AllByRecursion P (sub_held batch front sub)
+pub sub_all : (batch front : ℕ) (P : Held → Type 0) (sub : Sub) → AllByRecursion P sub.lane.held → AllByRecursion P (ticketed sub.lane.cutting (cut_spans batch sub.lane.next front)) → AllByRecursion P (sub_held batch front sub)
 sub_all batch front P sub h k = by sub.closed
   where
     by : (t : Bool) → AllByRecursion P (if t then [] else lane_held batch front sub.lane)
@@ -106,7 +106,7 @@ out_earlier batch front turn number subs one h = all_earlier out_at (record { fr
         (cutting_all batch front sub.lane.cutting IsEarlier one sub.lane.next (λ x end l m n s. tt))
 
 -- the spans of a cutting are ready, with its ticket, up to the ticket's front
-pub cut_ready : (batch front a s : ℕ) (t : Ticket) → 1 ≤ batch → front ≤ t.front → filter_map (ready_at s) (ticketed t (cut batch a front)) ≡ map (λ x. (t, x)) (named s (cut batch a front))
+pub cut_ready : (batch front a s : ℕ) (t : Ticket) → 1 ≤ batch → front ≤ t.front → filter_map (ready_at s) (ticketed t (cut_spans batch a front)) ≡ map (λ x. (t, x)) (named s (cut_spans batch a front))
 cut_ready batch front a s t one le =
     cut_induction batch front (λ a spans. filter_map (ready_at s) (ticketed t spans) ≡ map (λ x. (t, x)) (named s spans)) one (λ a h. refl) some (suc front - a) a (omega arith)
   where
@@ -114,18 +114,18 @@ cut_ready batch front a s t one le =
         → (cond b t (record { front = x; turn = 0 }), (s, x)) ∷ filter_map (ready_at s) (ticketed t rest) ≡ (t, (s, x)) ∷ map (λ x. (t, x)) (named s rest)
     by x end rest b is h = rw is (ap (λ (l : List (Ticket × (ℕ × ℕ))). (t, (s, x)) ∷ l) h)
 
-    some : (a : ℕ) → a ≤ front → filter_map (ready_at s) (ticketed t (cut batch (suc (ends batch a front)) front)) ≡ map (λ x. (t, x)) (named s (cut batch (suc (ends batch a front)) front))
-        → filter_map (ready_at s) (ticketed t (fresh a (ends batch a front) ∷ cut batch (suc (ends batch a front)) front)) ≡ map (λ x. (t, x)) (named s (fresh a (ends batch a front) ∷ cut batch (suc (ends batch a front)) front))
-    some a h rest = by a (ends batch a front) (cut batch (suc (ends batch a front)) front) (nat_le a t.front) (le-leb a t.front (omega arith)) rest
+    some : (a : ℕ) → a ≤ front → filter_map (ready_at s) (ticketed t (cut_spans batch (suc (cut_ends batch a front)) front)) ≡ map (λ x. (t, x)) (named s (cut_spans batch (suc (cut_ends batch a front)) front))
+        → filter_map (ready_at s) (ticketed t (fresh a (cut_ends batch a front) ∷ cut_spans batch (suc (cut_ends batch a front)) front)) ≡ map (λ x. (t, x)) (named s (fresh a (cut_ends batch a front) ∷ cut_spans batch (suc (cut_ends batch a front)) front))
+    some a h rest = by a (cut_ends batch a front) (cut_spans batch (suc (cut_ends batch a front)) front) (nat_le a t.front) (le-leb a t.front (omega arith)) rest
 
 -- and none is out
-pub cut_out : (batch front a s : ℕ) (t : Ticket) → 1 ≤ batch → filter_map (out_at s) (ticketed t (cut batch a front)) ≡ []
+pub cut_out : (batch front a s : ℕ) (t : Ticket) → 1 ≤ batch → filter_map (out_at s) (ticketed t (cut_spans batch a front)) ≡ []
 cut_out batch front a s t one = cut_induction batch front (λ a spans. filter_map (out_at s) (ticketed t spans) ≡ []) one (λ a h. refl) (λ a h rest. rest) (suc front - a) a (omega arith)
 
 -- ---- the three calls
 
 -- what a subscription that cuts behind a number shows
-fresh_lane : (batch front cursor : ℕ) (t : Ticket) → spans_of (lane_held batch front (cut_lane cursor t)) ≡ cut batch (suc cursor) front
+fresh_lane : (batch front cursor : ℕ) (t : Ticket) → spans_of (lane_held batch front (cut_lane cursor t)) ≡ cut_spans batch (suc cursor) front
 fresh_lane batch front cursor t = lane_spans_is batch front (cut_lane cursor t)
 
 -- two pictures that agree in what a call changes
@@ -149,12 +149,12 @@ belongs_later front turn number sub b = record {
 -- a new subscription behind all
 pub subscribed_shown : (lim : Limits) (front turn clock next_link next_delivery start : ℕ) (closing : Option ℕ) (subs : List Sub) → 1 ≤ lim.batch → AllByRecursion (Belongs front turn next_delivery) subs
     → shown lim front closing clock (suc next_link) next_delivery (subs ++ new_sub start next_link (record { front = front; turn = suc turn }) ∷ [])
-    ≡ subscribed (shown lim front closing clock next_link next_delivery subs) start (cut lim.batch (suc start) front)
+    ≡ subscribed_picture (shown lim front closing clock next_link next_delivery subs) start (cut_spans lim.batch (suc start) front)
 subscribed_shown lim front turn clock next_link next_delivery start closing subs one h =
     same_picture lim front clock (suc next_link) next_delivery closing _ _ _ _ _ _
     (map-append (shown_sub lim.batch front) subs (new ∷ []) ∙ ap (λ spans. map (shown_sub lim.batch front) subs ++ record { start = start; floor = start; offered = start; link = next_link; closed = false; spans = spans } ∷ []) (fresh_lane lim.batch front start t))
-    (ap (order ready_at) lanes_are ∙ order_pushed ready_at t lanes lane (named (length (map (shown_sub lim.batch front) subs)) (cut lim.batch (suc start) front))
-    (cut_ready lim.batch front (suc start) (length lanes) t one (omega arith) ∙ ap (λ s. map (λ x. (t, x)) (named s (cut lim.batch (suc start) front))) same_length)
+    (ap (order ready_at) lanes_are ∙ order_pushed ready_at t lanes lane (named (length (map (shown_sub lim.batch front) subs)) (cut_spans lim.batch (suc start) front))
+    (cut_ready lim.batch front (suc start) (length lanes) t one (omega arith) ∙ ap (λ s. map (λ x. (t, x)) (named s (cut_spans lim.batch (suc start) front))) same_length)
     (ready_earlier lim.batch front turn next_delivery t subs one (before_turn front turn) h))
     (ap (order out_at) lanes_are ∙ order_pushed out_at (record { front = next_delivery; turn = 0 }) lanes lane [] (cut_out lim.batch front (suc start) (length lanes) t one) (out_earlier lim.batch front turn next_delivery subs one h) ∙ append-nil _)
   where
@@ -186,11 +186,11 @@ belongs_subscribed front turn next_link next_delivery start subs le h =
 pub reconnected_shown : (lim : Limits) (front turn clock next_link next_delivery s cursor : ℕ) (closing : Option ℕ) (subs : List Sub) (sub : Sub) → 1 ≤ lim.batch → AllByRecursion (Belongs front turn next_delivery) subs
     → slice_get subs s ≡ Some sub → sub.closed ≡ false
     → shown lim front closing clock (suc next_link) next_delivery (slice_set subs s (reconnected_sub sub cursor next_link (record { front = front; turn = suc turn })))
-    ≡ reconnected (shown lim front closing clock next_link next_delivery subs) s (shown_sub lim.batch front sub) cursor (cut lim.batch (suc cursor) front)
+    ≡ reconnected_picture (shown lim front closing clock next_link next_delivery subs) s (shown_sub lim.batch front sub) cursor (cut_spans lim.batch (suc cursor) front)
 reconnected_shown lim front turn clock next_link next_delivery s cursor closing subs sub one h found opened =
     same_picture lim front clock (suc next_link) next_delivery closing _ _ _ _ _ _
     (map-set (shown_sub lim.batch front) subs s new ∙ ap (λ spans. slice_set (map (shown_sub lim.batch front) subs) s (record { start = sub.start; floor = cursor; offered = sub.offered; link = next_link; closed = sub.closed; spans = spans })) (ap spans_of lane_is ∙ fresh_lane lim.batch front cursor t))
-    (ap (order ready_at) lanes_are ∙ order_replaced ready_at t lanes s (sub_held lim.batch front sub) lane (named s (cut lim.batch (suc cursor) front)) lane_found tagged_ready (cut_ready lim.batch front (suc cursor) s t one (omega arith))
+    (ap (order ready_at) lanes_are ∙ order_replaced ready_at t lanes s (sub_held lim.batch front sub) lane (named s (cut_spans lim.batch (suc cursor) front)) lane_found tagged_ready (cut_ready lim.batch front (suc cursor) s t one (omega arith))
     (ready_earlier lim.batch front turn next_delivery t subs one (before_turn front turn) h))
     (ap (order out_at) lanes_are ∙ order_replaced out_at (record { front = next_delivery; turn = 0 }) lanes s (sub_held lim.batch front sub) lane [] lane_found tagged_out (cut_out lim.batch front (suc cursor) s t one)
     (out_earlier lim.batch front turn next_delivery subs one h) ∙ append-nil _)
@@ -224,7 +224,7 @@ belongs_reconnected front turn next_link next_delivery s cursor subs sub le h fo
 
 -- a subscription that is closed
 pub unsubscribed_shown : (lim : Limits) (front clock next_link next_delivery s : ℕ) (closing : Option ℕ) (subs : List Sub) (sub : Sub) → slice_get subs s ≡ Some sub
-    → shown lim front closing clock next_link next_delivery (slice_set subs s (closed_sub sub)) ≡ unsubscribed (shown lim front closing clock next_link next_delivery subs) s (shown_sub lim.batch front sub)
+    → shown lim front closing clock next_link next_delivery (slice_set subs s (closed_sub sub)) ≡ unsubscribed_picture (shown lim front closing clock next_link next_delivery subs) s (shown_sub lim.batch front sub)
 unsubscribed_shown lim front clock next_link next_delivery s closing subs sub found =
     same_picture lim front clock next_link next_delivery closing _ _ _ _ _ _
     (map-set (shown_sub lim.batch front) subs s (closed_sub sub))
@@ -241,7 +241,7 @@ unsubscribed_shown lim front clock next_link next_delivery s closing subs sub fo
     lane_found = slice_get-map (sub_held lim.batch front) subs s ∙ ap (option_map (sub_held lim.batch front)) found
 
 pub belongs_unsubscribed : (front turn next_delivery s : ℕ) (subs : List Sub) (sub : Sub) → AllByRecursion (Belongs front turn next_delivery) subs → slice_get subs s ≡ Some sub
-    → Joins (suc sub.lane.floor) sub.lane.held sub.lane.next → AllByRecursion (Belongs front turn next_delivery) (slice_set subs s (closed_sub sub))
+    → FollowOn (suc sub.lane.floor) sub.lane.held sub.lane.next → AllByRecursion (Belongs front turn next_delivery) (slice_set subs s (closed_sub sub))
 belongs_unsubscribed front turn next_delivery s subs sub h found joins =
     let b = all_get (Belongs front turn next_delivery) subs s sub h found in
     let reach = joins_reach (suc sub.lane.floor) sub.lane.next sub.lane.held joins in

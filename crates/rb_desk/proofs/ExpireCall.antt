@@ -7,11 +7,11 @@ use Rattle.rb_desk.specs.Lanes.{AreJoined}
 use Rattle.rb_desk.specs.Calls.{expire}
 use Rattle.rb_desk.specs.Shown.{Belongs, shown}
 use Rattle.rb_desk.specs.Expiry.{turns_from, by_number, expired_sub, all_due}
-use Rattle.rb_desk.proofs.ExpireLaws.{Follows}
+use Rattle.rb_desk.proofs.ExpireLaws.{ExpireFollows}
 use Rattle.rb_desk.proofs.ExpireOrder.{turned_back_shown, expired_count}
 
 -- what belongs and follows one another follows up to the front
-follow : (front turn number : ℕ) (subs : List Sub) → AllByRecursion (Belongs front turn number) subs → AllByRecursion (λ sub. AreJoined sub.lane) subs → AllByRecursion (Follows front) subs
+follow : (front turn number : ℕ) (subs : List Sub) → AllByRecursion (Belongs front turn number) subs → AllByRecursion (λ sub. AreJoined sub.lane) subs → AllByRecursion (ExpireFollows front) subs
 follow front turn number [] b j = tt
 follow front turn number (sub ∷ rest) b j = ((b.0.is_next, j.0), follow front turn number rest b.1 j.1)
 

@@ -11,14 +11,14 @@ use Rattle.rb_desk.specs.declared.span.Span.{Span}
 use Rattle.rb_desk.specs.declared.span.Status.{Status}
 use Rattle.rb_desk.specs.declared.span.Status.TheVariants.{Ready, InFlight, Settled}
 use Rattle.rb_desk.specs.declared.sub.Sub.{Sub}
-use Rattle.rb_desk.specs.Spans.{cut, beginning, is_due, gone_back}
-use Rattle.rb_desk.specs.Lanes.{Kept, Joins, spans_of, lane_held}
+use Rattle.rb_desk.specs.Spans.{cut_spans, beginning, is_due, gone_back}
+use Rattle.rb_desk.specs.Lanes.{Lane, FollowOn, spans_of, lane_held}
 use Rattle.rb_desk.specs.Orders.{order, ready_at, out_at, out_at_status}
 use Rattle.rb_desk.specs.Limits.{Limits}
 use Rattle.rb_desk.specs.Picture.{Subscription}
-use Rattle.rb_desk.specs.Calls.{expires, expired, goes_back, is_due_of, span_is_due}
+use Rattle.rb_desk.specs.Calls.{expires, expired_at, goes_back, is_due_of, span_is_due}
 use Rattle.rb_desk.specs.Shown.{shown, shown_sub, sub_held}
-use Rattle.rb_desk.proofs.CutLaws.{IsFresh, cut_fresh}
+use Rattle.rb_desk.proofs.CutLaws.{CutIsFresh, cut_fresh}
 use Rattle.rb_desk.proofs.LaneLaws.{lane_spans_is}
 use Rattle.rb_desk.proofs.Line.{all_first, all_then}
 use Rattle.rb_desk.proofs.OrderLaws.{Leaves, expired_order}
@@ -27,7 +27,7 @@ use Rattle.rb_desk.proofs.CuttingLaws.{cut_out, same_picture}
 use Rattle.rb_desk.proofs.JoinLaws.{joins_lane}
 
 -- a subscription of which the spans that are due went back, whatever their tickets are
-pub record Expires (timeout clock : ℕ) (old new : Sub) : Type 0 where
+pub record ExpiresNow (timeout clock : ℕ) (old new : Sub) : Type 0 where
   pub start : new.start ≡ old.start
   pub floor : new.lane.floor ≡ old.lane.floor
   pub offered : new.offered ≡ old.offered
@@ -41,7 +41,7 @@ abbrev pub AllExpire : ℕ → ℕ → List Sub → List Sub → Type 0
 AllExpire timeout clock [] [] = ⊤
 AllExpire timeout clock [] (new ∷ news) = ⊥
 AllExpire timeout clock (old ∷ olds) [] = ⊥
-AllExpire timeout clock (old ∷ olds) (new ∷ news) = Expires timeout clock old new × AllExpire timeout clock olds news
+AllExpire timeout clock (old ∷ olds) (new ∷ news) = ExpiresNow timeout clock old new × AllExpire timeout clock olds news
 
 -- so its spans went back
 held_expire : (timeout clock : ℕ) (ticket : Held → Ticket) (held : List Held) → spans_of (map (expired_held timeout clock ticket) held) ≡ gone_back timeout clock (spans_of held)
@@ -52,7 +52,7 @@ held_expire timeout clock ticket (h ∷ held) = λ i. by (is_due timeout clock h
     by true = refl
     by false = refl
 
-pub sub_expires : (timeout clock : ℕ) (ticket : Held → Ticket) (sub : Sub) → Expires timeout clock sub (expired_sub timeout clock ticket sub)
+pub sub_expires : (timeout clock : ℕ) (ticket : Held → Ticket) (sub : Sub) → ExpiresNow timeout clock sub (expired_sub timeout clock ticket sub)
 sub_expires timeout clock ticket sub = record { start = refl; floor = refl; offered = refl; link = refl; closed = refl; next = refl; spans = held_expire timeout clock ticket sub.lane.held }
 
 pub subs_expire : (timeout clock : ℕ) (ticket : Held → Ticket) (subs : List Sub) → AllExpire timeout clock subs (map (expired_sub timeout clock ticket) subs)
@@ -66,19 +66,19 @@ gone_append timeout clock [] ys = refl
 gone_append timeout clock (x ∷ xs) ys = ap (λ (l : List Span). cond (is_due timeout clock x.status) (record x { status = Ready true }) x ∷ l) (gone_append timeout clock xs ys)
 
 -- spans that were never taken stay
-gone_fresh : (timeout clock : ℕ) (spans : List Span) → AllByRecursion IsFresh spans → gone_back timeout clock spans ≡ spans
+gone_fresh : (timeout clock : ℕ) (spans : List Span) → AllByRecursion CutIsFresh spans → gone_back timeout clock spans ≡ spans
 gone_fresh timeout clock [] h = refl
 gone_fresh timeout clock (p ∷ rest) h = λ i. ap (λ status. cond (is_due timeout clock status) (record p { status = Ready true }) p) h.0 i ∷ gone_fresh timeout clock rest h.1 i
 
 -- what a lane shows
-lane_expires : (batch front timeout clock : ℕ) (kept kept' : Kept) → kept'.next ≡ kept.next → spans_of kept'.held ≡ gone_back timeout clock (spans_of kept.held)
+lane_expires : (batch front timeout clock : ℕ) (kept kept' : Lane) → kept'.next ≡ kept.next → spans_of kept'.held ≡ gone_back timeout clock (spans_of kept.held)
     → spans_of (lane_held batch front kept') ≡ gone_back timeout clock (spans_of (lane_held batch front kept))
 lane_expires batch front timeout clock kept kept' next spans =
-    lane_spans_is batch front kept' ∙ (λ i. spans i ++ cut batch (next i) front) ∙ ap (λ l. gone_back timeout clock (spans_of kept.held) ++ l) (sym (gone_fresh timeout clock (cut batch kept.next front) (cut_fresh batch kept.next front)))
-    ∙ sym (gone_append timeout clock (spans_of kept.held) (cut batch kept.next front)) ∙ ap (gone_back timeout clock) (sym (lane_spans_is batch front kept))
+    lane_spans_is batch front kept' ∙ (λ i. spans i ++ cut_spans batch (next i) front) ∙ ap (λ l. gone_back timeout clock (spans_of kept.held) ++ l) (sym (gone_fresh timeout clock (cut_spans batch kept.next front) (cut_fresh batch kept.next front)))
+    ∙ sym (gone_append timeout clock (spans_of kept.held) (cut_spans batch kept.next front)) ∙ ap (gone_back timeout clock) (sym (lane_spans_is batch front kept))
 
 -- what a subscription shows
-sub_goes_back : (batch front timeout clock : ℕ) (old new : Sub) → Expires timeout clock old new → shown_sub batch front new ≡ goes_back timeout clock (shown_sub batch front old)
+sub_goes_back : (batch front timeout clock : ℕ) (old new : Sub) → ExpiresNow timeout clock old new → shown_sub batch front new ≡ goes_back timeout clock (shown_sub batch front old)
 sub_goes_back batch front timeout clock old new e =
     (λ i. shown_as (e.start i) (e.floor i) (e.offered i) (e.link i) (e.closed i) (spans_of (cond (e.closed i) [] (lane_held batch front new.lane))))
     ∙ ap (shown_as old.start old.lane.floor old.offered old.link old.closed) (by old.closed)
@@ -100,24 +100,24 @@ expired_subscriptions batch front timeout clock (old ∷ olds) (new ∷ news) e 
 -- ---- the in-flight order
 
 -- among spans that follow one another each is the one that begins where it does
-abbrev Found : ℕ → List Held → Held → Type 0
-Found low all h = (low ≤ h.span.first) × (beginning h.span.first (spans_of all) ≡ Some h.span)
+abbrev ExpireFound : ℕ → List Held → Held → Type 0
+ExpireFound low all h = (low ≤ h.span.first) × (beginning h.span.first (spans_of all) ≡ Some h.span)
 
-each_begins : (low next : ℕ) (held : List Held) → Joins low held next → AllByRecursion (Found low held) held
+each_begins : (low next : ℕ) (held : List Held) → FollowOn low held next → AllByRecursion (ExpireFound low held) held
 each_begins low next [] j = tt
 each_begins low next (x ∷ rest) j =
     let at : x.span.first ≡ low = j.0 in
     let up : x.span.first ≤ x.span.last = j.1 in (
       (omega (arith, at), rw (eq-eqb x.span.first x.span.first refl) refl),
-      all_then (Found (suc x.span.last) rest) (Found low (x ∷ rest)) rest (λ h f. (omega (arith, at, up, f.0), rw (ne_eqb x.span.first h.span.first (omega (arith, up, f.0))) f.1)) (each_begins (suc x.span.last) next rest j.2),
+      all_then (ExpireFound (suc x.span.last) rest) (ExpireFound low (x ∷ rest)) rest (λ h f. (omega (arith, at, up, f.0), rw (ne_eqb x.span.first h.span.first (omega (arith, up, f.0))) f.1)) (each_begins (suc x.span.last) next rest j.2),
     )
 
 -- so whether a span is due is told by its name
-abbrev pub Tells : (ℕ × ℕ → Bool) → ℕ → ℕ → ℕ → Held → Type 0
-Tells due timeout clock s h = due (s, h.span.first) ≡ is_due timeout clock h.span.status
+abbrev pub ExpireReports : (ℕ × ℕ → Bool) → ℕ → ℕ → ℕ → Held → Type 0
+ExpireReports due timeout clock s h = due (s, h.span.first) ≡ is_due timeout clock h.span.status
 
 -- spans of which those that are due went back are out as before, without those
-spans_leave : (due : ℕ × ℕ → Bool) (timeout clock s : ℕ) (held held' : List Held) → AllByRecursion (Tells due timeout clock s) held → spans_of held' ≡ gone_back timeout clock (spans_of held)
+spans_leave : (due : ℕ × ℕ → Bool) (timeout clock s : ℕ) (held held' : List Held) → AllByRecursion (ExpireReports due timeout clock s) held → spans_of held' ≡ gone_back timeout clock (spans_of held)
     → filter_map (out_at s) held' ≡ filter (λ e. not (due e.1)) (filter_map (out_at s) held)
 spans_leave due timeout clock s held held' tells spans = seen held' ∙ ap (filter_map span_out) spans ∙ left held tells
   where
@@ -139,21 +139,21 @@ spans_leave due timeout clock s held held' tells spans = seen held' ∙ ap (filt
         by false is = rw is (ap (λ (l : List (Ticket × (ℕ × ℕ))). (record { front = number; turn = 0 }, (s, p.first)) ∷ l) h)
     one p Settled tell rest left h = h
 
-    left : (held : List Held) → AllByRecursion (Tells due timeout clock s) held → filter_map span_out (gone_back timeout clock (spans_of held)) ≡ filter (λ e. not (due e.1)) (filter_map (out_at s) held)
+    left : (held : List Held) → AllByRecursion (ExpireReports due timeout clock s) held → filter_map span_out (gone_back timeout clock (spans_of held)) ≡ filter (λ e. not (due e.1)) (filter_map (out_at s) held)
     left [] tells = refl
     left (h ∷ held) tells = one h.span h.span.status tells.0 _ _ (left held tells.1)
 
 -- a lane has only spans out that were taken before
-pub lane_out : (batch front s : ℕ) (kept : Kept) → 1 ≤ batch → filter_map (out_at s) (lane_held batch front kept) ≡ filter_map (out_at s) kept.held
+pub lane_out : (batch front s : ℕ) (kept : Lane) → 1 ≤ batch → filter_map (out_at s) (lane_held batch front kept) ≡ filter_map (out_at s) kept.held
 lane_out batch front s kept one =
     filter_map-append (out_at s) kept.held _ ∙ ap (λ l. filter_map (out_at s) kept.held ++ l) (cut_out batch front kept.next s kept.cutting one) ∙ append-nil _
 
 -- what is out of a subscription, where its open lane's spans are told by their names
-sub_leaves : (batch front : ℕ) (due : ℕ × ℕ → Bool) (timeout clock s : ℕ) (old new : Sub) → 1 ≤ batch → (old.closed ≡ false → AllByRecursion (Tells due timeout clock s) old.lane.held) → Expires timeout clock old new
+sub_leaves : (batch front : ℕ) (due : ℕ × ℕ → Bool) (timeout clock s : ℕ) (old new : Sub) → 1 ≤ batch → (old.closed ≡ false → AllByRecursion (ExpireReports due timeout clock s) old.lane.held) → ExpiresNow timeout clock old new
     → filter_map (out_at s) (sub_held batch front new) ≡ filter (λ e. not (due e.1)) (filter_map (out_at s) (sub_held batch front old))
 sub_leaves batch front due timeout clock s old new one tells e = ap (λ c. filter_map (out_at s) (cond c [] (lane_held batch front new.lane))) e.closed ∙ by old.closed tells
   where
-    by : (c : Bool) → (c ≡ false → AllByRecursion (Tells due timeout clock s) old.lane.held)
+    by : (c : Bool) → (c ≡ false → AllByRecursion (ExpireReports due timeout clock s) old.lane.held)
         → filter_map (out_at s) (cond c [] (lane_held batch front new.lane)) ≡ filter (λ e. not (due e.1)) (filter_map (out_at s) (cond c [] (lane_held batch front old.lane)))
     by true tells = refl
     by false tells =
@@ -162,7 +162,7 @@ sub_leaves batch front due timeout clock s old new one tells e = ap (λ c. filte
 
 -- and of all from number s on
 subs_leave : (batch front : ℕ) (due : ℕ × ℕ → Bool) (timeout clock s : ℕ) (subs subs' : List Sub) → 1 ≤ batch
-    → ((k i : ℕ) (sub : Sub) → k ≡ s + i → slice_get subs i ≡ Some sub → sub.closed ≡ false → AllByRecursion (Tells due timeout clock k) sub.lane.held)
+    → ((k i : ℕ) (sub : Sub) → k ≡ s + i → slice_get subs i ≡ Some sub → sub.closed ≡ false → AllByRecursion (ExpireReports due timeout clock k) sub.lane.held)
     → AllExpire timeout clock subs subs' → Leaves out_at due s (map (sub_held batch front) subs) (map (sub_held batch front) subs')
 subs_leave batch front due timeout clock s [] [] one tell e = tt
 subs_leave batch front due timeout clock s [] (new ∷ news) one tell e = e
@@ -173,20 +173,20 @@ subs_leave batch front due timeout clock s (old ∷ olds) (new ∷ news) one tel
 )
 
 -- the spans that a subscription keeps follow one another from its floor on
-abbrev pub Follows : ℕ → Sub → Type 0
-Follows front sub = (sub.lane.next ≤ suc front) × Joins (suc sub.lane.floor) sub.lane.held sub.lane.next
+abbrev pub ExpireFollows : ℕ → Sub → Type 0
+ExpireFollows front sub = (sub.lane.next ≤ suc front) × FollowOn (suc sub.lane.floor) sub.lane.held sub.lane.next
 
 -- the picture's test on a name tells whether the span is due
-pub told : (lim : Limits) (front clock now next_link next_delivery : ℕ) (closing : Option ℕ) (subs : List Sub) (k : ℕ) (sub : Sub) → 1 ≤ lim.batch → Follows front sub → slice_get subs k ≡ Some sub → sub.closed ≡ false
-    → AllByRecursion (Tells (expires (shown lim front closing clock next_link next_delivery subs) now) lim.timeout now k) (lane_held lim.batch front sub.lane)
-told lim front clock now next_link next_delivery closing subs k sub one follows found opened =
-    all_then (Found (suc sub.lane.floor) (lane_held lim.batch front sub.lane)) (Tells (expires (shown lim front closing clock next_link next_delivery subs) now) lim.timeout now k) (lane_held lim.batch front sub.lane) each
+pub expire_told : (lim : Limits) (front clock now next_link next_delivery : ℕ) (closing : Option ℕ) (subs : List Sub) (k : ℕ) (sub : Sub) → 1 ≤ lim.batch → ExpireFollows front sub → slice_get subs k ≡ Some sub → sub.closed ≡ false
+    → AllByRecursion (ExpireReports (expires (shown lim front closing clock next_link next_delivery subs) now) lim.timeout now k) (lane_held lim.batch front sub.lane)
+expire_told lim front clock now next_link next_delivery closing subs k sub one follows found opened =
+    all_then (ExpireFound (suc sub.lane.floor) (lane_held lim.batch front sub.lane)) (ExpireReports (expires (shown lim front closing clock next_link next_delivery subs) now) lim.timeout now k) (lane_held lim.batch front sub.lane) each
     (each_begins (suc sub.lane.floor) (suc front) (lane_held lim.batch front sub.lane) (joins_lane lim.batch front sub.lane one follows.0 follows.1))
   where
     seen : slice_get (map (shown_sub lim.batch front) subs) k ≡ Some (shown_sub lim.batch front sub)
     seen = slice_get-map (shown_sub lim.batch front) subs k ∙ ap (option_map (shown_sub lim.batch front)) found
 
-    each : (h : Held) → Found (suc sub.lane.floor) (lane_held lim.batch front sub.lane) h → is_due_of lim.timeout now h.span.first (slice_get (map (shown_sub lim.batch front) subs) k) ≡ is_due lim.timeout now h.span.status
+    each : (h : Held) → ExpireFound (suc sub.lane.floor) (lane_held lim.batch front sub.lane) h → is_due_of lim.timeout now h.span.first (slice_get (map (shown_sub lim.batch front) subs) k) ≡ is_due lim.timeout now h.span.status
     each h f =
         ap (is_due_of lim.timeout now h.span.first) seen ∙ ap (λ c. span_is_due lim.timeout now (beginning h.span.first (spans_of (cond c [] (lane_held lim.batch front sub.lane))))) opened
         ∙ ap (span_is_due lim.timeout now) f.1
@@ -194,24 +194,24 @@ told lim front clock now next_link next_delivery closing subs k sub one follows 
 -- ---- the call
 
 -- what is out after it is what was, without what expires
-pub expired_in_flight : (lim : Limits) (front clock now next_link next_delivery : ℕ) (closing : Option ℕ) (subs subs' : List Sub) → 1 ≤ lim.batch → AllByRecursion (Follows front) subs → AllExpire lim.timeout now subs subs'
+pub expired_in_flight : (lim : Limits) (front clock now next_link next_delivery : ℕ) (closing : Option ℕ) (subs subs' : List Sub) → 1 ≤ lim.batch → AllByRecursion (ExpireFollows front) subs → AllExpire lim.timeout now subs subs'
     → order out_at (map (sub_held lim.batch front) subs')
     ≡ filter (λ at. not (expires (shown lim front closing clock next_link next_delivery subs) now at)) (order out_at (map (sub_held lim.batch front) subs))
 expired_in_flight lim front clock now next_link next_delivery closing subs subs' one follows e =
     expired_order out_at (expires (shown lim front closing clock next_link next_delivery subs) now) (map (sub_held lim.batch front) subs) (map (sub_held lim.batch front) subs')
     (subs_leave lim.batch front (expires (shown lim front closing clock next_link next_delivery subs) now) lim.timeout now 0 subs subs' one tell e)
   where
-    tell : (k i : ℕ) (sub : Sub) → k ≡ 0 + i → slice_get subs i ≡ Some sub → sub.closed ≡ false → AllByRecursion (Tells (expires (shown lim front closing clock next_link next_delivery subs) now) lim.timeout now k) sub.lane.held
+    tell : (k i : ℕ) (sub : Sub) → k ≡ 0 + i → slice_get subs i ≡ Some sub → sub.closed ≡ false → AllByRecursion (ExpireReports (expires (shown lim front closing clock next_link next_delivery subs) now) lim.timeout now k) sub.lane.held
     tell k i sub is found opened =
         let same : k ≡ i = omega (arith, is) in
-        all_first (Tells (expires (shown lim front closing clock next_link next_delivery subs) now) lim.timeout now k) sub.lane.held _
-        (told lim front clock now next_link next_delivery closing subs k sub one (all_get (Follows front) subs i sub follows found) (ap (slice_get subs) same ∙ found) opened)
+        all_first (ExpireReports (expires (shown lim front closing clock next_link next_delivery subs) now) lim.timeout now k) sub.lane.held _
+        (expire_told lim front clock now next_link next_delivery closing subs k sub one (all_get (ExpireFollows front) subs i sub follows found) (ap (slice_get subs) same ∙ found) opened)
 
 -- what a desk shows after it, where the ready order has at its end what expires
-pub expired_shown : (lim : Limits) (front clock now next_link next_delivery : ℕ) (closing : Option ℕ) (subs subs' : List Sub) → 1 ≤ lim.batch → AllByRecursion (Follows front) subs → AllExpire lim.timeout now subs subs'
+pub expired_shown : (lim : Limits) (front clock now next_link next_delivery : ℕ) (closing : Option ℕ) (subs subs' : List Sub) → 1 ≤ lim.batch → AllByRecursion (ExpireFollows front) subs → AllExpire lim.timeout now subs subs'
     → order ready_at (map (sub_held lim.batch front) subs')
     ≡ order ready_at (map (sub_held lim.batch front) subs) ++ filter (expires (shown lim front closing clock next_link next_delivery subs) now) (order out_at (map (sub_held lim.batch front) subs))
-    → shown lim front closing now next_link next_delivery subs' ≡ (expired (shown lim front closing clock next_link next_delivery subs) now).1
+    → shown lim front closing now next_link next_delivery subs' ≡ (expired_at (shown lim front closing clock next_link next_delivery subs) now).1
 expired_shown lim front clock now next_link next_delivery closing subs subs' one follows e ready =
     same_picture lim front now next_link next_delivery closing _ _ _ _ _ _ (expired_subscriptions lim.batch front lim.timeout now subs subs' e) ready
     (expired_in_flight lim front clock now next_link next_delivery closing subs subs' one follows e)

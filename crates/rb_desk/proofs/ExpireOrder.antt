@@ -11,22 +11,22 @@ use Rattle.rb_desk.specs.declared.ticket.Held.{Held}
 use Rattle.rb_desk.specs.declared.span.Status.{Status}
 use Rattle.rb_desk.specs.declared.span.Status.TheVariants.{Ready, InFlight, Settled}
 use Rattle.rb_desk.specs.declared.sub.Sub.{Sub}
-use Rattle.rb_desk.specs.Spans.{fresh, cut, is_due}
-use Rattle.rb_desk.specs.Lanes.{Joins, ticketed, with_birth, lane_held, earlier}
+use Rattle.rb_desk.specs.Spans.{fresh, cut_spans, is_due}
+use Rattle.rb_desk.specs.Lanes.{FollowOn, ticketed, with_birth, lane_held, earlier}
 use Rattle.rb_desk.specs.Orders.{placed_in, in_line, order, all_at, ready_at, out_at, out_at_status}
 use Rattle.rb_desk.specs.Limits.{Limits}
-use Rattle.rb_desk.specs.Calls.{expires, expired}
+use Rattle.rb_desk.specs.Calls.{expires, expired_at}
 use Rattle.rb_desk.specs.Shown.{shown, sub_held, IsDrawn, IsGiven, IsKnown, Belongs}
-use Rattle.rb_desk.proofs.CutLaws.{ends, cut_induction}
+use Rattle.rb_desk.proofs.CutLaws.{cut_ends, cut_induction}
 use Rattle.rb_desk.proofs.OrderLaws.{seen_filter}
 use Rattle.rb_desk.proofs.Line.{placed_first, placed_behind, all_first, all_both, all_then, all_passing, all_line, line_filter, earlier_asymmetric}
 use Rattle.rb_desk.proofs.KnownLaws.{all_get}
 use Rattle.rb_desk.proofs.CuttingLaws.{before_turn, birth_drawn, cutting_all}
-use Rattle.rb_desk.proofs.ExpireLaws.{Tells, Follows, lane_out, told, subs_expire, expired_shown}
+use Rattle.rb_desk.proofs.ExpireLaws.{ExpireReports, ExpireFollows, lane_out, expire_told, subs_expire, expired_shown}
 
 -- entries of an order, with their tickets
-abbrev Entries : Type 0
-Entries = List (Ticket × (ℕ × ℕ))
+abbrev ExpireOrderEntries : Type 0
+ExpireOrderEntries = List (Ticket × (ℕ × ℕ))
 
 -- ---- lines
 
@@ -43,14 +43,14 @@ not_true true is = sym is
 not_true false is = refl
 
 -- a line is the line of those that are earlier than a ticket, and that of the others
-line_parts : (t : Ticket) (xs : Entries) → in_line xs ≡ in_line (filter (λ e. earlier e.0 t) xs) ++ in_line (filter (λ e. not (earlier e.0 t)) xs)
+line_parts : (t : Ticket) (xs : ExpireOrderEntries) → in_line xs ≡ in_line (filter (λ e. earlier e.0 t) xs) ++ in_line (filter (λ e. not (earlier e.0 t)) xs)
 line_parts t [] = refl
 line_parts t (e ∷ xs) = ap (placed_in e) (line_parts t xs) ∙ by (earlier e.0 t) refl
   where
-    firsts : Entries
+    firsts : ExpireOrderEntries
     firsts = filter (λ e. earlier e.0 t) xs
 
-    lasts : Entries
+    lasts : ExpireOrderEntries
     lasts = filter (λ e. not (earlier e.0 t)) xs
 
     by : (b : Bool) → earlier e.0 t ≡ b → placed_in e (in_line firsts ++ in_line lasts) ≡ in_line (cond b (e ∷ firsts) firsts) ++ in_line (cond (not b) (e ∷ lasts) lasts)
@@ -108,7 +108,7 @@ IsPlain D e = (e.0.turn ≡ 0) × D e.0.front
 same_rise : (a b : Ticket) → a.turn ≡ 0 → b.turn ≡ 0 → nat_lt a.front b.front ≡ earlier a b
 same_rise a b h k = grind arith
 
-placed_retagged : (front turn : ℕ) (D : ℕ → Type 0) (tk : ℕ → Ticket) → Rising front turn D tk → (e : Ticket × (ℕ × ℕ)) (xs : Entries) → IsPlain D e → AllByRecursion (IsPlain D) xs
+placed_retagged : (front turn : ℕ) (D : ℕ → Type 0) (tk : ℕ → Ticket) → Rising front turn D tk → (e : Ticket × (ℕ × ℕ)) (xs : ExpireOrderEntries) → IsPlain D e → AllByRecursion (IsPlain D) xs
     → placed_in (retagged tk e) (map (retagged tk) xs) ≡ map (retagged tk) (placed_in e xs)
 placed_retagged front turn D tk r e [] p h = refl
 placed_retagged front turn D tk r e (f ∷ xs) p h =
@@ -117,10 +117,10 @@ placed_retagged front turn D tk r e (f ∷ xs) p h =
   where
     by : (b : Bool) → placed_in (retagged tk e) (map (retagged tk) xs) ≡ map (retagged tk) (placed_in e xs)
         → cond b (retagged tk f ∷ placed_in (retagged tk e) (map (retagged tk) xs)) (retagged tk e ∷ retagged tk f ∷ map (retagged tk) xs) ≡ map (retagged tk) (cond b (f ∷ placed_in e xs) (e ∷ f ∷ xs))
-    by true rest = ap (λ (l : Entries). retagged tk f ∷ l) rest
+    by true rest = ap (λ (l : ExpireOrderEntries). retagged tk f ∷ l) rest
     by false rest = refl
 
-line_retagged : (front turn : ℕ) (D : ℕ → Type 0) (tk : ℕ → Ticket) → Rising front turn D tk → (xs : Entries) → AllByRecursion (IsPlain D) xs → in_line (map (retagged tk) xs) ≡ map (retagged tk) (in_line xs)
+line_retagged : (front turn : ℕ) (D : ℕ → Type 0) (tk : ℕ → Ticket) → Rising front turn D tk → (xs : ExpireOrderEntries) → AllByRecursion (IsPlain D) xs → in_line (map (retagged tk) xs) ≡ map (retagged tk) (in_line xs)
 line_retagged front turn D tk r [] h = refl
 line_retagged front turn D tk r (e ∷ xs) h = ap (placed_in (retagged tk e)) (line_retagged front turn D tk r xs h.1) ∙ placed_retagged front turn D tk r e (in_line xs) h.0 (all_line (IsPlain D) xs h.1)
 
@@ -128,17 +128,17 @@ line_retagged front turn D tk r (e ∷ xs) h = ap (placed_in (retagged tk e)) (l
 
 -- a span's ticket was drawn, its name tells whether it is due, and D holds of its number if it is
 abbrev Timed : ℕ → ℕ → (ℕ → Type 0) → (ℕ × ℕ → Bool) → ℕ → ℕ → ℕ → Held → Type 0
-Timed front turn D due timeout clock s h = IsDrawn front turn h.ticket × Tells due timeout clock s h × Numbered D timeout clock h.span.status
+Timed front turn D due timeout clock s h = IsDrawn front turn h.ticket × ExpireReports due timeout clock s h × Numbered D timeout clock h.span.status
 
 -- the entries that are earlier than a ticket are those that were ready; the others are those of what was due
-record Parts (D : ℕ → Type 0) (due : ℕ × ℕ → Bool) (t : Ticket) (tk : ℕ → Ticket) (new ready out : Entries) : Type 0 where
+record ExpireOrderParts (D : ℕ → Type 0) (due : ℕ × ℕ → Bool) (t : Ticket) (tk : ℕ → Ticket) (new ready out : ExpireOrderEntries) : Type 0 where
   early : filter (λ e. earlier e.0 t) new ≡ ready
   late : filter (λ e. not (earlier e.0 t)) new ≡ map (retagged tk) (filter (λ e. due e.1) out)
   plain : AllByRecursion (λ e. due e.1 ≡ true → IsPlain D e) out
 
 -- two lists of entries in a row
-parts_both : (D : ℕ → Type 0) (due : ℕ × ℕ → Bool) (t : Ticket) (tk : ℕ → Ticket) (new new' ready ready' out out' : Entries) → Parts D due t tk new ready out → Parts D due t tk new' ready' out'
-    → Parts D due t tk (new ++ new') (ready ++ ready') (out ++ out')
+parts_both : (D : ℕ → Type 0) (due : ℕ × ℕ → Bool) (t : Ticket) (tk : ℕ → Ticket) (new new' ready ready' out out' : ExpireOrderEntries) → ExpireOrderParts D due t tk new ready out → ExpireOrderParts D due t tk new' ready' out'
+    → ExpireOrderParts D due t tk (new ++ new') (ready ++ ready') (out ++ out')
 parts_both D due t tk new new' ready ready' out out' p q = record {
   early = filter-append (λ e. earlier e.0 t) new new' ∙ (λ i. p.early i ++ q.early i);
   late = filter-append (λ e. not (earlier e.0 t)) new new' ∙ (λ i. p.late i ++ q.late i)
@@ -159,14 +159,14 @@ unfolding next_turn
 early_by front turn k h = before_turn front turn k h
 
 lane_parts : (front turn : ℕ) (D : ℕ → Type 0) (due : ℕ × ℕ → Bool) (timeout clock s : ℕ) (tk : ℕ → Ticket) → Rising front turn D tk → (lane : List Held) → AllByRecursion (Timed front turn D due timeout clock s) lane
-    → Parts D due (next_turn front turn) tk (filter_map (ready_at s) (map (expired_held timeout clock (by_number tk)) lane)) (filter_map (ready_at s) lane) (filter_map (out_at s) lane)
+    → ExpireOrderParts D due (next_turn front turn) tk (filter_map (ready_at s) (map (expired_held timeout clock (by_number tk)) lane)) (filter_map (ready_at s) lane) (filter_map (out_at s) lane)
 lane_parts front turn D due timeout clock s tk r [] h = record { early = refl; late = refl; plain = tt }
 lane_parts front turn D due timeout clock s tk r (x ∷ lane) h = one x.span.status h.0.1 h.0.2 (lane_parts front turn D due timeout clock s tk r lane h.1)
   where
     t : Ticket
     t = next_turn front turn
 
-    news : Entries
+    news : ExpireOrderEntries
     news = filter_map (ready_at s) (map (expired_held timeout clock (by_number tk)) lane)
 
     -- the span, in this state
@@ -176,24 +176,24 @@ lane_parts front turn D due timeout clock s tk r (x ∷ lane) h = one x.span.sta
     name : ℕ × ℕ
     name = (s, x.span.first)
 
-    old_one : Parts D due t tk news (filter_map (ready_at s) lane) (filter_map (out_at s) lane) → Parts D due t tk ((x.ticket, name) ∷ news) ((x.ticket, name) ∷ filter_map (ready_at s) lane) (filter_map (out_at s) lane)
+    old_one : ExpireOrderParts D due t tk news (filter_map (ready_at s) lane) (filter_map (out_at s) lane) → ExpireOrderParts D due t tk ((x.ticket, name) ∷ news) ((x.ticket, name) ∷ filter_map (ready_at s) lane) (filter_map (out_at s) lane)
     old_one rest =
         let first : earlier x.ticket t ≡ true = early_by front turn x.ticket h.0.0 in
-        record { early = rw first (ap (λ (l : Entries). (x.ticket, name) ∷ l) rest.early); late = rw first rest.late; plain = rest.plain }
+        record { early = rw first (ap (λ (l : ExpireOrderEntries). (x.ticket, name) ∷ l) rest.early); late = rw first rest.late; plain = rest.plain }
 
-    by : (number : ℕ) (b : Bool) → due name ≡ b → (b ≡ true → D number) → Parts D due t tk news (filter_map (ready_at s) lane) (filter_map (out_at s) lane)
-        → Parts D due t tk (cond b ((tk number, name) ∷ news) news) (filter_map (ready_at s) lane) ((record { front = number; turn = 0 }, name) ∷ filter_map (out_at s) lane)
+    by : (number : ℕ) (b : Bool) → due name ≡ b → (b ≡ true → D number) → ExpireOrderParts D due t tk news (filter_map (ready_at s) lane) (filter_map (out_at s) lane)
+        → ExpireOrderParts D due t tk (cond b ((tk number, name) ∷ news) news) (filter_map (ready_at s) lane) ((record { front = number; turn = 0 }, name) ∷ filter_map (out_at s) lane)
     by number true is num rest =
         let last : earlier (tk number) t ≡ false = late_by front turn (tk number) (r.is_later number (num refl)) in
-        record { early = rw last rest.early; late = rw (last, is) (ap (λ (l : Entries). (tk number, name) ∷ l) rest.late); plain = (λ _. (refl, num refl), rest.plain) }
+        record { early = rw last rest.early; late = rw (last, is) (ap (λ (l : ExpireOrderEntries). (tk number, name) ∷ l) rest.late); plain = (λ _. (refl, num refl), rest.plain) }
     by number false is num rest = record { early = rest.early; late = rw is rest.late; plain = (λ is_true. (refl, num (sym is ∙ is_true)), rest.plain) }
 
     turned : (number moment : ℕ) (b : Bool) → cons_option (ready_at s (cond b (record { span = record x.span { status = Ready true }; ticket = tk number }) (in_state (InFlight number moment)))) news ≡ cond b ((tk number, name) ∷ news) news
     turned number moment true = refl
     turned number moment false = refl
 
-    one : (status : Status) → due name ≡ is_due timeout clock status → Numbered D timeout clock status → Parts D due t tk news (filter_map (ready_at s) lane) (filter_map (out_at s) lane)
-        → Parts D due t tk (cons_option (ready_at s (expired_held timeout clock (by_number tk) (in_state status))) news) (cons_option (ready_at s (in_state status)) (filter_map (ready_at s) lane))
+    one : (status : Status) → due name ≡ is_due timeout clock status → Numbered D timeout clock status → ExpireOrderParts D due t tk news (filter_map (ready_at s) lane) (filter_map (out_at s) lane)
+        → ExpireOrderParts D due t tk (cons_option (ready_at s (expired_held timeout clock (by_number tk) (in_state status))) news) (cons_option (ready_at s (in_state status)) (filter_map (ready_at s) lane))
         (cons_option (out_at_status s x.span.first status) (filter_map (out_at s) lane))
     one (Ready taken) tell num rest = old_one rest
     one (InFlight number moment) tell num rest = rw (turned number moment (nat_le timeout (clock - moment))) (by number (nat_le timeout (clock - moment)) tell num rest)
@@ -218,52 +218,52 @@ lane_drawn batch front turn number D timeout clock sub one b num =
     (cutting_all batch front sub.lane.cutting (Drawn front turn D timeout clock) one sub.lane.next (λ x end l m n. (birth_drawn front turn x sub.lane.cutting b.is_drawn (omega arith), tt)))
 
 -- the spans that were never taken stay
-cut_stays : (batch front timeout clock : ℕ) (ticket : Held → Ticket) (c : Ticket) (a : ℕ) → 1 ≤ batch → map (expired_held timeout clock ticket) (ticketed c (cut batch a front)) ≡ ticketed c (cut batch a front)
+cut_stays : (batch front timeout clock : ℕ) (ticket : Held → Ticket) (c : Ticket) (a : ℕ) → 1 ≤ batch → map (expired_held timeout clock ticket) (ticketed c (cut_spans batch a front)) ≡ ticketed c (cut_spans batch a front)
 cut_stays batch front timeout clock ticket c a one =
     cut_induction batch front (λ a spans. map (expired_held timeout clock ticket) (ticketed c spans) ≡ ticketed c spans) one (λ a h. refl)
-    (λ a h rest. ap (λ (l : List Held). with_birth c (fresh a (ends batch a front)) ∷ l) rest) (suc front - a) a (omega arith)
+    (λ a h rest. ap (λ (l : List Held). with_birth c (fresh a (cut_ends batch a front)) ∷ l) rest) (suc front - a) a (omega arith)
 
 -- so all spans of a lane become what those that were taken before do
 lane_turns : (batch front timeout clock : ℕ) (ticket : Held → Ticket) (sub : Sub) → 1 ≤ batch
     → lane_held batch front (expired_sub timeout clock ticket sub).lane ≡ map (expired_held timeout clock ticket) (lane_held batch front sub.lane)
 lane_turns batch front timeout clock ticket sub one =
-    sym (map-append (expired_held timeout clock ticket) sub.lane.held (ticketed sub.lane.cutting (cut batch sub.lane.next front))
+    sym (map-append (expired_held timeout clock ticket) sub.lane.held (ticketed sub.lane.cutting (cut_spans batch sub.lane.next front))
     ∙ ap (λ l. map (expired_held timeout clock ticket) sub.lane.held ++ l) (cut_stays batch front timeout clock ticket sub.lane.cutting sub.lane.next one))
 
 sub_parts : (batch front turn number : ℕ) (D : ℕ → Type 0) (due : ℕ × ℕ → Bool) (timeout clock s : ℕ) (tk : ℕ → Ticket) (sub : Sub) → 1 ≤ batch → Rising front turn D tk → Belongs front turn number sub
-    → AllNumbered D timeout clock sub → (sub.closed ≡ false → AllByRecursion (Tells due timeout clock s) (lane_held batch front sub.lane))
-    → Parts D due (next_turn front turn) tk (filter_map (ready_at s) (sub_held batch front (expired_sub timeout clock (by_number tk) sub))) (filter_map (ready_at s) (sub_held batch front sub)) (filter_map (out_at s) (sub_held batch front sub))
+    → AllNumbered D timeout clock sub → (sub.closed ≡ false → AllByRecursion (ExpireReports due timeout clock s) (lane_held batch front sub.lane))
+    → ExpireOrderParts D due (next_turn front turn) tk (filter_map (ready_at s) (sub_held batch front (expired_sub timeout clock (by_number tk) sub))) (filter_map (ready_at s) (sub_held batch front sub)) (filter_map (out_at s) (sub_held batch front sub))
 sub_parts batch front turn number D due timeout clock s tk sub one r b num tells = by sub.closed tells
   where
-    by : (c : Bool) → (c ≡ false → AllByRecursion (Tells due timeout clock s) (lane_held batch front sub.lane))
-        → Parts D due (next_turn front turn) tk (filter_map (ready_at s) (cond c [] (lane_held batch front (expired_sub timeout clock (by_number tk) sub).lane))) (filter_map (ready_at s) (cond c [] (lane_held batch front sub.lane)))
+    by : (c : Bool) → (c ≡ false → AllByRecursion (ExpireReports due timeout clock s) (lane_held batch front sub.lane))
+        → ExpireOrderParts D due (next_turn front turn) tk (filter_map (ready_at s) (cond c [] (lane_held batch front (expired_sub timeout clock (by_number tk) sub).lane))) (filter_map (ready_at s) (cond c [] (lane_held batch front sub.lane)))
         (filter_map (out_at s) (cond c [] (lane_held batch front sub.lane)))
     by true tells = record { early = refl; late = refl; plain = tt }
     by false tells =
-        subst (λ (l : List Held). Parts D due (next_turn front turn) tk (filter_map (ready_at s) l) (filter_map (ready_at s) (lane_held batch front sub.lane)) (filter_map (out_at s) (lane_held batch front sub.lane)))
+        subst (λ (l : List Held). ExpireOrderParts D due (next_turn front turn) tk (filter_map (ready_at s) l) (filter_map (ready_at s) (lane_held batch front sub.lane)) (filter_map (out_at s) (lane_held batch front sub.lane)))
         (sym (lane_turns batch front timeout clock (by_number tk) sub one))
         (lane_parts front turn D due timeout clock s tk r (lane_held batch front sub.lane)
-        (all_then (λ h. Drawn front turn D timeout clock h × Tells due timeout clock s h) (Timed front turn D due timeout clock s) (lane_held batch front sub.lane) (λ h k. (k.0.0, k.1, k.0.1))
-        (all_zip (Drawn front turn D timeout clock) (Tells due timeout clock s) (lane_held batch front sub.lane) (lane_drawn batch front turn number D timeout clock sub one b num) (tells refl))))
+        (all_then (λ h. Drawn front turn D timeout clock h × ExpireReports due timeout clock s h) (Timed front turn D due timeout clock s) (lane_held batch front sub.lane) (λ h k. (k.0.0, k.1, k.0.1))
+        (all_zip (Drawn front turn D timeout clock) (ExpireReports due timeout clock s) (lane_held batch front sub.lane) (lane_drawn batch front turn number D timeout clock sub one b num) (tells refl))))
 
 -- ---- all subscriptions
 
 subs_parts : (batch front turn number : ℕ) (D : ℕ → Type 0) (due : ℕ × ℕ → Bool) (timeout clock s : ℕ) (tk : ℕ → Ticket) (subs : List Sub) → 1 ≤ batch → Rising front turn D tk → AllByRecursion (Belongs front turn number) subs
     → AllByRecursion (AllNumbered D timeout clock) subs
-    → ((k i : ℕ) (sub : Sub) → k ≡ s + i → slice_get subs i ≡ Some sub → sub.closed ≡ false → AllByRecursion (Tells due timeout clock k) (lane_held batch front sub.lane))
-    → Parts D due (next_turn front turn) tk (all_at ready_at s (map (sub_held batch front) (map (expired_sub timeout clock (by_number tk)) subs))) (all_at ready_at s (map (sub_held batch front) subs)) (all_at out_at s (map (sub_held batch front) subs))
+    → ((k i : ℕ) (sub : Sub) → k ≡ s + i → slice_get subs i ≡ Some sub → sub.closed ≡ false → AllByRecursion (ExpireReports due timeout clock k) (lane_held batch front sub.lane))
+    → ExpireOrderParts D due (next_turn front turn) tk (all_at ready_at s (map (sub_held batch front) (map (expired_sub timeout clock (by_number tk)) subs))) (all_at ready_at s (map (sub_held batch front) subs)) (all_at out_at s (map (sub_held batch front) subs))
 subs_parts batch front turn number D due timeout clock s tk [] one r b num tell = record { early = refl; late = refl; plain = tt }
 subs_parts batch front turn number D due timeout clock s tk (sub ∷ subs) one r b num tell =
     parts_both D due (next_turn front turn) tk _ _ _ _ _ _ (sub_parts batch front turn number D due timeout clock s tk sub one r b.0 num.0 (tell s 0 sub (omega arith) refl))
     (subs_parts batch front turn number D due timeout clock (suc s) tk subs one r b.1 num.1 (λ k i other is found. tell k (suc i) other (omega (arith, is)) found))
 
 -- the second parts of entries
-names_retagged : (tk : ℕ → Ticket) (es : Entries) → map (λ e. e.1) (map (retagged tk) es) ≡ map (λ e. e.1) es
+names_retagged : (tk : ℕ → Ticket) (es : ExpireOrderEntries) → map (λ e. e.1) (map (retagged tk) es) ≡ map (λ e. e.1) es
 names_retagged tk [] = refl
 names_retagged tk (e ∷ es) = ap (λ (l : List (ℕ × ℕ)). e.1 ∷ l) (names_retagged tk es)
 
 -- entries of which the earlier ones were ready and the others are what was due stand so
-ordered_parts : (front turn : ℕ) (D : ℕ → Type 0) (due : ℕ × ℕ → Bool) (t : Ticket) (tk : ℕ → Ticket) (new ready out : Entries) → Rising front turn D tk → Parts D due t tk new ready out
+ordered_parts : (front turn : ℕ) (D : ℕ → Type 0) (due : ℕ × ℕ → Bool) (t : Ticket) (tk : ℕ → Ticket) (new ready out : ExpireOrderEntries) → Rising front turn D tk → ExpireOrderParts D due t tk new ready out
     → map (λ e. e.1) (in_line new) ≡ map (λ e. e.1) (in_line ready) ++ filter due (map (λ e. e.1) (in_line out))
 ordered_parts front turn D due t tk new ready out r p =
     ap (map (λ e. e.1)) (line_parts t new ∙ (λ i. in_line (p.early i) ++ in_line (p.late i)) ∙ ap (λ l. in_line ready ++ l) (line_retagged front turn D tk r (filter (λ e. due e.1) out) (all_passing (IsPlain D) (λ e. due e.1) out p.plain)))
@@ -274,15 +274,15 @@ ordered_parts front turn D due t tk new ready out r p =
 -- ---- the call
 
 -- the picture's test tells of each span whether it is due
-all_told : (lim : Limits) (front clock now next_link next_delivery : ℕ) (closing : Option ℕ) (subs : List Sub) → 1 ≤ lim.batch → AllByRecursion (Follows front) subs → (k i : ℕ) (sub : Sub) → k ≡ 0 + i → slice_get subs i ≡ Some sub
-    → sub.closed ≡ false → AllByRecursion (Tells (expires (shown lim front closing clock next_link next_delivery subs) now) lim.timeout now k) (lane_held lim.batch front sub.lane)
+all_told : (lim : Limits) (front clock now next_link next_delivery : ℕ) (closing : Option ℕ) (subs : List Sub) → 1 ≤ lim.batch → AllByRecursion (ExpireFollows front) subs → (k i : ℕ) (sub : Sub) → k ≡ 0 + i → slice_get subs i ≡ Some sub
+    → sub.closed ≡ false → AllByRecursion (ExpireReports (expires (shown lim front closing clock next_link next_delivery subs) now) lim.timeout now k) (lane_held lim.batch front sub.lane)
 all_told lim front clock now next_link next_delivery closing subs one follows k i sub is found opened =
     let same : k ≡ i = omega (arith, is) in
-    told lim front clock now next_link next_delivery closing subs k sub one (all_get (Follows front) subs i sub follows found) (ap (slice_get subs) same ∙ found) opened
+    expire_told lim front clock now next_link next_delivery closing subs k sub one (all_get (ExpireFollows front) subs i sub follows found) (ap (slice_get subs) same ∙ found) opened
 
 -- what expires stands at the end of the ready order, as it stood in the in-flight order
 pub expired_ready : (lim : Limits) (front turn clock now next_link next_delivery : ℕ) (closing : Option ℕ) (subs : List Sub) (D : ℕ → Type 0) (tk : ℕ → Ticket) → 1 ≤ lim.batch → Rising front turn D tk
-    → AllByRecursion (Belongs front turn next_delivery) subs → AllByRecursion (Follows front) subs → AllByRecursion (AllNumbered D lim.timeout now) subs
+    → AllByRecursion (Belongs front turn next_delivery) subs → AllByRecursion (ExpireFollows front) subs → AllByRecursion (AllNumbered D lim.timeout now) subs
     → order ready_at (map (sub_held lim.batch front) (map (expired_sub lim.timeout now (by_number tk)) subs))
     ≡ order ready_at (map (sub_held lim.batch front) subs) ++ filter (expires (shown lim front closing clock next_link next_delivery subs) now) (order out_at (map (sub_held lim.batch front) subs))
 expired_ready lim front turn clock now next_link next_delivery closing subs D tk one r b follows num =
@@ -292,21 +292,21 @@ expired_ready lim front turn clock now next_link next_delivery closing subs D tk
 
 -- so a desk shows what the call gives
 pub all_expired_shown : (lim : Limits) (front turn clock now next_link next_delivery : ℕ) (closing : Option ℕ) (subs : List Sub) (D : ℕ → Type 0) (tk : ℕ → Ticket) → 1 ≤ lim.batch → Rising front turn D tk
-    → AllByRecursion (Belongs front turn next_delivery) subs → AllByRecursion (Follows front) subs → AllByRecursion (AllNumbered D lim.timeout now) subs
-    → shown lim front closing now next_link next_delivery (map (expired_sub lim.timeout now (by_number tk)) subs) ≡ (expired (shown lim front closing clock next_link next_delivery subs) now).1
+    → AllByRecursion (Belongs front turn next_delivery) subs → AllByRecursion (ExpireFollows front) subs → AllByRecursion (AllNumbered D lim.timeout now) subs
+    → shown lim front closing now next_link next_delivery (map (expired_sub lim.timeout now (by_number tk)) subs) ≡ (expired_at (shown lim front closing clock next_link next_delivery subs) now).1
 all_expired_shown lim front turn clock now next_link next_delivery closing subs D tk one r b follows num =
     expired_shown lim front clock now next_link next_delivery closing subs (map (expired_sub lim.timeout now (by_number tk)) subs) one follows (subs_expire lim.timeout now (by_number tk) subs)
     (expired_ready lim front turn clock now next_link next_delivery closing subs D tk one r b follows num)
 
 -- with the turns behind this one, by the deliveries' numbers
 pub turned_back_shown : (lim : Limits) (front turn clock now next_link next_delivery : ℕ) (closing : Option ℕ) (subs : List Sub) → 1 ≤ lim.batch
-    → AllByRecursion (Belongs front turn next_delivery) subs → AllByRecursion (Follows front) subs
-    → shown lim front closing now next_link next_delivery (map (expired_sub lim.timeout now (by_number (turns_from front turn))) subs) ≡ (expired (shown lim front closing clock next_link next_delivery subs) now).1
+    → AllByRecursion (Belongs front turn next_delivery) subs → AllByRecursion (ExpireFollows front) subs
+    → shown lim front closing now next_link next_delivery (map (expired_sub lim.timeout now (by_number (turns_from front turn))) subs) ≡ (expired_at (shown lim front closing clock next_link next_delivery subs) now).1
 turned_back_shown lim front turn clock now next_link next_delivery closing subs one b follows =
     all_expired_shown lim front turn clock now next_link next_delivery closing subs (λ n. n < next_delivery) (turns_from front turn) one (turns_rise front turn (λ n. n < next_delivery)) b follows
     (given_numbered front turn next_delivery lim.timeout now subs b)
 
-length_placed : (e : Ticket × (ℕ × ℕ)) (xs : Entries) → length (placed_in e xs) ≡ suc (length xs)
+length_placed : (e : Ticket × (ℕ × ℕ)) (xs : ExpireOrderEntries) → length (placed_in e xs) ≡ suc (length xs)
 length_placed e [] = refl
 length_placed e (f ∷ xs) = by (earlier f.0 e.0) (length_placed e xs)
   where
@@ -314,12 +314,12 @@ length_placed e (f ∷ xs) = by (earlier f.0 e.0) (length_placed e xs)
     by true rest = ap suc rest
     by false rest = refl
 
-length_line : (xs : Entries) → length (in_line xs) ≡ length xs
+length_line : (xs : ExpireOrderEntries) → length (in_line xs) ≡ length xs
 length_line [] = refl
 length_line (e ∷ xs) = length_placed e (in_line xs) ∙ ap suc (length_line xs)
 
 -- as many entries of a lane are due as spans
-lane_due : (due : ℕ × ℕ → Bool) (timeout clock s : ℕ) (lane : List Held) → AllByRecursion (Tells due timeout clock s) lane
+lane_due : (due : ℕ × ℕ → Bool) (timeout clock s : ℕ) (lane : List Held) → AllByRecursion (ExpireReports due timeout clock s) lane
     → length (filter (λ e. due e.1) (filter_map (out_at s) lane)) ≡ length (filter (λ h. is_due timeout clock h.span.status) lane)
 lane_due due timeout clock s [] tells = refl
 lane_due due timeout clock s (h ∷ lane) tells = one h.span.status tells.0 (lane_due due timeout clock s lane tells.1)
@@ -336,19 +336,19 @@ lane_due due timeout clock s (h ∷ lane) tells = one h.span.status tells.0 (lan
         by false is = rw is rest
     one Settled tell rest = rest
 
-sub_due : (batch front : ℕ) (due : ℕ × ℕ → Bool) (timeout clock s : ℕ) (sub : Sub) → 1 ≤ batch → (sub.closed ≡ false → AllByRecursion (Tells due timeout clock s) (lane_held batch front sub.lane))
+sub_due : (batch front : ℕ) (due : ℕ × ℕ → Bool) (timeout clock s : ℕ) (sub : Sub) → 1 ≤ batch → (sub.closed ≡ false → AllByRecursion (ExpireReports due timeout clock s) (lane_held batch front sub.lane))
     → length (filter (λ e. due e.1) (filter_map (out_at s) (sub_held batch front sub))) ≡ due_in timeout clock sub
 sub_due batch front due timeout clock s sub one tells = by sub.closed tells
   where
-    by : (c : Bool) → (c ≡ false → AllByRecursion (Tells due timeout clock s) (lane_held batch front sub.lane))
+    by : (c : Bool) → (c ≡ false → AllByRecursion (ExpireReports due timeout clock s) (lane_held batch front sub.lane))
         → length (filter (λ e. due e.1) (filter_map (out_at s) (cond c [] (lane_held batch front sub.lane)))) ≡ cond c 0 (length (filter (λ h. is_due timeout clock h.span.status) sub.lane.held))
     by true tells = refl
     by false tells =
         ap (λ l. length (filter (λ e. due e.1) l)) (lane_out batch front s sub.lane one)
-        ∙ lane_due due timeout clock s sub.lane.held (all_first (Tells due timeout clock s) sub.lane.held _ (tells refl))
+        ∙ lane_due due timeout clock s sub.lane.held (all_first (ExpireReports due timeout clock s) sub.lane.held _ (tells refl))
 
 subs_due : (batch front : ℕ) (due : ℕ × ℕ → Bool) (timeout clock s : ℕ) (subs : List Sub) → 1 ≤ batch
-    → ((k i : ℕ) (sub : Sub) → k ≡ s + i → slice_get subs i ≡ Some sub → sub.closed ≡ false → AllByRecursion (Tells due timeout clock k) (lane_held batch front sub.lane))
+    → ((k i : ℕ) (sub : Sub) → k ≡ s + i → slice_get subs i ≡ Some sub → sub.closed ≡ false → AllByRecursion (ExpireReports due timeout clock k) (lane_held batch front sub.lane))
     → length (filter (λ e. due e.1) (all_at out_at s (map (sub_held batch front) subs))) ≡ all_due timeout clock subs
 subs_due batch front due timeout clock s [] one tell = refl
 subs_due batch front due timeout clock s (sub ∷ subs) one tell =
@@ -358,8 +358,8 @@ subs_due batch front due timeout clock s (sub ∷ subs) one tell =
     + subs_due batch front due timeout clock (suc s) subs one (λ k j other is found. tell k (suc j) other (omega (arith, is)) found) i)
 
 -- and the call says how many
-pub expired_count : (lim : Limits) (front clock now next_link next_delivery : ℕ) (closing : Option ℕ) (subs : List Sub) → 1 ≤ lim.batch → AllByRecursion (Follows front) subs
-    → (expired (shown lim front closing clock next_link next_delivery subs) now).0 ≡ all_due lim.timeout now subs
+pub expired_count : (lim : Limits) (front clock now next_link next_delivery : ℕ) (closing : Option ℕ) (subs : List Sub) → 1 ≤ lim.batch → AllByRecursion (ExpireFollows front) subs
+    → (expired_at (shown lim front closing clock next_link next_delivery subs) now).0 ≡ all_due lim.timeout now subs
 expired_count lim front clock now next_link next_delivery closing subs one follows =
     ap length (sym (seen_filter due (in_line outs)) ∙ ap (map (λ e. e.1)) (line_filter (λ e. due e.1) outs))
     ∙ length-map (in_line (filter (λ e. due e.1) outs)) (λ e. e.1) ∙ length_line (filter (λ e. due e.1) outs)
@@ -368,7 +368,7 @@ expired_count lim front clock now next_link next_delivery closing subs one follo
     due : ℕ × ℕ → Bool
     due = expires (shown lim front closing clock next_link next_delivery subs) now
 
-    outs : Entries
+    outs : ExpireOrderEntries
     outs = all_at out_at 0 (map (sub_held lim.batch front) subs)
 
 -- ---- what stays so
@@ -410,11 +410,11 @@ belongs_turned_back front turn number timeout clock subs h =
     (given_numbered front turn number timeout clock subs h)
 
 -- spans that follow one another do so with other states
-pub joins_expired : (low next timeout clock : ℕ) (ticket : Held → Ticket) (held : List Held) → Joins low held next → Joins low (map (expired_held timeout clock ticket) held) next
+pub joins_expired : (low next timeout clock : ℕ) (ticket : Held → Ticket) (held : List Held) → FollowOn low held next → FollowOn low (map (expired_held timeout clock ticket) held) next
 joins_expired low next timeout clock ticket [] j = j
 joins_expired low next timeout clock ticket (h ∷ rest) j = by (is_due timeout clock h.span.status) (joins_expired (suc h.span.last) next timeout clock ticket rest j.2)
   where
-    by : (t : Bool) → Joins (suc h.span.last) (map (expired_held timeout clock ticket) rest) next
-        → Joins low (cond t (record { span = record h.span { status = Ready true }; ticket = ticket h }) h ∷ map (expired_held timeout clock ticket) rest) next
+    by : (t : Bool) → FollowOn (suc h.span.last) (map (expired_held timeout clock ticket) rest) next
+        → FollowOn low (cond t (record { span = record h.span { status = Ready true }; ticket = ticket h }) h ∷ map (expired_held timeout clock ticket) rest) next
     by true more = (j.0, j.1, more)
     by false more = (j.0, j.1, more)

@@ -10,10 +10,10 @@ use Rattle.rb_desk.specs.declared.span.Status.TheVariants.{Ready, InFlight, Sett
 use Rattle.rb_desk.specs.declared.ticket.Ticket.{Ticket}
 use Rattle.rb_desk.specs.declared.ticket.Held.{Held}
 use Rattle.rb_desk.specs.declared.sub.Sub.{Sub}
-use Rattle.rb_desk.specs.Spans.{cut, first_ready, out_as, how_many_out, is_ready, is_out, is_out_as}
-use Rattle.rb_desk.specs.Lanes.{Kept, Joins, earlier, with_birth, spans_of, lane_held, lane_spans, least, better, if_ready}
-use Rattle.rb_desk.specs.Shown.{sub_held, IsHeld, MayGo}
-use Rattle.rb_desk.proofs.CutLaws.{IsFresh, cut_fresh}
+use Rattle.rb_desk.specs.Spans.{cut_spans, first_ready, out_as, how_many_out, is_ready, is_out, is_out_as}
+use Rattle.rb_desk.specs.Lanes.{Lane, FollowOn, earlier, with_birth, spans_of, lane_held, lane_spans, least, better, if_ready}
+use Rattle.rb_desk.specs.Shown.{sub_held, IsHeld, IsDeliverable}
+use Rattle.rb_desk.proofs.CutLaws.{CutIsFresh, cut_fresh}
 use Rattle.rb_desk.proofs.LaneLaws.{lane_spans_is, first_ready_is, first_in_line_is}
 use Rattle.rb_desk.proofs.Line.{all_then, filter_none}
 use Rattle.rb_desk.proofs.KnownLaws.{held_open}
@@ -44,36 +44,36 @@ out_is_out number (InFlight n moment) is = refl
 out_is_out number Settled is = is
 
 -- the span that is out as a delivery was taken before, and is out
-pub out_as_held : (number : ℕ) (kept : Kept) (span : Span) → out_as number (spans_of kept.held) ≡ Some span → IsHeld kept span × (is_out span.status ≡ true)
+pub out_as_held : (number : ℕ) (kept : Lane) (span : Span) → out_as number (spans_of kept.held) ≡ Some span → IsHeld kept span × (is_out span.status ≡ true)
 out_as_held number kept span found = let r = found_among (is_out_as number) kept.held span found in (r.0, out_is_out number span.status r.1)
 
 -- it has a number, and ends ahead of the next one
-pub out_as_span : (number low : ℕ) (kept : Kept) (span : Span) → Joins low kept.held kept.next → out_as number (spans_of kept.held) ≡ Some span → (span.first ≤ span.last) × (span.last < kept.next)
+pub out_as_span : (number low : ℕ) (kept : Lane) (span : Span) → FollowOn low kept.held kept.next → out_as number (spans_of kept.held) ≡ Some span → (span.first ≤ span.last) × (span.last < kept.next)
 out_as_span number low kept span j found = held_span low kept span j (out_as_held number kept span found).0
 
 -- no span of a cutting is out
-none_found : (test : Status → Bool) (spans : List Span) → test (Ready false) ≡ false → AllByRecursion IsFresh spans → find (λ p. test p.status) spans ≡ None
-none_found test [] none h = refl
-none_found test (p ∷ spans) none h = ap (λ b. cond b (Some p) (find (λ p. test p.status) spans)) (ap test h.0 ∙ none) ∙ none_found test spans none h.1
+found_none_found : (test : Status → Bool) (spans : List Span) → test (Ready false) ≡ false → AllByRecursion CutIsFresh spans → find (λ p. test p.status) spans ≡ None
+found_none_found test [] none h = refl
+found_none_found test (p ∷ spans) none h = ap (λ b. cond b (Some p) (find (λ p. test p.status) spans)) (ap test h.0 ∙ none) ∙ found_none_found test spans none h.1
 
-or_none : {A : Type 0} (o : Option A) → option_or o None ≡ o
-or_none None = refl
-or_none (Some x) = refl
+found_or_none : {A : Type 0} (o : Option A) → option_or o None ≡ o
+found_or_none None = refl
+found_or_none (Some x) = refl
 
 module _ (batch front : ℕ) where
   -- which span of a lane is out as a delivery, and how many are out, is told by those that were taken before
-  pub lane_out_as : (number : ℕ) (kept : Kept) → out_as number (lane_spans batch front kept) ≡ out_as number (spans_of kept.held)
+  pub lane_out_as : (number : ℕ) (kept : Lane) → out_as number (lane_spans batch front kept) ≡ out_as number (spans_of kept.held)
   lane_out_as number kept =
       ap (out_as number) (lane_spans_is batch front kept)
-      ∙ find-append (λ (p : Span). is_out_as number p.status) (spans_of kept.held) (cut batch kept.next front)
-      ∙ ap (option_or (out_as number (spans_of kept.held))) (none_found (is_out_as number) (cut batch kept.next front) refl (cut_fresh batch kept.next front))
-      ∙ or_none (out_as number (spans_of kept.held))
+      ∙ find-append (λ (p : Span). is_out_as number p.status) (spans_of kept.held) (cut_spans batch kept.next front)
+      ∙ ap (option_or (out_as number (spans_of kept.held))) (found_none_found (is_out_as number) (cut_spans batch kept.next front) refl (cut_fresh batch kept.next front))
+      ∙ found_or_none (out_as number (spans_of kept.held))
 
-  pub lane_how_many_out : (kept : Kept) → how_many_out (lane_spans batch front kept) ≡ how_many_out (spans_of kept.held)
+  pub lane_how_many_out : (kept : Lane) → how_many_out (lane_spans batch front kept) ≡ how_many_out (spans_of kept.held)
   lane_how_many_out kept =
       ap how_many_out (lane_spans_is batch front kept)
-      ∙ ap length (filter-append (λ (p : Span). is_out p.status) (spans_of kept.held) (cut batch kept.next front)
-      ∙ ap (λ z. filter (λ (p : Span). is_out p.status) (spans_of kept.held) ++ z) (filter_none (λ (p : Span). is_out p.status) (cut batch kept.next front) (all_then IsFresh (λ p. is_out p.status ≡ false) (cut batch kept.next front) (λ p is. ap is_out is) (cut_fresh batch kept.next front)))
+      ∙ ap length (filter-append (λ (p : Span). is_out p.status) (spans_of kept.held) (cut_spans batch kept.next front)
+      ∙ ap (λ z. filter (λ (p : Span). is_out p.status) (spans_of kept.held) ++ z) (filter_none (λ (p : Span). is_out p.status) (cut_spans batch kept.next front) (all_then CutIsFresh (λ p. is_out p.status ≡ false) (cut_spans batch kept.next front) (λ p is. ap is_out is) (cut_fresh batch kept.next front)))
       ∙ append-nil (filter (λ (p : Span). is_out p.status) (spans_of kept.held)))
 
   -- and so it is of an open subscription
@@ -86,10 +86,10 @@ module _ (batch front : ℕ) where
 -- ---- what may go
 
 -- the first ready span of a lane may go
-pub may_go_first : (batch front : ℕ) (kept : Kept) (span : Span) → first_ready (lane_spans batch front kept) ≡ Some span → MayGo batch front kept span
+pub may_go_first : (batch front : ℕ) (kept : Lane) (span : Span) → first_ready (lane_spans batch front kept) ≡ Some span → IsDeliverable batch front kept span
 may_go_first batch front kept span found = by (first_ready (spans_of kept.held)) refl (sym (first_ready_is batch front kept) ∙ found)
   where
-    by : (o : Option Span) → first_ready (spans_of kept.held) ≡ o → option_or o (slice_get (cut batch kept.next front) 0) ≡ Some span → MayGo batch front kept span
+    by : (o : Option Span) → first_ready (spans_of kept.held) ≡ o → option_or o (slice_get (cut_spans batch kept.next front) 0) ≡ Some span → IsDeliverable batch front kept span
     by None is given = inr given
     by (Some p) is given = inl (found_among is_ready kept.held span (is ∙ given))
 
@@ -122,9 +122,9 @@ birth_of cutting None h is = absurd (let none : None ≡ Some h = is in cc)
 birth_of cutting (Some p) h is = let same : with_birth cutting p ≡ h = cc in ap (λ (k : Held). Some k.span) same
 
 -- the first in line of a lane may go
-pub may_go_least : (batch front : ℕ) (kept : Kept) (h : Held) → 1 ≤ batch → least (lane_held batch front kept) ≡ Some h → MayGo batch front kept h.span
-may_go_least batch front kept h one is = by (better_one (least kept.held) (option_map (with_birth kept.cutting) (slice_get (cut batch kept.next front) 0)) h (sym (first_in_line_is batch front kept one) ∙ is))
+pub may_go_least : (batch front : ℕ) (kept : Lane) (h : Held) → 1 ≤ batch → least (lane_held batch front kept) ≡ Some h → IsDeliverable batch front kept h.span
+may_go_least batch front kept h one is = by (better_one (least kept.held) (option_map (with_birth kept.cutting) (slice_get (cut_spans batch kept.next front) 0)) h (sym (first_in_line_is batch front kept one) ∙ is))
   where
-    by : (least kept.held ≡ Some h) ⊎ (option_map (with_birth kept.cutting) (slice_get (cut batch kept.next front) 0) ≡ Some h) → MayGo batch front kept h.span
+    by : (least kept.held ≡ Some h) ⊎ (option_map (with_birth kept.cutting) (slice_get (cut_spans batch kept.next front) 0) ≡ Some h) → IsDeliverable batch front kept h.span
     by (inl held) = inl (least_among kept.held h held)
-    by (inr fresh) = inr (birth_of kept.cutting (slice_get (cut batch kept.next front) 0) h fresh)
+    by (inr fresh) = inr (birth_of kept.cutting (slice_get (cut_spans batch kept.next front) 0) h fresh)

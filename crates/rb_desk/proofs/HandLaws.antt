@@ -8,21 +8,21 @@ use Rattle.rb_desk.specs.declared.ticket.Ticket.{Ticket}
 use Rattle.rb_desk.specs.declared.ticket.Held.{Held}
 use Rattle.rb_desk.specs.declared.sub.Sub.{Sub}
 use Rattle.rb_desk.specs.Spans.{out_as, is_ready, is_out, raised, with_status}
-use Rattle.rb_desk.specs.Lanes.{Kept, spans_of, lane_held, pushed_lane, restated_lane, handed_lane, settled_lane}
+use Rattle.rb_desk.specs.Lanes.{Lane, spans_of, lane_held, pushed_lane, restated_lane, delivered_lane, settled_lane}
 use Rattle.rb_desk.specs.Orders.{order, ready_at, out_at}
 use Rattle.rb_desk.specs.Limits.{Limits}
-use Rattle.rb_desk.specs.Calls.{handed, gives_back, settled, without_span}
-use Rattle.rb_desk.specs.Shown.{sub_held, shown_sub, shown, Belongs, handed_sub, returned_sub, settled_sub, IsHeld, MayGo}
+use Rattle.rb_desk.specs.Calls.{delivered_picture, nacked_picture, settled_span, without_span}
+use Rattle.rb_desk.specs.Shown.{sub_held, shown_sub, shown, Belongs, delivered_sub, returned_sub, settled_sub, IsHeld, IsDeliverable}
 use Rattle.rb_desk.proofs.Line.{all_then}
 use Rattle.rb_desk.proofs.OrderLaws.{tagged_ready, tagged_out, order_same, order_without, order_with}
 use Rattle.rb_desk.proofs.ChangeLaws.{Changes, stands_same, stands_new, stands_left}
 use Rattle.rb_desk.proofs.LaneChanges.{may_go_span, may_go_ready, restated_changes, handed_changes, settled_spans, settled_stands}
-use Rattle.rb_desk.proofs.KnownLaws.{all_set, held_open, out_earlier, ready_earlier, belongs_later, sub_handed, sub_returned, sub_settled}
+use Rattle.rb_desk.proofs.KnownLaws.{all_set, held_open, out_earlier, ready_earlier, known_belongs_later, sub_handed, sub_returned, sub_settled}
 use Rattle.rb_desk.proofs.FoundLaws.{out_as_held}
 use Rattle.rb_desk.proofs.OpenLaws.{IsOpen, lanes, lane_found, belongs, shown_changed, spans_changed, out_not_ready, ready_not_out, settled_not_ready, settled_not_out, not_ready_at, not_out_at, stood_not_ready, stood_not_out}
 
 -- handing over changes no floor
-handed_floor : (kept : Kept) (span : Span) (status : Status) → (handed_lane kept span status).floor ≡ kept.floor
+handed_floor : (kept : Lane) (span : Span) (status : Status) → (delivered_lane kept span status).floor ≡ kept.floor
 handed_floor kept span status = by (span.first == kept.next)
   where
     by : (b : Bool) → (cond b (pushed_lane kept span status) (restated_lane kept span.first status kept.cutting)).floor ≡ kept.floor
@@ -48,12 +48,12 @@ module _ (lim : Limits) (front turn number : ℕ) (subs : List Sub) (s : ℕ) (s
   -- ---- a span is handed over
 
   -- it leaves the ready order and stands at the end of the in-flight order
-  pub handed_shown : (closing : Option ℕ) (clock clock' next_link : ℕ) (span : Span) → MayGo lim.batch front sub.lane span
-      → shown lim front closing clock' next_link (suc number) (slice_set subs s (handed_sub sub span number clock')) ≡ handed (shown lim front closing clock next_link number subs) s (shown_sub lim.batch front sub) span clock'
+  pub handed_shown : (closing : Option ℕ) (clock clock' next_link : ℕ) (span : Span) → IsDeliverable lim.batch front sub.lane span
+      → shown lim front closing clock' next_link (suc number) (slice_set subs s (delivered_sub sub span number clock')) ≡ delivered_picture (shown lim front closing clock next_link number subs) s (shown_sub lim.batch front sub) span clock'
   handed_shown closing clock clock' next_link span may =
       let status : Status = InFlight number clock' in
       let t : Ticket = record { front = number; turn = 0 } in
-      let sub' : Sub = handed_sub sub span number clock' in
+      let sub' : Sub = delivered_sub sub span number clock' in
       let lane' : List Held = lane_held batch front sub'.lane in
       let c : Changes span status sub.lane.cutting lane lane' = handed_changes batch front sub.lane span o.one own.is_next o.joins status may in
       let floor : sub'.lane.floor ≡ sub.lane.floor = handed_floor sub.lane span status in
@@ -75,18 +75,18 @@ module _ (lim : Limits) (front turn number : ℕ) (subs : List Sub) (s : ℕ) (s
       (order_with out_at t all s lane lane' (filter_map (out_at s) c.ahead) (filter_map (out_at s) c.behind) ((s, span.first) ∷ []) found new.0 new.1 (out_earlier batch front turn number subs o.belong))
 
   -- what is kept belongs still
-  pub belongs_handed : (clock : ℕ) (span : Span) → MayGo lim.batch front sub.lane span → AllByRecursion (Belongs front turn (suc number)) (slice_set subs s (handed_sub sub span number clock))
+  pub belongs_handed : (clock : ℕ) (span : Span) → IsDeliverable lim.batch front sub.lane span → AllByRecursion (Belongs front turn (suc number)) (slice_set subs s (delivered_sub sub span number clock))
   belongs_handed clock span may =
       let at = may_go_span batch front (suc sub.lane.floor) sub.lane span o.one own.is_next o.joins may in
-      all_set (Belongs front turn (suc number)) subs s (handed_sub sub span number clock)
-      (all_then (Belongs front turn number) (Belongs front turn (suc number)) subs (λ sub. belongs_later front turn turn number (suc number) sub (omega arith) (omega arith)) o.belong)
+      all_set (Belongs front turn (suc number)) subs s (delivered_sub sub span number clock)
+      (all_then (Belongs front turn number) (Belongs front turn (suc number)) subs (λ sub. known_belongs_later front turn turn number (suc number) sub (omega arith) (omega arith)) o.belong)
       (sub_handed front turn number sub span clock at.1 own)
 
   -- ---- a span goes back
 
   -- it leaves the in-flight order and stands at the end of the ready order
   pub returned_shown : (closing : Option ℕ) (clock next_link : ℕ) (span : Span) → IsHeld sub.lane span → is_out span.status ≡ true
-      → shown lim front closing clock next_link number (slice_set subs s (returned_sub sub span.first (record { front = front; turn = suc turn }))) ≡ gives_back (shown lim front closing clock next_link number subs) s (shown_sub lim.batch front sub) span
+      → shown lim front closing clock next_link number (slice_set subs s (returned_sub sub span.first (record { front = front; turn = suc turn }))) ≡ nacked_picture (shown lim front closing clock next_link number subs) s (shown_sub lim.batch front sub) span
   returned_shown closing clock next_link span held out =
       let status : Status = Ready true in
       let t : Ticket = record { front = front; turn = suc turn } in
@@ -103,14 +103,14 @@ module _ (lim : Limits) (front turn number : ℕ) (subs : List Sub) (s : ℕ) (s
 
   -- so it is of the one that is out as a delivery
   pub returned_as : (closing : Option ℕ) (clock next_link delivery : ℕ) (span : Span) → out_as delivery (spans_of sub.lane.held) ≡ Some span
-      → shown lim front closing clock next_link number (slice_set subs s (returned_sub sub span.first (record { front = front; turn = suc turn }))) ≡ gives_back (shown lim front closing clock next_link number subs) s (shown_sub lim.batch front sub) span
+      → shown lim front closing clock next_link number (slice_set subs s (returned_sub sub span.first (record { front = front; turn = suc turn }))) ≡ nacked_picture (shown lim front closing clock next_link number subs) s (shown_sub lim.batch front sub) span
   returned_as closing clock next_link delivery span is = let h = out_as_held delivery sub.lane span is in returned_shown closing clock next_link span h.0 h.1
 
   -- what is kept belongs still, with one turn more
   pub belongs_returned : (first : ℕ) → AllByRecursion (Belongs front (suc turn) number) (slice_set subs s (returned_sub sub first (record { front = front; turn = suc turn })))
   belongs_returned first =
       all_set (Belongs front (suc turn) number) subs s (returned_sub sub first (record { front = front; turn = suc turn }))
-      (all_then (Belongs front turn number) (Belongs front (suc turn) number) subs (λ sub. belongs_later front turn (suc turn) number number sub (omega arith) (omega arith)) o.belong)
+      (all_then (Belongs front turn number) (Belongs front (suc turn) number) subs (λ sub. known_belongs_later front turn (suc turn) number number sub (omega arith) (omega arith)) o.belong)
       (sub_returned front turn number sub first own)
 
   -- ---- a span is settled
@@ -130,7 +130,7 @@ module _ (lim : Limits) (front turn number : ℕ) (subs : List Sub) (s : ℕ) (s
   -- it leaves the in-flight order
   pub settled_shown : (closing : Option ℕ) (clock next_link : ℕ) (span : Span) → IsHeld sub.lane span → is_out span.status ≡ true
       → shown lim front closing clock next_link number (slice_set subs s (settled_sub sub span.first))
-      ≡ (settled (shown lim front closing clock next_link number subs) s (shown_sub lim.batch front sub) span.first (raised sub.lane.floor (with_status span.first Settled (spans_of (sub_held lim.batch front sub))))).1
+      ≡ (settled_span (shown lim front closing clock next_link number subs) s (shown_sub lim.batch front sub) span.first (raised sub.lane.floor (with_status span.first Settled (spans_of (sub_held lim.batch front sub))))).1
   settled_shown closing clock next_link span held out =
       let sub' : Sub = settled_sub sub span.first in
       let stated : List Held = lane_held batch front (restated_lane sub.lane span.first Settled sub.lane.cutting) in
@@ -152,7 +152,7 @@ module _ (lim : Limits) (front turn number : ℕ) (subs : List Sub) (s : ℕ) (s
   -- so it is of the one that is out as a delivery
   pub settled_as : (closing : Option ℕ) (clock next_link delivery : ℕ) (span : Span) → out_as delivery (spans_of sub.lane.held) ≡ Some span
       → shown lim front closing clock next_link number (slice_set subs s (settled_sub sub span.first))
-      ≡ (settled (shown lim front closing clock next_link number subs) s (shown_sub lim.batch front sub) span.first (raised sub.lane.floor (with_status span.first Settled (spans_of (sub_held lim.batch front sub))))).1
+      ≡ (settled_span (shown lim front closing clock next_link number subs) s (shown_sub lim.batch front sub) span.first (raised sub.lane.floor (with_status span.first Settled (spans_of (sub_held lim.batch front sub))))).1
   settled_as closing clock next_link delivery span is = let h = out_as_held delivery sub.lane span is in settled_shown closing clock next_link span h.0 h.1
 
   -- what is kept belongs still

@@ -5,15 +5,15 @@ use Rattle.std.proofs.lemmas.Bool.{false≢true, eqb-true, ltb-false, leb-true}
 use Rattle.std.proofs.Math.Dec.{eqb-suc-suc}
 use Rattle.rb_desk.specs.declared.config.ConfigFault.{ConfigFault}
 use Rattle.rb_desk.specs.declared.config.ConfigFault.TheVariants.{Batch}
-use Rattle.rb_desk.specs.declared.refusal.Refusal.{Refusal}
+use Rattle.rb_desk.specs.declared.refusal.DeskRefusal.{DeskRefusal}
 use Rattle.rb_desk.specs.declared.span.Span.{Span}
 use Rattle.rb_desk.specs.declared.span.Status.{Status}
 use Rattle.rb_desk.specs.Limits.{Limits}
-use Rattle.rb_desk.specs.Spans.{cut, is_ready, is_out, is_out_as, is_settled, beginning, how_many_out}
-use Rattle.rb_desk.specs.Picture.{Picture, Subscription, opening}
-use Rattle.rb_desk.specs.Calls.{named, with_subscription, without_subscription, subscribe, subscribed, reconnect, reconnected, reconnected_by, unsubscribe, unsubscribed, unsubscribed_by, close, last_number}
+use Rattle.rb_desk.specs.Spans.{cut_spans, is_ready, is_out, is_out_as, is_settled, beginning, how_many_out}
+use Rattle.rb_desk.specs.Picture.{Picture, Subscription, empty_picture}
+use Rattle.rb_desk.specs.Calls.{named, with_subscription, without_subscription, subscribe, subscribed_picture, reconnect, reconnected_picture, reconnected_by, unsubscribe, unsubscribed_picture, unsubscribed_by, close, last_number}
 use Rattle.rb_desk.specs.IsPicture.{AreInRange, Partition, IsGoodSpan, StartsUnsettled, IsGoodSubscription, how_often, one_if, span_there, stands_there, links_of, IsPicture}
-use Rattle.rb_desk.proofs.CutLaws.{IsFresh, cut_fresh, cut_induction}
+use Rattle.rb_desk.proofs.CutLaws.{CutIsFresh, cut_fresh, cut_induction}
 use Rattle.rb_desk.proofs.Line.{all_both, all_then, filter_none}
 use Rattle.rb_desk.proofs.KnownLaws.{all_get}
 use Rattle.rb_desk.proofs.PictureLaws.{count_cons, often_append, often_without_all, often_named, links_none, links_set, links_append, out_set, out_append, all_later, changed_keeps}
@@ -21,9 +21,9 @@ use Rattle.rb_desk.proofs.PictureLaws.{count_cons, often_append, often_without_a
 -- ---- tests
 
 -- what holds both ways holds
-pub either : {X : Type 0} (P : X → Type 0) (b : Bool) (x y : X) → (b ≡ true → P x) → (b ≡ false → P y) → P (cond b x y)
-either P true x y h k = h refl
-either P false x y h k = k refl
+pub keep_cut_either : {X : Type 0} (P : X → Type 0) (b : Bool) (x y : X) → (b ≡ true → P x) → (b ≡ false → P y) → P (cond b x y)
+keep_cut_either P true x y h k = h refl
+keep_cut_either P false x y h k = k refl
 
 pub either_way : {X : Type 0} (P : X → Type 0) (b : Bool) (x y : X) → P x → P y → P (cond b x y)
 either_way P true x y h k = h
@@ -32,7 +32,7 @@ either_way P false x y h k = k
 -- ---- the picture before any call
 
 -- it is one, where the limits are in their ranges
-pub opening_keeps : (limits : Limits) → AreInRange limits → IsPicture (opening limits)
+pub opening_keeps : (limits : Limits) → AreInRange limits → IsPicture (empty_picture limits)
 opening_keeps limits h = record {
   in_range = h;
   within = omega arith;
@@ -55,7 +55,7 @@ one_in_batch limits h = leb-true 1 limits.batch (by (nat_le 1 limits.batch) (nat
 -- ---- a cutting
 
 -- its spans partition the numbers that are cut
-pub cut_parts : (batch a b : ℕ) → 1 ≤ batch → a ≤ suc b → Partition a (cut batch a b) b
+pub cut_parts : (batch a b : ℕ) → 1 ≤ batch → a ≤ suc b → Partition a (cut_spans batch a b) b
 cut_parts batch a b one =
     cut_induction batch b (λ a spans. a ≤ suc b → Partition a spans b) one
     (λ a less h. omega arith)
@@ -63,7 +63,7 @@ cut_parts batch a b one =
     (suc b - a) a (omega arith)
 
 -- each of them is good, whatever was offered or given
-pub cut_good : (batch a b offered next : ℕ) → 1 ≤ batch → AllByRecursion (IsGoodSpan batch offered next) (cut batch a b)
+pub cut_good : (batch a b offered next : ℕ) → 1 ≤ batch → AllByRecursion (IsGoodSpan batch offered next) (cut_spans batch a b)
 cut_good batch a b offered next one =
     cut_induction batch b (λ a spans. AllByRecursion (IsGoodSpan batch offered next) spans) one
     (λ a less. tt)
@@ -71,18 +71,18 @@ cut_good batch a b offered next one =
     (suc b - a) a (omega arith)
 
 -- the first of fresh spans isn't settled, and none of them is out
-pub fresh_unsettled : (spans : List Span) → AllByRecursion IsFresh spans → StartsUnsettled spans
+pub fresh_unsettled : (spans : List Span) → AllByRecursion CutIsFresh spans → StartsUnsettled spans
 fresh_unsettled [] h = tt
 fresh_unsettled (p ∷ rest) h = ap is_settled h.0
 
-pub fresh_not_out : (spans : List Span) → AllByRecursion IsFresh spans → AllByRecursion (λ (p : Span). is_out p.status ≡ false) spans
-fresh_not_out spans h = all_then IsFresh (λ (p : Span). is_out p.status ≡ false) spans (λ p is. ap is_out is) h
+pub fresh_not_out : (spans : List Span) → AllByRecursion CutIsFresh spans → AllByRecursion (λ (p : Span). is_out p.status ≡ false) spans
+fresh_not_out spans h = all_then CutIsFresh (λ (p : Span). is_out p.status ≡ false) spans (λ p is. ap is_out is) h
 
-pub fresh_few : (spans : List Span) → AllByRecursion IsFresh spans → how_many_out spans ≡ 0
+pub fresh_few : (spans : List Span) → AllByRecursion CutIsFresh spans → how_many_out spans ≡ 0
 fresh_few spans h = ap length (filter_none (λ (p : Span). is_out p.status) spans (fresh_not_out spans h))
 
-pub fresh_outs : (d : ℕ) (spans : List Span) → AllByRecursion IsFresh spans → length (filter (λ (p : Span). is_out_as d p.status) spans) ≡ 0
-fresh_outs d spans h = ap length (filter_none (λ (p : Span). is_out_as d p.status) spans (all_then IsFresh (λ (p : Span). is_out_as d p.status ≡ false) spans (λ p is. ap (is_out_as d) is) h))
+pub fresh_outs : (d : ℕ) (spans : List Span) → AllByRecursion CutIsFresh spans → length (filter (λ (p : Span). is_out_as d p.status) spans) ≡ 0
+fresh_outs d spans h = ap length (filter_none (λ (p : Span). is_out_as d p.status) spans (all_then CutIsFresh (λ (p : Span). is_out_as d p.status ≡ false) spans (λ p is. ap (is_out_as d) is) h))
 
 -- ---- the span that begins with a number
 
@@ -94,7 +94,7 @@ begins_later low high (p ∷ rest) first j less =
     rw (count_cons (λ (p : Span). p.first == first) p rest, ne_eqb p.first first (omega (arith, j.0, less)), none) refl
 
 -- of fresh spans in a row as many begin with a number as there is one that does
-pub fresh_there : (low high : ℕ) (spans : List Span) (first : ℕ) → Partition low spans high → AllByRecursion IsFresh spans → length (filter (λ (p : Span). p.first == first) spans) ≡ span_there is_ready (beginning first spans)
+pub fresh_there : (low high : ℕ) (spans : List Span) (first : ℕ) → Partition low spans high → AllByRecursion CutIsFresh spans → length (filter (λ (p : Span). p.first == first) spans) ≡ span_there is_ready (beginning first spans)
 fresh_there low high [] first j f = refl
 fresh_there low high (p ∷ rest) first j f = count_cons (λ (p : Span). p.first == first) p rest ∙ by (p.first == first) refl (fresh_there (suc p.last) high rest first j.2 f.1)
   where
@@ -109,12 +109,12 @@ none_there test first [] h = refl
 none_there test first (p ∷ rest) h = either_way (λ (o : Option Span). span_there test o ≡ 0) (p.first == first) (Some p) (beginning first rest) (ap one_if h.0) (none_there test first rest h.1)
 
 -- the spans of a cutting stand once among their names, as ready ones, and none of them is out
-pub cut_often : (batch a b s first : ℕ) → 1 ≤ batch → a ≤ suc b → how_often s first (named s (cut batch a b)) ≡ span_there is_ready (beginning first (cut batch a b))
+pub cut_often : (batch a b s first : ℕ) → 1 ≤ batch → a ≤ suc b → how_often s first (named s (cut_spans batch a b)) ≡ span_there is_ready (beginning first (cut_spans batch a b))
 cut_often batch a b s first one le =
-    often_named s s first (cut batch a b) ∙ (λ i. cond (eq-eqb s s refl i) (fresh_there a b (cut batch a b) first (cut_parts batch a b one le) (cut_fresh batch a b) i) 0)
+    often_named s s first (cut_spans batch a b) ∙ (λ i. cond (eq-eqb s s refl i) (fresh_there a b (cut_spans batch a b) first (cut_parts batch a b one le) (cut_fresh batch a b) i) 0)
 
-pub cut_none_out : (batch a b first : ℕ) → span_there is_out (beginning first (cut batch a b)) ≡ 0
-cut_none_out batch a b first = none_there is_out first (cut batch a b) (fresh_not_out (cut batch a b) (cut_fresh batch a b))
+pub cut_none_out : (batch a b first : ℕ) → span_there is_out (beginning first (cut_spans batch a b)) ≡ 0
+cut_none_out batch a b first = none_there is_out first (cut_spans batch a b) (fresh_not_out (cut_spans batch a b) (cut_fresh batch a b))
 
 -- ---- a subscription more
 
@@ -127,7 +127,7 @@ stands_appended test first (z ∷ subs) q zero = rw (ne_eqb (suc (length subs)) 
 stands_appended test first (z ∷ subs) q (suc s) = rw (eqb-suc-suc (length subs) s) (stands_appended test first subs q s)
 
 -- a new one behind a number that is placed
-pub subscribed_keeps : (p : Picture) (start : ℕ) → IsPicture p → start ≤ p.front → IsPicture (subscribed p start (cut p.limits.batch (suc start) p.front))
+pub subscribed_keeps : (p : Picture) (start : ℕ) → IsPicture p → start ≤ p.front → IsPicture (subscribed_picture p start (cut_spans p.limits.batch (suc start) p.front))
 subscribed_keeps p start k behind = record {
   in_range = k.in_range;
   within = k.within;
@@ -147,15 +147,15 @@ subscribed_keeps p start k behind = record {
 }
   where
     spans : List Span
-    spans = cut p.limits.batch (suc start) p.front
+    spans = cut_spans p.limits.batch (suc start) p.front
 
     new : Picture
-    new = subscribed p start spans
+    new = subscribed_picture p start spans
 
     q : Subscription
     q = record { start = start; floor = start; offered = start; link = p.next_link; closed = false; spans = spans }
 
-    fresh : AllByRecursion IsFresh spans
+    fresh : AllByRecursion CutIsFresh spans
     fresh = cut_fresh p.limits.batch (suc start) p.front
 
     parts : Partition (suc start) spans p.front
@@ -183,11 +183,11 @@ subscribed_keeps p start k behind = record {
     none_more false n = omega arith
 
 -- whether it is made or refused
-pub subscribe_keeps : (p : Picture) (start : ℕ) → IsPicture p → IsPicture (subscribe p start).1
+pub keep_cut_subscribe_keeps : (p : Picture) (start : ℕ) → IsPicture p → IsPicture (subscribe p start).1
 unfolding subscribe
-subscribe_keeps p start k =
-    either (λ (x : Result (ℕ × ℕ) Refusal × Picture). IsPicture x.1) (nat_lt p.front start) _ _ (λ ahead. k)
-    (λ behind. either (λ (x : Result (ℕ × ℕ) Refusal × Picture). IsPicture x.1) (nat_le 1024 (length p.subscriptions)) _ _ (λ many. k) (λ few. subscribed_keeps p start k (ltb-false _ _ behind)))
+keep_cut_subscribe_keeps p start k =
+    keep_cut_either (λ (x : Result (ℕ × ℕ) DeskRefusal × Picture). IsPicture x.1) (nat_lt p.front start) _ _ (λ ahead. k)
+    (λ behind. keep_cut_either (λ (x : Result (ℕ × ℕ) DeskRefusal × Picture). IsPicture x.1) (nat_le 1024 (length p.subscriptions)) _ _ (λ many. k) (λ few. subscribed_keeps p start k (ltb-false _ _ behind)))
 
 -- ---- a subscription whose spans all go, and that has fresh ones in place of them
 
@@ -197,7 +197,7 @@ replaced p s q' link ready = record (with_subscription p s q') { next_link = lin
 
 -- it is a picture where the subscription is a good one with its former link or one not given yet
 pub replaced_keeps : (p : Picture) (s link low high : ℕ) (q q' : Subscription) → IsPicture p → slice_get p.subscriptions s ≡ Some q → p.next_link ≤ link → (q'.link ≡ q.link) ⊎ (p.next_link ≤ q'.link)
-    → IsGoodSubscription (replaced p s q' link (without_subscription s p.ready ++ named s q'.spans)) q' → Partition low q'.spans high → AllByRecursion IsFresh q'.spans
+    → IsGoodSubscription (replaced p s q' link (without_subscription s p.ready ++ named s q'.spans)) q' → Partition low q'.spans high → AllByRecursion CutIsFresh q'.spans
     → IsPicture (replaced p s q' link (without_subscription s p.ready ++ named s q'.spans))
 replaced_keeps p s link low high q q' k found le own mine parts fresh =
     changed_keeps p s q found q' p.clock link p.next_delivery (without_subscription s p.ready ++ named s q'.spans) (without_subscription s p.in_flight) k le (omega arith) mine
@@ -232,23 +232,23 @@ either_false true b h = absurd (false≢true (sym h))
 
 -- one that isn't closed goes on behind a cursor from its floor to what was offered
 pub reconnected_keeps : (p : Picture) (s cursor : ℕ) (q : Subscription) → IsPicture p → slice_get p.subscriptions s ≡ Some q → q.closed ≡ false → q.floor ≤ cursor → cursor ≤ q.offered
-    → IsPicture (reconnected p s q cursor (cut p.limits.batch (suc cursor) p.front))
+    → IsPicture (reconnected_picture p s q cursor (cut_spans p.limits.batch (suc cursor) p.front))
 reconnected_keeps p s cursor q k found running low high =
     replaced_keeps p s (suc p.next_link) (suc cursor) p.front q (record q { floor = cursor; link = p.next_link; spans = spans }) k found (omega arith) (inr (omega arith)) mine parts fresh
   where
     spans : List Span
-    spans = cut p.limits.batch (suc cursor) p.front
+    spans = cut_spans p.limits.batch (suc cursor) p.front
 
     was : IsGoodSubscription p q
     was = all_get (IsGoodSubscription p) p.subscriptions s q k.good found
 
-    fresh : AllByRecursion IsFresh spans
+    fresh : AllByRecursion CutIsFresh spans
     fresh = cut_fresh p.limits.batch (suc cursor) p.front
 
     parts : Partition (suc cursor) spans p.front
     parts = cut_parts p.limits.batch (suc cursor) p.front (one_in_batch p.limits k.in_range) (omega (arith, high, was.placed))
 
-    mine : IsGoodSubscription (reconnected p s q cursor spans) (record q { floor = cursor; link = p.next_link; spans = spans })
+    mine : IsGoodSubscription (reconnected_picture p s q cursor spans) (record q { floor = cursor; link = p.next_link; spans = spans })
     mine = record {
       begins = omega (arith, was.begins, low);
       reaches = high;
@@ -262,21 +262,21 @@ reconnected_keeps p s cursor q k found running low high =
     }
 
 -- or doesn't
-pub reconnect_keeps : (p : Picture) (s cursor : ℕ) → IsPicture p → IsPicture (reconnect p s cursor).1
+pub keep_cut_reconnect_keeps : (p : Picture) (s cursor : ℕ) → IsPicture p → IsPicture (reconnect p s cursor).1
 unfolding reconnect
-reconnect_keeps p s cursor k = by (slice_get p.subscriptions s) refl
+keep_cut_reconnect_keeps p s cursor k = by (slice_get p.subscriptions s) refl
   where
     by : (o : Option Subscription) → slice_get p.subscriptions s ≡ o → IsPicture (reconnected_by p s cursor o).1
     by None found = k
     by (Some q) found =
-        either (λ (x : Result ℕ Refusal × Picture). IsPicture x.1) q.closed _ _ (λ closed. k)
-        (λ running. either (λ (x : Result ℕ Refusal × Picture). IsPicture x.1) (nat_lt cursor q.floor || nat_lt q.offered cursor) _ _ (λ bad. k)
+        keep_cut_either (λ (x : Result ℕ DeskRefusal × Picture). IsPicture x.1) q.closed _ _ (λ closed. k)
+        (λ running. keep_cut_either (λ (x : Result ℕ DeskRefusal × Picture). IsPicture x.1) (nat_lt cursor q.floor || nat_lt q.offered cursor) _ _ (λ bad. k)
         (λ fits. let f = either_false (nat_lt cursor q.floor) (nat_lt q.offered cursor) fits in reconnected_keeps p s cursor q k found running (ltb-false _ _ f.0) (ltb-false _ _ f.1)))
 
 -- ---- closed
 
 -- one is closed
-pub unsubscribed_keeps : (p : Picture) (s : ℕ) (q : Subscription) → IsPicture p → slice_get p.subscriptions s ≡ Some q → IsPicture (unsubscribed p s q)
+pub unsubscribed_keeps : (p : Picture) (s : ℕ) (q : Subscription) → IsPicture p → slice_get p.subscriptions s ≡ Some q → IsPicture (unsubscribed_picture p s q)
 unsubscribed_keeps p s q k found =
     subst (λ ready. IsPicture (replaced p s q' p.next_link ready)) (append-nil (without_subscription s p.ready)) (replaced_keeps p s p.next_link 1 0 q q' k found (omega arith) (inl refl) mine refl tt)
   where
@@ -300,20 +300,20 @@ unsubscribed_keeps p s q k found =
     }
 
 -- or isn't
-pub unsubscribe_keeps : (p : Picture) (s link : ℕ) → IsPicture p → IsPicture (unsubscribe p s link).1
+pub keep_cut_unsubscribe_keeps : (p : Picture) (s link : ℕ) → IsPicture p → IsPicture (unsubscribe p s link).1
 unfolding unsubscribe
-unsubscribe_keeps p s link k = by (slice_get p.subscriptions s) refl
+keep_cut_unsubscribe_keeps p s link k = by (slice_get p.subscriptions s) refl
   where
     by : (o : Option Subscription) → slice_get p.subscriptions s ≡ o → IsPicture (unsubscribed_by p s link o).1
     by None found = k
     by (Some q) found =
-        either (λ (x : Result Unit Refusal × Picture). IsPicture x.1) (not (link == q.link)) _ _ (λ stale. k)
-        (λ same. either (λ (x : Result Unit Refusal × Picture). IsPicture x.1) q.closed _ _ (λ closed. k) (λ running. unsubscribed_keeps p s q k found))
+        keep_cut_either (λ (x : Result Unit DeskRefusal × Picture). IsPicture x.1) (not (link == q.link)) _ _ (λ stale. k)
+        (λ same. keep_cut_either (λ (x : Result Unit DeskRefusal × Picture). IsPicture x.1) q.closed _ _ (λ closed. k) (λ running. unsubscribed_keeps p s q k found))
 
 -- the sequence is closed where its front is
-pub close_keeps : (p : Picture) → IsPicture p → IsPicture (close p).1
+pub keep_cut_close_keeps : (p : Picture) → IsPicture p → IsPicture (close p).1
 unfolding close
-close_keeps p k = record {
+keep_cut_close_keeps p k = record {
   in_range = k.in_range;
   within = k.within;
   closed = by p.closing k.closed;

@@ -8,7 +8,7 @@ use Rattle.rb_desk.specs.declared.span.Status.{Status}
 use Rattle.rb_desk.specs.declared.span.Status.TheVariants.{Ready, InFlight, Settled}
 use Rattle.rb_desk.specs.Spans.{is_ready, is_fresh, is_out, is_out_as, is_settled, is_due, beginning, gone_back}
 use Rattle.rb_desk.specs.Picture.{Picture, Subscription}
-use Rattle.rb_desk.specs.Calls.{expire, expired, expires, goes_back, is_due_of, span_is_due}
+use Rattle.rb_desk.specs.Calls.{expire, expired_at, expires, goes_back, is_due_of, span_is_due}
 use Rattle.rb_desk.specs.IsPicture.{Partition, IsGoodSpan, StartsUnsettled, IsGoodSubscription, one_if, span_there, stands_there, IsPicture}
 use Rattle.rb_desk.proofs.Line.{all_then}
 use Rattle.rb_desk.proofs.KnownLaws.{all_mapped}
@@ -142,7 +142,7 @@ module _ (timeout clock : ℕ) where
 -- ---- the picture
 
 -- at a moment
-pub expired_keeps : (p : Picture) (clock : ℕ) → IsPicture p → IsPicture (expired p clock).1
+pub expired_keeps : (p : Picture) (clock : ℕ) → IsPicture p → IsPicture (expired_at p clock).1
 expired_keeps p clock k = record {
   in_range = k.in_range;
   within = k.within;
@@ -165,9 +165,9 @@ expired_keeps p clock k = record {
     goes = goes_back p.limits.timeout clock
 
     new : Picture
-    new = (expired p clock).1
+    new = (expired_at p clock).1
 
 -- at the clock
-pub expire_keeps : (p : Picture) (now : ℕ) → IsPicture p → IsPicture (expire p now).1
+pub keep_expire_keeps : (p : Picture) (now : ℕ) → IsPicture p → IsPicture (expire p now).1
 unfolding expire
-expire_keeps p now k = expired_keeps p (max p.clock now) k
+keep_expire_keeps p now k = expired_keeps p (max p.clock now) k

@@ -6,10 +6,10 @@ use Rattle.rb_desk.specs.declared.span.Span.{Span}
 use Rattle.rb_desk.specs.declared.span.Status.{Status}
 use Rattle.rb_desk.specs.declared.span.Status.TheVariants.{Ready, InFlight, Settled}
 use Rattle.rb_desk.specs.declared.delivery.Delivery.{Delivery}
-use Rattle.rb_desk.specs.declared.refusal.Refusal.TheVariants as refusal
+use Rattle.rb_desk.specs.declared.refusal.DeskRefusal.TheVariants as refusal
 use Rattle.rb_desk.specs.Spans.{is_ready, is_out, is_out_as, beginning, first_ready, how_many_out, with_status}
 use Rattle.rb_desk.specs.Picture.{Picture, Subscription}
-use Rattle.rb_desk.specs.Calls.{has_room, handed, is_span, without_span, take, taken_from, taken_span, take_any, taken_any, any_of, any_span, may_go, refused}
+use Rattle.rb_desk.specs.Calls.{has_room, delivered_picture, is_span, without_span, take, delivered_from, delivered_span, take_any, delivered_any_from, delivered_any_of, delivered_any_span, may_deliver, refused_call}
 use Rattle.rb_desk.specs.IsPicture.{IsPicture, IsGoodSubscription, IsGoodSpan, Partition, how_often, one_if, span_there, out_in}
 use Rattle.rb_desk.specs.Steps.{FloorsRise}
 use Rattle.rb_desk.proofs.PictureLaws.{out_of, out_set, spans_later, floors_same, floors_set, changed_keeps, links_as_before, count_cons}
@@ -81,7 +81,7 @@ module _ (p : Picture) (s : ℕ) (q : Subscription) (span : Span) (clock : ℕ) 
           omega (arith, none, out_as_more d, good.deliveries d)
 
   -- it is good
-  handed_good : has_room p.limits.window q ≡ true → IsGoodSubscription (handed p s q span clock) with_one_out
+  handed_good : has_room p.limits.window q ≡ true → IsGoodSubscription (delivered_picture p s q span clock) with_one_out
   handed_good room =
       let number = p.next_delivery in
       let offered = max q.offered span.last in
@@ -102,7 +102,7 @@ module _ (p : Picture) (s : ℕ) (q : Subscription) (span : Span) (clock : ℕ) 
       }
 
   -- a picture is one after a ready span was handed over, where there is room
-  pub handed_keeps : has_room p.limits.window q ≡ true → IsPicture (handed p s q span clock)
+  pub handed_keeps : has_room p.limits.window q ≡ true → IsPicture (delivered_picture p s q span clock)
   handed_keeps room =
       let status : Status = InFlight p.next_delivery clock in
       changed_keeps p s q here with_one_out clock p.next_link (suc p.next_delivery) (without_span s span.first p.ready) (p.in_flight ++ (s, span.first) ∷ []) good (omega arith) (omega arith)
@@ -115,38 +115,38 @@ module _ (p : Picture) (s : ℕ) (q : Subscription) (span : Span) (clock : ℕ) 
       (comes_others p s q here is_out span status found p.in_flight)
 
 -- no floor falls
-pub floors_rise_handed : (p : Picture) (s : ℕ) (q : Subscription) (span : Span) (clock : ℕ) → slice_get p.subscriptions s ≡ Some q → FloorsRise p (handed p s q span clock)
-floors_rise_handed p s q span clock here = floors_set p (handed p s q span clock) s q (record q { offered = max q.offered span.last; spans = with_status span.first (InFlight p.next_delivery clock) q.spans }) here refl (omega arith)
+pub floors_rise_handed : (p : Picture) (s : ℕ) (q : Subscription) (span : Span) (clock : ℕ) → slice_get p.subscriptions s ≡ Some q → FloorsRise p (delivered_picture p s q span clock)
+floors_rise_handed p s q span clock here = floors_set p (delivered_picture p s q span clock) s q (record q { offered = max q.offered span.last; spans = with_status span.first (InFlight p.next_delivery clock) q.spans }) here refl (omega arith)
 
 -- ---- take
 
 -- what holds of the picture, and of it after each span that may be handed over, holds after take
 pub take_does : (P : Picture → Type 0) (p : Picture) (s link cursor now : ℕ) → P p
-    → ((q : Subscription) (span : Span) → slice_get p.subscriptions s ≡ Some q → q.closed ≡ false → has_room p.limits.window q ≡ true → first_ready q.spans ≡ Some span → P (handed p s q span (max p.clock now)))
+    → ((q : Subscription) (span : Span) → slice_get p.subscriptions s ≡ Some q → q.closed ≡ false → has_room p.limits.window q ≡ true → first_ready q.spans ≡ Some span → P (delivered_picture p s q span (max p.clock now)))
     → P (take p s link cursor now).1
 unfolding take
 take_does P p s link cursor now same goes = by (slice_get p.subscriptions s) refl
   where
-    by_span : (q : Subscription) (o : Option Span) → slice_get p.subscriptions s ≡ Some q → q.closed ≡ false → has_room p.limits.window q ≡ true → first_ready q.spans ≡ o → P (taken_span p s q cursor now o).1
+    by_span : (q : Subscription) (o : Option Span) → slice_get p.subscriptions s ≡ Some q → q.closed ≡ false → has_room p.limits.window q ≡ true → first_ready q.spans ≡ o → P (delivered_span p s q cursor now o).1
     by_span q None here runs room is = same
     by_span q (Some span) here runs room is = goes q span here runs room is
 
     by_tests : (q : Subscription) (a b c : Bool) → slice_get p.subscriptions s ≡ Some q → q.closed ≡ b → has_room p.limits.window q ≡ c
-        → P (cond (not a) (refused {A = Delivery} p refusal.StaleLink) (cond b (refused p refusal.Closed) (cond (not c) (refused p refusal.WindowFull) (taken_span p s q cursor now (first_ready q.spans))))).1
+        → P (cond (not a) (refused_call {A = Delivery} p refusal.StaleLink) (cond b (refused_call p refusal.Closed) (cond (not c) (refused_call p refusal.WindowFull) (delivered_span p s q cursor now (first_ready q.spans))))).1
     by_tests q false b c here runs room = same
     by_tests q true true c here runs room = same
     by_tests q true false false here runs room = same
     by_tests q true false true here runs room = by_span q (first_ready q.spans) here runs room refl
 
-    by : (o : Option Subscription) → slice_get p.subscriptions s ≡ o → P (taken_from p s link cursor now o).1
+    by : (o : Option Subscription) → slice_get p.subscriptions s ≡ o → P (delivered_from p s link cursor now o).1
     by None is = same
     by (Some q) is = by_tests q (link == q.link) q.closed (has_room p.limits.window q) is refl refl
 
 -- a picture is one after take
-pub take_keeps : (p : Picture) (s link cursor now : ℕ) → IsPicture p → IsPicture (take p s link cursor now).1
-take_keeps p s link cursor now good = take_does IsPicture p s link cursor now good goes
+pub keep_hand_take_keeps : (p : Picture) (s link cursor now : ℕ) → IsPicture p → IsPicture (take p s link cursor now).1
+keep_hand_take_keeps p s link cursor now good = take_does IsPicture p s link cursor now good goes
   where
-    goes : (q : Subscription) (span : Span) → slice_get p.subscriptions s ≡ Some q → q.closed ≡ false → has_room p.limits.window q ≡ true → first_ready q.spans ≡ Some span → IsPicture (handed p s q span (max p.clock now))
+    goes : (q : Subscription) (span : Span) → slice_get p.subscriptions s ≡ Some q → q.closed ≡ false → has_room p.limits.window q ≡ true → first_ready q.spans ≡ Some span → IsPicture (delivered_picture p s q span (max p.clock now))
     goes q span here runs room found =
         let part = (found_good p s q here good).parts runs in
         handed_keeps p s q span (max p.clock now) good here (found_begins (λ x. is_ready x.status) (suc q.floor) p.front q.spans span part found) (found_passes (λ x. is_ready x.status) q.spans span found) room
@@ -162,20 +162,20 @@ front_take p s link cursor now = take_does (λ r. r.front ≡ p.front) p s link 
 
 -- what holds of the picture, and of it after each span of the ready order that may be handed over, holds after take any
 pub take_any_does : (P : Picture → Type 0) (p : Picture) (now : ℕ) → P p
-    → ((at : ℕ × ℕ) (q : Subscription) (span : Span) → find (may_go p) p.ready ≡ Some at → slice_get p.subscriptions at.0 ≡ Some q → beginning at.1 q.spans ≡ Some span → P (handed p at.0 q span (max p.clock now)))
+    → ((at : ℕ × ℕ) (q : Subscription) (span : Span) → find (may_deliver p) p.ready ≡ Some at → slice_get p.subscriptions at.0 ≡ Some q → beginning at.1 q.spans ≡ Some span → P (delivered_picture p at.0 q span (max p.clock now)))
     → P (take_any p now).1
 unfolding take_any
-take_any_does P p now same goes = by (find (may_go p) p.ready) refl
+take_any_does P p now same goes = by (find (may_deliver p) p.ready) refl
   where
-    by_span : (at : ℕ × ℕ) (q : Subscription) (o : Option Span) → find (may_go p) p.ready ≡ Some at → slice_get p.subscriptions at.0 ≡ Some q → beginning at.1 q.spans ≡ o → P (any_span p at.0 q now o).1
+    by_span : (at : ℕ × ℕ) (q : Subscription) (o : Option Span) → find (may_deliver p) p.ready ≡ Some at → slice_get p.subscriptions at.0 ≡ Some q → beginning at.1 q.spans ≡ o → P (delivered_any_span p at.0 q now o).1
     by_span at q None first here is = same
     by_span at q (Some span) first here is = goes at q span first here is
 
-    by_sub : (at : ℕ × ℕ) (o : Option Subscription) → find (may_go p) p.ready ≡ Some at → slice_get p.subscriptions at.0 ≡ o → P (any_of p at.0 at.1 now o).1
+    by_sub : (at : ℕ × ℕ) (o : Option Subscription) → find (may_deliver p) p.ready ≡ Some at → slice_get p.subscriptions at.0 ≡ o → P (delivered_any_of p at.0 at.1 now o).1
     by_sub at None first is = same
     by_sub at (Some q) first is = by_span at q (beginning at.1 q.spans) first is refl
 
-    by : (o : Option (ℕ × ℕ)) → find (may_go p) p.ready ≡ o → P (taken_any p now o).1
+    by : (o : Option (ℕ × ℕ)) → find (may_deliver p) p.ready ≡ o → P (delivered_any_from p now o).1
     by None is = same
     by (Some at) is = by_sub at (slice_get p.subscriptions at.0) is refl
 
@@ -192,7 +192,7 @@ order_found test (x ∷ xs) at found = by (test x) refl found (order_found test 
     by false is here next = let r = next here in (r.0, omega (arith, r.1, count_cons (is_span at.0 at.1) x xs))
 
 -- where its subscription may go there is room
-may_go_room : (p : Picture) (at : ℕ × ℕ) (q : Subscription) → slice_get p.subscriptions at.0 ≡ Some q → may_go p at ≡ has_room p.limits.window q
+may_go_room : (p : Picture) (at : ℕ × ℕ) (q : Subscription) → slice_get p.subscriptions at.0 ≡ Some q → may_deliver p at ≡ has_room p.limits.window q
 may_go_room p at q here = rw here refl
 
 -- what stands there is ready
@@ -202,12 +202,12 @@ stands_ready (InFlight number moment) n le e = absurd (omega (arith, le, e))
 stands_ready Settled n le e = absurd (omega (arith, le, e))
 
 -- a picture is one after take any
-pub take_any_keeps : (p : Picture) (now : ℕ) → IsPicture p → IsPicture (take_any p now).1
-take_any_keeps p now good = take_any_does IsPicture p now good goes
+pub keep_hand_take_any_keeps : (p : Picture) (now : ℕ) → IsPicture p → IsPicture (take_any p now).1
+keep_hand_take_any_keeps p now good = take_any_does IsPicture p now good goes
   where
-    goes : (at : ℕ × ℕ) (q : Subscription) (span : Span) → find (may_go p) p.ready ≡ Some at → slice_get p.subscriptions at.0 ≡ Some q → beginning at.1 q.spans ≡ Some span → IsPicture (handed p at.0 q span (max p.clock now))
+    goes : (at : ℕ × ℕ) (q : Subscription) (span : Span) → find (may_deliver p) p.ready ≡ Some at → slice_get p.subscriptions at.0 ≡ Some q → beginning at.1 q.spans ≡ Some span → IsPicture (delivered_picture p at.0 q span (max p.clock now))
     goes at q span first here found =
-        let stands = order_found (may_go p) p.ready at first in
+        let stands = order_found (may_deliver p) p.ready at first in
         let its : span.first ≡ at.1 = eqb-true span.first at.1 (found_passes (λ x. x.first == at.1) q.spans span found) in
         let often : how_often at.0 at.1 p.ready ≡ one_if (is_ready span.status) = order_here p at.0 q here is_ready p.ready good.ready at.1 ∙ ap (span_there is_ready) found in
         handed_keeps p at.0 q span (max p.clock now) good here (ap (λ n. beginning n q.spans) its ∙ found) (stands_ready span.status (how_often at.0 at.1 p.ready) stands.1 often) (sym (may_go_room p at q here) ∙ stands.0)

@@ -3,19 +3,19 @@ use Rattle.std.proofs.Common.{◌≡◌, ℕ, zero, suc, ◌+◌, ◌-◌, ◌<�
 use Rattle.std.specs.List.{AllByRecursion}
 use Rattle.std.proofs.lemmas.Bool.{false≢true, eqb-true, ltb-true}
 use Rattle.std.proofs.lemmas.Option.{slice_get-map}
-use Rattle.rb_desk.specs.declared.refusal.Refusal.{Refusal}
+use Rattle.rb_desk.specs.declared.refusal.DeskRefusal.{DeskRefusal}
 use Rattle.rb_desk.specs.declared.span.Span.{Span}
 use Rattle.rb_desk.specs.declared.span.Status.{Status}
 use Rattle.rb_desk.specs.declared.span.Status.TheVariants.{Ready}
-use Rattle.rb_desk.specs.Spans.{fresh, is_ready, is_fresh, is_out, is_out_as, beginning, last_takes, last_with, grown}
+use Rattle.rb_desk.specs.Spans.{fresh, is_ready, is_fresh, is_out, is_out_as, beginning, last_takes, last_with, grown_spans}
 use Rattle.rb_desk.specs.Picture.{Picture, Subscription}
-use Rattle.rb_desk.specs.Calls.{is_span, prepare, place, grows, begun}
+use Rattle.rb_desk.specs.Calls.{is_span, prepare, place, grown_subscription, begun_spans}
 use Rattle.rb_desk.specs.IsPicture.{Partition, IsGoodSpan, StartsUnsettled, IsGoodSubscription, how_often, one_if, span_there, stands_there, links_of, out_in, IsPicture}
 use Rattle.rb_desk.proofs.CallLaws.{may_place}
 use Rattle.rb_desk.proofs.Line.{all_both, all_then}
 use Rattle.rb_desk.proofs.KnownLaws.{all_get, all_mapped}
 use Rattle.rb_desk.proofs.PictureLaws.{count_cons, count_append, often_append, out_of}
-use Rattle.rb_desk.proofs.KeepCut.{either, either_way, one_in_batch}
+use Rattle.rb_desk.proofs.KeepCut.{keep_cut_either, either_way, one_in_batch}
 
 -- ---- the numbers of spans
 
@@ -36,9 +36,9 @@ parts_more low front [] j = (j, omega arith, refl)
 parts_more low front (p ∷ rest) j = (j.0, j.1, parts_more (suc p.last) front rest j.2)
 
 -- so grown spans partition the numbers up to it
-pub grown_parts : (batch low front : ℕ) (spans : List Span) → Partition low spans front → Partition low (grown batch (suc front) spans) (suc front)
+pub grown_parts : (batch low front : ℕ) (spans : List Span) → Partition low spans front → Partition low (grown_spans batch (suc front) spans) (suc front)
 grown_parts batch low front spans j =
-    either (λ xs. Partition low xs (suc front)) (last_takes batch spans) (last_with (suc front) spans) (spans ++ fresh (suc front) (suc front) ∷ []) (λ takes. parts_with batch low front spans takes j) (λ full. parts_more low front spans j)
+    keep_cut_either (λ xs. Partition low xs (suc front)) (last_takes batch spans) (last_with (suc front) spans) (spans ++ fresh (suc front) (suc front) ∷ []) (λ takes. parts_with batch low front spans takes j) (λ full. parts_more low front spans j)
 
 -- ---- good spans
 
@@ -58,13 +58,13 @@ good_with batch offered next low front (p ∷ q ∷ rest) takes j g = (g.0, good
 
 -- grown spans are good
 pub grown_good : (batch offered next low front : ℕ) (spans : List Span) → 1 ≤ batch → Partition low spans front → AllByRecursion (IsGoodSpan batch offered next) spans
-    → AllByRecursion (IsGoodSpan batch offered next) (grown batch (suc front) spans)
+    → AllByRecursion (IsGoodSpan batch offered next) (grown_spans batch (suc front) spans)
 grown_good batch offered next low front spans one j g =
-    either (AllByRecursion (IsGoodSpan batch offered next)) (last_takes batch spans) (last_with (suc front) spans) (spans ++ fresh (suc front) (suc front) ∷ []) (λ takes. good_with batch offered next low front spans takes j g)
+    keep_cut_either (AllByRecursion (IsGoodSpan batch offered next)) (last_takes batch spans) (last_with (suc front) spans) (spans ++ fresh (suc front) (suc front) ∷ []) (λ takes. good_with batch offered next low front spans takes j g)
     (λ full. all_both (IsGoodSpan batch offered next) spans (fresh (suc front) (suc front) ∷ []) g (record { short = omega (arith, one); handed_out = (λ taken. absurd (false≢true (sym taken)), tt) }, tt))
 
 -- the first of them isn't settled
-pub grown_unsettled : (batch n : ℕ) (spans : List Span) → StartsUnsettled spans → StartsUnsettled (grown batch n spans)
+pub grown_unsettled : (batch n : ℕ) (spans : List Span) → StartsUnsettled spans → StartsUnsettled (grown_spans batch n spans)
 grown_unsettled batch n spans h = either_way StartsUnsettled (last_takes batch spans) (last_with n spans) (spans ++ fresh n n ∷ []) (longer spans h) (more spans h)
   where
     longer : (spans : List Span) → StartsUnsettled spans → StartsUnsettled (last_with n spans)
@@ -90,7 +90,7 @@ module _ (test : Status → Bool) where
       count_cons (λ (p : Span). test p.status) p (last_with n (q ∷ rest)) ∙ ap (λ m. one_if (test p.status) + m) (having_with n (q ∷ rest)) ∙ sym (count_cons (λ (p : Span). test p.status) p (q ∷ rest))
 
   -- as many as before, where fresh ones don't
-  pub grown_having : (batch n : ℕ) (spans : List Span) → test (Ready false) ≡ false → having (grown batch n spans) ≡ having spans
+  pub grown_having : (batch n : ℕ) (spans : List Span) → test (Ready false) ≡ false → having (grown_spans batch n spans) ≡ having spans
   grown_having batch n spans h =
       either_way (λ xs. having xs ≡ having spans) (last_takes batch spans) (last_with n spans) (spans ++ fresh n n ∷ []) (having_with n spans)
       (count_append (λ (p : Span). test p.status) spans (fresh n n ∷ []) ∙ (let none : having (fresh n n ∷ []) ≡ 0 = ap (λ b. length (cond b (fresh n n ∷ []) [])) h in omega (arith, none)))
@@ -127,7 +127,7 @@ module _ (test : Status → Bool) where
 
   -- so it has it in what a subscription becomes as before, or it is the new one
   pub grows_there : (p : Picture) (q : Subscription) (batch first : ℕ) → IsGoodSubscription p q
-      → span_there test (beginning first (grows batch (suc p.front) q).spans)
+      → span_there test (beginning first (grown_subscription batch (suc p.front) q).spans)
       ≡ span_there test (beginning first q.spans) + cond (q.closed || last_takes batch q.spans) 0 (cond (suc p.front == first) (one_if (test (Ready false))) 0)
   grows_there p q batch first g = by q.closed (last_takes batch q.spans) g.parts
     where
@@ -147,19 +147,19 @@ begins_one batch n first (Some q) = cond (q.closed || last_takes batch q.spans) 
 
 module _ (batch n s first : ℕ) where
   begun_cons : (k : ℕ) (q : Subscription) (subs : List Subscription)
-      → how_often s first (begun batch n k (q ∷ subs)) ≡ cond (q.closed || last_takes batch q.spans) 0 (one_if ((k == s) && (n == first))) + how_often s first (begun batch n (suc k) subs)
+      → how_often s first (begun_spans batch n k (q ∷ subs)) ≡ cond (q.closed || last_takes batch q.spans) 0 (one_if ((k == s) && (n == first))) + how_often s first (begun_spans batch n (suc k) subs)
   begun_cons k q subs = by (q.closed || last_takes batch q.spans)
     where
-      by : (b : Bool) → how_often s first (cond b (begun batch n (suc k) subs) ((k, n) ∷ begun batch n (suc k) subs)) ≡ cond b 0 (one_if ((k == s) && (n == first))) + how_often s first (begun batch n (suc k) subs)
+      by : (b : Bool) → how_often s first (cond b (begun_spans batch n (suc k) subs) ((k, n) ∷ begun_spans batch n (suc k) subs)) ≡ cond b 0 (one_if ((k == s) && (n == first))) + how_often s first (begun_spans batch n (suc k) subs)
       by true = omega arith
-      by false = count_cons (is_span s first) (k, n) (begun batch n (suc k) subs)
+      by false = count_cons (is_span s first) (k, n) (begun_spans batch n (suc k) subs)
 
   none_of : (b c : Bool) → cond b 0 (one_if (false && c)) ≡ 0
   none_of true c = refl
   none_of false c = refl
 
   -- a subscription ahead begins none
-  begun_ahead : (k : ℕ) (subs : List Subscription) → s < k → how_often s first (begun batch n k subs) ≡ 0
+  begun_ahead : (k : ℕ) (subs : List Subscription) → s < k → how_often s first (begun_spans batch n k subs) ≡ 0
   begun_ahead k [] less = refl
   begun_ahead k (q ∷ subs) less =
       begun_cons k q subs
@@ -167,7 +167,7 @@ module _ (batch n s first : ℕ) where
       ∙ ap (λ m. m + 0) (none_of (q.closed || last_takes batch q.spans) (n == first))
 
   -- each begins its own
-  begun_own : (k i : ℕ) (subs : List Subscription) → s ≡ k + i → how_often s first (begun batch n k subs) ≡ begins_one batch n first (slice_get subs i)
+  begun_own : (k i : ℕ) (subs : List Subscription) → s ≡ k + i → how_often s first (begun_spans batch n k subs) ≡ begins_one batch n first (slice_get subs i)
   begun_own k i [] is = refl
   begun_own k zero (q ∷ subs) is =
       begun_cons k q subs
@@ -198,18 +198,18 @@ out_mapped f d [] less = omega arith
 out_mapped f d (q ∷ subs) less = let rest = out_mapped f d subs less in omega (arith, less q, rest)
 
 -- what grows keeps its link, and as much is out
-grows_link : (batch n : ℕ) (q : Subscription) → (grows batch n q).link ≡ q.link
-grows_link batch n q = either_way (λ (x : Subscription). x.link ≡ q.link) q.closed q (record q { spans = grown batch n q.spans }) refl refl
+grows_link : (batch n : ℕ) (q : Subscription) → (grown_subscription batch n q).link ≡ q.link
+grows_link batch n q = either_way (λ (x : Subscription). x.link ≡ q.link) q.closed q (record q { spans = grown_spans batch n q.spans }) refl refl
 
-grows_outs : (batch n d : ℕ) (q : Subscription) → out_of d (grows batch n q) ≤ out_of d q
+grows_outs : (batch n d : ℕ) (q : Subscription) → out_of d (grown_subscription batch n q) ≤ out_of d q
 grows_outs batch n d q =
-    either_way (λ (x : Subscription). out_of d x ≤ out_of d q) q.closed q (record q { spans = grown batch n q.spans }) (omega arith) (let same = grown_having (is_out_as d) batch n q.spans refl in omega (arith, same))
+    either_way (λ (x : Subscription). out_of d x ≤ out_of d q) q.closed q (record q { spans = grown_spans batch n q.spans }) (omega arith) (let same = grown_having (is_out_as d) batch n q.spans refl in omega (arith, same))
 
 -- a good subscription is one in the picture with the number
-pub grows_good : (p : Picture) (q : Subscription) → 1 ≤ p.limits.batch → IsGoodSubscription p q → IsGoodSubscription (place p) (grows p.limits.batch (suc p.front) q)
+pub grows_good : (p : Picture) (q : Subscription) → 1 ≤ p.limits.batch → IsGoodSubscription p q → IsGoodSubscription (place p) (grown_subscription p.limits.batch (suc p.front) q)
 unfolding place
 grows_good p q one g =
-    either (IsGoodSubscription (place p)) q.closed q (record q { spans = grown p.limits.batch (suc p.front) q.spans })
+    keep_cut_either (IsGoodSubscription (place p)) q.closed q (record q { spans = grown_spans p.limits.batch (suc p.front) q.spans })
     (λ is. record {
       begins = g.begins;
       reaches = g.reaches;
@@ -236,9 +236,9 @@ grows_good p q one g =
 -- ---- the picture
 
 -- where one may be placed
-pub place_keeps : (p : Picture) (n : ℕ) → IsPicture p → prepare p ≡ Ok n → IsPicture (place p)
+pub keep_place_keeps : (p : Picture) (n : ℕ) → IsPicture p → prepare p ≡ Ok n → IsPicture (place p)
 unfolding place
-place_keeps p n k ok = record {
+keep_place_keeps p n k ok = record {
   in_range = k.in_range;
   within = may.1;
   closed = subst (λ o. IfSome o (λ last. last ≡ suc p.front)) (sym may.0) tt;
@@ -246,7 +246,7 @@ place_keeps p n k ok = record {
   links = λ link. omega (arith, links_mapped grow link p.subscriptions (grows_link p.limits.batch (suc p.front)), k.links link);
   deliveries = λ d. omega (arith, out_mapped grow d p.subscriptions (grows_outs p.limits.batch (suc p.front) d), k.deliveries d);
   ready = λ s first.
-      often_append s first p.ready (begun p.limits.batch (suc p.front) 0 p.subscriptions)
+      often_append s first p.ready (begun_spans p.limits.batch (suc p.front) 0 p.subscriptions)
       ∙ (λ i. k.ready s first i + begun_own p.limits.batch (suc p.front) s first 0 s p.subscriptions (omega arith) i)
       ∙ sym (stands is_ready s first ∙ ap (λ m. stands_there is_ready first (slice_get p.subscriptions s) + m) (ready_more first (slice_get p.subscriptions s)));
   out = λ s first.
@@ -255,10 +255,10 @@ place_keeps p n k ok = record {
 }
   where
     may : (p.closing ≡ None) × (p.front < p.limits.capacity)
-    may = may_place p (subst (λ (r : Result ℕ Refusal). IsOk r) (sym ok) refl)
+    may = may_place p (subst (λ (r : Result ℕ DeskRefusal). IsOk r) (sym ok) refl)
 
     grow : Subscription → Subscription
-    grow = grows p.limits.batch (suc p.front)
+    grow = grown_subscription p.limits.batch (suc p.front)
 
     more : (Status → Bool) → ℕ → Option Subscription → ℕ
     more test first None = 0

@@ -6,11 +6,11 @@ use Rattle.std.proofs.lemmas.Bool.{false≢true, cases_eq}
 use Rattle.rb_desk.specs.declared.span.Span.{Span}
 use Rattle.rb_desk.specs.declared.span.Status.{Status}
 use Rattle.rb_desk.specs.declared.span.Status.TheVariants.{Ready, InFlight, Settled}
-use Rattle.rb_desk.specs.declared.refusal.Refusal.TheVariants as refusal
+use Rattle.rb_desk.specs.declared.refusal.DeskRefusal.TheVariants as refusal
 use Rattle.rb_desk.specs.Spans.{is_ready, is_out, is_out_as, is_fresh, beginning, out_as, how_many_out, with_status, raised}
 use Rattle.rb_desk.specs.Picture.{Picture, Subscription}
-use Rattle.rb_desk.specs.Calls.{without_span, gives_back, settled, nack, nacked_by, nacked_span, ack, acked_by, acked_span, refused}
-use Rattle.rb_desk.specs.IsPicture.{IsPicture, IsGoodSubscription, IsGoodSpan, IsOffered, Partition, one_if, span_there, out_in}
+use Rattle.rb_desk.specs.Calls.{without_span, nacked_picture, settled_span, nack, nacked_by, nacked_span, ack, acked_by, acked_span, refused_call}
+use Rattle.rb_desk.specs.IsPicture.{IsPicture, IsGoodSubscription, IsGoodSpan, WasOffered, Partition, one_if, span_there, out_in}
 use Rattle.rb_desk.specs.Steps.{FloorsRise}
 use Rattle.rb_desk.proofs.PictureLaws.{out_of, out_set, floors_same, floors_set, changed_keeps, links_as_before}
 use Rattle.rb_desk.proofs.OpenLaws.{out_not_ready}
@@ -59,7 +59,7 @@ module _ (p : Picture) (s : ℕ) (q : Subscription) (span : Span) (good : IsPict
     fewer_out_as : (d : ℕ) → length (filter (λ (x : Span). is_out_as d x.status) (with_status span.first status q.spans)) ≤ out_of d q
     fewer_out_as d = let no : one_if (is_out_as d status) ≡ 0 = ap one_if (none d) in omega (arith, no, restated_count (is_out_as d) (suc q.floor) p.front span.first status q.spans span part found)
 
-    all_good : IsOffered q.offered p.next_delivery (record span { status = status }) → AllByRecursion (IsGoodSpan p.limits.batch q.offered p.next_delivery) (with_status span.first status q.spans)
+    all_good : WasOffered q.offered p.next_delivery (record span { status = status }) → AllByRecursion (IsGoodSpan p.limits.batch q.offered p.next_delivery) (with_status span.first status q.spans)
     all_good offered =
         restated_all (IsGoodSpan p.limits.batch q.offered p.next_delivery) (suc q.floor) p.front span.first status q.spans span part found (record { short = was.short; handed_out = offered }) mine.good
 
@@ -77,7 +77,7 @@ module _ (p : Picture) (s : ℕ) (q : Subscription) (span : Span) (good : IsPict
   abbrev with_one_back : Subscription
   with_one_back = record q { spans = with_status span.first (Ready true) q.spans }
 
-  back_good : IsGoodSubscription (gives_back p s q span) with_one_back
+  back_good : IsGoodSubscription (nacked_picture p s q span) with_one_back
   back_good = record {
     begins = mine.begins;
     reaches = mine.reaches;
@@ -91,7 +91,7 @@ module _ (p : Picture) (s : ℕ) (q : Subscription) (span : Span) (good : IsPict
   }
 
   -- a picture is one after a span that is out went back
-  pub gives_back_keeps : IsPicture (gives_back p s q span)
+  pub gives_back_keeps : IsPicture (nacked_picture p s q span)
   gives_back_keeps =
       changed_keeps p s q here with_one_back p.clock p.next_link p.next_delivery (p.ready ++ (s, span.first) ∷ []) (without_span s span.first p.in_flight) good (omega arith) (omega arith)
       back_good
@@ -127,7 +127,7 @@ module _ (p : Picture) (s : ℕ) (q : Subscription) (span : Span) (good : IsPict
   settled_up = raised_up q.floor p.front spans_settled part_settled
 
   -- the subscription is good
-  settled_good : IsGoodSubscription (settled p s q span.first rest).1 with_one_settled
+  settled_good : IsGoodSubscription (settled_span p s q span.first rest).1 with_one_settled
   settled_good = record {
     begins = omega (arith, mine.begins, settled_up);
     reaches = raised_offered p.limits.batch q.offered p.next_delivery q.floor spans_settled settled_all mine.reaches;
@@ -141,7 +141,7 @@ module _ (p : Picture) (s : ℕ) (q : Subscription) (span : Span) (good : IsPict
   }
 
   -- a picture is one after a span that is out was settled
-  pub settled_keeps : IsPicture (settled p s q span.first rest).1
+  pub settled_keeps : IsPicture (settled_span p s q span.first rest).1
   settled_keeps =
       changed_keeps p s q here with_one_settled p.clock p.next_link p.next_delivery p.ready (without_span s span.first p.in_flight) good (omega arith) (omega arith)
       settled_good
@@ -153,8 +153,8 @@ module _ (p : Picture) (s : ℕ) (q : Subscription) (span : Span) (good : IsPict
       (goes_others p s q here is_out span Settled found p.in_flight)
 
   -- no floor falls
-  pub floors_rise_settled : FloorsRise p (settled p s q span.first rest).1
-  floors_rise_settled = floors_set p (settled p s q span.first rest).1 s q with_one_settled here refl settled_up
+  pub floors_rise_settled : FloorsRise p (settled_span p s q span.first rest).1
+  floors_rise_settled = floors_set p (settled_span p s q span.first rest).1 s q with_one_settled here refl settled_up
 
 -- what is found as a delivery is out, and is the one that begins with its first number
 pub found_out : (p : Picture) (s d : ℕ) (q : Subscription) (span : Span) → IsPicture p → slice_get p.subscriptions s ≡ Some q → out_as d q.spans ≡ Some span → (beginning span.first q.spans ≡ Some span) × (is_out span.status ≡ true)
@@ -171,7 +171,7 @@ found_out p s d q span good here found = (by q.closed refl, as_is_out d span.sta
 
 -- what holds of the picture, and of it after each span that is out went back, holds after nack
 pub nack_does : (P : Picture → Type 0) (p : Picture) (s link number : ℕ) → P p
-    → ((q : Subscription) (span : Span) → slice_get p.subscriptions s ≡ Some q → out_as number q.spans ≡ Some span → P (gives_back p s q span))
+    → ((q : Subscription) (span : Span) → slice_get p.subscriptions s ≡ Some q → out_as number q.spans ≡ Some span → P (nacked_picture p s q span))
     → P (nack p s link number).1
 unfolding nack
 nack_does P p s link number same goes = by (slice_get p.subscriptions s) refl
@@ -180,7 +180,7 @@ nack_does P p s link number same goes = by (slice_get p.subscriptions s) refl
     by_span q None here is = same
     by_span q (Some span) here is = goes q span here is
 
-    by_link : (q : Subscription) (a : Bool) → slice_get p.subscriptions s ≡ Some q → P (cond (not a) (refused {A = ⊤} p refusal.StaleLink) (nacked_span p s q (out_as number q.spans))).1
+    by_link : (q : Subscription) (a : Bool) → slice_get p.subscriptions s ≡ Some q → P (cond (not a) (refused_call {A = ⊤} p refusal.StaleLink) (nacked_span p s q (out_as number q.spans))).1
     by_link q false here = same
     by_link q true here = by_span q (out_as number q.spans) here refl
 
@@ -189,14 +189,14 @@ nack_does P p s link number same goes = by (slice_get p.subscriptions s) refl
     by (Some q) is = by_link q (link == q.link) is
 
 -- a picture is one after nack
-pub nack_keeps : (p : Picture) (s link number : ℕ) → IsPicture p → IsPicture (nack p s link number).1
-nack_keeps p s link number good =
+pub keep_settle_nack_keeps : (p : Picture) (s link number : ℕ) → IsPicture p → IsPicture (nack p s link number).1
+keep_settle_nack_keeps p s link number good =
     nack_does IsPicture p s link number good (λ q span here is. let found = found_out p s number q span good here is in gives_back_keeps p s q span good here found.0 found.1)
 
 -- floors stay, and so does the front
 pub floors_rise_nack : (p : Picture) (s link number : ℕ) → FloorsRise p (nack p s link number).1
 floors_rise_nack p s link number =
-    nack_does (FloorsRise p) p s link number (floors_same p p refl) (λ q span here is. floors_set p (gives_back p s q span) s q (record q { spans = with_status span.first (Ready true) q.spans }) here refl (omega arith))
+    nack_does (FloorsRise p) p s link number (floors_same p p refl) (λ q span here is. floors_set p (nacked_picture p s q span) s q (record q { spans = with_status span.first (Ready true) q.spans }) here refl (omega arith))
 
 pub front_nack : (p : Picture) (s link number : ℕ) → (nack p s link number).1.front ≡ p.front
 front_nack p s link number = nack_does (λ r. r.front ≡ p.front) p s link number refl (λ q span here is. refl)
@@ -205,13 +205,13 @@ front_nack p s link number = nack_does (λ r. r.front ≡ p.front) p s link numb
 
 -- what holds of the picture, and of it after each span that is out was settled, holds after ack
 pub ack_does : (P : Picture → Type 0) (p : Picture) (s link number cursor : ℕ) → P p
-    → ((q : Subscription) (span : Span) → slice_get p.subscriptions s ≡ Some q → out_as number q.spans ≡ Some span → P (settled p s q span.first (raised q.floor (with_status span.first Settled q.spans))).1)
+    → ((q : Subscription) (span : Span) → slice_get p.subscriptions s ≡ Some q → out_as number q.spans ≡ Some span → P (settled_span p s q span.first (raised q.floor (with_status span.first Settled q.spans))).1)
     → P (ack p s link number cursor).1
 unfolding ack
 ack_does P p s link number cursor same goes = by (slice_get p.subscriptions s) refl
   where
     by_cursor : (q : Subscription) (span : Span) (b : Bool) → slice_get p.subscriptions s ≡ Some q → out_as number q.spans ≡ Some span
-        → P (cond b (refused {A = ℕ} p (refusal.NotAccepted cursor)) (settled p s q span.first (raised q.floor (with_status span.first Settled q.spans)))).1
+        → P (cond b (refused_call {A = ℕ} p (refusal.NotAccepted cursor)) (settled_span p s q span.first (raised q.floor (with_status span.first Settled q.spans)))).1
     by_cursor q span true here is = same
     by_cursor q span false here is = goes q span here is
 
@@ -219,7 +219,7 @@ ack_does P p s link number cursor same goes = by (slice_get p.subscriptions s) r
     by_span q None here is = same
     by_span q (Some span) here is = by_cursor q span (nat_lt cursor span.last) here is
 
-    by_link : (q : Subscription) (a : Bool) → slice_get p.subscriptions s ≡ Some q → P (cond (not a) (refused {A = ℕ} p refusal.StaleLink) (acked_span p s q cursor (out_as number q.spans))).1
+    by_link : (q : Subscription) (a : Bool) → slice_get p.subscriptions s ≡ Some q → P (cond (not a) (refused_call {A = ℕ} p refusal.StaleLink) (acked_span p s q cursor (out_as number q.spans))).1
     by_link q false here = same
     by_link q true here = by_span q (out_as number q.spans) here refl
 
@@ -228,8 +228,8 @@ ack_does P p s link number cursor same goes = by (slice_get p.subscriptions s) r
     by (Some q) is = by_link q (link == q.link) is
 
 -- a picture is one after ack
-pub ack_keeps : (p : Picture) (s link number cursor : ℕ) → IsPicture p → IsPicture (ack p s link number cursor).1
-ack_keeps p s link number cursor good =
+pub keep_settle_ack_keeps : (p : Picture) (s link number cursor : ℕ) → IsPicture p → IsPicture (ack p s link number cursor).1
+keep_settle_ack_keeps p s link number cursor good =
     ack_does IsPicture p s link number cursor good (λ q span here is. let found = found_out p s number q span good here is in settled_keeps p s q span good here found.0 found.1)
 
 -- no floor falls, and the front stays

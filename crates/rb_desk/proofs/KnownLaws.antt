@@ -7,11 +7,11 @@ use Rattle.rb_desk.specs.declared.span.Status.TheVariants.{Ready, InFlight, Sett
 use Rattle.rb_desk.specs.declared.ticket.Ticket.{Ticket}
 use Rattle.rb_desk.specs.declared.ticket.Held.{Held}
 use Rattle.rb_desk.specs.declared.sub.Sub.{Sub}
-use Rattle.rb_desk.specs.Spans.{cut, is_fresh, is_ready, is_settled}
-use Rattle.rb_desk.specs.Lanes.{Kept, earlier, birth, with_birth, ticketed, lane_held, restated, risen, restated_lane, pushed_lane}
+use Rattle.rb_desk.specs.Spans.{cut_spans, is_fresh, is_ready, is_settled}
+use Rattle.rb_desk.specs.Lanes.{Lane, earlier, birth, with_birth, ticketed, lane_held, restated, risen, restated_lane, pushed_lane}
 use Rattle.rb_desk.specs.Orders.{ready_at, out_at, out_at_status, all_at}
-use Rattle.rb_desk.specs.Shown.{sub_held, IsDrawn, IsGiven, IsKnown, Belongs, handed_sub, returned_sub, settled_sub}
-use Rattle.rb_desk.proofs.CutLaws.{IsFresh, cut_fresh}
+use Rattle.rb_desk.specs.Shown.{sub_held, IsDrawn, IsGiven, IsKnown, Belongs, delivered_sub, returned_sub, settled_sub}
+use Rattle.rb_desk.proofs.CutLaws.{CutIsFresh, cut_fresh}
 use Rattle.rb_desk.proofs.Line.{all_both, all_then}
 use Rattle.rb_desk.proofs.OrderLaws.{At, all_earlier}
 use Rattle.rb_desk.proofs.JoinLaws.{joins_cut, joins_end}
@@ -63,27 +63,27 @@ ready_before front turn s h drawn = by (is_ready h.span.status)
     by false = tt
 
 -- the ticket of a span never taken was drawn, where its first number is placed
-birth_drawn : (front turn first : ℕ) (cutting : Ticket) → IsDrawn front turn cutting → first ≤ front → IsDrawn front turn (birth cutting first)
-birth_drawn front turn first cutting drawn le = by (nat_le first cutting.front)
+known_birth_drawn : (front turn first : ℕ) (cutting : Ticket) → IsDrawn front turn cutting → first ≤ front → IsDrawn front turn (birth cutting first)
+known_birth_drawn front turn first cutting drawn le = by (nat_le first cutting.front)
   where
     by : (b : Bool) → IsDrawn front turn (cond b cutting (record { front = first; turn = 0 }))
     by true = drawn
     by false = (le, omega arith)
 
 -- no span of a cutting stands in the in-flight order
-fresh_before : (number : ℕ) (cutting : Ticket) (spans : List Span) → AllByRecursion IsFresh spans → AllByRecursion (StandsBefore out_at (record { front = number; turn = 0 })) (ticketed cutting spans)
+fresh_before : (number : ℕ) (cutting : Ticket) (spans : List Span) → AllByRecursion CutIsFresh spans → AllByRecursion (StandsBefore out_at (record { front = number; turn = 0 })) (ticketed cutting spans)
 fresh_before number cutting spans h =
     let t : Ticket = record { front = number; turn = 0 } in
     all_mapped (StandsBefore out_at t) (with_birth cutting) spans
-    (all_then IsFresh (λ p. StandsBefore out_at t (with_birth cutting p)) spans (λ p is s. subst (λ (status : Status). IfSome (out_at_status s p.first status) (λ e. earlier e.0 t ≡ true)) (sym is) tt) h)
+    (all_then CutIsFresh (λ p. StandsBefore out_at t (with_birth cutting p)) spans (λ p is s. subst (λ (status : Status). IfSome (out_at_status s p.first status) (λ e. earlier e.0 t ≡ true)) (sym is) tt) h)
 
 -- the tickets of a cutting were drawn
-births_drawn : (batch front turn a : ℕ) (cutting : Ticket) → 1 ≤ batch → a ≤ suc front → IsDrawn front turn cutting → AllByRecursion (λ h. IsDrawn front turn h.ticket) (ticketed cutting (cut batch a front))
+births_drawn : (batch front turn a : ℕ) (cutting : Ticket) → 1 ≤ batch → a ≤ suc front → IsDrawn front turn cutting → AllByRecursion (λ h. IsDrawn front turn h.ticket) (ticketed cutting (cut_spans batch a front))
 births_drawn batch front turn a cutting one le drawn =
-    let spans = cut batch a front in
+    let spans = cut_spans batch a front in
     let ends = all_unmapped (λ h. (h.span.first ≤ h.span.last) × (h.span.last < suc front)) (with_birth cutting) spans (joins_end a (suc front) (ticketed cutting spans) (joins_cut batch front a cutting one le)) in
     all_mapped (λ h. IsDrawn front turn h.ticket) (with_birth cutting) spans
-    (all_then (λ p. (p.first ≤ p.last) × (p.last < suc front)) (λ p. IsDrawn front turn (birth cutting p.first)) spans (λ p is. birth_drawn front turn p.first cutting drawn (omega (arith, is))) ends)
+    (all_then (λ p. (p.first ≤ p.last) × (p.last < suc front)) (λ p. IsDrawn front turn (birth cutting p.first)) spans (λ p is. known_birth_drawn front turn p.first cutting drawn (omega (arith, is))) ends)
 
 -- an open subscription has the spans of its lane
 pub held_open : (batch front : ℕ) (sub : Sub) → sub.closed ≡ false → sub_held batch front sub ≡ lane_held batch front sub.lane
@@ -101,17 +101,17 @@ module _ (batch front turn number : ℕ) where
   sub_out_before : (sub : Sub) → Belongs front turn number sub → AllByRecursion (StandsBefore out_at (record { front = number; turn = 0 })) (sub_held batch front sub)
   sub_out_before sub b =
       let t : Ticket = record { front = number; turn = 0 } in
-      let kept : Kept = sub.lane in
+      let kept : Lane = sub.lane in
       all_of_sub (StandsBefore out_at t) sub
-      (all_both (StandsBefore out_at t) kept.held (ticketed kept.cutting (cut batch kept.next front))
+      (all_both (StandsBefore out_at t) kept.held (ticketed kept.cutting (cut_spans batch kept.next front))
       (all_then (IsKnown front turn number) (StandsBefore out_at t) kept.held (λ h known s. out_before number s h.span.first h.span.status known.2) b.are_known)
-      (fresh_before number kept.cutting (cut batch kept.next front) (cut_fresh batch kept.next front)))
+      (fresh_before number kept.cutting (cut_spans batch kept.next front) (cut_fresh batch kept.next front)))
 
   sub_ready_before : 1 ≤ batch → (sub : Sub) → Belongs front turn number sub → AllByRecursion (StandsBefore ready_at (record { front = front; turn = suc turn })) (sub_held batch front sub)
   sub_ready_before one sub b =
       let t : Ticket = record { front = front; turn = suc turn } in
-      let kept : Kept = sub.lane in
-      let cutting : List Held = ticketed kept.cutting (cut batch kept.next front) in
+      let kept : Lane = sub.lane in
+      let cutting : List Held = ticketed kept.cutting (cut_spans batch kept.next front) in
       all_of_sub (StandsBefore ready_at t) sub
       (all_then (λ h. IsDrawn front turn h.ticket) (StandsBefore ready_at t) (kept.held ++ cutting) (λ h drawn s. ready_before front turn s h drawn)
       (all_both (λ h. IsDrawn front turn h.ticket) kept.held cutting
@@ -143,8 +143,8 @@ given_later number number' Settled le given = tt
 known_later : (front turn turn' number number' : ℕ) (h : Held) → turn ≤ turn' → number ≤ number' → IsKnown front turn number h → IsKnown front turn' number' h
 known_later front turn turn' number number' h t n known = (known.0, (known.1.0, omega (arith, known.1.1, t)), given_later number number' h.span.status n known.2)
 
-pub belongs_later : (front turn turn' number number' : ℕ) (sub : Sub) → turn ≤ turn' → number ≤ number' → Belongs front turn number sub → Belongs front turn' number' sub
-belongs_later front turn turn' number number' sub t n b = record {
+pub known_belongs_later : (front turn turn' number number' : ℕ) (sub : Sub) → turn ≤ turn' → number ≤ number' → Belongs front turn number sub → Belongs front turn' number' sub
+known_belongs_later front turn turn' number number' sub t n b = record {
   is_offered = b.is_offered;
   is_next = b.is_next;
   is_drawn = (b.is_drawn.0, omega (arith, b.is_drawn.1, t));
@@ -173,11 +173,11 @@ module _ (front turn number : ℕ) where
 
 module _ (front turn number : ℕ) where
   -- a subscription belongs after a span was handed over
-  pub sub_handed : (sub : Sub) (span : Span) (clock : ℕ) → span.last ≤ front → Belongs front turn number sub → Belongs front turn (suc number) (handed_sub sub span number clock)
+  pub sub_handed : (sub : Sub) (span : Span) (clock : ℕ) → span.last ≤ front → Belongs front turn number sub → Belongs front turn (suc number) (delivered_sub sub span number clock)
   sub_handed sub span clock le b = by (span.first == sub.lane.next)
     where
       later : Belongs front turn (suc number) sub
-      later = belongs_later front turn turn number (suc number) sub (omega arith) (omega arith) b
+      later = known_belongs_later front turn turn number (suc number) sub (omega arith) (omega arith) b
 
       by : (t : Bool) → Belongs front turn (suc number) (record sub { offered = max sub.offered span.last; lane = cond t (pushed_lane sub.lane span (InFlight number clock)) (restated_lane sub.lane span.first (InFlight number clock) sub.lane.cutting) })
       by true = record {
@@ -196,7 +196,7 @@ module _ (front turn number : ℕ) where
   -- after one went back
   pub sub_returned : (sub : Sub) (first : ℕ) → Belongs front turn number sub → Belongs front (suc turn) number (returned_sub sub first (record { front = front; turn = suc turn }))
   sub_returned sub first b =
-      let later = belongs_later front turn (suc turn) number number sub (omega arith) (omega arith) b in
+      let later = known_belongs_later front turn (suc turn) number number sub (omega arith) (omega arith) b in
       record {
         is_offered = later.is_offered;
         is_next = later.is_next;

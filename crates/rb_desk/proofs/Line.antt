@@ -74,16 +74,16 @@ filter_none test (x ∷ xs) h = rw h.0 (filter_none test xs h.1)
 abbrev pub Before : {X : Type 0} → Ticket → List (Ticket × X) → Type 0
 Before t = AllByRecursion (λ e. earlier e.0 t ≡ true)
 
-abbrev pub Behind : {X : Type 0} → Ticket → List (Ticket × X) → Type 0
-Behind t = AllByRecursion (λ e. earlier e.0 t ≡ false)
+abbrev pub LineBehind : {X : Type 0} → Ticket → List (Ticket × X) → Type 0
+LineBehind t = AllByRecursion (λ e. earlier e.0 t ≡ false)
 
 abbrev pub Rises : {X : Type 0} → List (Ticket × X) → Type 0
 Rises [] = ⊤
-Rises (e ∷ rest) = Behind e.0 rest × Rises rest
+Rises (e ∷ rest) = LineBehind e.0 rest × Rises rest
 
 module _ {X : Type 0} where
   -- what is none of it earlier than s is not earlier than t, where s is not
-  behind_more : (s t : Ticket) (xs : List (Ticket × X)) → earlier s t ≡ false → Behind s xs → Behind t xs
+  behind_more : (s t : Ticket) (xs : List (Ticket × X)) → earlier s t ≡ false → LineBehind s xs → LineBehind t xs
   behind_more s t xs h = all_then (λ e. earlier e.0 s ≡ false) (λ e. earlier e.0 t ≡ false) xs (λ e p. later_transitive e.0 s t p h)
 
   -- what holds of each thing holds of each in line
@@ -113,7 +113,7 @@ module _ {X : Type 0} where
   rises_line (e ∷ xs) = rises_placed e (in_line xs) (rises_line xs)
 
   -- ahead of things that are none of them earlier a thing is placed first, and behind earlier ones it is placed among the rest
-  pub placed_first : (e : Ticket × X) (xs ys : List (Ticket × X)) → Behind e.0 ys → placed_in e (xs ++ ys) ≡ placed_in e xs ++ ys
+  pub placed_first : (e : Ticket × X) (xs ys : List (Ticket × X)) → LineBehind e.0 ys → placed_in e (xs ++ ys) ≡ placed_in e xs ++ ys
   placed_first e [] [] h = refl
   placed_first e [] (f ∷ ys) h = rw h.0 refl
   placed_first e (f ∷ xs) ys h = by (earlier f.0 e.0) (placed_first e xs ys h)
@@ -132,7 +132,7 @@ module _ {X : Type 0} where
   filter_placed test e [] h = refl
   filter_placed test e (f ∷ xs) h = by (earlier f.0 e.0) refl (filter_placed test e xs h.1)
     where
-      front : Behind e.0 xs → placed_in e (filter test xs) ≡ e ∷ filter test xs
+      front : LineBehind e.0 xs → placed_in e (filter test xs) ≡ e ∷ filter test xs
       front low = placed_first e [] (filter test xs) (all_filter (λ g. earlier g.0 e.0 ≡ false) test xs low)
 
       pass : (b c : Bool) → earlier f.0 e.0 ≡ true → filter test (placed_in e xs) ≡ cond c (placed_in e (filter test xs)) (filter test xs)
@@ -165,7 +165,7 @@ module _ {X : Type 0} where
       by false rest = rest
 
   -- things of a ticket that is not earlier than s
-  behind_same : (s t : Ticket) (xs : List X) → earlier t s ≡ false → Behind s (map (λ x. (t, x)) xs)
+  behind_same : (s t : Ticket) (xs : List X) → earlier t s ≡ false → LineBehind s (map (λ x. (t, x)) xs)
   behind_same s t [] h = tt
   behind_same s t (x ∷ xs) h = (h, behind_same s t xs h)
 
@@ -188,7 +188,7 @@ module _ {X : Type 0} where
       before : Before t (in_line others)
       before = all_line (λ e. earlier e.0 t ≡ true) others (all_passing (λ e. earlier e.0 t ≡ true) (λ e. not (late e)) xs (all_then Parts (λ e. not (late e) ≡ true → earlier e.0 t ≡ true) xs (λ e p is. p.0 (passes (late e) is)) h.1))
 
-      behind : earlier t e.0 ≡ false → Behind e.0 (filter late xs)
+      behind : earlier t e.0 ≡ false → LineBehind e.0 (filter late xs)
       behind none = all_passing (λ f. earlier f.0 e.0 ≡ false) late xs (all_then Parts (λ f. late f ≡ true → earlier f.0 e.0 ≡ false) xs (λ f p is. ap (λ u. earlier u e.0) (p.1 is) ∙ none) h.1)
 
       by : (b : Bool) → (b ≡ false → earlier e.0 t ≡ true) → (b ≡ true → e.0 ≡ t) → placed_in e (in_line others ++ filter late xs) ≡ in_line (cond (not b) (e ∷ others) others) ++ cond b (e ∷ filter late xs) (filter late xs)
@@ -253,7 +253,7 @@ module _ {X : Type 0} where
   first_of_append p (e ∷ xs) ys = ap (sooner (cond (p e.1) (Some e) None)) (first_of_append p xs ys) ∙ sym (sooner_assoc (cond (p e.1) (Some e) None) (first_of p xs) (first_of p ys))
 
   -- what is found behind a thing is not sooner
-  found_behind : (q : Ticket × X → Bool) (e : Ticket × X) (xs : List (Ticket × X)) → Behind e.0 xs → sooner (Some e) (find q xs) ≡ Some e
+  found_behind : (q : Ticket × X → Bool) (e : Ticket × X) (xs : List (Ticket × X)) → LineBehind e.0 xs → sooner (Some e) (find q xs) ≡ Some e
   found_behind q e [] h = refl
   found_behind q e (f ∷ xs) h = by (q f) (found_behind q e xs h.1)
     where
@@ -271,7 +271,7 @@ module _ {X : Type 0} where
       pass true false is rest = refl
       pass false c is rest = rest
 
-      stop : (c : Bool) → Behind e.0 (f ∷ xs) → cond c (Some e) (find q (f ∷ xs)) ≡ sooner (cond c (Some e) None) (find q (f ∷ xs))
+      stop : (c : Bool) → LineBehind e.0 (f ∷ xs) → cond c (Some e) (find q (f ∷ xs)) ≡ sooner (cond c (Some e) None) (find q (f ∷ xs))
       stop true low = sym (found_behind q e (f ∷ xs) low)
       stop false low = refl
 

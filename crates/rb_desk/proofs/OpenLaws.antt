@@ -10,7 +10,7 @@ use Rattle.rb_desk.specs.declared.ticket.Ticket.{Ticket}
 use Rattle.rb_desk.specs.declared.ticket.Held.{Held}
 use Rattle.rb_desk.specs.declared.sub.Sub.{Sub}
 use Rattle.rb_desk.specs.Spans.{is_ready, is_out, is_settled, with_status}
-use Rattle.rb_desk.specs.Lanes.{Joins, spans_of, lane_held}
+use Rattle.rb_desk.specs.Lanes.{FollowOn, spans_of, lane_held}
 use Rattle.rb_desk.specs.Orders.{order, ready_at, out_at, out_at_status}
 use Rattle.rb_desk.specs.Limits.{Limits}
 use Rattle.rb_desk.specs.Picture.{Subscription}
@@ -24,7 +24,7 @@ pub record IsOpen (batch front turn number : ℕ) (subs : List Sub) (s : ℕ) (s
   pub belong : AllByRecursion (Belongs front turn number) subs
   pub found : slice_get subs s ≡ Some sub
   pub is_open : sub.closed ≡ false
-  pub joins : Joins (suc sub.lane.floor) sub.lane.held sub.lane.next
+  pub joins : FollowOn (suc sub.lane.floor) sub.lane.held sub.lane.next
 
 -- ---- which order a span stands in
 

@@ -19,8 +19,8 @@ abbrev pub At : Type 0
 At = ℕ → Held → Option (Ticket × (ℕ × ℕ))
 
 -- entries of an order, with their tickets
-abbrev Entries : Type 0
-Entries = List (Ticket × (ℕ × ℕ))
+abbrev OrderEntries : Type 0
+OrderEntries = List (Ticket × (ℕ × ℕ))
 
 -- each span stands there under its subscription and its first number
 abbrev pub Tagged : At → Type 0
@@ -46,7 +46,7 @@ tagged_out s h = by h.span.status
 -- ---- lists
 
 -- the second parts of what is left
-pub seen_filter : (q : ℕ × ℕ → Bool) (es : Entries) → map (λ e. e.1) (filter (λ e. q e.1) es) ≡ filter q (map (λ e. e.1) es)
+pub seen_filter : (q : ℕ × ℕ → Bool) (es : OrderEntries) → map (λ e. e.1) (filter (λ e. q e.1) es) ≡ filter q (map (λ e. e.1) es)
 seen_filter q [] = refl
 seen_filter q (e ∷ es) = by (q e.1) (seen_filter q es)
   where
@@ -56,13 +56,13 @@ seen_filter q (e ∷ es) = by (q e.1) (seen_filter q es)
     by false rest = rest
 
 -- the second parts of what was added
-seen_more : (t : Ticket) (es : Entries) (new : List (ℕ × ℕ)) → map (λ e. e.1) (es ++ map (λ x. (t, x)) new) ≡ map (λ e. e.1) es ++ new
+seen_more : (t : Ticket) (es : OrderEntries) (new : List (ℕ × ℕ)) → map (λ e. e.1) (es ++ map (λ x. (t, x)) new) ≡ map (λ e. e.1) es ++ new
 seen_more t [] [] = refl
 seen_more t [] (x ∷ new) = ap (λ (l : List (ℕ × ℕ)). x ∷ l) (seen_more t [] new)
 seen_more t (e ∷ es) new = ap (λ (l : List (ℕ × ℕ)). e.1 ∷ l) (seen_more t es new)
 
 -- what is left of what stands in line
-order_filter : (q : ℕ × ℕ → Bool) (es : Entries) → map (λ e. e.1) (in_line (filter (λ e. q e.1) es)) ≡ filter q (map (λ e. e.1) (in_line es))
+order_filter : (q : ℕ × ℕ → Bool) (es : OrderEntries) → map (λ e. e.1) (in_line (filter (λ e. q e.1) es)) ≡ filter q (map (λ e. e.1) (in_line es))
 order_filter q es = ap (map (λ e. e.1)) (sym (line_filter (λ e. q e.1) es)) ∙ seen_filter q (in_line es)
 
 -- ---- one lane among the others
@@ -78,8 +78,8 @@ lane_own at s tagged (h ∷ lane) = by (at s h) (tagged s h) (lane_own at s tagg
 
 -- what stands ahead of a lane's entries and behind them, whatever the lane is; under other numbers than the lane's
 record Around (at : At) (n k : ℕ) (lanes : List (List Held)) (s : ℕ) (lane : List Held) : Type 0 where
-  ahead : Entries
-  behind : Entries
+  ahead : OrderEntries
+  behind : OrderEntries
   whole : all_at at n lanes ≡ ahead ++ (filter_map (at k) lane ++ behind)
   changed : (new : List Held) → all_at at n (slice_set lanes s new) ≡ ahead ++ (filter_map (at k) new ++ behind)
   others : Tagged at → AllByRecursion (λ e. (e.1.0 == k) ≡ false) ahead × AllByRecursion (λ e. (e.1.0 == k) ≡ false) behind
@@ -133,9 +133,9 @@ pub order_left : (at : At) (q : ℕ × ℕ → Bool) (lanes : List (List Held)) 
     → filter_map (at s) lane' ≡ filter (λ e. q e.1) (filter_map (at s) lane) → order at (slice_set lanes s lane') ≡ filter q (order at lanes)
 order_left at q lanes s lane lane' tagged found other left =
     let a = around at lanes s lane found in
-    let own : Entries = filter_map (at s) lane in
-    let keep : Entries → Entries = filter (λ e. q e.1) in
-    let all_kept : (es : Entries) → AllByRecursion (λ e. (e.1.0 == s) ≡ false) es → keep es ≡ es = λ es h. filter_all (λ e. q e.1) es (all_then (λ e. (e.1.0 == s) ≡ false) (λ e. q e.1 ≡ true) es (λ e. other e.1) h) in
+    let own : OrderEntries = filter_map (at s) lane in
+    let keep : OrderEntries → OrderEntries = filter (λ e. q e.1) in
+    let all_kept : (es : OrderEntries) → AllByRecursion (λ e. (e.1.0 == s) ≡ false) es → keep es ≡ es = λ es h. filter_all (λ e. q e.1) es (all_then (λ e. (e.1.0 == s) ≡ false) (λ e. q e.1 ≡ true) es (λ e. other e.1) h) in
     let parts : keep (a.ahead ++ (own ++ a.behind)) ≡ a.ahead ++ (keep own ++ a.behind) =
     filter-append (λ e. q e.1) a.ahead (own ++ a.behind) ∙ (λ i. all_kept a.ahead (a.others tagged).0 i ++ filter-append (λ e. q e.1) own a.behind i) ∙ ap (λ z. a.ahead ++ (keep own ++ z)) (all_kept a.behind (a.others tagged).1) in
     ap (λ z. map (λ e. e.1) (in_line z)) (a.changed lane' ∙ ap (λ z. a.ahead ++ (z ++ a.behind)) left ∙ sym parts ∙ ap keep (sym a.whole)) ∙ order_filter q (all_at at 0 lanes)
@@ -156,7 +156,7 @@ pub order_with : (at : At) (t : Ticket) (lanes : List (List Held)) (s : ℕ) (la
     → filter_map (at s) lane' ≡ a ++ map (λ x. (t, x)) new ++ b → AllByRecursion (λ e. earlier e.0 t ≡ true) (all_at at 0 lanes) → order at (slice_set lanes s lane') ≡ order at lanes ++ new
 order_with at t lanes s lane lane' a b new found own more before =
     let r = around at lanes s lane found in
-    let added : Entries = map (λ x. (t, x)) new in
+    let added : OrderEntries = map (λ x. (t, x)) new in
     let old : all_at at 0 lanes ≡ (r.ahead ++ a) ++ (b ++ r.behind) = r.whole ∙ ap (λ z. r.ahead ++ (z ++ r.behind)) own ∙ simp append_assoc refl in
     let now : all_at at 0 (slice_set lanes s lane') ≡ (r.ahead ++ a) ++ added ++ (b ++ r.behind) = r.changed lane' ∙ ap (λ z. r.ahead ++ (z ++ r.behind)) more ∙ simp append_assoc refl in
     ap (λ z. map (λ e. e.1) (in_line z)) now ∙ ap (map (λ e. e.1)) (line_appends t (r.ahead ++ a) (b ++ r.behind) new (subst (Before t) old before))
@@ -167,7 +167,7 @@ pub order_replaced : (at : At) (t : Ticket) (lanes : List (List Held)) (s : ℕ)
     → AllByRecursion (λ e. earlier e.0 t ≡ true) (all_at at 0 lanes) → order at (slice_set lanes s lane') ≡ without_subscription s (order at lanes) ++ new
 order_replaced at t lanes s lane lane' new found tagged more before =
     let r = around at lanes s lane found in
-    let own : Entries = filter_map (at s) lane in
+    let own : OrderEntries = filter_map (at s) lane in
     let parts : Before t (r.ahead ++ (own ++ r.behind)) = subst (Before t) r.whole before in
     let first : Before t r.ahead = all_first (λ e. earlier e.0 t ≡ true) r.ahead (own ++ r.behind) parts in
     let last : Before t r.behind = all_second (λ e. earlier e.0 t ≡ true) own r.behind (all_second (λ e. earlier e.0 t ≡ true) r.ahead (own ++ r.behind) parts) in
@@ -186,30 +186,30 @@ all_pushed at n k (l ∷ lanes) lane is = ap (λ z. filter_map (at n) l ++ z) (a
 pub order_pushed : (at : At) (t : Ticket) (lanes : List (List Held)) (lane : List Held) (new : List (ℕ × ℕ)) → filter_map (at (length lanes)) lane ≡ map (λ x. (t, x)) new
     → AllByRecursion (λ e. earlier e.0 t ≡ true) (all_at at 0 lanes) → order at (lanes ++ lane ∷ []) ≡ order at lanes ++ new
 order_pushed at t lanes lane new more before =
-    let all : Entries = all_at at 0 lanes in
-    let added : Entries = map (λ x. (t, x)) new in
+    let all : OrderEntries = all_at at 0 lanes in
+    let added : OrderEntries = map (λ x. (t, x)) new in
     ap (λ z. map (λ e. e.1) (in_line z)) (all_pushed at 0 (length lanes) lanes lane (omega arith) ∙ ap (λ z. all ++ z) more ∙ sym (append-nil (all ++ added)))
     ∙ ap (map (λ e. e.1)) (line_appends t all [] new (subst (Before t) (sym (append-nil all)) before) ∙ ap (λ z. in_line z ++ added) (append-nil all)) ∙ seen_more t (in_line all) new
 
 -- ---- a change of each lane
 
 -- each lane has more entries of the ticket t, at its end; new are those of all lanes in a row
-abbrev pub Grows : At → Ticket → ℕ → List (List Held) → List (List Held) → List (ℕ × ℕ) → Type 0
-Grows at t s [] [] new = new ≡ []
-Grows at t s [] (lane' ∷ lanes') new = ⊥
-Grows at t s (lane ∷ lanes) [] new = ⊥
-Grows at t s (lane ∷ lanes) (lane' ∷ lanes') new =
-    (now : List (ℕ × ℕ)) × (later : List (ℕ × ℕ)) × (filter_map (at s) lane' ≡ filter_map (at s) lane ++ map (λ x. (t, x)) now) × (new ≡ now ++ later) × Grows at t (suc s) lanes lanes' later
+abbrev pub OrderGrows : At → Ticket → ℕ → List (List Held) → List (List Held) → List (ℕ × ℕ) → Type 0
+OrderGrows at t s [] [] new = new ≡ []
+OrderGrows at t s [] (lane' ∷ lanes') new = ⊥
+OrderGrows at t s (lane ∷ lanes) [] new = ⊥
+OrderGrows at t s (lane ∷ lanes) (lane' ∷ lanes') new =
+    (now : List (ℕ × ℕ)) × (later : List (ℕ × ℕ)) × (filter_map (at s) lane' ≡ filter_map (at s) lane ++ map (λ x. (t, x)) now) × (new ≡ now ++ later) × OrderGrows at t (suc s) lanes lanes' later
 
 -- so the line has them at its end, with their tickets
-grown_line : (at : At) (t : Ticket) (s : ℕ) (lanes lanes' : List (List Held)) (new : List (ℕ × ℕ)) → Grows at t s lanes lanes' new → Before t (all_at at s lanes)
+grown_line : (at : At) (t : Ticket) (s : ℕ) (lanes lanes' : List (List Held)) (new : List (ℕ × ℕ)) → OrderGrows at t s lanes lanes' new → Before t (all_at at s lanes)
     → in_line (all_at at s lanes') ≡ in_line (all_at at s lanes) ++ map (λ x. (t, x)) new
 grown_line at t s [] [] new grows before = sym (ap (map (λ x. (t, x))) grows)
 grown_line at t s [] (lane' ∷ lanes') new grows before = absurd grows
 grown_line at t s (lane ∷ lanes) [] new grows before = absurd grows
 grown_line at t s (lane ∷ lanes) (lane' ∷ lanes') new grows before =
-    let own : Entries = filter_map (at s) lane in
-    let rest : Entries = all_at at (suc s) lanes in
+    let own : OrderEntries = filter_map (at s) lane in
+    let rest : OrderEntries = all_at at (suc s) lanes in
     let first : Before t own = all_first (λ e. earlier e.0 t ≡ true) own rest before in
     let last : Before t rest = all_second (λ e. earlier e.0 t ≡ true) own rest before in
     ap in_line (ap (λ z. z ++ all_at at (suc s) lanes') grows.2 ∙ append_assoc own (map (λ x. (t, x)) grows.0) (all_at at (suc s) lanes'))
@@ -217,7 +217,7 @@ grown_line at t s (lane ∷ lanes) (lane' ∷ lanes') new grows before =
     ∙ ap (λ z. in_line (own ++ rest) ++ map (λ x. (t, x)) z) (sym grows.3)
 
 -- the entries of one later ticket that lanes have more stand at the end of the order, those of the first lane first
-pub order_grown : (at : At) (t : Ticket) (lanes lanes' : List (List Held)) (new : List (ℕ × ℕ)) → Grows at t 0 lanes lanes' new → AllByRecursion (λ e. earlier e.0 t ≡ true) (all_at at 0 lanes)
+pub order_grown : (at : At) (t : Ticket) (lanes lanes' : List (List Held)) (new : List (ℕ × ℕ)) → OrderGrows at t 0 lanes lanes' new → AllByRecursion (λ e. earlier e.0 t ≡ true) (all_at at 0 lanes)
     → order at lanes' ≡ order at lanes ++ new
 order_grown at t lanes lanes' new grows before = ap (map (λ e. e.1)) (grown_line at t 0 lanes lanes' new grows before) ∙ seen_more t (in_line (all_at at 0 lanes)) new
 

@@ -1,31 +1,32 @@
 -- What calls change in the outline: the members of lists of subscriptions that change, and a span that is handed over.
 use Rattle.std.proofs.Common.{◌≡◌, ℕ, zero, suc, ◌≤◌, Bool, true, false, List, [], ◌∷◌, map, Some, None, option_map, Result, Ok, Err, find, slice_get, slice_set, refl, sym, ap, ◌∙◌, subst, arith}
 use Rattle.std.proofs.lemmas.Option.{slice_get-map}
-use Rattle.rb_desk.specs.declared.refusal.Refusal.{Refusal}
+use Rattle.rb_desk.specs.declared.refusal.DeskRefusal.{DeskRefusal}
 use Rattle.rb_desk.specs.declared.span.Span.{Span}
 use Rattle.rb_desk.specs.Picture.{Picture, Subscription}
-use Rattle.rb_desk.specs.Calls.{delivery_of, handed}
+use Rattle.rb_desk.specs.Calls.{delivery_from, delivered_picture}
 use Rattle.rb_desk.specs.IsPicture.{IsPicture}
-use Rattle.rb_desk.specs.Outline.{Member, Outline, member_of, outline, Hands}
+use Rattle.rb_desk.specs.Outline.{Member, Outline, member_of, outline_of}
+use Rattle.rb_desk.specs.Outline as outline
 use Rattle.rb_desk.proofs.PartLaws.{part_begins, part_ends, all_found}
 use Rattle.rb_desk.proofs.StandLaws.{found_good}
 
 -- ---- answers
 
 -- what an answered call did holds, and a refused one left the picture as it was
-abbrev DidOr : {A : Type 0} → Picture → (A → Picture → Type 0) → Result A Refusal → Picture → Type 0
+abbrev DidOr : {A : Type 0} → Picture → (A → Picture → Type 0) → Result A DeskRefusal → Picture → Type 0
 DidOr old Did (Ok answer) new = Did answer new
 DidOr old Did (Err why) new = new ≡ old
 
-abbrev pub Tells : {A : Type 0} → Picture → (A → Picture → Type 0) → Result A Refusal × Picture → Type 0
-Tells old Did x = DidOr old Did x.0 x.1
+abbrev pub OutlinesTells : {A : Type 0} → Picture → (A → Picture → Type 0) → Result A DeskRefusal × Picture → Type 0
+OutlinesTells old Did x = DidOr old Did x.0 x.1
 
 -- so both laws follow
-pub told : {A : Type 0} (old new : Picture) (Did : A → Picture → Type 0) (x : Result A Refusal × Picture) (answer : A) → Tells old Did x → x ≡ (Ok answer, new) → Did answer new
-told old new Did x answer h is = subst (Tells old Did) is h
+pub outlines_told : {A : Type 0} (old new : Picture) (Did : A → Picture → Type 0) (x : Result A DeskRefusal × Picture) (answer : A) → OutlinesTells old Did x → x ≡ (Ok answer, new) → Did answer new
+outlines_told old new Did x answer h is = subst (OutlinesTells old Did) is h
 
-pub left_alone : {A : Type 0} (old new : Picture) (Did : A → Picture → Type 0) (x : Result A Refusal × Picture) (why : Refusal) → Tells old Did x → x ≡ (Err why, new) → new ≡ old
-left_alone old new Did x why h is = subst (Tells old Did) is h
+pub left_alone : {A : Type 0} (old new : Picture) (Did : A → Picture → Type 0) (x : Result A DeskRefusal × Picture) (why : DeskRefusal) → OutlinesTells old Did x → x ≡ (Err why, new) → new ≡ old
+left_alone old new Did x why h is = subst (OutlinesTells old Did) is h
 
 -- ---- members
 
@@ -65,7 +66,7 @@ found_open p s q span test good here found = by q.closed refl
 
 -- what was found among the spans of a subscription that isn't closed is a delivery of placed numbers behind its start
 pub handed_shows : (p : Picture) (s : ℕ) (q : Subscription) (span : Span) (clock : ℕ) (test : Span → Bool) → IsPicture p → slice_get p.subscriptions s ≡ Some q → q.closed ≡ false → find test q.spans ≡ Some span
-    → Hands (outline p) (outline (handed p s q span clock)) (delivery_of p s q span)
+    → outline.Delivers (outline_of p) (outline_of (delivered_picture p s q span clock)) (delivery_from p s q span)
 handed_shows p s q span clock test good here runs found =
     let mine = found_good p s q here good in
     let part = mine.parts runs in
@@ -80,5 +81,5 @@ handed_shows p s q span clock test good here runs found =
       behind = omega (arith, begins, mine.begins);
       order = ends.0;
       placed = ends.1;
-      kept = ap (with_members (outline (handed p s q span clock))) (same_members p.subscriptions s q _ here refl);
+      kept = ap (with_members (outline_of (delivered_picture p s q span clock))) (same_members p.subscriptions s q _ here refl);
     }

@@ -10,7 +10,7 @@ use Rattle.rb_desk.specs.Spans.{is_ready, is_out, is_out_as, beginning}
 use Rattle.rb_desk.specs.Picture.{Picture, Subscription}
 use Rattle.rb_desk.specs.Calls.{is_span, without_span, without_subscription, named}
 use Rattle.rb_desk.specs.Steps.{FloorsRise}
-use Rattle.rb_desk.specs.IsPicture.{IsPicture, IsGoodSubscription, IsGoodSpan, IsOffered, how_often, one_if, span_there, stands_there, links_of, out_in}
+use Rattle.rb_desk.specs.IsPicture.{IsPicture, IsGoodSubscription, IsGoodSpan, WasOffered, how_often, one_if, span_there, stands_there, links_of, out_in}
 use Rattle.rb_desk.proofs.Line.{all_then}
 use Rattle.rb_desk.proofs.KnownLaws.{all_set}
 
@@ -172,7 +172,7 @@ out_append d (q ∷ xs) ys = omega (arith, out_append d xs ys)
 
 -- what is said of a span's status holds where more was offered and more deliveries were given
 pub offered_later : (offered offered' next next' first last : ℕ) (status : Status) → offered ≤ offered' → next ≤ next'
-    → IsOffered offered next (record { first = first; last = last; status = status }) → IsOffered offered' next' (record { first = first; last = last; status = status })
+    → WasOffered offered next (record { first = first; last = last; status = status }) → WasOffered offered' next' (record { first = first; last = last; status = status })
 offered_later offered offered' next next' first last (Ready taken) le le' h = (λ e. omega (arith, h.0 e, le), tt)
 offered_later offered offered' next next' first last (InFlight number moment) le le' h = (λ e. omega (arith, h.0 e, le), omega (arith, h.1, le'))
 offered_later offered offered' next next' first last Settled le le' h = (λ e. omega (arith, h.0 e, le), tt)

@@ -6,12 +6,12 @@ use Rattle.rb_desk.specs.declared.ticket.Ticket.{Ticket}
 use Rattle.rb_desk.specs.declared.ticket.Held.{Held}
 use Rattle.rb_desk.specs.declared.sub.Sub.{Sub}
 use Rattle.rb_desk.specs.Spans.{beginning, how_many_out, is_ready}
-use Rattle.rb_desk.specs.Lanes.{Joins, spans_of, lane_held, earlier, better, if_ready, least}
+use Rattle.rb_desk.specs.Lanes.{FollowOn, spans_of, lane_held, earlier, better, if_ready, least}
 use Rattle.rb_desk.specs.Orders.{all_at, ready_at}
 use Rattle.rb_desk.specs.Limits.{Limits}
 use Rattle.rb_desk.specs.Picture.{Picture}
-use Rattle.rb_desk.specs.declared.refusal.Refusal.TheVariants as refusal
-use Rattle.rb_desk.specs.Calls.{may_go, refused, delivery_of, handed, any_span, any_of, taken_any, take_any}
+use Rattle.rb_desk.specs.declared.refusal.DeskRefusal.TheVariants as refusal
+use Rattle.rb_desk.specs.Calls.{may_deliver, refused_call, delivery_from, delivered_picture, delivered_any_span, delivered_any_of, delivered_any_from, take_any}
 use Rattle.rb_desk.specs.Shown.{shown, shown_sub, sub_held}
 use Rattle.rb_desk.proofs.Line.{sooner, first_of}
 use Rattle.rb_desk.proofs.JoinLaws.{joins_lane}
@@ -64,16 +64,16 @@ first_of_subs batch front p test s (sub ∷ subs) own =
 
 -- what the call finds in the ready order is the first of what the subscriptions with room offer
 pub find_ready : (lim : Limits) (front clock next_link next_delivery : ℕ) (closing : Option ℕ) (subs : List Sub)
-    → find (may_go (shown lim front closing clock next_link next_delivery subs)) (shown lim front closing clock next_link next_delivery subs).ready
+    → find (may_deliver (shown lim front closing clock next_link next_delivery subs)) (shown lim front closing clock next_link next_delivery subs).ready
     ≡ option_map (λ e. e.1) (candidates lim.batch front (λ sub. nat_lt (how_many_out (spans_of (lane_held lim.batch front sub.lane))) lim.window) 0 subs)
 find_ready lim front clock next_link next_delivery closing subs =
-    find_order ready_at (may_go old) (map (sub_held lim.batch front) subs)
-    ∙ ap (option_map (λ e. e.1)) (first_of_subs lim.batch front (may_go old) (roomy lim.batch front lim.window) 0 subs own)
+    find_order ready_at (may_deliver old) (map (sub_held lim.batch front) subs)
+    ∙ ap (option_map (λ e. e.1)) (first_of_subs lim.batch front (may_deliver old) (roomy lim.batch front lim.window) 0 subs own)
   where
     old : Picture
     old = shown lim front closing clock next_link next_delivery subs
 
-    own : (k i : ℕ) (sub : Sub) → k ≡ 0 + i → slice_get subs i ≡ Some sub → sub.closed ≡ false → (first : ℕ) → may_go old (k, first) ≡ roomy lim.batch front lim.window sub
+    own : (k i : ℕ) (sub : Sub) → k ≡ 0 + i → slice_get subs i ≡ Some sub → sub.closed ≡ false → (first : ℕ) → may_deliver old (k, first) ≡ roomy lim.batch front lim.window sub
     own k i sub is found opened first =
         let same : k ≡ i = omega (arith, is) in
         let seen : slice_get (map (shown_sub lim.batch front) subs) k ≡ Some (shown_sub lim.batch front sub) =
@@ -101,16 +101,16 @@ ready_one x h is = by (is_ready x.span.status) refl is
     by false ready is = let none : ⊥ = cc in absurd none
 
 -- among spans that follow one another it is the one that begins where it does
-record Begins (low : ℕ) (held : List Held) (h : Held) : Type 0 where
+record SearchBegins (low : ℕ) (held : List Held) (h : Held) : Type 0 where
   from : low ≤ h.span.first
   found : beginning h.span.first (spans_of held) ≡ Some h.span
   ready : is_ready h.span.status ≡ true
 
-least_begins : (low next : ℕ) (held : List Held) (h : Held) → Joins low held next → least held ≡ Some h → Begins low held h
+least_begins : (low next : ℕ) (held : List Held) (h : Held) → FollowOn low held next → least held ≡ Some h → SearchBegins low held h
 least_begins low next [] h j is = let none : ⊥ = cc in absurd none
 least_begins low next (x ∷ rest) h j is = by (better_either (if_ready x) (least rest) h is) (least_begins (suc x.span.last) next rest h j.2)
   where
-    by : (if_ready x ≡ Some h) ⊎ (least rest ≡ Some h) → (least rest ≡ Some h → Begins (suc x.span.last) rest h) → Begins low (x ∷ rest) h
+    by : (if_ready x ≡ Some h) ⊎ (least rest ≡ Some h) → (least rest ≡ Some h → SearchBegins (suc x.span.last) rest h) → SearchBegins low (x ∷ rest) h
     by (inl here) more =
         let one = ready_one x h here in
         record {
@@ -129,7 +129,7 @@ least_begins low next (x ∷ rest) h j is = by (better_either (if_ready x) (leas
         }
 
 -- the span that is found by the number that the first in line begins with is that span
-pub least_found : (batch front : ℕ) (sub : Sub) (h : Held) → 1 ≤ batch → sub.lane.next ≤ suc front → Joins (suc sub.lane.floor) sub.lane.held sub.lane.next → sub.closed ≡ false → least (lane_held batch front sub.lane) ≡ Some h
+pub least_found : (batch front : ℕ) (sub : Sub) (h : Held) → 1 ≤ batch → sub.lane.next ≤ suc front → FollowOn (suc sub.lane.floor) sub.lane.held sub.lane.next → sub.closed ≡ false → least (lane_held batch front sub.lane) ≡ Some h
     → beginning h.span.first (spans_of (sub_held batch front sub)) ≡ Some h.span
 least_found batch front sub h one le j opened is =
     ap (λ c. beginning h.span.first (spans_of (cond c [] (lane_held batch front sub.lane)))) opened
@@ -140,22 +140,22 @@ least_found batch front sub h one le j opened is =
 -- where no subscription with room offers a span
 pub take_any_none : (lim : Limits) (front clock next_link next_delivery now : ℕ) (closing : Option ℕ) (subs : List Sub)
     → candidates lim.batch front (λ sub. nat_lt (how_many_out (spans_of (lane_held lim.batch front sub.lane))) lim.window) 0 subs ≡ None
-    → take_any (shown lim front closing clock next_link next_delivery subs) now ≡ refused (shown lim front closing clock next_link next_delivery subs) (refusal.Empty front)
+    → take_any (shown lim front closing clock next_link next_delivery subs) now ≡ refused_call (shown lim front closing clock next_link next_delivery subs) (refusal.Empty front)
 unfolding take_any
 take_any_none lim front clock next_link next_delivery now closing subs none =
-    ap (taken_any (shown lim front closing clock next_link next_delivery subs) now) (find_ready lim front clock next_link next_delivery closing subs ∙ ap (option_map (λ e. e.1)) none)
+    ap (delivered_any_from (shown lim front closing clock next_link next_delivery subs) now) (find_ready lim front clock next_link next_delivery closing subs ∙ ap (option_map (λ e. e.1)) none)
 
 -- where the first that is offered is the first in line of a subscription
 pub take_any_some : (lim : Limits) (front clock next_link next_delivery now s : ℕ) (closing : Option ℕ) (subs : List Sub) (sub : Sub) (h : Held) → 1 ≤ lim.batch
     → candidates lim.batch front (λ sub. nat_lt (how_many_out (spans_of (lane_held lim.batch front sub.lane))) lim.window) 0 subs ≡ Some (h.ticket, (s, h.span.first))
-    → slice_get subs s ≡ Some sub → sub.lane.next ≤ suc front → Joins (suc sub.lane.floor) sub.lane.held sub.lane.next → sub.closed ≡ false → least (lane_held lim.batch front sub.lane) ≡ Some h
+    → slice_get subs s ≡ Some sub → sub.lane.next ≤ suc front → FollowOn (suc sub.lane.floor) sub.lane.held sub.lane.next → sub.closed ≡ false → least (lane_held lim.batch front sub.lane) ≡ Some h
     → take_any (shown lim front closing clock next_link next_delivery subs) now
-    ≡ (Ok (delivery_of (shown lim front closing clock next_link next_delivery subs) s (shown_sub lim.batch front sub) h.span), handed (shown lim front closing clock next_link next_delivery subs) s (shown_sub lim.batch front sub) h.span (max clock now))
+    ≡ (Ok (delivery_from (shown lim front closing clock next_link next_delivery subs) s (shown_sub lim.batch front sub) h.span), delivered_picture (shown lim front closing clock next_link next_delivery subs) s (shown_sub lim.batch front sub) h.span (max clock now))
 unfolding take_any
 take_any_some lim front clock next_link next_delivery now s closing subs sub h one first found le j opened is =
-    ap (taken_any old now) (find_ready lim front clock next_link next_delivery closing subs ∙ ap (option_map (λ e. e.1)) first)
-    ∙ ap (any_of old s h.span.first now) (slice_get-map (shown_sub lim.batch front) subs s ∙ ap (option_map (shown_sub lim.batch front)) found)
-    ∙ ap (any_span old s (shown_sub lim.batch front sub) now) (least_found lim.batch front sub h one le j opened is)
+    ap (delivered_any_from old now) (find_ready lim front clock next_link next_delivery closing subs ∙ ap (option_map (λ e. e.1)) first)
+    ∙ ap (delivered_any_of old s h.span.first now) (slice_get-map (shown_sub lim.batch front) subs s ∙ ap (option_map (shown_sub lim.batch front)) found)
+    ∙ ap (delivered_any_span old s (shown_sub lim.batch front sub) now) (least_found lim.batch front sub h one le j opened is)
   where
     old : Picture
     old = shown lim front closing clock next_link next_delivery subs

@@ -4,14 +4,14 @@ use Rattle.std.specs.List.{filter, find}
 use Rattle.rb_desk.specs.declared.span.Span.{Span}
 use Rattle.rb_desk.specs.declared.span.Status.TheVariants.{Ready, InFlight, Settled}
 use Rattle.rb_desk.specs.declared.delivery.Delivery.{Delivery}
-use Rattle.rb_desk.specs.declared.refusal.Refusal.{Refusal}
-use Rattle.rb_desk.specs.declared.refusal.Refusal.TheVariants as refusal
-use Rattle.rb_desk.specs.Spans.{cut, first_ready, out_as, beginning, how_many_out, is_due, with_status, gone_back, raised, last_takes, grown}
+use Rattle.rb_desk.specs.declared.refusal.DeskRefusal.{DeskRefusal}
+use Rattle.rb_desk.specs.declared.refusal.DeskRefusal.TheVariants as refusal
+use Rattle.rb_desk.specs.Spans.{cut_spans, first_ready, out_as, beginning, how_many_out, is_due, with_status, gone_back, raised, last_takes, grown_spans}
 use Rattle.rb_desk.specs.Picture.{Picture, Subscription}
 
 -- a refused call
-abbrev pub refused : {A : Type 0} → Picture → Refusal → Result A Refusal × Picture
-refused old why = (Err why, old)
+abbrev pub refused_call : {A : Type 0} → Picture → DeskRefusal → Result A DeskRefusal × Picture
+refused_call old why = (Err why, old)
 
 -- a subscription becomes this one
 abbrev pub with_subscription : Picture → ℕ → Subscription → Picture
@@ -35,26 +35,26 @@ abbrev pub has_room : ℕ → Subscription → Bool
 has_room window q = nat_lt (how_many_out q.spans) window
 
 -- Subscribe: a new subscription behind a number that is placed. The numbers from there to the front are cut.
-abbrev pub subscribed : Picture → ℕ → List Span → Picture
-subscribed old start spans = record old {
+abbrev pub subscribed_picture : Picture → ℕ → List Span → Picture
+subscribed_picture old start spans = record old {
   next_link = suc old.next_link;
   subscriptions = old.subscriptions ++ record { start = start; floor = start; offered = start; link = old.next_link; closed = false; spans = spans } ∷ [];
   ready = old.ready ++ named (length old.subscriptions) spans;
 }
 
-unfoldable pub subscribe : Picture → ℕ → Result (ℕ × ℕ) Refusal × Picture
+unfoldable pub subscribe : Picture → ℕ → Result (ℕ × ℕ) DeskRefusal × Picture
 subscribe old start =
-    if nat_lt old.front start then refused old (refusal.StartAhead old.front)
-    else if nat_le 1024 (length old.subscriptions) then refused old refusal.TooMany
-    else (Ok (length old.subscriptions, old.next_link), subscribed old start (cut old.limits.batch (suc start) old.front))
+    if nat_lt old.front start then refused_call old (refusal.StartAhead old.front)
+    else if nat_le 1024 (length old.subscriptions) then refused_call old refusal.TooMany
+    else (Ok (length old.subscriptions, old.next_link), subscribed_picture old start (cut_spans old.limits.batch (suc start) old.front))
 
 -- A span is handed over: it is in flight as the next delivery, from this moment on, which is the clock now; it stands at
 -- the end of the in-flight order and no longer in the ready order; at least its last number is offered.
-abbrev pub delivery_of : Picture → ℕ → Subscription → Span → Delivery
-delivery_of old s q span = record { number = old.next_delivery; sub = s; link = q.link; first = span.first; last = span.last }
+abbrev pub delivery_from : Picture → ℕ → Subscription → Span → Delivery
+delivery_from old s q span = record { number = old.next_delivery; sub = s; link = q.link; first = span.first; last = span.last }
 
-abbrev pub handed : Picture → ℕ → Subscription → Span → ℕ → Picture
-handed old s q span clock = record (with_subscription old s
+abbrev pub delivered_picture : Picture → ℕ → Subscription → Span → ℕ → Picture
+delivered_picture old s q span clock = record (with_subscription old s
     (record q { offered = max q.offered span.last; spans = with_status span.first (InFlight old.next_delivery clock) q.spans })) {
       clock = clock;
       next_delivery = suc old.next_delivery;
@@ -68,90 +68,90 @@ abbrev pub is_drained : List Span → ℕ → ℕ → Bool
 is_drained [] cursor last = cursor == last
 is_drained (p ∷ rest) cursor last = false
 
-abbrev pub none_ready : Picture → Subscription → ℕ → Option ℕ → Refusal
+abbrev pub none_ready : Picture → Subscription → ℕ → Option ℕ → DeskRefusal
 none_ready old q cursor None = refusal.Empty old.front
 none_ready old q cursor (Some last) = if is_drained q.spans cursor last then refusal.Drained last else refusal.Empty old.front
 
-abbrev pub taken_span : Picture → ℕ → Subscription → ℕ → ℕ → Option Span → Result Delivery Refusal × Picture
-taken_span old s q cursor now None = refused old (none_ready old q cursor old.closing)
-taken_span old s q cursor now (Some span) = (Ok (delivery_of old s q span), handed old s q span (max old.clock now))
+abbrev pub delivered_span : Picture → ℕ → Subscription → ℕ → ℕ → Option Span → Result Delivery DeskRefusal × Picture
+delivered_span old s q cursor now None = refused_call old (none_ready old q cursor old.closing)
+delivered_span old s q cursor now (Some span) = (Ok (delivery_from old s q span), delivered_picture old s q span (max old.clock now))
 
-abbrev pub taken_from : Picture → ℕ → ℕ → ℕ → ℕ → Option Subscription → Result Delivery Refusal × Picture
-taken_from old s link cursor now None = refused old refusal.NoSuch
-taken_from old s link cursor now (Some q) =
-    if not (link == q.link) then refused old refusal.StaleLink
-    else if q.closed then refused old refusal.Closed
-    else if not (has_room old.limits.window q) then refused old refusal.WindowFull
-    else taken_span old s q cursor now (first_ready q.spans)
+abbrev pub delivered_from : Picture → ℕ → ℕ → ℕ → ℕ → Option Subscription → Result Delivery DeskRefusal × Picture
+delivered_from old s link cursor now None = refused_call old refusal.NoSuch
+delivered_from old s link cursor now (Some q) =
+    if not (link == q.link) then refused_call old refusal.StaleLink
+    else if q.closed then refused_call old refusal.Closed
+    else if not (has_room old.limits.window q) then refused_call old refusal.WindowFull
+    else delivered_span old s q cursor now (first_ready q.spans)
 
-unfoldable pub take : Picture → ℕ → ℕ → ℕ → ℕ → Result Delivery Refusal × Picture
-take old s link cursor now = taken_from old s link cursor now (slice_get old.subscriptions s)
+unfoldable pub take : Picture → ℕ → ℕ → ℕ → ℕ → Result Delivery DeskRefusal × Picture
+take old s link cursor now = delivered_from old s link cursor now (slice_get old.subscriptions s)
 
 -- Take any: the first span in the ready order whose subscription has room in its window
-abbrev pub may_go : Picture → ℕ × ℕ → Bool
-may_go old at = has_room_at old.limits.window (slice_get old.subscriptions at.0)
+abbrev pub may_deliver : Picture → ℕ × ℕ → Bool
+may_deliver old at = has_room_at old.limits.window (slice_get old.subscriptions at.0)
   where
     has_room_at : ℕ → Option Subscription → Bool
     has_room_at window None = false
     has_room_at window (Some q) = has_room window q
 
-abbrev pub any_span : Picture → ℕ → Subscription → ℕ → Option Span → Result Delivery Refusal × Picture
-any_span old s q now None = refused old (refusal.Empty old.front)
-any_span old s q now (Some span) = (Ok (delivery_of old s q span), handed old s q span (max old.clock now))
+abbrev pub delivered_any_span : Picture → ℕ → Subscription → ℕ → Option Span → Result Delivery DeskRefusal × Picture
+delivered_any_span old s q now None = refused_call old (refusal.Empty old.front)
+delivered_any_span old s q now (Some span) = (Ok (delivery_from old s q span), delivered_picture old s q span (max old.clock now))
 
-abbrev pub any_of : Picture → ℕ → ℕ → ℕ → Option Subscription → Result Delivery Refusal × Picture
-any_of old s first now None = refused old (refusal.Empty old.front)
-any_of old s first now (Some q) = any_span old s q now (beginning first q.spans)
+abbrev pub delivered_any_of : Picture → ℕ → ℕ → ℕ → Option Subscription → Result Delivery DeskRefusal × Picture
+delivered_any_of old s first now None = refused_call old (refusal.Empty old.front)
+delivered_any_of old s first now (Some q) = delivered_any_span old s q now (beginning first q.spans)
 
-abbrev pub taken_any : Picture → ℕ → Option (ℕ × ℕ) → Result Delivery Refusal × Picture
-taken_any old now None = refused old (refusal.Empty old.front)
-taken_any old now (Some at) = any_of old at.0 at.1 now (slice_get old.subscriptions at.0)
+abbrev pub delivered_any_from : Picture → ℕ → Option (ℕ × ℕ) → Result Delivery DeskRefusal × Picture
+delivered_any_from old now None = refused_call old (refusal.Empty old.front)
+delivered_any_from old now (Some at) = delivered_any_of old at.0 at.1 now (slice_get old.subscriptions at.0)
 
-unfoldable pub take_any : Picture → ℕ → Result Delivery Refusal × Picture
-take_any old now = taken_any old now (find (may_go old) old.ready)
+unfoldable pub take_any : Picture → ℕ → Result Delivery DeskRefusal × Picture
+take_any old now = delivered_any_from old now (find (may_deliver old) old.ready)
 
 -- Ack: the span that is out as this delivery, all of which is accepted, is settled, and the floor rises over what is settled
 -- in front.
-abbrev pub settled : Picture → ℕ → Subscription → ℕ → ℕ × List Span → Result ℕ Refusal × Picture
-settled old s q first rest = (
+abbrev pub settled_span : Picture → ℕ → Subscription → ℕ → ℕ × List Span → Result ℕ DeskRefusal × Picture
+settled_span old s q first rest = (
   Ok rest.0,
   record (with_subscription old s (record q { floor = rest.0; spans = rest.1 }))
       { in_flight = without_span s first old.in_flight },
 )
 
-abbrev pub acked_span : Picture → ℕ → Subscription → ℕ → Option Span → Result ℕ Refusal × Picture
-acked_span old s q cursor None = refused old refusal.NotInFlight
+abbrev pub acked_span : Picture → ℕ → Subscription → ℕ → Option Span → Result ℕ DeskRefusal × Picture
+acked_span old s q cursor None = refused_call old refusal.NotInFlight
 acked_span old s q cursor (Some span) =
-    if nat_lt cursor span.last then refused old (refusal.NotAccepted cursor)
-    else settled old s q span.first (raised q.floor (with_status span.first Settled q.spans))
+    if nat_lt cursor span.last then refused_call old (refusal.NotAccepted cursor)
+    else settled_span old s q span.first (raised q.floor (with_status span.first Settled q.spans))
 
-abbrev pub acked_by : Picture → ℕ → ℕ → ℕ → ℕ → Option Subscription → Result ℕ Refusal × Picture
-acked_by old s link number cursor None = refused old refusal.NoSuch
+abbrev pub acked_by : Picture → ℕ → ℕ → ℕ → ℕ → Option Subscription → Result ℕ DeskRefusal × Picture
+acked_by old s link number cursor None = refused_call old refusal.NoSuch
 acked_by old s link number cursor (Some q) =
-    if not (link == q.link) then refused old refusal.StaleLink
+    if not (link == q.link) then refused_call old refusal.StaleLink
     else acked_span old s q cursor (out_as number q.spans)
 
-unfoldable pub ack : Picture → ℕ → ℕ → ℕ → ℕ → Result ℕ Refusal × Picture
+unfoldable pub ack : Picture → ℕ → ℕ → ℕ → ℕ → Result ℕ DeskRefusal × Picture
 ack old s link number cursor = acked_by old s link number cursor (slice_get old.subscriptions s)
 
 -- Nack: the span that is out as this delivery goes back: it is ready, at the end of the ready order.
-abbrev pub gives_back : Picture → ℕ → Subscription → Span → Picture
-gives_back old s q span = record (with_subscription old s (record q { spans = with_status span.first (Ready true) q.spans })) {
+abbrev pub nacked_picture : Picture → ℕ → Subscription → Span → Picture
+nacked_picture old s q span = record (with_subscription old s (record q { spans = with_status span.first (Ready true) q.spans })) {
   ready = old.ready ++ (s, span.first) ∷ [];
   in_flight = without_span s span.first old.in_flight;
 }
 
-abbrev pub nacked_span : Picture → ℕ → Subscription → Option Span → Result ⊤ Refusal × Picture
-nacked_span old s q None = refused old refusal.NotInFlight
-nacked_span old s q (Some span) = (Ok tt, gives_back old s q span)
+abbrev pub nacked_span : Picture → ℕ → Subscription → Option Span → Result ⊤ DeskRefusal × Picture
+nacked_span old s q None = refused_call old refusal.NotInFlight
+nacked_span old s q (Some span) = (Ok tt, nacked_picture old s q span)
 
-abbrev pub nacked_by : Picture → ℕ → ℕ → ℕ → Option Subscription → Result ⊤ Refusal × Picture
-nacked_by old s link number None = refused old refusal.NoSuch
+abbrev pub nacked_by : Picture → ℕ → ℕ → ℕ → Option Subscription → Result ⊤ DeskRefusal × Picture
+nacked_by old s link number None = refused_call old refusal.NoSuch
 nacked_by old s link number (Some q) =
-    if not (link == q.link) then refused old refusal.StaleLink
+    if not (link == q.link) then refused_call old refusal.StaleLink
     else nacked_span old s q (out_as number q.spans)
 
-unfoldable pub nack : Picture → ℕ → ℕ → ℕ → Result ⊤ Refusal × Picture
+unfoldable pub nack : Picture → ℕ → ℕ → ℕ → Result ⊤ DeskRefusal × Picture
 nack old s link number = nacked_by old s link number (slice_get old.subscriptions s)
 
 -- Expire: each span in flight that was taken as many moments ago as the timeout, or more, goes back, in the in-flight order.
@@ -169,8 +169,8 @@ expires old clock at = is_due_of old.limits.timeout clock at.1 (slice_get old.su
 abbrev pub goes_back : ℕ → ℕ → Subscription → Subscription
 goes_back timeout clock q = record q { spans = gone_back timeout clock q.spans }
 
-abbrev pub expired : Picture → ℕ → ℕ × Picture
-expired old clock = (
+abbrev pub expired_at : Picture → ℕ → ℕ × Picture
+expired_at old clock = (
   length (filter (expires old clock) old.in_flight),
   record old {
     clock = clock;
@@ -181,66 +181,66 @@ expired old clock = (
 )
 
 unfoldable pub expire : Picture → ℕ → ℕ × Picture
-expire old now = expired old (max old.clock now)
+expire old now = expired_at old (max old.clock now)
 
 -- Reconnect: the subscription goes on behind the cursor, under a new link: all its spans go, and the numbers from there to
 -- the front are cut.
-abbrev pub reconnected : Picture → ℕ → Subscription → ℕ → List Span → Picture
-reconnected old s q cursor spans = record (with_subscription old s (record q { floor = cursor; link = old.next_link; spans = spans })) {
+abbrev pub reconnected_picture : Picture → ℕ → Subscription → ℕ → List Span → Picture
+reconnected_picture old s q cursor spans = record (with_subscription old s (record q { floor = cursor; link = old.next_link; spans = spans })) {
   next_link = suc old.next_link;
   ready = without_subscription s old.ready ++ named s spans;
   in_flight = without_subscription s old.in_flight;
 }
 
-abbrev pub reconnected_by : Picture → ℕ → ℕ → Option Subscription → Result ℕ Refusal × Picture
-reconnected_by old s cursor None = refused old refusal.NoSuch
+abbrev pub reconnected_by : Picture → ℕ → ℕ → Option Subscription → Result ℕ DeskRefusal × Picture
+reconnected_by old s cursor None = refused_call old refusal.NoSuch
 reconnected_by old s cursor (Some q) =
-    if q.closed then refused old refusal.Closed
-    else if nat_lt cursor q.floor || nat_lt q.offered cursor then refused old (refusal.BadCursor q.floor q.offered)
-    else (Ok old.next_link, reconnected old s q cursor (cut old.limits.batch (suc cursor) old.front))
+    if q.closed then refused_call old refusal.Closed
+    else if nat_lt cursor q.floor || nat_lt q.offered cursor then refused_call old (refusal.BadCursor q.floor q.offered)
+    else (Ok old.next_link, reconnected_picture old s q cursor (cut_spans old.limits.batch (suc cursor) old.front))
 
-unfoldable pub reconnect : Picture → ℕ → ℕ → Result ℕ Refusal × Picture
+unfoldable pub reconnect : Picture → ℕ → ℕ → Result ℕ DeskRefusal × Picture
 reconnect old s cursor = reconnected_by old s cursor (slice_get old.subscriptions s)
 
 -- Unsubscribe: all its spans go, and it is closed.
-abbrev pub unsubscribed : Picture → ℕ → Subscription → Picture
-unsubscribed old s q = record (with_subscription old s (record q { closed = true; spans = [] })) {
+abbrev pub unsubscribed_picture : Picture → ℕ → Subscription → Picture
+unsubscribed_picture old s q = record (with_subscription old s (record q { closed = true; spans = [] })) {
   ready = without_subscription s old.ready;
   in_flight = without_subscription s old.in_flight;
 }
 
-abbrev pub unsubscribed_by : Picture → ℕ → ℕ → Option Subscription → Result ⊤ Refusal × Picture
-unsubscribed_by old s link None = refused old refusal.NoSuch
+abbrev pub unsubscribed_by : Picture → ℕ → ℕ → Option Subscription → Result ⊤ DeskRefusal × Picture
+unsubscribed_by old s link None = refused_call old refusal.NoSuch
 unsubscribed_by old s link (Some q) =
-    if not (link == q.link) then refused old refusal.StaleLink
-    else if q.closed then refused old refusal.Closed
-    else (Ok tt, unsubscribed old s q)
+    if not (link == q.link) then refused_call old refusal.StaleLink
+    else if q.closed then refused_call old refusal.Closed
+    else (Ok tt, unsubscribed_picture old s q)
 
-unfoldable pub unsubscribe : Picture → ℕ → ℕ → Result ⊤ Refusal × Picture
+unfoldable pub unsubscribe : Picture → ℕ → ℕ → Result ⊤ DeskRefusal × Picture
 unsubscribe old s link = unsubscribed_by old s link (slice_get old.subscriptions s)
 
 -- Prepare: the number that a placement would give now. It changes nothing.
-abbrev pub next_place : Picture → Option ℕ → Result ℕ Refusal
+abbrev pub next_place : Picture → Option ℕ → Result ℕ DeskRefusal
 next_place old (Some last) = Err refusal.Closed
 next_place old None = if nat_lt old.front old.limits.capacity then Ok (suc old.front) else Err refusal.SequenceFull
 
-unfoldable pub prepare : Picture → Result ℕ Refusal
+unfoldable pub prepare : Picture → Result ℕ DeskRefusal
 prepare old = next_place old old.closing
 
 -- Place: the next number is placed. In each subscription that isn't closed the last span takes it, or it begins a new one,
 -- which stands at the end of the ready order, the subscriptions by rising number.
-abbrev pub grows : ℕ → ℕ → Subscription → Subscription
-grows batch n q = if q.closed then q else record q { spans = grown batch n q.spans }
+abbrev pub grown_subscription : ℕ → ℕ → Subscription → Subscription
+grown_subscription batch n q = if q.closed then q else record q { spans = grown_spans batch n q.spans }
 
-abbrev pub begun : ℕ → ℕ → ℕ → List Subscription → List (ℕ × ℕ)
-begun batch n s [] = []
-begun batch n s (q ∷ rest) = if q.closed || last_takes batch q.spans then begun batch n (suc s) rest else (s, n) ∷ begun batch n (suc s) rest
+abbrev pub begun_spans : ℕ → ℕ → ℕ → List Subscription → List (ℕ × ℕ)
+begun_spans batch n s [] = []
+begun_spans batch n s (q ∷ rest) = if q.closed || last_takes batch q.spans then begun_spans batch n (suc s) rest else (s, n) ∷ begun_spans batch n (suc s) rest
 
 unfoldable pub place : Picture → Picture
 place old = record old {
   front = suc old.front;
-  subscriptions = map (grows old.limits.batch (suc old.front)) old.subscriptions;
-  ready = old.ready ++ begun old.limits.batch (suc old.front) 0 old.subscriptions;
+  subscriptions = map (grown_subscription old.limits.batch (suc old.front)) old.subscriptions;
+  ready = old.ready ++ begun_spans old.limits.batch (suc old.front) 0 old.subscriptions;
 }
 
 -- Close: the closing number is the front, unless there is one already. Only placing ends.

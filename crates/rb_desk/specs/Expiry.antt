@@ -8,7 +8,7 @@ use Rattle.rb_desk.specs.declared.span.Status.{Status}
 use Rattle.rb_desk.specs.declared.span.Status.TheVariants.{Ready, InFlight, Settled}
 use Rattle.rb_desk.specs.declared.sub.Sub.{Sub}
 use Rattle.rb_desk.specs.Spans.{is_due}
-use Rattle.rb_desk.specs.Lanes.{Kept}
+use Rattle.rb_desk.specs.Lanes.{Lane}
 
 -- the turns behind this one
 abbrev pub turns_from : ℕ → ℕ → ℕ → Ticket
@@ -30,7 +30,7 @@ expired_held timeout clock ticket h = if is_due timeout clock h.span.status then
 abbrev pub expired_by : ℕ → ℕ → Ticket → Held → Held
 expired_by timeout clock latest = expired_held timeout clock (by_number (turns_from latest.front latest.turn))
 
-abbrev pub expired_lane : ℕ → ℕ → Ticket → Kept → Kept
+abbrev pub expired_lane : ℕ → ℕ → Ticket → Lane → Lane
 expired_lane timeout clock latest kept = record kept { held = map (expired_by timeout clock latest) kept.held }
 
 abbrev pub expired_sub : ℕ → ℕ → (Held → Ticket) → Sub → Sub

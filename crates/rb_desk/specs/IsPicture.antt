@@ -20,8 +20,8 @@ Partition low (p ∷ rest) high = (p.first ≡ low) × (p.first ≤ p.last) × P
 
 -- a span has no more than batch numbers; where it was taken, its numbers were offered; where it is out, its delivery's number
 -- was given
-abbrev pub IsOffered : ℕ → ℕ → Span → Type 0
-IsOffered offered next p = (is_fresh p.status ≡ false → p.last ≤ offered) × IsNumbered next p.status
+abbrev pub WasOffered : ℕ → ℕ → Span → Type 0
+WasOffered offered next p = (is_fresh p.status ≡ false → p.last ≤ offered) × IsNumbered next p.status
   where
     IsNumbered : ℕ → Status → Type 0
     IsNumbered next (Ready taken) = Unit {0}
@@ -30,7 +30,7 @@ IsOffered offered next p = (is_fresh p.status ≡ false → p.last ≤ offered) 
 
 pub record IsGoodSpan (batch offered next : ℕ) (p : Span) : Type 0 where
   pub short : p.last < p.first + batch
-  pub handed_out : IsOffered offered next p
+  pub handed_out : WasOffered offered next p
 
 -- the first span isn't settled
 abbrev pub StartsUnsettled : List Span → Type 0

@@ -9,19 +9,19 @@ use Rattle.rb_desk.specs.declared.ticket.Held.{Held}
 use Rattle.rb_desk.specs.declared.span.Span.{Span}
 use Rattle.rb_desk.specs.declared.span.Status.{Status}
 use Rattle.rb_desk.specs.declared.span.Status.TheVariants.{Ready, Settled}
-use Rattle.rb_desk.specs.Spans.{cut, is_ready, is_settled}
+use Rattle.rb_desk.specs.Spans.{cut_spans, is_ready, is_settled}
 
 -- A lane: the floor, the spans that were taken before, the number that the first span never taken begins with, and the
 -- ticket of the cutting.
-pub record Kept : Type 0 where
+pub record Lane : Type 0 where
   pub floor : ℕ
   pub held : List Held
   pub next : ℕ
   pub cutting : Ticket
 
 -- a lane is stored as its parts
-abbrev pub kept_code : Coded Kept
-kept_code =
+abbrev pub lane_code : Coded Lane
+lane_code =
     code_by (ℕ × (List Held × (ℕ × Ticket))) (coded× coded_ℕ (coded× (coded_list held.the_row.coded) (coded× coded_ℕ ticket.the_row.coded)))
     (λ k. (k.floor, (k.held, (k.next, k.cutting)))) (λ p. record { floor = p.0; held = p.1.0; next = p.1.1.0; cutting = p.1.1.1 }) (λ _. refl)
 
@@ -40,13 +40,13 @@ abbrev pub ticketed : Ticket → List Span → List Held
 ticketed cutting = map (with_birth cutting)
 
 -- all spans of a lane, with their tickets, and without them
-abbrev pub lane_held : ℕ → ℕ → Kept → List Held
-lane_held batch front kept = kept.held ++ ticketed kept.cutting (cut batch kept.next front)
+abbrev pub lane_held : ℕ → ℕ → Lane → List Held
+lane_held batch front kept = kept.held ++ ticketed kept.cutting (cut_spans batch kept.next front)
 
 abbrev pub spans_of : List Held → List Span
 spans_of = map (λ h. h.span)
 
-abbrev pub lane_spans : ℕ → ℕ → Kept → List Span
+abbrev pub lane_spans : ℕ → ℕ → Lane → List Span
 lane_spans batch front kept = spans_of (lane_held batch front kept)
 
 -- the ready one with the first ticket, the first of them where two have the same
@@ -75,36 +75,36 @@ risen floor [] = (floor, [])
 risen floor (h ∷ rest) = if is_settled h.span.status then risen h.span.last rest else (floor, h ∷ rest)
 
 -- the spans follow one another without a gap from this number on, up to the next one
-abbrev pub Joins : ℕ → List Held → ℕ → Type 0
-Joins low [] next = next ≡ low
-Joins low (h ∷ rest) next = (h.span.first ≡ low) × (h.span.first ≤ h.span.last) × Joins (suc h.span.last) rest next
+abbrev pub FollowOn : ℕ → List Held → ℕ → Type 0
+FollowOn low [] next = next ≡ low
+FollowOn low (h ∷ rest) next = (h.span.first ≡ low) × (h.span.first ≤ h.span.last) × FollowOn (suc h.span.last) rest next
 
 -- a lane's spans follow one another behind its floor
-abbrev pub AreJoined : Kept → Type 0
-AreJoined kept = Joins (suc kept.floor) kept.held kept.next
+abbrev pub AreJoined : Lane → Type 0
+AreJoined kept = FollowOn (suc kept.floor) kept.held kept.next
 
 -- the lane after its subscription cuts behind a cursor
-abbrev pub cut_lane : ℕ → Ticket → Kept
+abbrev pub cut_lane : ℕ → Ticket → Lane
 cut_lane cursor ticket = record { floor = cursor; held = []; next = suc cursor; cutting = ticket }
 
 -- a span that was taken before becomes so; the first one that wasn't does; the floor rises
-abbrev pub restated_lane : Kept → ℕ → Status → Ticket → Kept
+abbrev pub restated_lane : Lane → ℕ → Status → Ticket → Lane
 restated_lane kept first status ticket = record kept { held = restated first status ticket kept.held }
 
-abbrev pub pushed_lane : Kept → Span → Status → Kept
+abbrev pub pushed_lane : Lane → Span → Status → Lane
 pushed_lane kept span status = record kept { held = kept.held ++ record { span = record span { status = status }; ticket = kept.cutting } ∷ []; next = suc span.last }
 
-abbrev pub raised_lane : Kept → ℕ × List Held → Kept
+abbrev pub raised_lane : Lane → ℕ × List Held → Lane
 raised_lane kept rest = record kept { floor = rest.0; held = rest.1 }
 
 -- after a span was handed over, went back, was settled
-abbrev pub handed_lane : Kept → Span → Status → Kept
-handed_lane kept span status = if span.first == kept.next then pushed_lane kept span status else restated_lane kept span.first status kept.cutting
+abbrev pub delivered_lane : Lane → Span → Status → Lane
+delivered_lane kept span status = if span.first == kept.next then pushed_lane kept span status else restated_lane kept span.first status kept.cutting
 
-abbrev pub returned_lane : Kept → ℕ → Ticket → Kept
+abbrev pub returned_lane : Lane → ℕ → Ticket → Lane
 returned_lane kept first ticket = restated_lane kept first (Ready true) ticket
 
-abbrev pub settled_lane : Kept → ℕ → Kept
+abbrev pub settled_lane : Lane → ℕ → Lane
 settled_lane kept first = raised_lane kept (risen kept.floor (restated first Settled kept.cutting kept.held))
 
 -- a batch is of 1 to 256 numbers, and no more than 1,048,576 are placed
@@ -112,11 +112,11 @@ abbrev pub AreLimited : ℕ → ℕ → Type 0
 AreLimited batch front = (1 ≤ batch) × (batch ≤ 256) × (front ≤ 1048576)
 
 -- a span has a number, and its last one has a next one
-abbrev pub IsSpan : Span → Type 0
-IsSpan span = (span.first ≤ span.last) × (span.last < 18446744073709551615)
+abbrev pub HasNumbers : Span → Type 0
+HasNumbers span = (span.first ≤ span.last) × (span.last < 18446744073709551615)
 
 -- whether a lane has no span
-abbrev pub is_none_left : Kept → ℕ → Bool
+abbrev pub is_none_left : Lane → ℕ → Bool
 is_none_left kept front = is_none kept.held && nat_lt front kept.next
   where
     is_none : List Held → Bool

@@ -24,16 +24,16 @@ limits_code =
     (λ _. refl)
 
 -- whether a number is at least 1 and at most this
-abbrev pub is_in : ℕ → ℕ → Bool
-is_in most n = nat_le 1 n && nat_le n most
+abbrev pub is_in_range : ℕ → ℕ → Bool
+is_in_range most n = nat_le 1 n && nat_le n most
 
 -- the first operand that is out of its range
 abbrev pub first_out_of_range : ℕ → ℕ → ℕ → ℕ → ℕ → ℕ → Option ConfigFault
 first_out_of_range batch window timeout capacity intake appliers =
-    if not (is_in 256 batch) then Some Batch
-    else if not (is_in 64 window) then Some Window
-    else if not (is_in 1000000000 timeout) then Some Timeout
-    else if not (is_in 1048576 capacity) then Some Capacity
-    else if not (is_in 4096 intake) then Some Intake
-    else if not (is_in 16 appliers) then Some Appliers
+    if not (is_in_range 256 batch) then Some Batch
+    else if not (is_in_range 64 window) then Some Window
+    else if not (is_in_range 1000000000 timeout) then Some Timeout
+    else if not (is_in_range 1048576 capacity) then Some Capacity
+    else if not (is_in_range 4096 intake) then Some Intake
+    else if not (is_in_range 16 appliers) then Some Appliers
     else None

@@ -21,8 +21,8 @@ pub record Outline : Type 0 where
   pub next_delivery : ℕ
   pub members : List Member
 
-abbrev pub outline : Picture → Outline
-outline p = record {
+abbrev pub outline_of : Picture → Outline
+outline_of p = record {
   front = p.front;
   closing = p.closing;
   next_link = p.next_link;
@@ -31,7 +31,7 @@ outline p = record {
 }
 
 -- one subscription more, behind a number that is placed, under a link that was never given
-pub record Joins (old new : Outline) (start s link : ℕ) : Type 0 where
+pub record Subscribes (old new : Outline) (start s link : ℕ) : Type 0 where
   pub placed : start ≤ old.front
   pub last : s ≡ length old.members
   pub given : link ≡ old.next_link
@@ -39,7 +39,7 @@ pub record Joins (old new : Outline) (start s link : ℕ) : Type 0 where
 
 -- a delivery, whose number was never given, of numbers that are placed, to a subscription that isn't closed and began before
 -- them, under its present link
-pub record Hands (old new : Outline) (delivery : Delivery) : Type 0 where
+pub record Delivers (old new : Outline) (delivery : Delivery) : Type 0 where
   pub member : Member
   pub found : slice_get old.members delivery.sub ≡ Some member
   pub linked : delivery.link ≡ member.link
@@ -51,7 +51,7 @@ pub record Hands (old new : Outline) (delivery : Delivery) : Type 0 where
   pub kept : new ≡ record old { next_delivery = suc delivery.number }
 
 -- a subscription that isn't closed goes on under a link that was never given
-pub record Relinks (old new : Outline) (s link : ℕ) : Type 0 where
+pub record Reconnects (old new : Outline) (s link : ℕ) : Type 0 where
   pub member : Member
   pub found : slice_get old.members s ≡ Some member
   pub not_closed : member.closed ≡ false
@@ -59,7 +59,7 @@ pub record Relinks (old new : Outline) (s link : ℕ) : Type 0 where
   pub kept : new ≡ record old { next_link = suc link; members = slice_set old.members s (record member { link = link }) }
 
 -- a subscription that isn't closed is closed
-pub record Leaves (old new : Outline) (s : ℕ) : Type 0 where
+pub record Unsubscribes (old new : Outline) (s : ℕ) : Type 0 where
   pub member : Member
   pub found : slice_get old.members s ≡ Some member
   pub not_closed : member.closed ≡ false
@@ -72,6 +72,6 @@ pub record Places (old new : Outline) (number : ℕ) : Type 0 where
   pub kept : new ≡ record old { front = number }
 
 -- the sequence is closed with its last number, or was before
-pub record Ends (old new : Outline) (last : ℕ) : Type 0 where
+pub record Closes (old new : Outline) (last : ℕ) : Type 0 where
   pub front : last ≡ old.front
   pub kept : new ≡ record old { closing = Some last }

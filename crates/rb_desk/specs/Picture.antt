@@ -30,8 +30,8 @@ pub record Picture : Type 0 where
   pub in_flight : List (ℕ × ℕ)
 
 -- the picture before any call
-abbrev pub opening : Limits → Picture
-opening limits = record {
+abbrev pub empty_picture : Limits → Picture
+empty_picture limits = record {
   limits = limits;
   front = 0;
   closing = None;

@@ -1,12 +1,12 @@
 -- Worked rows, read off the definitions: what calls answer one after another.
 use Rattle.std.specs.Prelude.{◌≡◌, [], ◌∷◌, Ok, Err, refl}
-use Rattle.rb_desk.specs.declared.refusal.Refusal.TheVariants as refusal
+use Rattle.rb_desk.specs.declared.refusal.DeskRefusal.TheVariants as refusal
 use Rattle.rb_desk.specs.declared.step.Step.TheVariants.{Subscribe, Take, Ack, Nack, Reconnect, Place, Close}
 use Rattle.rb_desk.specs.Limits.{Limits}
 use Rattle.rb_desk.specs.Picture.{Picture}
-use Rattle.rb_desk.specs.Spans.{cut}
+use Rattle.rb_desk.specs.Spans.{cut_spans}
 use Rattle.rb_desk.specs.Calls.{subscribe, take, take_any, ack, nack, expire, reconnect, prepare, place, close}
-use Rattle.rb_desk.specs.Steps.{after, replay}
+use Rattle.rb_desk.specs.Steps.{after_step, replay}
 
 -- batches of one number and two deliveries in flight; batches of up to 256
 abbrev two_in_flight : Limits
@@ -21,24 +21,24 @@ two_taken = replay two_in_flight (Subscribe 0 ∷ Place ∷ Place ∷ Place ∷ 
 
 -- the window is full; an ack asks that all is accepted, and one of the second delivery doesn't raise the floor past the first
 pub window : (take two_taken 0 1 0 0).0 ≡ Err refusal.WindowFull
-unfolding subscribe take prepare place after cut
+unfolding subscribe take prepare place after_step cut_spans
 window = refl
 
 pub not_accepted : (ack two_taken 0 1 1 0).0 ≡ Err (refusal.NotAccepted 0)
-unfolding subscribe take ack prepare place after cut
+unfolding subscribe take ack prepare place after_step cut_spans
 not_accepted = refl
 
 pub floor_stays : (ack two_taken 0 1 2 2).0 ≡ Ok 0
-unfolding subscribe take ack prepare place after cut
+unfolding subscribe take ack prepare place after_step cut_spans
 floor_stays = refl
 
-pub floor_rises : (ack (after two_taken (Ack 0 1 2 2)) 0 1 1 2).0 ≡ Ok 2
-unfolding subscribe take ack prepare place after cut
+pub floor_rises : (ack (after_step two_taken (Ack 0 1 2 2)) 0 1 1 2).0 ≡ Ok 2
+unfolding subscribe take ack prepare place after_step cut_spans
 floor_rises = refl
 
 -- what went back waits behind the rest
-pub behind_the_rest : (take_any (after two_taken (Nack 0 1 2)) 0).0 ≡ Ok (record { number = 3; sub = 0; link = 1; first = 3; last = 3 })
-unfolding subscribe take take_any nack prepare place after cut
+pub behind_the_rest : (take_any (after_step two_taken (Nack 0 1 2)) 0).0 ≡ Ok (record { number = 3; sub = 0; link = 1; first = 3; last = 3 })
+unfolding subscribe take take_any nack prepare place after_step cut_spans
 behind_the_rest = refl
 
 -- a delivery expires at its moment, and not before
@@ -46,11 +46,11 @@ abbrev one_taken : Picture
 one_taken = replay large_batches (Subscribe 0 ∷ Place ∷ Take 0 1 0 5 ∷ [])
 
 pub not_due : (expire one_taken 14).0 ≡ 0
-unfolding subscribe take expire prepare place after cut
+unfolding subscribe take expire prepare place after_step cut_spans
 not_due = refl
 
 pub due : (expire one_taken 15).0 ≡ 1
-unfolding subscribe take expire prepare place after cut
+unfolding subscribe take expire prepare place after_step cut_spans
 due = refl
 
 -- a span that was taken isn't lengthened, and a reconnect cuts anew
@@ -58,22 +58,22 @@ abbrev taken_and_placed : Picture
 taken_and_placed = replay large_batches (Subscribe 0 ∷ Place ∷ Take 0 1 0 0 ∷ Place ∷ Place ∷ [])
 
 pub not_lengthened : (take taken_and_placed 0 1 0 0).0 ≡ Ok (record { number = 2; sub = 0; link = 1; first = 2; last = 3 })
-unfolding subscribe take prepare place after cut
+unfolding subscribe take prepare place after_step cut_spans
 not_lengthened = refl
 
-pub cut_anew : (take (after taken_and_placed (Reconnect 0 0)) 0 2 0 0).0 ≡ Ok (record { number = 2; sub = 0; link = 2; first = 1; last = 3 })
-unfolding subscribe take reconnect prepare place after cut
+pub cut_anew : (take (after_step taken_and_placed (Reconnect 0 0)) 0 2 0 0).0 ≡ Ok (record { number = 2; sub = 0; link = 2; first = 1; last = 3 })
+unfolding subscribe take reconnect prepare place after_step cut_spans
 cut_anew = refl
 
-pub stale : (take (after taken_and_placed (Reconnect 0 0)) 0 1 0 0).0 ≡ Err refusal.StaleLink
-unfolding subscribe take reconnect prepare place after cut
+pub stale : (take (after_step taken_and_placed (Reconnect 0 0)) 0 1 0 0).0 ≡ Err refusal.StaleLink
+unfolding subscribe take reconnect prepare place after_step cut_spans
 stale = refl
 
 -- after a close what is placed can still be taken; then the subscription is drained
-pub goes_on : (take (replay large_batches (Subscribe 0 ∷ Place ∷ Close ∷ [])) 0 1 0 0).0 ≡ Ok (record { number = 1; sub = 0; link = 1; first = 1; last = 1 })
-unfolding subscribe take prepare place close after cut
-goes_on = refl
+pub delivers_after_close : (take (replay large_batches (Subscribe 0 ∷ Place ∷ Close ∷ [])) 0 1 0 0).0 ≡ Ok (record { number = 1; sub = 0; link = 1; first = 1; last = 1 })
+unfolding subscribe take prepare place close after_step cut_spans
+delivers_after_close = refl
 
 pub drained : (take (replay large_batches (Subscribe 0 ∷ Place ∷ Close ∷ Take 0 1 0 0 ∷ Ack 0 1 1 1 ∷ [])) 0 1 1 0).0 ≡ Err (refusal.Drained 1)
-unfolding subscribe take ack prepare place close after cut
+unfolding subscribe take ack prepare place close after_step cut_spans
 drained = refl

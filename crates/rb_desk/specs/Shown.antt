@@ -7,11 +7,11 @@ use Rattle.rb_desk.specs.declared.ticket.Held.{Held}
 use Rattle.rb_desk.specs.declared.span.Span.{Span}
 use Rattle.rb_desk.specs.declared.span.Status.{Status}
 use Rattle.rb_desk.specs.declared.span.Status.TheVariants.{Ready, InFlight, Settled}
-use Rattle.rb_desk.specs.declared.refusal.Refusal.{Refusal}
-use Rattle.rb_desk.specs.declared.refusal.Refusal.TheVariants.{Empty, Drained}
+use Rattle.rb_desk.specs.declared.refusal.DeskRefusal.{DeskRefusal}
+use Rattle.rb_desk.specs.declared.refusal.DeskRefusal.TheVariants.{Empty, Drained}
 use Rattle.rb_desk.specs.declared.sub.Sub.{Sub}
-use Rattle.rb_desk.specs.Spans.{cut, is_fresh, is_ready, how_many_out, out_as}
-use Rattle.rb_desk.specs.Lanes.{AreJoined, earlier, least, cut_lane, handed_lane, returned_lane, settled_lane, Kept, lane_held, spans_of}
+use Rattle.rb_desk.specs.Spans.{cut_spans, is_fresh, is_ready, how_many_out, out_as}
+use Rattle.rb_desk.specs.Lanes.{AreJoined, earlier, least, cut_lane, delivered_lane, returned_lane, settled_lane, Lane, lane_held, spans_of}
 use Rattle.rb_desk.specs.Orders.{order, ready_at, out_at}
 use Rattle.rb_desk.specs.Limits.{Limits}
 use Rattle.rb_desk.specs.Picture.{Picture, Subscription}
@@ -74,8 +74,8 @@ pub record Belongs (front turn number : ℕ) (sub : Sub) : Type 0 where
 
 -- ---- what a call makes of a subscription
 
-abbrev pub handed_sub : Sub → Span → ℕ → ℕ → Sub
-handed_sub sub span number clock = record sub { offered = max sub.offered span.last; lane = handed_lane sub.lane span (InFlight number clock) }
+abbrev pub delivered_sub : Sub → Span → ℕ → ℕ → Sub
+delivered_sub sub span number clock = record sub { offered = max sub.offered span.last; lane = delivered_lane sub.lane span (InFlight number clock) }
 
 abbrev pub returned_sub : Sub → ℕ → Ticket → Sub
 returned_sub sub first ticket = record sub { lane = returned_lane sub.lane first ticket }
@@ -93,14 +93,14 @@ abbrev pub closed_sub : Sub → Sub
 closed_sub sub = record sub { closed = true; lane = cut_lane sub.lane.floor sub.lane.cutting }
 
 -- the span is one that was taken before, and is ready; or the first one that wasn't
-abbrev pub IsHeld : Kept → Span → Type 0
+abbrev pub IsHeld : Lane → Span → Type 0
 IsHeld kept span = (front : List Held) × (h : Held) × (back : List Held) × (kept.held ≡ front ++ h ∷ back) × (h.span ≡ span)
 
-abbrev pub MayGo : ℕ → ℕ → Kept → Span → Type 0
-MayGo batch front kept span = (IsHeld kept span × (is_ready span.status ≡ true)) ⊎ (slice_get (cut batch kept.next front) 0 ≡ Some span)
+abbrev pub IsDeliverable : ℕ → ℕ → Lane → Span → Type 0
+IsDeliverable batch front kept span = (IsHeld kept span × (is_ready span.status ≡ true)) ⊎ (slice_get (cut_spans batch kept.next front) 0 ≡ Some span)
 
 -- why nothing is handed over, by whether a span is left
-abbrev pub why_none : ℕ → Bool → ℕ → Option ℕ → Refusal
+abbrev pub why_none : ℕ → Bool → ℕ → Option ℕ → DeskRefusal
 why_none front none_left cursor None = Empty front
 why_none front none_left cursor (Some last) = if none_left && (cursor == last) then Drained last else Empty front
 
@@ -109,21 +109,21 @@ abbrev pub sub_out_as : ℕ → Sub → Option Span
 sub_out_as d sub = if sub.closed then None else out_as d (spans_of sub.lane.held)
 
 -- the span of a subscription that may be handed over before its others, and the first of all, with its subscription's number
-abbrev pub next_to_go : ℕ → ℕ → ℕ → Sub → Option Held
-next_to_go window batch front sub =
+abbrev pub next_to_deliver : ℕ → ℕ → ℕ → Sub → Option Held
+next_to_deliver window batch front sub =
     if not sub.closed && nat_lt (how_many_out (spans_of sub.lane.held)) window then least (lane_held batch front sub.lane) else None
 
-abbrev pub span_to_go : ℕ × Held → ℕ × Span
-span_to_go c = (c.0, c.1.span)
+abbrev pub span_to_deliver : ℕ × Held → ℕ × Span
+span_to_deliver c = (c.0, c.1.span)
 
-abbrev pub ahead : Option (ℕ × Held) → Option (ℕ × Held) → Option (ℕ × Held)
-ahead None b = b
-ahead (Some a) None = Some a
-ahead (Some a) (Some b) = if earlier b.1.ticket a.1.ticket then Some b else Some a
+abbrev pub goes_first : Option (ℕ × Held) → Option (ℕ × Held) → Option (ℕ × Held)
+goes_first None b = b
+goes_first (Some a) None = Some a
+goes_first (Some a) (Some b) = if earlier b.1.ticket a.1.ticket then Some b else Some a
 
-abbrev pub first_to_go : ℕ → ℕ → ℕ → ℕ → List Sub → Option (ℕ × Held)
-first_to_go window batch front s [] = None
-first_to_go window batch front s (sub ∷ rest) = ahead (option_map (λ h. (s, h)) (next_to_go window batch front sub)) (first_to_go window batch front (suc s) rest)
+abbrev pub first_to_deliver : ℕ → ℕ → ℕ → ℕ → List Sub → Option (ℕ × Held)
+first_to_deliver window batch front s [] = None
+first_to_deliver window batch front s (sub ∷ rest) = goes_first (option_map (λ h. (s, h)) (next_to_deliver window batch front sub)) (first_to_deliver window batch front (suc s) rest)
 
 -- the spans of the subscription with this number follow one another
 abbrev pub IsJoinedAt : List Sub → ℕ → Type 0

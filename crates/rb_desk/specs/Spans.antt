@@ -47,8 +47,8 @@ abbrev pub cut_into : ℕ → ℕ → ℕ → ℕ → List Span
 cut_into zero batch a b = []
 cut_into (suc most) batch a b = if nat_lt b a then [] else fresh a (min (a + batch - 1) b) ∷ cut_into most batch (a + batch) b
 
-unfoldable pub cut : ℕ → ℕ → ℕ → List Span
-cut batch a b = cut_into (suc b - a) batch a b
+unfoldable pub cut_spans : ℕ → ℕ → ℕ → List Span
+cut_spans batch a b = cut_into (suc b - a) batch a b
 
 -- the first one that is ready, and the one that is out as this delivery, and the one that begins with this number
 abbrev pub first_ready : List Span → Option Span
@@ -94,5 +94,5 @@ last_with n (p ∷ []) = record p { last = n } ∷ []
 last_with n (p ∷ q ∷ rest) = p ∷ last_with n (q ∷ rest)
 
 -- the spans once number n is placed: the last one takes it, or it begins a new one
-abbrev pub grown : ℕ → ℕ → List Span → List Span
-grown batch n spans = if last_takes batch spans then last_with n spans else spans ++ fresh n n ∷ []
+abbrev pub grown_spans : ℕ → ℕ → List Span → List Span
+grown_spans batch n spans = if last_takes batch spans then last_with n spans else spans ++ fresh n n ∷ []

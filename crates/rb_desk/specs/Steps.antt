@@ -1,52 +1,52 @@
 -- Calls one after another.
 use Rattle.std.specs.List.{cons_option}
 use Rattle.std.specs.Prelude.{◌≡◌, ◌≤◌, suc, slice_get, ⊤, ℕ, List, [], ◌∷◌, Option, Some, None, Result, Ok, Err}
-use Rattle.rb_desk.specs.declared.refusal.Refusal.{Refusal}
+use Rattle.rb_desk.specs.declared.refusal.DeskRefusal.{DeskRefusal}
 use Rattle.rb_desk.specs.declared.delivery.Delivery.{Delivery}
 use Rattle.rb_desk.specs.declared.step.Step.{Step}
 use Rattle.rb_desk.specs.declared.step.Step.TheVariants.{Subscribe, Take, TakeAny, Ack, Nack, Expire, Reconnect, Unsubscribe, Place, Close}
 use Rattle.rb_desk.specs.Limits.{Limits}
-use Rattle.rb_desk.specs.Picture.{Picture, Subscription, opening}
+use Rattle.rb_desk.specs.Picture.{Picture, Subscription, empty_picture}
 use Rattle.rb_desk.specs.Calls.{subscribe, take, take_any, ack, nack, expire, reconnect, unsubscribe, prepare, place, close}
 
 -- a placement that isn't prepared changes nothing
-abbrev pub placed_if : Picture → Result ℕ Refusal → Picture
+abbrev pub placed_if : Picture → Result ℕ DeskRefusal → Picture
 placed_if old (Ok number) = place old
 placed_if old (Err why) = old
 
 -- the picture after a step; a refused one changes nothing
-unfoldable pub after : Picture → Step → Picture
-after old (Subscribe start) = (subscribe old start).1
-after old (Take s link cursor now) = (take old s link cursor now).1
-after old (TakeAny now) = (take_any old now).1
-after old (Ack s link delivery cursor) = (ack old s link delivery cursor).1
-after old (Nack s link delivery) = (nack old s link delivery).1
-after old (Expire now) = (expire old now).1
-after old (Reconnect s cursor) = (reconnect old s cursor).1
-after old (Unsubscribe s link) = (unsubscribe old s link).1
-after old Place = placed_if old (prepare old)
-after old Close = (close old).1
+unfoldable pub after_step : Picture → Step → Picture
+after_step old (Subscribe start) = (subscribe old start).1
+after_step old (Take s link cursor now) = (take old s link cursor now).1
+after_step old (TakeAny now) = (take_any old now).1
+after_step old (Ack s link delivery cursor) = (ack old s link delivery cursor).1
+after_step old (Nack s link delivery) = (nack old s link delivery).1
+after_step old (Expire now) = (expire old now).1
+after_step old (Reconnect s cursor) = (reconnect old s cursor).1
+after_step old (Unsubscribe s link) = (unsubscribe old s link).1
+after_step old Place = placed_if old (prepare old)
+after_step old Close = (close old).1
 
 -- the picture after a list of steps
 abbrev pub replayed : Picture → List Step → Picture
 replayed p [] = p
-replayed p (step ∷ steps) = replayed (after p step) steps
+replayed p (step ∷ steps) = replayed (after_step p step) steps
 
 abbrev pub replay : Limits → List Step → Picture
-replay limits steps = replayed (opening limits) steps
+replay limits steps = replayed (empty_picture limits) steps
 
 -- the link and the delivery's number that a step gives, where it gives one
-abbrev pub second_of : Result (ℕ × ℕ) Refusal → Option ℕ
+abbrev pub second_of : Result (ℕ × ℕ) DeskRefusal → Option ℕ
 second_of (Ok pair) = Some pair.1
 second_of (Err why) = None
 
-abbrev pub link_of : Result ℕ Refusal → Option ℕ
+abbrev pub link_of : Result ℕ DeskRefusal → Option ℕ
 link_of (Ok link) = Some link
 link_of (Err why) = None
 
-abbrev pub number_of : Result Delivery Refusal → Option ℕ
-number_of (Ok delivery) = Some delivery.number
-number_of (Err why) = None
+abbrev pub delivery_number : Result Delivery DeskRefusal → Option ℕ
+delivery_number (Ok delivery) = Some delivery.number
+delivery_number (Err why) = None
 
 abbrev pub link_given : Picture → Step → Option ℕ
 link_given old (Subscribe start) = second_of (subscribe old start).0
@@ -62,8 +62,8 @@ link_given old Close = None
 
 abbrev pub number_given : Picture → Step → Option ℕ
 number_given old (Subscribe start) = None
-number_given old (Take s link cursor now) = number_of (take old s link cursor now).0
-number_given old (TakeAny now) = number_of (take_any old now).0
+number_given old (Take s link cursor now) = delivery_number (take old s link cursor now).0
+number_given old (TakeAny now) = delivery_number (take_any old now).0
 number_given old (Ack s link delivery cursor) = None
 number_given old (Nack s link delivery) = None
 number_given old (Expire now) = None
@@ -75,11 +75,11 @@ number_given old Close = None
 -- the links, and the deliveries' numbers, of those steps that give one
 abbrev pub links_given : Picture → List Step → List ℕ
 links_given p [] = []
-links_given p (step ∷ steps) = cons_option (link_given p step) (links_given (after p step) steps)
+links_given p (step ∷ steps) = cons_option (link_given p step) (links_given (after_step p step) steps)
 
 abbrev pub numbers_given : Picture → List Step → List ℕ
 numbers_given p [] = []
-numbers_given p (step ∷ steps) = cons_option (number_given p step) (numbers_given (after p step) steps)
+numbers_given p (step ∷ steps) = cons_option (number_given p step) (numbers_given (after_step p step) steps)
 
 -- each number is at least so high, and those behind it are above it
 abbrev pub RisesAbove : ℕ → List ℕ → Type 0

@@ -1,7 +1,7 @@
 //! The limits of a broker.
 
 ghost use Rattle.std.specs.Prelude.{◌≡◌, ◌≤◌, IfOk, IfErr, Ok, Err, None, Some};
-ghost use Rattle.rb_desk.specs.Limits.{is_in, first_out_of_range};
+ghost use Rattle.rb_desk.specs.Limits.{is_in_range, first_out_of_range};
 
 use std::marker::Model;
 use thiserror::Error;
@@ -196,7 +196,7 @@ fn first_fault(
 }
 
 fn within(n: u64, most: u64) -> bool
-    ensures { result ≡ is_in most n }
+    ensures { result ≡ is_in_range most n }
 {
     1 <= n && n <= most
 }

@@ -1,7 +1,7 @@
 //! The desk.
 
 ghost use Rattle.std.specs.Prelude.{◌≡◌};
-ghost use Rattle.rb_desk.specs.Picture.{opening};
+ghost use Rattle.rb_desk.specs.Picture.{empty_picture};
 
 use crate::config::Config;
 use crate::sub::Sub;
@@ -40,7 +40,7 @@ impl Model for Desk {
 impl Desk {
     /// A desk before any call.
     pub fn new(alloc: Global, config: Config) -> Desk
-        ensures { result ≡ opening config }
+        ensures { result ≡ empty_picture config }
     {
         Desk {
             config,

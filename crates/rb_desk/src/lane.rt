@@ -2,8 +2,8 @@
 
 ghost use Rattle.std.specs.Prelude.{◌≡◌, ◌<◌, ◌≤◌, slice_get, OnOk, OnErr};
 ghost use Rattle.rb_desk.specs.declared.span.Status.TheVariants.{InFlight};
-ghost use Rattle.rb_desk.specs.Spans.{cut, first_ready, out_as, how_many_out};
-ghost use Rattle.rb_desk.specs.Lanes.{AreJoined, AreLimited, IsSpan, spans_of, lane_held, lane_spans, is_none_left, least, cut_lane, handed_lane, returned_lane, settled_lane, pushed_lane, restated_lane, raised_lane, risen};
+ghost use Rattle.rb_desk.specs.Spans.{cut_spans, first_ready, out_as, how_many_out};
+ghost use Rattle.rb_desk.specs.Lanes.{AreJoined, AreLimited, HasNumbers, spans_of, lane_held, lane_spans, is_none_left, least, cut_lane, delivered_lane, returned_lane, settled_lane, pushed_lane, restated_lane, raised_lane, risen};
 
 use crate::held;
 use crate::span::{Span, Status};
@@ -26,17 +26,17 @@ pub(crate) struct Lane {
 
 impl Model for Lane {
     ghost use Rattle.std.specs.Prelude.{◌≡◌, suc};
-    ghost use Rattle.rb_desk.specs.Lanes.{Kept, kept_code, least, spans_of, Joins};
+    ghost use Rattle.rb_desk.specs.Lanes.{Lane, lane_code, least, spans_of, FollowOn};
     ghost use Rattle.rb_desk.specs.Spans.{how_many_out};
 
-    ghost Value = { Kept };
+    ghost Value = { Lane };
 
-    ghost coded = { kept_code };
+    ghost coded = { lane_code };
 
     ghost view = { λ l. record { floor = l.floor; held = l.held.items; next = l.next; cutting = l.cutting } };
 
     ghost invariant = { λ l. (l.out ≡ how_many_out (spans_of l.held.items))
-        × (l.first ≡ least l.held.items) × Joins (suc l.floor) l.held.items l.next };
+        × (l.first ≡ least l.held.items) × FollowOn (suc l.floor) l.held.items l.next };
 }
 
 impl Lane {
@@ -95,7 +95,7 @@ impl Lane {
     // the first span that was never taken
     fn first_fresh(&self, batch: u64, front: u64) -> Option<Span>
         requires { AreLimited batch front }
-        ensures { result ≡ slice_get (cut batch self.now.next front) 0 }
+        ensures { result ≡ slice_get (cut_spans batch self.now.next front) 0 }
     {
         if front < self.next {
             return None;
@@ -127,8 +127,8 @@ impl Lane {
 
     /// Hands a ready span over: it is out as this delivery from this moment on.
     pub(crate) fn hand(&mut self, span: Span, number: u64, moment: u64) -> Result<(), AllocError>
-        requires { IsSpan span }
-        ensures ok { OnOk result (self.new ≡ handed_lane self.old span (InFlight number moment)) }
+        requires { HasNumbers span }
+        ensures ok { OnOk result (self.new ≡ delivered_lane self.old span (InFlight number moment)) }
         ensures err { OnErr result (self.new ≡ self.old) }
     {
         let status = Status::InFlight { number, moment };
@@ -156,7 +156,7 @@ impl Lane {
 
     // the first span that was never taken becomes one that was
     fn push(&mut self, span: Span, status: Status) -> Result<(), AllocError>
-        requires span { IsSpan span }
+        requires span { HasNumbers span }
         requires first { span.first ≡ self.old.next }
         ensures ok { OnOk result (self.new ≡ pushed_lane self.old span status) }
         ensures err { OnErr result (self.new ≡ self.old) }

@@ -3,18 +3,19 @@
 
 ghost use Rattle.std.specs.Prelude.{◌≡◌, ℕ, ◌≤◌, List, Ok, Err};
 ghost use Rattle.rb_desk.specs.declared.delivery.Delivery.{Delivery};
-ghost use Rattle.rb_desk.specs.declared.refusal.Refusal.{Refusal};
+ghost use Rattle.rb_desk.specs.declared.refusal.DeskRefusal.{DeskRefusal};
 ghost use Rattle.rb_desk.specs.declared.step.Step.{Step};
 ghost use Rattle.rb_desk.specs.Limits.{Limits};
-ghost use Rattle.rb_desk.specs.Picture.{Picture, opening};
+ghost use Rattle.rb_desk.specs.Picture.{Picture, empty_picture};
 ghost use Rattle.rb_desk.specs.Calls.{subscribe, take, take_any, ack, nack, expire, reconnect, unsubscribe, prepare, place, close};
-ghost use Rattle.rb_desk.specs.Steps.{after, replayed, replay, links_given, numbers_given, RisesAbove, FloorsRise};
-ghost use Rattle.rb_desk.specs.Outline.{outline, Joins, Hands, Relinks, Leaves, Places, Ends};
+ghost use Rattle.rb_desk.specs.Steps.{after_step, replayed, replay, links_given, numbers_given, RisesAbove, FloorsRise};
+ghost use Rattle.rb_desk.specs.Outline.{outline_of};
+ghost use Rattle.rb_desk.specs.Outline as outline;
 ghost use Rattle.rb_desk.specs.IsPicture.{AreInRange, IsPicture};
 
 /// Every call keeps what a picture keeps, whatever its operands are.
 pub fn calls_keep_pictures()
-    ensures { (old : Picture) (step : Step) → IsPicture old → IsPicture (after old step) }
+    ensures { (old : Picture) (step : Step) → IsPicture old → IsPicture (after_step old step) }
 {}
 
 /// So every list of calls does, from the opening on.
@@ -25,9 +26,9 @@ pub fn replays_are_pictures()
 /// No link is given twice, nor any delivery's number: those that a list of calls gives rise from 1 on.
 pub fn numbers_are_given_once()
     ensures links { (limits : Limits) (steps : List Step)
-        → RisesAbove 1 (links_given (opening limits) steps) }
+        → RisesAbove 1 (links_given (empty_picture limits) steps) }
     ensures deliveries { (limits : Limits) (steps : List Step)
-        → RisesAbove 1 (numbers_given (opening limits) steps) }
+        → RisesAbove 1 (numbers_given (empty_picture limits) steps) }
 {}
 
 /// The front never falls, nor does the floor of a subscription, whatever calls come.
@@ -41,43 +42,43 @@ pub fn front_and_floors_rise()
 /// nothing there.
 pub fn calls_show_in_outline()
     ensures subscribe { (old : Picture) (start s link : ℕ) (new : Picture)
-        → subscribe old start ≡ (Ok (s, link), new) → Joins (outline old) (outline new) start s link }
+        → subscribe old start ≡ (Ok (s, link), new) → outline.Subscribes (outline_of old) (outline_of new) start s link }
     ensures take { (old : Picture) (s link cursor now : ℕ) (delivery : Delivery) (new : Picture)
         → IsPicture old → take old s link cursor now ≡ (Ok delivery, new)
-        → (delivery.sub ≡ s) × Hands (outline old) (outline new) delivery }
+        → (delivery.sub ≡ s) × outline.Delivers (outline_of old) (outline_of new) delivery }
     ensures take_any { (old : Picture) (now : ℕ) (delivery : Delivery) (new : Picture)
         → IsPicture old → take_any old now ≡ (Ok delivery, new)
-        → Hands (outline old) (outline new) delivery }
+        → outline.Delivers (outline_of old) (outline_of new) delivery }
     ensures ack { (old : Picture) (s link number cursor floor : ℕ) (new : Picture)
-        → ack old s link number cursor ≡ (Ok floor, new) → outline new ≡ outline old }
+        → ack old s link number cursor ≡ (Ok floor, new) → outline_of new ≡ outline_of old }
     ensures nack { (old : Picture) (s link number : ℕ) (new : Picture)
-        → nack old s link number ≡ (Ok tt, new) → outline new ≡ outline old }
+        → nack old s link number ≡ (Ok tt, new) → outline_of new ≡ outline_of old }
     ensures expire { (old : Picture) (now many : ℕ) (new : Picture)
-        → expire old now ≡ (many, new) → outline new ≡ outline old }
+        → expire old now ≡ (many, new) → outline_of new ≡ outline_of old }
     ensures reconnect { (old : Picture) (s cursor link : ℕ) (new : Picture)
-        → reconnect old s cursor ≡ (Ok link, new) → Relinks (outline old) (outline new) s link }
+        → reconnect old s cursor ≡ (Ok link, new) → outline.Reconnects (outline_of old) (outline_of new) s link }
     ensures unsubscribe { (old : Picture) (s link : ℕ) (new : Picture)
-        → unsubscribe old s link ≡ (Ok tt, new) → Leaves (outline old) (outline new) s }
+        → unsubscribe old s link ≡ (Ok tt, new) → outline.Unsubscribes (outline_of old) (outline_of new) s }
     ensures place { (old : Picture) (number : ℕ) → prepare old ≡ Ok number
-        → Places (outline old) (outline (place old)) number }
+        → outline.Places (outline_of old) (outline_of (place old)) number }
     ensures close { (old : Picture) (last : ℕ) (new : Picture) → IsPicture old
-        → close old ≡ (last, new) → Ends (outline old) (outline new) last }
+        → close old ≡ (last, new) → outline.Closes (outline_of old) (outline_of new) last }
 {}
 
 /// A call that is refused leaves the picture as it was.
 pub fn refused_calls_change_nothing()
-    ensures subscribe { (old : Picture) (start : ℕ) (why : Refusal) (new : Picture)
+    ensures subscribe { (old : Picture) (start : ℕ) (why : DeskRefusal) (new : Picture)
         → subscribe old start ≡ (Err why, new) → new ≡ old }
-    ensures take { (old : Picture) (s link cursor now : ℕ) (why : Refusal) (new : Picture)
+    ensures take { (old : Picture) (s link cursor now : ℕ) (why : DeskRefusal) (new : Picture)
         → take old s link cursor now ≡ (Err why, new) → new ≡ old }
-    ensures take_any { (old : Picture) (now : ℕ) (why : Refusal) (new : Picture)
+    ensures take_any { (old : Picture) (now : ℕ) (why : DeskRefusal) (new : Picture)
         → take_any old now ≡ (Err why, new) → new ≡ old }
-    ensures ack { (old : Picture) (s link number cursor : ℕ) (why : Refusal) (new : Picture)
+    ensures ack { (old : Picture) (s link number cursor : ℕ) (why : DeskRefusal) (new : Picture)
         → ack old s link number cursor ≡ (Err why, new) → new ≡ old }
-    ensures nack { (old : Picture) (s link number : ℕ) (why : Refusal) (new : Picture)
+    ensures nack { (old : Picture) (s link number : ℕ) (why : DeskRefusal) (new : Picture)
         → nack old s link number ≡ (Err why, new) → new ≡ old }
-    ensures reconnect { (old : Picture) (s cursor : ℕ) (why : Refusal) (new : Picture)
+    ensures reconnect { (old : Picture) (s cursor : ℕ) (why : DeskRefusal) (new : Picture)
         → reconnect old s cursor ≡ (Err why, new) → new ≡ old }
-    ensures unsubscribe { (old : Picture) (s link : ℕ) (why : Refusal) (new : Picture)
+    ensures unsubscribe { (old : Picture) (s link : ℕ) (why : DeskRefusal) (new : Picture)
         → unsubscribe old s link ≡ (Err why, new) → new ≡ old }
 {}

@@ -21,6 +21,6 @@ mod ticket;
 pub use config::{Config, ConfigFault};
 pub use delivery::Delivery;
 pub use desk::Desk;
-pub use refusal::{DeskError, Refusal};
+pub use refusal::{DeskError, DeskRefusal};
 pub use span::{Span, Status};
 pub use step::Step;

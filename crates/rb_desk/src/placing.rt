@@ -4,21 +4,21 @@ ghost use Rattle.std.specs.Prelude.{◌≡◌, length, Ok, IsOk};
 ghost use Rattle.rb_desk.specs.Calls.{prepare, place, close};
 
 use crate::desk::Desk;
-use crate::refusal::Refusal;
+use crate::refusal::DeskRefusal;
 
 impl Desk {
     /// The number that `place` would give now. It changes nothing.
     ///
     /// Refuses `Closed` where the sequence is closed, `SequenceFull` where it has as many entries as it may have.
     #[tactic(auto, unfolding(crate::specs::Calls::prepare))]
-    pub fn prepare(&self) -> Result<u64, Refusal>
+    pub fn prepare(&self) -> Result<u64, DeskRefusal>
         ensures { result ≡ prepare self.now }
     {
         if self.closing.is_some() {
-            return Err(Refusal::Closed);
+            return Err(DeskRefusal::Closed);
         }
         if self.front >= self.config.capacity() {
-            return Err(Refusal::SequenceFull);
+            return Err(DeskRefusal::SequenceFull);
         }
         Ok(self.front + 1)
     }

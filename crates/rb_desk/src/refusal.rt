@@ -8,7 +8,7 @@ use thiserror::Error;
 /// Why a desk refuses a call. The desk is as it was before the call. Where several hold, the call answers the first one in
 /// its own documentation.
 #[derive(Clone, Copy, Debug, PartialEq, Eq, Error)]
-pub enum Refusal {
+pub enum DeskRefusal {
     /// `take`, `ack`, `nack`, `reconnect`, `unsubscribe`: no subscription has this number.
     #[error("there is no such subscription")]
     NoSuch,
@@ -52,19 +52,19 @@ pub enum Refusal {
 pub enum DeskError {
     /// The call is refused.
     #[error("{0}")]
-    Refused(Refusal),
+    Refused(DeskRefusal),
     /// There was no memory, or no number left to give; the call wasn't to be refused.
     #[error("out of memory")]
     Memory,
 }
 
-impl From<Refusal> for DeskError {
+impl From<DeskRefusal> for DeskError {
     ghost use Rattle.std.specs.Prelude.{◌≡◌};
     ghost use Rattle.rb_desk.specs.declared.refusal.DeskError.TheVariants.{Refused};
 
     ghost from_gives = { λ why e. e ≡ Refused why };
 
-    fn from(why: Refusal) -> DeskError {
+    fn from(why: DeskRefusal) -> DeskError {
         DeskError::Refused(why)
     }
 }

@@ -6,10 +6,10 @@ ghost use Rattle.rb_desk.specs.Calls.{ack, nack, expire};
 ghost use Rattle.rb_desk.specs.Lanes.{AreJoined};
 ghost use Rattle.rb_desk.specs.Shown.{AreGiven};
 ghost use Rattle.rb_desk.specs.Expiry.{all_due, expired_sub, by_number, turns_from};
-ghost use Rattle.rb_desk.specs.Answers.{Answers};
+ghost use Rattle.rb_desk.specs.Answers.{DeskAnswers};
 
 use crate::desk::Desk;
-use crate::refusal::{DeskError, Refusal};
+use crate::refusal::{DeskError, DeskRefusal};
 use crate::sub::{Sub, numbered};
 use crate::subscribing::after;
 use crate::ticket::Ticket;
@@ -21,22 +21,28 @@ impl Desk {
     ///
     /// Refuses `NoSuch`, `StaleLink`, `NotInFlight`, `NotAccepted`.
     #[tactic(auto, unfolding(crate::specs::Calls::ack))]
-    pub fn ack(&mut self, sub: u64, link: u64, delivery: u64, cursor: u64) -> Result<u64, Refusal>
+    pub fn ack(
+        &mut self,
+        sub: u64,
+        link: u64,
+        delivery: u64,
+        cursor: u64,
+    ) -> Result<u64, DeskRefusal>
         ensures answer { ack self.old sub link delivery cursor ≡ (result, self.new) }
         ensures err { OnErr result (self.new ≡ self.old) }
     {
         let s = sub as usize;
         let Some(found) = numbered(&self.subs, sub) else {
-            return Err(Refusal::NoSuch);
+            return Err(DeskRefusal::NoSuch);
         };
         if found.link != link {
-            return Err(Refusal::StaleLink);
+            return Err(DeskRefusal::StaleLink);
         }
         let Some(span) = found.out_as(delivery) else {
-            return Err(Refusal::NotInFlight);
+            return Err(DeskRefusal::NotInFlight);
         };
         if cursor < span.last {
-            return Err(Refusal::NotAccepted { cursor });
+            return Err(DeskRefusal::NotAccepted { cursor });
         }
         Ok(self.subs[s].settle(span.first))
     }
@@ -46,17 +52,17 @@ impl Desk {
     /// Refuses `NoSuch`, `StaleLink`, `NotInFlight`.
     #[tactic(auto, unfolding(crate::specs::Calls::nack))]
     pub fn nack(&mut self, sub: u64, link: u64, delivery: u64) -> Result<(), DeskError>
-        ensures { Answers result (nack self.old sub link delivery) self.old self.new }
+        ensures { DeskAnswers result (nack self.old sub link delivery) self.old self.new }
     {
         let s = sub as usize;
         let Some(found) = numbered(&self.subs, sub) else {
-            return Err(DeskError::Refused(Refusal::NoSuch));
+            return Err(DeskRefusal::NoSuch.into());
         };
         if found.link != link {
-            return Err(DeskError::Refused(Refusal::StaleLink));
+            return Err(DeskRefusal::StaleLink.into());
         }
         let Some(span) = found.out_as(delivery) else {
-            return Err(DeskError::Refused(Refusal::NotInFlight));
+            return Err(DeskRefusal::NotInFlight.into());
         };
         let front = self.front;
         let turn = after(self.turn)?;

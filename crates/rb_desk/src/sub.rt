@@ -2,7 +2,7 @@
 
 ghost use Rattle.std.specs.Prelude.{◌≡◌, ◌≤◌, slice_get, OnSome, OnOk, OnErr};
 ghost use Rattle.std.specs.Option.{option_copied, option_map};
-ghost use Rattle.rb_desk.specs.Lanes.{AreJoined, AreLimited, IsSpan, settled_lane};
+ghost use Rattle.rb_desk.specs.Lanes.{AreJoined, AreLimited, HasNumbers, settled_lane};
 
 use crate::lane::Lane;
 use crate::span::Span;
@@ -22,7 +22,7 @@ pub(crate) struct Sub {
 
 impl Sub {
     ghost use Rattle.rb_desk.specs.Expiry.{due_in, expired_sub, by_number, turns_from};
-    ghost use Rattle.rb_desk.specs.Shown.{AreGiven, new_sub, next_to_go, sub_out_as, handed_sub, returned_sub, settled_sub, reconnected_sub, closed_sub};
+    ghost use Rattle.rb_desk.specs.Shown.{AreGiven, new_sub, next_to_deliver, sub_out_as, delivered_sub, returned_sub, settled_sub, reconnected_sub, closed_sub};
 
     /// A subscription behind this number, under this link. What is placed behind it is cut with this ticket.
     pub(crate) fn behind(alloc: Global, start: u64, link: u64, ticket: Ticket) -> Sub
@@ -40,8 +40,8 @@ impl Sub {
 
     /// Hands a span over, as this delivery from this moment on.
     pub(crate) fn hand(&mut self, span: Span, number: u64, moment: u64) -> Result<(), AllocError>
-        requires { IsSpan span }
-        ensures ok { OnOk result (self.new ≡ handed_sub self.old span number moment) }
+        requires { HasNumbers span }
+        ensures ok { OnOk result (self.new ≡ delivered_sub self.old span number moment) }
         ensures err { OnErr result (self.new ≡ self.old) }
     {
         self.lane.hand(span, number, moment)?;
@@ -86,7 +86,7 @@ impl Sub {
         front: u64,
     ) -> Option<(u64, Held)>
         requires { AreLimited batch front }
-        ensures value { result ≡ option_map (λ h. (sub, h)) (next_to_go window batch front self.now) }
+        ensures value { result ≡ option_map (λ h. (sub, h)) (next_to_deliver window batch front self.now) }
         ensures joined { OnSome result (AreJoined self.now.lane) }
     {
         if self.closed || self.lane.out() >= window {

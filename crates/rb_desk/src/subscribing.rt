@@ -2,10 +2,10 @@
 
 ghost use Rattle.std.specs.Prelude.{◌≡◌, suc, OnErr};
 ghost use Rattle.rb_desk.specs.Calls.{subscribe, reconnect, unsubscribe};
-ghost use Rattle.rb_desk.specs.Answers.{Answers, OnlyMemory};
+ghost use Rattle.rb_desk.specs.Answers.{DeskAnswers, OnlyMemory};
 
 use crate::desk::Desk;
-use crate::refusal::{DeskError, Refusal};
+use crate::refusal::{DeskError, DeskRefusal};
 use crate::sub::{Sub, numbered};
 use crate::ticket::Ticket;
 use std::alloc::Global;
@@ -16,14 +16,14 @@ impl Desk {
     /// Refuses `StartAhead` where `start` isn't placed yet, `TooMany` where 1,024 subscriptions were made.
     #[tactic(auto, unfolding(crate::specs::Calls::subscribe))]
     pub fn subscribe(&mut self, alloc: Global, start: u64) -> Result<(u64, u64), DeskError>
-        ensures { Answers result (subscribe self.old start) self.old self.new }
+        ensures { DeskAnswers result (subscribe self.old start) self.old self.new }
     {
         let front = self.front;
         if front < start {
-            return Err(DeskError::Refused(Refusal::StartAhead { front }));
+            return Err(DeskRefusal::StartAhead { front }.into());
         }
         if self.subs.len() >= 1_024 {
-            return Err(DeskError::Refused(Refusal::TooMany));
+            return Err(DeskRefusal::TooMany.into());
         }
         let sub = self.subs.len() as u64;
         let link = self.next_link;
@@ -43,19 +43,19 @@ impl Desk {
     /// Refuses `NoSuch`, `Closed`, and `BadCursor` where the cursor isn't between the floor and what was offered.
     #[tactic(auto, unfolding(crate::specs::Calls::reconnect))]
     pub fn reconnect(&mut self, alloc: Global, sub: u64, cursor: u64) -> Result<u64, DeskError>
-        ensures { Answers result (reconnect self.old sub cursor) self.old self.new }
+        ensures { DeskAnswers result (reconnect self.old sub cursor) self.old self.new }
     {
         let s = sub as usize;
         let Some(found) = numbered(&self.subs, sub) else {
-            return Err(DeskError::Refused(Refusal::NoSuch));
+            return Err(DeskRefusal::NoSuch.into());
         };
         if found.closed {
-            return Err(DeskError::Refused(Refusal::Closed));
+            return Err(DeskRefusal::Closed.into());
         }
         let floor = found.lane.floor();
         let offered = found.offered;
         if cursor < floor || offered < cursor {
-            return Err(DeskError::Refused(Refusal::BadCursor { floor, offered }));
+            return Err(DeskRefusal::BadCursor { floor, offered }.into());
         }
         let link = self.next_link;
         let next_link = after(link)?;
@@ -71,19 +71,19 @@ impl Desk {
     ///
     /// Refuses `NoSuch`, `StaleLink`, `Closed`.
     #[tactic(auto, unfolding(crate::specs::Calls::unsubscribe))]
-    pub fn unsubscribe(&mut self, sub: u64, link: u64) -> Result<(), Refusal>
+    pub fn unsubscribe(&mut self, sub: u64, link: u64) -> Result<(), DeskRefusal>
         ensures answer { unsubscribe self.old sub link ≡ (result, self.new) }
         ensures err { OnErr result (self.new ≡ self.old) }
     {
         let s = sub as usize;
         let Some(found) = numbered(&self.subs, sub) else {
-            return Err(Refusal::NoSuch);
+            return Err(DeskRefusal::NoSuch);
         };
         if found.link != link {
-            return Err(Refusal::StaleLink);
+            return Err(DeskRefusal::StaleLink);
         }
         if found.closed {
-            return Err(Refusal::Closed);
+            return Err(DeskRefusal::Closed);
         }
         self.subs[s].close();
         Ok(())

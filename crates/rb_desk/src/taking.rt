@@ -2,14 +2,14 @@
 
 ghost use Rattle.std.specs.Prelude.{◌≡◌, IfSome};
 ghost use Rattle.rb_desk.specs.Calls.{take, take_any};
-ghost use Rattle.rb_desk.specs.Answers.{Answers};
+ghost use Rattle.rb_desk.specs.Answers.{DeskAnswers};
 ghost use Rattle.std.specs.Option.{option_map};
 ghost use Rattle.rb_desk.specs.Lanes.{AreLimited};
-ghost use Rattle.rb_desk.specs.Shown.{why_none, first_to_go, span_to_go, ahead, IsJoinedAt};
+ghost use Rattle.rb_desk.specs.Shown.{why_none, first_to_deliver, span_to_deliver, goes_first, IsJoinedAt};
 
 use crate::delivery::Delivery;
 use crate::desk::Desk;
-use crate::refusal::{DeskError, Refusal};
+use crate::refusal::{DeskError, DeskRefusal};
 use crate::span::Span;
 use crate::sub::{Sub, numbered};
 use crate::subscribing::after;
@@ -29,25 +29,25 @@ impl Desk {
         cursor: u64,
         now: u64,
     ) -> Result<Delivery, DeskError>
-        ensures { Answers result (take self.old sub link cursor now) self.old self.new }
+        ensures { DeskAnswers result (take self.old sub link cursor now) self.old self.new }
     {
         let s = sub as usize;
         let front = self.front;
         let Some(found) = numbered(&self.subs, sub) else {
-            return Err(DeskError::Refused(Refusal::NoSuch));
+            return Err(DeskRefusal::NoSuch.into());
         };
         if found.link != link {
-            return Err(DeskError::Refused(Refusal::StaleLink));
+            return Err(DeskRefusal::StaleLink.into());
         }
         if found.closed {
-            return Err(DeskError::Refused(Refusal::Closed));
+            return Err(DeskRefusal::Closed.into());
         }
         if found.lane.out() >= self.config.window() {
-            return Err(DeskError::Refused(Refusal::WindowFull));
+            return Err(DeskRefusal::WindowFull.into());
         }
         let Some(span) = found.lane.first_ready(self.config.batch(), front) else {
             let is_empty = found.lane.is_empty(front);
-            return Err(DeskError::Refused(none_ready(self.closing, front, is_empty, cursor)));
+            return Err(none_ready(self.closing, front, is_empty, cursor).into());
         };
         let number = self.next_delivery;
         let next_delivery = after(number)?;
@@ -63,12 +63,12 @@ impl Desk {
     /// Refuses `Empty` where there is none.
     #[tactic(auto, unfolding(crate::specs::Calls::take_any))]
     pub fn take_any(&mut self, now: u64) -> Result<Delivery, DeskError>
-        ensures { Answers result (take_any self.old now) self.old self.new }
+        ensures { DeskAnswers result (take_any self.old now) self.old self.new }
     {
         let front = self.front;
         let window = self.config.window();
         let Some((sub, span)) = first_to_go(&self.subs, window, self.config.batch(), front) else {
-            return Err(DeskError::Refused(Refusal::Empty { front }));
+            return Err(DeskRefusal::Empty { front }.into());
         };
         let s = sub as usize;
         let link = self.subs[s].link;
@@ -85,7 +85,7 @@ impl Desk {
 // the span that may be handed over before all others, and its subscription's number
 fn first_to_go(subs: &[Sub], window: u64, batch: u64, front: u64) -> Option<(u64, Span)>
     requires { AreLimited batch front }
-    ensures value { result ≡ option_map span_to_go (first_to_go window batch front 0 subs.now) }
+    ensures value { result ≡ option_map span_to_deliver (first_to_deliver window batch front 0 subs.now) }
     ensures joined { IfSome result (λ c. IsJoinedAt subs.now c.0) }
 {
     let mut first: Option<(u64, Held)> = None;
@@ -98,7 +98,7 @@ fn first_to_go(subs: &[Sub], window: u64, batch: u64, front: u64) -> Option<(u64
 
 // the one that is first in line, the first of them where both have the same ticket
 fn ahead(first: Option<(u64, Held)>, second: Option<(u64, Held)>) -> Option<(u64, Held)>
-    ensures { result ≡ ahead first second }
+    ensures { result ≡ goes_first first second }
 {
     match (first, second) {
         (None, other) => other,
@@ -113,13 +113,13 @@ fn ahead(first: Option<(u64, Held)>, second: Option<(u64, Held)>) -> Option<(u64
 }
 
 // why nothing is handed over
-fn none_ready(closing: Option<u64>, front: u64, is_empty: bool, cursor: u64) -> Refusal
+fn none_ready(closing: Option<u64>, front: u64, is_empty: bool, cursor: u64) -> DeskRefusal
     ensures { result ≡ why_none front is_empty cursor closing }
 {
     if let Some(last) = closing {
         if is_empty && cursor == last {
-            return Refusal::Drained { last };
+            return DeskRefusal::Drained { last };
         }
     }
-    Refusal::Empty { front }
+    DeskRefusal::Empty { front }
 }

@@ -3,7 +3,7 @@ use Rattle.std.specs.Prelude.{ℕ, List, [], Option, Some, None, Result, Ok, Err
 use Rattle.rb_desk.specs.Limits.{Limits, first_out_of_range}
 use Rattle.rb_desk.specs.declared.config.ConfigFault.{ConfigFault}
 use Rattle.rb_desk.specs.declared.config.ConfigFault.TheVariants.{Batch, Window, Timeout, Capacity, Intake, Appliers}
-use Rattle.rb_script.specs.Words.{number_of}
+use Rattle.rb_script.specs.Words.{number_in_word}
 
 -- the number that an option's word says; where it says none, 0, which is in no range
 abbrev pub number_or_zero : Option ℕ → ℕ
@@ -11,7 +11,7 @@ number_or_zero None = 0
 number_or_zero (Some n) = n
 
 abbrev pub value_of : List ℕ → ℕ
-value_of word = number_or_zero (number_of word)
+value_of word = number_or_zero (number_in_word word)
 
 -- the limits with these numbers, each of them in its range; or the first that isn't
 abbrev pub limits_or : Option ConfigFault → Limits → Result Limits ConfigFault

@@ -12,7 +12,7 @@ use Rattle.rb_core.specs.declared.event.Event.TheVariants as event
 use Rattle.rb_core.specs.Run.{FeedsBytes}
 use Rattle.rb_script.specs.declared.forms.Form.{Form}
 use Rattle.rb_script.specs.declared.forms.Form.TheVariants as form
-use Rattle.rb_script.specs.Words.{words_of, number_of, bytes_of}
+use Rattle.rb_script.specs.Words.{words_of, number_in_word, bytes_of}
 use Rattle.rb_script.specs.Forms.{one_word, two_words, name_and_number, two_numbers, fed_form, number_and_word, form_of_words, form_of}
 use Rattle.rb_script.specs.Lines.{most_of_line}
 use Rattle.rb_script.specs.Script.{event_in, event_of, with_event, lines_events}
@@ -63,9 +63,9 @@ table_feeds (Some table) p bytes h = cc h
 two_feed : (name word : List ℕ) → FeedsNone (two_words name word)
 two_feed name word = by (same_bytes name (codes "table"))
   where
-    by : (t : Bool) → FeedsNone (cond t (option_map form.Table (bytes_of word)) (name_and_number name (number_of word)))
+    by : (t : Bool) → FeedsNone (cond t (option_map form.Table (bytes_of word)) (name_and_number name (number_in_word word)))
     by true = table_feeds (bytes_of word)
-    by false = number_feeds name (number_of word)
+    by false = number_feeds name (number_in_word word)
 
 -- what a form feeds
 abbrev bytes_in : List ℕ → Event → List ℕ
@@ -84,15 +84,15 @@ word_feeds : (name : List ℕ) (o : Option ℕ) (word : List ℕ) → Feeds (num
 word_feeds name None word = λ p bytes h. cc h
 word_feeds name (Some n) word = by (same_bytes name (codes "feed"))
   where
-    by : (t : Bool) → Feeds (cond t (fed_form n (bytes_of word)) (two_numbers name n (number_of word)))
+    by : (t : Bool) → Feeds (cond t (fed_form n (bytes_of word)) (two_numbers name n (number_in_word word)))
     by true = fed_feeds n (bytes_of word) (bytes_said word)
-    by false = λ p bytes h. absurd (numbers_feed name n (number_of word) p bytes h)
+    by false = λ p bytes h. absurd (numbers_feed name n (number_in_word word) p bytes h)
 
 words_feed : (words : List (List ℕ)) → Feeds (form_of_words words)
 words_feed [] p bytes h = cc h
 words_feed (name ∷ []) p bytes h = absurd (one_feeds name p bytes h)
 words_feed (name ∷ word ∷ []) p bytes h = absurd (two_feed name word p bytes h)
-words_feed (name ∷ number ∷ word ∷ []) p bytes h = word_feeds name (number_of number) word p bytes h
+words_feed (name ∷ number ∷ word ∷ []) p bytes h = word_feeds name (number_in_word number) word p bytes h
 words_feed (name ∷ number ∷ word ∷ more ∷ rest) p bytes h = cc h
 
 -- and so do the events in lines
@@ -119,10 +119,10 @@ line_feeds line = by (ltb most_of_line (length line))
     by true = tt
     by false = form_feeds (form_of line) (words_feed (words_of line))
 
-with_one : (o : Option Event) (events : List Event) → EventFeeds o → AllByRecursion FeedsBytes events → AllByRecursion FeedsBytes (with_event o events)
-with_one None events h rest = rest
-with_one (Some event) events h rest = (h, rest)
+feed_with_one : (o : Option Event) (events : List Event) → EventFeeds o → AllByRecursion FeedsBytes events → AllByRecursion FeedsBytes (with_event o events)
+feed_with_one None events h rest = rest
+feed_with_one (Some event) events h rest = (h, rest)
 
 pub lines_feed : (lines : List (List ℕ)) → AllByRecursion FeedsBytes (lines_events lines)
 lines_feed [] = tt
-lines_feed (line ∷ lines) = with_one (event_of line) (lines_events lines) (line_feeds line) (lines_feed lines)
+lines_feed (line ∷ lines) = feed_with_one (event_of line) (lines_events lines) (line_feeds line) (lines_feed lines)

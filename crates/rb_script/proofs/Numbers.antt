@@ -19,8 +19,8 @@ too_large high i digits lt so_far large =
     ap (λ (b : Bool). cond b (Some (value_from 0 digits)) None) no
 
 -- after all digits the value is that of all
-pub fits : (high i : ℕ) (digits : List ℕ) → length digits ≤ i → value_from high (drop i digits) ≡ value_from 0 digits → high < 2 ^ 64 → Some high ≡ value_within digits
-fits high i digits le so_far small =
+pub numbers_fits : (high i : ℕ) (digits : List ℕ) → length digits ≤ i → value_from high (drop i digits) ≡ value_from 0 digits → high < 2 ^ 64 → Some high ≡ value_within digits
+numbers_fits high i digits le so_far small =
     let e : high ≡ value_from 0 digits = ap (value_from high) (sym (drop_of_length-le digits le)) ∙ so_far in
     let lt : value_from 0 digits < 2 ^ 64 = omega arith in
     let yes : ltb (value_from 0 digits) (2 ^ 64) ≡ true = lt-ltb _ _ lt in

@@ -15,7 +15,7 @@ use Rattle.rb_script.specs.declared.lines.Stage.{Stage}
 use Rattle.rb_script.specs.declared.lines.Stage.TheVariants.{Tables, Running}
 use Rattle.rb_script.specs.Forms.{form_of}
 use Rattle.rb_script.specs.Lines.{most_of_line, line_of, line_answer, form_answer, table_read, table_added, header_of_answer, world_of}
-use Rattle.rb_script.specs.Script.{event_in, event_of, with_event, lines_events, stage_behind, answer_before, lines_replies}
+use Rattle.rb_script.specs.Script.{event_in, event_of, with_event, lines_events, stage_after, answer_before, lines_replies}
 
 -- where a line leads from a world that runs
 abbrev FromWorld : State → Option Event → Stage → Type 0
@@ -40,10 +40,10 @@ line_from_world config world (b ∷ bs) = by (ltb most_of_line (length (b ∷ bs
 
 -- the replies to lines, from a stage on, are those of a run of their events from this world to the one behind them
 abbrev pub RunsFrom : Limits → State → Stage → List (List ℕ) → Type 0
-RunsFrom config world stage lines = Run world (lines_events lines) (lines_replies config stage lines) (world_of config (stage_behind config stage lines))
+RunsFrom config world stage lines = Run world (lines_events lines) (lines_replies config stage lines) (world_of config (stage_after config stage lines))
 
 one_from_world : (config : Limits) (world : State) (o : Option Event) (next : Stage) (lines : List (List ℕ)) → FromWorld world o next → ((w : State) → RunsFrom config w (Running w) lines)
-    → Run world (with_event o (lines_events lines)) (answer_before config (Running world) o (lines_replies config next lines)) (world_of config (stage_behind config next lines))
+    → Run world (with_event o (lines_events lines)) (answer_before config (Running world) o (lines_replies config next lines)) (world_of config (stage_after config next lines))
 one_from_world config world None next lines leads later = subst (λ (s : Stage). RunsFrom config world s lines) (sym leads) (later world)
 one_from_world config world (Some event) next lines leads later =
     let mid : State = (outcome world event).1 in
@@ -88,7 +88,7 @@ abbrev pub RunsBehind : Limits → Stage → List (List ℕ) → Type 0
 RunsBehind config stage lines = (schema : List Shape) × RunsFrom config (empty_world config schema) stage lines
 
 one_from_tables : (config : Limits) (tables : List Shape) (o : Option Event) (next : Stage) (lines : List (List ℕ)) → FromTables config tables o next → ((more : List Shape) → RunsBehind config (Tables more) lines)
-    → (schema : List Shape) × Run (empty_world config schema) (with_event o (lines_events lines)) (answer_before config (Tables tables) o (lines_replies config next lines)) (world_of config (stage_behind config next lines))
+    → (schema : List Shape) × Run (empty_world config schema) (with_event o (lines_events lines)) (answer_before config (Tables tables) o (lines_replies config next lines)) (world_of config (stage_after config next lines))
 one_from_tables config tables None next lines (inl leads) later = subst (λ (s : Stage). RunsBehind config s lines) (sym leads.1) (later leads.0)
 one_from_tables config tables None next lines (inr leads) later =
     let world : State = empty_world config tables in

@@ -61,16 +61,16 @@ Consumes-Keeps (Some us) (Some bs) (Some cs) xs p q = p ∙ ap (λ (w : List ℕ
 
 pub ruleset known_bytes = (Keeps-refl, Keeps-trans, Keeps-Consumes, Keeps-Appends, Appends-Keeps, Appends-none, Appends-trans, Consumes-trans, Consumes-none, Consumes-Keeps)
 
-rest_is : (at : ℕ) (bytes : List ℕ) → take (length bytes - at) (drop at bytes) ≡ drop at bytes
-rest_is at bytes = ap (λ (n : ℕ). take n (drop at bytes)) (sym (length-drop at bytes)) ∙ take-length (drop at bytes)
+stream_rest_is : (at : ℕ) (bytes : List ℕ) → take (length bytes - at) (drop at bytes) ≡ drop at bytes
+stream_rest_is at bytes = ap (λ (n : ℕ). take n (drop at bytes)) (sym (length-drop at bytes)) ∙ take-length (drop at bytes)
 
 pub length-rest : (at : ℕ) (bytes : List ℕ) → length (take (length bytes - at) (drop at bytes)) ≡ length bytes - at
-length-rest at bytes = ap (λ (t : List ℕ). length t) (rest_is at bytes) ∙ length-drop at bytes
+length-rest at bytes = ap (λ (t : List ℕ). length t) (stream_rest_is at bytes) ∙ length-drop at bytes
 
 -- n bytes more of the rest are written
 pub writes_more : (w0 w w' : Option (List ℕ)) (bytes : List ℕ) (at n : ℕ) → Appends w0 w (take at bytes) → Appends w w' (take n (take (length bytes - at) (drop at bytes))) → Appends w0 w' (take (at + n) bytes)
 writes_more w0 w w' bytes at n before now =
-    let now' : Appends w w' (take n (drop at bytes)) = subst (λ (t : List ℕ). Appends w w' (take n t)) (rest_is at bytes) now in
+    let now' : Appends w w' (take n (drop at bytes)) = subst (λ (t : List ℕ). Appends w w' (take n t)) (stream_rest_is at bytes) now in
     rw (take-add at n bytes) (Appends-trans w0 w w' (take at bytes) (take n (drop at bytes)) before now')
 
 -- what is written before a fault is a front
@@ -81,5 +81,5 @@ pub on_err : {T E : Type 0} (r : Result T E) (P : Type 0) → P → OnErr r P
 on_err (Ok x) P h = tt
 on_err (Err e) P h = h
 
-pub appends_front : (w w' : Option (List ℕ)) (bs : List ℕ) → Appends w w' bs → AppendsFront w w' bs
-appends_front w w' bs p = (bs, [], sym (append-nil bs), p)
+pub stream_appends_front : (w w' : Option (List ℕ)) (bs : List ℕ) → Appends w w' bs → AppendsFront w w' bs
+stream_appends_front w w' bs p = (bs, [], sym (append-nil bs), p)

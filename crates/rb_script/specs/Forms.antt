@@ -4,7 +4,7 @@ use Rattle.rb_core.specs.declared.event.Event.TheVariants as event
 use Rattle.cs_model.specs.Schema.{same_bytes}
 use Rattle.rb_script.specs.declared.forms.Form.{Form}
 use Rattle.rb_script.specs.declared.forms.Form.TheVariants.{Table, Happens, Entry, Rows, Left}
-use Rattle.rb_script.specs.Words.{words_of, number_of, bytes_of}
+use Rattle.rb_script.specs.Words.{words_of, number_in_word, bytes_of}
 
 -- `publisher`, `turn`, `close` and `left`
 abbrev pub one_word : List ℕ → Option Form
@@ -37,7 +37,7 @@ name_and_number name (Some n) =
 -- these, and `table HEX`
 abbrev pub two_words : List ℕ → List ℕ → Option Form
 two_words name word =
-    if same_bytes name (codes "table") then option_map Table (bytes_of word) else name_and_number name (number_of word)
+    if same_bytes name (codes "table") then option_map Table (bytes_of word) else name_and_number name (number_in_word word)
 
 -- `take S NOW` and `reconnect S CURSOR`
 abbrev pub two_numbers : List ℕ → ℕ → Option ℕ → Option Form
@@ -56,14 +56,14 @@ fed_form p (Some bytes) = Some (Happens (event.Feed p bytes))
 abbrev pub number_and_word : List ℕ → Option ℕ → List ℕ → Option Form
 number_and_word name None word = None
 number_and_word name (Some n) word =
-    if same_bytes name (codes "feed") then fed_form n (bytes_of word) else two_numbers name n (number_of word)
+    if same_bytes name (codes "feed") then fed_form n (bytes_of word) else two_numbers name n (number_in_word word)
 
 -- the form that these words fit
 abbrev pub form_of_words : List (List ℕ) → Option Form
 form_of_words [] = None
 form_of_words (name ∷ []) = one_word name
 form_of_words (name ∷ word ∷ []) = two_words name word
-form_of_words (name ∷ number ∷ word ∷ []) = number_and_word name (number_of number) word
+form_of_words (name ∷ number ∷ word ∷ []) = number_and_word name (number_in_word number) word
 form_of_words (name ∷ number ∷ word ∷ more ∷ rest) = None
 
 -- the form that a line fits

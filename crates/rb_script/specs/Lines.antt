@@ -13,7 +13,7 @@ use Rattle.cs_model.specs.Schema.{table_refusal}
 use Rattle.cs_parse.specs.declared.fault.ParseFault.{ParseFault}
 use Rattle.cs_parse.specs.Reading.{answer_of}
 use Rattle.rb_desk.specs.Limits.{Limits}
-use Rattle.rb_desk.specs.declared.refusal.Refusal.TheVariants as desk
+use Rattle.rb_desk.specs.declared.refusal.DeskRefusal.TheVariants as desk
 use Rattle.rb_core.specs.declared.reply.Reply.{Reply}
 use Rattle.rb_core.specs.State.{State, empty_world, how_many_wait}
 use Rattle.rb_sequence.specs.Entry.{Entry}

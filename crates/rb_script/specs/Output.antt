@@ -6,40 +6,40 @@ use Rattle.rb_script.specs.declared.lines.Stage.TheVariants.{Tables}
 use Rattle.rb_script.specs.Lines.{line_answer, most_of_line}
 
 -- how far a script has come: the stage, and what has come of the next line, as far as it counts
-pub record Place : Type 0 where
+pub record ScriptPlace : Type 0 where
   pub stage : Stage
   pub line : List ℕ
 
-abbrev pub place_at : Stage → List ℕ → Place
+abbrev pub place_at : Stage → List ℕ → ScriptPlace
 place_at stage line = record { stage = stage; line = line }
 
-abbrev pub opening : Place
-opening = place_at (Tables []) []
+abbrev pub first_place : ScriptPlace
+first_place = place_at (Tables []) []
 
 -- one byte more of a line; of a line that is too long only that counts
 abbrev pub longer : List ℕ → ℕ → List ℕ
 longer line byte = if nat_lt most_of_line (length line) then line else line ++ byte ∷ []
 
 -- what a byte has written, and where the script then is
-abbrev pub ends_line : List ℕ × Stage → List ℕ × Place
+abbrev pub ends_line : List ℕ × Stage → List ℕ × ScriptPlace
 ends_line given = (given.0, place_at given.1 [])
 
-abbrev pub byte_answer : Limits → Place → ℕ → List ℕ × Place
+abbrev pub byte_answer : Limits → ScriptPlace → ℕ → List ℕ × ScriptPlace
 byte_answer config place byte =
     if byte == 10 then ends_line (line_answer config place.stage place.line) else ([], record place { line = longer place.line byte })
 
 -- what bytes have written, and where the script then is
-unfoldable pub written : Limits → Place → List ℕ → List ℕ
+unfoldable pub written : Limits → ScriptPlace → List ℕ → List ℕ
 written config place [] = []
 written config place (byte ∷ bytes) = (byte_answer config place byte).0 ++ written config (byte_answer config place byte).1 bytes
 
-unfoldable pub after : Limits → Place → List ℕ → Place
-after config place [] = place
-after config place (byte ∷ bytes) = after config (byte_answer config place byte).1 bytes
+unfoldable pub place_after : Limits → ScriptPlace → List ℕ → ScriptPlace
+place_after config place [] = place
+place_after config place (byte ∷ bytes) = place_after config (byte_answer config place byte).1 bytes
 
 -- What is written for an input: the answers to its lines, the last of which may lack its end.
-abbrev pub last_answer : Limits → Place → List ℕ
+abbrev pub last_answer : Limits → ScriptPlace → List ℕ
 last_answer config place = (line_answer config place.stage place.line).0
 
 abbrev pub answers : Limits → List ℕ → List ℕ
-answers config input = written config opening input ++ last_answer config (after config opening input)
+answers config input = written config first_place input ++ last_answer config (place_after config first_place input)

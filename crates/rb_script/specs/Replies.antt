@@ -5,14 +5,14 @@ use Rattle.cs_apply.specs.Conflict.{code_of}
 use Rattle.cs_parse.specs.declared.fault.FaultKind.{FaultKind}
 use Rattle.cs_parse.specs.declared.fault.FaultKind.TheVariants as kind
 use Rattle.rb_desk.specs.declared.delivery.Delivery.{Delivery}
-use Rattle.rb_desk.specs.declared.refusal.Refusal.{Refusal as DeskRefusal}
-use Rattle.rb_desk.specs.declared.refusal.Refusal.TheVariants as desk
-use Rattle.rb_subscriber.specs.declared.refusal.Refusal.{Refusal as EndRefusal}
-use Rattle.rb_subscriber.specs.declared.refusal.Refusal.TheVariants as end
+use Rattle.rb_desk.specs.declared.refusal.DeskRefusal.{DeskRefusal}
+use Rattle.rb_desk.specs.declared.refusal.DeskRefusal.TheVariants as desk
+use Rattle.rb_subscriber.specs.declared.refusal.AcceptRefusal.{AcceptRefusal}
+use Rattle.rb_subscriber.specs.declared.refusal.AcceptRefusal.TheVariants as end
 use Rattle.rb_core.specs.declared.reply.Reply.{Reply}
 use Rattle.rb_core.specs.declared.reply.Reply.TheVariants as reply
-use Rattle.rb_core.specs.declared.reply.Refusal.{Refusal}
-use Rattle.rb_core.specs.declared.reply.Refusal.TheVariants as refusal
+use Rattle.rb_core.specs.declared.reply.BrokerRefusal.{BrokerRefusal}
+use Rattle.rb_core.specs.declared.reply.BrokerRefusal.TheVariants as refusal
 
 -- the name of a fault's kind
 abbrev pub kind_name : FaultKind → List ℕ
@@ -49,7 +49,7 @@ desk_refusal_text desk.TooMany = codes "refused TooMany"
 desk_refusal_text desk.SequenceFull = codes "refused SequenceFull"
 
 -- why a subscription's end refuses
-abbrev pub end_refusal_text : EndRefusal → List ℕ
+abbrev pub end_refusal_text : AcceptRefusal → List ℕ
 end_refusal_text end.Closed = codes "refused Closed"
 end_refusal_text end.StaleLink = codes "refused StaleLink"
 end_refusal_text end.Seen = codes "refused Seen"
@@ -58,7 +58,7 @@ end_refusal_text (end.Shape number) = codes "refused Shape " ++ decimal number
 end_refusal_text (end.Conflict c) = codes "refused Conflict " ++ (decimal c.position ++ (codes " " ++ decimal (code_of c.kind)))
 
 -- why the world refuses
-abbrev pub refusal_text : Refusal → List ℕ
+abbrev pub refusal_text : BrokerRefusal → List ℕ
 refusal_text refusal.NoPublisher = codes "refused NoPublisher"
 refusal_text refusal.NoDelivery = codes "refused NoDelivery"
 refusal_text refusal.TooMany = codes "refused TooMany"

@@ -43,9 +43,9 @@ lines_events [] = []
 lines_events (line ∷ lines) = with_event (event_of line) (lines_events lines)
 
 -- the stage behind lines
-abbrev pub stage_behind : Limits → Stage → List (List ℕ) → Stage
-stage_behind config stage [] = stage
-stage_behind config stage (line ∷ lines) = stage_behind config (line_answer config stage line).1 lines
+abbrev pub stage_after : Limits → Stage → List (List ℕ) → Stage
+stage_after config stage [] = stage
+stage_after config stage (line ∷ lines) = stage_after config (line_answer config stage line).1 lines
 
 -- the reply that a line's event is given, in front of others
 abbrev pub answer_before : Limits → Stage → Option Event → List Answer → List Answer

@@ -28,8 +28,8 @@ abbrev pub value_within : List ℕ → Option ℕ
 value_within digits = if nat_lt (value_from 0 digits) (2 ^ 64) then Some (value_from 0 digits) else None
 
 -- the number of 64 bits that a word says in decimal
-abbrev pub number_of : List ℕ → Option ℕ
-number_of word = if is_numeral word then value_within word else None
+abbrev pub number_in_word : List ℕ → Option ℕ
+number_in_word word = if is_numeral word then value_within word else None
 
 -- the bytes that a word says in hexadecimal of either case, and none as `-`
 abbrev pub bytes_of : List ℕ → Option (List ℕ)

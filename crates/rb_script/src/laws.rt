@@ -13,7 +13,7 @@ ghost use Rattle.rb_core.specs.World.{Subscriber};
 ghost use Rattle.rb_script.specs.declared.lines.Stage.TheVariants.{Tables};
 ghost use Rattle.rb_script.specs.Lines.{world_of};
 ghost use Rattle.rb_script.specs.Output.{answers};
-ghost use Rattle.rb_script.specs.Script.{IsLine, ended_lines, lines_answers, lines_events, lines_replies, stage_behind};
+ghost use Rattle.rb_script.specs.Script.{IsLine, ended_lines, lines_answers, lines_events, lines_replies, stage_after};
 
 use rb_core::laws::accepted_is_gapless;
 
@@ -31,7 +31,7 @@ pub fn scripts_are_runs()
     ensures { (config : Limits) (lines : List (List ℕ))
         → (schema : List Shape)
         × Run (empty_world config schema) (lines_events lines) (lines_replies config (Tables []) lines)
-        (world_of config (stage_behind config (Tables []) lines)) }
+        (world_of config (stage_after config (Tables []) lines)) }
 {}
 
 /// What the events in the lines of a script feed are bytes.
@@ -45,7 +45,7 @@ pub fn accepted_lines_are_gapless()
     ensures { (config : Limits) (lines : List (List ℕ)) → AreInRange config
         → (schema : List Shape) × ((s : ℕ) (subscriber : Subscriber)
         → slice_get (world_told schema (lines_events lines) (lines_replies config (Tables []) lines)).subscribers s ≡ Some subscriber
-        → HasRun (world_of config (stage_behind config (Tables []) lines)).sequence subscriber) }
+        → HasRun (world_of config (stage_after config (Tables []) lines)).sequence subscriber) }
 {
     scripts_are_runs();
     scripts_feed_bytes();

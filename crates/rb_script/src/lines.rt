@@ -13,7 +13,7 @@ use crate::texts::{text_of_entry, text_of_rows};
 use cs_model::{Changeset, Schema, SchemaError, Shape, TableFault};
 use cs_parse::{ParseError, parse};
 use rb_core::{Config, Event, World};
-use rb_desk::Refusal;
+use rb_desk::DeskRefusal;
 use std::alloc::{AllocError, Global};
 
 /// The most bytes of a line, its end not counted.
@@ -123,7 +123,7 @@ fn rows(alloc: Global, world: &World, subscription: u64) -> Result<Vec<u8>, Allo
 {
     match world.rows(alloc, subscription)? {
         None => {
-            let text = text_of_desk_refusal(alloc, Refusal::NoSuch)?;
+            let text = text_of_desk_refusal(alloc, DeskRefusal::NoSuch)?;
             text_line(alloc, &text)
         }
         Some(rows) => text_of_rows(alloc, &rows),

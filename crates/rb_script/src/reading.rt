@@ -1,7 +1,7 @@
 //! Which form a line fits.
 
 ghost use Rattle.std.specs.Prelude.{◌≡◌, IfOk, map};
-ghost use Rattle.rb_script.specs.Words.{words_of, number_of};
+ghost use Rattle.rb_script.specs.Words.{words_of, number_in_word};
 ghost use Rattle.rb_script.specs.Forms.{one_word, two_words, name_and_number, two_numbers, number_and_word, form_of_words, form_of};
 
 use crate::forms::Form;

@@ -4,9 +4,9 @@ ghost use Rattle.std.specs.Prelude.{◌≡◌, ◌++◌, IfOk, string_bytes};
 ghost use Rattle.rb_script.specs.Replies.{kind_name, desk_refusal_text, end_refusal_text, refusal_text, delivery_text, reply_text};
 
 use cs_parse::FaultKind;
-use rb_core::{Delivery, Refusal, Reply};
-use rb_desk::Refusal as DeskRefusal;
-use rb_subscriber::Refusal as EndRefusal;
+use rb_core::{Delivery, BrokerRefusal, Reply};
+use rb_desk::DeskRefusal;
+use rb_subscriber::AcceptRefusal;
 use std::alloc::{AllocError, Global};
 
 /// The text of a reply, without the end of its line. `AllocError` where memory runs out.
@@ -51,21 +51,21 @@ fn text_of_delivery(alloc: Global, delivery: Delivery) -> Result<String, AllocEr
     format!(in alloc; "delivery {number} {sub} {first} {last}")
 }
 
-fn text_of_refusal(alloc: Global, why: Refusal) -> Result<String, AllocError>
+fn text_of_refusal(alloc: Global, why: BrokerRefusal) -> Result<String, AllocError>
     ensures { IfOk result (λ text. string_bytes text ≡ refusal_text why) }
 {
     match why {
-        Refusal::NoPublisher => format!(in alloc; "refused NoPublisher"),
-        Refusal::NoDelivery => format!(in alloc; "refused NoDelivery"),
-        Refusal::TooMany => format!(in alloc; "refused TooMany"),
-        Refusal::Holding => format!(in alloc; "refused Holding"),
-        Refusal::NothingStaged => format!(in alloc; "refused NothingStaged"),
-        Refusal::Closed => format!(in alloc; "refused Closed"),
-        Refusal::Full => format!(in alloc; "refused Full"),
-        Refusal::UnknownTable(i) => format!(in alloc; "refused UnknownTable {i}"),
-        Refusal::ShapeDiffers(i) => format!(in alloc; "refused ShapeDiffers {i}"),
-        Refusal::Desk(why) => text_of_desk_refusal(alloc, why),
-        Refusal::Accept(why) => text_of_end_refusal(alloc, why),
+        BrokerRefusal::NoPublisher => format!(in alloc; "refused NoPublisher"),
+        BrokerRefusal::NoDelivery => format!(in alloc; "refused NoDelivery"),
+        BrokerRefusal::TooMany => format!(in alloc; "refused TooMany"),
+        BrokerRefusal::Holding => format!(in alloc; "refused Holding"),
+        BrokerRefusal::NothingStaged => format!(in alloc; "refused NothingStaged"),
+        BrokerRefusal::Closed => format!(in alloc; "refused Closed"),
+        BrokerRefusal::Full => format!(in alloc; "refused Full"),
+        BrokerRefusal::UnknownTable(i) => format!(in alloc; "refused UnknownTable {i}"),
+        BrokerRefusal::ShapeDiffers(i) => format!(in alloc; "refused ShapeDiffers {i}"),
+        BrokerRefusal::Desk(why) => text_of_desk_refusal(alloc, why),
+        BrokerRefusal::Accept(why) => text_of_end_refusal(alloc, why),
     }
 }
 
@@ -91,16 +91,16 @@ pub fn text_of_desk_refusal(alloc: Global, why: DeskRefusal) -> Result<String, A
     }
 }
 
-fn text_of_end_refusal(alloc: Global, why: EndRefusal) -> Result<String, AllocError>
+fn text_of_end_refusal(alloc: Global, why: AcceptRefusal) -> Result<String, AllocError>
     ensures { IfOk result (λ text. string_bytes text ≡ end_refusal_text why) }
 {
     match why {
-        EndRefusal::Closed => format!(in alloc; "refused Closed"),
-        EndRefusal::StaleLink => format!(in alloc; "refused StaleLink"),
-        EndRefusal::Seen => format!(in alloc; "refused Seen"),
-        EndRefusal::Gap { expected } => format!(in alloc; "refused Gap {expected}"),
-        EndRefusal::Shape { number } => format!(in alloc; "refused Shape {number}"),
-        EndRefusal::Conflict(conflict) => {
+        AcceptRefusal::Closed => format!(in alloc; "refused Closed"),
+        AcceptRefusal::StaleLink => format!(in alloc; "refused StaleLink"),
+        AcceptRefusal::Seen => format!(in alloc; "refused Seen"),
+        AcceptRefusal::Gap { expected } => format!(in alloc; "refused Gap {expected}"),
+        AcceptRefusal::Shape { number } => format!(in alloc; "refused Shape {number}"),
+        AcceptRefusal::Conflict(conflict) => {
             let position = conflict.position;
             let kind = conflict.kind.code();
             format!(in alloc; "refused Conflict {position} {kind}")

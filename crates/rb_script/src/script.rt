@@ -3,9 +3,9 @@
 ghost use Rattle.std.specs.Prelude.{◌≡◌, ◌<◌, ◌≤◌, ◌^◌, ℕ, List, length, take, replicate, vec_len, Ok, Err, OnOk, OnErr, IfErr, IfOk};
 ghost use Rattle.std.specs.Io.KnownBytes.{Appends, Consumes, Keeps, IsAtEnd};
 ghost use Rattle.rb_script.specs.Lines.{line_answer};
-ghost use Rattle.rb_script.specs.Output.{place_at, written, after, longer};
+ghost use Rattle.rb_script.specs.Output.{place_at, written, place_after, longer};
 ghost use Rattle.rb_script.specs.Streams.{AppendsFront};
-ghost use Rattle.rb_script.specs.Ends.{Ends, IsOfReader, IsOfAnswers};
+ghost use Rattle.rb_script.specs.Ends.{ScriptEnds, IsOfReader, IsOfAnswers};
 
 use crate::fault::ScriptFault;
 use crate::lines::{MOST_OF_LINE, Stage, answer};
@@ -36,7 +36,7 @@ pub fn run_script<R: Read, W: Write>(
     config: Config,
 ) -> Result<(), ScriptFault>
     // What is written is the answers to what is read: to all of it, or, after a fault, as far as the fault lets them be.
-    ensures { Ends config result (R.remaining reader.old) (R.remaining reader.new)
+    ensures { ScriptEnds config result (R.remaining reader.old) (R.remaining reader.new)
         (W.contents writer.old) (W.contents writer.new) }
 {
     let answered = answer_all(alloc, reader, writer, config);
@@ -54,7 +54,7 @@ fn answer_all<R: Read, W: Write>(
     writer: &mut W,
     config: Config,
 ) -> Result<(), ScriptFault>
-    ensures { Ends config result (R.remaining reader.old) (R.remaining reader.new)
+    ensures { ScriptEnds config result (R.remaining reader.old) (R.remaining reader.new)
         (W.contents writer.old) (W.contents writer.new) }
 {
     let mut buffer = zeros(alloc, PIECE)?;
@@ -133,7 +133,7 @@ fn feed<W: Write>(
 ) -> Result<(Stage, Vec<u8>), ScriptFault>
     ensures ok { IfOk result (λ next. Appends (W.contents writer.old) (W.contents writer.new)
         (written config (place_at stage line.items) bytes.now)
-        × (place_at next.0 next.1.items ≡ after config (place_at stage line.items) bytes.now)) }
+        × (place_at next.0 next.1.items ≡ place_after config (place_at stage line.items) bytes.now)) }
     ensures err { OnErr result (AppendsFront (W.contents writer.old) (W.contents writer.new)
         (written config (place_at stage line.items) bytes.now)) }
     ensures faults { IfErr result IsOfAnswers }

@@ -2,7 +2,7 @@
 
 ghost use Rattle.std.specs.Prelude.{◌≡◌, true, IfOk};
 ghost use Rattle.cs_model.specs.Schema.{same_bytes};
-ghost use Rattle.rb_script.specs.Words.{is_digit, is_numeral, value_within, number_of, bytes_of};
+ghost use Rattle.rb_script.specs.Words.{is_digit, is_numeral, value_within, number_in_word, bytes_of};
 ghost use Rattle.std.specs.List.{list_all};
 
 use cs_model::{Octets, Seq};
@@ -11,7 +11,7 @@ use std::alloc::{AllocError, Global};
 
 /// The number that a word says in decimal: digits without sign or leading zero, below 2^64.
 pub fn number(word: &[u8]) -> Option<u64>
-    ensures { result ≡ number_of word.now }
+    ensures { result ≡ number_in_word word.now }
 {
     if numeral(word) { value_of(word) } else { None }
 }

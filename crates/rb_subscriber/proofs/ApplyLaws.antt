@@ -7,7 +7,7 @@ use Rattle.cs_model.specs.declared.schema.SectionFault.{SectionFault}
 use Rattle.cs_model.specs.declared.shape.Shape.{Shape}
 use Rattle.cs_model.specs.Schema.{refusal_of}
 use Rattle.rb_sequence.specs.Entry.{Entry}
-use Rattle.rb_subscriber.specs.Accept.{joined, if_admitted, first_outside}
+use Rattle.rb_subscriber.specs.Accept.{joined_bodies, if_admitted, first_outside_entry}
 
 -- the entry at a place stands in front of those behind it
 pub at_front : (entries : List Entry) (i : ℕ) (entry : Entry) → i < length entries → entry ≡ slice_index_or entries i entry → drop i entries ≡ entry ∷ drop (i + 1) entries
@@ -15,40 +15,40 @@ at_front entries i entry less is = drop_more entries i entry less ∙ ap (λ (e 
 
 -- ---- the first that isn't admitted
 
-abbrev Answer : Type 0
-Answer = Result (Unit {0}) SectionFault
+abbrev ApplyAnswer : Type 0
+ApplyAnswer = Result (Unit {0}) SectionFault
 
-told_fault : (r : Answer) (told : Option SectionFault) → IfErr r (λ fault. told ≡ Some fault) → is_err r ≡ true → (fault : SectionFault) × (told ≡ Some fault)
+told_fault : (r : ApplyAnswer) (told : Option SectionFault) → IfErr r (λ fault. told ≡ Some fault) → is_err r ≡ true → (fault : SectionFault) × (told ≡ Some fault)
 told_fault (Ok done) told refused e = absurd cc
 told_fault (Err fault) told refused e = (fault, refused)
 
-told_none : (r : Answer) (told : Option SectionFault) → OnOk r (told ≡ None) → is_err r ≡ false → told ≡ None
+told_none : (r : ApplyAnswer) (told : Option SectionFault) → OnOk r (told ≡ None) → is_err r ≡ false → told ≡ None
 told_none (Ok done) told ok e = ok
 told_none (Err fault) told ok e = absurd cc
 
-pub found_outside : (schema : List Shape) (entries : List Entry) (i : ℕ) (entry : Entry) (r : Answer) → drop i entries ≡ entry ∷ drop (i + 1) entries → IfErr r (λ fault. refusal_of schema entry.item.body ≡ Some fault) → is_err r ≡ true
-    → first_outside schema entries ≡ first_outside schema (drop i entries) → Some entry ≡ first_outside schema entries
+pub found_outside : (schema : List Shape) (entries : List Entry) (i : ℕ) (entry : Entry) (r : ApplyAnswer) → drop i entries ≡ entry ∷ drop (i + 1) entries → IfErr r (λ fault. refusal_of schema entry.item.body ≡ Some fault) → is_err r ≡ true
+    → first_outside_entry schema entries ≡ first_outside_entry schema (drop i entries) → Some entry ≡ first_outside_entry schema entries
 found_outside schema entries i entry r front refused e so_far =
     let t = told_fault r (refusal_of schema entry.item.body) refused e in
-    sym (so_far ∙ ap (first_outside schema) front ∙ ap (λ fault. if_admitted fault entry (first_outside schema (drop (i + 1) entries))) t.1)
+    sym (so_far ∙ ap (first_outside_entry schema) front ∙ ap (λ fault. if_admitted fault entry (first_outside_entry schema (drop (i + 1) entries))) t.1)
 
-pub goes_past : (schema : List Shape) (entries : List Entry) (i : ℕ) (entry : Entry) (r : Answer) → drop i entries ≡ entry ∷ drop (i + 1) entries → OnOk r (refusal_of schema entry.item.body ≡ None) → is_err r ≡ false
-    → first_outside schema entries ≡ first_outside schema (drop i entries) → first_outside schema entries ≡ first_outside schema (drop (i + 1) entries)
+pub goes_past : (schema : List Shape) (entries : List Entry) (i : ℕ) (entry : Entry) (r : ApplyAnswer) → drop i entries ≡ entry ∷ drop (i + 1) entries → OnOk r (refusal_of schema entry.item.body ≡ None) → is_err r ≡ false
+    → first_outside_entry schema entries ≡ first_outside_entry schema (drop i entries) → first_outside_entry schema entries ≡ first_outside_entry schema (drop (i + 1) entries)
 goes_past schema entries i entry r front ok e so_far =
-    so_far ∙ ap (first_outside schema) front ∙ ap (λ fault. if_admitted fault entry (first_outside schema (drop (i + 1) entries))) (told_none r (refusal_of schema entry.item.body) ok e)
+    so_far ∙ ap (first_outside_entry schema) front ∙ ap (λ fault. if_admitted fault entry (first_outside_entry schema (drop (i + 1) entries))) (told_none r (refusal_of schema entry.item.body) ok e)
 
-pub none_found : (schema : List Shape) (entries : List Entry) (i : ℕ) → length entries ≤ i → first_outside schema entries ≡ first_outside schema (drop i entries) → None ≡ first_outside schema entries
-none_found schema entries i all so_far = sym (so_far ∙ ap (first_outside schema) (drop_all i entries all))
+pub none_found : (schema : List Shape) (entries : List Entry) (i : ℕ) → length entries ≤ i → first_outside_entry schema entries ≡ first_outside_entry schema (drop i entries) → None ≡ first_outside_entry schema entries
+none_found schema entries i all so_far = sym (so_far ∙ ap (first_outside_entry schema) (drop_all i entries all))
 
 -- ---- the sections of all bodies
 
-pub joins_more : (made body : List Section) (entries : List Entry) (i : ℕ) (entry : Entry) → drop i entries ≡ entry ∷ drop (i + 1) entries → body ≡ entry.item.body → made ++ joined (drop i entries) ≡ joined entries
-    → (made ++ body) ++ joined (drop (i + 1) entries) ≡ joined entries
+pub joins_more : (made body : List Section) (entries : List Entry) (i : ℕ) (entry : Entry) → drop i entries ≡ entry ∷ drop (i + 1) entries → body ≡ entry.item.body → made ++ joined_bodies (drop i entries) ≡ joined_bodies entries
+    → (made ++ body) ++ joined_bodies (drop (i + 1) entries) ≡ joined_bodies entries
 joins_more made body entries i entry front is so_far =
-    ap (λ b. (made ++ b) ++ joined (drop (i + 1) entries)) is
-    ∙ append_assoc made entry.item.body (joined (drop (i + 1) entries))
-    ∙ ap (λ es. made ++ joined es) (sym front)
+    ap (λ b. (made ++ b) ++ joined_bodies (drop (i + 1) entries)) is
+    ∙ append_assoc made entry.item.body (joined_bodies (drop (i + 1) entries))
+    ∙ ap (λ es. made ++ joined_bodies es) (sym front)
     ∙ so_far
 
-pub joins_all : (made : List Section) (entries : List Entry) (i : ℕ) → length entries ≤ i → made ++ joined (drop i entries) ≡ joined entries → made ≡ joined entries
-joins_all made entries i all so_far = sym (append-nil made) ∙ ap (λ es. made ++ joined es) (sym (drop_all i entries all)) ∙ so_far
+pub joins_all : (made : List Section) (entries : List Entry) (i : ℕ) → length entries ≤ i → made ++ joined_bodies (drop i entries) ≡ joined_bodies entries → made ≡ joined_bodies entries
+joins_all made entries i all so_far = sym (append-nil made) ∙ ap (λ es. made ++ joined_bodies es) (sym (drop_all i entries all)) ∙ so_far

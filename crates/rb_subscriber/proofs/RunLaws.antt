@@ -8,7 +8,7 @@ use Rattle.cs_apply.specs.Single.{single, single_from}
 use Rattle.cs_apply.specs.State as tables
 use Rattle.rb_desk.specs.declared.delivery.Delivery.{Delivery}
 use Rattle.rb_sequence.specs.Entry.{Entry}
-use Rattle.rb_subscriber.specs.Accept.{part, brought, joined, accept, accepted, AppliesSingly}
+use Rattle.rb_subscriber.specs.Accept.{part, brought, joined_bodies, accept, accepted_entries, AppliesSingly}
 use Rattle.rb_subscriber.specs.Endpoint.{Endpoint}
 use Rattle.rb_subscriber.proofs.AcceptLaws.{accepted_steps}
 
@@ -32,29 +32,29 @@ part_stays xs more after n fits =
 -- ---- what was accepted
 
 pub run_goes_on : (old : Endpoint) (sequence : List Entry) (delivery : Delivery) (new : Endpoint) → old.start ≤ old.cursor → accept old sequence delivery ≡ Ok new
-    → accepted sequence new ≡ accepted sequence old ++ brought old sequence delivery
+    → accepted_entries sequence new ≡ accepted_entries sequence old ++ brought old sequence delivery
 run_goes_on old sequence delivery new begun e =
     let a = accepted_steps old sequence delivery new e in
-    ap (accepted sequence) a.kept ∙ parts sequence old.start old.cursor delivery.last begun (omega (arith, a.some))
+    ap (accepted_entries sequence) a.kept ∙ parts sequence old.start old.cursor delivery.last begun (omega (arith, a.some))
 
-pub run_stays : (endpoint : Endpoint) (sequence more : List Entry) → endpoint.start ≤ endpoint.cursor → endpoint.cursor ≤ length sequence → accepted (sequence ++ more) endpoint ≡ accepted sequence endpoint
+pub run_stays : (endpoint : Endpoint) (sequence more : List Entry) → endpoint.start ≤ endpoint.cursor → endpoint.cursor ≤ length sequence → accepted_entries (sequence ++ more) endpoint ≡ accepted_entries sequence endpoint
 run_stays endpoint sequence more begun placed = part_stays sequence more endpoint.start (endpoint.cursor - endpoint.start) (omega (arith, begun, placed))
 
 -- ---- the tables
 
 -- of sections in two parts, as the law of applying says it
-abbrev pub GoesOn : Type 0
-GoesOn = (old : tables.State) (some more : List Section) (new : tables.State) → (single old (some ++ more) ≡ Ok new) ↔ AppliesBoth old some more new
+abbrev pub RunContinues : Type 0
+RunContinues = (old : tables.TableState) (some more : List Section) (new : tables.TableState) → (single old (some ++ more) ≡ Ok new) ↔ AppliesBoth old some more new
 
-nothing_applies : (old : tables.State) → single old [] ≡ Ok old
+nothing_applies : (old : tables.TableState) → single old [] ≡ Ok old
 unfolding single_from
 nothing_applies old = refl
 
-pub singly : GoesOn → (old : tables.State) (entries : List Entry) (new : tables.State) → single old (joined entries) ≡ Ok new → AppliesSingly old entries new
+pub singly : RunContinues → (old : tables.TableState) (entries : List Entry) (new : tables.TableState) → single old (joined_bodies entries) ≡ Ok new → AppliesSingly old entries new
 singly goes old [] new e = cc (sym e ∙ nothing_applies old)
 singly goes old (entry ∷ entries) new e =
-    let both = (goes old entry.item.body (joined entries) new).0 e in
+    let both = (goes old entry.item.body (joined_bodies entries) new).0 e in
     (both.0, both.1, singly goes both.0 entries new both.2)
 
-pub tables_singly : GoesOn → (old : Endpoint) (sequence : List Entry) (delivery : Delivery) (new : Endpoint) → accept old sequence delivery ≡ Ok new → AppliesSingly old.tables (brought old sequence delivery) new.tables
+pub tables_singly : RunContinues → (old : Endpoint) (sequence : List Entry) (delivery : Delivery) (new : Endpoint) → accept old sequence delivery ≡ Ok new → AppliesSingly old.tables (brought old sequence delivery) new.tables
 tables_singly goes old sequence delivery new e = singly goes old.tables (brought old sequence delivery) new.tables (accepted_steps old sequence delivery new e).tables

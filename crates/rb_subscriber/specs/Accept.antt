@@ -10,8 +10,8 @@ use Rattle.cs_apply.specs.Single.{single}
 use Rattle.cs_apply.specs.declared.conflict.Conflict.{Conflict}
 use Rattle.rb_desk.specs.declared.delivery.Delivery.{Delivery}
 use Rattle.rb_sequence.specs.Entry.{Entry}
-use Rattle.rb_subscriber.specs.declared.refusal.Refusal.{Refusal}
-use Rattle.rb_subscriber.specs.declared.refusal.Refusal.TheVariants as refusal
+use Rattle.rb_subscriber.specs.declared.refusal.AcceptRefusal.{AcceptRefusal}
+use Rattle.rb_subscriber.specs.declared.refusal.AcceptRefusal.TheVariants as refusal
 use Rattle.rb_subscriber.specs.declared.refusal.AcceptError.{AcceptError}
 use Rattle.rb_subscriber.specs.declared.refusal.AcceptError.TheVariants.{Refused, Memory}
 use Rattle.rb_subscriber.specs.Endpoint.{Endpoint}
@@ -27,8 +27,8 @@ abbrev pub brought : Endpoint → List Entry → Delivery → List Entry
 brought old sequence delivery = part sequence old.cursor (delivery.last - old.cursor)
 
 -- the sections of all bodies, one entry's behind another's
-abbrev pub joined : List Entry → List Section
-joined entries = flat_map (λ entry. entry.item.body) entries
+abbrev pub joined_bodies : List Entry → List Section
+joined_bodies entries = flat_map (λ entry. entry.item.body) entries
 
 -- the tables admit a body
 abbrev pub IsAdmitted : List Shape → Entry → Type 0
@@ -41,30 +41,30 @@ abbrev pub if_admitted : Option SectionFault → Entry → Option Entry → Opti
 if_admitted None entry later = later
 if_admitted (Some fault) entry later = Some entry
 
-abbrev pub first_outside : List Shape → List Entry → Option Entry
-first_outside schema [] = None
-first_outside schema (entry ∷ entries) = if_admitted (refusal_of schema entry.item.body) entry (first_outside schema entries)
+abbrev pub first_outside_entry : List Shape → List Entry → Option Entry
+first_outside_entry schema [] = None
+first_outside_entry schema (entry ∷ entries) = if_admitted (refusal_of schema entry.item.body) entry (first_outside_entry schema entries)
 
 -- the cursor goes to the delivery's last number, and the tables are the new ones; a conflict is refused
-abbrev pub applied : Endpoint → ℕ → Result tables.State Conflict → Result Endpoint Refusal
+abbrev pub applied : Endpoint → ℕ → Result tables.TableState Conflict → Result Endpoint AcceptRefusal
 applied old last (Ok tables) = Ok (record old { cursor = last; tables = tables })
 applied old last (Err conflict) = Err (refusal.Conflict conflict)
 
-abbrev pub opened : Endpoint → ℕ → List Entry → Option Entry → Result Endpoint Refusal
-opened old last entries None = applied old last (single old.tables (joined entries))
-opened old last entries (Some entry) = Err (refusal.Shape entry.number)
+abbrev pub applied_if_admitted : Endpoint → ℕ → List Entry → Option Entry → Result Endpoint AcceptRefusal
+applied_if_admitted old last entries None = applied old last (single old.tables (joined_bodies entries))
+applied_if_admitted old last entries (Some entry) = Err (refusal.Shape entry.number)
 
 -- Accept: the endpoint behind a delivery, or the first refusal in this order
-unfoldable pub accept : Endpoint → List Entry → Delivery → Result Endpoint Refusal
+unfoldable pub accept : Endpoint → List Entry → Delivery → Result Endpoint AcceptRefusal
 accept old sequence delivery =
     if old.closed then Err refusal.Closed
     else if not (delivery.link == old.link) then Err refusal.StaleLink
     else if nat_le delivery.last old.cursor then Err refusal.Seen
     else if not (delivery.first == suc old.cursor) then Err (refusal.Gap (suc old.cursor))
-    else opened old delivery.last (brought old sequence delivery) (first_outside old.tables.schema (brought old sequence delivery))
+    else applied_if_admitted old delivery.last (brought old sequence delivery) (first_outside_entry old.tables.schema (brought old sequence delivery))
 
 -- Whether the tables are asked: then it is accepted, or a change conflicts.
-abbrev pub AsksTables : Result Endpoint Refusal → Type 0
+abbrev pub AsksTables : Result Endpoint AcceptRefusal → Type 0
 AsksTables (Ok new) = Unit {0}
 AsksTables (Err refusal.Closed) = ⊥
 AsksTables (Err refusal.StaleLink) = ⊥
@@ -75,32 +75,32 @@ AsksTables (Err (refusal.Conflict conflict)) = Unit {0}
 
 -- The answer is that of the definition: the new cursor, or the refusal. Want of memory comes only where the tables are asked.
 -- Both leave the endpoint as it was.
-abbrev pub Answers : Result ℕ AcceptError → Result Endpoint Refusal → Endpoint → Endpoint → Type 0
-Answers (Ok cursor) accepted old new = (accepted ≡ Ok new) × (cursor ≡ new.cursor)
-Answers (Err (Refused why)) accepted old new = (accepted ≡ Err why) × (new ≡ old)
-Answers (Err Memory) accepted old new = AsksTables accepted × (new ≡ old)
+abbrev pub AcceptAnswers : Result ℕ AcceptError → Result Endpoint AcceptRefusal → Endpoint → Endpoint → Type 0
+AcceptAnswers (Ok cursor) accepted old new = (accepted ≡ Ok new) × (cursor ≡ new.cursor)
+AcceptAnswers (Err (Refused why)) accepted old new = (accepted ≡ Err why) × (new ≡ old)
+AcceptAnswers (Err Memory) accepted old new = AsksTables accepted × (new ≡ old)
 
 -- ---- as a step
 
 -- An endpoint accepts a delivery: it isn't closed, the delivery is one of its present link and begins right behind its cursor,
 -- the entries that it brings are all of the endpoint's tables, and their bodies apply without conflict, one behind another.
 -- The cursor goes to the delivery's last number, and nothing but cursor and tables changes.
-pub record Accepts (old : Endpoint) (sequence : List Entry) (delivery : Delivery) (new : Endpoint) : Type 0 where
+pub record AcceptsDelivery (old : Endpoint) (sequence : List Entry) (delivery : Delivery) (new : Endpoint) : Type 0 where
   pub not_closed : old.closed ≡ false
   pub linked : delivery.link ≡ old.link
   pub next : delivery.first ≡ suc old.cursor
   pub some : suc old.cursor ≤ delivery.last
   pub admitted : AllByRecursion (IsAdmitted old.tables.schema) (brought old sequence delivery)
-  pub tables : single old.tables (joined (brought old sequence delivery)) ≡ Ok new.tables
+  pub tables : single old.tables (joined_bodies (brought old sequence delivery)) ≡ Ok new.tables
   pub kept : new ≡ record old { cursor = delivery.last; tables = new.tables }
 
 -- ---- what was accepted
 
 -- the entries that an endpoint has accepted of a sequence: those behind its start, up to its cursor
-abbrev pub accepted : List Entry → Endpoint → List Entry
-accepted sequence endpoint = part sequence endpoint.start (endpoint.cursor - endpoint.start)
+abbrev pub accepted_entries : List Entry → Endpoint → List Entry
+accepted_entries sequence endpoint = part sequence endpoint.start (endpoint.cursor - endpoint.start)
 
 -- bodies applied one changeset after another, as one thread does that gets them singly
-abbrev pub AppliesSingly : tables.State → List Entry → tables.State → Type 0
+abbrev pub AppliesSingly : tables.TableState → List Entry → tables.TableState → Type 0
 AppliesSingly old [] new = new ≡ old
-AppliesSingly old (entry ∷ entries) new = (mid : tables.State) × (single old entry.item.body ≡ Ok mid) × AppliesSingly mid entries new
+AppliesSingly old (entry ∷ entries) new = (mid : tables.TableState) × (single old entry.item.body ≡ Ok mid) × AppliesSingly mid entries new

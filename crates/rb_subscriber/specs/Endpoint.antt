@@ -10,16 +10,16 @@ pub record Endpoint : Type 0 where
   pub cursor : ℕ
   pub link : ℕ
   pub closed : Bool
-  pub tables : tables.State
+  pub tables : tables.TableState
 
 -- one that has accepted nothing
-abbrev pub begun : ℕ → ℕ → tables.State → Endpoint
-begun start link tables = record { start = start; cursor = start; link = link; closed = false; tables = tables }
+abbrev pub new_endpoint : ℕ → ℕ → tables.TableState → Endpoint
+new_endpoint start link tables = record { start = start; cursor = start; link = link; closed = false; tables = tables }
 
 -- an endpoint is stored as its parts
 abbrev pub endpoint_code : Coded Endpoint
 endpoint_code =
-    code_by (ℕ × (ℕ × (ℕ × (Bool × tables.State)))) (coded× coded_ℕ (coded× coded_ℕ (coded× coded_ℕ (coded× coded_bool tables.state_code))))
+    code_by (ℕ × (ℕ × (ℕ × (Bool × tables.TableState)))) (coded× coded_ℕ (coded× coded_ℕ (coded× coded_ℕ (coded× coded_bool tables.state_code))))
     (λ e. (e.start, (e.cursor, (e.link, (e.closed, e.tables)))))
     (λ p. record { start = p.0; cursor = p.1.0; link = p.1.1.0; closed = p.1.1.1.0; tables = p.1.1.1.1 })
     (λ _. refl)

@@ -2,9 +2,9 @@
 
 ghost use Rattle.std.specs.Prelude.{◌≡◌, Ok, OnOk, OnErr, IfOk, IfErr};
 ghost use Rattle.std.specs.Option.{option_copied};
-ghost use Rattle.cs_apply.specs.Errors.{TellsConflict};
+ghost use Rattle.cs_apply.specs.Errors.{ReportsConflict};
 ghost use Rattle.cs_apply.specs.Single.{single};
-ghost use Rattle.rb_subscriber.specs.Accept.{first_outside, joined};
+ghost use Rattle.rb_subscriber.specs.Accept.{first_outside_entry, joined_bodies};
 
 use cs_apply::{ApplyError, Tables};
 use cs_model::{Changeset, CopyIn, Schema, Seq};
@@ -13,7 +13,7 @@ use std::alloc::{AllocError, Global};
 
 /// The first entry whose body has a section of another table than the schema's.
 pub(crate) fn outside<'a>(schema: &Schema, entries: &'a [Entry]) -> Option<&'a Entry>
-    ensures { option_copied result ≡ first_outside schema.now entries.now }
+    ensures { option_copied result ≡ first_outside_entry schema.now entries.now }
 {
     for entry in entries {
         if schema.admits(entry.body()).is_err() {
@@ -25,7 +25,7 @@ pub(crate) fn outside<'a>(schema: &Schema, entries: &'a [Entry]) -> Option<&'a E
 
 // the sections of all bodies in one changeset
 fn join(alloc: Global, entries: &[Entry]) -> Result<Changeset, AllocError>
-    ensures { IfOk result (λ changeset. changeset ≡ joined entries.now) }
+    ensures { IfOk result (λ changeset. changeset ≡ joined_bodies entries.now) }
 {
     let mut changeset = Changeset::from_seq(Seq::from_vec(Vec::new(alloc)));
     for entry in entries {
@@ -36,8 +36,8 @@ fn join(alloc: Global, entries: &[Entry]) -> Result<Changeset, AllocError>
 
 /// Applies the bodies of entries one behind another, as one changeset: all of their changes, or none.
 pub(crate) fn apply(alloc: Global, tables: &mut Tables, entries: &[Entry]) -> Result<(), ApplyError>
-    ensures ok { OnOk result (single tables.old (joined entries.now) ≡ Ok tables.new) }
-    ensures refused { IfErr result (λ e. TellsConflict e (single tables.old (joined entries.now))) }
+    ensures ok { OnOk result (single tables.old (joined_bodies entries.now) ≡ Ok tables.new) }
+    ensures refused { IfErr result (λ e. ReportsConflict e (single tables.old (joined_bodies entries.now))) }
     ensures err { OnErr result (tables.new ≡ tables.old) }
 {
     if let [entry] = entries {

@@ -1,11 +1,11 @@
 //! The endpoint.
 
 ghost use Rattle.std.specs.Prelude.{◌≡◌, ◌≤◌, ◌-◌, true, length};
-ghost use Rattle.rb_subscriber.specs.Accept.{accept, Answers, part};
-ghost use Rattle.rb_subscriber.specs.Endpoint.{begun};
+ghost use Rattle.rb_subscriber.specs.Accept.{accept, AcceptAnswers, part};
+ghost use Rattle.rb_subscriber.specs.Endpoint.{new_endpoint};
 
 use crate::apply::{apply, outside};
-use crate::refusal::{AcceptError, Refusal};
+use crate::refusal::{AcceptError, AcceptRefusal};
 use cs_apply::{ApplyError, Tables};
 use rb_desk::Delivery;
 use rb_sequence::Entry;
@@ -38,7 +38,7 @@ impl Model for Endpoint {
 impl Endpoint {
     /// An endpoint that begins behind the number `start`, under this link and with these tables, and has accepted nothing.
     pub fn new(start: u64, link: u64, tables: Tables) -> Endpoint
-        ensures { result ≡ begun start link tables }
+        ensures { result ≡ new_endpoint start link tables }
     {
         Endpoint {
             start,
@@ -62,32 +62,32 @@ impl Endpoint {
         delivery: &Delivery,
     ) -> Result<u64, AcceptError>
         requires { delivery.now.last ≤ length sequence.now }
-        ensures { Answers result (accept self.old sequence.now delivery.now) self.old self.new }
+        ensures { AcceptAnswers result (accept self.old sequence.now delivery.now) self.old self.new }
     {
         if self.closed {
-            return Err(AcceptError::Refused(Refusal::Closed));
+            return Err(AcceptRefusal::Closed.into());
         }
         if delivery.link() != self.link {
-            return Err(AcceptError::Refused(Refusal::StaleLink));
+            return Err(AcceptRefusal::StaleLink.into());
         }
         let last = delivery.last();
         if last <= self.cursor {
-            return Err(AcceptError::Refused(Refusal::Seen));
+            return Err(AcceptRefusal::Seen.into());
         }
         // the cursor is below `last`
         let expected = self.cursor + 1;
         if delivery.first() != expected {
-            return Err(AcceptError::Refused(Refusal::Gap { expected }));
+            return Err(AcceptRefusal::Gap { expected }.into());
         }
         let entries = between(sequence, self.cursor, last);
         if let Some(entry) = outside(self.tables.schema(), entries) {
             let number = entry.number();
-            return Err(AcceptError::Refused(Refusal::Shape { number }));
+            return Err(AcceptRefusal::Shape { number }.into());
         }
         match apply(alloc, &mut self.tables, entries) {
             Ok(()) => {}
             Err(ApplyError::Conflict(conflict)) => {
-                return Err(AcceptError::Refused(Refusal::Conflict(conflict)));
+                return Err(AcceptRefusal::Conflict(conflict).into());
             }
             Err(ApplyError::Memory) => return Err(AcceptError::Memory),
         }

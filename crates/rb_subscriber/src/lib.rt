@@ -9,4 +9,4 @@ pub mod laws;
 mod refusal;
 
 pub use endpoint::Endpoint;
-pub use refusal::{AcceptError, Refusal};
+pub use refusal::{AcceptError, AcceptRefusal};

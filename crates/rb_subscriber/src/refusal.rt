@@ -9,7 +9,7 @@ use thiserror::Error;
 /// Why `Endpoint::accept` refuses a delivery. The endpoint is as it was before the call. Where several hold, the call answers the
 /// first one in this order.
 #[derive(Clone, Copy, Debug, PartialEq, Eq, Error)]
-pub enum Refusal {
+pub enum AcceptRefusal {
     /// The endpoint is closed.
     #[error("the subscription is closed")]
     Closed,
@@ -35,19 +35,19 @@ pub enum Refusal {
 pub enum AcceptError {
     /// The delivery is refused.
     #[error("{0}")]
-    Refused(Refusal),
+    Refused(AcceptRefusal),
     /// There was no memory. It may come in place of a conflict, and of no other refusal.
     #[error("out of memory")]
     Memory,
 }
 
-impl From<Refusal> for AcceptError {
+impl From<AcceptRefusal> for AcceptError {
     ghost use Rattle.std.specs.Prelude.{◌≡◌};
     ghost use Rattle.rb_subscriber.specs.declared.refusal.AcceptError.TheVariants.{Refused};
 
     ghost from_gives = { λ why e. e ≡ Refused why };
 
-    fn from(why: Refusal) -> AcceptError {
+    fn from(why: AcceptRefusal) -> AcceptError {
         AcceptError::Refused(why)
     }
 }

@@ -1,7 +1,7 @@
 //! Calls of a desk with operands that a broker never gives it: subscriptions, links, deliveries
 //! and cursors that aren't there.
 
-use rb_desk::{Config, Delivery, Desk, DeskError, Refusal, Step};
+use rb_desk::{Config, Delivery, Desk, DeskError, DeskRefusal, Step};
 use std::alloc::Global;
 use std::process::Abort;
 use std::test::Fail;
@@ -18,7 +18,7 @@ enum Said {
     /// Nothing.
     Done,
     /// Why the call was refused.
-    No(Refusal),
+    No(DeskRefusal),
 }
 
 fn delivered(delivery: &Delivery) -> Said {
@@ -38,14 +38,14 @@ fn place(desk: &mut Desk) -> Said {
     }
 }
 
-fn settled(floor: Result<u64, Refusal>) -> Said {
+fn settled(floor: Result<u64, DeskRefusal>) -> Said {
     match floor {
         Ok(floor) => Said::Number(floor),
         Err(why) => Said::No(why),
     }
 }
 
-fn closed(done: Result<(), Refusal>) -> Said {
+fn closed(done: Result<(), DeskRefusal>) -> Said {
     match done {
         Ok(()) => Said::Done,
         Err(why) => Said::No(why),
@@ -130,27 +130,27 @@ fn calls_of_no_subscription_and_of_a_foreign_link(rt: HostRuntime) -> Result<(),
         cursor: 1,
     };
     let calls = [
-        (take(0, 1), Said::No(Refusal::NoSuch)),
+        (take(0, 1), Said::No(DeskRefusal::NoSuch)),
         (Step::Subscribe { start: 0 }, Said::Subscriber(0, 1)),
         (Step::Subscribe { start: 0 }, Said::Subscriber(1, 2)),
         (Step::Place, Said::Number(1)),
-        (take(0, 2), Said::No(Refusal::StaleLink)),
-        (take(2, 1), Said::No(Refusal::NoSuch)),
+        (take(0, 2), Said::No(DeskRefusal::StaleLink)),
+        (take(2, 1), Said::No(DeskRefusal::NoSuch)),
         (take(0, 1), Said::Delivery(1, 0, 1, 1, 1)),
-        (ack(1, 1), Said::No(Refusal::StaleLink)),
-        (ack(1, 2), Said::No(Refusal::NotInFlight)),
-        (ack(u64::MAX, 2), Said::No(Refusal::NoSuch)),
+        (ack(1, 1), Said::No(DeskRefusal::StaleLink)),
+        (ack(1, 2), Said::No(DeskRefusal::NotInFlight)),
+        (ack(u64::MAX, 2), Said::No(DeskRefusal::NoSuch)),
         (
             Step::Unsubscribe { sub: 1, link: 1 },
-            Said::No(Refusal::StaleLink),
+            Said::No(DeskRefusal::StaleLink),
         ),
         (
             Step::Unsubscribe { sub: 2, link: 1 },
-            Said::No(Refusal::NoSuch),
+            Said::No(DeskRefusal::NoSuch),
         ),
         (
             Step::Reconnect { sub: 2, cursor: 0 },
-            Said::No(Refusal::NoSuch),
+            Said::No(DeskRefusal::NoSuch),
         ),
         (ack(0, 1), Said::Number(1)),
     ];

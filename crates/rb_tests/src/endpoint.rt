@@ -5,7 +5,7 @@ use cs_model::{Octets, Origin, Schema, Seq, Shape};
 use cs_parse::parse;
 use rb_desk::{Config, Delivery, Desk};
 use rb_sequence::{Entry, Item};
-use rb_subscriber::{AcceptError, Endpoint, Refusal};
+use rb_subscriber::{AcceptError, Endpoint, AcceptRefusal};
 use std::alloc::{AllocError, Global};
 use std::sync::Arc;
 use std::test::Fail;
@@ -84,7 +84,7 @@ fn refusal(
     endpoint: &mut Endpoint,
     sequence: &[Entry],
     delivery: &Delivery,
-) -> Result<Option<Refusal>, Fail> {
+) -> Result<Option<AcceptRefusal>, Fail> {
     if delivery.last() > sequence.len() as u64 {
         return Err("the delivery is longer than the sequence")?;
     }
@@ -103,7 +103,7 @@ fn tables_of_its_own_alone(rt: HostRuntime) -> Result<(), Fail> {
     let delivery = delivery(alloc)?;
     let mut end = endpoint(alloc)?;
     let why = refusal(alloc, &mut end, &sequence, &delivery)?;
-    assert_eq!(rt; why, Some(Refusal::Shape { number: 3 }));
+    assert_eq!(rt; why, Some(AcceptRefusal::Shape { number: 3 }));
     assert_eq!(rt; end.cursor(), 0);
     assert_eq!(rt; end.tables().rows_in_order(alloc)?.len(), 0);
     Ok(())

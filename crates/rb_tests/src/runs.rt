@@ -3,9 +3,9 @@
 ghost use Rattle.std.specs.Prelude.{◌<◌};
 
 use cs_model::{Octets, Schema, Seq, Shape};
-use rb_core::{Config, Event, Refusal, Reply, World, run};
+use rb_core::{Config, Event, BrokerRefusal, Reply, World, run};
 use rb_script::run_script;
-use rb_subscriber::Refusal as AcceptRefusal;
+use rb_subscriber::AcceptRefusal;
 use std::alloc::{AllocError, Global};
 use std::process::Abort;
 use std::test::Fail;
@@ -65,7 +65,7 @@ fn some_events(alloc: Global) -> Result<Vec<Event>, AllocError> {
 fn is_done(rt: &impl Abort, alloc: Global, world: &World, last: Reply) -> Result<(), Fail> {
     let rows = world.rows(alloc, 0)?;
     assert_eq!(rt; rows.map(|rows| rows.len()), Some(1));
-    assert_eq!(rt; last, Reply::Refused(Refusal::Accept(AcceptRefusal::Seen)));
+    assert_eq!(rt; last, Reply::Refused(BrokerRefusal::Accept(AcceptRefusal::Seen)));
     Ok(())
 }
 

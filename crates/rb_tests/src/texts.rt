@@ -1,10 +1,10 @@
 //! What a user reads of limits, refusals and faults.
 
 use cs_apply::{Conflict, ConflictKind};
-use rb_core::Refusal;
-use rb_desk::{ConfigFault, DeskError, Refusal as DeskRefusal};
+use rb_core::BrokerRefusal;
+use rb_desk::{ConfigFault, DeskError, DeskRefusal};
 use rb_script::ScriptFault;
-use rb_subscriber::{AcceptError, Refusal as AcceptRefusal};
+use rb_subscriber::{AcceptError, AcceptRefusal};
 use std::alloc::Global;
 use std::fmt::Display;
 use std::process::Abort;
@@ -119,24 +119,24 @@ fn endpoints_say_why(rt: HostRuntime) -> Result<(), Fail> {
 #[test]
 fn brokers_say_why(rt: HostRuntime) -> Result<(), Fail> {
     let table = [
-        (Refusal::NoPublisher, "there is no such publisher"),
-        (Refusal::NoDelivery, "there is no such delivery"),
-        (Refusal::TooMany, "there are 64 publishers"),
-        (Refusal::Holding, "a changeset is staged already"),
-        (Refusal::NothingStaged, "nothing is staged"),
-        (Refusal::Closed, "the sequence is closed"),
-        (Refusal::Full, "as many changesets wait as may"),
-        (Refusal::UnknownTable(7), "section 7 is of an unknown table"),
+        (BrokerRefusal::NoPublisher, "there is no such publisher"),
+        (BrokerRefusal::NoDelivery, "there is no such delivery"),
+        (BrokerRefusal::TooMany, "there are 64 publishers"),
+        (BrokerRefusal::Holding, "a changeset is staged already"),
+        (BrokerRefusal::NothingStaged, "nothing is staged"),
+        (BrokerRefusal::Closed, "the sequence is closed"),
+        (BrokerRefusal::Full, "as many changesets wait as may"),
+        (BrokerRefusal::UnknownTable(7), "section 7 is of an unknown table"),
         (
-            Refusal::ShapeDiffers(8),
+            BrokerRefusal::ShapeDiffers(8),
             "section 8 has another shape than its table",
         ),
         (
-            Refusal::Desk(DeskRefusal::NoSuch),
+            BrokerRefusal::Desk(DeskRefusal::NoSuch),
             "there is no such subscription",
         ),
         (
-            Refusal::Accept(AcceptRefusal::Seen),
+            BrokerRefusal::Accept(AcceptRefusal::Seen),
             "the delivery is accepted already",
         ),
     ];

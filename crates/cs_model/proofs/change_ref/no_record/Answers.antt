@@ -1,9 +1,9 @@
 use Rattle.std.proofs.Common.{[], refl}
-use Rattle.cs_model.proofs.PackedLaws.{empty}
+use Rattle.cs_model.proofs.PackedLaws.{packed_empty}
 use Rattle.cs_model.proofs.change_ref.no_record.Goals as goal
 
 pub invariant_of-result : goal.invariant_of-result
-invariant_of-result c = (empty [] refl).1
+invariant_of-result c = (packed_empty [] refl).1
 
 pub returns : goal.returns
-returns c = (empty [] refl).0
+returns c = (packed_empty [] refl).0

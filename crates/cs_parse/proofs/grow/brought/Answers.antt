@@ -1,7 +1,7 @@
 use Rattle.std.proofs.Common.{◌-◌, length, take, refl, sym, subst, ◌∙◌, arith}
 use Rattle.cs_model.specs.Bytes.{AreBytes}
 use Rattle.cs_parse.specs.Front.{Heads}
-use Rattle.cs_parse.proofs.Batches.{heads_shorter, batch, batch_bad, brings}
+use Rattle.cs_parse.proofs.Batches.{heads_shorter, batch, batch_bad, batches_brings}
 use Rattle.cs_parse.proofs.grow.brought.Goals as goal
 
 pub overflow_sub-len : goal.overflow_sub-len
@@ -24,4 +24,4 @@ returns-clause-ok c = λ others same.
     let w = c.head_of-count in
     let bytes = c.args.bytes.now in
     let heads = subst (λ o. Heads o bytes w.result.0 w.result.1.now w.result.2 w.result.3) (sym same) w.ensures in
-    brings c.changes_fit.ensures c.spelled_is_said.ensures others bytes w.result.0 w.result.1.now w.result.2 w.result.3 c.in_ok-more.more.items c.in_ok-more.rest.now c.in_ok-more.why c.args.taken (length bytes - length w.result.1.now) (λ i. omega (arith, c.type_inv.bytes i)) refl heads c.in_ok-more.ensures (sym c.wrong_in.ensures ∙ c.in_default.is)
+    batches_brings c.changes_fit.ensures c.spelled_is_said.ensures others bytes w.result.0 w.result.1.now w.result.2 w.result.3 c.in_ok-more.more.items c.in_ok-more.rest.now c.in_ok-more.why c.args.taken (length bytes - length w.result.1.now) (λ i. omega (arith, c.type_inv.bytes i)) refl heads c.in_ok-more.ensures (sym c.wrong_in.ensures ∙ c.in_default.is)

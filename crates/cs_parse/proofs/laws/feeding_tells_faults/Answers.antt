@@ -1,5 +1,5 @@
-use Rattle.cs_parse.proofs.PieceLaws.{lasting_is, is_lasting}
+use Rattle.cs_parse.proofs.PieceLaws.{lasting_is, piece_is_lasting}
 use Rattle.cs_parse.proofs.laws.feeding_tells_faults.Goals as goal
 
 pub returns : goal.returns
-returns c = λ text fault fits. (lasting_is text fault fits, is_lasting text fault fits)
+returns c = λ text fault fits. (lasting_is text fault fits, piece_is_lasting text fault fits)

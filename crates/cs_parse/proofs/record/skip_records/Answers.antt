@@ -2,7 +2,7 @@ use Rattle.std.proofs.Common.{ap, ◌∙◌, map}
 use Rattle.std.proofs.lemmas.Result.{err_from_is_err_and}
 use Rattle.cs_model.specs.Rule.{old_rule}
 use Rattle.cs_parse.specs.Reading.{record_at, records_at}
-use Rattle.cs_parse.specs.Count.{behind}
+use Rattle.cs_parse.specs.Count.{bytes_after}
 use Rattle.cs_parse.proofs.Skims.{behind_value, update_behind}
 use Rattle.cs_parse.proofs.record.skip_records.Goals as goal
 
@@ -12,7 +12,7 @@ returns-in_err-rest-in-Update-2-clause-read c =
     let bytes = c.args.bytes.now in
     let rest = c.in_ok-rest-in-Update.rest.now in
     let old = behind_value (record_at (map old_rule flags) bytes) rest c.in_ok-rest-in-Update.ensures.read in
-    let whole = ap (λ op. behind (records_at flags op bytes)) c.in-Update.is ∙ update_behind flags bytes old.0 rest old.1 in
+    let whole = ap (λ op. bytes_after (records_at flags op bytes)) c.in-Update.is ∙ update_behind flags bytes old.0 rest old.1 in
     let p = err_from_is_err_and c.from_residual-in_err-rest-in-Update-2.result c.from_residual-in_err-rest-in-Update-2.ensures.1 in
     rw (p.1, p.2) (whole ∙ c.in_err-rest-in-Update-2.ensures.read old.0 rest old.1)
 
@@ -22,5 +22,5 @@ returns-in_ok-rest-in-Update-2-clause-read c =
     let bytes = c.args.bytes.now in
     let rest = c.in_ok-rest-in-Update.rest.now in
     let old = behind_value (record_at (map old_rule flags) bytes) rest c.in_ok-rest-in-Update.ensures.read in
-    let whole = ap (λ op. behind (records_at flags op bytes)) c.in-Update.is ∙ update_behind flags bytes old.0 rest old.1 in
+    let whole = ap (λ op. bytes_after (records_at flags op bytes)) c.in-Update.is ∙ update_behind flags bytes old.0 rest old.1 in
     whole ∙ c.in_ok-rest-in-Update-2.ensures.read old.0 rest old.1

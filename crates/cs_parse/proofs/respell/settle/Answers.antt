@@ -1,7 +1,7 @@
 use Rattle.std.proofs.Common.{length, take, drop, refl, sym, ap, subst, ◌∙◌}
 use Rattle.std.specs.List.{AllByRecursion}
 use Rattle.cs_model.specs.PackedChanges.{Fit, unpacked_changes}
-use Rattle.cs_parse.specs.Front.{Joins}
+use Rattle.cs_parse.specs.Front.{JoinsSection}
 use Rattle.cs_parse.specs.Progress.{last_flags}
 use Rattle.cs_parse.proofs.GrowLaws.{last_found}
 use Rattle.cs_parse.proofs.GrowingLaws.{settled_as, respelled}
@@ -15,7 +15,7 @@ respell-requires-clause-fit c =
     let section = c.in-Some.section.now in
     let text = take c.args.len (drop c.args.kept c.args.bytes.now.items) in
     let last = last_found c.args.sections.now section section.shape.flags (sym c.in-Some.ensures.value) refl in
-    let joins = subst (λ o. Joins o text c.args.count c.args.canonical) last c.requires.joins in
+    let joins = subst (λ o. JoinsSection o text c.args.count c.args.canonical) last c.requires.joins in
     let columns = c.len.ensures ∙ ap (λ s. length s.flags) c.shape.ensures in
     subst (λ n. AllByRecursion (Fit n) (unpacked_changes n text)) (sym columns) joins.fit
 

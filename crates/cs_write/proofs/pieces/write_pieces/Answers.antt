@@ -2,7 +2,7 @@ use Rattle.std.proofs.Common.{◌∙◌, ap, rules}
 use Rattle.std.proofs.lemmas.List.{nil_from_length}
 use Rattle.std.proofs.lemmas.Result.{err_from_is_err_and}
 use Rattle.std.specs.Slice.Iter.{chunks_rest, chunks_size}
-use Rattle.cs_write.proofs.Cutting.{begins, cut_off, ends, goes_on, stops}
+use Rattle.cs_write.proofs.Cutting.{begins, cut_off, ends, cutting_goes_on, stops}
 use Rattle.cs_write.proofs.pieces.write_pieces.Goals as goal
 
 pub loop-piece-init : goal.loop-piece-init
@@ -20,7 +20,7 @@ loop-piece-preserved g c =
     let steps = c.in-Some.ensures.steps in
     record {
       size = steps.0 ∙ was.size;
-      so_far = goes_on c.requires was.so_far (cut_off was.size steps) (search rules) (search rules);
+      so_far = cutting_goes_on c.requires was.so_far (cut_off was.size steps) (search rules) (search rules);
     }
 
 pub returns : goal.returns

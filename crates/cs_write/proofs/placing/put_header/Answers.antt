@@ -2,7 +2,7 @@ use Rattle.std.proofs.Common.{◌∷◌, ◌++◌, [], length, refl, arith}
 use Rattle.std.proofs.lemmas.Grind.{common_steps}
 use Rattle.cs_model.specs.Varint.{varint}
 use Rattle.cs_write.specs.Text.{header_text}
-use Rattle.cs_write.proofs.Laying.{Laid, goes_on, ends}
+use Rattle.cs_write.proofs.Laying.{LayingLaid, laying_goes_on, laying_ends}
 use Rattle.cs_write.proofs.placing.put_header.Goals as goal
 
 pub returns-clause-bytes : goal.returns-clause-bytes
@@ -12,10 +12,10 @@ returns-clause-bytes c =
     let shape = c.args.shape.now in
     let whole = header_text shape in
     -- after each part, what is left of the header
-    let begun : Laid at whole out at whole out = record { end = refl; size = refl; same = refl } in
-    let letter : Laid c.put-end.result (varint (length shape.flags) ++ (shape.flags ++ (shape.name ++ 0 ∷ []))) c.put-end.new.out at whole out = goes_on _ _ _ _ _ _ _ _ _ _ c.requires c.put-end.ensures.end c.put-end.ensures.bytes begun (grind (arith, common_steps)) in
-    let count : Laid c.put-end-2.result (shape.flags ++ (shape.name ++ 0 ∷ [])) c.put-end-2.new.out at whole out = goes_on _ _ _ _ _ _ _ _ _ _ c.requires c.put-end-2.ensures.end c.put-end-2.ensures.bytes letter (grind (arith, common_steps)) in
-    let flags : Laid c.put-end-3.result (shape.name ++ 0 ∷ []) c.put-end-3.new.out at whole out = goes_on _ _ _ _ _ _ _ _ _ _ c.requires c.put-end-3.ensures.end c.put-end-3.ensures.bytes count (grind (arith, common_steps)) in
-    let name : Laid c.put-end-4.result (0 ∷ []) c.put-end-4.new.out at whole out = goes_on _ _ _ _ _ _ _ _ _ _ c.requires c.put-end-4.ensures.end c.put-end-4.ensures.bytes flags (grind (arith, common_steps)) in
-    let last : Laid c.put.result [] c.put.new.out at whole out = goes_on _ _ _ _ _ _ _ _ _ _ c.requires c.put.ensures.end c.put.ensures.bytes name (grind (arith, common_steps)) in
-    ends _ _ _ _ _ _ refl last
+    let begun : LayingLaid at whole out at whole out = record { end = refl; size = refl; same = refl } in
+    let letter : LayingLaid c.put-end.result (varint (length shape.flags) ++ (shape.flags ++ (shape.name ++ 0 ∷ []))) c.put-end.new.out at whole out = laying_goes_on _ _ _ _ _ _ _ _ _ _ c.requires c.put-end.ensures.end c.put-end.ensures.bytes begun (grind (arith, common_steps)) in
+    let count : LayingLaid c.put-end-2.result (shape.flags ++ (shape.name ++ 0 ∷ [])) c.put-end-2.new.out at whole out = laying_goes_on _ _ _ _ _ _ _ _ _ _ c.requires c.put-end-2.ensures.end c.put-end-2.ensures.bytes letter (grind (arith, common_steps)) in
+    let flags : LayingLaid c.put-end-3.result (shape.name ++ 0 ∷ []) c.put-end-3.new.out at whole out = laying_goes_on _ _ _ _ _ _ _ _ _ _ c.requires c.put-end-3.ensures.end c.put-end-3.ensures.bytes count (grind (arith, common_steps)) in
+    let name : LayingLaid c.put-end-4.result (0 ∷ []) c.put-end-4.new.out at whole out = laying_goes_on _ _ _ _ _ _ _ _ _ _ c.requires c.put-end-4.ensures.end c.put-end-4.ensures.bytes flags (grind (arith, common_steps)) in
+    let last : LayingLaid c.put.result [] c.put.new.out at whole out = laying_goes_on _ _ _ _ _ _ _ _ _ _ c.requires c.put.ensures.end c.put.ensures.bytes name (grind (arith, common_steps)) in
+    laying_ends _ _ _ _ _ _ refl last

@@ -1,13 +1,13 @@
 use Rattle.std.proofs.Common.{subst}
 use Rattle.rb_core.specs.declared.reply.Reply.{Reply}
 use Rattle.rb_core.specs.State.{State, IsWorld}
-use Rattle.rb_core.proofs.DeskLaws.{Shows}
+use Rattle.rb_core.proofs.DeskLaws.{DeskShows}
 use Rattle.rb_core.proofs.WorldEvents.{event_keeps}
 use Rattle.rb_core.proofs.laws.events_keep_worlds.Goals as goal
 
 pub returns : goal.returns
 returns c = λ old event given new good is.
-    let shows : Shows = record {
+    let shows : DeskShows = record {
       subscribes = c.calls_show_in_outline.ensures.subscribe;
       takes = c.calls_show_in_outline.ensures.take;
       takes_any = c.calls_show_in_outline.ensures.take_any;

@@ -1,9 +1,9 @@
 use Rattle.std.specs.Prelude.{[]}
-use Rattle.rb_core.proofs.TellRuns.{Laws, are_told, go_on}
+use Rattle.rb_core.proofs.TellRuns.{TellRunsLaws, tell_runs_are_told, tell_runs_go_on}
 use Rattle.rb_core.proofs.laws.runs_are_told.Goals as goal
 
 -- all laws that are called
-laws_of : goal.After-progress_tells → Laws
+laws_of : goal.After-progress_tells → TellRunsLaws
 laws_of c = record {
   keeps = c.events_keep_worlds.ensures;
   begins = c.progress_goes_on.ensures.begins;
@@ -23,8 +23,8 @@ laws_of c = record {
 }
 
 pub returns-clause-told : goal.returns-clause-told
-returns-clause-told c = λ limits schema events answers new ranges feeds run. are_told (laws_of c) limits schema events answers new (c.replays_are_pictures.ensures limits [] ranges) feeds run
+returns-clause-told c = λ limits schema events answers new ranges feeds run. tell_runs_are_told (laws_of c) limits schema events answers new (c.replays_are_pictures.ensures limits [] ranges) feeds run
 
 pub returns-clause-goes_on : goal.returns-clause-goes_on
 returns-clause-goes_on c = λ limits schema events more answers later mid new ranges feeds others run on.
-    go_on (laws_of c) limits schema events more answers later mid new (c.replays_are_pictures.ensures limits [] ranges) feeds others run on
+    tell_runs_go_on (laws_of c) limits schema events more answers later mid new (c.replays_are_pictures.ensures limits [] ranges) feeds others run on

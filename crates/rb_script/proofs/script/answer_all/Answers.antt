@@ -1,7 +1,7 @@
 use Rattle.std.proofs.Common.{◌-◌, take, arith, ◌∙◌}
 use Rattle.std.proofs.lemmas.Result.{err_from_is_err_and}
 use Rattle.rb_script.specs.Output.{place_at}
-use Rattle.rb_script.proofs.EndLaws.{begins, goes_on_by, goes_on_handed, ends_by_reader, ends_by_answers, cut_between, cut_within, cut_at_limit, cut_at_end, read_in_part, answered, overruns, cut_piece, length-front, length-back}
+use Rattle.rb_script.proofs.EndLaws.{end_begins, goes_on_by, goes_on_handed, ends_by_reader, ends_by_answers, cut_between, cut_within, cut_at_limit, cut_at_end, read_in_part, answered, overruns, cut_piece, length-front, length-back}
 use Rattle.rb_script.proofs.script.answer_all.Goals as goal
 
 pub loop-init : goal.loop-init
@@ -9,7 +9,7 @@ loop-init g c = record {
   as_far = omega arith;
   within = omega arith;
   room = c.as_mut_slice-piece.ensures.len ∙ c.in_ok-buffer.ensures;
-  so_far = rw (c.empty.ensures, c.new-line.ensures.items) (begins c.args.config _ _);
+  so_far = rw (c.empty.ensures, c.new-line.ensures.items) (end_begins c.args.config _ _);
 }
 
 pub returns-in_err-hand_on : goal.returns-in_err-hand_on

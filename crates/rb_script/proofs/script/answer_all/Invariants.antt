@@ -1,6 +1,6 @@
 use Rattle.std.proofs.Common.{◌≡◌, ◌≤◌, length}
 use Rattle.rb_script.specs.Output.{place_at}
-use Rattle.rb_script.proofs.EndLaws.{Progress}
+use Rattle.rb_script.proofs.EndLaws.{EndProgress}
 use Rattle.rb_script.proofs.script.answer_all.Given as goal
 
 -- each turn has read a byte at least, and no more than the limit
@@ -9,5 +9,5 @@ invariant-loop g l = record {
   as_far : l.counter ≤ l.count;
   within : l.count ≤ 16777216;
   room : length l.piece ≡ 65536;
-  so_far : Progress l.config (g.R.Read.remaining l.fn.reader) (g.R.Read.remaining l.reader) (g.W.Write.contents l.fn.writer) (g.W.Write.contents l.writer) (place_at l.stage l.line.items) l.count;
+  so_far : EndProgress l.config (g.R.Read.remaining l.fn.reader) (g.R.Read.remaining l.reader) (g.W.Write.contents l.fn.writer) (g.W.Write.contents l.writer) (place_at l.stage l.line.items) l.count;
 }

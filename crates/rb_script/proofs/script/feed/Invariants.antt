@@ -1,8 +1,8 @@
 use Rattle.std.proofs.Common.{take}
 use Rattle.rb_script.specs.Output.{place_at}
-use Rattle.rb_script.proofs.ScriptLaws.{Fed}
+use Rattle.rb_script.proofs.ScriptLaws.{ScriptFed}
 use Rattle.rb_script.proofs.script.feed.Given as goal
 
 abbrev pub invariant-loop-byte : goal.invariant-loop-byte
 invariant-loop-byte g l =
-    Fed l.config (place_at l.fn.stage l.fn.line.items) (take l.byte-index l.bytes) (g.W.Write.contents l.fn.writer) (g.W.Write.contents l.writer) (place_at l.stage l.line.items)
+    ScriptFed l.config (place_at l.fn.stage l.fn.line.items) (take l.byte-index l.bytes) (g.W.Write.contents l.fn.writer) (g.W.Write.contents l.writer) (place_at l.stage l.line.items)

@@ -1,5 +1,5 @@
 use Rattle.std.proofs.Common.{arith, sym, ◌∙◌}
-use Rattle.rb_script.proofs.Numbers.{too_large, fits}
+use Rattle.rb_script.proofs.Numbers.{too_large, numbers_fits}
 use Rattle.rb_script.proofs.words.value_of.Goals as goal
 
 pub returns-in_err-checked_mul : goal.returns-in_err-checked_mul
@@ -13,4 +13,4 @@ returns-in_err-value c =
     c.from_residual-in_err-value.ensures ∙ sym (too_large c.loop-digit.value c.loop-digit.digit-index c.args.digits.now c.loop-digit-test.true c.loop-digit.invariant.0 (omega (arith, c.in_err-value.ensures, digit, mul)))
 
 pub returns : goal.returns
-returns c = fits c.loop-digit.value c.loop-digit.digit-index c.args.digits.now c.loop-digit-test.false c.loop-digit.invariant.0 c.loop-digit.invariant.1
+returns c = numbers_fits c.loop-digit.value c.loop-digit.digit-index c.args.digits.now c.loop-digit-test.false c.loop-digit.invariant.0 c.loop-digit.invariant.1

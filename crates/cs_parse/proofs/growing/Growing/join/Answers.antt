@@ -1,8 +1,8 @@
 use Rattle.std.proofs.Common.{◌≡◌, ◌+◌, ◌++◌, length, take, drop, sym, ap, subst, ◌∙◌, arith}
-use Rattle.cs_parse.specs.Front.{Joins}
-use Rattle.cs_parse.specs.Growing.{with_text, Keeps, IsGrowing, Settled}
+use Rattle.cs_parse.specs.Front.{JoinsSection}
+use Rattle.cs_parse.specs.Growing.{with_text, Keeps, IsGrowing, SettledBytes}
 use Rattle.cs_parse.specs.Progress.{last_flags}
-use Rattle.cs_parse.proofs.GrowingLaws.{seen, pair, joins_seen, kept_more, front_of, put_as, put_valid, some_more, behind_growing, behind_seen}
+use Rattle.cs_parse.proofs.GrowingLaws.{growing_seen, pair, joins_seen, kept_more, front_of, put_as, put_valid, some_more, behind_growing, behind_seen}
 use Rattle.cs_parse.proofs.growing.Growing.join.Goals as goal
 
 pub settle-settled-requires-clause-joins : goal.settle-settled-requires-clause-joins
@@ -13,7 +13,7 @@ settle-settled-requires-clause-joins c =
     let is = c.in_ok-append.ensures.ok in
     let found = c.sections-front.ensures.same in
     let first = c.split_at.ensures.front ∙ ap (take (length c.sections-front.result.now)) c.sections.ensures.same ∙ (front_of s.changeset more c.append.new.changeset c.sections-front.result.now is found).0 in
-    subst (λ t. Joins (last_flags t) (take c.args.len (drop s.kept s.bytes.items)) c.args.count c.args.canonical) (sym first) (joins_seen s.changeset s.bytes.items s.kept c.args.len c.args.count c.args.canonical v c.self.view_is c.requires.joins)
+    subst (λ t. JoinsSection (last_flags t) (take c.args.len (drop s.kept s.bytes.items)) c.args.count c.args.canonical) (sym first) (joins_seen s.changeset s.bytes.items s.kept c.args.len c.args.count c.args.canonical v c.self.view_is c.requires.joins)
 
 pub overflow_add-self-inside-2 : goal.overflow_add-self-inside-2
 overflow_add-self-inside-2 c =
@@ -26,7 +26,7 @@ overflow_add-self-inside-2 c =
     let new = c.settle-settled.new.bytes.items in
     let own = c.in-Ok.own in
     let many = s.count + c.args.count in
-    let settled = subst (λ o. Settled o s.kept c.args.len own s.bytes.items new) (ap last_flags first) c.in-Ok.ensures.ok in
+    let settled = subst (λ o. SettledBytes o s.kept c.args.len own s.bytes.items new) (ap last_flags first) c.in-Ok.ensures.ok in
     let k = kept_more s.changeset s.bytes.items new s.kept c.args.len own s.count c.args.count c.args.canonical v c.self.invariant c.self.view_is c.requires.inside c.requires.joins settled in
     let cut = c.truncate.ensures.items ∙ ap (λ b. take (s.kept + own) b.items) c.replace-bytes.ensures.value in
     omega (arith, k.few)
@@ -42,7 +42,7 @@ put_at-requires-clause-keeps c =
     let new = c.settle-settled.new.bytes.items in
     let own = c.in-Ok.own in
     let many = s.count + c.args.count in
-    let settled = subst (λ o. Settled o s.kept c.args.len own s.bytes.items new) (ap last_flags first) c.in-Ok.ensures.ok in
+    let settled = subst (λ o. SettledBytes o s.kept c.args.len own s.bytes.items new) (ap last_flags first) c.in-Ok.ensures.ok in
     let k = kept_more s.changeset s.bytes.items new s.kept c.args.len own s.count c.args.count c.args.canonical v c.self.invariant c.self.view_is c.requires.inside c.requires.joins settled in
     let cut = c.truncate.ensures.items ∙ ap (λ b. take (s.kept + own) b.items) c.replace-bytes.ensures.value in
     subst (λ t. Keeps (last_flags t) c.truncate.new.self.items many) (sym (front_of s.changeset more c.append.new.changeset c.sections-front.result.now is found).0) (subst (λ w. Keeps (last_flags s.changeset) w many) (sym cut) k.keeps)
@@ -58,7 +58,7 @@ put_at-requires-clause-valid c =
     let new = c.settle-settled.new.bytes.items in
     let own = c.in-Ok.own in
     let many = s.count + c.args.count in
-    let settled = subst (λ o. Settled o s.kept c.args.len own s.bytes.items new) (ap last_flags first) c.in-Ok.ensures.ok in
+    let settled = subst (λ o. SettledBytes o s.kept c.args.len own s.bytes.items new) (ap last_flags first) c.in-Ok.ensures.ok in
     let k = kept_more s.changeset s.bytes.items new s.kept c.args.len own s.count c.args.count c.args.canonical v c.self.invariant c.self.view_is c.requires.inside c.requires.joins settled in
     let cut = c.truncate.ensures.items ∙ ap (λ b. take (s.kept + own) b.items) c.replace-bytes.ensures.value in
     let with = with_text v.0 (take c.args.len v.1) in
@@ -75,7 +75,7 @@ invariant_of-self-2 c =
     let new = c.settle-settled.new.bytes.items in
     let own = c.in-Ok.own in
     let many = s.count + c.args.count in
-    let settled = subst (λ o. Settled o s.kept c.args.len own s.bytes.items new) (ap last_flags first) c.in-Ok.ensures.ok in
+    let settled = subst (λ o. SettledBytes o s.kept c.args.len own s.bytes.items new) (ap last_flags first) c.in-Ok.ensures.ok in
     let k = kept_more s.changeset s.bytes.items new s.kept c.args.len own s.count c.args.count c.args.canonical v c.self.invariant c.self.view_is c.requires.inside c.requires.joins settled in
     let cut = c.truncate.ensures.items ∙ ap (λ b. take (s.kept + own) b.items) c.replace-bytes.ensures.value in
     let with = with_text v.0 (take c.args.len v.1) in
@@ -96,7 +96,7 @@ returns-clause-ok c =
     let new = c.settle-settled.new.bytes.items in
     let own = c.in-Ok.own in
     let many = s.count + c.args.count in
-    let settled = subst (λ o. Settled o s.kept c.args.len own s.bytes.items new) (ap last_flags first) c.in-Ok.ensures.ok in
+    let settled = subst (λ o. SettledBytes o s.kept c.args.len own s.bytes.items new) (ap last_flags first) c.in-Ok.ensures.ok in
     let k = kept_more s.changeset s.bytes.items new s.kept c.args.len own s.count c.args.count c.args.canonical v c.self.invariant c.self.view_is c.requires.inside c.requires.joins settled in
     let cut = c.truncate.ensures.items ∙ ap (λ b. take (s.kept + own) b.items) c.replace-bytes.ensures.value in
     let with = with_text v.0 (take c.args.len v.1) in
@@ -104,4 +104,4 @@ returns-clause-ok c =
     let o = c.others.inside in
     let some = some_more more o.bytes.items o.kept c.args.others c.others.view_is c.requires.some in
     let behind = sym (ap (λ b. b.items) c.replace-bytes.ensures.after) in
-    subst (λ w. seen c.put_at.new.changeset w o.kept ≡ pair (with ++ c.args.others.0) c.args.others.1) behind (behind_seen with more c.put_at.new.changeset o.bytes.items o.kept c.args.others put some c.others.view_is)
+    subst (λ w. growing_seen c.put_at.new.changeset w o.kept ≡ pair (with ++ c.args.others.0) c.args.others.1) behind (behind_seen with more c.put_at.new.changeset o.bytes.items o.kept c.args.others put some c.others.view_is)

@@ -1,7 +1,7 @@
 use Rattle.std.proofs.Common.{take, sym, ap, subst, ◌∙◌, arith}
 use Rattle.cs_model.specs.Changeset.{IsChangeset}
 use Rattle.cs_parse.specs.Growing.{with_text}
-use Rattle.cs_parse.proofs.GrowingLaws.{closed_growing, fewer, none_left, waiting_long}
+use Rattle.cs_parse.proofs.GrowingLaws.{closed_growing, fewer, growing_none_left, waiting_long}
 use Rattle.cs_parse.proofs.growing.Growing.shorten.Goals as goal
 
 pub returns-then-len-gt0 : goal.returns-then-len-gt0
@@ -20,4 +20,4 @@ pub returns : goal.returns
 returns c =
     let s = c.self.inside in
     let cut = c.truncate-2.ensures.items ∙ ap (λ v. take s.kept v.items) c.replace-bytes.ensures.value in
-    none_left s.changeset c.put_last.new.changeset s.bytes.items c.truncate-2.new.self.items c.replace-bytes.new.dest.items s.kept c.args.len c.args.self.now c.self.view_is (omega (arith, c.if-len-gt0.false)) cut c.put_last.ensures (ap (λ v. v.items) c.replace-bytes.ensures.after ∙ c.new.ensures.items)
+    growing_none_left s.changeset c.put_last.new.changeset s.bytes.items c.truncate-2.new.self.items c.replace-bytes.new.dest.items s.kept c.args.len c.args.self.now c.self.view_is (omega (arith, c.if-len-gt0.false)) cut c.put_last.ensures (ap (λ v. v.items) c.replace-bytes.ensures.after ∙ c.new.ensures.items)

@@ -11,7 +11,7 @@ use Rattle.rb_desk.proofs.desk.Desk.nack.Goals as goal
 pub returns-in_default-out_as : goal.returns-in_default-out_as
 returns-in_default-out_as c =
     let here : slice_get c.self.inside.subs.items c.args.sub ≡ Some c.in-Some.found.now = sym (c.in-Some.ensures ∙ ap (λ subs. slice_get subs c.args.sub) c.deref.ensures.value) in
-    (rw (← c.self.view_is) (nack_kept c.self.inside.config c.self.inside.front c.self.inside.closing c.self.inside.clock c.self.inside.next_link c.self.inside.next_delivery c.self.inside.subs.items c.args.sub c.in-Some.found.now here c.args.link c.args.delivery c.if-found-link.false ∙ ap (nacked_span _ _ _) (sym c.out_as.ensures.value ∙ c.in_default-out_as.is)), refl)
+    rw c.into-in_default-out_as.ensures (rw (← c.self.view_is) (nack_kept c.self.inside.config c.self.inside.front c.self.inside.closing c.self.inside.clock c.self.inside.next_link c.self.inside.next_delivery c.self.inside.subs.items c.args.sub c.in-Some.found.now here c.args.link c.args.delivery c.if-found-link.false ∙ ap (nacked_span _ _ _) (sym c.out_as.ensures.value ∙ c.in_default-out_as.is)), refl)
 
 pub returns-in_err-turn : goal.returns-in_err-turn
 returns-in_err-turn c =

@@ -2,7 +2,7 @@ use Rattle.std.proofs.Common.{◌≡◌, ◌∙◌, suc, Some, Ok, Err, ap, sym,
 use Rattle.std.proofs.lemmas.Result.{err_from_is_err_and}
 use Rattle.std.proofs.lemmas.Option.{get_or_from_slice_get, slice_get_within}
 use Rattle.rb_desk.specs.Shown.{Belongs, reconnected_sub}
-use Rattle.rb_desk.proofs.CallLaws.{reconnect_ok, ok_call, memory_answers}
+use Rattle.rb_desk.proofs.CallLaws.{reconnect_ok, reconnect_bad, ok_call, memory_answers}
 use Rattle.rb_desk.proofs.KnownLaws.{all_get}
 use Rattle.rb_desk.proofs.CuttingLaws.{reconnected_shown, belongs_reconnected}
 use Rattle.rb_desk.proofs.desk.Desk.reconnect.Goals as goal
@@ -47,3 +47,13 @@ returns c =
     let made : c.reconnect.new.self ≡ reconnected_sub c.in-Some.found.now c.args.cursor c.self.inside.next_link (record { front = c.self.inside.front; turn = suc c.self.inside.turn }) = c.reconnect.ensures ∙ (λ i. reconnected_sub (same i) c.args.cursor c.self.inside.next_link (record { front = c.self.inside.front; turn = c.in_ok-turn.ensures i })) in
     let shows = reconnected_shown c.self.inside.config c.self.inside.front c.self.inside.turn c.self.inside.clock c.self.inside.next_link c.self.inside.next_delivery c.args.sub c.args.cursor c.self.inside.closing c.self.inside.subs.items c.in-Some.found.now c.self.invariant.0.0 c.self.invariant.1 here c.if-found.false in
     rw (← c.self.view_is, made, c.in_ok-next_link.ensures) (reconnect_ok c.self.inside.config c.self.inside.front c.self.inside.closing c.self.inside.clock c.self.inside.next_link c.self.inside.next_delivery c.self.inside.subs.items c.args.sub c.in-Some.found.now here c.args.cursor c.if-found.false (omega (arith, c.floor-floor.ensures.value, c.if-cursor-floor.false)) c.if-offered-cursor.false ∙ ap (λ p. (Ok c.self.inside.next_link, p)) (sym shows))
+
+pub returns-then-cursor-floor : goal.returns-then-cursor-floor
+returns-then-cursor-floor c =
+    let here : slice_get c.self.inside.subs.items c.args.sub ≡ Some c.in-Some.found.now =
+        sym (c.in-Some.ensures ∙ ap (λ subs. slice_get subs c.args.sub) c.deref.ensures.value) in
+    let floor : c.floor-floor.result ≡ c.in-Some.found.now.lane.floor = c.floor-floor.ensures.value in
+    let bad = reconnect_bad c.self.inside.config c.self.inside.front c.self.inside.closing c.self.inside.clock
+        c.self.inside.next_link c.self.inside.next_delivery c.self.inside.subs.items c.args.sub c.in-Some.found.now here
+        c.args.cursor c.if-found.false (rw (← floor) c.then-cursor-floor.either) in
+    rw c.into-then-cursor-floor.ensures (rw floor (rw (← c.self.view_is) bad, refl))

@@ -4,8 +4,8 @@ use Rattle.std.proofs.lemmas.Option.{get_or_from_slice_get, slice_get_within}
 use Rattle.std.proofs.lemmas.List.{set-get_or}
 use Rattle.rb_desk.specs.Spans.{first_ready}
 use Rattle.rb_desk.specs.Lanes.{lane_spans}
-use Rattle.rb_desk.specs.Calls.{handed, delivery_of}
-use Rattle.rb_desk.specs.Shown.{Belongs, shown, shown_sub, handed_sub, why_none}
+use Rattle.rb_desk.specs.Calls.{delivered_picture, delivery_from}
+use Rattle.rb_desk.specs.Shown.{Belongs, shown, shown_sub, delivered_sub, why_none}
 use Rattle.rb_desk.proofs.CallLaws.{take_full, taken, nothing_taken, ok_call, memory_answers}
 use Rattle.rb_desk.proofs.KnownLaws.{all_get}
 use Rattle.rb_desk.proofs.FoundLaws.{may_go_first}
@@ -17,13 +17,13 @@ use Rattle.rb_desk.proofs.desk.Desk.take.Goals as goal
 pub returns-then-out-window : goal.returns-then-out-window
 returns-then-out-window c =
     let here : slice_get c.self.inside.subs.items c.args.sub ≡ Some c.in-Some.found.now = sym (c.in-Some.ensures ∙ ap (λ subs. slice_get subs c.args.sub) c.deref.ensures.value) in
-    (rw (← c.self.view_is) (take_full c.self.inside.config c.self.inside.front c.self.inside.closing c.self.inside.clock c.self.inside.next_link c.self.inside.next_delivery c.self.inside.subs.items c.args.sub c.in-Some.found.now here c.args.link c.args.cursor c.args.now c.if-found-link.false c.if-found.false (omega (arith, c.if-out-window.true, c.window.ensures, c.out.ensures))), refl)
+    rw c.into-then-out-window.ensures (rw (← c.self.view_is) (take_full c.self.inside.config c.self.inside.front c.self.inside.closing c.self.inside.clock c.self.inside.next_link c.self.inside.next_delivery c.self.inside.subs.items c.args.sub c.in-Some.found.now here c.args.link c.args.cursor c.args.now c.if-found-link.false c.if-found.false (omega (arith, c.if-out-window.true, c.window.ensures, c.out.ensures))), refl)
 
 pub returns-in_default-first_ready : goal.returns-in_default-first_ready
 returns-in_default-first_ready c =
     let here : slice_get c.self.inside.subs.items c.args.sub ≡ Some c.in-Some.found.now = sym (c.in-Some.ensures ∙ ap (λ subs. slice_get subs c.args.sub) c.deref.ensures.value) in
     let none = ap (λ b. first_ready (lane_spans b c.self.inside.front c.in-Some.found.now.lane)) (sym c.batch.ensures.value) ∙ sym c.first_ready.ensures.value ∙ c.in_default-first_ready.is in
-    (rw (← c.self.view_is) (nothing_taken c.self.inside.config c.self.inside.front c.self.inside.closing c.self.inside.clock c.self.inside.next_link c.self.inside.next_delivery c.self.inside.subs.items c.args.sub c.in-Some.found.now here c.args.link c.args.cursor c.args.now c.if-found-link.false c.if-found.false (omega (arith, c.if-out-window.false, c.window.ensures, c.out.ensures)) c.self.invariant.0.0 none ∙ ap (λ why. (Err why, shown c.self.inside.config c.self.inside.front c.self.inside.closing c.self.inside.clock c.self.inside.next_link c.self.inside.next_delivery c.self.inside.subs.items)) (ap (λ e. why_none c.self.inside.front e c.args.cursor c.self.inside.closing) (sym c.is_empty-is_empty.ensures) ∙ sym c.none_ready.ensures)), refl)
+    rw c.into-in_default-first_ready.ensures (rw (← c.self.view_is) (nothing_taken c.self.inside.config c.self.inside.front c.self.inside.closing c.self.inside.clock c.self.inside.next_link c.self.inside.next_delivery c.self.inside.subs.items c.args.sub c.in-Some.found.now here c.args.link c.args.cursor c.args.now c.if-found-link.false c.if-found.false (omega (arith, c.if-out-window.false, c.window.ensures, c.out.ensures)) c.self.invariant.0.0 none ∙ ap (λ why. (Err why, shown c.self.inside.config c.self.inside.front c.self.inside.closing c.self.inside.clock c.self.inside.next_link c.self.inside.next_delivery c.self.inside.subs.items)) (ap (λ e. why_none c.self.inside.front e c.args.cursor c.self.inside.closing) (sym c.is_empty-is_empty.ensures) ∙ sym c.none_ready.ensures)), refl)
 
 pub returns-in_err-next_delivery : goal.returns-in_err-next_delivery
 returns-in_err-next_delivery c =
@@ -59,7 +59,7 @@ invariant_of-self-2 c =
     let may = may_go_first c.self.inside.config.batch c.self.inside.front c.in-Some.found.now.lane c.in-Some-first_ready.span (ap (λ b. first_ready (lane_spans b c.self.inside.front c.in-Some.found.now.lane)) (sym c.batch.ensures.value) ∙ sym c.first_ready.ensures.value ∙ c.in-Some-first_ready.is) in
     let found : IsOpen c.self.inside.config.batch c.self.inside.front c.self.inside.turn c.self.inside.next_delivery c.self.inside.subs.items c.args.sub c.in-Some.found.now =
     record { one = c.self.invariant.0.0; belong = c.self.invariant.1; found = here; is_open = c.if-found.false; joins = c.first_ready.ensures.joined } in
-    let made : c.hand.new.self ≡ handed_sub c.in-Some.found.now c.in-Some-first_ready.span c.self.inside.next_delivery c.max-clock.result = c.in_ok-hand.ensures.ok ∙ ap (λ sub. handed_sub sub c.in-Some-first_ready.span c.self.inside.next_delivery c.max-clock.result) same in
+    let made : c.hand.new.self ≡ delivered_sub c.in-Some.found.now c.in-Some-first_ready.span c.self.inside.next_delivery c.max-clock.result = c.in_ok-hand.ensures.ok ∙ ap (λ sub. delivered_sub sub c.in-Some-first_ready.span c.self.inside.next_delivery c.max-clock.result) same in
     rw (made, c.in_ok-next_delivery.ensures) (c.self.invariant.0, belongs_handed c.self.inside.config c.self.inside.front c.self.inside.turn c.self.inside.next_delivery c.self.inside.subs.items c.args.sub c.in-Some.found.now found c.max-clock.result c.in-Some-first_ready.span may)
 
 pub returns : goal.returns
@@ -69,11 +69,11 @@ returns c =
     let may = may_go_first c.self.inside.config.batch c.self.inside.front c.in-Some.found.now.lane c.in-Some-first_ready.span (ap (λ b. first_ready (lane_spans b c.self.inside.front c.in-Some.found.now.lane)) (sym c.batch.ensures.value) ∙ sym c.first_ready.ensures.value ∙ c.in-Some-first_ready.is) in
     let found : IsOpen c.self.inside.config.batch c.self.inside.front c.self.inside.turn c.self.inside.next_delivery c.self.inside.subs.items c.args.sub c.in-Some.found.now =
     record { one = c.self.invariant.0.0; belong = c.self.invariant.1; found = here; is_open = c.if-found.false; joins = c.first_ready.ensures.joined } in
-    let made : c.hand.new.self ≡ handed_sub c.in-Some.found.now c.in-Some-first_ready.span c.self.inside.next_delivery c.max-clock.result = c.in_ok-hand.ensures.ok ∙ ap (λ sub. handed_sub sub c.in-Some-first_ready.span c.self.inside.next_delivery c.max-clock.result) same in
+    let made : c.hand.new.self ≡ delivered_sub c.in-Some.found.now c.in-Some-first_ready.span c.self.inside.next_delivery c.max-clock.result = c.in_ok-hand.ensures.ok ∙ ap (λ sub. delivered_sub sub c.in-Some-first_ready.span c.self.inside.next_delivery c.max-clock.result) same in
     let shows = handed_shown c.self.inside.config c.self.inside.front c.self.inside.turn c.self.inside.next_delivery c.self.inside.subs.items c.args.sub c.in-Some.found.now found c.self.inside.closing c.self.inside.clock c.max-clock.result c.self.inside.next_link c.in-Some-first_ready.span may in
     let clock : c.max-clock.result ≡ max c.self.inside.clock c.args.now = c.max-clock.ensures in
     let call = taken c.self.inside.config c.self.inside.front c.self.inside.closing c.self.inside.clock c.self.inside.next_link c.self.inside.next_delivery c.self.inside.subs.items c.args.sub c.in-Some.found.now here c.args.link c.args.cursor c.args.now c.if-found-link.false c.if-found.false (omega (arith, c.if-out-window.false, c.window.ensures, c.out.ensures)) c.in-Some-first_ready.span (ap (λ b. first_ready (lane_spans b c.self.inside.front c.in-Some.found.now.lane)) (sym c.batch.ensures.value) ∙ sym c.first_ready.ensures.value ∙ c.in-Some-first_ready.is) in
-    let given : delivery_of (shown c.self.inside.config c.self.inside.front c.self.inside.closing c.self.inside.clock c.self.inside.next_link c.self.inside.next_delivery c.self.inside.subs.items) c.args.sub (shown_sub c.self.inside.config.batch c.self.inside.front c.in-Some.found.now) c.in-Some-first_ready.span ≡ c.of.result =
+    let given : delivery_from (shown c.self.inside.config c.self.inside.front c.self.inside.closing c.self.inside.clock c.self.inside.next_link c.self.inside.next_delivery c.self.inside.subs.items) c.args.sub (shown_sub c.self.inside.config.batch c.self.inside.front c.in-Some.found.now) c.in-Some-first_ready.span ≡ c.of.result =
     ap (λ link. record { number = c.self.inside.next_delivery; sub = c.args.sub; link = link; first = c.in-Some-first_ready.span.first; last = c.in-Some-first_ready.span.last }) c.if-found-link.false ∙ sym c.of.ensures in
     rw (← c.self.view_is, made, c.in_ok-next_delivery.ensures)
-    (call ∙ (λ i. (Ok (given i), handed (shown c.self.inside.config c.self.inside.front c.self.inside.closing c.self.inside.clock c.self.inside.next_link c.self.inside.next_delivery c.self.inside.subs.items) c.args.sub (shown_sub c.self.inside.config.batch c.self.inside.front c.in-Some.found.now) c.in-Some-first_ready.span (sym clock i))) ∙ ap (λ p. (Ok c.of.result, p)) (sym shows))
+    (call ∙ (λ i. (Ok (given i), delivered_picture (shown c.self.inside.config c.self.inside.front c.self.inside.closing c.self.inside.clock c.self.inside.next_link c.self.inside.next_delivery c.self.inside.subs.items) c.args.sub (shown_sub c.self.inside.config.batch c.self.inside.front c.in-Some.found.now) c.in-Some-first_ready.span (sym clock i))) ∙ ap (λ p. (Ok c.of.result, p)) (sym shows))

@@ -1,5 +1,5 @@
 use Rattle.std.proofs.Common.{◌≡◌, sym, ap, ◌∙◌, option_map, slice_get}
-use Rattle.rb_desk.specs.Spans.{cut}
+use Rattle.rb_desk.specs.Spans.{cut_spans}
 use Rattle.rb_desk.specs.Lanes.{better, least, with_birth}
 use Rattle.rb_desk.proofs.LaneLaws.{first_in_line_is}
 use Rattle.rb_desk.proofs.lane.Lane.first_in_line.Goals as goal
@@ -7,6 +7,6 @@ use Rattle.rb_desk.proofs.lane.Lane.first_in_line.Goals as goal
 pub returns-clause-value : goal.returns-clause-value
 returns-clause-value c =
     let held : c.self.inside.first ≡ least c.args.self.now.held = c.self.invariant.1 ∙ ap (λ k. least k.held) c.self.view_is in
-    let fresh : c.given_to-fresh.result ≡ option_map (with_birth c.args.self.now.cutting) (slice_get (cut c.args.batch c.args.self.now.next c.args.front) 0) =
+    let fresh : c.given_to-fresh.result ≡ option_map (with_birth c.args.self.now.cutting) (slice_get (cut_spans c.args.batch c.args.self.now.next c.args.front) 0) =
     c.given_to-fresh.ensures ∙ (λ i. option_map (with_birth (c.self.view_is i).cutting) (c.first_fresh.ensures i)) in
     c.sooner.ensures ∙ (λ i. better (held i) (fresh i)) ∙ sym (first_in_line_is c.args.batch c.args.front c.args.self.now c.requires.0)
