@@ -1,5 +1,5 @@
 -- What a desk keeps after a span was handed over, went back or was settled shows the picture that these calls give.
-use Rattle.std.proofs.Common.{◌≡◌, ℕ, suc, max, Bool, true, false, ◌==◌, cond, List, [], ◌∷◌, ◌++◌, Option, Some, filter_map, slice_get, slice_set, refl, sym, ap, ◌∙◌, arith}
+use Rattle.std.proofs.Common.{◌≡◌, ℕ, suc, max, Bool, true, false, ◌==◌, cond, List, [], ◌∷◌, ◌++◌, Option, Some, Result, Ok, Err, filter_map, slice_get, slice_set, refl, sym, ap, ◌∙◌, arith}
 use Rattle.std.specs.List.{AllByRecursion}
 use Rattle.rb_desk.specs.declared.span.Span.{Span}
 use Rattle.rb_desk.specs.declared.span.Status.{Status}
@@ -7,12 +7,15 @@ use Rattle.rb_desk.specs.declared.span.Status.TheVariants.{Ready, InFlight, Sett
 use Rattle.rb_desk.specs.declared.ticket.Ticket.{Ticket}
 use Rattle.rb_desk.specs.declared.ticket.Held.{Held}
 use Rattle.rb_desk.specs.declared.sub.Sub.{Sub}
+use Rattle.rb_desk.specs.declared.delivery.Delivery.{Delivery}
+use Rattle.rb_desk.specs.declared.refusal.DeskError.{DeskError}
 use Rattle.rb_desk.specs.Spans.{out_as, is_ready, is_out, raised, with_status}
 use Rattle.rb_desk.specs.Lanes.{Lane, spans_of, lane_held, pushed_lane, restated_lane, delivered_lane, settled_lane}
 use Rattle.rb_desk.specs.Orders.{order, ready_at, out_at}
 use Rattle.rb_desk.specs.Limits.{Limits}
-use Rattle.rb_desk.specs.Calls.{delivered_picture, nacked_picture, settled_span, without_span}
-use Rattle.rb_desk.specs.Shown.{sub_held, shown_sub, shown, Belongs, delivered_sub, returned_sub, settled_sub, IsHeld, IsDeliverable}
+use Rattle.rb_desk.specs.Answers.{DeskAnswers}
+use Rattle.rb_desk.specs.Calls.{delivery_from, delivered_picture, nacked_picture, settled_span, without_span}
+use Rattle.rb_desk.specs.Shown.{sub_held, shown_sub, shown, Belongs, delivered_sub, DeliveredTo, WhenDelivered, returned_sub, settled_sub, IsHeld, IsDeliverable}
 use Rattle.rb_desk.proofs.Line.{all_then}
 use Rattle.rb_desk.proofs.OrderLaws.{tagged_ready, tagged_out, order_same, order_without, order_with}
 use Rattle.rb_desk.proofs.ChangeLaws.{Changes, stands_same, stands_new, stands_left}
@@ -81,6 +84,32 @@ module _ (lim : Limits) (front turn number : ℕ) (subs : List Sub) (s : ℕ) (s
       all_set (Belongs front turn (suc number)) subs s (delivered_sub sub span number clock)
       (all_then (Belongs front turn number) (Belongs front turn (suc number)) subs (λ sub. known_belongs_later front turn turn number (suc number) sub (omega arith) (omega arith)) o.belong)
       (sub_handed front turn number sub span clock at.1 own)
+
+  -- What `deliver` answers and leaves, whether it delivered the span or ran out of memory.
+  pub delivered_belongs : (span : Span) (clock now next tick : ℕ) (new : List Sub) (result : Result Delivery DeskError)
+      → IsDeliverable lim.batch front sub.lane span → WhenDelivered result subs s span number clock now new next tick
+      → AllByRecursion (Belongs front turn next) new
+  delivered_belongs span clock now next tick new (Ok delivery) may d =
+      let made = d sub o.found in
+      rw (made.subs_are, made.next_is) (belongs_handed (max clock now) span may)
+  delivered_belongs span clock now next tick new (Err why) may d = rw (d.1, d.2) o.belong
+
+  pub delivered_answers : (closing : Option ℕ) (next_link : ℕ) (span : Span) (clock now next tick : ℕ) (new : List Sub)
+      (result : Result Delivery DeskError)
+      → IsDeliverable lim.batch front sub.lane span → WhenDelivered result subs s span number clock now new next tick
+      → DeskAnswers result (
+        Ok (delivery_from (shown lim front closing clock next_link number subs) s (shown_sub lim.batch front sub) span),
+        delivered_picture (shown lim front closing clock next_link number subs) s (shown_sub lim.batch front sub) span
+            (max clock now),
+      )
+      (shown lim front closing clock next_link number subs) (shown lim front closing tick next_link next new)
+  delivered_answers closing next_link span clock now next tick new (Ok delivery) may d =
+      let made = d sub o.found in
+      rw (made.delivery_is, made.subs_are, made.next_is, made.clock_is)
+      (ap (λ p. (Ok (record { number = number; sub = s; link = sub.link; first = span.first; last = span.last }), p))
+      (sym (handed_shown closing clock (max clock now) next_link span may)))
+  delivered_answers closing next_link span clock now next tick new (Err why) may d =
+      rw (d.0, d.1, d.2, d.3) (refl, refl)
 
   -- ---- a span goes back
 

@@ -49,6 +49,11 @@ spans_of = map (λ h. h.span)
 abbrev pub lane_spans : ℕ → ℕ → Lane → List Span
 lane_spans batch front kept = spans_of (lane_held batch front kept)
 
+-- whether a span stands in line before another, or there is no other
+abbrev pub goes_before : Held → Option Held → Bool
+goes_before h None = true
+goes_before h (Some other) = earlier h.ticket other.ticket
+
 -- the ready one with the first ticket, the first of them where two have the same
 abbrev pub better : Option Held → Option Held → Option Held
 better None b = b

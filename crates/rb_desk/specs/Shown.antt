@@ -1,5 +1,6 @@
 -- The picture that a desk shows, and what its fields keep.
-use Rattle.std.specs.Prelude.{◌≡◌, ℕ, suc, ◌+◌, ◌<◌, ◌≤◌, max, Bool, true, false, not, ◌&&◌, ◌==◌, nat_lt, None, List, [], ◌∷◌, ◌++◌, map, ◌⊎◌, Option, Some, slice_get, if◌then◌else◌}
+use Rattle.std.specs.Prelude.{◌≡◌, ℕ, suc, ◌+◌, ◌<◌, ◌≤◌, max, Bool, true, false, not, ◌&&◌, ◌==◌, nat_lt, None, List, [], ◌∷◌, ◌++◌, map, ◌⊎◌, Option, Some, Result, Ok, Err, slice_get, slice_set, if◌then◌else◌}
+use Rattle.rb_desk.specs.declared.delivery.Delivery.{Delivery}
 use Rattle.std.specs.List.{AllByRecursion}
 use Rattle.std.specs.Option.{option_map}
 use Rattle.rb_desk.specs.declared.ticket.Ticket.{Ticket}
@@ -9,6 +10,8 @@ use Rattle.rb_desk.specs.declared.span.Status.{Status}
 use Rattle.rb_desk.specs.declared.span.Status.TheVariants.{Ready, InFlight, Settled}
 use Rattle.rb_desk.specs.declared.refusal.DeskRefusal.{DeskRefusal}
 use Rattle.rb_desk.specs.declared.refusal.DeskRefusal.TheVariants.{Empty, Drained}
+use Rattle.rb_desk.specs.declared.refusal.DeskError.{DeskError}
+use Rattle.rb_desk.specs.declared.refusal.DeskError.TheVariants.{Memory}
 use Rattle.rb_desk.specs.declared.sub.Sub.{Sub}
 use Rattle.rb_desk.specs.Spans.{cut_spans, is_fresh, is_ready, how_many_out, out_as}
 use Rattle.rb_desk.specs.Lanes.{AreJoined, earlier, least, cut_lane, delivered_lane, returned_lane, settled_lane, Lane, lane_held, spans_of}
@@ -91,6 +94,25 @@ reconnected_sub sub cursor link ticket = record sub { link = link; lane = cut_la
 
 abbrev pub closed_sub : Sub → Sub
 closed_sub sub = record sub { closed = true; lane = cut_lane sub.lane.floor sub.lane.cutting }
+
+-- The subscription `found`, with number s, is delivered a span, as delivery `number`, at tick `taken`: the delivery and what
+-- becomes of the subscriptions, of the next delivery's number and of the clock.
+pub record DeliveredTo (subs : List Sub) (s : ℕ) (found : Sub) (span : Span) (number taken : ℕ)
+    (delivery : Delivery) (new : List Sub) (next clock : ℕ) : Type 0 where
+  pub delivery_is : delivery
+      ≡ record { number = number; sub = s; link = found.link; first = span.first; last = span.last }
+  pub subs_are : new ≡ slice_set subs s (delivered_sub found span number taken)
+  pub next_is : next ≡ suc number
+  pub clock_is : clock ≡ taken
+
+-- What `deliver` answers and leaves: where memory runs out, nothing changes.
+abbrev pub WhenDelivered : Result Delivery DeskError → List Sub → ℕ → Span → ℕ → ℕ → ℕ
+    → List Sub → ℕ → ℕ → Type 0
+WhenDelivered (Ok delivery) subs s span number clock now new next tick = (found : Sub)
+    → slice_get subs s ≡ Some found
+    → DeliveredTo subs s found span number (max clock now) delivery new next tick
+WhenDelivered (Err why) subs s span number clock now new next tick =
+    (why ≡ Memory) × (new ≡ subs) × (next ≡ number) × (tick ≡ clock)
 
 -- the span is one that was taken before, and is ready; or the first one that wasn't
 abbrev pub IsHeld : Lane → Span → Type 0

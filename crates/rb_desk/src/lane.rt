@@ -125,8 +125,8 @@ impl Lane {
         held::out_as(&self.held, number)
     }
 
-    /// Hands a ready span over: it is out as this delivery from this moment on.
-    pub(crate) fn hand(&mut self, span: Span, number: u64, moment: u64) -> Result<(), AllocError>
+    /// Delivers a ready span: it is in flight as this delivery, taken at this tick.
+    pub(crate) fn deliver(&mut self, span: Span, number: u64, moment: u64) -> Result<(), AllocError>
         requires { HasNumbers span }
         ensures ok { OnOk result (self.new ≡ delivered_lane self.old span (InFlight number moment)) }
         ensures err { OnErr result (self.new ≡ self.old) }

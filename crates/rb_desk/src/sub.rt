@@ -38,13 +38,13 @@ impl Sub {
         }
     }
 
-    /// Hands a span over, as this delivery from this moment on.
-    pub(crate) fn hand(&mut self, span: Span, number: u64, moment: u64) -> Result<(), AllocError>
+    /// Delivers a span: it is in flight as this delivery, taken at this tick.
+    pub(crate) fn deliver(&mut self, span: Span, number: u64, moment: u64) -> Result<(), AllocError>
         requires { HasNumbers span }
         ensures ok { OnOk result (self.new ≡ delivered_sub self.old span number moment) }
         ensures err { OnErr result (self.new ≡ self.old) }
     {
-        self.lane.hand(span, number, moment)?;
+        self.lane.deliver(span, number, moment)?;
         self.offered = self.offered.max(span.last);
         Ok(())
     }
@@ -78,7 +78,7 @@ impl Sub {
 
     /// The span that may be handed over before its others, where fewer are out than the window holds, and the subscription's
     /// number.
-    pub(crate) fn next_to_go(
+    pub(crate) fn next_to_deliver(
         &self,
         sub: u64,
         window: u64,

@@ -1,11 +1,11 @@
 //! Numbers handed to subscriptions.
 
-ghost use Rattle.std.specs.Prelude.{◌≡◌, IfSome};
+ghost use Rattle.std.specs.Prelude.{◌≡◌, ◌<◌, length, IfSome};
 ghost use Rattle.rb_desk.specs.Calls.{take, take_any};
 ghost use Rattle.rb_desk.specs.Answers.{DeskAnswers};
 ghost use Rattle.std.specs.Option.{option_map};
-ghost use Rattle.rb_desk.specs.Lanes.{AreLimited};
-ghost use Rattle.rb_desk.specs.Shown.{why_none, first_to_deliver, span_to_deliver, goes_first, IsJoinedAt};
+ghost use Rattle.rb_desk.specs.Lanes.{AreLimited, HasNumbers};
+ghost use Rattle.rb_desk.specs.Shown.{why_none, WhenDelivered, first_to_deliver, span_to_deliver, goes_first, IsJoinedAt};
 
 use crate::delivery::Delivery;
 use crate::desk::Desk;
@@ -31,7 +31,6 @@ impl Desk {
     ) -> Result<Delivery, DeskError>
         ensures { DeskAnswers result (take self.old sub link cursor now) self.old self.new }
     {
-        let s = sub as usize;
         let front = self.front;
         let Some(found) = numbered(&self.subs, sub) else {
             return Err(DeskRefusal::NoSuch.into());
@@ -49,13 +48,14 @@ impl Desk {
             let is_empty = found.lane.is_empty(front);
             return Err(none_ready(self.closing, front, is_empty, cursor).into());
         };
-        let number = self.next_delivery;
-        let next_delivery = after(number)?;
-        let clock = self.clock.max(now);
-        self.subs[s].hand(span, number, clock)?;
-        self.clock = clock;
-        self.next_delivery = next_delivery;
-        Ok(Delivery::of(number, sub, link, span))
+        deliver(
+            &mut self.subs,
+            &mut self.next_delivery,
+            &mut self.clock,
+            sub,
+            span,
+            now,
+        )
     }
 
     /// Hands over the span that is first in the ready order among those of subscriptions with room in their window.
@@ -67,48 +67,69 @@ impl Desk {
     {
         let front = self.front;
         let window = self.config.window();
-        let Some((sub, span)) = first_to_go(&self.subs, window, self.config.batch(), front) else {
+        let Some((sub, span)) = first_to_deliver(&self.subs, window, self.config.batch(), front)
+        else {
             return Err(DeskRefusal::Empty { front }.into());
         };
-        let s = sub as usize;
-        let link = self.subs[s].link;
-        let number = self.next_delivery;
-        let next_delivery = after(number)?;
-        let clock = self.clock.max(now);
-        self.subs[s].hand(span, number, clock)?;
-        self.clock = clock;
-        self.next_delivery = next_delivery;
-        Ok(Delivery::of(number, sub, link, span))
+        deliver(
+            &mut self.subs,
+            &mut self.next_delivery,
+            &mut self.clock,
+            sub,
+            span,
+            now,
+        )
     }
 }
 
-// the span that may be handed over before all others, and its subscription's number
-fn first_to_go(subs: &[Sub], window: u64, batch: u64, front: u64) -> Option<(u64, Span)>
+// Delivers a span of the subscription with this number: it is in flight as the next delivery.
+fn deliver(
+    subs: &mut Vec<Sub>,
+    next_delivery: &mut u64,
+    clock: &mut u64,
+    sub: u64,
+    span: Span,
+    now: u64,
+) -> Result<Delivery, DeskError>
+    requires { (sub < length subs.old.items) × HasNumbers span }
+    ensures { WhenDelivered result subs.old.items sub span next_delivery.old clock.old now
+        subs.new.items next_delivery.new clock.new }
+{
+    let number = *next_delivery;
+    let next = after(number)?;
+    let taken = (*clock).max(now);
+    let found = &mut subs[sub as usize];
+    let link = found.link;
+    found.deliver(span, number, taken)?;
+    *next_delivery = next;
+    *clock = taken;
+    Ok(Delivery::of(number, sub, link, span))
+}
+
+// the span that may be delivered before all others, and its subscription's number
+fn first_to_deliver(subs: &[Sub], window: u64, batch: u64, front: u64) -> Option<(u64, Span)>
     requires { AreLimited batch front }
     ensures value { result ≡ option_map span_to_deliver (first_to_deliver window batch front 0 subs.now) }
     ensures joined { IfSome result (λ c. IsJoinedAt subs.now c.0) }
 {
     let mut first: Option<(u64, Held)> = None;
     for i in 0..subs.len() {
-        first = ahead(first, subs[i].next_to_go(i as u64, window, batch, front));
+        first = goes_first(
+            first,
+            subs[i].next_to_deliver(i as u64, window, batch, front),
+        );
     }
     let (sub, held) = first?;
     Some((sub, held.span))
 }
 
-// the one that is first in line, the first of them where both have the same ticket
-fn ahead(first: Option<(u64, Held)>, second: Option<(u64, Held)>) -> Option<(u64, Held)>
+// the one that stands in line before the other; the first one where both have the same ticket
+fn goes_first(first: Option<(u64, Held)>, second: Option<(u64, Held)>) -> Option<(u64, Held)>
     ensures { result ≡ goes_first first second }
 {
-    match (first, second) {
-        (None, other) => other,
-        (Some(found), None) => Some(found),
-        (Some(found), Some(other)) => {
-            if other.1.ticket.is_before(found.1.ticket) {
-                return Some(other);
-            }
-            Some(found)
-        }
+    match second {
+        Some((_, held)) if held.is_before(first.map(|(_, other)| other)) => second,
+        _ => first,
     }
 }
 

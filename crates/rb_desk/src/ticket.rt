@@ -2,7 +2,7 @@
 
 ghost use Rattle.std.specs.Prelude.{◌≡◌};
 ghost use Rattle.std.specs.Option.{option_map};
-ghost use Rattle.rb_desk.specs.Lanes.{earlier, birth, with_birth, better};
+ghost use Rattle.rb_desk.specs.Lanes.{goes_before, earlier, birth, with_birth, better};
 
 use crate::span::Span;
 
@@ -56,18 +56,24 @@ impl Ticket {
     }
 }
 
-/// The one whose ticket comes before the other's; the first one where both have the same.
+impl Held {
+    /// Whether it stands in line before another, or there is no other.
+    pub(crate) fn is_before(&self, other: Option<Held>) -> bool
+        ensures { result ≡ goes_before self.now other }
+    {
+        match other {
+            None => true,
+            Some(held) => self.ticket.is_before(held.ticket),
+        }
+    }
+}
+
+/// The one that stands in line before the other; the first one where both have the same ticket.
 pub(crate) fn sooner(first: Option<Held>, second: Option<Held>) -> Option<Held>
     ensures { result ≡ better first second }
 {
-    match (first, second) {
-        (None, other) => other,
-        (Some(held), None) => Some(held),
-        (Some(held), Some(other)) => {
-            if other.ticket.is_before(held.ticket) {
-                return Some(other);
-            }
-            Some(held)
-        }
+    match second {
+        Some(held) if held.is_before(first) => second,
+        _ => first,
     }
 }

@@ -1,4 +1,4 @@
-use Rattle.std.proofs.Common.{◌≡◌, ◌∙◌, suc, max, Some, Ok, Err, ap, sym, refl, arith, slice_get, slice_set}
+use Rattle.std.proofs.Common.{◌≡◌, ◌∙◌, ◌<◌, suc, length, Some, Err, ap, sym, refl, arith, slice_get}
 use Rattle.std.proofs.lemmas.Result.{err_from_is_err_and}
 use Rattle.std.proofs.lemmas.Option.{get_or_from_slice_get, slice_get_within}
 use Rattle.std.proofs.lemmas.List.{set-get_or}
@@ -11,7 +11,7 @@ use Rattle.rb_desk.proofs.KnownLaws.{all_get}
 use Rattle.rb_desk.proofs.FoundLaws.{may_go_first}
 use Rattle.rb_desk.proofs.LaneChanges.{may_go_span}
 use Rattle.rb_desk.proofs.OpenLaws.{IsOpen}
-use Rattle.rb_desk.proofs.HandLaws.{handed_shown, belongs_handed}
+use Rattle.rb_desk.proofs.HandLaws.{delivered_belongs, delivered_answers}
 use Rattle.rb_desk.proofs.desk.Desk.take.Goals as goal
 
 pub returns-then-out-window : goal.returns-then-out-window
@@ -25,55 +25,70 @@ returns-in_default-first_ready c =
     let none = ap (λ b. first_ready (lane_spans b c.self.inside.front c.in-Some.found.now.lane)) (sym c.batch.ensures.value) ∙ sym c.first_ready.ensures.value ∙ c.in_default-first_ready.is in
     rw c.into-in_default-first_ready.ensures (rw (← c.self.view_is) (nothing_taken c.self.inside.config c.self.inside.front c.self.inside.closing c.self.inside.clock c.self.inside.next_link c.self.inside.next_delivery c.self.inside.subs.items c.args.sub c.in-Some.found.now here c.args.link c.args.cursor c.args.now c.if-found-link.false c.if-found.false (omega (arith, c.if-out-window.false, c.window.ensures, c.out.ensures)) c.self.invariant.0.0 none ∙ ap (λ why. (Err why, shown c.self.inside.config c.self.inside.front c.self.inside.closing c.self.inside.clock c.self.inside.next_link c.self.inside.next_delivery c.self.inside.subs.items)) (ap (λ e. why_none c.self.inside.front e c.args.cursor c.self.inside.closing) (sym c.is_empty-is_empty.ensures) ∙ sym c.none_ready.ensures)), refl)
 
-pub returns-in_err-next_delivery : goal.returns-in_err-next_delivery
-returns-in_err-next_delivery c =
-    let here : slice_get c.self.inside.subs.items c.args.sub ≡ Some c.in-Some.found.now = sym (c.in-Some.ensures ∙ ap (λ subs. slice_get subs c.args.sub) c.deref.ensures.value) in
-    let memory = err_from_is_err_and c.from_residual.result c.from_residual.ensures.1 in
-    let call = taken c.self.inside.config c.self.inside.front c.self.inside.closing c.self.inside.clock c.self.inside.next_link c.self.inside.next_delivery c.self.inside.subs.items c.args.sub c.in-Some.found.now here c.args.link c.args.cursor c.args.now c.if-found-link.false c.if-found.false (omega (arith, c.if-out-window.false, c.window.ensures, c.out.ensures)) c.in-Some-first_ready.span (ap (λ b. first_ready (lane_spans b c.self.inside.front c.in-Some.found.now.lane)) (sym c.batch.ensures.value) ∙ sym c.first_ready.ensures.value ∙ c.in-Some-first_ready.is) in
-    memory_answers _ _ _ _ (memory.1 ∙ ap Err (memory.2 ∙ c.in_err-next_delivery.ensures)) (rw (← c.self.view_is) (ok_call _ _ _ call)) refl
+pub deliver-requires : goal.deliver-requires
+deliver-requires c =
+    let here : slice_get c.self.inside.subs.items c.args.sub ≡ Some c.in-Some.found.now =
+    sym (c.in-Some.ensures ∙ ap (λ subs. slice_get subs c.args.sub) c.deref.ensures.value) in
+    let may = may_go_first c.self.inside.config.batch c.self.inside.front c.in-Some.found.now.lane c.in-Some-first_ready.span
+    (ap (λ b. first_ready (lane_spans b c.self.inside.front c.in-Some.found.now.lane)) (sym c.batch.ensures.value)
+    ∙ sym c.first_ready.ensures.value ∙ c.in-Some-first_ready.is) in
+    let next = (all_get (Belongs c.self.inside.front c.self.inside.turn c.self.inside.next_delivery) c.self.inside.subs.items
+    c.args.sub c.in-Some.found.now c.self.invariant.1 here).is_next in
+    let within : c.args.sub < length c.self.inside.subs.items =
+    slice_get_within c.self.inside.subs.items c.args.sub c.in-Some.found.now here in (
+      within,
+      omega (
+        arith,
+        may_go_span c.self.inside.config.batch c.self.inside.front (suc c.in-Some.found.now.lane.floor)
+            c.in-Some.found.now.lane c.in-Some-first_ready.span c.self.invariant.0.0 next c.first_ready.ensures.joined may,
+        c.self.invariant.0,
+      ),
+    )
 
-pub index_mut-requires : goal.index_mut-requires
-index_mut-requires c =
-    let here : slice_get c.self.inside.subs.items c.args.sub ≡ Some c.in-Some.found.now = sym (c.in-Some.ensures ∙ ap (λ subs. slice_get subs c.args.sub) c.deref.ensures.value) in
-    omega (arith, slice_get_within c.self.inside.subs.items c.args.sub c.in-Some.found.now here, c.self.inside.subs.ok)
-
-pub hand-requires : goal.hand-requires
-hand-requires c =
-    let here : slice_get c.self.inside.subs.items c.args.sub ≡ Some c.in-Some.found.now = sym (c.in-Some.ensures ∙ ap (λ subs. slice_get subs c.args.sub) c.deref.ensures.value) in
-    let may = may_go_first c.self.inside.config.batch c.self.inside.front c.in-Some.found.now.lane c.in-Some-first_ready.span (ap (λ b. first_ready (lane_spans b c.self.inside.front c.in-Some.found.now.lane)) (sym c.batch.ensures.value) ∙ sym c.first_ready.ensures.value ∙ c.in-Some-first_ready.is) in
-    let next = (all_get (Belongs c.self.inside.front c.self.inside.turn c.self.inside.next_delivery) c.self.inside.subs.items c.args.sub c.in-Some.found.now c.self.invariant.1 here).is_next in
-    omega (arith, may_go_span c.self.inside.config.batch c.self.inside.front (suc c.in-Some.found.now.lane.floor) c.in-Some.found.now.lane c.in-Some-first_ready.span c.self.invariant.0.0 next c.first_ready.ensures.joined may, c.self.invariant.0)
-
-pub returns-in_err-hand : goal.returns-in_err-hand
-returns-in_err-hand c =
-    let here : slice_get c.self.inside.subs.items c.args.sub ≡ Some c.in-Some.found.now = sym (c.in-Some.ensures ∙ ap (λ subs. slice_get subs c.args.sub) c.deref.ensures.value) in
-    let memory = err_from_is_err_and c.from_residual-in_err-hand.result c.from_residual-in_err-hand.ensures.1 in
-    let call = taken c.self.inside.config c.self.inside.front c.self.inside.closing c.self.inside.clock c.self.inside.next_link c.self.inside.next_delivery c.self.inside.subs.items c.args.sub c.in-Some.found.now here c.args.link c.args.cursor c.args.now c.if-found-link.false c.if-found.false (omega (arith, c.if-out-window.false, c.window.ensures, c.out.ensures)) c.in-Some-first_ready.span (ap (λ b. first_ready (lane_spans b c.self.inside.front c.in-Some.found.now.lane)) (sym c.batch.ensures.value) ∙ sym c.first_ready.ensures.value ∙ c.in-Some-first_ready.is) in
-    let back : slice_set c.self.inside.subs.items c.args.sub c.hand.new.self ≡ c.self.inside.subs.items = ap (slice_set c.self.inside.subs.items c.args.sub) (c.in_err-hand.ensures.err ∙ c.index_mut.ensures.value) ∙ set-get_or c.self.inside.subs.items c.args.sub c.index_mut.result.now in
-    memory_answers _ _ _ _ (memory.1 ∙ ap Err memory.2) (rw (← c.self.view_is) (ok_call _ _ _ call)) (rw back c.self.view_is)
-
-pub invariant_of-self-2 : goal.invariant_of-self-2
-invariant_of-self-2 c =
-    let here : slice_get c.self.inside.subs.items c.args.sub ≡ Some c.in-Some.found.now = sym (c.in-Some.ensures ∙ ap (λ subs. slice_get subs c.args.sub) c.deref.ensures.value) in
-    let same : c.index_mut.result.now ≡ c.in-Some.found.now = c.index_mut.ensures.value ∙ get_or_from_slice_get c.self.inside.subs.items c.args.sub c.in-Some.found.now c.index_mut.result.now here in
-    let may = may_go_first c.self.inside.config.batch c.self.inside.front c.in-Some.found.now.lane c.in-Some-first_ready.span (ap (λ b. first_ready (lane_spans b c.self.inside.front c.in-Some.found.now.lane)) (sym c.batch.ensures.value) ∙ sym c.first_ready.ensures.value ∙ c.in-Some-first_ready.is) in
-    let found : IsOpen c.self.inside.config.batch c.self.inside.front c.self.inside.turn c.self.inside.next_delivery c.self.inside.subs.items c.args.sub c.in-Some.found.now =
-    record { one = c.self.invariant.0.0; belong = c.self.invariant.1; found = here; is_open = c.if-found.false; joins = c.first_ready.ensures.joined } in
-    let made : c.hand.new.self ≡ delivered_sub c.in-Some.found.now c.in-Some-first_ready.span c.self.inside.next_delivery c.max-clock.result = c.in_ok-hand.ensures.ok ∙ ap (λ sub. delivered_sub sub c.in-Some-first_ready.span c.self.inside.next_delivery c.max-clock.result) same in
-    rw (made, c.in_ok-next_delivery.ensures) (c.self.invariant.0, belongs_handed c.self.inside.config c.self.inside.front c.self.inside.turn c.self.inside.next_delivery c.self.inside.subs.items c.args.sub c.in-Some.found.now found c.max-clock.result c.in-Some-first_ready.span may)
+pub invariant_of-self : goal.invariant_of-self
+invariant_of-self c =
+    let here : slice_get c.self.inside.subs.items c.args.sub ≡ Some c.in-Some.found.now =
+    sym (c.in-Some.ensures ∙ ap (λ subs. slice_get subs c.args.sub) c.deref.ensures.value) in
+    let may = may_go_first c.self.inside.config.batch c.self.inside.front c.in-Some.found.now.lane c.in-Some-first_ready.span
+    (ap (λ b. first_ready (lane_spans b c.self.inside.front c.in-Some.found.now.lane)) (sym c.batch.ensures.value)
+    ∙ sym c.first_ready.ensures.value ∙ c.in-Some-first_ready.is) in
+    let found : IsOpen c.self.inside.config.batch c.self.inside.front c.self.inside.turn c.self.inside.next_delivery
+    c.self.inside.subs.items c.args.sub c.in-Some.found.now =
+    record {
+      one = c.self.invariant.0.0;
+      belong = c.self.invariant.1;
+      found = here;
+      is_open = c.if-found.false;
+      joins = c.first_ready.ensures.joined;
+    } in (
+      c.self.invariant.0,
+      delivered_belongs c.self.inside.config c.self.inside.front c.self.inside.turn
+          c.self.inside.next_delivery c.self.inside.subs.items c.args.sub c.in-Some.found.now found c.in-Some-first_ready.span
+          c.self.inside.clock c.args.now _ _ _ c.deliver.result may c.deliver.ensures,
+    )
 
 pub returns : goal.returns
 returns c =
-    let here : slice_get c.self.inside.subs.items c.args.sub ≡ Some c.in-Some.found.now = sym (c.in-Some.ensures ∙ ap (λ subs. slice_get subs c.args.sub) c.deref.ensures.value) in
-    let same : c.index_mut.result.now ≡ c.in-Some.found.now = c.index_mut.ensures.value ∙ get_or_from_slice_get c.self.inside.subs.items c.args.sub c.in-Some.found.now c.index_mut.result.now here in
-    let may = may_go_first c.self.inside.config.batch c.self.inside.front c.in-Some.found.now.lane c.in-Some-first_ready.span (ap (λ b. first_ready (lane_spans b c.self.inside.front c.in-Some.found.now.lane)) (sym c.batch.ensures.value) ∙ sym c.first_ready.ensures.value ∙ c.in-Some-first_ready.is) in
-    let found : IsOpen c.self.inside.config.batch c.self.inside.front c.self.inside.turn c.self.inside.next_delivery c.self.inside.subs.items c.args.sub c.in-Some.found.now =
-    record { one = c.self.invariant.0.0; belong = c.self.invariant.1; found = here; is_open = c.if-found.false; joins = c.first_ready.ensures.joined } in
-    let made : c.hand.new.self ≡ delivered_sub c.in-Some.found.now c.in-Some-first_ready.span c.self.inside.next_delivery c.max-clock.result = c.in_ok-hand.ensures.ok ∙ ap (λ sub. delivered_sub sub c.in-Some-first_ready.span c.self.inside.next_delivery c.max-clock.result) same in
-    let shows = handed_shown c.self.inside.config c.self.inside.front c.self.inside.turn c.self.inside.next_delivery c.self.inside.subs.items c.args.sub c.in-Some.found.now found c.self.inside.closing c.self.inside.clock c.max-clock.result c.self.inside.next_link c.in-Some-first_ready.span may in
-    let clock : c.max-clock.result ≡ max c.self.inside.clock c.args.now = c.max-clock.ensures in
-    let call = taken c.self.inside.config c.self.inside.front c.self.inside.closing c.self.inside.clock c.self.inside.next_link c.self.inside.next_delivery c.self.inside.subs.items c.args.sub c.in-Some.found.now here c.args.link c.args.cursor c.args.now c.if-found-link.false c.if-found.false (omega (arith, c.if-out-window.false, c.window.ensures, c.out.ensures)) c.in-Some-first_ready.span (ap (λ b. first_ready (lane_spans b c.self.inside.front c.in-Some.found.now.lane)) (sym c.batch.ensures.value) ∙ sym c.first_ready.ensures.value ∙ c.in-Some-first_ready.is) in
-    let given : delivery_from (shown c.self.inside.config c.self.inside.front c.self.inside.closing c.self.inside.clock c.self.inside.next_link c.self.inside.next_delivery c.self.inside.subs.items) c.args.sub (shown_sub c.self.inside.config.batch c.self.inside.front c.in-Some.found.now) c.in-Some-first_ready.span ≡ c.of.result =
-    ap (λ link. record { number = c.self.inside.next_delivery; sub = c.args.sub; link = link; first = c.in-Some-first_ready.span.first; last = c.in-Some-first_ready.span.last }) c.if-found-link.false ∙ sym c.of.ensures in
-    rw (← c.self.view_is, made, c.in_ok-next_delivery.ensures)
-    (call ∙ (λ i. (Ok (given i), delivered_picture (shown c.self.inside.config c.self.inside.front c.self.inside.closing c.self.inside.clock c.self.inside.next_link c.self.inside.next_delivery c.self.inside.subs.items) c.args.sub (shown_sub c.self.inside.config.batch c.self.inside.front c.in-Some.found.now) c.in-Some-first_ready.span (sym clock i))) ∙ ap (λ p. (Ok c.of.result, p)) (sym shows))
+    let here : slice_get c.self.inside.subs.items c.args.sub ≡ Some c.in-Some.found.now =
+    sym (c.in-Some.ensures ∙ ap (λ subs. slice_get subs c.args.sub) c.deref.ensures.value) in
+    let first = ap (λ b. first_ready (lane_spans b c.self.inside.front c.in-Some.found.now.lane)) (sym c.batch.ensures.value)
+    ∙ sym c.first_ready.ensures.value ∙ c.in-Some-first_ready.is in
+    let may = may_go_first c.self.inside.config.batch c.self.inside.front c.in-Some.found.now.lane c.in-Some-first_ready.span
+    first in
+    let found : IsOpen c.self.inside.config.batch c.self.inside.front c.self.inside.turn c.self.inside.next_delivery
+    c.self.inside.subs.items c.args.sub c.in-Some.found.now =
+    record {
+      one = c.self.invariant.0.0;
+      belong = c.self.invariant.1;
+      found = here;
+      is_open = c.if-found.false;
+      joins = c.first_ready.ensures.joined;
+    } in
+    let call = taken c.self.inside.config c.self.inside.front c.self.inside.closing c.self.inside.clock
+    c.self.inside.next_link c.self.inside.next_delivery c.self.inside.subs.items c.args.sub c.in-Some.found.now here
+    c.args.link c.args.cursor c.args.now c.if-found-link.false c.if-found.false
+    (omega (arith, c.if-out-window.false, c.window.ensures, c.out.ensures)) c.in-Some-first_ready.span first in
+    rw (← c.self.view_is, call) (delivered_answers c.self.inside.config c.self.inside.front c.self.inside.turn
+    c.self.inside.next_delivery c.self.inside.subs.items c.args.sub c.in-Some.found.now found c.self.inside.closing
+    c.self.inside.next_link c.in-Some-first_ready.span c.self.inside.clock c.args.now _ _ _ c.deliver.result may
+    c.deliver.ensures)

@@ -1,6 +1,6 @@
 use Rattle.std.proofs.Common.{◌≡◌, IfSome, drop}
 use Rattle.rb_desk.specs.Shown.{first_to_deliver, goes_first, IsJoinedAt}
-use Rattle.rb_desk.proofs.taking.first_to_go.Given as goal
+use Rattle.rb_desk.proofs.taking.first_to_deliver.Given as goal
 
 -- the first so far, or the first of those that are left, is the first of all
 abbrev pub invariant-loop-i : goal.invariant-loop-i

@@ -1,0 +1,35 @@
+use Rattle.std.proofs.Common.{◌≡◌, ◌∙◌, max, Some, Err, ap, sym, refl, slice_get, slice_set}
+use Rattle.std.proofs.lemmas.Result.{err_from_is_err_and}
+use Rattle.std.proofs.lemmas.Option.{get_or_from_slice_get}
+use Rattle.std.proofs.lemmas.List.{set-get_or}
+use Rattle.rb_desk.specs.declared.sub.Sub.{Sub}
+use Rattle.rb_desk.specs.Shown.{delivered_sub}
+use Rattle.rb_desk.proofs.taking.deliver.Goals as goal
+
+pub returns-in_err-deliver : goal.returns-in_err-deliver
+returns-in_err-deliver c =
+    let memory = err_from_is_err_and c.from_residual-in_err-deliver.result c.from_residual-in_err-deliver.ensures.1 in
+    let back : slice_set c.args.subs.now.items c.args.sub c.deliver.new.self ≡ c.args.subs.now.items =
+    ap (slice_set c.args.subs.now.items c.args.sub) (c.in_err-deliver.ensures.err ∙ c.index_mut-found.ensures.value)
+    ∙ set-get_or c.args.subs.now.items c.args.sub c.index_mut-found.result.now in
+    rw (memory.1 ∙ ap Err memory.2) (refl, back, refl, refl)
+
+pub returns : goal.returns
+returns c found here =
+    let same : c.index_mut-found.result.now ≡ found = c.index_mut-found.ensures.value
+    ∙ get_or_from_slice_get c.args.subs.now.items c.args.sub found c.index_mut-found.result.now here in
+    let clock : c.max-taken.result ≡ max c.args.clock.now c.args.now = c.max-taken.ensures in
+    let made : c.deliver.new.self ≡ delivered_sub found c.args.span c.args.next_delivery.now (max c.args.clock.now c.args.now) =
+    c.in_ok-deliver.ensures.ok ∙ (λ i. delivered_sub (same i) c.args.span c.args.next_delivery.now (clock i)) in
+    record {
+      delivery_is = c.of.ensures ∙ ap (λ (sub : Sub). record {
+        number = c.args.next_delivery.now;
+        sub = c.args.sub;
+        link = sub.link;
+        first = c.args.span.first;
+        last = c.args.span.last;
+      }) same;
+      subs_are = ap (slice_set c.args.subs.now.items c.args.sub) made;
+      next_is = c.in_ok-next.ensures;
+      clock_is = clock;
+    }
