@@ -11,7 +11,7 @@ ghost use Rattle.cs_parse.specs.Count.{bytes_after, counted};
 ghost use Rattle.cs_parse.specs.Front.{changes_front};
 ghost use Rattle.cs_parse.specs.Reading.{Reads, op_of, marked_at, change_at, ends_section, changes_at};
 
-use crate::canonical::both;
+use crate::and::both;
 use crate::fault::FaultKind;
 use crate::record::skip_records;
 use crate::stop::ParseRefusal;

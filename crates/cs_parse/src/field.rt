@@ -7,7 +7,7 @@ ghost use Rattle.cs_parse.specs.Canonical.{counted_bytes, HasShortest};
 ghost use Rattle.cs_parse.specs.FieldRules.{rule_of};
 ghost use Rattle.cs_parse.specs.Reading.{Reads, counted_at, typed_at, field_at};
 
-use crate::canonical::both;
+use crate::and::both;
 use crate::number::{integer_of, length_of};
 use crate::rule::{FieldRule, type_fault};
 use crate::stop::ParseRefusal;

@@ -10,7 +10,7 @@ ghost use Rattle.cs_parse.specs.declared.stop.ParseRefusal.TheVariants.{Short};
 use crate::change::{is_over, whole_changes};
 use crate::fault::{ParseError, ParseFault};
 use crate::growing::Growing;
-use crate::name::header_short;
+use crate::header_spot::header_short;
 use crate::section::whole_sections;
 use crate::spot::{Spot, still_short};
 use crate::stop::ParseRefusal;

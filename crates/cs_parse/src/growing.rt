@@ -48,13 +48,21 @@ fn no_changes(alloc: Global) -> Changeset
     Changeset::from_seq(Seq::from_vec(Vec::new(alloc)))
 }
 
+// takes the sections out, and leaves none
+fn take_sections(alloc: Global, changeset: &mut Changeset) -> Vec<Section>
+    ensures sections { result.items ≡ changeset.old }
+    ensures valid { IsChangeset changeset.old }
+{
+    mem::replace(changeset, no_changes(alloc))
+        .into_seq()
+        .into_vec()
+}
+
 // Takes the last section's changes out, as their bytes, in one move.
 fn take_last(alloc: Global, changeset: &mut Changeset) -> (Vec<u8>, usize)
     ensures { OpenedSection changeset.old changeset.new result.0.items result.1 }
 {
-    let mut sections = mem::replace(changeset, no_changes(alloc))
-        .into_seq()
-        .into_vec();
+    let mut sections = take_sections(alloc, changeset);
     let taken = take_from(alloc, &mut sections);
     *changeset = Changeset::from_seq(Seq::from_vec(sections));
     taken
@@ -83,9 +91,7 @@ fn put_at(alloc: Global, changeset: &mut Changeset, len: usize, bytes: Vec<u8>, 
     ensures { changeset.new
         ≡ with_text (take len changeset.old) bytes.items ++ drop len changeset.old }
 {
-    let mut sections = mem::replace(changeset, no_changes(alloc))
-        .into_seq()
-        .into_vec();
+    let mut sections = take_sections(alloc, changeset);
     put_into(&mut sections, len, bytes, count);
     *changeset = Changeset::from_seq(Seq::from_vec(sections));
 }
@@ -122,9 +128,7 @@ fn append(alloc: Global, changeset: &mut Changeset, more: Changeset) -> Result<(
     ensures err { OnErr result (changeset.new ≡ changeset.old) }
 {
     let mut more = more.into_seq().into_vec();
-    let mut sections = mem::replace(changeset, no_changes(alloc))
-        .into_seq()
-        .into_vec();
+    let mut sections = take_sections(alloc, changeset);
     let added = sections.append(&mut more);
     *changeset = Changeset::from_seq(Seq::from_vec(sections));
     added
@@ -134,9 +138,7 @@ fn append(alloc: Global, changeset: &mut Changeset, more: Changeset) -> Result<(
 fn cut(alloc: Global, changeset: &mut Changeset, len: usize)
     ensures { changeset.new ≡ take len changeset.old }
 {
-    let mut sections = mem::replace(changeset, no_changes(alloc))
-        .into_seq()
-        .into_vec();
+    let mut sections = take_sections(alloc, changeset);
     sections.truncate(len);
     *changeset = Changeset::from_seq(Seq::from_vec(sections));
 }

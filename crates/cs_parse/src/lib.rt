@@ -3,7 +3,7 @@
 //! says; and how a text was cut into pieces makes no difference.
 #![tactic(auto)]
 
-mod canonical;
+mod and;
 mod change;
 mod end;
 mod fault;
@@ -13,7 +13,7 @@ mod growing;
 mod header;
 mod lack;
 pub mod laws;
-mod name;
+mod header_spot;
 mod number;
 mod pieces;
 mod record;

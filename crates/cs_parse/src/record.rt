@@ -10,7 +10,7 @@ ghost use Rattle.cs_parse.specs.Count.{bytes_after};
 ghost use Rattle.cs_parse.specs.FieldRules.{rule_of, column_rule};
 ghost use Rattle.cs_parse.specs.Reading.{Reads, record_at, records_at};
 
-use crate::canonical::both;
+use crate::and::both;
 use crate::field::field_in;
 use crate::rule::{FieldRule, rule_by_flag, rule_by_old};
 use crate::stop::ParseRefusal;

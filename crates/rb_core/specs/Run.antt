@@ -6,7 +6,11 @@ use Rattle.rb_core.specs.declared.event.Event.{Event}
 use Rattle.rb_core.specs.declared.event.Event.TheVariants as event
 use Rattle.rb_core.specs.declared.reply.Reply.{Reply}
 use Rattle.rb_core.specs.Outcome.{outcome}
-use Rattle.rb_core.specs.State.{State}
+use Rattle.std.specs.List.{AllByRecursion}
+use Rattle.cs_model.specs.declared.shape.Shape.{Shape}
+use Rattle.rb_desk.specs.IsPicture.{AreInRange}
+use Rattle.rb_desk.specs.Limits.{Limits}
+use Rattle.rb_core.specs.State.{State, empty_world}
 
 -- what an event is answered: a reply, or that memory ran out
 abbrev pub Answer : Type 0
@@ -28,3 +32,16 @@ Run old (event ∷ events) (answer ∷ answers) new = (mid : State) × Stepped o
 abbrev pub FeedsBytes : Event → Type 0
 FeedsBytes (event.Feed p bytes) = AreBytes bytes
 FeedsBytes other = Unit {0}
+
+-- A run from the start: from the empty world of this schema, under limits in their ranges, these events are answered so
+-- and leave new. What they feed are bytes.
+pub record IsRunOf (limits : Limits) (schema : List Shape) (events : List Event) (answers : List Answer)
+    (new : State) : Type 0 where
+  pub ranges : AreInRange limits
+  pub feeds : AllByRecursion FeedsBytes events
+  pub run : Run (empty_world limits schema) events answers new
+
+-- A run goes on: from mid, more events are answered so and leave new. What they feed are bytes.
+pub record RunsOn (mid : State) (more : List Event) (later : List Answer) (new : State) : Type 0 where
+  pub feeds : AllByRecursion FeedsBytes more
+  pub run : Run mid more later new

@@ -4,7 +4,6 @@
 //! broker.
 
 ghost use Rattle.std.specs.Prelude.{◌≡◌, ◌++◌, ℕ, true, List, Some, None, slice_get};
-ghost use Rattle.std.specs.List.{AllByRecursion};
 ghost use Rattle.cs_model.specs.Bytes.{AreBytes};
 ghost use Rattle.cs_model.specs.declared.shape.Shape.{Shape};
 ghost use Rattle.cs_parse.specs.Progress.{Took};
@@ -14,12 +13,11 @@ ghost use Rattle.rb_core.specs.declared.publisher.Publisher.{Publisher};
 ghost use Rattle.rb_core.specs.declared.reply.Reply.{Reply};
 ghost use Rattle.rb_core.specs.Moves.{Leads, HasRun, StaysClosed, items_of, own_of, IsFront};
 ghost use Rattle.rb_core.specs.Outcome.{outcome};
-ghost use Rattle.rb_core.specs.Run.{Answer, Run, FeedsBytes};
-ghost use Rattle.rb_core.specs.State.{State, IsWorld, empty_tables, empty_world};
+ghost use Rattle.rb_core.specs.Run.{Answer, IsRunOf, RunsOn};
+ghost use Rattle.rb_core.specs.State.{State, IsWorld, empty_tables};
 ghost use Rattle.rb_core.specs.Texts.{FeedsByText, EndsByText};
 ghost use Rattle.rb_core.specs.Told.{world_told, IsToldBy};
 ghost use Rattle.rb_core.specs.World.{Sender, Subscriber, World, world_begun, endpoint_of};
-ghost use Rattle.rb_desk.specs.IsPicture.{AreInRange};
 ghost use Rattle.rb_desk.specs.Limits.{Limits};
 ghost use Rattle.rb_sequence.specs.Entry.{Entry};
 ghost use Rattle.rb_subscriber.specs.Accept.{AppliesSingly};
@@ -68,14 +66,13 @@ pub fn streams_answer_by_text()
 /// course goes on from there.
 pub fn runs_are_told()
     ensures told { (limits : Limits) (schema : List Shape) (events : List Event)
-        (answers : List Answer) (new : State) → AreInRange limits
-        → AllByRecursion FeedsBytes events → Run (empty_world limits schema) events answers new
+        (answers : List Answer) (new : State)
+        → IsRunOf limits schema events answers new
         → ((mids : List World) × Leads world_begun mids (world_told schema events answers))
         × IsToldBy schema new (world_told schema events answers) }
     ensures goes_on { (limits : Limits) (schema : List Shape) (events more : List Event)
-        (answers later : List Answer) (mid new : State) → AreInRange limits
-        → AllByRecursion FeedsBytes events → AllByRecursion FeedsBytes more
-        → Run (empty_world limits schema) events answers mid → Run mid more later new
+        (answers later : List Answer) (mid new : State)
+        → IsRunOf limits schema events answers mid → RunsOn mid more later new
         → ((mids : List World) × Leads (world_told schema events answers) mids (world_told schema (events ++ more) (answers ++ later)))
         × IsToldBy schema new (world_told schema (events ++ more) (answers ++ later)) }
 {
@@ -91,8 +88,8 @@ pub fn runs_are_told()
 /// it. So `streams_answer_by_text` says of that text what it is answered.
 pub fn streams_take_what_is_fed()
     ensures { (limits : Limits) (schema : List Shape) (events : List Event)
-        (answers : List Answer) (new : State) (p : ℕ) (publisher : Publisher) → AreInRange limits
-        → AllByRecursion FeedsBytes events → Run (empty_world limits schema) events answers new
+        (answers : List Answer) (new : State) (p : ℕ) (publisher : Publisher)
+        → IsRunOf limits schema events answers new
         → slice_get new.publishers p ≡ Some publisher
         → (sender : Sender) × (slice_get (world_told schema events answers).senders p ≡ Some sender) × Took publisher.stream sender.text }
 {
@@ -103,8 +100,8 @@ pub fn streams_take_what_is_fed()
 /// each one comes once. Its end has come as far.
 pub fn accepted_is_gapless()
     ensures { (limits : Limits) (schema : List Shape) (events : List Event)
-        (answers : List Answer) (new : State) (s : ℕ) (subscriber : Subscriber) → AreInRange limits
-        → AllByRecursion FeedsBytes events → Run (empty_world limits schema) events answers new
+        (answers : List Answer) (new : State) (s : ℕ) (subscriber : Subscriber)
+        → IsRunOf limits schema events answers new
         → slice_get (world_told schema events answers).subscribers s ≡ Some subscriber
         → HasRun new.sequence subscriber × (slice_get new.endpoints s ≡ Some (endpoint_of subscriber)) }
 {
@@ -116,13 +113,13 @@ pub fn accepted_is_gapless()
 /// entries have the same publisher and the same own number, so that each sending is placed once.
 pub fn sendings_come_once_in_order()
     ensures order { (limits : Limits) (schema : List Shape) (events : List Event)
-        (answers : List Answer) (new : State) (p : ℕ) (sender : Sender) → AreInRange limits
-        → AllByRecursion FeedsBytes events → Run (empty_world limits schema) events answers new
+        (answers : List Answer) (new : State) (p : ℕ) (sender : Sender)
+        → IsRunOf limits schema events answers new
         → slice_get (world_told schema events answers).senders p ≡ Some sender
         → IsFront (own_of p (items_of new.sequence)) sender.sent }
     ensures once { (limits : Limits) (schema : List Shape) (events : List Event)
-        (answers : List Answer) (new : State) (i j : ℕ) (a b : Entry) → AreInRange limits
-        → AllByRecursion FeedsBytes events → Run (empty_world limits schema) events answers new
+        (answers : List Answer) (new : State) (i j : ℕ) (a b : Entry)
+        → IsRunOf limits schema events answers new
         → slice_get new.sequence i ≡ Some a → slice_get new.sequence j ≡ Some b
         → a.item.publisher ≡ b.item.publisher → a.item.own ≡ b.item.own → i ≡ j }
 {
@@ -134,15 +131,13 @@ pub fn sendings_come_once_in_order()
 /// so and accepts nothing more.
 pub fn nothing_after_close()
     ensures sequence { (limits : Limits) (schema : List Shape) (events more : List Event)
-        (answers later : List Answer) (mid new : State) (last : ℕ) → AreInRange limits
-        → AllByRecursion FeedsBytes events → AllByRecursion FeedsBytes more
-        → Run (empty_world limits schema) events answers mid → Run mid more later new
+        (answers later : List Answer) (mid new : State) (last : ℕ)
+        → IsRunOf limits schema events answers mid → RunsOn mid more later new
         → mid.desk.closing ≡ Some last
         → (new.desk.closing ≡ Some last) × (new.sequence ≡ mid.sequence) }
     ensures subscription { (limits : Limits) (schema : List Shape) (events more : List Event)
         (answers later : List Answer) (mid new : State) (s : ℕ) (subscriber : Subscriber)
-        → AreInRange limits → AllByRecursion FeedsBytes events → AllByRecursion FeedsBytes more
-        → Run (empty_world limits schema) events answers mid → Run mid more later new
+        → IsRunOf limits schema events answers mid → RunsOn mid more later new
         → slice_get (world_told schema events answers).subscribers s ≡ Some subscriber
         → subscriber.closed ≡ true
         → (after : Subscriber) × (slice_get (world_told schema (events ++ more) (answers ++ later)).subscribers s ≡ Some after) × StaysClosed subscriber after }
@@ -155,8 +150,8 @@ pub fn nothing_after_close()
 /// tables, one after another.
 pub fn tables_apply_singly()
     ensures { (limits : Limits) (schema : List Shape) (events : List Event)
-        (answers : List Answer) (new : State) (s : ℕ) (subscriber : Subscriber) → AreInRange limits
-        → AllByRecursion FeedsBytes events → Run (empty_world limits schema) events answers new
+        (answers : List Answer) (new : State) (s : ℕ) (subscriber : Subscriber)
+        → IsRunOf limits schema events answers new
         → slice_get (world_told schema events answers).subscribers s ≡ Some subscriber
         → AppliesSingly (empty_tables schema) subscriber.accepted subscriber.tables }
 {

@@ -1,6 +1,6 @@
 //! Publishers.
 
-ghost use Rattle.std.specs.Prelude.{◌≡◌, ◌<◌, List, Some, length, slice_get, nat_le, IfOk, OnErr};
+ghost use Rattle.std.specs.Prelude.{◌≡◌, List, Some, length, slice_get, nat_le, IfOk, OnErr, IsSome, IsSomeAnd};
 ghost use Rattle.cs_model.specs.Section.{Section};
 ghost use Rattle.cs_parse.specs.End.{admitted_answer, left_by};
 ghost use Rattle.cs_parse.specs.Progress.{answer_at_end};
@@ -127,7 +127,7 @@ impl Parts {
 
     // sends what a publisher has staged
     fn queue(&mut self, publisher: u64) -> Result<Reply, AllocError>
-        requires { publisher < length self.old.publishers }
+        requires { IsSomeAnd (slice_get self.old.publishers publisher) (λ found. IsSome found.staged) }
         ensures ok { IfOk result (λ reply. (found : Publisher) (changeset : List Section)
             → slice_get self.old.publishers publisher ≡ Some found → found.staged ≡ Some changeset
             → outcome.sent_item self.old publisher found changeset ≡ (reply, self.new)) }
@@ -138,19 +138,15 @@ impl Parts {
         let own = self.publishers[p].sent.checked_add(1).ok_or(AllocError)?;
         self.intake.reserve(1)?;
         let found = &mut self.publishers[p];
+        let body = found.staged.take().unwrap();
         found.sent = own;
-        match found.staged.take() {
-            None => refused(BrokerRefusal::NothingStaged),
-            Some(body) => {
-                self.intake.push_back(Item {
-                    publisher,
-                    own,
-                    origin: Origin::Sent,
-                    body,
-                })?;
-                Ok(Reply::Sent(own))
-            }
-        }
+        self.intake.push_back(Item {
+            publisher,
+            own,
+            origin: Origin::Sent,
+            body,
+        })?;
+        Ok(Reply::Sent(own))
     }
 }
 

@@ -1,8 +1,7 @@
 //! The sequence: items that get a number, and its end.
 
-ghost use Rattle.std.specs.Prelude.{◌≡◌, None, IfOk, OnErr, IsOk};
+ghost use Rattle.std.specs.Prelude.{◌≡◌, None, IfOk, OnErr};
 ghost use Rattle.std.specs.Option.{option_copied};
-ghost use Rattle.rb_desk.specs.Calls.{prepare};
 ghost use Rattle.rb_core.specs.Outcome.{hand_of, rest_of};
 ghost use Rattle.rb_core.specs.Outcome as outcome;
 
@@ -20,35 +19,19 @@ impl Parts {
         ensures ok { IfOk result (λ reply. outcome.turned self.old ≡ (reply, self.new)) }
         ensures err { OnErr result (self.new ≡ self.old) }
     {
-        if self.next_item().is_none() {
+        let Some(item) = self.next_item() else {
             return Ok(Reply::Idle);
-        }
+        };
         if let Err(why) = self.desk.prepare() {
             self.pull();
             return refused(BrokerRefusal::Desk(why));
         }
-        self.place_next(alloc)
-    }
-
-    // The same where there is an item and the desk has a number. All memory is taken before anything moves.
-    fn place_next(&mut self, alloc: Global) -> Result<Reply, AllocError>
-        requires { IsOk (prepare self.old.desk) }
-        ensures ok { IfOk result (λ reply. outcome.turned self.old ≡ (reply, self.new)) }
-        ensures err { OnErr result (self.new ≡ self.old) }
-    {
-        let text = match self.next_item() {
-            None => return Ok(Reply::Idle),
-            Some(item) => item.text(alloc)?,
-        };
+        let text = item.text(alloc)?;
         self.sequence.reserve(1)?;
-        match take_next(&mut self.hand, &mut self.intake) {
-            None => Ok(Reply::Idle),
-            Some(item) => {
-                let number = self.desk.place();
-                self.sequence.push_reserved(Entry::new(number, item, text));
-                Ok(Reply::Placed(number))
-            }
-        }
+        let item = take_next(&mut self.hand, &mut self.intake).unwrap();
+        let number = self.desk.place();
+        self.sequence.push_reserved(Entry::new(number, item, text));
+        Ok(Reply::Placed(number))
     }
 
     // the item that a turn places next

@@ -1,5 +1,5 @@
 use Rattle.cs_parse.proofs.NameLaws.{shape_none, before_short, name_shorter, name_begins, begins_short}
-use Rattle.cs_parse.proofs.name.first_name.Goals as goal
+use Rattle.cs_parse.proofs.header_spot.first_name.Goals as goal
 
 pub returns-in_default : goal.returns-in_default
 returns-in_default c = begins_short c.args.bytes.now (shape_none c.args.bytes.now c.in_default.ensures.cases)
