@@ -67,7 +67,7 @@ end_staged old p q r changeset found none e same =
 accept_found : (old : State) (d : ℕ) (delivery : Delivery) (e : Endpoint) → delivery_of old d ≡ Some delivery → slice_get old.endpoints delivery.sub ≡ Some e → outcome.accepted old d ≡ accepted_by old delivery.sub (accept e old.sequence delivery)
 accept_found old d delivery e found end = ap (λ o. accepted_as old o) found ∙ ap (λ o. accepted_at old delivery o) end
 
-pub accept_refused : (old : State) (d : ℕ) (delivery : Delivery) (e f : Endpoint) (why : BrokerRefusal) → delivery_of old d ≡ Some delivery → slice_get old.endpoints delivery.sub ≡ Some e → accept e old.sequence delivery ≡ Err why → f ≡ e
+pub accept_refused : (old : State) (d : ℕ) (delivery : Delivery) (e f : Endpoint) (why : AcceptRefusal) → delivery_of old d ≡ Some delivery → slice_get old.endpoints delivery.sub ≡ Some e → accept e old.sequence delivery ≡ Err why → f ≡ e
     → outcome.accepted old d ≡ (reply.Refused (refusal.Accept why), with_endpoint old delivery.sub f)
 accept_refused old d delivery e f why found end err same =
     let back : with_endpoint old delivery.sub f ≡ old =
@@ -80,7 +80,7 @@ accept_done old d delivery e f cursor found end ok at =
     accept_found old d delivery e found end ∙ ap (λ r. accepted_by old delivery.sub r) ok ∙ ap (λ n. (reply.Accepted delivery.sub n, with_endpoint old delivery.sub f)) (sym at)
 
 -- the same, as an end's accept answers it of the entries that it is lent
-pub refused_as : (old : State) (d s : ℕ) (delivery : Delivery) (e f : Endpoint) (entries : List Entry) (r : Result ℕ AcceptError) (error : AcceptError) (why : BrokerRefusal) → delivery_of old d ≡ Some delivery → s ≡ delivery.sub
+pub refused_as : (old : State) (d s : ℕ) (delivery : Delivery) (e f : Endpoint) (entries : List Entry) (r : Result ℕ AcceptError) (error : AcceptError) (why : AcceptRefusal) → delivery_of old d ≡ Some delivery → s ≡ delivery.sub
     → slice_get old.endpoints s ≡ Some e → entries ≡ old.sequence → AcceptAnswers r (accept e entries delivery) e f → r ≡ Err error → error ≡ Refused why → outcome.accepted old d ≡ (reply.Refused (refusal.Accept why), with_endpoint old s f)
 refused_as old d s delivery e f entries r error why found sub end lent answers err is =
     let told : AcceptAnswers (Err (Refused why)) (accept e entries delivery) e f = subst (λ (x : Result ℕ AcceptError). AcceptAnswers x (accept e entries delivery) e f) (err ∙ ap (λ (x : AcceptError). Err x) is) answers in
