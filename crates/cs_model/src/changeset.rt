@@ -1,10 +1,11 @@
 //! Whole changesets.
 
-ghost use Rattle.std.specs.Prelude.{◌≡◌, ◌++◌, OnOk, OnErr};
+ghost use Rattle.std.specs.Prelude.{◌≡◌, ◌++◌, ◌==◌, [], OnOk, OnErr, length};
 ghost use Rattle.cs_model.specs.Changeset.{IsChangeset};
 
 use crate::copy::CopyIn;
 use crate::section::Section;
+use crate::section_ref::SectionRefs;
 use crate::seq::Seq;
 use std::alloc::{AllocError, Global};
 use std::marker::Model;
@@ -28,7 +29,38 @@ impl Model for Changeset {
 }
 
 impl Changeset {
-    /// The changeset of these sections, without a copy.
+    /// A changeset without sections.
+    pub fn new(alloc: Global) -> Changeset
+        ensures { result ≡ [] }
+    {
+        Changeset {
+            sections: Seq::from_vec(Vec::new(alloc)),
+        }
+    }
+
+    /// How many sections it has.
+    pub fn len(&self) -> usize
+        ensures { result ≡ length self.now }
+    {
+        self.sections.len()
+    }
+
+    /// Whether it has no sections.
+    pub fn is_empty(&self) -> bool
+        ensures { result ≡ (length self.now == 0) }
+    {
+        self.sections.is_empty()
+    }
+
+    /// Its sections, in order.
+    pub fn iter(&self) -> SectionRefs<'_>
+        ensures same { result ≡ self.now }
+        ensures valid { IsChangeset self.now }
+    {
+        SectionRefs::of(&self.sections)
+    }
+
+    /// The changeset of these sections, without a copy. cs_parse and cs_write use it.
     pub fn from_seq(sections: Seq<Section>) -> Changeset
         requires { IsChangeset sections }
         ensures { result ≡ sections }
@@ -36,7 +68,7 @@ impl Changeset {
         Changeset { sections }
     }
 
-    /// Its sections, in order.
+    /// Its sections, in order. cs_parse and cs_write use it; others read by `iter`.
     pub fn sections(&self) -> &[Section]
         ensures same { result.now ≡ self.now }
         ensures valid { IsChangeset self.now }
@@ -53,7 +85,7 @@ impl Changeset {
         self.sections.append(more)
     }
 
-    /// Its sections, without a copy.
+    /// Its sections, without a copy. cs_parse and cs_write use it; others read by `iter`.
     pub fn into_seq(self) -> Seq<Section>
         ensures same { result ≡ self }
         ensures valid { IsChangeset self }
