@@ -10,7 +10,8 @@ use crate::seq::Seq;
 use std::alloc::{AllocError, Global};
 use std::marker::Model;
 
-/// A changeset ("The Session Extension"): sections in order, each with changes that fit its table. Contracts see the list of sections.
+/// A changeset ("The Session Extension"): sections in order, each with changes that fit its table.
+/// Contracts see the list of sections.
 #[derive(Debug, Drop)]
 pub struct Changeset {
     sections: Seq<Section>,
@@ -76,7 +77,8 @@ impl Changeset {
         &self.sections
     }
 
-    /// Adds copies of another changeset's sections, behind its own. An `Err` leaves the changeset as it was.
+    /// Adds copies of another changeset's sections, behind its own. An `Err` leaves the changeset
+    /// as it was.
     pub fn append(&mut self, alloc: Global, other: &Changeset) -> Result<(), AllocError>
         ensures ok { OnOk result (self.new ≡ self.old ++ other.now) }
         ensures err { OnErr result (self.new ≡ self.old) }
