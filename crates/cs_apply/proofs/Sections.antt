@@ -1,6 +1,5 @@
 -- Changes one more at a time, and sections one more at a time.
-use Rattle.std.proofs.Common.{◌≡◌, ℕ, suc, ◌+◌, ◌<◌, ◌≤◌, Bool, List, [], ◌∷◌, ◌++◌, length, map, drop, get_or, Option, Some, None, Result, Ok, Err, refl, sym, ap, ◌∙◌, add-one, arith, drop-cons}
-use Rattle.std.proofs.Math.ListN.{drop_of_length-le}
+use Rattle.std.proofs.Common.{◌≡◌, ℕ, suc, ◌+◌, Bool, List, [], ◌∷◌, ◌++◌, length, map, Option, Some, None, Result, Ok, Err, refl, sym, ap, ◌∙◌, arith}
 use Rattle.cs_model.specs.declared.shape.Shape.{Shape}
 use Rattle.cs_model.specs.declared.change.Change.{Change}
 use Rattle.cs_model.specs.Section.{Section}
@@ -70,43 +69,39 @@ module _ (schema : List Shape) (kept : List Bool) where
       ∙ other_section shape none changes rest (suc at) end rows (omega arith)
 
   -- one section more
-  next_sections : (sections : List Section) (k : ℕ) (section : Section) → k < length sections → section ≡ get_or sections k section
-      → changes_of (drop k sections) ≡ map (λ change. (section.shape, change)) section.changes ++ changes_of (drop (k + 1) sections)
-  next_sections sections k section lt is =
-      let e : drop k sections ≡ section ∷ drop (suc k) sections = drop-cons sections k section lt ∙ ap (λ (x : Section). x ∷ drop (suc k) sections) (sym is) in
-      rw (add-one, e) refl
+  next_sections : (section : Section) (rest sections : List Section) → sections ≡ section ∷ rest
+      → changes_of sections ≡ map (λ change. (section.shape, change)) section.changes ++ changes_of rest
+  next_sections section rest sections is = rw is refl
 
   -- a section that is kept and has its effect is done with
-  pub section_done : (sections : List Section) (k table : ℕ) (section : Section) (at end : ℕ) (old new : Rows) (all : Result Rows Conflicts) → k < length sections → section ≡ get_or sections k section
+  pub section_done : (section : Section) (rest sections : List Section) (table at end : ℕ) (old new : Rows) (all : Result Rows Conflicts) → sections ≡ section ∷ rest
       → compatible schema kept section.shape ≡ Some table → end ≡ at + length section.changes → section_from table section.shape.flags section.changes at old ≡ Ok new
-      → single_from schema kept (changes_of (drop k sections)) at old ≡ all → single_from schema kept (changes_of (drop (k + 1) sections)) end new ≡ all
-  section_done sections k table section at end old new all lt is here counted ok so_far =
-      let rest = changes_of (drop (k + 1) sections) in
-      sym (ap (λ (cs : List (Shape × Change)). single_from schema kept cs at old) (next_sections sections k section lt is)
-      ∙ kept_section table section.shape here section.changes rest at end old counted ∙ ap (carry (λ after. single_from schema kept rest end after)) ok)
+      → single_from schema kept (changes_of sections) at old ≡ all → single_from schema kept (changes_of rest) end new ≡ all
+  section_done section rest sections table at end old new all is here counted ok so_far =
+      sym (ap (λ (cs : List (Shape × Change)). single_from schema kept cs at old) (next_sections section rest sections is)
+      ∙ kept_section table section.shape here section.changes (changes_of rest) at end old counted ∙ ap (carry (λ after. single_from schema kept (changes_of rest) end after)) ok)
       ∙ so_far
 
   -- a section that stops stops the changeset
-  pub section_stops : (sections : List Section) (k table : ℕ) (section : Section) (at end : ℕ) (old : Rows) (all : Result Rows Conflicts) (e : ApplyError) → k < length sections → section ≡ get_or sections k section
+  pub section_stops : (section : Section) (rest sections : List Section) (table at end : ℕ) (old : Rows) (all : Result Rows Conflicts) (e : ApplyError) → sections ≡ section ∷ rest
       → compatible schema kept section.shape ≡ Some table → end ≡ at + length section.changes → ReportsConflict e (section_from table section.shape.flags section.changes at old)
-      → single_from schema kept (changes_of (drop k sections)) at old ≡ all → ReportsConflict e all
-  section_stops sections k table section at end old all error.Memory lt is here counted stops so_far = tt
-  section_stops sections k table section at end old all (error.Conflict conflict) lt is here counted stops so_far =
-      let rest = changes_of (drop (k + 1) sections) in
-      sym so_far ∙ ap (λ (cs : List (Shape × Change)). single_from schema kept cs at old) (next_sections sections k section lt is)
-      ∙ kept_section table section.shape here section.changes rest at end old counted ∙ ap (carry (λ after. single_from schema kept rest end after)) stops
+      → single_from schema kept (changes_of sections) at old ≡ all → ReportsConflict e all
+  section_stops section rest sections table at end old all error.Memory is here counted stops so_far = tt
+  section_stops section rest sections table at end old all (error.Conflict conflict) is here counted stops so_far =
+      sym so_far ∙ ap (λ (cs : List (Shape × Change)). single_from schema kept cs at old) (next_sections section rest sections is)
+      ∙ kept_section table section.shape here section.changes (changes_of rest) at end old counted ∙ ap (carry (λ after. single_from schema kept (changes_of rest) end after)) stops
 
   -- a section that isn't kept is passed over
-  pub section_passed : (sections : List Section) (k : ℕ) (section : Section) (at end : ℕ) (rows : Rows) (all : Result Rows Conflicts) → k < length sections → section ≡ get_or sections k section
+  pub section_passed : (section : Section) (rest sections : List Section) (at end : ℕ) (rows : Rows) (all : Result Rows Conflicts) → sections ≡ section ∷ rest
       → compatible schema kept section.shape ≡ None → end ≡ at + length section.changes
-      → single_from schema kept (changes_of (drop k sections)) at rows ≡ all → single_from schema kept (changes_of (drop (k + 1) sections)) end rows ≡ all
-  section_passed sections k section at end rows all lt is none counted so_far =
-      sym (ap (λ (cs : List (Shape × Change)). single_from schema kept cs at rows) (next_sections sections k section lt is)
-      ∙ other_section section.shape none section.changes (changes_of (drop (k + 1) sections)) at end rows counted)
+      → single_from schema kept (changes_of sections) at rows ≡ all → single_from schema kept (changes_of rest) end rows ≡ all
+  section_passed section rest sections at end rows all is none counted so_far =
+      sym (ap (λ (cs : List (Shape × Change)). single_from schema kept cs at rows) (next_sections section rest sections is)
+      ∙ other_section section.shape none section.changes (changes_of rest) at end rows counted)
       ∙ so_far
 
   -- no section more
-  pub sections_done : (sections : List Section) (k at : ℕ) (rows : Rows) (all : Result Rows Conflicts) → length sections ≤ k
-      → single_from schema kept (changes_of (drop k sections)) at rows ≡ all → all ≡ Ok rows
+  pub sections_done : (sections : List Section) (at : ℕ) (rows : Rows) (all : Result Rows Conflicts) → sections ≡ []
+      → single_from schema kept (changes_of sections) at rows ≡ all → all ≡ Ok rows
   unfolding single_from
-  sections_done sections k at rows all le so_far = sym so_far ∙ ap (λ (ss : List Section). single_from schema kept (changes_of ss) at rows) (drop_of_length-le sections le)
+  sections_done sections at rows all none so_far = sym so_far ∙ ap (λ (ss : List Section). single_from schema kept (changes_of ss) at rows) none

@@ -4,7 +4,7 @@
 ghost use Rattle.std.specs.Prelude.{◌≡◌, ◌+◌, ◌<◌, ◌^◌, Ok, OnOk, IfErr, length, true};
 ghost use Rattle.std.specs.FinMap as map;
 ghost use Rattle.std.specs.List.{list_all};
-ghost use Rattle.cs_model.specs.Changeset.{IsChange, IsSection, IsChangeset};
+ghost use Rattle.cs_model.specs.Changeset.{IsChange, IsSection};
 ghost use Rattle.cs_model.specs.Row.{values_of};
 ghost use Rattle.cs_model.specs.Rule.{is_defined};
 ghost use Rattle.cs_model.specs.Seen.{change_seen};
@@ -18,7 +18,7 @@ use crate::change_error::ChangeError;
 use crate::conflict::{ApplyError, ConflictKind};
 use crate::places::Places;
 use crate::row::{all_agree, rest_agrees, updated};
-use cs_model::{ChangeRef, Op, RecordRef, Row, RowKey, Schema, Section, Shape};
+use cs_model::{ChangeRef, Changeset, Op, RecordRef, Row, RowKey, Schema, SectionRef, Shape};
 use std::alloc::Global;
 
 // INSERT: the key has no row, and gets the one that the new record says. An `Err` of this and the next two leaves
@@ -121,7 +121,7 @@ fn change_section(
     places: &mut Places,
     alloc: Global,
     table: usize,
-    section: &Section,
+    section: &SectionRef,
     start: usize,
 ) -> Result<(), ApplyError>
     requires counted { start + length section.now.changes < 2 ^ 64 }
@@ -135,7 +135,7 @@ fn change_section(
 {
     let shape = section.shape();
     let mut position = start;
-    for change in section.changes().iter() {
+    for change in section.changes() {
         if let Err(error) = change_row(places, alloc, table, shape, &change) {
             return Err(error.at(position));
         }
@@ -163,23 +163,22 @@ pub(crate) fn change_all(
     alloc: Global,
     schema: &Schema,
     kept: &[bool],
-    sections: &[Section],
+    changeset: &Changeset,
 ) -> Result<(), ApplyError>
-    requires { IsChangeset sections.now }
-    ensures ok { OnOk result (single_from schema.now kept.now (changes_of sections.now) 0
+    ensures ok { OnOk result (single_from schema.now kept.now (changes_of changeset.now) 0
         (rows_in places.old) ≡ Ok (rows_in places.new)) }
     ensures back { Back places.old places.new }
     ensures refused { IfErr result (λ e. ReportsConflict e
-        (single_from schema.now kept.now (changes_of sections.now) 0 (rows_in places.old))) }
+        (single_from schema.now kept.now (changes_of changeset.now) 0 (rows_in places.old))) }
 {
     let mut start: usize = 0;
-    for section in sections {
+    for section in changeset.iter() {
         // no memory holds more changes than a `usize` counts
-        let Some(end) = start.checked_add(section.changes().len()) else {
+        let Some(end) = start.checked_add(section.len()) else {
             return Err(ApplyError::Memory);
         };
         if let Some(table) = kept_table(schema, kept, section.shape()) {
-            change_section(places, alloc, table, section, start)?;
+            change_section(places, alloc, table, &section, start)?;
         }
         start = end;
     }

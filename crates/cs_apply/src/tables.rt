@@ -85,13 +85,7 @@ impl Tables {
         ensures err { OnErr result (self.new ≡ self.old) }
     {
         let places = self.places.len();
-        let applied = change_all(
-            &mut self.places,
-            alloc,
-            &self.schema,
-            &self.kept,
-            changeset.sections(),
-        );
+        let applied = change_all(&mut self.places, alloc, &self.schema, &self.kept, changeset);
         if applied.is_ok() {
             self.places.keep();
         } else {

@@ -10,7 +10,7 @@ use crate::forms::Form;
 use crate::reading::form;
 use crate::replies::{text_of, text_of_desk_refusal};
 use crate::texts::{text_of_entry, text_of_rows};
-use cs_model::{Changeset, Schema, SchemaError, Shape, TableFault};
+use cs_model::{Changeset, CopyIn, Schema, SchemaError, Shape, TableFault};
 use cs_parse::{ParseError, parse};
 use rb_core::{Config, Event, World};
 use rb_desk::DeskRefusal;
@@ -174,23 +174,21 @@ fn header(alloc: Global, bytes: &[u8]) -> Result<Option<Shape>, AllocError>
     ensures { IfOk result (λ shape. shape ≡ header_of_answer (answer_of bytes.now)) }
 {
     match parse(alloc, bytes) {
-        Ok(changeset) => Ok(header_of(changeset)),
+        Ok(changeset) => header_of(alloc, &changeset),
         Err(ParseError::Fault(_)) => Ok(None),
         Err(ParseError::Memory) => Err(AllocError),
     }
 }
 
-fn header_of(changeset: Changeset) -> Option<Shape>
-    ensures { result ≡ header_of_sections changeset }
+fn header_of(alloc: Global, changeset: &Changeset) -> Result<Option<Shape>, AllocError>
+    ensures { IfOk result (λ shape. shape ≡ header_of_sections changeset.now) }
 {
-    let mut sections = changeset.into_seq().into_vec();
-    if sections.len() != 1 {
-        return None;
+    let mut sections = changeset.iter();
+    let Some(section) = sections.next() else {
+        return Ok(None);
+    };
+    if !section.is_empty() || sections.next().is_some() {
+        return Ok(None);
     }
-    let (shape, changes) = sections.pop()?.into_parts();
-    if changes.is_empty() {
-        Some(shape)
-    } else {
-        None
-    }
+    Ok(Some(section.shape().copy_in(alloc)?))
 }

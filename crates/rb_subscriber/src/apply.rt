@@ -7,7 +7,7 @@ ghost use Rattle.cs_apply.specs.Single.{single};
 ghost use Rattle.rb_subscriber.specs.Accept.{first_outside_entry, joined_bodies};
 
 use cs_apply::{ApplyError, Tables};
-use cs_model::{Changeset, CopyIn, Schema, Seq};
+use cs_model::{Changeset, Schema};
 use rb_sequence::Entry;
 use std::alloc::{AllocError, Global};
 
@@ -27,7 +27,7 @@ pub(crate) fn outside<'a>(schema: &Schema, entries: &'a [Entry]) -> Option<&'a E
 fn join(alloc: Global, entries: &[Entry]) -> Result<Changeset, AllocError>
     ensures { IfOk result (λ changeset. changeset ≡ joined_bodies entries.now) }
 {
-    let mut changeset = Changeset::from_seq(Seq::from_vec(Vec::new(alloc)));
+    let mut changeset = Changeset::new(alloc);
     for entry in entries {
         changeset.append(alloc, entry.body())?;
     }

@@ -4,7 +4,7 @@ use Rattle.rb_subscriber.proofs.ApplyLaws.{at_front, joins_more, joins_all}
 use Rattle.rb_subscriber.proofs.apply.join.Goals as goal
 
 pub loop-entry-init : goal.loop-entry-init
-loop-entry-init c = ap (λ made. made ++ joined_bodies c.args.entries.now) (c.from_seq-changeset.ensures ∙ c.from_vec.ensures ∙ c.new.ensures.items)
+loop-entry-init c = ap (λ made. made ++ joined_bodies c.args.entries.now) c.new-changeset.ensures
 
 pub loop-entry-preserved : goal.loop-entry-preserved
 loop-entry-preserved c =
