@@ -1,50 +1,10 @@
-pub mod Loops
-pub mod Letters
-pub mod FirstZero
-pub mod Numbers
-pub mod Steps
-pub mod Exact
-pub mod NumberLaws
-pub mod ExactNumbers
-pub mod FieldLaws
-pub mod ExactValues
-pub mod ExactFields
-pub mod ManyLaws
-pub mod HeaderLaws
-pub mod ExactFlags
-pub mod ExactNames
-pub mod ExactHeader
-pub mod ChangeLaws
-pub mod ExactChanges
-pub mod ExactMany
-pub mod TextLaws
-pub mod Skims
-pub mod Counts
-pub mod CanonicalLaws
-pub mod Fronts
-pub mod ExactSections
-pub mod ExactText
-pub mod FaultLaws
-pub mod CountLaws
-pub mod PieceLaws
-pub mod PartLaws
-pub mod FrontLaws
-pub mod WholeLaws
-pub mod SectionLists
-pub mod FrontParts
-pub mod GrowLaws
-pub mod FrontCounts
-pub mod SectionFronts
-pub mod Batches
-pub mod FaultPlaces
-pub mod PartMore
-pub mod ProgressLaws
-pub mod PartsAnswer
-pub mod ProgressAnswers
-pub mod FeedLaws
-pub mod NameLaws
-pub mod SpotLaws
-pub mod LackLaws
-pub mod StayLaws
-pub mod WaitLaws
-pub mod GrowingLaws
+-- Reading is spelling: what is read was spelled so, and what is spelled so is read.
+pub mod reading
+-- What reading refuses is the text's fault.
+pub mod refusing
+-- However a text is cut into pieces, the answer is the same.
+pub mod joining
+-- What the parser that is fed keeps, and how far it scanned the incomplete item.
+pub mod feeding
+-- Changes counted, skipped and made canonical where they stand.
+pub mod counting

@@ -41,19 +41,12 @@ impl Model for Growing {
     ghost invariant = { λ g. IsGrowing g.changeset g.bytes.items g.kept g.count };
 }
 
-// no sections
-fn no_changes(alloc: Global) -> Changeset
-    ensures { result ≡ [] }
-{
-    Changeset::from_seq(Seq::from_vec(Vec::new(alloc)))
-}
-
 // takes the sections out, and leaves none
 fn take_sections(alloc: Global, changeset: &mut Changeset) -> Vec<Section>
     ensures sections { result.items ≡ changeset.old }
     ensures valid { IsChangeset changeset.old }
 {
-    mem::replace(changeset, no_changes(alloc))
+    mem::replace(changeset, Changeset::new(alloc))
         .into_seq()
         .into_vec()
 }
@@ -148,7 +141,7 @@ impl Growing {
     pub fn new(alloc: Global) -> Growing
         ensures { result ≡ ([], []) }
     {
-        Growing::whole_of(alloc, no_changes(alloc))
+        Growing::whole_of(alloc, Changeset::new(alloc))
     }
 
     // these sections, where nothing waits

@@ -15,7 +15,7 @@ use Rattle.rb_desk.specs.IsPicture.{IsPicture}
 use Rattle.rb_desk.specs.Outline.{Member, Outline, outline_of}
 use Rattle.rb_desk.specs.Outline as outline
 use Rattle.rb_desk.specs.Picture.{Picture}
-use Rattle.rb_desk.proofs.PictureLaws.{get_set}
+use Rattle.rb_desk.proofs.pictures.PictureLaws.{get_set}
 use Rattle.rb_sequence.specs.Entry.{Entry}
 use Rattle.rb_subscriber.specs.Accept.{part, joined_bodies, accept, AcceptsDelivery}
 use Rattle.rb_subscriber.specs.declared.refusal.AcceptRefusal.{AcceptRefusal}

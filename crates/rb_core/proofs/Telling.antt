@@ -7,7 +7,7 @@ use Rattle.cs_model.specs.declared.shape.Shape.{Shape}
 use Rattle.rb_desk.specs.declared.delivery.Delivery.{Delivery}
 use Rattle.rb_desk.specs.Outline.{Member, outline_of}
 use Rattle.rb_desk.specs.Picture.{Picture}
-use Rattle.rb_desk.proofs.PictureLaws.{get_set, get_set_other}
+use Rattle.rb_desk.proofs.pictures.PictureLaws.{get_set, get_set_other}
 use Rattle.rb_subscriber.specs.Endpoint.{Endpoint}
 use Rattle.rb_core.specs.declared.event.Event.{Event}
 use Rattle.rb_core.specs.declared.reply.Reply.{Reply}

@@ -1,31 +1,10 @@
-pub mod CutLaws
-pub mod LaneLaws
-pub mod Line
-pub mod OrderLaws
-pub mod CallLaws
-pub mod FirstLaws
-pub mod JoinLaws
-pub mod ChangeLaws
-pub mod LaneChanges
-pub mod KnownLaws
-pub mod FoundLaws
-pub mod OpenLaws
-pub mod HandLaws
-pub mod CuttingLaws
-pub mod PlaceLaws
-pub mod SearchLaws
-pub mod AnyLaws
-pub mod ExpireLaws
-pub mod ExpireOrder
-pub mod ExpireCall
-pub mod PictureLaws
-pub mod PartLaws
-pub mod StandLaws
-pub mod KeepHand
-pub mod KeepSettle
-pub mod KeepCut
-pub mod KeepPlace
-pub mod KeepExpire
-pub mod Replays
-pub mod Outlines
-pub mod OutlineCalls
+-- The spans of one subscription: how numbers are cut, and what a call changes.
+pub mod spans
+-- The ready order and the in-flight order, as tickets make them.
+pub mod orders
+-- Each call answers what its definition says, and the desk shows the picture after it.
+pub mod calls
+-- Every call leaves a picture; numbers are given once; the front and the floors rise.
+pub mod pictures
+-- What each call changes in the outline.
+pub mod outlines

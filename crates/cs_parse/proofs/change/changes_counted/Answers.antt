@@ -1,6 +1,6 @@
 use Rattle.std.proofs.Common.{sym, ◌∙◌}
-use Rattle.cs_parse.proofs.FrontCounts.{count_whole, count_stops}
-use Rattle.cs_parse.proofs.Steps.{counted_pair}
+use Rattle.cs_parse.proofs.feeding.FrontCounts.{count_whole, count_stops}
+use Rattle.cs_parse.proofs.reading.Steps.{counted_pair}
 use Rattle.cs_parse.proofs.change.changes_counted.Goals as goal
 
 pub returns-in-None : goal.returns-in-None

@@ -1,6 +1,6 @@
 use Rattle.std.proofs.Common.{ap, ◌∙◌, ◌++◌, arith}
 use Rattle.cs_model.specs.PackedChanges.{unpacked_changes}
-use Rattle.cs_parse.proofs.Fronts.{says, left_shorter}
+use Rattle.cs_parse.proofs.counting.Fronts.{says, left_shorter}
 use Rattle.cs_parse.proofs.change.changes_of.Goals as goal
 
 pub overflow_sub-bytes : goal.overflow_sub-bytes

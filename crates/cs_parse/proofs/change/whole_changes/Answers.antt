@@ -1,8 +1,8 @@
 use Rattle.std.proofs.Common.{true, length, inl, inr, ◌≡◌, ◌-◌, ◌+◌, ◌⊎◌, sym, ap, ◌∙◌, arith}
 use Rattle.cs_parse.specs.Front.{changes_front}
 use Rattle.cs_parse.specs.Reading.{ends_section, change_at}
-use Rattle.cs_parse.proofs.Skims.{behind_value, behind_refused}
-use Rattle.cs_parse.proofs.WholeLaws.{whole_changes_end, whole_changes_stop, whole_changes_go}
+use Rattle.cs_parse.proofs.counting.Skims.{behind_value, behind_refused}
+use Rattle.cs_parse.proofs.feeding.WholeLaws.{whole_changes_end, whole_changes_stop, whole_changes_go}
 use Rattle.cs_parse.proofs.change.whole_changes.Goals.{else-loop-test, then-loop-test+then-is_over}
 use Rattle.cs_parse.proofs.change.whole_changes.Goals as goal
 

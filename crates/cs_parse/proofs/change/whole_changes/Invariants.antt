@@ -1,6 +1,6 @@
 use Rattle.std.proofs.Common.{◌≡◌, ◌-◌, length}
 use Rattle.cs_parse.specs.Front.{changes_front}
-use Rattle.cs_parse.proofs.WholeLaws.{WholeToHere, left_at}
+use Rattle.cs_parse.proofs.feeding.WholeLaws.{WholeToHere, left_at}
 use Rattle.cs_parse.proofs.change.whole_changes.Given as goal
 
 -- where the changes so far are canonical, the whole is where the changes that are left are

@@ -1,7 +1,7 @@
 use Rattle.std.proofs.Common.{sym, ◌∙◌, arith}
 use Rattle.cs_model.specs.Seen.{field_seen}
 use Rattle.cs_parse.specs.FieldRules.{rule_of}
-use Rattle.cs_parse.proofs.CanonicalLaws.{field_tells}
+use Rattle.cs_parse.proofs.counting.CanonicalLaws.{field_tells}
 use Rattle.cs_parse.proofs.field.field_in.Goals as goal
 
 pub returns-clause-canonical : goal.returns-clause-canonical

@@ -1,7 +1,7 @@
 use Rattle.std.proofs.Common.{◌-◌, length, take, refl, sym, subst, ◌∙◌, arith}
 use Rattle.cs_model.specs.Bytes.{AreBytes}
 use Rattle.cs_parse.specs.Front.{Heads}
-use Rattle.cs_parse.proofs.Batches.{heads_shorter, batch, batch_bad, batches_brings}
+use Rattle.cs_parse.proofs.feeding.Batches.{heads_shorter, batch, batch_bad, batches_brings}
 use Rattle.cs_parse.proofs.grow.brought.Goals as goal
 
 pub overflow_sub-len : goal.overflow_sub-len

@@ -1,6 +1,6 @@
 use Rattle.std.proofs.Common.{sym, ap, subst, ◌∙◌}
 use Rattle.cs_parse.specs.Front.{HeadsTable}
-use Rattle.cs_parse.proofs.GrowLaws.{heads_last}
+use Rattle.cs_parse.proofs.feeding.GrowLaws.{heads_last}
 use Rattle.cs_parse.proofs.grow.head_of.Goals as goal
 
 pub returns-in-Some : goal.returns-in-Some

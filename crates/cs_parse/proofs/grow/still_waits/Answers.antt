@@ -1,8 +1,8 @@
 use Rattle.std.proofs.Common.{true, false, sym, ap, subst, ◌∙◌, ◌++◌}
 use Rattle.cs_parse.specs.Front.{Waits}
 use Rattle.cs_parse.specs.Progress.{last_flags}
-use Rattle.cs_parse.proofs.GrowLaws.{last_found}
-use Rattle.cs_parse.proofs.WaitLaws.{header_waiting, any_waits, waits_now, header_lacks, change_lacks}
+use Rattle.cs_parse.proofs.feeding.GrowLaws.{last_found}
+use Rattle.cs_parse.proofs.feeding.WaitLaws.{header_waiting, any_waits, waits_now, header_lacks, change_lacks}
 use Rattle.cs_parse.proofs.grow.still_waits.Goals as goal
 
 pub header_short-requires : goal.header_short-requires

@@ -1,5 +1,5 @@
 use Rattle.std.proofs.Common.{◌-◌, arith}
-use Rattle.cs_parse.proofs.GrowLaws.{put_first, put_done}
+use Rattle.cs_parse.proofs.feeding.GrowLaws.{put_first, put_done}
 use Rattle.cs_parse.proofs.growing.put_into.Goals as goal
 
 pub put_bytes-requires-clause-none : goal.put_bytes-requires-clause-none

@@ -1,5 +1,5 @@
 use Rattle.std.proofs.Common.{◌-◌, arith}
-use Rattle.cs_parse.proofs.GrowLaws.{opened}
+use Rattle.cs_parse.proofs.feeding.GrowLaws.{opened}
 use Rattle.cs_parse.proofs.growing.take_from.Goals as goal
 
 pub returns-clause-opened : goal.returns-clause-opened

@@ -1,4 +1,4 @@
-use Rattle.cs_parse.proofs.FirstZero.{first_is}
+use Rattle.cs_parse.proofs.reading.FirstZero.{first_is}
 use Rattle.cs_parse.proofs.header.first_zero.Goals as goal
 
 pub returns-clause-place : goal.returns-clause-place

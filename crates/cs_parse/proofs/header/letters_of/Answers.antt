@@ -1,4 +1,4 @@
-use Rattle.cs_parse.proofs.Letters.{found_is, long_is, short_is}
+use Rattle.cs_parse.proofs.reading.Letters.{found_is, long_is, short_is}
 use Rattle.std.proofs.Common.{sym, ◌∙◌}
 use Rattle.cs_parse.proofs.header.letters_of.Goals as goal
 

@@ -1,4 +1,4 @@
-use Rattle.cs_parse.proofs.NameLaws.{shape_none, before_short, name_shorter, name_begins, begins_short}
+use Rattle.cs_parse.proofs.feeding.NameLaws.{shape_none, before_short, name_shorter, name_begins, begins_short}
 use Rattle.cs_parse.proofs.header_spot.first_name.Goals as goal
 
 pub returns-in_default : goal.returns-in_default

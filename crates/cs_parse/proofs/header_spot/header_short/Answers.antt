@@ -1,6 +1,6 @@
 use Rattle.std.proofs.Common.{arith}
 use Rattle.cs_model.specs.Bytes.{AreBytes}
-use Rattle.cs_parse.proofs.SpotLaws.{spot_more}
+use Rattle.cs_parse.proofs.feeding.SpotLaws.{spot_more}
 use Rattle.cs_parse.proofs.header_spot.header_short.Goals as goal
 
 pub returns-in-Some-clause-spot : goal.returns-in-Some-clause-spot

@@ -1,5 +1,5 @@
 use Rattle.std.proofs.Common.{sym, ◌∙◌, arith}
-use Rattle.cs_parse.proofs.NameLaws.{no_some, name_goes_on}
+use Rattle.cs_parse.proofs.feeding.NameLaws.{no_some, name_goes_on}
 use Rattle.cs_parse.proofs.header_spot.name_spot.Goals as goal
 
 pub returns : goal.returns

@@ -1,4 +1,4 @@
-use Rattle.cs_parse.proofs.LackLaws.{value_lacks}
+use Rattle.cs_parse.proofs.feeding.LackLaws.{value_lacks}
 use Rattle.cs_parse.proofs.lack.field_lacks.Goals as goal
 
 pub returns-in-Some-value_lacks-clause-lacks : goal.returns-in-Some-value_lacks-clause-lacks

@@ -1,5 +1,5 @@
 use Rattle.std.proofs.Common.{arith}
-use Rattle.cs_parse.proofs.LackLaws.{three_or_four, integer_lacks, counted_lacks, some_lacks}
+use Rattle.cs_parse.proofs.feeding.LackLaws.{three_or_four, integer_lacks, counted_lacks, some_lacks}
 use Rattle.cs_parse.proofs.lack.value_lacks.Goals as goal
 
 pub returns-in-1 : goal.returns-in-1

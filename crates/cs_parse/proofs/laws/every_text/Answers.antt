@@ -1,4 +1,4 @@
-use Rattle.cs_parse.proofs.FaultLaws.{text_has}
+use Rattle.cs_parse.proofs.refusing.FaultLaws.{text_has}
 use Rattle.cs_parse.proofs.laws.every_text.Goals as goal
 
 pub returns : goal.returns

@@ -1,4 +1,4 @@
-use Rattle.cs_parse.proofs.PieceLaws.{lasting_is, piece_is_lasting}
+use Rattle.cs_parse.proofs.joining.PieceLaws.{lasting_is, piece_is_lasting}
 use Rattle.cs_parse.proofs.laws.feeding_tells_faults.Goals as goal
 
 pub returns : goal.returns

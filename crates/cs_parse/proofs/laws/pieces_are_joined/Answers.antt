@@ -1,5 +1,5 @@
 use Rattle.std.proofs.Common.{[]}
-use Rattle.cs_parse.proofs.PieceLaws.{kept_is_joined}
+use Rattle.cs_parse.proofs.joining.PieceLaws.{kept_is_joined}
 use Rattle.cs_parse.proofs.laws.pieces_are_joined.Goals as goal
 
 pub returns : goal.returns

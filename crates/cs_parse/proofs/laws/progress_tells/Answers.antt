@@ -1,4 +1,4 @@
-use Rattle.cs_parse.proofs.ProgressAnswers.{progress_ended, progress_fault, progress_offset}
+use Rattle.cs_parse.proofs.joining.ProgressAnswers.{progress_ended, progress_fault, progress_offset}
 use Rattle.cs_parse.proofs.laws.progress_tells.Goals as goal
 
 pub returns : goal.returns

@@ -1,4 +1,4 @@
-use Rattle.cs_parse.proofs.TextLaws.{answer_takes, answer_again}
+use Rattle.cs_parse.proofs.reading.TextLaws.{answer_takes, answer_again}
 use Rattle.cs_parse.proofs.laws.reading_is_spelling.Goals as goal
 
 pub returns : goal.returns

@@ -1,4 +1,4 @@
-use Rattle.cs_parse.proofs.FaultLaws.{refused_is_fault, fault_is_refused}
+use Rattle.cs_parse.proofs.refusing.FaultLaws.{refused_is_fault, fault_is_refused}
 use Rattle.cs_parse.proofs.laws.refusing_is_fault.Goals as goal
 
 pub returns : goal.returns

@@ -1,4 +1,4 @@
-use Rattle.cs_parse.proofs.CanonicalLaws.{one_reads, one_shortest}
+use Rattle.cs_parse.proofs.counting.CanonicalLaws.{one_reads, one_shortest}
 use Rattle.cs_parse.proofs.number.length_of.Goals as goal
 
 pub returns-then-byte-lt128-clause-read : goal.returns-then-byte-lt128-clause-read

@@ -1,4 +1,4 @@
-use Rattle.cs_parse.proofs.CanonicalLaws.{length_tells}
+use Rattle.cs_parse.proofs.counting.CanonicalLaws.{length_tells}
 use Rattle.cs_parse.proofs.number.long_length_of.Goals as goal
 
 pub returns-clause-canonical : goal.returns-clause-canonical

@@ -1,7 +1,7 @@
 use Rattle.std.proofs.Common.{◌≡◌, ◌<◌, ◌*◌, ◌-◌, ◌+◌, ℕ, suc, List, ◌∷◌, get_or, subst, inl, inr, arith}
 use Rattle.cs_parse.specs.Reading.{Reads, number_at}
 use Rattle.cs_parse.specs.Place.{factor}
-use Rattle.cs_parse.proofs.Numbers.{turn_short, numbers_turn_ends, turn_bad, turn_goes, numbers_turn_last, shift_is, low_on}
+use Rattle.cs_parse.proofs.reading.Numbers.{turn_short, numbers_turn_ends, turn_bad, turn_goes, numbers_turn_last, shift_is, low_on}
 use Rattle.cs_parse.proofs.number.number_of.Goals.{then-read-eq7, else-read-eq7}
 use Rattle.cs_parse.proofs.number.number_of.Goals as goal
 

@@ -9,11 +9,11 @@ use Rattle.cs_parse.specs.FieldRules.{rule_of}
 use Rattle.cs_parse.specs.Reading.{field_at, record_at}
 use Rattle.cs_model.specs.Seen.{field_seen}
 use Rattle.cs_parse.specs.Count.{bytes_after}
-use Rattle.cs_parse.proofs.Steps.{done}
-use Rattle.cs_parse.proofs.Loops.{same_field}
+use Rattle.cs_parse.proofs.reading.Steps.{done}
+use Rattle.cs_parse.proofs.reading.Loops.{same_field}
 use Rattle.cs_parse.specs.Canonical.{IsCanonical}
-use Rattle.cs_parse.proofs.CanonicalLaws.{none_canonical, more_canonical}
-use Rattle.cs_parse.proofs.Skims.{field_passed, field_refused, field_begins, field_missing, fields_passed}
+use Rattle.cs_parse.proofs.counting.CanonicalLaws.{none_canonical, more_canonical}
+use Rattle.cs_parse.proofs.counting.Skims.{field_passed, field_refused, field_begins, field_missing, fields_passed}
 use Rattle.cs_parse.proofs.record.skip_new.Goals as goal
 
 abbrev SkipNewRead : Type 0

@@ -8,8 +8,8 @@ use Rattle.cs_parse.specs.FieldRules.{rule_of, column_rule}
 use Rattle.cs_parse.specs.Reading.{field_at, record_at}
 use Rattle.cs_parse.specs.Count.{bytes_after}
 use Rattle.cs_parse.specs.Canonical.{IsCanonical}
-use Rattle.cs_parse.proofs.CanonicalLaws.{none_canonical, more_canonical}
-use Rattle.cs_parse.proofs.Skims.{field_passed, field_refused, fields_passed}
+use Rattle.cs_parse.proofs.counting.CanonicalLaws.{none_canonical, more_canonical}
+use Rattle.cs_parse.proofs.counting.Skims.{field_passed, field_refused, fields_passed}
 use Rattle.cs_parse.proofs.record.skip_record.Goals as goal
 
 -- the rules from column i on

@@ -3,7 +3,7 @@ use Rattle.std.proofs.lemmas.Result.{err_from_is_err_and}
 use Rattle.cs_model.specs.Rule.{old_rule}
 use Rattle.cs_parse.specs.Reading.{record_at, records_at}
 use Rattle.cs_parse.specs.Count.{bytes_after}
-use Rattle.cs_parse.proofs.Skims.{behind_value, update_behind}
+use Rattle.cs_parse.proofs.counting.Skims.{behind_value, update_behind}
 use Rattle.cs_parse.proofs.record.skip_records.Goals as goal
 
 pub returns-in_err-rest-in-Update-2-clause-read : goal.returns-in_err-rest-in-Update-2-clause-read

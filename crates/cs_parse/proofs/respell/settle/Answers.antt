@@ -3,8 +3,8 @@ use Rattle.std.specs.List.{AllByRecursion}
 use Rattle.cs_model.specs.PackedChanges.{Fit, unpacked_changes}
 use Rattle.cs_parse.specs.Front.{JoinsSection}
 use Rattle.cs_parse.specs.Progress.{last_flags}
-use Rattle.cs_parse.proofs.GrowLaws.{last_found}
-use Rattle.cs_parse.proofs.GrowingLaws.{settled_as, respelled}
+use Rattle.cs_parse.proofs.feeding.GrowLaws.{last_found}
+use Rattle.cs_parse.proofs.feeding.GrowingLaws.{settled_as, respelled}
 use Rattle.cs_parse.proofs.respell.settle.Goals as goal
 
 pub returns-then-canonical-clause-ok : goal.returns-then-canonical-clause-ok

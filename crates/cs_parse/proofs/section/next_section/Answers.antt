@@ -1,6 +1,6 @@
 use Rattle.std.proofs.Common.{[], ◌∷◌, ◌++◌, ap, ◌∙◌, arith}
 use Rattle.cs_parse.specs.Seen.{shape_seen}
-use Rattle.cs_parse.proofs.SectionFronts.{next_refused, next_read}
+use Rattle.cs_parse.proofs.feeding.SectionFronts.{next_refused, next_read}
 use Rattle.cs_parse.proofs.section.next_section.Goals as goal
 
 pub returns-in-Err : goal.returns-in-Err

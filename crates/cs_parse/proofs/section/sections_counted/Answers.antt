@@ -2,8 +2,8 @@ use Rattle.std.proofs.Common.{length, inl, inr, sym, ◌∙◌, arith}
 use Rattle.std.proofs.lemmas.Result.{err_from_is_err_and}
 use Rattle.cs_parse.specs.Reading.{is_empty, section_at, many_at, sections_at}
 use Rattle.cs_parse.specs.Count.{counted, changes_in}
-use Rattle.cs_parse.proofs.Skims.{count_goes_on, count_ends, count_is_done, counted_refused, size, sizes}
-use Rattle.cs_parse.proofs.Counts.{counted_fits}
+use Rattle.cs_parse.proofs.counting.Skims.{count_goes_on, count_ends, count_is_done, counted_refused, size, sizes}
+use Rattle.cs_parse.proofs.counting.Counts.{counted_fits}
 use Rattle.cs_parse.proofs.section.sections_counted.Goals.{else-loop-test, then-loop-test+then-is_empty}
 use Rattle.cs_parse.proofs.section.sections_counted.Goals as goal
 

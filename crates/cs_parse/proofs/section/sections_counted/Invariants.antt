@@ -2,7 +2,7 @@ use Rattle.std.proofs.Common.{◌≡◌, ◌-◌, ◌+◌, ◌≤◌, length}
 use Rattle.cs_parse.specs.Reading.{is_empty, section_at, many_at}
 use Rattle.cs_parse.specs.Count.{counted, changes_in}
 use Rattle.cs_model.specs.Bytes.{AreBytes}
-use Rattle.cs_parse.proofs.Skims.{with_count}
+use Rattle.cs_parse.proofs.counting.Skims.{with_count}
 use Rattle.cs_parse.proofs.section.sections_counted.Given as goal
 
 abbrev pub invariant-loop : goal.invariant-loop

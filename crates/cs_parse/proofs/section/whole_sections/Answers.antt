@@ -1,6 +1,6 @@
 use Rattle.std.proofs.Common.{◌≡◌, length, sym, ◌∙◌, arith}
 use Rattle.std.proofs.lemmas.Bool.{eqb-true}
-use Rattle.cs_parse.proofs.SectionFronts.{along_ends}
+use Rattle.cs_parse.proofs.feeding.SectionFronts.{along_ends}
 use Rattle.cs_parse.proofs.section.whole_sections.Goals.{else-loop-test, then-loop-test+then-is_empty}
 use Rattle.cs_parse.proofs.section.whole_sections.Goals as goal
 

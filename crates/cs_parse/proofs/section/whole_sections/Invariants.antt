@@ -1,5 +1,5 @@
 use Rattle.std.proofs.Common.{◌+◌, ◌≤◌, length}
-use Rattle.cs_parse.proofs.SectionFronts.{Along}
+use Rattle.cs_parse.proofs.feeding.SectionFronts.{Along}
 use Rattle.cs_parse.proofs.section.whole_sections.Given as goal
 
 abbrev pub invariant-loop : goal.invariant-loop

@@ -1,5 +1,5 @@
-use Rattle.cs_parse.proofs.SpotLaws.{none_short, one_short, row_begun, old_begun}
-use Rattle.cs_parse.proofs.StayLaws.{start_stays}
+use Rattle.cs_parse.proofs.feeding.SpotLaws.{none_short, one_short, row_begun, old_begun}
+use Rattle.cs_parse.proofs.feeding.StayLaws.{start_stays}
 use Rattle.cs_parse.proofs.spot.first_spot.Goals as goal
 
 pub returns-in_default : goal.returns-in_default

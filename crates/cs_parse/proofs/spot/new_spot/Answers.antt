@@ -1,6 +1,6 @@
 use Rattle.std.proofs.Common.{arith}
-use Rattle.cs_parse.proofs.SpotLaws.{back_of_drop, back_shorter, more_columns, new_halts}
-use Rattle.cs_parse.proofs.StayLaws.{new_passed}
+use Rattle.cs_parse.proofs.feeding.SpotLaws.{back_of_drop, back_shorter, more_columns, new_halts}
+use Rattle.cs_parse.proofs.feeding.StayLaws.{new_passed}
 use Rattle.cs_parse.proofs.spot.new_spot.Goals as goal
 
 pub overflow_add-result : goal.overflow_add-result

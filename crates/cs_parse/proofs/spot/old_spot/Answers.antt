@@ -1,6 +1,6 @@
 use Rattle.cs_model.specs.declared.change.Op.TheVariants.{Update}
-use Rattle.cs_parse.proofs.SpotLaws.{new_begins}
-use Rattle.cs_parse.proofs.StayLaws.{old_short}
+use Rattle.cs_parse.proofs.feeding.SpotLaws.{new_begins}
+use Rattle.cs_parse.proofs.feeding.StayLaws.{old_short}
 use Rattle.cs_parse.proofs.spot.old_spot.Goals as goal
 
 pub returns-then-fields-flags : goal.returns-then-fields-flags

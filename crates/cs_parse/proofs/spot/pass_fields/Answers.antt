@@ -2,7 +2,7 @@ use Rattle.std.proofs.Common.{map, sym, ap, ◌∙◌, arith}
 use Rattle.cs_model.specs.Bytes.{AreBytes}
 use Rattle.cs_parse.specs.FieldRules.{rule_of, column_rule}
 use Rattle.cs_parse.specs.Reading.{field_at}
-use Rattle.cs_parse.proofs.SpotLaws.{none_passed, rules_more, rules_halt, rules_end}
+use Rattle.cs_parse.proofs.feeding.SpotLaws.{none_passed, rules_more, rules_halt, rules_end}
 use Rattle.cs_parse.proofs.spot.pass_fields.Goals as goal
 
 pub loop-passed-init : goal.loop-passed-init

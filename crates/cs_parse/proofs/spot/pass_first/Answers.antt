@@ -1,5 +1,5 @@
 use Rattle.cs_parse.specs.FieldRules.{rule_of, column_rule}
-use Rattle.cs_parse.proofs.SpotLaws.{first_passed}
+use Rattle.cs_parse.proofs.feeding.SpotLaws.{first_passed}
 use Rattle.cs_parse.proofs.spot.pass_first.Goals as goal
 
 pub returns : goal.returns

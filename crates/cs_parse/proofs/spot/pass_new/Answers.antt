@@ -4,8 +4,8 @@ use Rattle.cs_model.specs.Rule.{old_rule, new_rule, new_rules}
 use Rattle.cs_model.specs.Seen.{field_seen}
 use Rattle.cs_parse.specs.FieldRules.{rule_of}
 use Rattle.cs_parse.specs.Reading.{field_at}
-use Rattle.cs_parse.proofs.Loops.{same_field}
-use Rattle.cs_parse.proofs.SpotLaws.{none_passed, back_field, old_more, new_more, new_halt}
+use Rattle.cs_parse.proofs.reading.Loops.{same_field}
+use Rattle.cs_parse.proofs.feeding.SpotLaws.{none_passed, back_field, old_more, new_more, new_halt}
 use Rattle.cs_parse.proofs.spot.pass_new.Goals as goal
 
 pub loop-passed-init : goal.loop-passed-init

@@ -1,4 +1,4 @@
-use Rattle.cs_parse.proofs.StayLaws.{row_short}
+use Rattle.cs_parse.proofs.feeding.StayLaws.{row_short}
 use Rattle.cs_parse.proofs.spot.row_spot.Goals as goal
 
 pub returns-then-fields-flags : goal.returns-then-fields-flags

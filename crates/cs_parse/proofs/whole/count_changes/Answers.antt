@@ -1,5 +1,5 @@
 use Rattle.std.proofs.Common.{arith}
-use Rattle.cs_parse.proofs.CountLaws.{count_found, count_only, count_faulty, count_fault, count_bounded}
+use Rattle.cs_parse.proofs.counting.CountLaws.{count_found, count_only, count_faulty, count_fault, count_bounded}
 use Rattle.cs_parse.proofs.whole.count_changes.Goals as goal
 
 pub returns-clause-found : goal.returns-clause-found

@@ -1,8 +1,8 @@
 use Rattle.std.proofs.Common.{Ok, Err, sym, ap, subst, ◌∙◌, arith}
 use Rattle.std.proofs.lemmas.Result.{err_from_is_err_and}
 use Rattle.cs_model.specs.Text.{Spells}
-use Rattle.cs_parse.proofs.TextLaws.{answer_takes, only_one, none_missed}
-use Rattle.cs_parse.proofs.FaultLaws.{error_tells, fault_told}
+use Rattle.cs_parse.proofs.reading.TextLaws.{answer_takes, only_one, none_missed}
+use Rattle.cs_parse.proofs.refusing.FaultLaws.{error_tells, fault_told}
 use Rattle.cs_parse.proofs.whole.parse.Goals as goal
 
 pub from_seq-requires : goal.from_seq-requires

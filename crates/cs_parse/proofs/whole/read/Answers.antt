@@ -1,6 +1,6 @@
 use Rattle.std.proofs.Common.{sym, ◌∙◌}
 use Rattle.cs_model.specs.Changeset.{most_bytes}
-use Rattle.cs_parse.proofs.TextLaws.{front_long, answer_cut}
+use Rattle.cs_parse.proofs.reading.TextLaws.{front_long, answer_cut}
 use Rattle.cs_parse.proofs.whole.read.Goals as goal
 
 pub slice_bounds-cut_of-end : goal.slice_bounds-cut_of-end

@@ -1,5 +1,5 @@
 use Rattle.std.proofs.Common.{Ok, Err, sym, ap, ◌∙◌, arith}
-use Rattle.cs_parse.proofs.PartsAnswer.{whole_read, whole_refused}
+use Rattle.cs_parse.proofs.joining.PartsAnswer.{whole_read, whole_refused}
 use Rattle.cs_parse.proofs.whole.whole_of.Goals as goal
 
 pub returns-in-Ok-default-default-None : goal.returns-in-Ok-default-default-None

@@ -1,7 +1,7 @@
 use Rattle.std.proofs.Common.{◌≡◌, ◌∙◌, ◌+◌, ◌++◌, suc, map, take, drop, get_or, slice_set, ap, sym, arith}
 use Rattle.rb_desk.specs.declared.ticket.Held.{Held}
 use Rattle.rb_desk.specs.Lanes.{stated}
-use Rattle.rb_desk.proofs.LaneLaws.{one_stated}
+use Rattle.rb_desk.proofs.spans.LaneLaws.{one_stated}
 use Rattle.rb_desk.proofs.held.restate.Goals as goal
 
 pub loop-i-preserved : goal.loop-i-preserved

@@ -1,4 +1,4 @@
-use Rattle.rb_desk.proofs.Replays.{after_keeps}
+use Rattle.rb_desk.proofs.pictures.Replays.{after_keeps}
 use Rattle.rb_desk.proofs.laws.calls_keep_pictures.Goals as goal
 
 pub returns : goal.returns

@@ -3,8 +3,8 @@ use Rattle.rb_desk.specs.Picture.{Picture}
 use Rattle.rb_desk.specs.Calls.{subscribe, take, take_any, ack, nack, reconnect, unsubscribe}
 use Rattle.rb_desk.specs.Outline.{outline_of}
 use Rattle.rb_desk.specs.Outline as outline
-use Rattle.rb_desk.proofs.Outlines.{outlines_told}
-use Rattle.rb_desk.proofs.OutlineCalls.{Joined, TookOf, OutlineCallsTook, Stays, Relinked, Gone, outline_calls_subscribe_tells, outline_calls_take_tells, outline_calls_take_any_tells, outline_calls_ack_tells, outline_calls_nack_tells, expire_stays, outline_calls_reconnect_tells, outline_calls_unsubscribe_tells, outline_calls_place_shows, outline_calls_close_shows}
+use Rattle.rb_desk.proofs.outlines.Outlines.{outlines_told}
+use Rattle.rb_desk.proofs.outlines.OutlineCalls.{Joined, TookOf, OutlineCallsTook, Stays, Relinked, Gone, outline_calls_subscribe_tells, outline_calls_take_tells, outline_calls_take_any_tells, outline_calls_ack_tells, outline_calls_nack_tells, expire_stays, outline_calls_reconnect_tells, outline_calls_unsubscribe_tells, outline_calls_place_shows, outline_calls_close_shows}
 use Rattle.rb_desk.proofs.laws.calls_show_in_outline.Goals as goal
 
 pub returns-clause-subscribe : goal.returns-clause-subscribe

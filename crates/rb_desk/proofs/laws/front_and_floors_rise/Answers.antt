@@ -1,4 +1,4 @@
-use Rattle.rb_desk.proofs.Replays.{front_rises_all, replayed_floors}
+use Rattle.rb_desk.proofs.pictures.Replays.{front_rises_all, replayed_floors}
 use Rattle.rb_desk.proofs.laws.front_and_floors_rise.Goals as goal
 
 pub returns-clause-front : goal.returns-clause-front

@@ -1,5 +1,5 @@
 use Rattle.rb_desk.specs.Picture.{empty_picture}
-use Rattle.rb_desk.proofs.Replays.{links_rise_all, numbers_rise_all}
+use Rattle.rb_desk.proofs.pictures.Replays.{links_rise_all, numbers_rise_all}
 use Rattle.rb_desk.proofs.laws.numbers_are_given_once.Goals as goal
 
 pub returns-clause-links : goal.returns-clause-links

@@ -1,6 +1,6 @@
 use Rattle.rb_desk.specs.Calls.{subscribe, take, take_any, ack, nack, reconnect, unsubscribe}
-use Rattle.rb_desk.proofs.Outlines.{left_alone}
-use Rattle.rb_desk.proofs.OutlineCalls.{Joined, TookOf, OutlineCallsTook, Stays, Relinked, Gone, outline_calls_subscribe_tells, outline_calls_take_tells, outline_calls_take_any_tells, outline_calls_ack_tells, outline_calls_nack_tells, outline_calls_reconnect_tells, outline_calls_unsubscribe_tells}
+use Rattle.rb_desk.proofs.outlines.Outlines.{left_alone}
+use Rattle.rb_desk.proofs.outlines.OutlineCalls.{Joined, TookOf, OutlineCallsTook, Stays, Relinked, Gone, outline_calls_subscribe_tells, outline_calls_take_tells, outline_calls_take_any_tells, outline_calls_ack_tells, outline_calls_nack_tells, outline_calls_reconnect_tells, outline_calls_unsubscribe_tells}
 use Rattle.rb_desk.proofs.laws.refused_calls_change_nothing.Goals as goal
 
 pub returns-clause-subscribe : goal.returns-clause-subscribe

@@ -1,4 +1,4 @@
-use Rattle.rb_desk.proofs.Replays.{replay_keeps}
+use Rattle.rb_desk.proofs.pictures.Replays.{replay_keeps}
 use Rattle.rb_desk.proofs.laws.replays_are_pictures.Goals as goal
 
 pub returns : goal.returns

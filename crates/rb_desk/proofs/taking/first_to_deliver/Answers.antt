@@ -2,7 +2,7 @@ use Rattle.std.proofs.Common.{◌≡◌, ◌∙◌, ◌+◌, Option, Some, drop,
 use Rattle.std.proofs.lemmas.Option.{slice_get_read}
 use Rattle.rb_desk.specs.declared.ticket.Held.{Held}
 use Rattle.rb_desk.specs.Shown.{goes_first, next_to_deliver, first_to_deliver, IsJoinedAt}
-use Rattle.rb_desk.proofs.FirstLaws.{first_one_more, ahead_joined, own_joined}
+use Rattle.rb_desk.proofs.spans.FirstLaws.{first_one_more, ahead_joined, own_joined}
 use Rattle.rb_desk.proofs.taking.first_to_deliver.Goals as goal
 
 pub loop-i-preserved : goal.loop-i-preserved

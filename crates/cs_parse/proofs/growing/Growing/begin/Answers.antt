@@ -1,5 +1,5 @@
 use Rattle.std.proofs.Common.{arith}
-use Rattle.cs_parse.proofs.GrowingLaws.{begun}
+use Rattle.cs_parse.proofs.feeding.GrowingLaws.{begun}
 use Rattle.cs_parse.proofs.growing.Growing.begin.Goals as goal
 
 pub returns-clause-ok : goal.returns-clause-ok

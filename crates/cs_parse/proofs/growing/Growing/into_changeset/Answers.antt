@@ -1,4 +1,4 @@
-use Rattle.cs_parse.proofs.GrowingLaws.{closed_seen, no_bytes}
+use Rattle.cs_parse.proofs.feeding.GrowingLaws.{closed_seen, no_bytes}
 use Rattle.cs_parse.proofs.growing.Growing.into_changeset.Goals as goal
 
 pub returns : goal.returns

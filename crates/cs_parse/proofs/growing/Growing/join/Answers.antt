@@ -2,7 +2,7 @@ use Rattle.std.proofs.Common.{◌≡◌, ◌+◌, ◌++◌, length, take, drop, 
 use Rattle.cs_parse.specs.Front.{JoinsSection}
 use Rattle.cs_parse.specs.Growing.{with_text, Keeps, IsGrowing, SettledBytes}
 use Rattle.cs_parse.specs.Progress.{last_flags}
-use Rattle.cs_parse.proofs.GrowingLaws.{growing_seen, pair, joins_seen, kept_more, front_of, put_as, put_valid, some_more, behind_growing, behind_seen}
+use Rattle.cs_parse.proofs.feeding.GrowingLaws.{growing_seen, pair, joins_seen, kept_more, front_of, put_as, put_valid, some_more, behind_growing, behind_seen}
 use Rattle.cs_parse.proofs.growing.Growing.join.Goals as goal
 
 pub settle-settled-requires-clause-joins : goal.settle-settled-requires-clause-joins

@@ -3,7 +3,7 @@ use Rattle.cs_model.specs.Changeset.{IsChangeset}
 use Rattle.cs_parse.specs.Front.{JoinsSection}
 use Rattle.cs_parse.specs.Growing.{SettledBytes}
 use Rattle.cs_parse.specs.Progress.{last_flags}
-use Rattle.cs_parse.proofs.GrowingLaws.{kept_none, joins_seen, waiting_long, kept_more, still_growing, still_seen, kept_all, all_seen, closed_growing}
+use Rattle.cs_parse.proofs.feeding.GrowingLaws.{kept_none, joins_seen, waiting_long, kept_more, still_growing, still_seen, kept_all, all_seen, closed_growing}
 use Rattle.cs_parse.proofs.growing.Growing.keep.Goals as goal
 
 pub returns-then-len-eq0-clause-ok : goal.returns-then-len-eq0-clause-ok

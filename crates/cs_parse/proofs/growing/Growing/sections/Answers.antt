@@ -1,6 +1,6 @@
 use Rattle.std.proofs.Common.{ap, ◌∙◌}
 use Rattle.cs_parse.specs.Progress.{last_flags}
-use Rattle.cs_parse.proofs.GrowingLaws.{flags_seen}
+use Rattle.cs_parse.proofs.feeding.GrowingLaws.{flags_seen}
 use Rattle.cs_parse.proofs.growing.Growing.sections.Goals as goal
 
 pub returns-clause-flags : goal.returns-clause-flags

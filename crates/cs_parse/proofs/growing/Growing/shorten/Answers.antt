@@ -1,7 +1,7 @@
 use Rattle.std.proofs.Common.{take, sym, ap, subst, ◌∙◌, arith}
 use Rattle.cs_model.specs.Changeset.{IsChangeset}
 use Rattle.cs_parse.specs.Growing.{with_text}
-use Rattle.cs_parse.proofs.GrowingLaws.{closed_growing, fewer, growing_none_left, waiting_long}
+use Rattle.cs_parse.proofs.feeding.GrowingLaws.{closed_growing, fewer, growing_none_left, waiting_long}
 use Rattle.cs_parse.proofs.growing.Growing.shorten.Goals as goal
 
 pub returns-then-len-gt0 : goal.returns-then-len-gt0

@@ -1,6 +1,6 @@
 use Rattle.std.proofs.Common.{sym, ◌∙◌, arith}
 use Rattle.std.proofs.lemmas.Bool.{eqb-true}
-use Rattle.cs_parse.proofs.GrowingLaws.{closed_seen}
+use Rattle.cs_parse.proofs.feeding.GrowingLaws.{closed_seen}
 use Rattle.cs_parse.proofs.growing.Growing.whole.Goals as goal
 
 pub returns-then-is_empty : goal.returns-then-is_empty

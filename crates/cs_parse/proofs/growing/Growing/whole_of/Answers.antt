@@ -1,6 +1,6 @@
 use Rattle.std.proofs.Common.{sym, subst}
 use Rattle.cs_parse.specs.Growing.{IsGrowing}
-use Rattle.cs_parse.proofs.GrowingLaws.{growing_none, seen_none}
+use Rattle.cs_parse.proofs.feeding.GrowingLaws.{growing_none, seen_none}
 use Rattle.cs_parse.proofs.growing.Growing.whole_of.Goals as goal
 
 pub invariant_of-result : goal.invariant_of-result

@@ -4,7 +4,7 @@ use Rattle.cs_model.specs.Section.{Section}
 use Rattle.cs_parse.specs.Front.{KeepsSpot}
 use Rattle.cs_parse.specs.Lack.{IsPaused}
 use Rattle.cs_parse.specs.Progress.{Progress, last_flags, advanced}
-use Rattle.cs_parse.proofs.WaitLaws.{keeps_more, paused_behind, paused_fed}
+use Rattle.cs_parse.proofs.feeding.WaitLaws.{keeps_more, paused_behind, paused_fed}
 use Rattle.cs_parse.proofs.pieces.PieceParser.fed.Goals as goal
 
 pub invariant_of-self-then-no_end : goal.invariant_of-self-then-no_end

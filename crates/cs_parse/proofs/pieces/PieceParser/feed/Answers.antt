@@ -1,5 +1,5 @@
 use Rattle.std.proofs.Common.{arith}
-use Rattle.cs_parse.proofs.FeedLaws.{feed_told, feed_going, feed_taken, feed_again}
+use Rattle.cs_parse.proofs.joining.FeedLaws.{feed_told, feed_going, feed_taken, feed_again}
 use Rattle.cs_parse.proofs.pieces.PieceParser.feed.Goals as goal
 
 pub returns-clause-told : goal.returns-clause-told

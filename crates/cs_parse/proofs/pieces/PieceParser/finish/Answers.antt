@@ -1,4 +1,4 @@
-use Rattle.cs_parse.proofs.FeedLaws.{finish_found, finish_faulty}
+use Rattle.cs_parse.proofs.joining.FeedLaws.{finish_found, finish_faulty}
 use Rattle.cs_parse.proofs.pieces.PieceParser.finish.Goals as goal
 
 pub returns-clause-found : goal.returns-clause-found

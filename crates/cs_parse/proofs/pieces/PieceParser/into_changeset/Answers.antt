@@ -1,5 +1,5 @@
 use Rattle.std.proofs.Common.{◌∙◌}
-use Rattle.cs_parse.proofs.FeedLaws.{ended_answer}
+use Rattle.cs_parse.proofs.joining.FeedLaws.{ended_answer}
 use Rattle.cs_parse.proofs.pieces.PieceParser.into_changeset.Goals as goal
 
 pub returns-clause-text : goal.returns-clause-text

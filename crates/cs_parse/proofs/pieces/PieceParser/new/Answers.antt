@@ -1,6 +1,6 @@
 use Rattle.std.proofs.Common.{◌≡◌, ℕ, List, ap}
 use Rattle.cs_model.specs.Section.{Section}
-use Rattle.cs_parse.proofs.FeedLaws.{new_took}
+use Rattle.cs_parse.proofs.joining.FeedLaws.{new_took}
 use Rattle.cs_parse.proofs.pieces.PieceParser.new.Goals as goal
 
 pub returns-clause-text : goal.returns-clause-text

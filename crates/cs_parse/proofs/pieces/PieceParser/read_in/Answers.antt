@@ -3,7 +3,7 @@ use Rattle.std.proofs.lemmas.List.{length-take}
 use Rattle.cs_model.specs.Changeset.{most_bytes}
 use Rattle.cs_parse.specs.Front.{TakesIn}
 use Rattle.cs_parse.specs.Progress.{read_on}
-use Rattle.cs_parse.proofs.FaultPlaces.{fault_within}
+use Rattle.cs_parse.proofs.joining.FaultPlaces.{fault_within}
 use Rattle.cs_parse.proofs.pieces.PieceParser.read_in.Goals as goal
 
 pub break_off-requires-in-Err-Fault : goal.break_off-requires-in-Err-Fault

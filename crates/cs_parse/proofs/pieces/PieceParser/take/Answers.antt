@@ -1,4 +1,4 @@
-use Rattle.cs_parse.proofs.FeedLaws.{take_spelled}
+use Rattle.cs_parse.proofs.joining.FeedLaws.{take_spelled}
 use Rattle.cs_parse.proofs.pieces.PieceParser.take.Goals as goal
 
 pub returns-clause-text : goal.returns-clause-text

@@ -1,7 +1,7 @@
 use Rattle.std.proofs.Common.{sym, ap, subst, ◌∙◌, arith}
 use Rattle.cs_parse.specs.Lack.{WaitsFor}
 use Rattle.cs_parse.specs.Progress.{last_flags}
-use Rattle.cs_parse.proofs.WaitLaws.{waits_less, paused, keeps_as}
+use Rattle.cs_parse.proofs.feeding.WaitLaws.{waits_less, paused, keeps_as}
 use Rattle.cs_parse.proofs.pieces.PieceParser.take_in.Goals as goal
 
 pub invariant_of-self-then-lacking-gt0 : goal.invariant_of-self-then-lacking-gt0

@@ -1,6 +1,6 @@
 use Rattle.std.proofs.Common.{ap, ◌∙◌}
 use Rattle.cs_parse.specs.Progress.{Progress}
-use Rattle.cs_parse.proofs.FeedLaws.{feed_none_left}
+use Rattle.cs_parse.proofs.joining.FeedLaws.{feed_none_left}
 use Rattle.cs_parse.proofs.pieces.PieceParser.taken.Goals as goal
 
 pub into_changeset-requires : goal.into_changeset-requires

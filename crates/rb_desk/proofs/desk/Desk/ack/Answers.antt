@@ -4,10 +4,10 @@ use Rattle.rb_desk.specs.Spans.{raised, with_status}
 use Rattle.rb_desk.specs.declared.span.Status.TheVariants.{Settled}
 use Rattle.rb_desk.specs.Lanes.{settled_lane, spans_of}
 use Rattle.rb_desk.specs.Shown.{sub_held, settled_sub}
-use Rattle.rb_desk.proofs.CallLaws.{out_running, ack_none, ack_behind, acked}
-use Rattle.rb_desk.proofs.FoundLaws.{out_as_held}
-use Rattle.rb_desk.proofs.OpenLaws.{IsOpen}
-use Rattle.rb_desk.proofs.HandLaws.{settled_as, settled_floor, belongs_settled}
+use Rattle.rb_desk.proofs.calls.CallLaws.{out_running, ack_none, ack_behind, acked}
+use Rattle.rb_desk.proofs.spans.FoundLaws.{out_as_held}
+use Rattle.rb_desk.proofs.calls.OpenLaws.{IsOpen}
+use Rattle.rb_desk.proofs.calls.HandLaws.{settled_as, settled_floor, belongs_settled}
 use Rattle.rb_desk.proofs.desk.Desk.ack.Goals as goal
 
 pub returns-in_default-out_as-clause-answer : goal.returns-in_default-out_as-clause-answer

@@ -4,8 +4,8 @@ use Rattle.rb_desk.specs.declared.sub.Sub.{Sub}
 use Rattle.rb_desk.specs.Lanes.{AreJoined}
 use Rattle.rb_desk.specs.Shown.{shown}
 use Rattle.rb_desk.specs.Expiry.{expired_sub, by_number, turns_from, all_due}
-use Rattle.rb_desk.proofs.ExpireOrder.{belongs_turned_back}
-use Rattle.rb_desk.proofs.ExpireCall.{expire_is}
+use Rattle.rb_desk.proofs.orders.ExpireOrder.{belongs_turned_back}
+use Rattle.rb_desk.proofs.calls.ExpireCall.{expire_is}
 use Rattle.rb_desk.proofs.desk.Desk.expire.Goals as goal
 
 pub invariant_of-self : goal.invariant_of-self

@@ -3,9 +3,9 @@ use Rattle.std.proofs.lemmas.Result.{err_from_is_err_and}
 use Rattle.std.proofs.lemmas.Option.{get_or_from_slice_get, slice_get_within}
 use Rattle.rb_desk.specs.Calls.{nacked_span}
 use Rattle.rb_desk.specs.Shown.{returned_sub}
-use Rattle.rb_desk.proofs.CallLaws.{out_running, nack_kept, ok_call, memory_answers}
-use Rattle.rb_desk.proofs.OpenLaws.{IsOpen}
-use Rattle.rb_desk.proofs.HandLaws.{returned_as, belongs_returned}
+use Rattle.rb_desk.proofs.calls.CallLaws.{out_running, nack_kept, ok_call, memory_answers}
+use Rattle.rb_desk.proofs.calls.OpenLaws.{IsOpen}
+use Rattle.rb_desk.proofs.calls.HandLaws.{returned_as, belongs_returned}
 use Rattle.rb_desk.proofs.desk.Desk.nack.Goals as goal
 
 pub returns-in_default-out_as : goal.returns-in_default-out_as

@@ -1,6 +1,6 @@
 use Rattle.std.proofs.Common.{◌≡◌, ◌∙◌, ◌+◌, suc, Ok, ap, sym, arith}
-use Rattle.rb_desk.proofs.CallLaws.{may_place, prepared}
-use Rattle.rb_desk.proofs.PlaceLaws.{placed_shown, belongs_placed}
+use Rattle.rb_desk.proofs.calls.CallLaws.{may_place, prepared}
+use Rattle.rb_desk.proofs.calls.PlaceLaws.{placed_shown, belongs_placed}
 use Rattle.rb_desk.proofs.desk.Desk.place.Goals as goal
 
 pub invariant_of-self : goal.invariant_of-self

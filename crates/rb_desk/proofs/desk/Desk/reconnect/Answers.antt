@@ -2,9 +2,9 @@ use Rattle.std.proofs.Common.{◌≡◌, ◌∙◌, suc, Some, Ok, Err, ap, sym,
 use Rattle.std.proofs.lemmas.Result.{err_from_is_err_and}
 use Rattle.std.proofs.lemmas.Option.{get_or_from_slice_get, slice_get_within}
 use Rattle.rb_desk.specs.Shown.{Belongs, reconnected_sub}
-use Rattle.rb_desk.proofs.CallLaws.{reconnect_ok, reconnect_bad, ok_call, memory_answers}
-use Rattle.rb_desk.proofs.KnownLaws.{all_get}
-use Rattle.rb_desk.proofs.CuttingLaws.{reconnected_shown, belongs_reconnected}
+use Rattle.rb_desk.proofs.calls.CallLaws.{reconnect_ok, reconnect_bad, ok_call, memory_answers}
+use Rattle.rb_desk.proofs.calls.KnownLaws.{all_get}
+use Rattle.rb_desk.proofs.calls.CuttingLaws.{reconnected_shown, belongs_reconnected}
 use Rattle.rb_desk.proofs.desk.Desk.reconnect.Goals as goal
 
 pub returns-in_err-next_link : goal.returns-in_err-next_link

@@ -1,8 +1,8 @@
 use Rattle.std.proofs.Common.{◌≡◌, ◌∙◌, suc, Ok, ap, sym, arith, ◌++◌, ◌∷◌, [], length}
 use Rattle.std.proofs.lemmas.List.{length-map}
 use Rattle.rb_desk.specs.Shown.{shown, shown_sub, new_sub}
-use Rattle.rb_desk.proofs.CallLaws.{subscribe_kept}
-use Rattle.rb_desk.proofs.CuttingLaws.{subscribed_shown, belongs_subscribed}
+use Rattle.rb_desk.proofs.calls.CallLaws.{subscribe_kept}
+use Rattle.rb_desk.proofs.calls.CuttingLaws.{subscribed_shown, belongs_subscribed}
 use Rattle.rb_desk.proofs.desk.Desk.subscribe.Goals as goal
 
 pub invariant_of-self-2 : goal.invariant_of-self-2

@@ -6,12 +6,12 @@ use Rattle.rb_desk.specs.Spans.{first_ready}
 use Rattle.rb_desk.specs.Lanes.{lane_spans}
 use Rattle.rb_desk.specs.Calls.{delivered_picture, delivery_from}
 use Rattle.rb_desk.specs.Shown.{Belongs, shown, shown_sub, delivered_sub, why_none}
-use Rattle.rb_desk.proofs.CallLaws.{take_full, taken, nothing_taken, ok_call, memory_answers}
-use Rattle.rb_desk.proofs.KnownLaws.{all_get}
-use Rattle.rb_desk.proofs.FoundLaws.{may_go_first}
-use Rattle.rb_desk.proofs.LaneChanges.{may_go_span}
-use Rattle.rb_desk.proofs.OpenLaws.{IsOpen}
-use Rattle.rb_desk.proofs.HandLaws.{delivered_belongs, delivered_answers}
+use Rattle.rb_desk.proofs.calls.CallLaws.{take_full, taken, nothing_taken, ok_call, memory_answers}
+use Rattle.rb_desk.proofs.calls.KnownLaws.{all_get}
+use Rattle.rb_desk.proofs.spans.FoundLaws.{may_go_first}
+use Rattle.rb_desk.proofs.spans.LaneChanges.{may_go_span}
+use Rattle.rb_desk.proofs.calls.OpenLaws.{IsOpen}
+use Rattle.rb_desk.proofs.calls.HandLaws.{delivered_belongs, delivered_answers}
 use Rattle.rb_desk.proofs.desk.Desk.take.Goals as goal
 
 pub returns-then-out-window : goal.returns-then-out-window

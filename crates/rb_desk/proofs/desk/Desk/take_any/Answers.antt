@@ -5,11 +5,11 @@ use Rattle.std.proofs.lemmas.List.{set-get_or}
 use Rattle.rb_desk.specs.declared.sub.Sub.{Sub}
 use Rattle.rb_desk.specs.Calls.{delivered_picture, delivery_from}
 use Rattle.rb_desk.specs.Shown.{Belongs, IsJoinedAt, first_to_deliver, span_to_deliver, shown, shown_sub, delivered_sub}
-use Rattle.rb_desk.proofs.CallLaws.{ok_call, memory_answers}
-use Rattle.rb_desk.proofs.KnownLaws.{all_get}
-use Rattle.rb_desk.proofs.LaneChanges.{may_go_span}
-use Rattle.rb_desk.proofs.HandLaws.{delivered_belongs, delivered_answers}
-use Rattle.rb_desk.proofs.AnyLaws.{any_goes_first, goes_may, any_taken, none_taken}
+use Rattle.rb_desk.proofs.calls.CallLaws.{ok_call, memory_answers}
+use Rattle.rb_desk.proofs.calls.KnownLaws.{all_get}
+use Rattle.rb_desk.proofs.spans.LaneChanges.{may_go_span}
+use Rattle.rb_desk.proofs.calls.HandLaws.{delivered_belongs, delivered_answers}
+use Rattle.rb_desk.proofs.calls.AnyLaws.{any_goes_first, goes_may, any_taken, none_taken}
 use Rattle.rb_desk.proofs.desk.Desk.take_any.Goals as goal
 
 pub returns-in_default : goal.returns-in_default

@@ -3,8 +3,8 @@ use Rattle.std.proofs.lemmas.Option.{get_or_from_slice_get, slice_get_within}
 use Rattle.rb_desk.specs.declared.sub.Sub.{Sub}
 use Rattle.rb_desk.specs.Lanes.{AreJoined}
 use Rattle.rb_desk.specs.Shown.{closed_sub}
-use Rattle.rb_desk.proofs.CallLaws.{unsubscribe_kept}
-use Rattle.rb_desk.proofs.CuttingLaws.{unsubscribed_shown, belongs_unsubscribed}
+use Rattle.rb_desk.proofs.calls.CallLaws.{unsubscribe_kept}
+use Rattle.rb_desk.proofs.calls.CuttingLaws.{unsubscribed_shown, belongs_unsubscribed}
 use Rattle.rb_desk.proofs.desk.Desk.unsubscribe.Goals as goal
 
 pub index_mut-requires : goal.index_mut-requires

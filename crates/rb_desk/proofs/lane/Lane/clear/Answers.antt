@@ -1,5 +1,5 @@
 use Rattle.std.proofs.Common.{arith}
-use Rattle.rb_desk.proofs.LaneLaws.{joins_reach}
+use Rattle.rb_desk.proofs.spans.LaneLaws.{joins_reach}
 use Rattle.rb_desk.proofs.lane.Lane.clear.Goals as goal
 
 pub overflow_add-self : goal.overflow_add-self

@@ -2,7 +2,7 @@ use Rattle.std.proofs.Common.{◌∙◌, ap}
 use Rattle.rb_desk.specs.Spans.{how_many_out}
 use Rattle.rb_desk.specs.Lanes.{spans_of, least}
 use Rattle.rb_desk.specs.Expiry.{by_number, turns_from}
-use Rattle.rb_desk.proofs.ExpireOrder.{joins_expired}
+use Rattle.rb_desk.proofs.orders.ExpireOrder.{joins_expired}
 use Rattle.rb_desk.proofs.lane.Lane.expire.Goals as goal
 
 pub invariant_of-self : goal.invariant_of-self

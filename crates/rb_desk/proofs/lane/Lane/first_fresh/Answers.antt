@@ -1,5 +1,5 @@
 use Rattle.std.proofs.Common.{◌≡◌, min, slice_get, sym, ap, ◌∙◌, arith}
-use Rattle.rb_desk.proofs.CutLaws.{cut_none, cut_some, cut_ends}
+use Rattle.rb_desk.proofs.spans.CutLaws.{cut_none, cut_some, cut_ends}
 use Rattle.rb_desk.proofs.lane.Lane.first_fresh.Goals as goal
 
 pub returns-then-front-self : goal.returns-then-front-self

@@ -1,7 +1,7 @@
 use Rattle.std.proofs.Common.{◌≡◌, sym, ap, ◌∙◌, option_map, slice_get}
 use Rattle.rb_desk.specs.Spans.{cut_spans}
 use Rattle.rb_desk.specs.Lanes.{better, least, with_birth}
-use Rattle.rb_desk.proofs.LaneLaws.{first_in_line_is}
+use Rattle.rb_desk.proofs.spans.LaneLaws.{first_in_line_is}
 use Rattle.rb_desk.proofs.lane.Lane.first_in_line.Goals as goal
 
 pub returns-clause-value : goal.returns-clause-value

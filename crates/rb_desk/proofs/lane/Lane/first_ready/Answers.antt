@@ -1,7 +1,7 @@
 use Rattle.std.proofs.Common.{◌≡◌, Some, None, sym, ap, ◌∙◌}
 use Rattle.rb_desk.specs.Spans.{first_ready}
 use Rattle.rb_desk.specs.Lanes.{spans_of}
-use Rattle.rb_desk.proofs.LaneLaws.{first_ready_some, first_ready_none}
+use Rattle.rb_desk.proofs.spans.LaneLaws.{first_ready_some, first_ready_none}
 use Rattle.rb_desk.proofs.lane.Lane.first_ready.Goals as goal
 
 pub returns-in-Some-clause-value : goal.returns-in-Some-clause-value

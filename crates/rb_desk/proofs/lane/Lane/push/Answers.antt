@@ -1,7 +1,7 @@
 use Rattle.std.proofs.Common.{◌∙◌, ap, sym, arith}
 use Rattle.rb_desk.specs.Spans.{how_many_out}
 use Rattle.rb_desk.specs.Lanes.{spans_of, least}
-use Rattle.rb_desk.proofs.LaneLaws.{joins_pushed}
+use Rattle.rb_desk.proofs.spans.LaneLaws.{joins_pushed}
 use Rattle.rb_desk.proofs.lane.Lane.push.Goals as goal
 
 pub invariant_of-self-2 : goal.invariant_of-self-2

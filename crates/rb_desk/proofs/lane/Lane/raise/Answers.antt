@@ -2,7 +2,7 @@ use Rattle.std.proofs.Common.{◌∙◌, ℕ, suc, List, ap, sym, subst, drop}
 use Rattle.rb_desk.specs.declared.ticket.Held.{Held}
 use Rattle.rb_desk.specs.Spans.{how_many_out}
 use Rattle.rb_desk.specs.Lanes.{spans_of, least, FollowOn, risen}
-use Rattle.rb_desk.proofs.LaneLaws.{joins_risen}
+use Rattle.rb_desk.proofs.spans.LaneLaws.{joins_risen}
 use Rattle.rb_desk.proofs.lane.Lane.raise.Goals as goal
 
 pub invariant_of-self : goal.invariant_of-self

@@ -1,7 +1,7 @@
 use Rattle.std.proofs.Common.{◌∙◌, ap}
 use Rattle.rb_desk.specs.Spans.{how_many_out}
 use Rattle.rb_desk.specs.Lanes.{spans_of, least}
-use Rattle.rb_desk.proofs.LaneLaws.{joins_restated}
+use Rattle.rb_desk.proofs.spans.LaneLaws.{joins_restated}
 use Rattle.rb_desk.proofs.lane.Lane.restate.Goals as goal
 
 pub invariant_of-self : goal.invariant_of-self

@@ -1,0 +1,10 @@
+-- However a text is cut into pieces, the answer is the same.
+pub mod SectionLists
+pub mod PartLaws
+pub mod PartMore
+pub mod PartsAnswer
+pub mod PieceLaws
+pub mod ProgressLaws
+pub mod ProgressAnswers
+pub mod FaultPlaces
+pub mod FeedLaws

@@ -1,0 +1,10 @@
+-- Each call answers what its definition says, and the desk shows the picture after it.
+pub mod CallLaws
+pub mod KnownLaws
+pub mod OpenLaws
+pub mod HandLaws
+pub mod AnyLaws
+pub mod CuttingLaws
+pub mod PlaceLaws
+pub mod ExpireLaws
+pub mod ExpireCall

@@ -1,0 +1,8 @@
+-- The spans of one subscription: how numbers are cut, and what a call changes.
+pub mod CutLaws
+pub mod JoinLaws
+pub mod LaneLaws
+pub mod ChangeLaws
+pub mod LaneChanges
+pub mod FirstLaws
+pub mod FoundLaws
