@@ -13,38 +13,51 @@ use Rattle.changeset_c.specs.Says.{CheckSays, CanonicalSays, IsNumber, IsFaultAt
 abbrev pub EitherOf : List ℕ → Type 0
 EitherOf text = HasChangeset text ⊎ HasFault text
 
-one_changeset : (text : List ℕ) → EitherOf text → (one other : List Section) → Spells text one → Spells text other → one ≡ other
+one_changeset : (text : List ℕ) → EitherOf text → (one other : List Section) → Spells text one → Spells text other → one
+    ≡ other
 one_changeset text (inl has) one other s t = has.only one s ∙ sym (has.only other t)
 one_changeset text (inr has) one other s t = absurd (has.spells_none one s)
 
-one_fault : (text : List ℕ) → EitherOf text → (one other : ParseFault) → IsFault text one → IsFault text other → one ≡ other
+one_fault : (text : List ℕ) → EitherOf text → (one other : ParseFault) → IsFault text one → IsFault text other → one
+    ≡ other
 one_fault text (inl has) one other s t = absurd (has.no_fault one s)
 one_fault text (inr has) one other s t = has.only one s ∙ sym (has.only other t)
 
-not_both : (text : List ℕ) → EitherOf text → (sections : List Section) (fault : ParseFault) → Spells text sections → IsFault text fault → ⊥
+not_both : (text : List ℕ) → EitherOf text → (sections : List Section) (fault : ParseFault) → Spells text sections
+    → IsFault text fault → ⊥
 not_both text (inl has) sections fault s t = has.no_fault fault t
 not_both text (inr has) sections fault s t = has.spells_none sections s
 
-pub check_only : (answer : ℤ) (at kind : ℕ) (text : List ℕ) → EitherOf text → CheckSays answer at kind text → (changeset : List Section) → Spells text changeset → answer ≡ pos (changes_in changeset)
-check_only (pos n) at kind text either says changeset s = ap pos (says.is_count ∙ ap changes_in (one_changeset text either says.changeset changeset says.spelled s))
-check_only (negsuc zero) at kind text either says changeset s = absurd (not_both text either changeset says.fault s says.is_fault)
+pub check_only : (answer : ℤ) (at kind : ℕ) (text : List ℕ) → EitherOf text → CheckSays answer at kind text
+    → (changeset : List Section) → Spells text changeset → answer ≡ pos (changes_in changeset)
+check_only (pos n) at kind text either says changeset s =
+    ap pos (says.is_count ∙ ap changes_in (one_changeset text either says.changeset changeset says.spelled s))
+check_only (negsuc zero) at kind text either says changeset s =
+    absurd (not_both text either changeset says.fault s says.is_fault)
 check_only (negsuc (suc n)) at kind text either says changeset s = absurd says
 
-pub check_fault : (answer : ℤ) (at kind : ℕ) (text : List ℕ) → EitherOf text → CheckSays answer at kind text → (fault : ParseFault) → IsFault text fault → IsFaultAt answer at kind fault
+pub check_fault : (answer : ℤ) (at kind : ℕ) (text : List ℕ) → EitherOf text → CheckSays answer at kind text
+    → (fault : ParseFault) → IsFault text fault → IsFaultAt answer at kind fault
 check_fault (pos n) at kind text either says fault t = absurd (not_both text either says.changeset fault says.spelled t)
 check_fault (negsuc zero) at kind text either says fault t =
     let same = one_fault text either says.fault fault says.is_fault t in
     (refl, says.is_place ∙ ap (λ f. f.at) same, says.is_kind ∙ ap (λ f. kind_number f.kind) same)
 check_fault (negsuc (suc n)) at kind text either says fault t = absurd says
 
-pub canonical_only : (answer : ℤ) (before after text : List ℕ) → EitherOf text → CanonicalSays answer before after text → (changeset : List Section) → Spells text changeset → IsNumber answer (length (text_of changeset))
-canonical_only (pos n) before after text either says changeset s = says.is_length ∙ ap (λ c. length (text_of c)) (one_changeset text either says.changeset changeset says.spelled s)
-canonical_only (negsuc zero) before after text either says changeset s = not_both text either changeset says.fault s says.is_fault
+pub canonical_only : (answer : ℤ) (before after text : List ℕ) → EitherOf text → CanonicalSays answer before after text
+    → (changeset : List Section) → Spells text changeset → IsNumber answer (length (text_of changeset))
+canonical_only (pos n) before after text either says changeset s =
+    says.is_length ∙ ap (λ c. length (text_of c)) (one_changeset text either says.changeset changeset says.spelled s)
+canonical_only (negsuc zero) before after text either says changeset s =
+    not_both text either changeset says.fault s says.is_fault
 canonical_only (negsuc (suc zero)) before after text either says changeset s = refl
 canonical_only (negsuc (suc (suc n))) before after text either says changeset s = absurd says
 
-pub canonical_fault : (answer : ℤ) (before after text : List ℕ) → EitherOf text → CanonicalSays answer before after text → (fault : ParseFault) → IsFault text fault → answer ≡ negsuc 0
-canonical_fault (pos n) before after text either says fault t = absurd (not_both text either says.changeset fault says.spelled t)
+pub canonical_fault : (answer : ℤ) (before after text : List ℕ) → EitherOf text → CanonicalSays answer before after text
+    → (fault : ParseFault) → IsFault text fault → answer ≡ negsuc 0
+canonical_fault (pos n) before after text either says fault t =
+    absurd (not_both text either says.changeset fault says.spelled t)
 canonical_fault (negsuc zero) before after text either says fault t = refl
-canonical_fault (negsuc (suc zero)) before after text either says fault t = absurd (not_both text either says.0.0 fault says.0.1 t)
+canonical_fault (negsuc (suc zero)) before after text either says fault t =
+    absurd (not_both text either says.0.0 fault says.0.1 t)
 canonical_fault (negsuc (suc (suc n))) before after text either says fault t = absurd says

@@ -1,7 +1,12 @@
 -- Kinds of faults as numbers.
 use Rattle.std.specs.Prelude.{ℕ}
 use Rattle.cs_parse.specs.declared.fault.FaultKind.{FaultKind}
-use Rattle.cs_parse.specs.declared.fault.FaultKind.TheVariants.{BadMarker, Patchset, Columns, NoKey, EmptyName, NameTooLong, BadOperation, BadType, Real, UndefinedField, KeyMissing, KeyChanged, OneSided, ValueTooLong, TooLong, Truncated}
+use Rattle.cs_parse.specs.declared.fault.FaultKind.TheVariants.{BadMarker, Patchset, Columns, NoKey}
+use Rattle.cs_parse.specs.declared.fault.FaultKind.TheVariants.{EmptyName, NameTooLong}
+use Rattle.cs_parse.specs.declared.fault.FaultKind.TheVariants.{BadOperation, BadType, Real}
+use Rattle.cs_parse.specs.declared.fault.FaultKind.TheVariants.{UndefinedField, KeyMissing}
+use Rattle.cs_parse.specs.declared.fault.FaultKind.TheVariants.{KeyChanged, OneSided, ValueTooLong}
+use Rattle.cs_parse.specs.declared.fault.FaultKind.TheVariants.{TooLong, Truncated}
 
 -- the number of a fault's kind
 abbrev pub kind_number : FaultKind → ℕ

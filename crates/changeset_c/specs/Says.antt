@@ -1,4 +1,5 @@
--- What the numbers that the exports answer say of a text: 0 or more, -1 (`negsuc 0`) or -2 (`negsuc 1`).
+-- What the numbers that the exports answer say of a text: 0 or more, -1 (`negsuc 0`) or -2 (`negsuc
+-- 1`).
 use Rattle.std.specs.Prelude.{◌≡◌, ℕ, suc, zero, ℤ, pos, negsuc, List, length}
 use Rattle.cs_model.specs.Section.{Section}
 use Rattle.cs_model.specs.Text.{Spells}
@@ -57,4 +58,5 @@ KeptBut (pos n) before after = after ≡ before
 
 -- the refusal of a text with this fault
 abbrev pub IsFaultAt : ℤ → ℕ → ℕ → ParseFault → Type 0
-IsFaultAt answer at kind fault = (answer ≡ negsuc 0) × (at ≡ fault.at) × (kind ≡ kind_number fault.kind)
+IsFaultAt answer at kind fault = (answer ≡ negsuc 0) × (at ≡ fault.at)
+    × (kind ≡ kind_number fault.kind)

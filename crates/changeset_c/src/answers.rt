@@ -29,8 +29,8 @@ pub fn check(text: &[u8], fault_at: &mut usize, fault_kind: &mut u32) -> i64
     }
 }
 
-/// The length of the canonical text, which is written where `out` has room for it; -1; or -2. A canonical
-/// text is never longer than the text that was read, so that an `i64` holds its length.
+/// The length of the canonical text, which is written where `out` has room for it; -1; or -2. A
+/// canonical text is never longer than the text that was read, so that an `i64` holds its length.
 pub fn canonical(alloc: Global, text: &[u8], out: &mut [u8]) -> i64
     ensures { CanonicalSays result out.old out.new text.now }
 {

@@ -1,5 +1,5 @@
-//! What C calls, under the names of `include/changeset.h`. A slice crosses as its pointer and its length, and the
-//! allocator takes no place among the arguments.
+//! What C calls, under the names of `include/changeset.h`. A slice crosses as its pointer and its
+//! length, and the allocator takes no place among the arguments.
 
 ghost use Rattle.std.specs.Prelude.{◌≡◌, List, pos, negsuc, length};
 ghost use Rattle.cs_model.specs.Section.{Section};
@@ -14,8 +14,8 @@ use crate::answers::{canonical, check};
 use cs_parse::laws::every_text;
 use std::alloc::Global;
 
-/// How many changes the text spells; or -1, with the place and the kind's number of its one fault. It takes no memory.
-/// The place and the number are left as they were unless the answer is -1.
+/// How many changes the text spells; or -1, with the place and the kind's number of its one fault.
+/// It takes no memory. The place and the number are left as they were unless the answer is -1.
 #[unsafe(no_mangle)]
 pub extern "C" fn changeset_check(text: &[u8], fault_at: &mut usize, fault_kind: &mut u32) -> i64
     // What is answered is so.
@@ -33,9 +33,9 @@ pub extern "C" fn changeset_check(text: &[u8], fault_at: &mut usize, fault_kind:
     check(text, fault_at, fault_kind)
 }
 
-/// How many bytes the canonical text of what the text spells has, which is written to the front of `out` where there
-/// is room for it; or -1 where the text spells no changeset; or -2 where it spells one and memory ran out. All else of `out`
-/// is left as it was.
+/// How many bytes the canonical text of what the text spells has, which is written to the front of
+/// `out` where there is room for it; or -1 where the text spells no changeset; or -2 where it
+/// spells one and memory ran out. All else of `out` is left as it was.
 #[unsafe(no_mangle)]
 pub extern "C" fn changeset_canonical(alloc: Global, text: &[u8], out: &mut [u8]) -> i64
     // What is answered is so, and `out` is as it says.

@@ -7,8 +7,8 @@ use std::alloc::Global;
 use std::process::Abort;
 use std::test::*;
 
-// Recorded by SQLite 3.40.1: in `t(a, b)` row 1 deleted, row 2 updated and row 3 inserted, in `u(k, n, m)` one row
-// updated.
+// Recorded by SQLite 3.40.1: in `t(a, b)` row 1 deleted, row 2 updated and row 3 inserted, in `u(k,
+// n, m)` one row updated.
 const RECORDED: [u8; 89] = [
     0x54, 0x02, 0x01, 0x00, 0x74, 0x00, 0x09, 0x00, 0x01, 0x00, 0x00, 0x00, 0x00, 0x00, 0x00, 0x00,
     0x01, 0x03, 0x03, 0x6f, 0x6e, 0x65, 0x17, 0x00, 0x01, 0x00, 0x00, 0x00, 0x00, 0x00, 0x00, 0x00,
@@ -24,8 +24,8 @@ const WITH_REAL: [u8; 26] = [
     0x01, 0x02, 0x3f, 0xe0, 0x00, 0x00, 0x00, 0x00, 0x00, 0x00,
 ];
 
-// two sections of one table, with longer spellings of 2 and 1 than the shortest, an indirect byte of 5 and an empty
-// section between them; and two bytes behind them that begin nothing
+// two sections of one table, with longer spellings of 2 and 1 than the shortest, an indirect byte
+// of 5 and an empty section between them; and two bytes behind them that begin nothing
 const LOOSE: [u8; 50] = [
     0x54, 0x80, 2, 1, 0, 0x74, 0, 0x12, 5, 1, 0, 0, 0, 0, 0, 0, 0, 1, 3, 0x80, 1, 0x78, 0x54, 2, 1,
     0, 0x75, 0, 0x54, 2, 1, 0, 0x74, 0, 0x12, 0, 1, 0, 0, 0, 0, 0, 0, 0, 2, 3, 1, 0x79, 0, 0,
@@ -63,8 +63,8 @@ fn faults_are_told(rt: HostRuntime) {
     checks(&rt, &LOOSE, -1, 48, 7);
 }
 
-// Asks for the canonical text with a buffer of 60 bytes of 9, of which `room` are given, and compares all of them. Where
-// memory runs out all are as before, and a second try goes on.
+// Asks for the canonical text with a buffer of 60 bytes of 9, of which `room` are given, and
+// compares all of them. Where memory runs out all are as before, and a second try goes on.
 fn writes(
     rt: &impl Abort,
     alloc: Global,

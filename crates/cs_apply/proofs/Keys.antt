@@ -21,7 +21,8 @@ same_key a b = nat_eq a.table b.table && pointwise nat_eq a.bytes b.bytes
 
 -- keys that compare alike are one
 pub exact_keys : IsAntisymmetric row_key_cmp
-exact_keys a b h = ap (λ (p : ℕ × List ℕ). record { table = p.0; bytes = p.1 }) (exact_pairs nat_cmp (slice_cmp nat_cmp) exact_unsigned exact_bytes (a.table, a.bytes) (b.table, b.bytes) h)
+exact_keys a b h = ap (λ (p : ℕ × List ℕ). record { table = p.0; bytes = p.1 })
+    (exact_pairs nat_cmp (slice_cmp nat_cmp) exact_unsigned exact_bytes (a.table, a.bytes) (b.table, b.bytes) h)
 
 pub keys_total : IsTotalOrder row_key_cmp
 keys_total = then_total (on_total (λ k. k.table) nat_cmp_total) (on_total (λ k. k.bytes) nat_list_cmp_total)
@@ -36,14 +37,16 @@ numbers_tied x y = grind (arith, nat_tests)
 
 -- the order and `==` tell keys apart alike
 pub tied : (a b : RowKey) → eq_by_cmp row_key_cmp a b ≡ same_key a b
-tied a b = keys_joined (nat_cmp a.table b.table) (slice_cmp nat_cmp a.bytes b.bytes) ∙ (λ i. numbers_tied a.table b.table i && is_eq-slice_cmp a.bytes b.bytes i)
+tied a b = keys_joined (nat_cmp a.table b.table) (slice_cmp nat_cmp a.bytes b.bytes)
+    ∙ (λ i. numbers_tied a.table b.table i && is_eq-slice_cmp a.bytes b.bytes i)
 
 pub find_key : {X : Type 0} (es : List (RowKey × X)) (q : RowKey) → find row_key_cmp q es ≡ lookup (same_key q) es
 find_key [] q = refl
 find_key (e ∷ es) q = (λ i. cond (tied q e.0 i) (Some e.1) (find_key es q i))
 
 -- what the map that the entries make has at a key
-pub get_key : {X : Type 0} (es : List (RowKey × X)) (q : RowKey) → map.get (map.from_entries {R = row_key_cmp} es) q ≡ lookup (same_key q) es
+pub get_key : {X : Type 0} (es : List (RowKey × X)) (q : RowKey) → map.get (map.from_entries {R = row_key_cmp} es) q
+    ≡ lookup (same_key q) es
 get_key es q = map.get-from_entries keys_total es q ∙ find_key es q
 
 pub laws : IsEquivalence same_key

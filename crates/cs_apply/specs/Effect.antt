@@ -1,5 +1,6 @@
 -- What one change does to the rows.
-use Rattle.std.specs.Prelude.{ℕ, Bool, true, false, ◌&&◌, ◌==◌, if◌then◌else◌, List, [], ◌∷◌, Option, Some, None, Result, Ok, Err}
+use Rattle.std.specs.Prelude.{ℕ, Bool, true, false, ◌&&◌, ◌==◌, if◌then◌else◌, List, [], ◌∷◌}
+use Rattle.std.specs.Prelude.{Option, Some, None, Result, Ok, Err}
 use Rattle.std.specs.Ordering.{int_eq}
 use Rattle.std.specs.FinMap as map
 use Rattle.cs_model.specs.declared.value.Value.{Value}
@@ -53,7 +54,8 @@ rest_agrees [] fields row = true
 rest_agrees (flag ∷ flags) [] row = true
 rest_agrees (flag ∷ flags) (field ∷ fields) [] = false
 rest_agrees (flag ∷ flags) (field ∷ fields) (value ∷ row) =
-    if flag == 0 then agrees field value && rest_agrees flags fields row else rest_agrees flags fields row
+    if flag == 0 then agrees field value && rest_agrees flags fields row else rest_agrees flags
+    fields row
 
 -- the row with the values that the new record says in the place of its own
 abbrev pub updated_field : Field → Value → Value
@@ -73,19 +75,26 @@ inserted rows key new (Some row) = Err Conflict
 -- DELETE: the row must be there, and be what the old record says.
 abbrev pub deleted : Rows → RowKey → List Field → Option (List Value) → Result Rows ConflictKind
 deleted rows key before None = Err NotFound
-deleted rows key before (Some row) = if all_agree before row then Ok (map.remove rows key) else Err Data
+deleted rows key before (Some row) =
+    if all_agree before row then Ok (map.remove rows key) else Err Data
 
 -- UPDATE: the row must be there, and be what the old record says outside the key.
-abbrev pub changed : Rows → RowKey → List ℕ → List Field → List Field → Option (List Value) → Result Rows ConflictKind
+abbrev pub changed : Rows → RowKey → List ℕ → List Field → List Field → Option (List Value)
+    → Result Rows ConflictKind
 changed rows key flags before after None = Err NotFound
 changed rows key flags before after (Some row) =
     if rest_agrees flags before row then Ok (map.insert rows key (updated after row)) else Err Data
 
--- A change of the table at this place with these key bytes: the rows after it, or the kind of its conflict.
-abbrev pub effect_by : Op → Rows → RowKey → List ℕ → List Field → List Field → Result Rows ConflictKind
-effect_by Insert rows key flags before after = inserted rows key (values_of after) (map.get rows key)
-effect_by Update rows key flags before after = changed rows key flags before after (map.get rows key)
+-- A change of the table at this place with these key bytes: the rows after it, or the kind of its
+-- conflict.
+abbrev pub effect_by : Op → Rows → RowKey → List ℕ → List Field → List Field
+    → Result Rows ConflictKind
+effect_by Insert rows key flags before after =
+    inserted rows key (values_of after) (map.get rows key)
+effect_by Update rows key flags before after =
+    changed rows key flags before after (map.get rows key)
 effect_by Delete rows key flags before after = deleted rows key before (map.get rows key)
 
 abbrev pub effect : ℕ → List ℕ → Rows → Change → Result Rows ConflictKind
-effect table flags rows change = effect_by change.op rows (key_of table flags change) flags change.before change.after
+effect table flags rows change =
+    effect_by change.op rows (key_of table flags change) flags change.before change.after

@@ -20,5 +20,6 @@ ReportsKind change.Memory answer = Unit {0}
 
 -- an error of the change at this place, as one of `apply`
 abbrev pub conflict_at : ℕ → ChangeError → ApplyError
-conflict_at position (change.Conflict kind) = apply.Conflict (record { position = position; kind = kind })
+conflict_at position (change.Conflict kind) =
+    apply.Conflict (record { position = position; kind = kind })
 conflict_at position change.Memory = apply.Memory

@@ -6,4 +6,5 @@ use Rattle.cs_apply.specs.State.{TableState}
 
 -- some sections apply without conflict, and then more of them to what these left
 abbrev pub AppliesBoth : TableState → List Section → List Section → TableState → Type 0
-AppliesBoth old some more new = (mid : TableState) × (single old some ≡ Ok mid) × (single mid more ≡ Ok new)
+AppliesBoth old some more new = (mid : TableState) × (single old some ≡ Ok mid)
+    × (single mid more ≡ Ok new)

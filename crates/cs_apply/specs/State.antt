@@ -1,5 +1,6 @@
 -- Tables as values.
-use Rattle.std.specs.Prelude.{ℕ, Bool, false, List, Option, Some, None, slice_get, unwrap_or, if◌then◌else◌, refl}
+use Rattle.std.specs.Prelude.{ℕ, Bool, false, List, Option, Some, None, slice_get, unwrap_or}
+use Rattle.std.specs.Prelude.{if◌then◌else◌, refl}
 use Rattle.std.specs.Coded.{Coded, code_by, coded×, coded_list, coded_bool}
 use Rattle.std.specs.FinMap as map
 use Rattle.cs_model.specs.contracts.shape.Shape as shape
@@ -27,7 +28,8 @@ abbrev pub only_kept : List Bool → Option ℕ → Option ℕ
 only_kept kept None = None
 only_kept kept (Some table) = if is_kept kept table then Some table else None
 
--- The place of the compatible table: the one in the schema with this name and these key bytes, where it is kept.
+-- The place of the compatible table: the one in the schema with this name and these key bytes,
+-- where it is kept.
 abbrev pub compatible : List Shape → List Bool → Shape → Option ℕ
 compatible schema kept shape = only_kept kept (table_index schema shape)
 
@@ -35,6 +37,7 @@ compatible schema kept shape = only_kept kept (table_index schema shape)
 abbrev pub state_code : Coded TableState
 state_code =
     code_by (List Shape × (List Bool × Rows))
-    (coded× (coded_list shape.the_row.coded) (coded× (coded_list coded_bool) (map.code row_key_code (coded_list value.the_row.coded))))
+    (coded× (coded_list shape.the_row.coded)
+    (coded× (coded_list coded_bool) (map.code row_key_code (coded_list value.the_row.coded))))
     (λ s. (s.schema, (s.kept, s.rows)))
     (λ p. record { schema = p.0; kept = p.1.0; rows = p.1.1 }) (λ _. refl)

@@ -1,5 +1,6 @@
 -- What the steps of `apply` give: one edit of a place, one change, and the changes of one section.
-use Rattle.std.specs.Prelude.{◌≡◌, ℕ, zero, suc, ◌≤◌, Bool, true, false, ◌&&◌, ◌==◌, if◌then◌else◌, List, [], ◌∷◌, length, take, Option, None, Some, Result, Ok, Err}
+use Rattle.std.specs.Prelude.{◌≡◌, ℕ, zero, suc, ◌≤◌, Bool, true, false, ◌&&◌, ◌==◌, if◌then◌else◌}
+use Rattle.std.specs.Prelude.{List, [], ◌∷◌, length, take, Option, None, Some, Result, Ok, Err}
 use Rattle.std.specs.FinMap as map
 use Rattle.cs_model.specs.declared.change.Change.{Change}
 use Rattle.cs_model.specs.declared.value.Value.{Value}
@@ -65,7 +66,8 @@ fields_agree [] fields values = true
 fields_agree (flag ∷ flags) [] values = true
 fields_agree (flag ∷ flags) (field ∷ fields) [] = false
 fields_agree (flag ∷ flags) (field ∷ fields) (value ∷ values) =
-    if flag == 0 then field_agrees field value && fields_agree flags fields values else fields_agree flags fields values
+    if flag == 0 then field_agrees field value
+    && fields_agree flags fields values else fields_agree flags fields values
 
 -- the field of a record that says something, or else the row's own
 abbrev pub chosen : Option Field → Field → Field
@@ -82,13 +84,15 @@ merged (field ∷ fields) (value ∷ values) = chosen (Some field) value ∷ mer
 -- What the log takes back gives the places that were there before, in front of those that are new.
 pub record Back (old new : Places) : Type 0 where
   pub grows : length old.rows.entries ≤ length new.rows.entries
-  pub back : (n : ℕ) → n ≤ length old.rows.entries → take n (undone new.log.items new.rows.entries) ≡ take n (undone old.log.items old.rows.entries)
+  pub back : (n : ℕ) → n ≤ length old.rows.entries → take n (undone new.log.items new.rows.entries)
+      ≡ take n (undone old.log.items old.rows.entries)
 
 -- the changes of one section of a compatible table, the first of them at this position
 unfoldable pub section_from : ℕ → List ℕ → List Change → ℕ → Rows → Result Rows Conflicts
 section_from table flags [] at rows = Ok rows
 section_from table flags (change ∷ changes) at rows =
-    next_or_conflict (λ next after. section_from table flags changes next after) at (effect table flags rows change)
+    next_or_conflict (λ next after. section_from table flags changes next after) at
+    (effect table flags rows change)
 
 -- what follows a section's changes, where none of them conflicts
 abbrev pub carry : (Rows → Result Rows Conflicts) → Result Rows Conflicts → Result Rows Conflicts

@@ -1,5 +1,5 @@
-//! Changes: one, those of a section, and all. What is done before a conflict is logged by `Places`, which takes
-//! it back.
+//! Changes: one, those of a section, and all. What is done before a conflict is logged by `Places`,
+//! which takes it back.
 
 ghost use Rattle.std.specs.Prelude.{◌≡◌, ◌+◌, ◌<◌, ◌^◌, Ok, OnOk, IfErr, length, true};
 ghost use Rattle.std.specs.FinMap as map;
@@ -21,8 +21,8 @@ use crate::row::{all_agree, rest_agrees, updated};
 use cs_model::{ChangeRef, Changeset, Op, RecordRef, Row, RowKey, Schema, SectionRef, Shape};
 use std::alloc::Global;
 
-// INSERT: the key has no row, and gets the one that the new record says. An `Err` of this and the next two leaves
-// the rows as they were.
+// INSERT: the key has no row, and gets the one that the new record says. An `Err` of this and the
+// next two leaves the rows as they were.
 fn insert(
     places: &mut Places,
     alloc: Global,
@@ -59,7 +59,8 @@ fn delete(places: &mut Places, key: &RowKey, before: &RecordRef) -> Result<(), C
     Ok(places.set(place, None)?)
 }
 
-// UPDATE: the row is there, is what the old record says outside the key, and gets what the new one says.
+// UPDATE: the row is there, is what the old record says outside the key, and gets what the new one
+// says.
 fn update(
     places: &mut Places,
     alloc: Global,
@@ -115,8 +116,8 @@ fn change_row(
     }
 }
 
-// Applies the changes of one section of a table that is kept, the first of them at position `start`. An `Err`
-// leaves what those before it did.
+// Applies the changes of one section of a table that is kept, the first of them at position
+// `start`. An `Err` leaves what those before it did.
 fn change_section(
     places: &mut Places,
     alloc: Global,
@@ -156,8 +157,8 @@ fn kept_table(schema: &Schema, kept: &[bool], shape: &Shape) -> Option<usize>
     }
 }
 
-/// Applies the changes of all sections, those of tables that aren't kept passed over. An `Err` leaves what the
-/// changes before the first conflict did, for `Places::take_back`.
+/// Applies the changes of all sections, those of tables that aren't kept passed over. An `Err`
+/// leaves what the changes before the first conflict did, for `Places::take_back`.
 pub(crate) fn change_all(
     places: &mut Places,
     alloc: Global,

@@ -32,7 +32,8 @@ impl ConflictKind {
     }
 }
 
-/// The first conflict of a changeset: the change's place among all its changes, from 0, and its kind.
+/// The first conflict of a changeset: the change's place among all its changes, from 0, and its
+/// kind.
 #[derive(Clone, Copy, Debug, PartialEq, Eq, Error)]
 #[error("change {position}: {kind}")]
 pub struct Conflict {

@@ -1,5 +1,6 @@
-//! Tables and one-thread application: `Tables` is a finite map from row keys to rows, and `apply` gives the
-//! tables that a changeset's changes give one at a time, or its first conflict. Theorem: `apply` is `single`.
+//! Tables and one-thread application: `Tables` is a finite map from row keys to rows, and `apply`
+//! gives the tables that a changeset's changes give one at a time, or its first conflict. Theorem:
+//! `apply` is `single`.
 #![tactic(auto)]
 
 mod change_error;

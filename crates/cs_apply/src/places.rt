@@ -1,9 +1,11 @@
 //! Places for rows, and a log by which what was done to them is taken back without memory.
 //!
-//! A key that had a row once keeps its place, which may be empty. So while a changeset is applied each place
-//! keeps its index: a change moves the old row out of its place into the log, and to move it back needs no room.
+//! A key that had a row once keeps its place, which may be empty. So while a changeset is applied
+//! each place keeps its index: a change moves the old row out of its place into the log, and to
+//! move it back needs no room.
 
-ghost use Rattle.std.specs.Prelude.{◌≡◌, [], length, take, Option, List, Some, Ok, slice_get, IfSome, IfOk, IfErr, OnOk};
+ghost use Rattle.std.specs.Prelude.{◌≡◌, [], length, take, Option, List, Some, Ok, slice_get};
+ghost use Rattle.std.specs.Prelude.{IfSome, IfOk, IfErr, OnOk};
 ghost use Rattle.std.specs.Option.{option_map};
 ghost use Rattle.std.specs.FinMap as map;
 ghost use Rattle.cs_model.specs.declared.value.Value.{Value};
@@ -21,7 +23,8 @@ use indexmap::map::Entry;
 use std::alloc::{AllocError, Global};
 use std::mem::replace;
 
-/// A step that was taken: the index of its place, and the row that was there before, if there was one.
+/// A step that was taken: the index of its place, and the row that was there before, if there was
+/// one.
 #[derive(Debug, Drop)]
 pub(crate) struct Step {
     place: usize,
@@ -69,7 +72,8 @@ impl Places {
         Some((place, row.as_ref()?))
     }
 
-    /// All rows with their keys, by table, then by the key's bytes. `AllocError` where memory runs out.
+    /// All rows with their keys, by table, then by the key's bytes. `AllocError` where memory runs
+    /// out.
     pub(crate) fn in_order(&self, alloc: Global) -> Result<Vec<(&RowKey, &Row)>, AllocError>
         ensures { IfOk result (λ pairs. listed pairs.items ≡ map.entries (rows_in self.now)) }
     {
@@ -94,7 +98,8 @@ impl Places {
         Ok(pairs)
     }
 
-    /// Puts a row at a place, or none, and logs the one that was there. An `Err` leaves the rows as they were.
+    /// Puts a row at a place, or none, and logs the one that was there. An `Err` leaves the rows as
+    /// they were.
     pub(crate) fn set(&mut self, place: usize, row: Option<Row>) -> Result<(), AllocError>
         ensures ok { OnOk result ((key : RowKey) (old : Option (List Value))
             → slice_get self.old.rows.entries place ≡ Some (key, old)
@@ -156,8 +161,8 @@ impl Places {
         }
     }
 
-    /// Keeps all that was done: forgets the log, and drops the empty places once they are the most. So the
-    /// deletes since the last sweep pay for the next.
+    /// Keeps all that was done: forgets the log, and drops the empty places once they are the most.
+    /// So the deletes since the last sweep pay for the next.
     pub(crate) fn keep(&mut self)
         ensures rows { rows_in self.new ≡ rows_in self.old }
         ensures log { self.new.log.items ≡ [] }

@@ -1,5 +1,5 @@
-//! Rows and records: what a record says of a row, and what an UPDATE makes of it. Both are gone over by their cursors, so
-//! that nothing is copied but the new row.
+//! Rows and records: what a record says of a row, and what an UPDATE makes of it. Both are gone
+//! over by their cursors, so that nothing is copied but the new row.
 
 ghost use Rattle.std.specs.Prelude.{◌≡◌, IfOk, true};
 ghost use Rattle.std.specs.List.{list_all};
@@ -13,7 +13,8 @@ use cs_model::laws::fields_first;
 use cs_model::{FieldRef, RecordRef, Row};
 use std::alloc::{AllocError, Global};
 
-/// Whether each field of a record, all of which have a value, says the row's: then the row's bytes begin with the record's.
+/// Whether each field of a record, all of which have a value, says the row's: then the row's bytes
+/// begin with the record's.
 pub(crate) fn all_agree(from: &RecordRef, row: &Row) -> bool
     requires { list_all is_defined from.now ≡ true }
     ensures { result ≡ all_agree from.now row.now }
@@ -60,7 +61,8 @@ fn chosen<'a>(field: Option<FieldRef<'a>>, value: FieldRef<'a>) -> FieldRef<'a>
     }
 }
 
-/// The row with the values that the record says in the place of its own. `AllocError` where memory runs out.
+/// The row with the values that the record says in the place of its own. `AllocError` where memory
+/// runs out.
 pub(crate) fn updated(alloc: Global, from: &RecordRef, row: &Row) -> Result<Row, AllocError>
     ensures { IfOk result (λ new. new ≡ updated from.now row.now) }
 {

@@ -34,17 +34,26 @@ impl Model for Tables {
 
     ghost coded = { state_code };
 
-    ghost view = { λ t. record { schema = arc_value t.schema; kept = t.kept.items; rows = rows_of t.places.rows.entries } };
+    ghost view = { λ t. record {
+      schema = arc_value t.schema;
+      kept = t.kept.items;
+      rows = rows_of t.places.rows.entries;
+    } };
 
-    ghost invariant = { λ t. (length t.kept.items ≡ length (arc_value t.schema)) × (t.places.log.items ≡ []) };
+    ghost invariant = { λ t. (length t.kept.items ≡ length (arc_value t.schema))
+        × (t.places.log.items ≡ []) };
 }
 
 impl Tables {
-    /// Empty tables of a schema, which all that are made with it share. `kept` says of each of its tables whether changes of it are
-    /// applied.
+    /// Empty tables of a schema, which all that are made with it share. `kept` says of each of its
+    /// tables whether changes of it are applied.
     pub fn new(alloc: Global, schema: Arc<Schema>, kept: Vec<bool>) -> Tables
         requires { length kept.items ≡ length (arc_value schema) }
-        ensures { result ≡ record { schema = arc_value schema; kept = kept.items; rows = map.empty } }
+        ensures { result ≡ record {
+          schema = arc_value schema;
+          kept = kept.items;
+          rows = map.empty;
+        } }
     {
         Tables {
             schema,
@@ -68,17 +77,18 @@ impl Tables {
         Some(row)
     }
 
-    /// All rows with their keys, by table, then by the key's bytes. `AllocError` where memory runs out.
+    /// All rows with their keys, by table, then by the key's bytes. `AllocError` where memory runs
+    /// out.
     pub fn rows_in_order(&self, alloc: Global) -> Result<Vec<(&RowKey, &Row)>, AllocError>
         ensures { IfOk result (λ rows. listed rows.items ≡ map.entries self.now.rows) }
     {
         self.places.in_order(alloc)
     }
 
-    /// Applies all changes of a changeset, in order, as `sqlite3changeset_apply` does whose conflict handler answers
-    /// `SQLITE_CHANGESET_ABORT`. Changes of a table that isn't in the schema, has another
-    /// shape or isn't kept are passed over, and count for the position. An `Err` is the first conflict, or want
-    /// of memory, and leaves the tables as they were.
+    /// Applies all changes of a changeset, in order, as `sqlite3changeset_apply` does whose
+    /// conflict handler answers `SQLITE_CHANGESET_ABORT`. Changes of a table that isn't in the
+    /// schema, has another shape or isn't kept are passed over, and count for the position. An
+    /// `Err` is the first conflict, or want of memory, and leaves the tables as they were.
     pub fn apply(&mut self, alloc: Global, changeset: &Changeset) -> Result<(), ApplyError>
         ensures ok { OnOk result (single self.old changeset.now ≡ Ok self.new) }
         ensures refused { IfErr result (λ e. ReportsConflict e (single self.old changeset.now)) }

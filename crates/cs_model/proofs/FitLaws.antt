@@ -44,14 +44,16 @@ obeys_fits [] (f ∷ fs) h = absurd h
 obeys_fits (r ∷ rs) [] h = absurd h
 obeys_fits (r ∷ rs) (f ∷ fs) h = (field_fits f h.0, obeys_fits rs fs h.2)
 
-new_rules_long : (flags : List ℕ) (before : List Field) → length before ≡ length flags → length (new_rules flags before) ≡ length flags
+new_rules_long : (flags : List ℕ) (before : List Field) → length before ≡ length flags → length (new_rules flags before)
+    ≡ length flags
 new_rules_long [] before same = refl
 new_rules_long (flag ∷ flags) [] same = same
 new_rules_long (flag ∷ flags) (old ∷ before) same = ap suc (new_rules_long flags before (omega (arith, same)))
 
 -- ---- a change
 
-records_fit : (flags : List ℕ) (op : Op) (before after : List Field) → AreRecords flags op before after → Long (length flags) op before after × AllByRecursion Fits before × AllByRecursion Fits after
+records_fit : (flags : List ℕ) (op : Op) (before after : List Field) → AreRecords flags op before after
+    → Long (length flags) op before after × AllByRecursion Fits before × AllByRecursion Fits after
 records_fit flags Insert before after h =
     let long = obeys_long (map row_rule flags) after h.1 ∙ length-map flags row_rule in
     ((h.0, long), rw h.0 tt, obeys_fits (map row_rule flags) after h.1)

@@ -1,5 +1,6 @@
 -- Which shapes, changes and changesets there are.
-use Rattle.std.specs.Prelude.{◌≡◌, ℕ, ◌<◌, ◌≤◌, true, List, [], ◌∷◌, length, map, nat_lt, FitsSigned}
+use Rattle.std.specs.Prelude.{◌≡◌, ℕ, ◌<◌, ◌≤◌, true, List, [], ◌∷◌, length, map, nat_lt}
+use Rattle.std.specs.Prelude.{FitsSigned}
 use Rattle.std.specs.List.{list_any, list_all, flat_map, AllByRecursion}
 use Rattle.std.specs.Int.{w64}
 use Rattle.cs_model.specs.declared.value.Value.{Value}
@@ -42,12 +43,14 @@ abbrev pub Obeys : List Rule → List Field → Type 0
 Obeys [] [] = Unit {0}
 Obeys [] (field ∷ fields) = ⊥
 Obeys (rule ∷ rules) [] = ⊥
-Obeys (rule ∷ rules) (field ∷ fields) = IsField field × (meets rule field ≡ true) × Obeys rules fields
+Obeys (rule ∷ rules) (field ∷ fields) = IsField field × (meets rule field ≡ true)
+    × Obeys rules fields
 
 -- the records of a change with this operation, of a table with these key bytes
 abbrev pub AreRecords : List ℕ → Op → List Field → List Field → Type 0
 AreRecords flags Insert before after = (before ≡ []) × Obeys (map row_rule flags) after
-AreRecords flags Update before after = Obeys (map old_rule flags) before × Obeys (new_rules flags before) after
+AreRecords flags Update before after = Obeys (map old_rule flags) before
+    × Obeys (new_rules flags before) after
 AreRecords flags Delete before after = Obeys (map row_rule flags) before × (after ≡ [])
 
 -- a change of a table of this shape

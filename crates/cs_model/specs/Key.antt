@@ -11,7 +11,11 @@ use Rattle.cs_model.specs.KeyBytes.{key_bytes, key_record}
 -- the key of the row that a change of a table with these key bytes is about
 abbrev pub key_of : ℕ → List ℕ → Change → RowKey
 key_of table flags change =
-    record { table = table; bytes = key_bytes flags (key_record change.op change.before change.after) }
+    record {
+      table = table;
+      bytes = key_bytes flags
+          (key_record change.op change.before change.after);
+    }
 
 -- the order of keys: by the table, then by the bytes
 abbrev pub row_key_cmp : RowKey → RowKey → Ordering
@@ -20,4 +24,5 @@ row_key_cmp a b = ordering_then (nat_cmp a.table b.table) (slice_cmp nat_cmp a.b
 -- a key is stored as the pair of its fields
 abbrev pub row_key_code : Coded RowKey
 row_key_code =
-    code_by (ℕ × List ℕ) (coded× coded_ℕ (coded_list coded_ℕ)) (λ k. (k.table, k.bytes)) (λ p. record { table = p.0; bytes = p.1 }) (λ _. refl)
+    code_by (ℕ × List ℕ) (coded× coded_ℕ (coded_list coded_ℕ)) (λ k. (k.table, k.bytes))
+    (λ p. record { table = p.0; bytes = p.1 }) (λ _. refl)

@@ -10,7 +10,8 @@ use Rattle.cs_model.specs.FieldBytes.{field_bytes}
 abbrev pub key_fields : List ℕ → List Field → List Field
 key_fields [] fields = []
 key_fields (flag ∷ flags) [] = []
-key_fields (flag ∷ flags) (field ∷ fields) = if flag == 0 then key_fields flags fields else field ∷ key_fields flags fields
+key_fields (flag ∷ flags) (field ∷ fields) = if flag == 0 then key_fields flags fields else field
+    ∷ key_fields flags fields
 
 -- the key's canonical bytes, joined
 abbrev pub key_bytes : List ℕ → List Field → List ℕ

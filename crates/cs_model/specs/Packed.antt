@@ -1,5 +1,7 @@
 -- Records as bytes: which bytes are a record's, and what any bytes say.
-use Rattle.std.specs.Prelude.{◌≡◌, ℕ, zero, suc, ◌+◌, ◌-◌, ◌*◌, ◌^◌, ◌<◌, List, [], ◌∷◌, length, take, drop, Option, Some, None, Bool, true, false, nat_lt, ◌==◌, if◌then◌else◌, FitsSigned}
+use Rattle.std.specs.Prelude.{◌≡◌, ℕ, zero, suc, ◌+◌, ◌-◌, ◌*◌, ◌^◌, ◌<◌, List, [], ◌∷◌, length}
+use Rattle.std.specs.Prelude.{take, drop, Option, Some, None, Bool, true, false, nat_lt, ◌==◌}
+use Rattle.std.specs.Prelude.{if◌then◌else◌, FitsSigned}
 use Rattle.std.specs.List.{flat_map, AllByRecursion}
 use Rattle.std.specs.Int.{w64, from_be_bytes, cast_signed}
 use Rattle.cs_model.specs.declared.value.Value.TheVariants.{Integer, Text, Blob, Null}
@@ -28,14 +30,17 @@ pub record Packs (bytes : List ℕ) (fields : List Field) : Type 0 where
   pub parts : bytes ≡ packed fields
   pub fit : AllByRecursion Fits fields
 
--- ---- what bytes say: every list of bytes says some fields, and only of a record's bytes it matters which
+-- ---- what bytes say: every list of bytes says some fields, and which ones matters only
+-- of a record's bytes
 
--- the number that a varint spells, and how many bytes it takes, where `read` bytes before these gave `high`
+-- the number that a varint spells, and how many bytes it takes, where `read` bytes before these
+-- gave `high`
 abbrev pub read_from : ℕ → ℕ → ℕ → List ℕ → Option (ℕ × ℕ)
 read_from left high read [] = None
 read_from zero high read (b ∷ bytes) = Some (256 * high + b, read + 1)
 read_from (suc left) high read (b ∷ bytes) =
-    if nat_lt b 128 then Some (128 * high + b, read + 1) else read_from left (128 * high + (b - 128)) (read + 1) bytes
+    if nat_lt b 128 then Some (128 * high + b, read + 1) else read_from left
+    (128 * high + (b - 128)) (read + 1) bytes
 
 -- so many bytes behind their number, and what is behind them, or all where there is no number
 abbrev pub counted_by : List ℕ → Option (ℕ × ℕ) → List ℕ × List ℕ
@@ -49,7 +54,10 @@ counted_in bytes = counted_by bytes (read_from 8 0 0 bytes)
 -- a number in eight bytes, and what is behind them, or NULL where there are fewer
 abbrev pub integer_by : Bool → List ℕ → Field × List ℕ
 integer_by true rest = (Is Null, rest)
-integer_by false rest = (Is (Integer (cast_signed w64 (from_be_bytes w64 (take 8 rest)))), drop 8 rest)
+integer_by false rest = (
+  Is (Integer (cast_signed w64 (from_be_bytes w64 (take 8 rest)))),
+  drop 8 rest,
+)
 
 -- the field behind a type byte, and what is behind it
 unfoldable pub typed_in : ℕ → List ℕ → Field × List ℕ

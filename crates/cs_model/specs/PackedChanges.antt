@@ -1,5 +1,7 @@
--- Changes as bytes: which bytes are those of changes of a table with so many columns, and what any bytes say.
-use Rattle.std.specs.Prelude.{◌≡◌, ℕ, zero, suc, Bool, true, false, not, List, [], ◌∷◌, ◌++◌, length, ◌==◌, if◌then◌else◌}
+-- Changes as bytes: which bytes are those of changes of a table with so many columns, and what any
+-- bytes say.
+use Rattle.std.specs.Prelude.{◌≡◌, ℕ, zero, suc, Bool, true, false, not, List, [], ◌∷◌, ◌++◌}
+use Rattle.std.specs.Prelude.{length, ◌==◌, if◌then◌else◌}
 use Rattle.std.specs.List.{flat_map, AllByRecursion}
 use Rattle.cs_model.specs.declared.value.Field.{Field}
 use Rattle.cs_model.specs.declared.change.Op.{Op}
@@ -36,7 +38,8 @@ pub record Fit (n : ℕ) (c : Change) : Type 0 where
 
 -- the change that has these parts
 abbrev pub change_of : Op → Bool → List Field → List Field → Change
-change_of op indirect before after = record { op = op; indirect = indirect; before = before; after = after }
+change_of op indirect before after =
+    record { op = op; indirect = indirect; before = before; after = after }
 
 -- the bytes are those of these changes
 pub record PacksAll (n : ℕ) (bytes : List ℕ) (changes : List Change) : Type 0 where
@@ -47,7 +50,8 @@ pub record PacksAll (n : ℕ) (bytes : List ℕ) (changes : List Change) : Type 
 abbrev pub changes_parts : ℕ × List Change → List (List ℕ)
 changes_parts c = (c.0 ∷ []) ∷ changes_bytes c.1 ∷ []
 
--- what tells sections apart: the name and the key bytes of their tables, and the bytes of their changes
+-- what tells sections apart: the name and the key bytes of their tables, and the bytes of their
+-- changes
 abbrev pub section_parts : Section → List (List ℕ)
 section_parts s = s.shape.name ∷ s.shape.flags ∷ changes_bytes s.changes ∷ []
 
@@ -69,14 +73,17 @@ pub record BeginsChange (n : ℕ) (op : Op) (bytes : List ℕ) : Type 0 where
   pub after_fit : AllByRecursion Fits after
   pub parts : bytes ≡ (packed before ++ packed after) ++ rest
 
--- ---- what bytes say: every list of bytes says some changes, and only of changes' bytes it matters which
+-- ---- what bytes say: every list of bytes says some changes, and which ones matters only
+-- of changes' bytes
 
 -- so many fields, or as many as there are, and what is behind them
 unfoldable pub some_in : ℕ → List ℕ → List Field × List ℕ
 some_in zero bytes = ([], bytes)
 some_in (suc n) [] = ([], [])
-some_in (suc n) (byte ∷ rest) =
-    ((typed_in byte rest).0 ∷ (some_in n (typed_in byte rest).1).0, (some_in n (typed_in byte rest).1).1)
+some_in (suc n) (byte ∷ rest) = (
+  (typed_in byte rest).0 ∷ (some_in n (typed_in byte rest).1).0,
+  (some_in n (typed_in byte rest).1).1,
+)
 
 -- the operation that a byte says
 abbrev pub op_in : ℕ → Op
@@ -84,10 +91,14 @@ op_in byte = if byte == 18 then Insert else if byte == 23 then Update else Delet
 
 -- the change with this operation whose records stand in bytes, and what is behind it
 abbrev pub records_by : ℕ → Op → Bool → List ℕ → Change × List ℕ
-records_by n Insert indirect bytes = (change_of Insert indirect [] (some_in n bytes).0, (some_in n bytes).1)
-records_by n Update indirect bytes =
-    (change_of Update indirect (some_in n bytes).0 (some_in n (some_in n bytes).1).0, (some_in n (some_in n bytes).1).1)
-records_by n Delete indirect bytes = (change_of Delete indirect (some_in n bytes).0 [], (some_in n bytes).1)
+records_by n Insert indirect bytes =
+    (change_of Insert indirect [] (some_in n bytes).0, (some_in n bytes).1)
+records_by n Update indirect bytes = (
+  change_of Update indirect (some_in n bytes).0 (some_in n (some_in n bytes).1).0,
+  (some_in n (some_in n bytes).1).1,
+)
+records_by n Delete indirect bytes =
+    (change_of Delete indirect (some_in n bytes).0 [], (some_in n bytes).1)
 
 -- The changes, as many as stand in bytes, of so many columns. Each turn takes one from `fuel`.
 unfoldable pub changes_said : ℕ → ℕ → List ℕ → List Change
@@ -95,7 +106,8 @@ changes_said n zero bytes = []
 changes_said n (suc fuel) [] = []
 changes_said n (suc fuel) (op ∷ []) = []
 changes_said n (suc fuel) (op ∷ (byte ∷ rest)) =
-    (records_by n (op_in op) (not (byte == 0)) rest).0 ∷ changes_said n fuel (records_by n (op_in op) (not (byte == 0)) rest).1
+    (records_by n (op_in op) (not (byte == 0)) rest).0
+    ∷ changes_said n fuel (records_by n (op_in op) (not (byte == 0)) rest).1
 
 -- the changes that bytes say
 unfoldable pub unpacked_changes : ℕ → List ℕ → List Change

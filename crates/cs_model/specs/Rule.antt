@@ -4,8 +4,8 @@ use Rattle.cs_model.specs.declared.value.Value.TheVariants.{Integer, Text, Blob,
 use Rattle.cs_model.specs.declared.value.Field.{Field}
 use Rattle.cs_model.specs.declared.value.Field.TheVariants.{Undefined, Is}
 
--- Key: a value that isn't NULL. Given: a value, NULL or not. Open: anything. Blank: nothing. PairedWith: a value
--- where the old record has one, and nothing where it has none.
+-- Key: a value that isn't NULL. Given: a value, NULL or not. Open: anything. Blank: nothing.
+-- PairedWith: a value where the old record has one, and nothing where it has none.
 pub data Rule : Type 0 where
   Key : Rule
   Given : Rule

@@ -1,5 +1,7 @@
 -- A schema's tables, and what it refuses.
-use Rattle.std.specs.Prelude.{◌≡◌, ℕ, Bool, not, ◌&&◌, List, [], ◌∷◌, length, Option, Some, None, ◌++◌, option_map, position, slice_get, nat_eq, nat_lt, nat_le, if◌then◌else◌}
+use Rattle.std.specs.Prelude.{◌≡◌, ℕ, Bool, not, ◌&&◌, List, [], ◌∷◌, length, Option, Some, None}
+use Rattle.std.specs.Prelude.{◌++◌, option_map, position, slice_get, nat_eq, nat_lt, nat_le}
+use Rattle.std.specs.Prelude.{if◌then◌else◌}
 use Rattle.std.specs.List.{list_any, list_all}
 use Rattle.std.specs.Option.{option_or}
 use Rattle.std.specs.Cmp.Lexicographic.{pointwise}
@@ -32,11 +34,12 @@ has_shape tables shape = list_any (λ table. same_shape table shape) tables
 abbrev pub table_index : List Shape → Shape → Option ℕ
 table_index tables shape = position (λ table. same_shape table shape) tables
 
--- The answer for these sections: the first whose shape is that of no table is refused, as unknown where no
--- table has its name either.
+-- The answer for these sections: the first whose shape is that of no table is refused, as unknown
+-- where no table has its name either.
 abbrev pub refusal_at : List Shape → ℕ → Option Section → SectionFault
 refusal_at tables i None = UnknownTable i
-refusal_at tables i (Some section) = if has_name tables section.shape.name then ShapeDiffers i else UnknownTable i
+refusal_at tables i (Some section) =
+    if has_name tables section.shape.name then ShapeDiffers i else UnknownTable i
 
 abbrev pub first_outside : List Shape → List Section → Option ℕ
 first_outside tables sections = position (λ section. not (has_shape tables section.shape)) sections
@@ -47,18 +50,20 @@ refusal_of tables sections =
 
 -- whether key bytes are those of a table: 1 to 2,000 columns, one of them in the key
 abbrev pub are_flags : List ℕ → Bool
-are_flags flags = nat_lt 0 (length flags) && nat_le (length flags) 2000 && list_any (λ flag. nat_lt 0 flag) flags
+are_flags flags = nat_lt 0 (length flags) && nat_le (length flags) 2000
+    && list_any (λ flag. nat_lt 0 flag) flags
 
 -- whether a name is that of a table: 1 to 1,024 bytes without a zero byte
 abbrev pub is_name : List ℕ → Bool
-is_name name = nat_lt 0 (length name) && nat_le (length name) 1024 && list_all (λ byte. nat_lt 0 byte) name
+is_name name = nat_lt 0 (length name) && nat_le (length name) 1024
+    && list_all (λ byte. nat_lt 0 byte) name
 
 -- whether a shape is one that a table may have
 abbrev pub has_valid_shape : Shape → Bool
 has_valid_shape shape = are_flags shape.flags && is_name shape.name
 
--- The answer for a table behind earlier ones: its name must be new, its shape one that a table may have, and its
--- place below 1,024.
+-- The answer for a table behind earlier ones: its name must be new, its shape one that a table may
+-- have, and its place below 1,024.
 abbrev pub table_refusal : List Shape → Shape → Option TableFault
 table_refusal earlier shape =
     if has_name earlier shape.name then Some (DuplicateTable (length earlier))

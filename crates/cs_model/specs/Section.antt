@@ -13,4 +13,5 @@ pub record Section : Type 0 where
 -- a section is stored as the pair of its parts
 abbrev pub section_code : Coded Section
 section_code =
-    code_by (Shape × List Change) (coded× shape.the_row.coded (coded_list change.the_row.coded)) (λ s. (s.shape, s.changes)) (λ p. record { shape = p.0; changes = p.1 }) (λ _. refl)
+    code_by (Shape × List Change) (coded× shape.the_row.coded (coded_list change.the_row.coded))
+    (λ s. (s.shape, s.changes)) (λ p. record { shape = p.0; changes = p.1 }) (λ _. refl)

@@ -6,7 +6,8 @@ use Rattle.cs_model.specs.declared.value.Field.TheVariants as field
 use Rattle.cs_model.specs.declared.change.Change.{Change}
 use Rattle.cs_model.specs.declared.change_ref.ChangeRef.{ChangeRef}
 use Rattle.cs_model.specs.declared.field_ref.FieldRef.{FieldRef}
-use Rattle.cs_model.specs.declared.field_ref.FieldRef.TheVariants.{Undefined, Integer, Text, Blob, Null}
+use Rattle.cs_model.specs.declared.field_ref.FieldRef.TheVariants.{Undefined, Integer, Text, Blob}
+use Rattle.cs_model.specs.declared.field_ref.FieldRef.TheVariants.{Null}
 
 -- the field that stands there
 abbrev pub field_seen : FieldRef → Field

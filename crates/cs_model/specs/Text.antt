@@ -30,7 +30,8 @@ SpellsField text (Is Null) = text ≡ 5 ∷ []
 abbrev pub SpellsEach : {A : Type 0} → (List ℕ → A → Type 0) → List ℕ → List A → Type 0
 SpellsEach Spelling text [] = text ≡ []
 SpellsEach Spelling text (item ∷ items) =
-    (front : List ℕ) × (back : List ℕ) × (text ≡ front ++ back) × Spelling front item × SpellsEach Spelling back items
+    (front : List ℕ) × (back : List ℕ) × (text ≡ front ++ back) × Spelling front item
+    × SpellsEach Spelling back items
 
 -- the byte of an operation
 abbrev pub op_byte : Op → ℕ
@@ -43,7 +44,8 @@ abbrev pub SpellsIndirect : ℕ → Bool → Type 0
 SpellsIndirect byte true = byte ≢ 0
 SpellsIndirect byte false = byte ≡ 0
 
--- a change: its operation, the indirect byte, then the old record and the new one, where it has them
+-- a change: its operation, the indirect byte, then the old record and the new one, where it has
+-- them
 pub record SpellsChange (text : List ℕ) (change : Change) : Type 0 where
   pub byte : ℕ
   pub old : List ℕ
@@ -67,7 +69,8 @@ pub record SpellsSection (text : List ℕ) (section : Section) : Type 0 where
   pub is_header : SpellsHeader header section.shape
   pub is_body : SpellsEach SpellsChange body section.changes
 
--- The text spells the changeset: it is at most 16,777,216 bytes, and the sections' texts one after another.
+-- The text spells the changeset: it is at most 16,777,216 bytes, and the sections' texts one after
+-- another.
 pub record Spells (text : List ℕ) (changeset : List Section) : Type 0 where
   pub is_changeset : IsChangeset changeset
   pub within_limit : length text ≤ most_bytes

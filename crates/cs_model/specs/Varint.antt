@@ -1,14 +1,17 @@
 -- A varint: what a count or a length is spelled as.
-use Rattle.std.specs.Prelude.{◌≡◌, ℕ, zero, suc, ◌+◌, ◌-◌, ◌*◌, ◌/◌, ◌%◌, ◌^◌, ◌<◌, ◌≤◌, ◌⊎◌, List, [], ◌∷◌, ◌++◌, nat_lt, if◌then◌else◌}
+use Rattle.std.specs.Prelude.{◌≡◌, ℕ, zero, suc, ◌+◌, ◌-◌, ◌*◌, ◌/◌, ◌%◌, ◌^◌, ◌<◌, ◌≤◌, ◌⊎◌, List}
+use Rattle.std.specs.Prelude.{[], ◌∷◌, ◌++◌, nat_lt, if◌then◌else◌}
 
--- The bytes spell n, where high stands for the bits read before them and left bytes may still have the high bit.
--- A byte below 128 is the last and adds seven bits. One from 128 on adds its low seven bits, and more
--- bytes follow. Where none may follow with the high bit, one byte is left, and adds all its eight bits.
+-- The bytes spell n, where high stands for the bits read before them and left bytes may still have
+-- the high bit. A byte below 128 is the last and adds seven bits. One from 128 on adds its low
+-- seven bits, and more bytes follow. Where none may follow with the high bit, one byte is left, and
+-- adds all its eight bits.
 abbrev pub EndsVarint : ℕ → ℕ → List ℕ → ℕ → Type 0
 EndsVarint left high [] n = ⊥
 EndsVarint zero high (b ∷ bytes) n = (bytes ≡ []) × (n ≡ 256 * high + b)
 EndsVarint (suc left) high (b ∷ bytes) n =
-    ((b < 128) × (bytes ≡ []) × (n ≡ 128 * high + b)) ⊎ ((128 ≤ b) × EndsVarint left (128 * high + (b - 128)) bytes n)
+    ((b < 128) × (bytes ≡ []) × (n ≡ 128 * high + b))
+    ⊎ ((128 ≤ b) × EndsVarint left (128 * high + (b - 128)) bytes n)
 
 -- the bytes are a spelling of n: one to nine of them, the first eight with seven bits each
 abbrev pub IsVarint : List ℕ → ℕ → Type 0
@@ -25,7 +28,8 @@ short_groups zero n = []
 short_groups (suc most) zero = []
 short_groups (suc most) (suc n) = short_groups most (suc n / 128) ++ (128 + suc n % 128) ∷ []
 
--- the shortest spelling of n: below 2 ^ 56 as few groups of seven bits as hold it, from there on nine bytes
+-- the shortest spelling of n: below 2 ^ 56 as few groups of seven bits as hold it, from there on
+-- nine bytes
 unfoldable pub varint : ℕ → List ℕ
 varint n =
     if nat_lt n (2 ^ 56) then short_groups 8 (n / 128) ++ (n % 128) ∷ []

@@ -1,11 +1,12 @@
-//! Whether the bytes of changes are canonical, and how they are made so. A text may spell a length with zeros in front, and
-//! an indirect change with any byte but zero.
+//! Whether the bytes of changes are canonical, and how they are made so. A text may spell a length
+//! with zeros in front, and an indirect change with any byte but zero.
 
 ghost use Rattle.std.specs.Prelude.{◌≡◌, IfOk, IfSome, OnErr, length, take, drop};
 ghost use Rattle.cs_model.specs.Bytes.{AddsBytes};
 ghost use Rattle.cs_model.specs.Canonical.{StartsCounted, StartsField, StartsRecord, StartsChange};
 ghost use Rattle.cs_model.specs.Packed.{packed};
-ghost use Rattle.cs_model.specs.PackedChanges.{change_bytes, changes_bytes, some_in, records_by, unpacked_changes, AreCanonical};
+ghost use Rattle.cs_model.specs.PackedChanges.{change_bytes, changes_bytes, some_in, records_by};
+ghost use Rattle.cs_model.specs.PackedChanges.{unpacked_changes, AreCanonical};
 
 use crate::change::Op;
 use crate::change_ref::op_of;
@@ -14,8 +15,9 @@ use crate::fields::typed_of;
 use crate::varint::{varint_first, varint_strip};
 use std::alloc::AllocError;
 
-/// Adds the canonical bytes of the changes that bytes say to the end of `out`, and tells how many they are: in one copy where
-/// the bytes are canonical, and else respelled. An `Err` leaves `out` as it was.
+/// Adds the canonical bytes of the changes that bytes say to the end of `out`, and tells how many
+/// they are: in one copy where the bytes are canonical, and else respelled. An `Err` leaves `out`
+/// as it was.
 pub fn text_push(out: &mut Vec<u8>, columns: usize, bytes: &[u8]) -> Result<usize, AllocError>
     ensures ok { AddsBytes result out.old out.new
         (changes_bytes (unpacked_changes columns bytes.now)) }
@@ -154,7 +156,8 @@ fn add_said(out: &mut Vec<u8>, columns: usize, bytes: &[u8]) -> Result<usize, Al
     Ok(count)
 }
 
-// Adds the canonical bytes of the change with this operation whose records stand in bytes, and gives the bytes behind it.
+// Adds the canonical bytes of the change with this operation whose records stand in bytes, and
+// gives the bytes behind it.
 fn add_change<'a>(
     out: &mut Vec<u8>,
     columns: usize,
@@ -176,7 +179,8 @@ fn add_change<'a>(
     }
 }
 
-// Adds the canonical bytes of so many fields, or of as many as there are, and gives the bytes behind them.
+// Adds the canonical bytes of so many fields, or of as many as there are, and gives the bytes
+// behind them.
 fn add_fields<'a>(
     out: &mut Vec<u8>,
     columns: usize,

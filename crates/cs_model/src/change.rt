@@ -15,7 +15,8 @@ pub enum Op {
 }
 
 impl Op {
-    /// The byte that a change with this operation begins with: `SQLITE_INSERT`, `SQLITE_UPDATE` or `SQLITE_DELETE`.
+    /// The byte that a change with this operation begins with: `SQLITE_INSERT`, `SQLITE_UPDATE` or
+    /// `SQLITE_DELETE`.
     pub fn byte(self) -> u8
         ensures { result ≡ op_byte self }
     {
@@ -32,7 +33,8 @@ impl Op {
 pub struct Change {
     /// What it does.
     pub op: Op,
-    /// Whether a trigger or a foreign key action made it, and not the application itself (`sqlite3session_indirect`).
+    /// Whether a trigger or a foreign key action made it, and not the application itself
+    /// (`sqlite3session_indirect`).
     pub indirect: bool,
     /// The old record: one field per column in an UPDATE or a DELETE, empty in an INSERT.
     pub before: Seq<Field>,

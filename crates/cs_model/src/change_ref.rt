@@ -1,10 +1,12 @@
-//! The changes that stand in bytes, one after another, for a table with a known number of columns. The bytes are the
-//! canonical ones, and so are those of each record, which can be copied without a look at its fields.
+//! The changes that stand in bytes, one after another, for a table with a known number of columns.
+//! The bytes are the canonical ones, and so are those of each record, which can be copied without a
+//! look at its fields.
 
 ghost use Rattle.std.specs.Prelude.{◌≡◌, ◌∷◌, [], IfSome, MatchOption};
 ghost use Rattle.std.specs.List.{AllByRecursion};
 ghost use Rattle.cs_model.specs.Packed.{packed, unpacked, Fits};
-ghost use Rattle.cs_model.specs.PackedChanges.{some_in, op_in, records_by, unpacked_changes, AreCanonical, BeginsFields, BeginsChange};
+ghost use Rattle.cs_model.specs.PackedChanges.{some_in, op_in, records_by, unpacked_changes};
+ghost use Rattle.cs_model.specs.PackedChanges.{AreCanonical, BeginsFields, BeginsChange};
 ghost use Rattle.cs_model.specs.Seen.{change_seen};
 
 use crate::change::Op;
@@ -62,7 +64,8 @@ pub struct ChangeRef<'a> {
     pub after: RecordRef<'a>,
 }
 
-/// What is left of changes' bytes, for whoever goes over the changes of a table. Contracts see the list of changes.
+/// What is left of changes' bytes, for whoever goes over the changes of a table. Contracts see the
+/// list of changes.
 #[derive(Drop)]
 pub struct ChangeRefs<'a> {
     columns: usize,

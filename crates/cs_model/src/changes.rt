@@ -1,14 +1,16 @@
 //! Changes in one piece of memory.
 
-ghost use Rattle.std.specs.Prelude.{◌≡◌, ◌==◌, [], ◌∷◌, ◌++◌, OnOk, OnErr, ◌↔◌, IsTrue, length, take};
-ghost use Rattle.std.specs.Cmp;
-ghost use Rattle.std.specs.Cmp.{on_per, on_equiv};
+ghost use Rattle.std.specs.Prelude.{◌≡◌, ◌==◌, [], ◌∷◌, ◌++◌, OnOk, OnErr, ◌↔◌, IsTrue, length};
+ghost use Rattle.std.specs.Prelude.{take};
+ghost use Rattle.std.specs.Cmp.{on_per, on_equiv, partial_equiv_from_equiv};
 ghost use Rattle.std.specs.Cmp.Lexicographic.{pointwise, lists_per, lists_equiv, nat_list_eq_equiv};
 ghost use Rattle.std.specs.List.{AllByRecursion};
 ghost use Rattle.cs_model.specs.Bytes.{AddsBytes};
 ghost use Rattle.cs_model.specs.Text.{op_byte};
 ghost use Rattle.cs_model.specs.Packed.{Fits};
-ghost use Rattle.cs_model.specs.PackedChanges.{mark, change_bytes, changes_bytes, changes_parts, change_of, Long, Fit, unpacked_changes, AreCanonical};
+ghost use Rattle.cs_model.specs.PackedChanges.{mark, change_bytes, changes_bytes, changes_parts};
+ghost use Rattle.cs_model.specs.PackedChanges.{change_of, Long, Fit, unpacked_changes};
+ghost use Rattle.cs_model.specs.PackedChanges.{AreCanonical};
 ghost use Rattle.cs_model.specs.Schema.{same_bytes};
 
 use crate::canonical::text_push;
@@ -20,7 +22,8 @@ use std::alloc::{AllocError, Global};
 use std::marker::Model;
 use std::mem;
 
-/// Changes of a table with so many columns, in order. Contracts see the number of columns and the list of changes.
+/// Changes of a table with so many columns, in order. Contracts see the number of columns and the
+/// list of changes.
 #[derive(Debug, Drop)]
 pub struct Changes {
     columns: usize,
@@ -38,7 +41,8 @@ impl Model for Changes {
 
     ghost view = { λ c. (c.columns, unpacked_changes c.columns c.bytes.items) };
 
-    ghost invariant = { λ c. AreCanonical c.columns c.bytes.items × (c.count ≡ length (unpacked_changes c.columns c.bytes.items)) };
+    ghost invariant = { λ c. AreCanonical c.columns c.bytes.items
+        × (c.count ≡ length (unpacked_changes c.columns c.bytes.items)) };
 }
 
 impl Changes {
@@ -85,7 +89,8 @@ impl Changes {
         self.push(change.op, change.indirect, &before, &after)
     }
 
-    /// The changes of another list, of as many columns, behind these, in one copy. An `Err` leaves the changes as they were.
+    /// The changes of another list, of as many columns, behind these, in one copy. An `Err` leaves
+    /// the changes as they were.
     pub fn append(&mut self, others: &Changes) -> Result<(), AllocError>
         requires { others.now.0 ≡ self.old.0 }
         ensures columns { self.new.0 ≡ self.old.0 }
@@ -97,8 +102,9 @@ impl Changes {
         Ok(())
     }
 
-    /// The changes that a text says, behind these: in one copy where the text is canonical, and else respelled. The text is
-    /// of whole changes, as `laws::spelled_is_said` says. An `Err` leaves the changes as they were.
+    /// The changes that a text says, behind these: in one copy where the text is canonical, and
+    /// else respelled. The text is of whole changes, as `laws::spelled_is_said` says. An `Err`
+    /// leaves the changes as they were.
     pub fn append_text(&mut self, text: &[u8]) -> Result<(), AllocError>
         requires { AllByRecursion (Fit self.old.0) (unpacked_changes self.old.0 text.now) }
         ensures columns { self.new.0 ≡ self.old.0 }
@@ -110,7 +116,8 @@ impl Changes {
         Ok(())
     }
 
-    /// The same, of a text that is known to be canonical and to have so many changes: one copy, without a look at its bytes.
+    /// The same, of a text that is known to be canonical and to have so many changes: one copy,
+    /// without a look at its bytes.
     pub fn append_canonical(&mut self, text: &[u8], changes: usize) -> Result<(), AllocError>
         requires canonical { AreCanonical self.old.0 text.now }
         requires count { changes ≡ length (unpacked_changes self.old.0 text.now) }
@@ -123,7 +130,8 @@ impl Changes {
         Ok(())
     }
 
-    /// Takes the changes out, as their canonical bytes and how many they are, in one move: nothing is copied. The list is left with none.
+    /// Takes the changes out, as their canonical bytes and how many they are, in one move: nothing
+    /// is copied. The list is left with none.
     pub fn take_bytes(&mut self, alloc: Global) -> (Vec<u8>, usize)
         ensures columns { self.new.0 ≡ self.old.0 }
         ensures left { self.new.1 ≡ [] }
@@ -135,7 +143,8 @@ impl Changes {
         (mem::replace(&mut self.bytes, Vec::new(alloc)), count)
     }
 
-    /// Gives canonical bytes of so many changes to a list that has none, in one move: nothing is copied, nor looked at.
+    /// Gives canonical bytes of so many changes to a list that has none, in one move: nothing is
+    /// copied, nor looked at.
     pub fn put_bytes(&mut self, bytes: Vec<u8>, changes: usize)
         requires none { self.old.1 ≡ [] }
         requires canonical { AreCanonical self.old.0 bytes.items }
@@ -195,11 +204,12 @@ impl CopyIn for Changes {
     }
 }
 
-/// Two lists are equal when they are of as many columns and their bytes are the same, and so when their changes are.
+/// Two lists are equal when they are of as many columns and their bytes are the same, and so when
+/// their changes are.
 impl PartialEq for Changes {
     ghost eq = { λ a b. pointwise same_bytes (changes_parts a) (changes_parts b) };
 
-    ghost laws = { on_per changes_parts (lists_per (Cmp.partial_equiv_from_equiv nat_list_eq_equiv)) };
+    ghost laws = { on_per changes_parts (lists_per (partial_equiv_from_equiv nat_list_eq_equiv)) };
 
     fn eq(&self, other: &Self) -> bool {
         self.columns == other.columns && self.bytes == other.bytes
@@ -210,8 +220,8 @@ impl Eq for Changes {
     ghost laws = { on_equiv changes_parts (lists_equiv nat_list_eq_equiv) };
 }
 
-/// Whether two lists are of as many columns and have the same changes. This is what `==` answers, with a contract that says so
-/// of the changes.
+/// Whether two lists are of as many columns and have the same changes. This is what `==` answers,
+/// with a contract that says so of the changes.
 pub fn same_changes(first: &Changes, second: &Changes) -> bool
     ensures { IsTrue result ↔ (first.now ≡ second.now) }
 {

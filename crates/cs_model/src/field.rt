@@ -11,8 +11,8 @@ use crate::field_ref::FieldRef;
 use crate::varint::varint_push;
 use std::alloc::AllocError;
 
-/// Adds a field's canonical bytes to the end of `out`, and nothing else: its type, then a number in eight
-/// bytes, or the shortest length and the bytes. An `Err` leaves `out` as it was.
+/// Adds a field's canonical bytes to the end of `out`, and nothing else: its type, then a number in
+/// eight bytes, or the shortest length and the bytes. An `Err` leaves `out` as it was.
 pub fn field_push(out: &mut Vec<u8>, field: FieldRef) -> Result<(), AllocError>
     ensures ok { AddsBytes result out.old out.new (field_bytes (field_seen field.entry)) }
     ensures err { OnErr result (out.new.items ≡ out.old.items) }

@@ -1,5 +1,5 @@
-//! The fields that bytes say, one after another. They are read inline: there is one for each column of each change,
-//! and a call costs more than most fields.
+//! The fields that bytes say, one after another. They are read inline: there is one for each column
+//! of each change, and a call costs more than most fields.
 
 ghost use Rattle.std.specs.Prelude.{◌≡◌, ◌∷◌, [], take, drop, MatchOption};
 ghost use Rattle.cs_model.specs.Packed.{counted_in, typed_in, unpacked};
@@ -10,8 +10,8 @@ use crate::varint::varint_first;
 use std::iter::Iterator;
 use std::marker::Model;
 
-/// What is left of bytes, for whoever goes over a record's fields. Contracts see the list of fields that the bytes
-/// say, and any bytes say some.
+/// What is left of bytes, for whoever goes over a record's fields. Contracts see the list of fields
+/// that the bytes say, and any bytes say some.
 #[derive(Drop)]
 pub struct Fields<'a> {
     rest: &'a [u8],

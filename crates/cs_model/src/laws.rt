@@ -1,5 +1,5 @@
-//! Laws: public functions whose contracts say what holds of the definitions. Who needs one calls it. Those without operands do
-//! nothing.
+//! Laws: public functions whose contracts say what holds of the definitions. Who needs one calls
+//! it. Those without operands do nothing.
 
 ghost use Rattle.std.specs.Prelude.{◌≡◌, ℕ, ◌^◌, ◌<◌, ◌≤◌, List, length, ◌++◌};
 ghost use Rattle.std.specs.List.{AllByRecursion};
@@ -28,7 +28,8 @@ pub fn varint_shortest()
         → length (varint n) ≤ length bytes }
 {}
 
-/// Which of two keys comes first, as `cmp` says: by the table, then by the bytes, which are unsigned.
+/// Which of two keys comes first, as `cmp` says: by the table, then by the bytes, which are
+/// unsigned.
 pub fn order_of_keys(first: &RowKey, second: &RowKey) -> Ordering
     ensures { result ≡ row_key_cmp first.now second.now }
 {

@@ -1,6 +1,6 @@
-//! Changesets as values: shapes, records, changes, keys and the schema they are held against, and the small
-//! spellings that they are made of. The definitions that every other crate cites stand here: which changesets
-//! there are, and which texts spell one.
+//! Changesets as values: shapes, records, changes, keys and the schema they are held against, and
+//! the small spellings that they are made of. The definitions that every other crate cites stand
+//! here: which changesets there are, and which texts spell one.
 #![tactic(auto)]
 
 mod canonical;

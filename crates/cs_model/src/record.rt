@@ -18,7 +18,8 @@ use crate::value::Field;
 use std::alloc::{AllocError, Global};
 use std::marker::Model;
 
-/// A record: one field per column, as canonical bytes in one piece of memory. Contracts see the list of fields.
+/// A record: one field per column, as canonical bytes in one piece of memory. Contracts see the
+/// list of fields.
 #[derive(Debug, Drop)]
 pub struct Record {
     bytes: Vec<u8>,
@@ -115,7 +116,8 @@ impl Eq for Record {
     ghost laws = { on_equiv packed nat_list_eq_equiv };
 }
 
-/// Whether two records have the same fields. This is what `==` answers, with a contract that says so of the fields.
+/// Whether two records have the same fields. This is what `==` answers, with a contract that says
+/// so of the fields.
 pub fn same_fields(first: &Record, second: &Record) -> bool
     ensures { IsTrue result ↔ (first.now ≡ second.now) }
 {

@@ -19,7 +19,8 @@ use crate::fields::Fields;
 use std::alloc::{AllocError, Global};
 use std::marker::Model;
 
-/// A row: one value per column, as canonical bytes in one piece of memory. Contracts see the list of values.
+/// A row: one value per column, as canonical bytes in one piece of memory. Contracts see the list
+/// of values.
 #[derive(Debug, Drop)]
 pub struct Row {
     bytes: Vec<u8>,
@@ -33,7 +34,8 @@ impl Model for Row {
 
     ghost view = { λ r. values_of (unpacked r.bytes.items) };
 
-    ghost invariant = { λ r. Packs r.bytes.items (row_fields (values_of (unpacked r.bytes.items))) };
+    ghost invariant = { λ r.
+        Packs r.bytes.items (row_fields (values_of (unpacked r.bytes.items))) };
 }
 
 impl Row {
@@ -56,7 +58,8 @@ impl Row {
         })
     }
 
-    /// The field's value behind the others, or nothing where it has none. An `Err` leaves the row as it was.
+    /// The field's value behind the others, or nothing where it has none. An `Err` leaves the row
+    /// as it was.
     pub fn push(&mut self, field: FieldRef) -> Result<(), AllocError>
         ensures ok { OnOk result (self.new ≡ self.old ++ values_of (field_seen field.entry ∷ [])) }
         ensures err { OnErr result (self.new ≡ self.old) }
@@ -105,7 +108,8 @@ impl CopyIn for Row {
 impl PartialEq for Row {
     ghost eq = { λ a b. same_bytes (packed (row_fields a)) (packed (row_fields b)) };
 
-    ghost laws = { on_per (λ row. packed (row_fields row)) (Cmp.partial_equiv_from_equiv nat_list_eq_equiv) };
+    ghost laws = { on_per (λ row. packed (row_fields row))
+        (Cmp.partial_equiv_from_equiv nat_list_eq_equiv) };
 
     fn eq(&self, other: &Self) -> bool {
         self.bytes == other.bytes
@@ -116,7 +120,8 @@ impl Eq for Row {
     ghost laws = { on_equiv (λ row. packed (row_fields row)) nat_list_eq_equiv };
 }
 
-/// Whether two rows have the same values. This is what `==` answers, with a contract that says so of the values.
+/// Whether two rows have the same values. This is what `==` answers, with a contract that says so
+/// of the values.
 pub fn same_values(first: &Row, second: &Row) -> bool
     ensures { IsTrue result ↔ (first.now ≡ second.now) }
 {

@@ -23,8 +23,8 @@ impl RowKey {
     ghost use Rattle.cs_model.specs.Key.{key_of};
     ghost use Rattle.cs_model.specs.Seen.{change_seen};
 
-    /// The key of the row that a change is about: the old record's, or the new one's of an INSERT. `table` is
-    /// the table's place in the schema, and `shape` its shape.
+    /// The key of the row that a change is about: the old record's, or the new one's of an INSERT.
+    /// `table` is the table's place in the schema, and `shape` its shape.
     pub fn of(
         alloc: Global,
         table: usize,

@@ -1,8 +1,11 @@
 //! The tables that a broker serves.
 
-ghost use Rattle.std.specs.Prelude.{◌≡◌, ◌++◌, ◌∷◌, [], ◌<◌, IfSome, Some, None, IfOk, IfErr, OnOk, OnErr, IsOk, length, MatchResult, nat_lt};
+ghost use Rattle.std.specs.Prelude.{◌≡◌, ◌++◌, ◌∷◌, [], ◌<◌, IfSome, Some, None, IfOk, IfErr, OnOk};
+ghost use Rattle.std.specs.Prelude.{OnErr, IsOk, length, MatchResult, nat_lt};
 ghost use Rattle.std.specs.List.{list_any, list_all};
-ghost use Rattle.cs_model.specs.Schema.{has_name, has_shape, table_index, are_flags, is_name, first_outside, table_refusal, tables_refusal, refusal_of, same_bytes, same_shape, ReportsRefusal};
+ghost use Rattle.cs_model.specs.Schema.{has_name, has_shape, table_index, are_flags, is_name};
+ghost use Rattle.cs_model.specs.Schema.{first_outside, table_refusal, tables_refusal, refusal_of};
+ghost use Rattle.cs_model.specs.Schema.{same_bytes, same_shape, ReportsRefusal};
 ghost use Rattle.cs_model.specs.declared.schema.SchemaError.TheVariants.{Memory};
 
 use crate::changeset::Changeset;
@@ -13,13 +16,15 @@ use std::alloc::{AllocError, AllocFailed, Global};
 use std::marker::Model;
 use thiserror::Error;
 
-/// Why `Schema::new` and `Schema::add` take no table, which leaves all as it was. The place is counted from 0.
+/// Why `Schema::new` and `Schema::add` take no table, which leaves all as it was. The place is
+/// counted from 0.
 #[derive(Clone, Copy, Debug, PartialEq, Eq, Error)]
 pub enum TableFault {
     /// An earlier table has the name of the table at this place.
     #[error("table {0} has the name of an earlier one")]
     DuplicateTable(usize),
-    /// The table at this place has no column, more than 2,000, no key column or a bad name, or 1,024 tables stand before it.
+    /// The table at this place has no column, more than 2,000, no key column or a bad name, or
+    /// 1,024 tables stand before it.
     #[error("table {0} has a shape that no table may have, or is one too many")]
     BadShape(usize),
 }
@@ -30,7 +35,8 @@ pub enum SectionFault {
     /// No table has the name of the section at this place.
     #[error("section {0} is of an unknown table")]
     UnknownTable(usize),
-    /// The table of that name has another column count or other key bytes than the section at this place.
+    /// The table of that name has another column count or other key bytes than the section at this
+    /// place.
     #[error("section {0} has another shape than its table")]
     ShapeDiffers(usize),
 }
@@ -61,8 +67,8 @@ impl<T: Drop> From<AllocFailed<T>> for SchemaError {
     }
 }
 
-/// The tables that a broker serves, at most 1,024, in order and with different names. A table is named by its
-/// place, from 0.
+/// The tables that a broker serves, at most 1,024, in order and with different names. A table is
+/// named by its place, from 0.
 #[derive(Debug, Drop)]
 pub struct Schema {
     tables: Vec<Shape>,
@@ -90,8 +96,9 @@ impl Schema {
         }
     }
 
-    /// The schema of these tables, without a copy. Refuses the first table whose name an earlier one has
-    /// (`DuplicateTable`) or whose shape no table may have (`BadShape`), and hands all of them back.
+    /// The schema of these tables, without a copy. Refuses the first table whose name an earlier
+    /// one has (`DuplicateTable`) or whose shape no table may have (`BadShape`), and hands all of
+    /// them back.
     pub fn new(tables: Vec<Shape>) -> Result<Schema, RefusedTables>
         ensures ok { IfOk result (λ schema. (schema ≡ tables.items)
             × (tables_refusal [] tables.items ≡ None)) }
@@ -131,8 +138,8 @@ impl Schema {
         self.tables.iter().position(|table| table == shape)
     }
 
-    /// Whether each section of a changeset has the shape of a table. Refuses the first that hasn't, as
-    /// `UnknownTable` or `ShapeDiffers`.
+    /// Whether each section of a changeset has the shape of a table. Refuses the first that hasn't,
+    /// as `UnknownTable` or `ShapeDiffers`.
     pub fn admits(&self, changeset: &Changeset) -> Result<(), SectionFault>
         ensures ok { OnOk result (refusal_of self.now changeset.now ≡ None) }
         ensures refused { IfErr result (λ fault. refusal_of self.now changeset.now ≡ Some fault) }

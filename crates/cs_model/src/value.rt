@@ -2,8 +2,9 @@
 
 use crate::seq::Octets;
 
-/// A value of a column, as SQLite types it ("Datatypes In SQLite", storage classes; REAL is left out). TEXT is kept as bytes and not checked to be UTF-8; two values are
-/// equal when type and bytes are equal.
+/// A value of a column, as SQLite types it ("Datatypes In SQLite", storage classes; REAL is left
+/// out). TEXT is kept as bytes and not checked to be UTF-8; two values are equal when type and
+/// bytes are equal.
 #[derive(Debug, Drop, PartialEq, Eq)]
 pub enum Value {
     /// A signed 64-bit number.

@@ -7,8 +7,8 @@ ghost use Rattle.cs_model.specs.Packed.{read_from};
 
 use std::alloc::AllocError;
 
-/// Reads the varint that begins `bytes`: its value, and the number of bytes that it takes. Longer spellings
-/// than the shortest are read too. `None` where the bytes end before a varint does.
+/// Reads the varint that begins `bytes`: its value, and the number of bytes that it takes. Longer
+/// spellings than the shortest are read too. `None` where the bytes end before a varint does.
 pub fn varint_read(bytes: &[u8]) -> Option<(u64, usize)>
     ensures found { IfSome result (λ found. (found.1 ≤ length bytes.now)
         × IsVarint (take found.1 bytes.now) found.0) }

@@ -15,7 +15,8 @@ IsRead (Err (Fault fault)) changeset = ⊥
 IsRead (Err Memory) changeset = Unit {0}
 
 -- The answer is this one. Memory runs out only where this one is a changeset.
-abbrev pub ParseAnswers : Result (List Section) ParseError → Result (List Section) ParseFault → Type 0
+abbrev pub ParseAnswers : Result (List Section) ParseError → Result (List Section) ParseFault
+    → Type 0
 ParseAnswers (Ok found) answer = answer ≡ Ok found
 ParseAnswers (Err (Fault fault)) answer = answer ≡ Err fault
 ParseAnswers (Err Memory) answer = IsOk answer
@@ -44,6 +45,7 @@ pub record HasFault (text : List ℕ) : Type 0 where
   pub spells_none : (sections : List Section) → Spells text sections → ⊥
 
 -- the answer is this one, and shows the changeset where it stands
-abbrev pub Shows : Result (Bor (List Section)) ParseFault → Result (List Section) ParseFault → Type 0
+abbrev pub Shows : Result (Bor (List Section)) ParseFault → Result (List Section) ParseFault
+    → Type 0
 Shows (Ok found) answer = answer ≡ Ok found.now
 Shows (Err fault) answer = answer ≡ Err fault

@@ -11,7 +11,8 @@ use Rattle.cs_parse.specs.declared.stop.ParseRefusal.{ParseRefusal}
 abbrev pub counted_bytes : List ℕ → List ℕ
 counted_bytes bytes = varint (length bytes) ++ bytes
 
--- what is behind a type byte begins with the shortest spelling of a TEXT or BLOB; other fields have only one
+-- what is behind a type byte begins with the shortest spelling of a TEXT or BLOB; other fields have
+-- only one
 abbrev pub HasShortest : Field → List ℕ → List ℕ → Type 0
 HasShortest Undefined bytes rest = Unit {0}
 HasShortest (Is (Integer number)) bytes rest = Unit {0}
@@ -20,7 +21,8 @@ HasShortest (Is (Blob value)) bytes rest = bytes ≡ counted_bytes value ++ rest
 HasShortest (Is Null) bytes rest = Unit {0}
 
 -- The bytes begin with the canonical ones of what is read from them, where it is read.
-abbrev pub IsCanonical : {A : Type 0} → (A → List ℕ) → List ℕ → Result (A × List ℕ) ParseRefusal → Type 0
+abbrev pub IsCanonical : {A : Type 0} → (A → List ℕ) → List ℕ → Result (A × List ℕ) ParseRefusal
+    → Type 0
 IsCanonical own bytes read = (x : _ × List ℕ) → read ≡ Ok x → bytes ≡ own x.0 ++ x.1
 
 -- the canonical bytes of a change's two records

@@ -23,9 +23,11 @@ counted_answer (Ok sections) = Ok (changes_in sections)
 counted_answer (Err fault) = Err fault
 
 -- what reading gives, with a number of it in place of its value
-abbrev pub counted : {A : Type 0} → (A → ℕ) → Result (A × List ℕ) ParseRefusal → Result (ℕ × List ℕ) ParseRefusal
+abbrev pub counted : {A : Type 0} → (A → ℕ) → Result (A × List ℕ) ParseRefusal
+    → Result (ℕ × List ℕ) ParseRefusal
 counted count read = read >>= λ x. Ok (count x.0, x.1)
 
 -- the bytes behind what is read
-abbrev pub bytes_after : {A : Type 0} → Result (A × List ℕ) ParseRefusal → Result (List ℕ) ParseRefusal
+abbrev pub bytes_after : {A : Type 0} → Result (A × List ℕ) ParseRefusal
+    → Result (List ℕ) ParseRefusal
 bytes_after read = read >>= λ x. Ok x.1

@@ -14,8 +14,10 @@ abbrev pub admitted : List Section → Option SectionFault → Result (List Sect
 admitted changeset None = Ok changeset
 admitted changeset (Some fault) = Err (Refused fault)
 
--- what a text spells, where it spells a changeset and the schema admits it; else the text's fault, or the first section that is refused
-abbrev pub admitted_answer : List Shape → Result (List Section) ParseFault → Result (List Section) EndError
+-- what a text spells, where it spells a changeset and the schema admits it; else the text's fault,
+-- or the first section that is refused
+abbrev pub admitted_answer : List Shape → Result (List Section) ParseFault
+    → Result (List Section) EndError
 admitted_answer schema (Ok changeset) = admitted changeset (refusal_of schema changeset)
 admitted_answer schema (Err fault) = Err (Fault fault)
 

@@ -23,8 +23,8 @@ pub record IsFirst (text : List ℕ) (n : ℕ) : Type 0 where
   pub dead : Viable (take (suc n) text) → ⊥
   pub alive : (m : ℕ) → m < n → Viable (take (suc m) text)
 
--- A byte within the limit is the first after which the text isn't viable, and what is wrong with it follows from where
--- it stands.
+-- A byte within the limit is the first after which the text isn't viable, and what is wrong with it
+-- follows from where it stands.
 pub record AtByte (text : List ℕ) (fault : ParseFault) : Type 0 where
   pub first : IsFirst text fault.at
   pub within_limit : fault.at < most_bytes

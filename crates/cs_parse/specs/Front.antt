@@ -1,5 +1,7 @@
 -- As much as is whole.
-use Rattle.std.specs.Prelude.{◌≡◌, ℕ, zero, suc, ◌+◌, ◌-◌, ◌<◌, ◌≤◌, Bool, List, [], ◌∷◌, ◌++◌, length, take, drop, Option, Some, None, Result, Ok, Err, IsTrue, if◌then◌else◌}
+use Rattle.std.specs.Prelude.{◌≡◌, ℕ, zero, suc, ◌+◌, ◌-◌, ◌<◌, ◌≤◌, Bool, List, [], ◌∷◌, ◌++◌}
+use Rattle.std.specs.Prelude.{length, take, drop, Option, Some, None, Result, Ok, Err, IsTrue}
+use Rattle.std.specs.Prelude.{if◌then◌else◌}
 use Rattle.std.specs.List.{AllByRecursion}
 use Rattle.cs_model.specs.Bytes.{AreBytes}
 use Rattle.cs_model.specs.declared.change.Change.{Change}
@@ -9,25 +11,35 @@ use Rattle.cs_model.specs.Section.{Section}
 use Rattle.cs_parse.specs.declared.stop.ParseRefusal.{ParseRefusal}
 use Rattle.cs_parse.specs.declared.stop.ParseRefusal.TheVariants.{Short, Bad}
 use Rattle.cs_parse.specs.declared.fault.ParseFault.{ParseFault}
-use Rattle.cs_parse.specs.Progress.{Progress, Reached, last_flags, with_changes, read_on, arrived, so_far, broken}
+use Rattle.cs_parse.specs.Progress.{Progress, Reached, last_flags, with_changes, read_on, arrived}
+use Rattle.cs_parse.specs.Progress.{so_far, broken}
 use Rattle.cs_parse.specs.declared.fault.ParseError.{ParseError}
 use Rattle.cs_parse.specs.declared.fault.ParseError.TheVariants.{Fault, Memory}
 use Rattle.cs_parse.specs.Reading.{change_at, ends_section}
 use Rattle.cs_parse.specs.Spot.{IsSpot, IsHeaderSpot}
 use Rattle.cs_parse.specs.declared.spot.Spot.{Spot}
 
--- The items that are whole, the bytes behind them, and why the one that begins there isn't read; none where they are over.
+-- The items that are whole, the bytes behind them, and why the one that begins there isn't read;
+-- none where they are over.
 pub record Front (A : Type 0) : Type 0 where
   pub items : List A
   pub rest : List ℕ
   pub why : Option ParseRefusal
 
-abbrev pub after_item : {A : Type 0} → (List ℕ → Front A) → List ℕ → Result (A × List ℕ) ParseRefusal → Front A
-after_item go_on bytes (Ok item) = record { items = item.0 ∷ (go_on item.1).items; rest = (go_on item.1).rest; why = (go_on item.1).why }
+abbrev pub after_item : {A : Type 0} → (List ℕ → Front A) → List ℕ
+    → Result (A × List ℕ) ParseRefusal → Front A
+after_item go_on bytes (Ok item) =
+    record {
+      items = item.0 ∷ (go_on item.1).items;
+      rest = (go_on item.1).rest;
+      why = (go_on item.1).why;
+    }
 after_item go_on bytes (Err why) = record { items = []; rest = bytes; why = Some why }
 
--- Each item takes one from `fuel`, and where it is at least the number of bytes, it doesn't run out.
-unfoldable pub front_at : {A : Type 0} → (List ℕ → Bool) → (List ℕ → Result (A × List ℕ) ParseRefusal) → ℕ → List ℕ → Front A
+-- Each item takes one from `fuel`, and where it is at least the number of bytes, it doesn't run
+-- out.
+unfoldable pub front_at : {A : Type 0} → (List ℕ → Bool)
+    → (List ℕ → Result (A × List ℕ) ParseRefusal) → ℕ → List ℕ → Front A
 front_at over read zero bytes = record { items = []; rest = bytes; why = None }
 front_at over read (suc fuel) bytes =
     if over bytes then record { items = []; rest = bytes; why = None }
@@ -41,15 +53,18 @@ changes_front flags bytes = front_at ends_section (change_at flags) (length byte
 
 -- what is read behind these sections is found behind others as well
 abbrev pub prefixed : List Section → Reached → Reached
-prefixed sections reached = record { sections = sections ++ reached.sections; rest = reached.rest; why = reached.why }
+prefixed sections reached =
+    record { sections = sections ++ reached.sections; rest = reached.rest; why = reached.why }
 
 -- Sections that were read, and either why no more is, or what the bytes behind them give.
 abbrev pub sections_reached : List Section → List ℕ → Option ParseRefusal → Reached
 sections_reached sections rest None = prefixed sections (read_on [] rest)
-sections_reached sections rest (Some why) = record { sections = sections; rest = rest; why = Some why }
+sections_reached sections rest (Some why) =
+    record { sections = sections; rest = rest; why = Some why }
 
 -- A list of sections grew by the next one of some bytes, as far as it is whole.
-pub record NextSection (old new : List Section) (bytes rest : List ℕ) (why : Option ParseRefusal) : Type 0 where
+pub record NextSection (old new : List Section) (bytes rest : List ℕ) (why : Option ParseRefusal) :
+    Type 0 where
   pub sections : List Section
   pub added : new ≡ old ++ sections
   pub read : read_on [] bytes ≡ sections_reached sections rest why
@@ -58,7 +73,8 @@ pub record NextSection (old new : List Section) (bytes rest : List ℕ) (why : O
 
 -- ---- a changeset that grows
 
--- The text is of so many changes that a table with these key bytes can have, and canonical where that is said.
+-- The text is of so many changes that a table with these key bytes can have, and canonical where
+-- that is said.
 pub record JoinsTable (flags text : List ℕ) (count : ℕ) (canonical : Bool) : Type 0 where
   pub fit : AllByRecursion (Fit (length flags)) (unpacked_changes (length flags) text)
   pub many : count ≡ length (unpacked_changes (length flags) text)
@@ -68,79 +84,99 @@ abbrev pub JoinsSection : Option (List ℕ) → List ℕ → ℕ → Bool → Ty
 JoinsSection None text count canonical = (text ≡ []) × (count ≡ 0)
 JoinsSection (Some flags) text count canonical = JoinsTable flags text count canonical
 
--- What is whole at the front of bytes behind sections, of which the last one's table has these key bytes: so many changes,
--- whether their bytes are the canonical ones, the bytes behind them, and why the next change isn't read.
-pub record HeadsTable (flags bytes : List ℕ) (count : ℕ) (rest : List ℕ) (canonical : Bool) (why : Option ParseRefusal) : Type 0 where
+-- What is whole at the front of bytes behind sections, of which the last one's table has these key
+-- bytes: so many changes, whether their bytes are the canonical ones, the bytes behind them, and
+-- why the next change isn't read.
+pub record HeadsTable (flags bytes : List ℕ) (count : ℕ) (rest : List ℕ) (canonical : Bool)
+    (why : Option ParseRefusal) : Type 0 where
   pub many : count ≡ length (changes_front flags bytes).items
   pub left : rest ≡ (changes_front flags bytes).rest
-  pub own : IsTrue canonical → bytes ≡ changes_bytes (changes_front flags bytes).items ++ (changes_front flags bytes).rest
+  pub own : IsTrue canonical → bytes ≡ changes_bytes (changes_front flags bytes).items
+      ++ (changes_front flags bytes).rest
   pub reason : why ≡ (changes_front flags bytes).why
 
 abbrev pub Heads : Option (List ℕ) → List ℕ → ℕ → List ℕ → Bool → Option ParseRefusal → Type 0
 Heads None bytes count rest canonical why = (rest ≡ bytes) × (why ≡ None) × (count ≡ 0)
 Heads (Some flags) bytes count rest canonical why = HeadsTable flags bytes count rest canonical why
 
--- What is whole behind these changes: sections, the bytes behind them, and why no more is read; none where a change isn't read.
-abbrev pub Tails : Option ParseRefusal → List ℕ → List Section → List ℕ → Option ParseRefusal → Type 0
-Tails None bytes sections rest why = read_on [] bytes ≡ record { sections = sections; rest = rest; why = why }
-Tails (Some stopped) bytes sections rest why = (sections ≡ []) × (rest ≡ bytes) × (why ≡ Some stopped)
+-- What is whole behind these changes: sections, the bytes behind them, and why no more is read;
+-- none where a change isn't read.
+abbrev pub Tails : Option ParseRefusal → List ℕ → List Section → List ℕ → Option ParseRefusal
+    → Type 0
+Tails None bytes sections rest why = read_on [] bytes
+    ≡ record { sections = sections; rest = rest; why = why }
+Tails (Some stopped) bytes sections rest why = (sections ≡ []) × (rest ≡ bytes)
+    × (why ≡ Some stopped)
 
 -- the changes that a text says, of the table with these key bytes
 abbrev pub said_by : Option (List ℕ) → List ℕ → List Change
 said_by None text = []
 said_by (Some flags) text = unpacked_changes (length flags) text
 
--- the fault of a text of which so many bytes are taken, where reading them is stopped by a byte that is wrong
+-- the fault of a text of which so many bytes are taken, where reading them is stopped by a byte
+-- that is wrong
 abbrev pub fault_by : ℕ → Option ParseRefusal → Option ParseFault
 fault_by taken None = None
 fault_by taken (Some Short) = None
 fault_by taken (Some (Bad left kind)) = Some (record { at = taken - left; kind = kind })
 
--- What bytes behind sections bring, none of which is wrong where `taken` bytes of the text are taken with them: the first `len`
--- are changes of the last section, these sections stand behind them, and the rest is left.
-pub record Brings (taken len count : ℕ) (canonical : Bool) (more : List Section) (rest : List ℕ) (old : List Section) (bytes : List ℕ) : Type 0 where
+-- What bytes behind sections bring, none of which is wrong where `taken` bytes of the text are
+-- taken with them: the first `len` are changes of the last section, these sections stand behind
+-- them, and the rest is left.
+pub record Brings (taken len count : ℕ) (canonical : Bool) (more : List Section) (rest : List ℕ)
+    (old : List Section) (bytes : List ℕ) : Type 0 where
   pub inside : len ≤ length bytes
   pub joins : JoinsSection (last_flags old) (take len bytes) count canonical
-  pub sections : (read_on old bytes).sections ≡ with_changes old (said_by (last_flags old) (take len bytes)) ++ more
+  pub sections : (read_on old bytes).sections
+      ≡ with_changes old (said_by (last_flags old) (take len bytes)) ++ more
   pub left : (read_on old bytes).rest ≡ rest
   pub alone : more ≡ [] → rest ≡ drop len bytes
   pub begun : 0 < length more → 0 < length bytes
-  pub valid : IsChangeset old → IsChangeset (with_changes old (said_by (last_flags old) (take len bytes))) × IsChangeset more
+  pub valid : IsChangeset old
+      → IsChangeset (with_changes old (said_by (last_flags old) (take len bytes)))
+      × IsChangeset more
   pub no_fault : (n : ℕ) → arrived n taken (read_on old bytes) ≡ so_far n taken (read_on old bytes)
 
--- Sections, and bytes behind them, grew by what these spell. None of them is wrong, where `taken` bytes of the text are taken with them.
+-- Sections, and bytes behind them, grew by what these spell. None of them is wrong, where `taken`
+-- bytes of the text are taken with them.
 pub record Grown (taken : ℕ) (old new : List Section × List ℕ) : Type 0 where
   pub sections : new.0 ≡ (read_on old.0 old.1).sections
   pub rest : new.1 ≡ (read_on old.0 old.1).rest
-  pub no_fault : (n : ℕ) → arrived n taken (read_on old.0 old.1) ≡ so_far n taken (read_on old.0 old.1)
+  pub no_fault : (n : ℕ) → arrived n taken (read_on old.0 old.1)
+      ≡ so_far n taken (read_on old.0 old.1)
 
 -- the fault of bytes behind sections
 abbrev pub IsBroken : ParseError → ℕ → List Section → List ℕ → Type 0
-IsBroken (Fault fault) taken old bytes = (n : ℕ) → arrived n taken (read_on old bytes) ≡ broken fault
+IsBroken (Fault fault) taken old bytes = (n : ℕ) → arrived n taken (read_on old bytes)
+    ≡ broken fault
 IsBroken Memory taken old bytes = Unit {0}
 
 -- Sections and bytes that grew, or the fault; where there is one, or no memory, nothing changes.
-abbrev pub Grows : {A : Type 0} → Result A ParseError → ℕ → List Section × List ℕ → List Section × List ℕ → Type 0
+abbrev pub Grows : {A : Type 0} → Result A ParseError → ℕ → List Section × List ℕ → List Section
+    × List ℕ → Type 0
 Grows (Ok done) taken old new = Grown taken old new
 Grows (Err error) taken old new = (new ≡ old) × IsBroken error taken old.0 old.1
 
 -- bytes within the limit were taken in, none of which is wrong
-pub record TookIn (old : Progress) (bytes : List ℕ) (new : Progress) (reached : Reached) : Type 0 where
-  pub sections : new.sections ≡ reached.sections
-  pub pending : new.pending ≡ reached.rest
-  pub offset : new.offset ≡ old.offset + length bytes
-  pub fault : new.fault ≡ old.fault
-  pub no_fault : (len : ℕ) → arrived len (old.offset + length bytes) reached ≡ so_far len (old.offset + length bytes) reached
+pub record TookIn (old : Progress) (bytes : List ℕ) (new : Progress) (reached : Reached) : Type 0
+  where
+    pub sections : new.sections ≡ reached.sections
+    pub pending : new.pending ≡ reached.rest
+    pub offset : new.offset ≡ old.offset + length bytes
+    pub fault : new.fault ≡ old.fault
+    pub no_fault : (len : ℕ) → arrived len (old.offset + length bytes) reached
+        ≡ so_far len (old.offset + length bytes) reached
 
 -- the same, or the fault; without memory nothing changes
 abbrev pub TakesIn : {A : Type 0} → Result A ParseError → Progress → List ℕ → Progress → Type 0
 TakesIn (Ok done) old bytes new = TookIn old bytes new (read_on old.sections (old.pending ++ bytes))
 TakesIn (Err (Fault fault)) old bytes new =
-    (len : ℕ) → arrived len (old.offset + length bytes) (read_on old.sections (old.pending ++ bytes)) ≡ broken fault
+    (len : ℕ) → arrived len (old.offset + length bytes)
+    (read_on old.sections (old.pending ++ bytes)) ≡ broken fault
 TakesIn (Err Memory) old bytes new = new ≡ old
 
--- Bytes behind sections, of which the last one's table has these key bytes, are of a change or a header that was gone over to
--- this spot. Where there is no section only a header can begin.
+-- Bytes behind sections, of which the last one's table has these key bytes, are of a change or a
+-- header that was gone over to this spot. Where there is no section only a header can begin.
 abbrev pub Waits : Option (List ℕ) → List ℕ → Spot → Type 0
 Waits None bytes spot = IsHeaderSpot bytes spot
 Waits (Some flags) bytes spot = IsSpot flags bytes spot

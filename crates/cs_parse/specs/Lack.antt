@@ -1,5 +1,6 @@
 -- How many bytes at least are lacking of what isn't whole.
-use Rattle.std.specs.Prelude.{◌≡◌, ◌==◌, ℕ, ◌-◌, ◌<◌, Bool, List, [], ◌++◌, length, drop, position, Option, Some, None, Err, IsTrue}
+use Rattle.std.specs.Prelude.{◌≡◌, ◌==◌, ℕ, ◌-◌, ◌<◌, Bool, List, [], ◌++◌, length, drop, position}
+use Rattle.std.specs.Prelude.{Option, Some, None, Err, IsTrue}
 use Rattle.cs_model.specs.Rule.{Rule}
 use Rattle.cs_model.specs.Section.{Section}
 use Rattle.cs_parse.specs.declared.fault.ParseFault.{ParseFault}
@@ -9,13 +10,17 @@ use Rattle.cs_parse.specs.declared.stop.ParseRefusal.TheVariants.{Short}
 use Rattle.cs_parse.specs.Progress.{read_on}
 use Rattle.cs_parse.specs.Reading.{typed_at, record_at, shape_at}
 
--- So many bytes at least are lacking of a value behind its type byte: with each fewer behind it, it ends too early.
+-- So many bytes at least are lacking of a value behind its type byte: with each fewer behind it, it
+-- ends too early.
 abbrev pub LacksValue : ℕ → List ℕ → ℕ → Type 0
-LacksValue byte bytes least = (more : List ℕ) → length more < least → typed_at byte (bytes ++ more) ≡ Err Short
+LacksValue byte bytes least = (more : List ℕ) → length more < least → typed_at byte (bytes ++ more)
+    ≡ Err Short
 
--- A record that these bytes begin, and that ends too early, does so with those behind them too, whatever its rules.
+-- A record that these bytes begin, and that ends too early, does so with those behind them too,
+-- whatever its rules.
 abbrev pub StaysIn : List ℕ → List ℕ → Type 0
-StaysIn bytes more = (rules : List Rule) → record_at rules bytes ≡ Err Short → record_at rules (bytes ++ more) ≡ Err Short
+StaysIn bytes more = (rules : List Rule) → record_at rules bytes ≡ Err Short
+    → record_at rules (bytes ++ more) ≡ Err Short
 
 -- So it does with each fewer than so many bytes behind it.
 abbrev pub LacksIn : List ℕ → ℕ → Type 0
@@ -29,8 +34,8 @@ place_of (Old fields place) = place
 place_of (New fields place old) = place
 place_of (Name place letters) = place
 
--- The field that stands at the spot in a change ends too early with those behind it too. Where the change was gone over to no
--- field, that is known without any.
+-- The field that stands at the spot in a change ends too early with those behind it too. Where the
+-- change was gone over to no field, that is known without any.
 abbrev pub StaysAt : List ℕ → Spot → List ℕ → Type 0
 StaysAt bytes Start more = more ≡ []
 StaysAt bytes (Row fields place) more = StaysIn (drop place bytes) more
@@ -50,21 +55,27 @@ room_at (Name place letters) = 1025 - letters
 abbrev pub HasNoZero : List ℕ → Type 0
 HasNoZero bytes = position (λ byte. byte == 0) bytes ≡ None
 
--- So many bytes at least are lacking of a header, where none of them is zero: with each fewer behind it, it ends too early.
+-- So many bytes at least are lacking of a header, where none of them is zero: with each fewer
+-- behind it, it ends too early.
 abbrev pub LacksInHeader : List ℕ → ℕ → Type 0
-LacksInHeader bytes least = (more : List ℕ) → length more < least → HasNoZero more → shape_at (bytes ++ more) ≡ Err Short
+LacksInHeader bytes least = (more : List ℕ) → length more < least → HasNoZero more
+    → shape_at (bytes ++ more) ≡ Err Short
 
 -- ---- behind sections
 
--- Of the part that these bytes behind sections begin so many are lacking at least, where none of them is zero if that part is a
--- header: with each fewer behind it nothing is whole, and no byte is wrong.
+-- Of the part that these bytes behind sections begin so many are lacking at least, where none of
+-- them is zero if that part is a header: with each fewer behind it nothing is whole, and no byte is
+-- wrong.
 abbrev pub WaitsFor : List Section → List ℕ → Bool → ℕ → Type 0
 WaitsFor sections bytes header least =
-    (more : List ℕ) → length more < least → (IsTrue header → HasNoZero more) → read_on sections (bytes ++ more) ≡ record { sections = sections; rest = bytes ++ more; why = Some Short }
+    (more : List ℕ) → length more < least → (IsTrue header → HasNoZero more)
+    → read_on sections (bytes ++ more)
+    ≡ record { sections = sections; rest = bytes ++ more; why = Some Short }
 
--- Fewer bytes than so many can be taken without reading them, in a header those without a zero: bytes wait, of whose part so many
--- are lacking, and there is no fault.
-pub record IsPaused (fault : Option ParseFault) (sections : List Section) (bytes : List ℕ) (header : Bool) (least : ℕ) : Type 0 where
+-- Fewer bytes than so many can be taken without reading them, in a header those without a zero:
+-- bytes wait, of whose part so many are lacking, and there is no fault.
+pub record IsPaused (fault : Option ParseFault) (sections : List Section) (bytes : List ℕ)
+    (header : Bool) (least : ℕ) : Type 0 where
   pub no_fault : 0 < least → fault ≡ None
   pub some : 0 < least → 0 < length bytes
   pub lacks : WaitsFor sections bytes header least

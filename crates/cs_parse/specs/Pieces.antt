@@ -1,5 +1,6 @@
 -- A text that comes in pieces.
-use Rattle.std.specs.Prelude.{◌≡◌, ◌≤◌, ℕ, Bool, true, false, List, [], ◌∷◌, ◌++◌, length, Option, Some, None, Result, Ok, Err, if◌then◌else◌}
+use Rattle.std.specs.Prelude.{◌≡◌, ◌≤◌, ℕ, Bool, true, false, List, [], ◌∷◌, ◌++◌, length, Option}
+use Rattle.std.specs.Prelude.{Some, None, Result, Ok, Err, if◌then◌else◌}
 use Rattle.cs_model.specs.Section.{Section}
 use Rattle.cs_parse.specs.declared.fault.FaultKind.{FaultKind}
 use Rattle.cs_parse.specs.declared.fault.FaultKind.TheVariants as kind
@@ -45,7 +46,8 @@ offset_of text = offset_reached (fault_in text) (length text)
 abbrev pub IsLasting : List ℕ → ParseFault → Type 0
 IsLasting text fault = IsFault text fault × (may_be_mended fault.kind ≡ false)
 
--- A text without such a fault: it is within the limit, and some text that begins so is that of a changeset.
+-- A text without such a fault: it is within the limit, and some text that begins so is that of a
+-- changeset.
 pub record IsFaultless (text : List ℕ) : Type 0 where
   pub within_limit : length text ≤ most_bytes
   pub viable : Viable text

@@ -1,6 +1,8 @@
--- How far a text is read that comes in pieces. A text is a list of parts: headers, and behind each the changes of its
--- table. What is whole is read, and the bytes of a part that isn't are kept until the rest of it comes.
-use Rattle.std.specs.Prelude.{◌≡◌, ℕ, zero, suc, ◌+◌, ◌-◌, List, [], ◌∷◌, ◌++◌, length, take, Option, Some, None, Result, Ok, Err, nat_lt, if◌then◌else◌, refl}
+-- How far a text is read that comes in pieces. A text is a list of parts: headers, and behind each
+-- the changes of its table. What is whole is read, and the bytes of a part that isn't are kept
+-- until the rest of it comes.
+use Rattle.std.specs.Prelude.{◌≡◌, ℕ, zero, suc, ◌+◌, ◌-◌, List, [], ◌∷◌, ◌++◌, length, take}
+use Rattle.std.specs.Prelude.{Option, Some, None, Result, Ok, Err, nat_lt, if◌then◌else◌, refl}
 use Rattle.std.specs.Coded.{Coded, code_by, coded×, coded_list, coded_ℕ, coded_option}
 use Rattle.cs_model.specs.Bytes.{AreBytes}
 use Rattle.cs_model.specs.declared.change.Change.{Change}
@@ -15,9 +17,10 @@ use Rattle.cs_parse.specs.declared.stop.ParseRefusal.{ParseRefusal}
 use Rattle.cs_parse.specs.declared.stop.ParseRefusal.TheVariants.{Short, Bad}
 use Rattle.cs_parse.specs.Reading.{◌>>=◌, shape_at, change_at, ends_section, is_empty}
 
--- What was read of a text: the sections, of which the last one may go on; the bytes behind them, of a header or a change
--- that isn't whole; how many bytes were taken; and the fault that no more bytes mend. Where there is one nothing else
--- is kept, and its place stands for the number of bytes.
+-- What was read of a text: the sections, of which the last one may go on; the bytes behind them, of
+-- a header or a change that isn't whole; how many bytes were taken; and the fault that no more
+-- bytes mend. Where there is one nothing else is kept, and its place stands for the number of
+-- bytes.
 pub record Progress : Type 0 where
   pub sections : List Section
   pub pending : List ℕ
@@ -28,7 +31,8 @@ pub record Progress : Type 0 where
 abbrev pub progress_code : Coded Progress
 progress_code =
     code_by (List Section × (List ℕ × (ℕ × Option ParseFault)))
-    (coded× (coded_list section_code) (coded× (coded_list coded_ℕ) (coded× coded_ℕ (coded_option parse_fault.the_row.coded))))
+    (coded× (coded_list section_code)
+    (coded× (coded_list coded_ℕ) (coded× coded_ℕ (coded_option parse_fault.the_row.coded))))
     (λ p. (p.sections, (p.pending, (p.offset, p.fault))))
     (λ p. record { sections = p.0; pending = p.1.0; offset = p.1.1.0; fault = p.1.1.1 })
     (λ _. refl)
@@ -52,7 +56,8 @@ last_flags (section ∷ next ∷ sections) = last_flags (next ∷ sections)
 -- changes more at the end of the last section
 abbrev pub with_changes : List Section → List Change → List Section
 with_changes [] changes = []
-with_changes (section ∷ []) changes = record { shape = section.shape; changes = section.changes ++ changes } ∷ []
+with_changes (section ∷ []) changes =
+    record { shape = section.shape; changes = section.changes ++ changes } ∷ []
 with_changes (section ∷ next ∷ sections) changes = section ∷ with_changes (next ∷ sections) changes
 
 -- a section more, which has no changes yet, where a header is read
@@ -61,29 +66,36 @@ with_header sections bytes = do
   shape ← shape_at bytes
   Ok (sections ++ record { shape = shape.0; changes = [] } ∷ [], shape.1)
 
--- the next part behind these sections, where the last one's key bytes are known: a header where one begins, else a change
-abbrev pub with_part : List Section → Option (List ℕ) → List ℕ → Result (List Section × List ℕ) ParseRefusal
+-- the next part behind these sections, where the last one's key bytes are known: a header where one
+-- begins, else a change
+abbrev pub with_part : List Section → Option (List ℕ) → List ℕ
+    → Result (List Section × List ℕ) ParseRefusal
 with_part sections None bytes = with_header sections bytes
-with_part sections (Some flags) bytes = if ends_section bytes then with_header sections bytes else (do
-  change ← change_at flags bytes
-  Ok (with_changes sections (change.0 ∷ []), change.1))
+with_part sections (Some flags) bytes =
+    if ends_section bytes then with_header sections bytes else (do
+      change ← change_at flags bytes
+      Ok (with_changes sections (change.0 ∷ []), change.1))
 
 unfoldable pub part_at : List Section → List ℕ → Result (List Section × List ℕ) ParseRefusal
 part_at sections bytes = with_part sections (last_flags sections) bytes
 
 -- ---- all parts that are whole
 
--- What is read: the sections, the bytes behind them, and why the part that begins there isn't read; none where none begins.
+-- What is read: the sections, the bytes behind them, and why the part that begins there isn't read;
+-- none where none begins.
 pub record Reached : Type 0 where
   pub sections : List Section
   pub rest : List ℕ
   pub why : Option ParseRefusal
 
-abbrev pub after_part : (List Section → List ℕ → Reached) → List Section → List ℕ → Result (List Section × List ℕ) ParseRefusal → Reached
+abbrev pub after_part : (List Section → List ℕ → Reached) → List Section → List ℕ
+    → Result (List Section × List ℕ) ParseRefusal → Reached
 after_part go_on sections bytes (Ok part) = go_on part.0 part.1
-after_part go_on sections bytes (Err why) = record { sections = sections; rest = bytes; why = Some why }
+after_part go_on sections bytes (Err why) =
+    record { sections = sections; rest = bytes; why = Some why }
 
--- One part after another. Each takes one from `fuel`, and where it is at least the number of bytes, it doesn't run out.
+-- One part after another. Each takes one from `fuel`, and where it is at least the number of bytes,
+-- it doesn't run out.
 unfoldable pub parts_at : ℕ → List Section → List ℕ → Reached
 parts_at zero sections bytes = record { sections = sections; rest = bytes; why = None }
 parts_at (suc fuel) sections bytes =
@@ -100,13 +112,20 @@ read_on sections bytes = parts_at (length bytes) sections bytes
 abbrev pub so_far : ℕ → ℕ → Reached → Progress
 so_far len taken reached =
     if nat_lt most_bytes len then broken (record { at = most_bytes; kind = TooLong })
-    else record { sections = reached.sections; pending = reached.rest; offset = taken; fault = None }
+    else record {
+      sections = reached.sections;
+      pending = reached.rest;
+      offset = taken;
+      fault = None;
+    }
 
--- The same, by why reading went no further: a byte that can't stand in its place is found before the text is found too long.
+-- The same, by why reading went no further: a byte that can't stand in its place is found before
+-- the text is found too long.
 abbrev pub stopped : ℕ → ℕ → Reached → Option ParseRefusal → Progress
 stopped len taken reached None = so_far len taken reached
 stopped len taken reached (Some Short) = so_far len taken reached
-stopped len taken reached (Some (Bad left kind)) = broken (record { at = taken - left; kind = kind })
+stopped len taken reached (Some (Bad left kind)) =
+    broken (record { at = taken - left; kind = kind })
 
 abbrev pub arrived : ℕ → ℕ → Reached → Progress
 arrived len taken reached = stopped len taken reached reached.why
@@ -118,7 +137,8 @@ piece_within old piece = take (most_bytes - old.offset) piece
 abbrev pub advance : Option ParseFault → Progress → List ℕ → Progress
 advance (Some fault) old piece = old
 advance None old piece =
-    arrived (old.offset + length piece) (old.offset + length (piece_within old piece)) (read_on old.sections (old.pending ++ piece_within old piece))
+    arrived (old.offset + length piece) (old.offset + length (piece_within old piece))
+    (read_on old.sections (old.pending ++ piece_within old piece))
 
 -- the progress once a piece has come
 unfoldable pub advanced : Progress → List ℕ → Progress
@@ -132,24 +152,29 @@ progress_of text = advanced nothing text
 abbrev pub answer_at_end_by : Option ParseFault → Progress → Result (List Section) ParseFault
 answer_at_end_by (Some fault) progress = Err fault
 answer_at_end_by None progress =
-    if is_empty progress.pending then Ok progress.sections else Err (record { at = progress.offset; kind = Truncated })
+    if is_empty progress.pending then Ok progress.sections else Err
+    (record { at = progress.offset; kind = Truncated })
 
 abbrev pub answer_at_end : Progress → Result (List Section) ParseFault
 answer_at_end progress = answer_at_end_by progress.fault progress
 
--- What `feed` answers, and the progress behind it: the fault of the text with the piece, or none; without memory nothing is
--- taken.
+-- What `feed` answers, and the progress behind it: the fault of the text with the piece, or none;
+-- without memory nothing is taken.
 abbrev pub FeedAnswers : {A : Type 0} → Result A ParseError → Progress → List ℕ → Progress → Type 0
-FeedAnswers (Ok done) old piece new = ((advanced old piece).fault ≡ None) × (new ≡ advanced old piece)
-FeedAnswers (Err (Fault fault)) old piece new = ((advanced old piece).fault ≡ Some fault) × (new ≡ advanced old piece)
+FeedAnswers (Ok done) old piece new = ((advanced old piece).fault ≡ None)
+    × (new ≡ advanced old piece)
+FeedAnswers (Err (Fault fault)) old piece new = ((advanced old piece).fault ≡ Some fault)
+    × (new ≡ advanced old piece)
 FeedAnswers (Err Memory) old piece new = new ≡ old
 
--- A text that a parser with this progress may have taken. All that it answers is said of each of these.
+-- A text that a parser with this progress may have taken. All that it answers is said of each of
+-- these.
 pub record Took (progress : Progress) (text : List ℕ) : Type 0 where
   pub bytes : AreBytes text
   pub read : progress ≡ progress_of text
 
--- What was taken once a piece has come behind this text: the text with the piece; the text alone where memory ran out.
+-- What was taken once a piece has come behind this text: the text with the piece; the text alone
+-- where memory ran out.
 abbrev pub TakesPiece : {A : Type 0} → Result A ParseError → List ℕ → List ℕ → Progress → Type 0
 TakesPiece (Ok done) text piece new = Took new (text ++ piece)
 TakesPiece (Err (Fault fault)) text piece new = Took new (text ++ piece)

@@ -1,6 +1,8 @@
--- Reading a text from its front. A reader takes the bytes from its place on, and gives a value and the bytes behind
--- it, or why there is none.
-use Rattle.std.specs.Prelude.{ℕ, ℤ, zero, suc, ◌+◌, ◌-◌, ◌*◌, Bool, true, not, ◌||◌, List, [], ◌∷◌, length, take, drop, map, Option, Some, None, Result, Ok, Err, nat_lt, ◌==◌, if◌then◌else◌, ◌≡◌}
+-- Reading a text from its front. A reader takes the bytes from its place on, and gives a value and
+-- the bytes behind it, or why there is none.
+use Rattle.std.specs.Prelude.{ℕ, ℤ, zero, suc, ◌+◌, ◌-◌, ◌*◌, Bool, true, not, ◌||◌, List, [], ◌∷◌}
+use Rattle.std.specs.Prelude.{length, take, drop, map, Option, Some, None, Result, Ok, Err, nat_lt}
+use Rattle.std.specs.Prelude.{◌==◌, if◌then◌else◌, ◌≡◌}
 use Rattle.std.specs.Int.{w64, from_be_bytes, cast_signed}
 use Rattle.std.specs.List.{list_any}
 use Rattle.cs_model.specs.declared.value.Value.TheVariants.{Integer, Text, Blob, Null}
@@ -14,14 +16,18 @@ use Rattle.cs_model.specs.Section.{Section}
 use Rattle.cs_model.specs.Rule.{Rule, row_rule, old_rule, new_rules}
 use Rattle.cs_model.specs.Changeset.{most_bytes}
 use Rattle.cs_parse.specs.declared.fault.FaultKind.{FaultKind}
-use Rattle.cs_parse.specs.declared.fault.FaultKind.TheVariants.{BadMarker, Patchset, Columns, NoKey, EmptyName, NameTooLong, BadOperation, ValueTooLong, TooLong, Truncated}
+use Rattle.cs_parse.specs.declared.fault.FaultKind.TheVariants.{BadMarker, Patchset, Columns, NoKey}
+use Rattle.cs_parse.specs.declared.fault.FaultKind.TheVariants.{EmptyName, NameTooLong}
+use Rattle.cs_parse.specs.declared.fault.FaultKind.TheVariants.{BadOperation, ValueTooLong, TooLong}
+use Rattle.cs_parse.specs.declared.fault.FaultKind.TheVariants.{Truncated}
 use Rattle.cs_parse.specs.Place.{factor, type_refusal}
 use Rattle.cs_parse.specs.declared.fault.ParseFault.{ParseFault}
 use Rattle.cs_parse.specs.declared.stop.ParseRefusal.{ParseRefusal}
 use Rattle.cs_parse.specs.declared.stop.ParseRefusal.TheVariants.{Short, Bad}
 
 infixl 10 ◌>>=◌
-abbrev pub ◌>>=◌ : {A B : Type 0} → Result A ParseRefusal → (A → Result B ParseRefusal) → Result B ParseRefusal
+abbrev pub ◌>>=◌ : {A B : Type 0} → Result A ParseRefusal → (A → Result B ParseRefusal)
+    → Result B ParseRefusal
 (Ok x) >>= f = f x
 (Err e) >>= f = Err e
 
@@ -34,9 +40,11 @@ Reads view (Err refusal) read = read ≡ Err refusal
 abbrev pub refuse : {A : Type 0} → FaultKind → List ℕ → Result A ParseRefusal
 refuse kind rest = Err (Bad (suc (length rest)) kind)
 
--- One item after another, until the bytes are over for them. Each turn takes one from `fuel`, and where it is at
--- least the number of bytes, it doesn't run out.
-unfoldable pub many_at : {A : Type 0} → (List ℕ → Bool) → (List ℕ → Result (A × List ℕ) ParseRefusal) → ℕ → List ℕ → Result (List A × List ℕ) ParseRefusal
+-- One item after another, until the bytes are over for them. Each turn takes one from `fuel`, and
+-- where it is at least the number of bytes, it doesn't run out.
+unfoldable pub many_at : {A : Type 0} → (List ℕ → Bool)
+    → (List ℕ → Result (A × List ℕ) ParseRefusal) → ℕ → List ℕ
+    → Result (List A × List ℕ) ParseRefusal
 many_at over read zero bytes = Ok ([], bytes)
 many_at over read (suc fuel) bytes = if over bytes then Ok ([], bytes) else (do
   first ← read bytes
@@ -47,13 +55,15 @@ many_at over read (suc fuel) bytes = if over bytes then Ok ([], bytes) else (do
 
 -- a number whose last byte stands before `rest`
 abbrev pub number_within : ℕ → ℕ → FaultKind → ℕ → List ℕ → Result (ℕ × List ℕ) ParseRefusal
-number_within least most kind n rest = if nat_lt n least || nat_lt most n then refuse kind rest else Ok (n, rest)
+number_within least most kind n rest = if nat_lt n least
+    || nat_lt most n then refuse kind rest else Ok (n, rest)
 
--- The rest of a varint, where `high` stands for the bits read before it, and `left` bytes may still have the high
--- bit. It is refused at the first byte after which every number is out of its limits.
+-- The rest of a varint, where `high` stands for the bits read before it, and `left` bytes may still
+-- have the high bit. It is refused at the first byte after which every number is out of its limits.
 unfoldable pub number_at : ℕ → ℕ → FaultKind → ℕ → ℕ → List ℕ → Result (ℕ × List ℕ) ParseRefusal
 number_at least most kind left high [] = Err Short
-number_at least most kind zero high (byte ∷ rest) = number_within least most kind (256 * high + byte) rest
+number_at least most kind zero high (byte ∷ rest) =
+    number_within least most kind (256 * high + byte) rest
 number_at least most kind (suc left) high (byte ∷ rest) =
     if nat_lt byte 128 then number_within least most kind (128 * high + byte) rest
     else if nat_lt most (factor left * (128 * high + (byte - 128))) then refuse kind rest
@@ -71,7 +81,8 @@ length_at bytes = number_at 0 16777216 ValueTooLong 8 0 bytes
 
 -- an INTEGER's eight bytes
 unfoldable pub integer_at : List ℕ → Result (ℤ × List ℕ) ParseRefusal
-integer_at bytes = if nat_lt (length bytes) 8 then Err Short else Ok (cast_signed w64 (from_be_bytes w64 (take 8 bytes)), drop 8 bytes)
+integer_at bytes = if nat_lt (length bytes) 8 then Err Short else Ok
+    (cast_signed w64 (from_be_bytes w64 (take 8 bytes)), drop 8 bytes)
 
 -- a length, and that many bytes
 unfoldable pub counted_at : List ℕ → Result (List ℕ × List ℕ) ParseRefusal
@@ -94,7 +105,8 @@ typed_at byte rest =
       Ok (Is (Blob bytes.0), bytes.1))
     else Ok (Is Null, rest)
 
-abbrev pub unless_refused : {A : Type 0} → Option FaultKind → List ℕ → Result A ParseRefusal → Result A ParseRefusal
+abbrev pub unless_refused : {A : Type 0} → Option FaultKind → List ℕ → Result A ParseRefusal
+    → Result A ParseRefusal
 unless_refused None rest read = read
 unless_refused (Some kind) rest read = refuse kind rest
 
@@ -113,7 +125,8 @@ record_at (rule ∷ rules) bytes = do
   Ok (field.0 ∷ fields.0, fields.1)
 
 -- the old record and the new one of a change with this operation, of a table with these key bytes
-unfoldable pub records_at : List ℕ → Op → List ℕ → Result ((List Field × List Field) × List ℕ) ParseRefusal
+unfoldable pub records_at : List ℕ → Op → List ℕ
+    → Result ((List Field × List Field) × List ℕ) ParseRefusal
 records_at flags Insert bytes = do
   row ← record_at (map row_rule flags) bytes
   Ok (([], row.0), row.1)
@@ -130,7 +143,10 @@ unfoldable pub marked_at : List ℕ → Op → List ℕ → Result (Change × Li
 marked_at flags op [] = Err Short
 marked_at flags op (mark ∷ rest) = do
   records ← records_at flags op rest
-  Ok (record { op = op; indirect = not (mark == 0); before = records.0.0; after = records.0.1 }, records.1)
+  Ok (
+    record { op = op; indirect = not (mark == 0); before = records.0.0; after = records.0.1 },
+    records.1,
+  )
 
 -- the operation of a byte
 abbrev pub op_of : ℕ → Option Op
@@ -164,7 +180,8 @@ changes_at flags bytes = many_at ends_section (change_at flags) (length bytes) b
 unfoldable pub flags_at : ℕ → List ℕ → Result (List ℕ × List ℕ) ParseRefusal
 flags_at count bytes =
     if nat_lt (length bytes) count then Err Short
-    else if list_any (λ flag. nat_lt 0 flag) (take count bytes) then Ok (take count bytes, drop count bytes)
+    else if list_any (λ flag. nat_lt 0 flag) (take count bytes) then Ok
+    (take count bytes, drop count bytes)
     else refuse NoKey (drop count bytes)
 
 -- the bytes up to a zero byte, at most so many
@@ -197,10 +214,12 @@ header_at bytes = do
 
 -- ---- whole texts
 
--- A section's shape. The changes before it end where it begins with `T`, so that another first byte is the text's.
+-- A section's shape. The changes before it end where it begins with `T`, so that another first byte
+-- is the text's.
 unfoldable pub shape_at : List ℕ → Result (Shape × List ℕ) ParseRefusal
 shape_at [] = Err Short
-shape_at (byte ∷ rest) = if byte == 84 then header_at rest else refuse (if byte == 80 then Patchset else BadMarker) rest
+shape_at (byte ∷ rest) = if byte == 84 then header_at rest else refuse
+    (if byte == 80 then Patchset else BadMarker) rest
 
 -- a section
 unfoldable pub section_at : List ℕ → Result (Section × List ℕ) ParseRefusal
@@ -215,24 +234,28 @@ is_empty bytes = length bytes == 0
 unfoldable pub sections_at : List ℕ → Result (List Section × List ℕ) ParseRefusal
 sections_at bytes = many_at is_empty section_at (length bytes) bytes
 
--- The fault of a text of which the first `len` bytes are read, and what it is when they end too early.
+-- The fault of a text of which the first `len` bytes are read, and what it is when they end too
+-- early.
 abbrev pub fault_of : ℕ → FaultKind → ParseRefusal → ParseFault
 fault_of len ended Short = record { at = len; kind = ended }
 fault_of len ended (Bad left kind) = record { at = len - left; kind = kind }
 
 -- the answer for a text of so many bytes, which is read whole
-abbrev pub whole_answer : ℕ → Result (List Section × List ℕ) ParseRefusal → Result (List Section) ParseFault
+abbrev pub whole_answer : ℕ → Result (List Section × List ℕ) ParseRefusal
+    → Result (List Section) ParseFault
 whole_answer len (Ok read) = Ok read.0
 whole_answer len (Err refusal) = Err (fault_of len Truncated refusal)
 
--- The answer for a longer text, of which so many bytes are read: a byte that can't stand in its place is found before
--- the text is found too long.
-abbrev pub overlong_answer : ℕ → Result (List Section × List ℕ) ParseRefusal → Result (List Section) ParseFault
+-- The answer for a longer text, of which so many bytes are read: a byte that can't stand in its
+-- place is found before the text is found too long.
+abbrev pub overlong_answer : ℕ → Result (List Section × List ℕ) ParseRefusal
+    → Result (List Section) ParseFault
 overlong_answer len (Ok read) = Err (fault_of len TooLong Short)
 overlong_answer len (Err refusal) = Err (fault_of len TooLong refusal)
 
 -- what reading a text gives
 unfoldable pub answer_of : List ℕ → Result (List Section) ParseFault
 answer_of text =
-    if nat_lt most_bytes (length text) then overlong_answer most_bytes (sections_at (take most_bytes text))
+    if nat_lt most_bytes (length text) then overlong_answer most_bytes
+    (sections_at (take most_bytes text))
     else whole_answer (length text) (sections_at text)

@@ -1,5 +1,6 @@
 -- How far a change or a header that isn't whole was gone over.
-use Rattle.std.specs.Prelude.{◌≡◌, ◌==◌, ℕ, ◌+◌, ◌≤◌, ◌<◌, List, ◌∷◌, ◌++◌, length, take, drop, map, position, Option, Some, None, Ok, Err}
+use Rattle.std.specs.Prelude.{◌≡◌, ◌==◌, ℕ, ◌+◌, ◌≤◌, ◌<◌, List, ◌∷◌, ◌++◌, length, take, drop, map}
+use Rattle.std.specs.Prelude.{position, Option, Some, None, Ok, Err}
 use Rattle.cs_model.specs.declared.value.Field.{Field}
 use Rattle.cs_model.specs.declared.change.Op.{Op}
 use Rattle.cs_model.specs.declared.change.Op.TheVariants.{Insert, Update, Delete}
@@ -12,26 +13,31 @@ use Rattle.cs_parse.specs.Reading.{◌>>=◌, op_of, record_at, change_at, name_
 
 -- ---- records
 
--- A front of a record was read, and of its rules these are left, and these bytes. Whatever bytes stand behind that front, the record
--- begins with its fields, and goes on with what the rules that are left read from those bytes.
+-- A front of a record was read, and of its rules these are left, and these bytes. Whatever bytes
+-- stand behind that front, the record begins with its fields, and goes on with what the rules that
+-- are left read from those bytes.
 pub record Passes (rules others : List Rule) (bytes rest : List ℕ) : Type 0 where
   pub fields : List Field
   pub text : List ℕ
   pub parts : bytes ≡ text ++ rest
-  pub reads : (back : List ℕ) → record_at rules (text ++ back) ≡ (record_at others back >>= λ x. Ok (fields ++ x.0, x.1))
+  pub reads : (back : List ℕ) → record_at rules (text ++ back)
+      ≡ (record_at others back >>= λ x. Ok (fields ++ x.0, x.1))
 
--- so many fields of a record with these columns were read, and where that isn't all of them the next one ends too early
+-- so many fields of a record with these columns were read, and where that isn't all of them the
+-- next one ends too early
 pub record Halts (rule : ℕ → Rule) (flags bytes : List ℕ) (count : ℕ) (rest : List ℕ) : Type 0 where
   pub columns : count ≤ length flags
   pub passes : Passes (map rule flags) (map rule (drop count flags)) bytes rest
   pub short : count < length flags → record_at (map rule (drop count flags)) rest ≡ Err Short
 
--- The same of an UPDATE's new record, of which the next field ends too early. The old record's fields of the columns from that
--- field's on are read from `old_rest`.
-pub record HaltsNew (flags : List ℕ) (before : List Field) (left bytes : List ℕ) (count : ℕ) (old_rest rest : List ℕ) : Type 0 where
+-- The same of an UPDATE's new record, of which the next field ends too early. The old record's
+-- fields of the columns from that field's on are read from `old_rest`.
+pub record HaltsNew (flags : List ℕ) (before : List Field) (left bytes : List ℕ) (count : ℕ)
+    (old_rest rest : List ℕ) : Type 0 where
   pub columns : count ≤ length flags
   pub old_left : record_at (map old_rule (drop count flags)) old_rest ≡ Ok (drop count before, left)
-  pub passes : Passes (new_rules flags before) (new_rules (drop count flags) (drop count before)) bytes rest
+  pub passes : Passes (new_rules flags before) (new_rules (drop count flags) (drop count before))
+      bytes rest
   pub short : record_at (new_rules (drop count flags) (drop count before)) rest ≡ Err Short
 
 -- bytes end with these
@@ -47,20 +53,25 @@ pub record BeginsChangeOf (op : Op) (bytes rest : List ℕ) : Type 0 where
   pub parts : bytes ≡ byte ∷ mark ∷ rest
   pub is_op : op_of byte ≡ Some op
 
--- In the first record of a change so many fields were passed, and the next one begins at this place.
-pub record InFirst (op : Op) (rule : ℕ → Rule) (flags bytes : List ℕ) (fields place : ℕ) : Type 0 where
-  pub records : List ℕ
-  pub begins : BeginsChangeOf op bytes records
-  pub columns : fields ≤ length flags
-  pub within : place ≤ length bytes
-  pub passes : Passes (map rule flags) (map rule (drop fields flags)) records (drop place bytes)
+-- In the first record of a change so many fields were passed, and the next one begins at this
+-- place.
+pub record InFirst (op : Op) (rule : ℕ → Rule) (flags bytes : List ℕ) (fields place : ℕ) : Type 0
+  where
+    pub records : List ℕ
+    pub begins : BeginsChangeOf op bytes records
+    pub columns : fields ≤ length flags
+    pub within : place ≤ length bytes
+    pub passes : Passes (map rule flags) (map rule (drop fields flags)) records (drop place bytes)
 
 -- the same, and where not all fields were passed the next one ends too early
-pub record PassedFirst (op : Op) (rule : ℕ → Rule) (flags bytes : List ℕ) (fields place : ℕ) : Type 0 where
+pub record PassedFirst (op : Op) (rule : ℕ → Rule) (flags bytes : List ℕ) (fields place : ℕ) : Type
+    0 where
   pub reached : InFirst op rule flags bytes fields place
-  pub short : fields < length flags → record_at (map rule (drop fields flags)) (drop place bytes) ≡ Err Short
+  pub short : fields < length flags → record_at (map rule (drop fields flags)) (drop place bytes)
+      ≡ Err Short
 
--- The same of an UPDATE's new record, where the old record's field of the next column begins at `old`.
+-- The same of an UPDATE's new record, where the old record's field of the next column begins at
+-- `old`.
 pub record SpotInNew (flags bytes : List ℕ) (fields place old : ℕ) : Type 0 where
   pub records : List ℕ
   pub begins : BeginsChangeOf Update bytes records
@@ -70,8 +81,10 @@ pub record SpotInNew (flags bytes : List ℕ) (fields place old : ℕ) : Type 0 
   pub columns : fields ≤ length flags
   pub within : place ≤ length bytes
   pub old_within : old ≤ length bytes
-  pub old_left : record_at (map old_rule (drop fields flags)) (drop old bytes) ≡ Ok (drop fields before, left)
-  pub passes : Passes (new_rules flags before) (new_rules (drop fields flags) (drop fields before)) left (drop place bytes)
+  pub old_left : record_at (map old_rule (drop fields flags)) (drop old bytes)
+      ≡ Ok (drop fields before, left)
+  pub passes : Passes (new_rules flags before) (new_rules (drop fields flags) (drop fields before))
+      left (drop place bytes)
 
 -- whether a change with this operation has one record
 abbrev pub HasOne : Op → Type 0
@@ -81,20 +94,24 @@ HasOne Delete = Unit {0}
 
 -- ---- headers
 
--- A header's bytes were passed up to its name, and of the name so many bytes are there, none of which is zero. Whatever bytes stand
--- behind those that were passed, the header goes on with its name there.
+-- A header's bytes were passed up to its name, and of the name so many bytes are there, none of
+-- which is zero. Whatever bytes stand behind those that were passed, the header goes on with its
+-- name there.
 pub record InName (bytes : List ℕ) (place letters : ℕ) : Type 0 where
   pub flags : List ℕ
   pub within : place + letters ≤ length bytes
-  pub passes : (back : List ℕ) → shape_at (take place bytes ++ back) ≡ (name_at back >>= λ x. Ok (record { name = x.0; flags = flags }, x.1))
+  pub passes : (back : List ℕ) → shape_at (take place bytes ++ back)
+      ≡ (name_at back >>= λ x. Ok (record { name = x.0; flags = flags }, x.1))
   pub no_zero : position (λ byte. byte == 0) (take letters (drop place bytes)) ≡ None
 
 -- ---- spots
 
--- A change of a table with these key bytes, or a header behind its changes, of which these bytes are there, was gone over to this spot.
+-- A change of a table with these key bytes, or a header behind its changes, of which these bytes
+-- are there, was gone over to this spot.
 abbrev pub IsSpot : List ℕ → List ℕ → Spot → Type 0
 IsSpot flags bytes Start = Unit {0}
-IsSpot flags bytes (Row fields place) = (op : Op) × HasOne op × InFirst op row_rule flags bytes fields place
+IsSpot flags bytes (Row fields place) = (op : Op) × HasOne op
+    × InFirst op row_rule flags bytes fields place
 IsSpot flags bytes (Old fields place) = InFirst Update old_rule flags bytes fields place
 IsSpot flags bytes (New fields place old) = SpotInNew flags bytes fields place old
 IsSpot flags bytes (Name place letters) = InName bytes place letters
@@ -107,15 +124,17 @@ IsHeaderSpot bytes (Old fields place) = Unit {0}
 IsHeaderSpot bytes (New fields place old) = Unit {0}
 IsHeaderSpot bytes (Name place letters) = InName bytes place letters
 
--- The change still ends too early, and was gone over to this spot. With more bytes behind it does so where what stands at the spot
--- does.
+-- The change still ends too early, and was gone over to this spot. With more bytes behind it does
+-- so where what stands at the spot does.
 abbrev pub StaysShort : List ℕ → List ℕ → Option Spot → Type 0
 StaysShort flags bytes None = Unit {0}
 StaysShort flags bytes (Some spot) =
-    (change_at flags bytes ≡ Err Short) × IsSpot flags bytes spot × ((more : List ℕ) → StaysAt bytes spot more → change_at flags (bytes ++ more) ≡ Err Short)
+    (change_at flags bytes ≡ Err Short) × IsSpot flags bytes spot
+    × ((more : List ℕ) → StaysAt bytes spot more → change_at flags (bytes ++ more) ≡ Err Short)
 
--- The header still ends too early, and was gone over to this spot, which is right whatever table stands before it. It does so up to where
--- its name would be too long.
+-- The header still ends too early, and was gone over to this spot, which is right whatever table
+-- stands before it. It does so up to where its name would be too long.
 abbrev pub StaysHeader : List ℕ → Option Spot → Type 0
 StaysHeader bytes None = Unit {0}
-StaysHeader bytes (Some spot) = (shape_at bytes ≡ Err Short) × ((flags : List ℕ) → IsSpot flags bytes spot) × LacksInHeader bytes (room_at spot)
+StaysHeader bytes (Some spot) = (shape_at bytes ≡ Err Short)
+    × ((flags : List ℕ) → IsSpot flags bytes spot) × LacksInHeader bytes (room_at spot)

@@ -1,5 +1,6 @@
 -- Where the byte behind the beginning of a text stands.
-use Rattle.std.specs.Prelude.{◌≡◌, ℕ, zero, suc, ◌+◌, ◌-◌, ◌*◌, ◌≤◌, ◌⊎◌, true, false, List, [], ◌∷◌, ◌++◌, length, map, None, nat_lt}
+use Rattle.std.specs.Prelude.{◌≡◌, ℕ, zero, suc, ◌+◌, ◌-◌, ◌*◌, ◌≤◌, ◌⊎◌, true, false, List, []}
+use Rattle.std.specs.Prelude.{◌∷◌, ◌++◌, length, map, None, nat_lt}
 use Rattle.std.specs.List.{list_any, list_all, AllByRecursion}
 use Rattle.cs_model.specs.declared.value.Field.{Field}
 use Rattle.cs_model.specs.declared.shape.Shape.{Shape}
@@ -10,16 +11,19 @@ use Rattle.cs_model.specs.Section.{Section}
 use Rattle.cs_model.specs.Rule.{Rule, meets, row_rule, old_rule, new_rules}
 use Rattle.cs_model.specs.Changeset.{IsField, Obeys, IsShape, IsChange, IsChangeset}
 use Rattle.cs_model.specs.Varint.{IsVarint}
-use Rattle.cs_model.specs.Text.{SpellsField, SpellsEach, op_byte, SpellsChange, SpellsHeader, SpellsSection}
-use Rattle.cs_parse.specs.Place.{BytePlace, Start, Between, InColumns, LastKey, FirstLetter, PastName, AtType, InLength, factor, type_refusal}
+use Rattle.cs_model.specs.Text.{SpellsField, SpellsEach, op_byte, SpellsChange, SpellsHeader}
+use Rattle.cs_model.specs.Text.{SpellsSection}
+use Rattle.cs_parse.specs.Place.{BytePlace, Start, Between, InColumns, LastKey, FirstLetter}
+use Rattle.cs_parse.specs.Place.{PastName, AtType, InLength, factor, type_refusal}
 
--- A number that isn't whole: bytes with the high bit, behind each of which a number up to `most` can come. They stand
--- for `high`, and `left` more may have the high bit.
+-- A number that isn't whole: bytes with the high bit, behind each of which a number up to `most`
+-- can come. They stand for `high`, and `left` more may have the high bit.
 abbrev pub Unfinished : ℕ → ℕ → ℕ → List ℕ → ℕ → ℕ → Type 0
 Unfinished most more so_far [] left high = (left ≡ more) × (high ≡ so_far)
 Unfinished most zero so_far (byte ∷ bytes) left high = ⊥
 Unfinished most (suc more) so_far (byte ∷ bytes) left high =
-    (128 ≤ byte) × (factor more * (128 * so_far + (byte - 128)) ≤ most) × Unfinished most more (128 * so_far + (byte - 128)) bytes left high
+    (128 ≤ byte) × (factor more * (128 * so_far + (byte - 128)) ≤ most)
+    × Unfinished most more (128 * so_far + (byte - 128)) bytes left high
 
 -- ---- in a header, behind its `T`
 
@@ -60,7 +64,8 @@ pub record AfterName (front : List ℕ) (place : BytePlace) : Type 0 where
   pub stands : place ≡ PastName
 
 abbrev pub InHeader : List ℕ → BytePlace → Type 0
-InHeader front place = InNumber front place ⊎ OnLastKey front place ⊎ OnName front place ⊎ AfterName front place
+InHeader front place = InNumber front place ⊎ OnLastKey front place ⊎ OnName front place
+    ⊎ AfterName front place
 
 -- ---- in a record
 
@@ -85,7 +90,8 @@ InRecord [] front place = ⊥
 InRecord (rule ∷ rules) front place =
     InField rule front place
     ⊎ ((text : List ℕ) × (field : Field) × (back : List ℕ) × (front ≡ text ++ back)
-    × SpellsField text field × IsField field × (meets rule field ≡ true) × InRecord rules back place)
+    × SpellsField text field × IsField field × (meets rule field ≡ true)
+    × InRecord rules back place)
 
 -- ---- in a change
 
@@ -101,7 +107,8 @@ pub record InNewRecord (flags front : List ℕ) (place : BytePlace) : Type 0 whe
 
 abbrev pub InRecords : List ℕ → Op → List ℕ → BytePlace → Type 0
 InRecords flags Insert front place = InRecord (map row_rule flags) front place
-InRecords flags Update front place = InRecord (map old_rule flags) front place ⊎ InNewRecord flags front place
+InRecords flags Update front place = InRecord (map old_rule flags) front place
+    ⊎ InNewRecord flags front place
 InRecords flags Delete front place = InRecord (map row_rule flags) front place
 
 -- behind the operation and the indirect byte
@@ -132,7 +139,8 @@ pub record AfterHeader (front : List ℕ) (place : BytePlace) : Type 0 where
   pub stands : AtChange shape.flags part place
 
 abbrev pub InSection : List ℕ → BytePlace → Type 0
-InSection front place = ((rest : List ℕ) × (front ≡ 84 ∷ rest) × InHeader rest place) ⊎ AfterHeader front place
+InSection front place = ((rest : List ℕ) × (front ≡ 84 ∷ rest) × InHeader rest place)
+    ⊎ AfterHeader front place
 
 -- ---- in a text
 

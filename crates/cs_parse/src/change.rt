@@ -1,15 +1,18 @@
 //! Changes.
 
-ghost use Rattle.std.specs.Prelude.{◌≡◌, ◌==◌, ◌∷◌, ◌++◌, length, if◌then◌else◌, IfOk, OnOk, IsTrue};
+ghost use Rattle.std.specs.Prelude.{◌≡◌, ◌==◌, ◌∷◌, ◌++◌, length, if◌then◌else◌, IfOk, OnOk};
+ghost use Rattle.std.specs.Prelude.{IsTrue};
 ghost use Rattle.std.specs.List.{AllByRecursion};
 ghost use Rattle.cs_model.specs.Text.{op_byte};
-ghost use Rattle.cs_model.specs.PackedChanges.{change_bytes, changes_bytes, Fit, unpacked_changes, AreCanonical};
+ghost use Rattle.cs_model.specs.PackedChanges.{change_bytes, changes_bytes, Fit, unpacked_changes};
+ghost use Rattle.cs_model.specs.PackedChanges.{AreCanonical};
 ghost use Rattle.cs_parse.specs.declared.fault.FaultKind.TheVariants.{Patchset, BadOperation};
 ghost use Rattle.cs_parse.specs.declared.stop.ParseRefusal.TheVariants.{Bad};
 ghost use Rattle.cs_parse.specs.Canonical.{IsCanonical};
 ghost use Rattle.cs_parse.specs.Count.{bytes_after, counted};
 ghost use Rattle.cs_parse.specs.Front.{changes_front};
-ghost use Rattle.cs_parse.specs.Reading.{Reads, op_of, marked_at, change_at, ends_section, changes_at};
+ghost use Rattle.cs_parse.specs.Reading.{Reads, op_of, marked_at, change_at, ends_section};
+ghost use Rattle.cs_parse.specs.Reading.{changes_at};
 
 use crate::and::both;
 use crate::fault::FaultKind;
@@ -31,7 +34,8 @@ fn op_by_byte(byte: u8) -> Option<Op>
     }
 }
 
-// The bytes behind a change whose operation byte was read, and whether its own are the canonical ones.
+// The bytes behind a change whose operation byte was read, and whether its own are the canonical
+// ones.
 #[tactic(auto, unfolding(crate::specs::Reading::marked_at))]
 fn skip_marked<'a>(flags: &[u8], op: Op, bytes: &'a [u8]) -> Result<(&'a [u8], bool), ParseRefusal>
     ensures read { Reads (λ x. x.0.now) result (bytes_after (marked_at flags.now op bytes.now)) }
@@ -83,9 +87,13 @@ pub fn is_over(bytes: &[u8]) -> bool
     }
 }
 
-/// As many changes of a section as are whole: how many, the bytes behind them, whether their own are the canonical ones, and
-/// why the next one isn't read; nothing where the next header follows, or the end.
-pub fn whole_changes<'a>(flags: &[u8], bytes: &'a [u8]) -> (usize, &'a [u8], bool, Option<ParseRefusal>)
+/// As many changes of a section as are whole: how many, the bytes behind them, whether their own
+/// are the canonical ones, and why the next one isn't read; nothing where the next header follows,
+/// or the end.
+pub fn whole_changes<'a>(
+    flags: &[u8],
+    bytes: &'a [u8],
+) -> (usize, &'a [u8], bool, Option<ParseRefusal>)
     ensures count { result.0 ≡ length (changes_front flags.now bytes.now).items }
     ensures rest { result.1.now ≡ (changes_front flags.now bytes.now).rest }
     ensures canonical { IsTrue result.2
@@ -123,7 +131,8 @@ pub fn changes_counted<'a>(flags: &[u8], bytes: &'a [u8]) -> Result<(usize, &'a 
     }
 }
 
-// Adds the changes that a text says: in one copy where it is known to be canonical, and else respelled.
+// Adds the changes that a text says: in one copy where it is known to be canonical, and else
+// respelled.
 fn copy_changes(
     changes: &mut Changes,
     text: &[u8],
@@ -144,8 +153,9 @@ fn copy_changes(
     }
 }
 
-/// As many changes of a section as are whole, the bytes behind them, and why the next one isn't read. Their bytes are gone
-/// over first, so that they are copied as a whole, and memory is taken once.
+/// As many changes of a section as are whole, the bytes behind them, and why the next one isn't
+/// read. Their bytes are gone over first, so that they are copied as a whole, and memory is taken
+/// once.
 pub fn changes_of<'a>(
     alloc: Global,
     flags: &[u8],

@@ -25,11 +25,11 @@ pub enum EndError {
 }
 
 impl PieceParser {
-    /// Ends the text: gives the changeset that the bytes taken so far spell, without a copy, where the schema admits it, and is left as a
-    /// new parser. It takes no memory.
+    /// Ends the text: gives the changeset that the bytes taken so far spell, without a copy, where
+    /// the schema admits it, and is left as a new parser. It takes no memory.
     ///
-    /// Refuses `Fault`, as `finish` does, and then `Refused` with the first section that the schema refuses; both leave the
-    /// parser as it was, so that feeding may go on.
+    /// Refuses `Fault`, as `finish` does, and then `Refused` with the first section that the schema
+    /// refuses; both leave the parser as it was, so that feeding may go on.
     pub fn end(&mut self, alloc: Global, schema: &Schema) -> Result<Changeset, EndError>
         ensures answer { result ≡ admitted_answer schema.now (answer_at_end self.old) }
         ensures left { self.new ≡ left_by result self.old }

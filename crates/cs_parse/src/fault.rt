@@ -1,5 +1,6 @@
-//! Why a text is no changeset. SQLite's format of changesets is described with its session extension, in
-//! `sqlite3session.c`; which byte is a fault's is this project's rule (docs/DEFINITIONS.md, Faults).
+//! Why a text is no changeset. SQLite's format of changesets is described with its session
+//! extension, in `sqlite3session.c`; which byte is a fault's is this project's rule
+//! (docs/DEFINITIONS.md, Faults).
 
 ghost use Rattle.std.specs.Prelude.{◌≡◌};
 ghost use Rattle.cs_parse.specs.declared.fault.ParseError.TheVariants as error;
@@ -60,7 +61,8 @@ pub enum FaultKind {
     Truncated,
 }
 
-/// The first fault of a text: where it stands, in bytes from the text's beginning, and what is wrong there.
+/// The first fault of a text: where it stands, in bytes from the text's beginning, and what is
+/// wrong there.
 #[derive(Clone, Copy, Debug, PartialEq, Eq, Error)]
 #[error("{kind}, at byte {at}")]
 pub struct ParseFault {

@@ -1,4 +1,5 @@
-//! Fields. Their readers are inlined: there is one for each column of each change, and a call costs more than most fields.
+//! Fields. Their readers are inlined: there is one for each column of each change, and a call costs
+//! more than most fields.
 
 ghost use Rattle.std.specs.Prelude.{◌≡◌, ◌++◌, length, IfOk, IsTrue};
 ghost use Rattle.cs_model.specs.FieldBytes.{field_bytes};
@@ -13,7 +14,8 @@ use crate::rule::{FieldRule, type_fault};
 use crate::stop::ParseRefusal;
 use cs_model::FieldRef;
 
-// A length, and that many bytes, and whether these are the canonical ones, as those before them are.
+// A length, and that many bytes, and whether these are the canonical ones, as those before them
+// are.
 #[tactic(auto, unfolding(crate::specs::Reading::counted_at))]
 #[inline(always)]
 fn counted_of(bytes: &[u8], canonical: bool) -> Result<(&[u8], &[u8], bool), ParseRefusal>
@@ -29,7 +31,8 @@ fn counted_of(bytes: &[u8], canonical: bool) -> Result<(&[u8], &[u8], bool), Par
     Ok((value, after, both(canonical, shortest)))
 }
 
-// A field behind its type byte, which isn't refused. Only what has a length can be spelled in several ways.
+// A field behind its type byte, which isn't refused. Only what has a length can be spelled in
+// several ways.
 #[tactic(auto, unfolding(crate::specs::Reading::typed_at))]
 #[inline(always)]
 fn typed_of(byte: u8, rest: &[u8], canonical: bool) -> Result<(FieldRef, &[u8], bool), ParseRefusal>
@@ -55,7 +58,8 @@ fn typed_of(byte: u8, rest: &[u8], canonical: bool) -> Result<(FieldRef, &[u8], 
     }
 }
 
-/// A field under a rule, where it stands, and whether its bytes are the canonical ones, as those before it are.
+/// A field under a rule, where it stands, and whether its bytes are the canonical ones, as those
+/// before it are.
 #[tactic(auto, unfolding(crate::specs::Reading::field_at))]
 #[inline(always)]
 pub fn field_in(
@@ -63,7 +67,8 @@ pub fn field_in(
     bytes: &[u8],
     canonical: bool,
 ) -> Result<(FieldRef, &[u8], bool), ParseRefusal>
-    ensures read { Reads (λ x. (field_seen x.0, x.1.now)) result (field_at (rule_of rule) bytes.now) }
+    ensures read { Reads (λ x. (field_seen x.0, x.1.now)) result
+        (field_at (rule_of rule) bytes.now) }
     ensures canonical { IfOk result (λ x. IsTrue x.2
         → IsTrue canonical × (bytes.now ≡ field_bytes (field_seen x.0) ++ x.1.now)) }
 {

@@ -2,7 +2,8 @@
 
 ghost use Rattle.std.specs.Prelude.{◌≡◌, ◌<◌, IfOk, IfErr, Option, List, Some};
 ghost use Rattle.cs_model.specs.Section.{Section};
-ghost use Rattle.cs_parse.specs.Front.{fault_by, Brings, IsBroken, Grows, Heads, Tails, Waits, KeepsSpot};
+ghost use Rattle.cs_parse.specs.Front.{fault_by, Brings, IsBroken, Grows, Heads, Tails, Waits};
+ghost use Rattle.cs_parse.specs.Front.{KeepsSpot};
 ghost use Rattle.cs_parse.specs.Lack.{WaitsFor};
 ghost use Rattle.cs_parse.specs.Progress.{last_flags, read_on};
 ghost use Rattle.cs_parse.specs.declared.stop.ParseRefusal.TheVariants.{Short};
@@ -18,9 +19,13 @@ use cs_model::Section;
 use cs_model::laws::{changes_fit, spelled_is_said};
 use std::alloc::{AllocError, Global};
 
-// The whole changes at the front of bytes behind these sections, which are of the last one's table: how many, the bytes behind
-// them, whether their own are the canonical ones, and why the next one isn't read.
-fn head_of<'a>(sections: &[Section], bytes: &'a [u8]) -> (usize, &'a [u8], bool, Option<ParseRefusal>)
+// The whole changes at the front of bytes behind these sections, which are of the last one's table:
+// how many, the bytes behind them, whether their own are the canonical ones, and why the next one
+// isn't read.
+fn head_of<'a>(
+    sections: &[Section],
+    bytes: &'a [u8],
+) -> (usize, &'a [u8], bool, Option<ParseRefusal>)
     ensures { Heads (last_flags sections.now) bytes.now result.0 result.1.now result.2 result.3 }
 {
     match sections.last() {
@@ -29,8 +34,8 @@ fn head_of<'a>(sections: &[Section], bytes: &'a [u8]) -> (usize, &'a [u8], bool,
     }
 }
 
-// The sections behind these changes, as far as they are whole, the bytes behind them, and why no more is read. There are none
-// where a change isn't read.
+// The sections behind these changes, as far as they are whole, the bytes behind them, and why no
+// more is read. There are none where a change isn't read.
 fn tail_of(
     alloc: Global,
     stopped: Option<ParseRefusal>,
@@ -44,7 +49,8 @@ fn tail_of(
     }
 }
 
-// The fault of a text of which so many bytes are taken, where reading them is stopped by a byte that is wrong.
+// The fault of a text of which so many bytes are taken, where reading them is stopped by a byte
+// that is wrong.
 fn wrong_in(taken: usize, why: Option<ParseRefusal>) -> Option<ParseFault>
     ensures { result ≡ fault_by taken why }
 {
@@ -58,10 +64,11 @@ fn wrong_in(taken: usize, why: Option<ParseRefusal>) -> Option<ParseFault>
     }
 }
 
-/// How many bytes at least are lacking of the header or the change of the last section's table that begins behind these sections,
-/// where it ends too early, and whether it is a header, of which none of them is zero. So it is behind any sections of which the last
-/// one's table has the same key bytes. The spot is moved on, so that these bytes aren't gone over again when more come. Where it is 0,
-/// something is whole or wrong, and nothing is known of the spot.
+/// How many bytes at least are lacking of the header or the change of the last section's table that
+/// begins behind these sections, where it ends too early, and whether it is a header, of which none
+/// of them is zero. So it is behind any sections of which the last one's table has the same key
+/// bytes. The spot is moved on, so that these bytes aren't gone over again when more come. Where it
+/// is 0, something is whole or wrong, and nothing is known of the spot.
 pub fn still_waits(sections: &[Section], bytes: &[u8], spot: &mut Spot) -> (usize, bool)
     requires { Waits (last_flags sections.now) bytes.now spot.old }
     ensures waits { 0 < result.0 → (others : List Section)
@@ -83,16 +90,17 @@ pub fn still_waits(sections: &[Section], bytes: &[u8], spot: &mut Spot) -> (usiz
     (still_short(&section.shape().flags, bytes, spot), false)
 }
 
-// What these bytes bring, read aside: how many of them are changes of the last section, how many changes these are, whether their
-// bytes are the canonical ones, the sections behind them, and the bytes that are left. It is the same behind all sections of which the last
-// one's table is this.
+// What these bytes bring, read aside: how many of them are changes of the last section, how many
+// changes these are, whether their bytes are the canonical ones, the sections behind them, and the
+// bytes that are left. It is the same behind all sections of which the last one's table is this.
 fn brought<'a>(
     alloc: Global,
     sections: &[Section],
     bytes: &'a [u8],
     taken: usize,
 ) -> Result<(usize, usize, bool, Vec<Section>, &'a [u8]), ParseError>
-    ensures ok { IfOk result (λ x. (others : List Section) → last_flags others ≡ last_flags sections.now
+    ensures ok { IfOk result (λ x. (others : List Section) → last_flags others
+        ≡ last_flags sections.now
         → Brings taken x.0 x.1 x.2 x.3.items x.4.now others bytes.now) }
     ensures err { IfErr result (λ error. (others : List Section)
         → last_flags others ≡ last_flags sections.now → IsBroken error taken others bytes.now) }
@@ -108,8 +116,9 @@ fn brought<'a>(
     Ok((len, count, canonical, more, rest))
 }
 
-/// Reads the bytes that wait, as far as they are whole, and adds what they spell to the sections. `taken` is how many bytes of
-/// the text are taken with these, so that a fault's place can be told. An `Err` leaves all as it was.
+/// Reads the bytes that wait, as far as they are whole, and adds what they spell to the sections.
+/// `taken` is how many bytes of the text are taken with these, so that a fault's place can be told.
+/// An `Err` leaves all as it was.
 pub fn grow(alloc: Global, text: &mut Growing, taken: usize) -> Result<(), ParseError>
     ensures { Grows result taken text.old text.new }
 {

@@ -1,6 +1,7 @@
 //! Sections that grow by the bytes behind them.
 
-ghost use Rattle.std.specs.Prelude.{◌≡◌, ◌≤◌, ◌<◌, ◌+◌, [], ◌++◌, take, drop, length, IfOk, OnOk, OnErr, MatchOption};
+ghost use Rattle.std.specs.Prelude.{◌≡◌, ◌≤◌, ◌<◌, ◌+◌, [], ◌++◌, take, drop, length, IfOk, OnOk};
+ghost use Rattle.std.specs.Prelude.{OnErr, MatchOption};
 ghost use Rattle.cs_model.specs.Changeset.{IsChangeset};
 ghost use Rattle.cs_parse.specs.Front.{JoinsSection};
 ghost use Rattle.cs_parse.specs.Growing.{with_text, last_changes, Keeps, OpenedSection};
@@ -12,9 +13,9 @@ use std::alloc::{AllocError, Global};
 use std::marker::Model;
 use std::mem;
 
-/// Sections, of which the last one may go on, and the bytes of a header or a change that isn't whole yet. Contracts see both
-/// lists. While bytes wait, the last section's changes stand in front of them, in one piece of memory, so that a change that
-/// becomes whole is where it stays.
+/// Sections, of which the last one may go on, and the bytes of a header or a change that isn't
+/// whole yet. Contracts see both lists. While bytes wait, the last section's changes stand in front
+/// of them, in one piece of memory, so that a change that becomes whole is where it stays.
 #[derive(Debug, Drop)]
 pub struct Growing {
     // the last section lacks the changes that stand in `bytes`
@@ -36,7 +37,10 @@ impl Model for Growing {
 
     ghost coded = { coded× (coded_list section_code) (coded_list coded_ℕ) };
 
-    ghost view = { λ g. (with_text g.changeset (take g.kept g.bytes.items), drop g.kept g.bytes.items) };
+    ghost view = { λ g. (
+      with_text g.changeset (take g.kept g.bytes.items),
+      drop g.kept g.bytes.items,
+    ) };
 
     ghost invariant = { λ g. IsGrowing g.changeset g.bytes.items g.kept g.count };
 }
@@ -74,7 +78,8 @@ fn take_from(alloc: Global, sections: &mut Vec<Section>) -> (Vec<u8>, usize)
     sections[len - 1].take_bytes(alloc)
 }
 
-// Gives the last one of the first `len` sections, which has no changes, those of these bytes, in one move.
+// Gives the last one of the first `len` sections, which has no changes, those of these bytes, in
+// one move.
 fn put_at(alloc: Global, changeset: &mut Changeset, len: usize, bytes: Vec<u8>, count: usize)
     requires inside { len ≤ length changeset.old }
     requires lacks { last_changes (take len changeset.old) ≡ [] }
@@ -204,7 +209,8 @@ impl Growing {
         changeset
     }
 
-    /// Adds bytes behind those that wait. Where none did, the last section's changes are moved in front of them. An `Err` leaves all as it was.
+    /// Adds bytes behind those that wait. Where none did, the last section's changes are moved in
+    /// front of them. An `Err` leaves all as it was.
     pub fn extend(&mut self, alloc: Global, piece: &[u8]) -> Result<(), AllocError>
         ensures ok { OnOk result (self.new ≡ (self.old.0, self.old.1 ++ piece.now)) }
         ensures err { OnErr result (self.new ≡ self.old) }
@@ -273,8 +279,8 @@ impl Growing {
         self.count = 0;
     }
 
-    /// The first `len` of the bytes that wait become changes of the last section. Where they are canonical nothing is copied. An `Err`
-    /// leaves all as it was.
+    /// The first `len` of the bytes that wait become changes of the last section. Where they are
+    /// canonical nothing is copied. An `Err` leaves all as it was.
     pub fn keep(
         &mut self,
         alloc: Global,
@@ -283,7 +289,8 @@ impl Growing {
         canonical: bool,
     ) -> Result<(), AllocError>
         requires inside { len ≤ length self.old.1 }
-        requires joins { JoinsSection (last_flags self.old.0) (take len self.old.1) count canonical }
+        requires joins { JoinsSection (last_flags self.old.0) (take len self.old.1) count
+            canonical }
         requires valid { IsChangeset (with_text self.old.0 (take len self.old.1)) }
         ensures ok { OnOk result (self.new
             ≡ (with_text self.old.0 (take len self.old.1), drop len self.old.1)) }
@@ -314,7 +321,8 @@ impl Growing {
         Ok(())
     }
 
-    /// As `keep`, where other sections stand behind these changes, and other bytes wait behind those. An `Err` leaves all as it was.
+    /// As `keep`, where other sections stand behind these changes, and other bytes wait behind
+    /// those. An `Err` leaves all as it was.
     pub fn join(
         &mut self,
         alloc: Global,
@@ -325,7 +333,8 @@ impl Growing {
     ) -> Result<(), AllocError>
         requires waits { 0 < length self.old.1 }
         requires inside { len ≤ length self.old.1 }
-        requires joins { JoinsSection (last_flags self.old.0) (take len self.old.1) count canonical }
+        requires joins { JoinsSection (last_flags self.old.0) (take len self.old.1) count
+            canonical }
         requires valid { IsChangeset (with_text self.old.0 (take len self.old.1)) }
         requires some { 0 < length others.0 }
         ensures ok { OnOk result (self.new

@@ -2,7 +2,8 @@
 
 ghost use Rattle.std.specs.Prelude.{◌≡◌, ◌==◌, ◌<◌, length, nat_lt, position, IfOk, IfSome};
 ghost use Rattle.std.specs.List.{list_any};
-ghost use Rattle.cs_parse.specs.Reading.{Reads, flags_at, letters_at, name_at, before_name_at, header_at};
+ghost use Rattle.cs_parse.specs.Reading.{Reads, flags_at, letters_at, name_at, before_name_at};
+ghost use Rattle.cs_parse.specs.Reading.{header_at};
 ghost use Rattle.cs_parse.specs.Seen.{shape_seen};
 
 use crate::fault::FaultKind;
@@ -53,8 +54,8 @@ pub fn first_zero(bytes: &[u8]) -> Option<usize>
     memchr(0, bytes)
 }
 
-// The bytes before the first zero byte, and those behind it. No more than the 1,025 that a name and its end can
-// take are looked at.
+// The bytes before the first zero byte, and those behind it. No more than the 1,025 that a name and
+// its end can take are looked at.
 fn letters_of(bytes: &[u8]) -> Result<(&[u8], &[u8]), ParseRefusal>
     ensures { Reads (λ x. (x.0.now, x.1.now)) result (letters_at 1024 bytes.now) }
 {
@@ -84,7 +85,8 @@ fn name_of(bytes: &[u8]) -> Result<(&[u8], &[u8]), ParseRefusal>
     Ok((name, rest))
 }
 
-/// A header's key bytes, which stand behind its `T` and the number of columns, and the bytes from its name on.
+/// A header's key bytes, which stand behind its `T` and the number of columns, and the bytes from
+/// its name on.
 #[tactic(auto, unfolding(crate::specs::Reading::before_name_at))]
 pub fn before_name(bytes: &[u8]) -> Result<(&[u8], &[u8]), ParseRefusal>
     ensures { Reads (λ x. (x.0.now, x.1.now)) result (before_name_at bytes.now) }

@@ -1,4 +1,5 @@
-//! How far the name of a header that isn't whole was gone over, so that more bytes behind it are looked at from there on.
+//! How far the name of a header that isn't whole was gone over, so that more bytes behind it are
+//! looked at from there on.
 
 ghost use Rattle.std.specs.Prelude.{◌≡◌, ◌<◌, ◌++◌, ℕ, List};
 ghost use Rattle.cs_model.specs.Bytes.{AreBytes};
@@ -46,7 +47,8 @@ fn first_name(bytes: &[u8]) -> Option<Spot>
     }
 }
 
-// The spot that is reached from here, where the header still ends too early. One in a change tells nothing of a header.
+// The spot that is reached from here, where the header still ends too early. One in a change tells
+// nothing of a header.
 fn next_name(bytes: &[u8], spot: Spot) -> Option<Spot>
     requires { IsHeaderSpot bytes.now spot }
     ensures { StaysHeader bytes.now result }
@@ -67,10 +69,12 @@ fn name_room(spot: Spot) -> usize
     }
 }
 
-/// How many bytes at least, none of which is zero, are lacking of a header that still ends too early, of which these bytes are there,
-/// none or more. The spot is moved behind the bytes of its name that are there, and stays right with any bytes behind these, whatever
-/// table stands before them. Until all key bytes are there it looks at the number of columns only, and in the name at the bytes that
-/// came. Where it is 0, the header is whole or a byte is wrong, and nothing is known of the spot.
+/// How many bytes at least, none of which is zero, are lacking of a header that still ends too
+/// early, of which these bytes are there, none or more. The spot is moved behind the bytes of its
+/// name that are there, and stays right with any bytes behind these, whatever table stands before
+/// them. Until all key bytes are there it looks at the number of columns only, and in the name at
+/// the bytes that came. Where it is 0, the header is whole or a byte is wrong, and nothing is known
+/// of the spot.
 pub fn header_short(bytes: &[u8], spot: &mut Spot) -> usize
     requires { IsHeaderSpot bytes.now spot.old }
     ensures short { LacksInHeader bytes.now result }

@@ -16,7 +16,8 @@ fn missing(len: usize, bytes: &[u8]) -> Option<usize>
     }
 }
 
-// How many bytes are lacking of a value behind its type byte, where some are and its length is known.
+// How many bytes are lacking of a value behind its type byte, where some are and its length is
+// known.
 fn value_lacks(byte: u8, bytes: &[u8]) -> Option<usize>
     ensures { IfSome result (λ least. (0 < least) × LacksValue byte bytes.now least) }
 {
@@ -32,8 +33,8 @@ fn value_lacks(byte: u8, bytes: &[u8]) -> Option<usize>
     }
 }
 
-/// How many bytes at least are lacking of a field that isn't whole, of which these are there, none or more. Where its length isn't
-/// known that is one.
+/// How many bytes at least are lacking of a field that isn't whole, of which these are there, none
+/// or more. Where its length isn't known that is one.
 pub fn field_lacks(bytes: &[u8]) -> usize
     ensures some { 0 < result }
     ensures lacks { LacksIn bytes.now result }

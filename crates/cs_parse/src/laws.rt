@@ -1,4 +1,5 @@
-//! Laws: public functions that do nothing, whose contracts say what holds of every text. Who needs one calls it.
+//! Laws: public functions that do nothing, whose contracts say what holds of every text. Who needs
+//! one calls it.
 
 ghost use Rattle.std.specs.Prelude.{◌≡◌, ◌↔◌, ◌⊎◌, ◌++◌, [], ℕ, List, Ok, Err, Some};
 ghost use Rattle.cs_model.specs.Bytes.{AreBytes};
@@ -40,16 +41,19 @@ pub fn feeding_tells_faults()
         → (fault_in text ≡ Some fault) ↔ IsLasting text fault }
 {}
 
-/// No bytes are read as far as nothing, and a text with a piece behind it as far as the progress leads that was made of the text.
+/// No bytes are read as far as nothing, and a text with a piece behind it as far as the progress
+/// leads that was made of the text.
 pub fn progress_goes_on()
     ensures begins { progress_of [] ≡ nothing }
     ensures goes { (text piece : List ℕ) → AreBytes (text ++ piece)
         → progress_of (text ++ piece) ≡ advanced (progress_of text) piece }
 {}
 
-/// How far a text is read tells what reading it answers, the fault that no more bytes mend, and how many bytes are taken.
+/// How far a text is read tells what reading it answers, the fault that no more bytes mend, and how
+/// many bytes are taken.
 pub fn progress_tells()
-    ensures answer { (text : List ℕ) → AreBytes text → answer_at_end (progress_of text) ≡ answer_of text }
+    ensures answer { (text : List ℕ) → AreBytes text → answer_at_end (progress_of text)
+        ≡ answer_of text }
     ensures fault { (text : List ℕ) → AreBytes text
         → (progress_of text).fault ≡ fault_in text }
     ensures offset { (text : List ℕ) → AreBytes text

@@ -1,6 +1,7 @@
-//! The reader of changesets, whole by `parse` or in pieces by `PieceParser`. Theorems: the answer is Ok exactly on the
-//! texts that spell a changeset, as `Spells` says; else it is the text's one fault, its place and kind as `IsFault`
-//! says; and how a text was cut into pieces makes no difference.
+//! The reader of changesets, whole by `parse` or in pieces by `PieceParser`. Theorems: the answer
+//! is Ok exactly on the texts that spell a changeset, as `Spells` says; else it is the text's one
+//! fault, its place and kind as `IsFault` says; and how a text was cut into pieces makes no
+//! difference.
 #![tactic(auto)]
 
 mod and;

@@ -3,7 +3,8 @@
 ghost use Rattle.std.specs.Prelude.{◌≡◌, ◌≤◌, ◌*◌, ◌++◌, length, nat_eq, IfOk, IsTrue};
 ghost use Rattle.cs_model.specs.Varint.{varint};
 ghost use Rattle.cs_parse.specs.Place.{factor};
-ghost use Rattle.cs_parse.specs.Reading.{Reads, number_within, number_at, columns_at, length_at, integer_at};
+ghost use Rattle.cs_parse.specs.Reading.{Reads, number_within, number_at, columns_at, length_at};
+ghost use Rattle.cs_parse.specs.Reading.{integer_at};
 
 use crate::fault::FaultKind;
 use crate::stop::ParseRefusal;
@@ -29,9 +30,14 @@ fn limited(
     Ok((value, rest))
 }
 
-// A varint from `least` to `most`. It is refused at the first byte after which no number within the limits can
-// come, so that a hostile number is never read to its end.
-fn number_of(bytes: &[u8], least: u64, most: u64, kind: FaultKind) -> Result<(u64, &[u8]), ParseRefusal>
+// A varint from `least` to `most`. It is refused at the first byte after which no number within the
+// limits can come, so that a hostile number is never read to its end.
+fn number_of(
+    bytes: &[u8],
+    least: u64,
+    most: u64,
+    kind: FaultKind,
+) -> Result<(u64, &[u8]), ParseRefusal>
     requires { most ≤ 16777216 }
     ensures { Reads (λ x. (x.0, x.1.now)) result (number_at least most kind 8 0 bytes.now) }
 {

@@ -1,6 +1,7 @@
 //! A text that comes in pieces.
 
-ghost use Rattle.std.specs.Prelude.{◌≡◌, ◌≤◌, ◌+◌, [], ◌++◌, length, IfOk, IfErr, IsOk, IsTrue, OnOk, OnErr, ℕ, List, None, Some, Ok, Err};
+ghost use Rattle.std.specs.Prelude.{◌≡◌, ◌≤◌, ◌+◌, [], ◌++◌, length, IfOk, IfErr, IsOk, IsTrue};
+ghost use Rattle.std.specs.Prelude.{OnOk, OnErr, ℕ, List, None, Some, Ok, Err};
 ghost use Rattle.cs_model.specs.Changeset.{most_bytes};
 ghost use Rattle.cs_model.specs.Text.{Spells};
 ghost use Rattle.cs_parse.specs.Answer.{Shows};
@@ -8,7 +9,8 @@ ghost use Rattle.cs_parse.specs.Fault.{IsFault};
 ghost use Rattle.cs_parse.specs.Front.{TakesIn};
 ghost use Rattle.cs_parse.specs.Lack.{HasNoZero};
 ghost use Rattle.cs_parse.specs.Pieces.{offset_of, IsLasting, ReportsLasting, IsFaultless};
-ghost use Rattle.cs_parse.specs.Progress.{nothing, broken, advanced, answer_at_end, progress_of, FeedAnswers, Took, TakesPiece};
+ghost use Rattle.cs_parse.specs.Progress.{nothing, broken, advanced, answer_at_end, progress_of};
+ghost use Rattle.cs_parse.specs.Progress.{FeedAnswers, Took, TakesPiece};
 ghost use Rattle.cs_parse.specs.Reading.{answer_of};
 ghost use Rattle.cs_parse.specs.declared.fault.ParseFault.{ParseFault};
 
@@ -24,9 +26,10 @@ use std::alloc::Global;
 use std::marker::Model;
 use std::mem;
 
-/// Reads a text that comes in pieces of any size, and keeps no more of it than what is read and the bytes of the header or
-/// the change that isn't whole yet. Contracts see how far the text is read (`Progress`). What is answered is said of every
-/// text that a parser with this progress may have taken (`Took`), so it doesn't depend on how the text was cut.
+/// Reads a text that comes in pieces of any size, and keeps no more of it than what is read and the
+/// bytes of the header or the change that isn't whole yet. Contracts see how far the text is read
+/// (`Progress`). What is answered is said of every text that a parser with this progress may have
+/// taken (`Took`), so it doesn't depend on how the text was cut.
 #[derive(Debug, Drop)]
 pub struct PieceParser {
     text: Growing,
@@ -34,7 +37,8 @@ pub struct PieceParser {
     fault: Option<ParseFault>,
     // how far the change or the header that waits was gone over
     spot: Spot,
-    // so many bytes at least are lacking of it, so that fewer are taken without reading them; 0 where nothing is known
+    // so many bytes at least are lacking of it, so that fewer are taken without reading them; 0
+    // where nothing is known
     lacking: usize,
     // whether that is said of bytes other than zero only, since the header's name waits for one
     header: bool,
@@ -52,7 +56,12 @@ impl Model for PieceParser {
 
     ghost coded = { progress_code };
 
-    ghost view = { λ p. record { sections = p.text.0; pending = p.text.1; offset = p.offset; fault = p.fault } };
+    ghost view = { λ p. record {
+      sections = p.text.0;
+      pending = p.text.1;
+      offset = p.offset;
+      fault = p.fault;
+    } };
 
     ghost invariant = { λ p. (p.offset + p.lacking ≤ most_bytes)
         × KeepsSpot (last_flags p.text.0) p.text.1 p.spot
@@ -83,11 +92,12 @@ impl PieceParser {
         }
     }
 
-    /// Takes the next piece. It is a fault from the piece on that holds the fault's byte, and then at every call,
-    /// which takes nothing more; that the text isn't whole yet is none. `Memory` leaves the parser as it was, and doesn't come
-    /// behind a fault.
+    /// Takes the next piece. It is a fault from the piece on that holds the fault's byte, and then
+    /// at every call, which takes nothing more; that the text isn't whole yet is none. `Memory`
+    /// leaves the parser as it was, and doesn't come behind a fault.
     pub fn feed(&mut self, alloc: Global, piece: &[u8]) -> Result<(), ParseError>
-        // The piece is read behind what was read before, unless the text has a fault that lasts or memory runs out.
+        // The piece is read behind what was read before, unless the text has a fault that lasts or
+        // memory runs out.
         ensures fed { FeedAnswers result self.old piece.now self.new }
         // What is told is the fault of the text, and no more bytes mend it.
         ensures told { (text : List ℕ) → Took self.old text
@@ -95,7 +105,8 @@ impl PieceParser {
         // Where none is told, the text goes on.
         ensures going { (text : List ℕ) → Took self.old text
             → OnOk result (IsFaultless (text ++ piece.now)) }
-        // The text is taken with the piece, behind a fault too; where memory runs out it is taken alone.
+        // The text is taken with the piece, behind a fault too; where memory runs out it is taken
+        // alone.
         ensures taken { (text : List ℕ) → Took self.old text
             → TakesPiece result text piece.now self.new }
         // A fault that was told before is told again.
@@ -108,8 +119,9 @@ impl PieceParser {
         self.fed(alloc, piece)
     }
 
-    // The same, as the answer is determined by the progress. Bytes of a value whose length is known are only put behind those that
-    // wait, and so are those of a name; that is all that most calls do where pieces are short.
+    // The same, as the answer is determined by the progress. Bytes of a value whose length is known
+    // are only put behind those that wait, and so are those of a name; that is all that most calls
+    // do where pieces are short.
     #[inline(always)]
     fn fed(&mut self, alloc: Global, piece: &[u8]) -> Result<(), ParseError>
         ensures fed { FeedAnswers result self.old piece.now self.new }
@@ -198,8 +210,8 @@ impl PieceParser {
         ParseError::Fault(fault)
     }
 
-    /// The changeset that the bytes taken so far spell, or their fault. It changes nothing and takes no memory, so
-    /// that feeding may go on.
+    /// The changeset that the bytes taken so far spell, or their fault. It changes nothing and
+    /// takes no memory, so that feeding may go on.
     pub fn finish(&self) -> Result<&Changeset, ParseFault>
         ensures found { (text : List ℕ) → Took self.now text
             → IfOk result (λ changeset. Spells text changeset.now) }

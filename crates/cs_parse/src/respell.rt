@@ -10,7 +10,8 @@ ghost use Rattle.cs_parse.specs.Progress.{last_flags};
 use cs_model::{Changes, Section};
 use std::alloc::{AllocError, Global};
 
-// Adds bytes, and behind them those that stand from `from` on once more. Where memory runs out it may have added some.
+// Adds bytes, and behind them those that stand from `from` on once more. Where memory runs out it
+// may have added some.
 fn add_behind(bytes: &mut Vec<u8>, by: &[u8], from: usize) -> Result<(), AllocError>
     requires { from ≤ length bytes.old.items }
     ensures ok { OnOk result (bytes.new.items
@@ -22,7 +23,8 @@ fn add_behind(bytes: &mut Vec<u8>, by: &[u8], from: usize) -> Result<(), AllocEr
     bytes.extend_from_within(from..all)
 }
 
-// Puts other bytes in the place of the `len` from `start` on. What stands behind them is moved with them, once.
+// Puts other bytes in the place of the `len` from `start` on. What stands behind them is moved with
+// them, once.
 fn replace_part(bytes: &mut Vec<u8>, start: usize, len: usize, by: &[u8]) -> Result<(), AllocError>
     requires { start + len ≤ length bytes.old.items }
     ensures ok { OnOk result (bytes.new.items
@@ -41,7 +43,8 @@ fn replace_part(bytes: &mut Vec<u8>, start: usize, len: usize, by: &[u8]) -> Res
     Ok(())
 }
 
-// Gives the `len` bytes from `start` on, which say changes, their canonical form, and answers how many they are then.
+// Gives the `len` bytes from `start` on, which say changes, their canonical form, and answers how
+// many they are then.
 fn respell(
     alloc: Global,
     bytes: &mut Vec<u8>,
@@ -56,7 +59,8 @@ fn respell(
         ++ (changes_bytes (unpacked_changes columns (take len (drop start bytes.old.items)))
         ++ drop (start + len) bytes.old.items)) }
     ensures own { IfOk result (λ own. own
-        ≡ length (changes_bytes (unpacked_changes columns (take len (drop start bytes.old.items))))) }
+        ≡ length (changes_bytes (unpacked_changes columns
+        (take len (drop start bytes.old.items))))) }
     ensures err { OnErr result (bytes.new.items ≡ bytes.old.items) }
 {
     let mut changes = Changes::new(alloc, columns);
@@ -67,8 +71,9 @@ fn respell(
     Ok(changes.bytes().len())
 }
 
-/// Sees to it that the `len` bytes from `kept` on, the changes of the last one of these sections, have their canonical form, and
-/// answers how many they are then. Where they have it nothing is copied. An `Err` leaves them as they were.
+/// Sees to it that the `len` bytes from `kept` on, the changes of the last one of these sections,
+/// have their canonical form, and answers how many they are then. Where they have it nothing is
+/// copied. An `Err` leaves them as they were.
 pub fn settle(
     alloc: Global,
     sections: &[Section],
@@ -79,7 +84,8 @@ pub fn settle(
     canonical: bool,
 ) -> Result<usize, AllocError>
     requires inside { kept + len ≤ length bytes.old.items }
-    requires joins { JoinsSection (last_flags sections.now) (take len (drop kept bytes.old.items)) count canonical }
+    requires joins { JoinsSection (last_flags sections.now) (take len (drop kept bytes.old.items))
+        count canonical }
     ensures ok { IfOk result (λ own.
         SettledBytes (last_flags sections.now) kept len own bytes.old.items bytes.new.items) }
     ensures err { OnErr result (bytes.new.items ≡ bytes.old.items) }

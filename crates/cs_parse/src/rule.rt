@@ -33,7 +33,8 @@ pub fn rule_by_flag(flag: u8, outside: FieldRule) -> FieldRule
     if flag == 0 { outside } else { FieldRule::Key }
 }
 
-/// A column's rule in an UPDATE's new record, by its key byte and whether its field in the old record has a value.
+/// A column's rule in an UPDATE's new record, by its key byte and whether its field in the old
+/// record has a value.
 pub fn rule_by_old(flag: u8, has_value: bool) -> FieldRule
     ensures { (byte : ℕ) (old : Field) → is_defined old ≡ has_value
         → type_refusal (rule_of result) byte ≡ type_refusal (new_rule flag old) byte }

@@ -4,7 +4,8 @@ ghost use Rattle.std.specs.Prelude.{◌≡◌, ◌<◌, [], IfOk, length};
 ghost use Rattle.cs_parse.specs.Count.{counted, changes_in};
 ghost use Rattle.cs_parse.specs.Front.{NextSection};
 ghost use Rattle.cs_parse.specs.Progress.{read_on};
-ghost use Rattle.cs_parse.specs.Reading.{Reads, shape_at, section_at, is_empty, many_at, sections_at};
+ghost use Rattle.cs_parse.specs.Reading.{Reads, shape_at, section_at, is_empty, many_at};
+ghost use Rattle.cs_parse.specs.Reading.{sections_at};
 ghost use Rattle.cs_parse.specs.Seen.{shape_seen};
 
 use crate::change::{changes_counted, changes_of};
@@ -14,8 +15,8 @@ use crate::stop::ParseRefusal;
 use cs_model::Section;
 use std::alloc::{AllocError, Global};
 
-// A section's shape, where it stands. The section before it ends only where a `T` follows, so another first byte is the
-// text's.
+// A section's shape, where it stands. The section before it ends only where a `T` follows, so
+// another first byte is the text's.
 #[tactic(auto, unfolding(crate::specs::Reading::shape_at))]
 fn shape_in(bytes: &[u8]) -> Result<(ShapeRef, &[u8]), ParseRefusal>
     ensures { Reads (λ x. (shape_seen x.0, x.1.now)) result (shape_at bytes.now) }
@@ -37,8 +38,8 @@ fn shape_in(bytes: &[u8]) -> Result<(ShapeRef, &[u8]), ParseRefusal>
     })
 }
 
-// Adds the next section, as far as it is whole: where its header is, with as many of its changes as are. The bytes behind it,
-// and why it isn't read to its end.
+// Adds the next section, as far as it is whole: where its header is, with as many of its changes as
+// are. The bytes behind it, and why it isn't read to its end.
 fn next_section<'a>(
     alloc: Global,
     sections: &mut Vec<Section>,
@@ -57,7 +58,8 @@ fn next_section<'a>(
     Ok((rest, why))
 }
 
-/// The sections of a text, the last one as far as it is whole, the bytes behind them, and why no more is read.
+/// The sections of a text, the last one as far as it is whole, the bytes behind them, and why no
+/// more is read.
 pub fn whole_sections(
     alloc: Global,
     bytes: &[u8],

@@ -1,5 +1,5 @@
-//! How far a change that isn't whole was gone over, so that more bytes behind it are read from there on and not from its front.
-//! `name` does the same for headers.
+//! How far a change that isn't whole was gone over, so that more bytes behind it are read from
+//! there on and not from its front. `name` does the same for headers.
 
 ghost use Rattle.std.specs.Prelude.{◌≡◌, ◌≤◌, ◌<◌, ◌++◌, ℕ, List, length, Ok, Err, map, IfSome};
 ghost use Rattle.cs_model.specs.Bytes.{AreBytes};
@@ -9,7 +9,8 @@ ghost use Rattle.cs_model.specs.Rule.{old_rule};
 ghost use Rattle.cs_parse.specs.FieldRules.{rule_of, column_rule};
 ghost use Rattle.cs_parse.specs.Lack.{place_of, StaysAt};
 ghost use Rattle.cs_parse.specs.Reading.{record_at, change_at};
-ghost use Rattle.cs_parse.specs.Spot.{Halts, HaltsNew, IsBack, InFirst, PassedFirst, SpotInNew, IsSpot, StaysShort};
+ghost use Rattle.cs_parse.specs.Spot.{Halts, HaltsNew, IsBack, InFirst, PassedFirst, SpotInNew};
+ghost use Rattle.cs_parse.specs.Spot.{IsSpot, StaysShort};
 ghost use Rattle.cs_parse.specs.declared.spot.Spot.TheVariants.{Start, Row, Old};
 ghost use Rattle.cs_parse.specs.declared.stop.ParseRefusal.TheVariants.{Short};
 
@@ -18,8 +19,9 @@ use crate::lack::field_lacks;
 use crate::rule::{FieldRule, rule_by_flag, rule_by_old};
 use crate::stop::ParseRefusal;
 
-/// The first field of a change that isn't whole: `fields` of its record stand before it, and it begins at `at`. Of a header it is
-/// the name. Places are counted from the first byte of the change or the header.
+/// The first field of a change that isn't whole: `fields` of its record stand before it, and it
+/// begins at `at`. Of a header it is the name. Places are counted from the first byte of the change
+/// or the header.
 #[derive(Clone, Copy, Debug)]
 pub enum Spot {
     /// Nothing was gone over.
@@ -40,7 +42,8 @@ pub enum Spot {
         at: usize,
         old: usize,
     },
-    /// In a header's name, which begins at `at`; so many bytes of it are there, none of which ends it.
+    /// In a header's name, which begins at `at`; so many bytes of it are there, none of which ends
+    /// it.
     Name {
         at: usize,
         letters: usize,
@@ -56,8 +59,8 @@ impl Spot {
     }
 }
 
-// The fields of a record that are whole, where the columns outside the key have this rule: how many, and the bytes behind
-// them. Nothing where a byte of the next one is wrong.
+// The fields of a record that are whole, where the columns outside the key have this rule: how
+// many, and the bytes behind them. Nothing where a byte of the next one is wrong.
 fn pass_fields<'a>(outside: FieldRule, flags: &[u8], bytes: &'a [u8]) -> Option<(usize, &'a [u8])>
     ensures { IfSome result (λ x.
         Halts (column_rule (rule_of outside)) flags.now bytes.now x.0 x.1.now) }
@@ -73,8 +76,9 @@ fn pass_fields<'a>(outside: FieldRule, flags: &[u8], bytes: &'a [u8]) -> Option<
     Some((flags.len(), rest))
 }
 
-// The same of an UPDATE's new record, and nothing where all its fields are whole. Its rules come from the old one, which is
-// read again from `old` on, field by field beside it. The old record's bytes from the next column on stand before the new one's.
+// The same of an UPDATE's new record, and nothing where all its fields are whole. Its rules come
+// from the old one, which is read again from `old` on, field by field beside it. The old record's
+// bytes from the next column on stand before the new one's.
 fn pass_new<'a>(flags: &[u8], old: &'a [u8], bytes: &'a [u8]) -> Option<(usize, &'a [u8], &'a [u8])>
     ensures back { IfSome result (λ x. IsBack old.now x.1.now) }
     ensures halts { (before : List Field) (left : List ℕ)
@@ -98,7 +102,8 @@ fn pass_new<'a>(flags: &[u8], old: &'a [u8], bytes: &'a [u8]) -> Option<(usize, 
     None
 }
 
-// Goes on in the first record of a change: how many of its fields are whole, and where the next one begins.
+// Goes on in the first record of a change: how many of its fields are whole, and where the next one
+// begins.
 fn pass_first(
     outside: FieldRule,
     flags: &[u8],
@@ -109,7 +114,8 @@ fn pass_first(
     requires columns { fields ≤ length flags.now }
     requires within { at ≤ length bytes.now }
     ensures { (op : Op) → InFirst op (column_rule (rule_of outside)) flags.now bytes.now fields at
-        → IfSome result (λ x. PassedFirst op (column_rule (rule_of outside)) flags.now bytes.now x.0 x.1) }
+        → IfSome result (λ x. PassedFirst op (column_rule (rule_of outside)) flags.now bytes.now x.0
+        x.1) }
 {
     let (_, columns) = flags.split_at(fields);
     let (_, front) = bytes.split_at(at);
@@ -186,7 +192,8 @@ fn next_spot(flags: &[u8], bytes: &[u8], spot: Spot) -> Option<Spot>
     }
 }
 
-// How many bytes at least are lacking of the field at a spot. Where the spot is at no field that is one.
+// How many bytes at least are lacking of the field at a spot. Where the spot is at no field that is
+// one.
 fn spot_lacks(bytes: &[u8], spot: Spot) -> usize
     requires { place_of spot ≤ length bytes.now }
     ensures some { 0 < result }
@@ -201,9 +208,10 @@ fn spot_lacks(bytes: &[u8], spot: Spot) -> usize
     }
 }
 
-/// How many bytes at least are lacking of a change that still ends too early, of which these are there, none or more. The spot is moved
-/// to the first field that isn't whole, and stays right with any bytes behind these. It takes time in line with the fields that are
-/// passed. Where it is 0, the change is whole or a byte is wrong, and nothing is known of the spot.
+/// How many bytes at least are lacking of a change that still ends too early, of which these are
+/// there, none or more. The spot is moved to the first field that isn't whole, and stays right with
+/// any bytes behind these. It takes time in line with the fields that are passed. Where it is 0,
+/// the change is whole or a byte is wrong, and nothing is known of the spot.
 pub fn still_short(flags: &[u8], bytes: &[u8], spot: &mut Spot) -> usize
     requires { IsSpot flags.now bytes.now spot.old }
     ensures short { (more : List ℕ) → length more < result

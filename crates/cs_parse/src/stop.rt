@@ -7,7 +7,7 @@ use crate::fault::FaultKind;
 pub enum ParseRefusal {
     /// The bytes end before the value is whole.
     Short,
-    /// A byte can't stand in its place. The place is kept as the number of bytes from that byte to the end, so that
-    /// no reader needs to know where its bytes stand in the text.
+    /// A byte can't stand in its place. The place is kept as the number of bytes from that byte to
+    /// the end, so that no reader needs to know where its bytes stand in the text.
     Bad { left: usize, kind: FaultKind },
 }

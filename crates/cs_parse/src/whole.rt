@@ -8,7 +8,8 @@ ghost use Rattle.cs_model.specs.Text.{Spells};
 ghost use Rattle.cs_model.specs.Changeset.{most_bytes};
 ghost use Rattle.cs_parse.specs.Answer.{IsRead, ParseAnswers, ReportsFault};
 ghost use Rattle.cs_parse.specs.Count.{changes_in, counted_answer, HasChangeCount};
-ghost use Rattle.cs_parse.specs.Reading.{answer_of, fault_of, sections_at, whole_answer, overlong_answer};
+ghost use Rattle.cs_parse.specs.Reading.{answer_of, fault_of, sections_at, whole_answer};
+ghost use Rattle.cs_parse.specs.Reading.{overlong_answer};
 
 use crate::fault::{FaultKind, ParseError, ParseFault};
 use crate::section::{sections_counted, whole_sections};
@@ -19,7 +20,8 @@ use std::alloc::Global;
 /// The most bytes of a text.
 pub const MOST_BYTES: usize = 16_777_216;
 
-// The fault of a text of which the first `len` bytes are read, and what it is when they end too early.
+// The fault of a text of which the first `len` bytes are read, and what it is when they end too
+// early.
 fn fault_from(refusal: ParseRefusal, len: usize, ended: FaultKind) -> ParseFault
     ensures { result ≡ fault_of len ended refusal }
 {
@@ -83,10 +85,11 @@ fn read(alloc: Global, text: &[u8]) -> Result<Seq<Section>, ParseError>
     whole_of(alloc, text)
 }
 
-/// The changeset that `text` spells; else the text's one fault. `Memory` comes only where the text spells a changeset, since
-/// a fault is found without memory. Whatever the answer, nothing is changed.
-/// The fault is the first byte after which no text can be that of a changeset, and what is wrong with it there. Of a
-/// text of more than 16,777,216 bytes only so many are read: it is `TooLong`, unless its fault stands among them.
+/// The changeset that `text` spells; else the text's one fault. `Memory` comes only where the text
+/// spells a changeset, since a fault is found without memory. Whatever the answer, nothing is
+/// changed. The fault is the first byte after which no text can be that of a changeset, and what is
+/// wrong with it there. Of a text of more than 16,777,216 bytes only so many are read: it is
+/// `TooLong`, unless its fault stands among them.
 pub fn parse(alloc: Global, text: &[u8]) -> Result<Changeset, ParseError>
     // What is read is spelled so.
     ensures found { IfOk result (λ changeset. Spells text.now changeset) }
@@ -119,8 +122,9 @@ fn counted(text: &[u8]) -> Result<usize, ParseFault>
     }
 }
 
-/// How many changes `text` spells; else the text's one fault, as `parse` tells it. It takes no memory, since each value is
-/// read where it stands and left behind: the way to check a text of which nothing is kept.
+/// How many changes `text` spells; else the text's one fault, as `parse` tells it. It takes no
+/// memory, since each value is read where it stands and left behind: the way to check a text of
+/// which nothing is kept.
 pub fn count_changes(text: &[u8]) -> Result<usize, ParseFault>
     // What is counted is spelled so.
     ensures found { IfOk result (λ count. HasChangeCount text.now count) }

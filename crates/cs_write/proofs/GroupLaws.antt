@@ -1,5 +1,6 @@
 -- One section more among groups.
-use Rattle.std.proofs.Common.{◌≡◌, ℕ, zero, suc, ◌<◌, Bool, true, false, cond, inl, inr, List, [], ◌∷◌, ◌++◌, length, get_or, Option, Some, None, slice_get, is_some, refl, sym, ap, subst, ◌∙◌, arith, Bor}
+use Rattle.std.proofs.Common.{◌≡◌, ℕ, zero, suc, ◌<◌, Bool, true, false, cond, inl, inr, List, [], ◌∷◌, ◌++◌, length}
+use Rattle.std.proofs.Common.{get_or, Option, Some, None, slice_get, is_some, refl, sym, ap, subst, ◌∙◌, arith, Bor}
 use Rattle.std.specs.Global.{Vec}
 use Rattle.std.specs.Map.{keys_of, values_of, lookup}
 use Rattle.std.proofs.lemmas.Bool.{cases_Bool, false≢true, or_from, or_left, or_right}
@@ -16,30 +17,43 @@ use Rattle.cs_write.proofs.Shapes.{shape_is, flip}
 
 -- ---- in the map
 
-pub added_at : (es : List (Shape × Vec (Bor Section))) (i : ℕ) (s : Bor Section) (d : Shape) (old new : Vec (Bor Section)) → i < length es → same_shape s.now.shape (get_or (keys_of es) i d) ≡ true
-    → ((k : ℕ) → k < i → same_shape s.now.shape (get_or (keys_of es) k d) ≡ false) → slice_get (values_of es) i ≡ Some old → new.items ≡ old.items ++ s ∷ []
+pub added_at : (es : List (Shape × Vec (Bor Section))) (i : ℕ) (s : Bor Section) (d : Shape)
+    (old new : Vec (Bor Section)) → i < length es → same_shape s.now.shape (get_or (keys_of es) i d) ≡ true
+    → ((k : ℕ) → k < i → same_shape s.now.shape (get_or (keys_of es) k d) ≡ false) → slice_get (values_of es) i
+    ≡ Some old → new.items ≡ old.items ++ s ∷ []
     → seen (set_value_at es i new) ≡ added (seen es) s.now
 added_at [] i s d old new lt hit before at is = absurd (omega (arith, lt))
 added_at (e ∷ es) zero s d old new lt hit before at is =
     let same : e.1 ≡ old = cc in
-    let items : sections_of new.items ≡ sections_of e.1.items ++ s.now ∷ [] = ap sections_of is ∙ map-append (λ x. x.now) old.items (s ∷ []) ∙ ap (λ (v : Vec (Bor Section)). sections_of v.items ++ s.now ∷ []) (sym same) in
-    ap (λ (g : List Section). (e.0, g) ∷ seen es) items ∙ ap (λ b. cond b ((e.0, sections_of e.1.items ++ s.now ∷ []) ∷ seen es) ((e.0, sections_of e.1.items) ∷ added (seen es) s.now)) (sym hit)
+    let items : sections_of new.items ≡ sections_of e.1.items ++ s.now ∷ [] = ap sections_of is
+    ∙ map-append (λ x. x.now) old.items (s ∷ []) ∙ ap (λ (v : Vec (Bor Section)). sections_of v.items ++ s.now ∷ [])
+    (sym same) in
+    ap (λ (g : List Section). (e.0, g) ∷ seen es) items
+    ∙ ap (λ b. cond b ((e.0, sections_of e.1.items ++ s.now ∷ []) ∷ seen es)
+    ((e.0, sections_of e.1.items) ∷ added (seen es) s.now)) (sym hit)
 added_at (e ∷ es) (suc i) s d old new lt hit before at is =
     let rest = added_at es i s d old new (omega arith) hit (λ k less. before (suc k) (omega arith)) at is in
     let first : same_shape s.now.shape e.0 ≡ false = before 0 (omega arith) in
-    ap (λ gs. (e.0, sections_of e.1.items) ∷ gs) rest ∙ ap (λ b. cond b ((e.0, sections_of e.1.items ++ s.now ∷ []) ∷ seen es) ((e.0, sections_of e.1.items) ∷ added (seen es) s.now)) (sym first)
+    ap (λ gs. (e.0, sections_of e.1.items) ∷ gs) rest
+    ∙ ap (λ b. cond b ((e.0, sections_of e.1.items ++ s.now ∷ []) ∷ seen es)
+    ((e.0, sections_of e.1.items) ∷ added (seen es) s.now)) (sym first)
 
-pub added_new : (es : List (Shape × Vec (Bor Section))) (s : Bor Section) (new : Vec (Bor Section)) → lookup (same_shape s.now.shape) es ≡ None → new.items ≡ s ∷ []
+pub added_new : (es : List (Shape × Vec (Bor Section))) (s : Bor Section) (new : Vec (Bor Section))
+    → lookup (same_shape s.now.shape) es ≡ None → new.items ≡ s ∷ []
     → seen (es ++ (s.now.shape, new) ∷ []) ≡ added (seen es) s.now
 added_new [] s new none is = ap (λ (v : List (Bor Section)). (s.now.shape, sections_of v) ∷ []) is
 added_new (e ∷ es) s new none is =
     elim (cases_Bool (same_shape s.now.shape e.0)) [
       | inl hit ↦
-          let found : lookup (same_shape s.now.shape) (e ∷ es) ≡ Some e.1 = ap (λ b. cond b (Some e.1) (lookup (same_shape s.now.shape) es)) hit in
+          let found : lookup (same_shape s.now.shape) (e ∷ es) ≡ Some e.1 =
+          ap (λ b. cond b (Some e.1) (lookup (same_shape s.now.shape) es)) hit in
           absurd cc
       | inr other ↦
-          let left : lookup (same_shape s.now.shape) es ≡ None = ap (λ b. cond b (Some e.1) (lookup (same_shape s.now.shape) es)) (sym other) ∙ none in
-          ap (λ gs. (e.0, sections_of e.1.items) ∷ gs) (added_new es s new left is) ∙ ap (λ b. cond b ((e.0, sections_of e.1.items ++ s.now ∷ []) ∷ seen es) ((e.0, sections_of e.1.items) ∷ added (seen es) s.now)) (sym other)
+          let left : lookup (same_shape s.now.shape) es ≡ None =
+          ap (λ b. cond b (Some e.1) (lookup (same_shape s.now.shape) es)) (sym other) ∙ none in
+          ap (λ gs. (e.0, sections_of e.1.items) ∷ gs) (added_new es s new left is)
+          ∙ ap (λ b. cond b ((e.0, sections_of e.1.items ++ s.now ∷ []) ∷ seen es)
+          ((e.0, sections_of e.1.items) ∷ added (seen es) s.now)) (sym other)
     ]
 
 -- a look-up that finds nothing
@@ -49,33 +63,44 @@ unfound (Some x) h = absurd (false≢true (sym h))
 
 -- ---- in the list
 
-group_with_more : (shape : Shape) (sections : List Section) (x : Section) → same_shape x.shape shape ≡ true → with_shape shape (sections ++ x ∷ []) ≡ with_shape shape sections ++ x ∷ []
-group_with_more shape sections x hit = filter-append (λ s. same_shape s.shape shape) sections (x ∷ []) ∙ ap (λ b. with_shape shape sections ++ cond b (x ∷ []) []) hit
+group_with_more : (shape : Shape) (sections : List Section) (x : Section) → same_shape x.shape shape ≡ true
+    → with_shape shape (sections ++ x ∷ []) ≡ with_shape shape sections ++ x ∷ []
+group_with_more shape sections x hit = filter-append (λ s. same_shape s.shape shape) sections (x ∷ [])
+    ∙ ap (λ b. with_shape shape sections ++ cond b (x ∷ []) []) hit
 
-with_same : (shape : Shape) (sections : List Section) (x : Section) → same_shape x.shape shape ≡ false → with_shape shape (sections ++ x ∷ []) ≡ with_shape shape sections
-with_same shape sections x other = filter-append (λ s. same_shape s.shape shape) sections (x ∷ []) ∙ ap (λ b. with_shape shape sections ++ cond b (x ∷ []) []) other ∙ append-nil (with_shape shape sections)
+with_same : (shape : Shape) (sections : List Section) (x : Section) → same_shape x.shape shape ≡ false
+    → with_shape shape (sections ++ x ∷ []) ≡ with_shape shape sections
+with_same shape sections x other = filter-append (λ s. same_shape s.shape shape) sections (x ∷ [])
+    ∙ ap (λ b. with_shape shape sections ++ cond b (x ∷ []) []) other ∙ append-nil (with_shape shape sections)
 
 -- how the list begins
 abbrev pub group_begun : Bool → List Shape → Section → List Section → List Group
-group_begun b earlier s ss = cond b (by_shape earlier ss) ((s.shape, s ∷ with_shape s.shape ss) ∷ by_shape (s.shape ∷ earlier) ss)
+group_begun b earlier s ss =
+    cond b (by_shape earlier ss) ((s.shape, s ∷ with_shape s.shape ss) ∷ by_shape (s.shape ∷ earlier) ss)
 
-pub by_shape-cons : (earlier : List Shape) (s : Section) (ss : List Section) (b : Bool) → has_shape earlier s.shape ≡ b → by_shape earlier (s ∷ ss) ≡ group_begun b earlier s ss
+pub by_shape-cons : (earlier : List Shape) (s : Section) (ss : List Section) (b : Bool) → has_shape earlier s.shape ≡ b
+    → by_shape earlier (s ∷ ss) ≡ group_begun b earlier s ss
 unfolding by_shape
 by_shape-cons earlier s ss b h = ap (λ w. group_begun w earlier s ss) h
 
 -- a section whose shape stood earlier adds nothing
-by_shape-old : (earlier : List Shape) (ss : List Section) (x : Section) → has_shape earlier x.shape ≡ true → by_shape earlier (ss ++ x ∷ []) ≡ by_shape earlier ss
+by_shape-old : (earlier : List Shape) (ss : List Section) (x : Section) → has_shape earlier x.shape ≡ true
+    → by_shape earlier (ss ++ x ∷ []) ≡ by_shape earlier ss
 by_shape-old earlier [] x h = by_shape-cons earlier x [] true h
 by_shape-old earlier (s ∷ ss) x h =
     elim (cases_Bool (has_shape earlier s.shape)) [
-      | inl old ↦ by_shape-cons earlier s (ss ++ x ∷ []) true old ∙ by_shape-old earlier ss x h ∙ sym (by_shape-cons earlier s ss true old)
+      | inl old ↦ by_shape-cons earlier s (ss ++ x ∷ []) true old ∙ by_shape-old earlier ss x h
+          ∙ sym (by_shape-cons earlier s ss true old)
       | inr fresh ↦
           let other : same_shape x.shape s.shape ≡ false = elim (cases_Bool (same_shape x.shape s.shape)) [
-            | inl hit ↦ absurd (false≢true (sym fresh ∙ subst (λ w. has_shape earlier w ≡ true) (shape_is x.shape s.shape hit) h))
+            | inl hit ↦ absurd
+                (false≢true (sym fresh ∙ subst (λ w. has_shape earlier w ≡ true) (shape_is x.shape s.shape hit) h))
             | inr o ↦ o
           ] in
           by_shape-cons earlier s (ss ++ x ∷ []) false fresh
-          ∙ (λ i. (s.shape, s ∷ with_same s.shape ss x other i) ∷ by_shape-old (s.shape ∷ earlier) ss x (or_right (same_shape s.shape x.shape) (has_shape earlier x.shape) h) i)
+          ∙ (λ i. (s.shape, s ∷ with_same s.shape ss x other i)
+          ∷ by_shape-old (s.shape ∷ earlier) ss x
+          (or_right (same_shape s.shape x.shape) (has_shape earlier x.shape) h) i)
           ∙ sym (by_shape-cons earlier s ss false fresh)
     ]
 
@@ -87,21 +112,29 @@ unfolding by_shape
 only earlier x = refl
 
 -- another section joins its group, or begins one
-pub by_shape-more : (earlier : List Shape) (ss : List Section) (x : Section) → has_shape earlier x.shape ≡ false → by_shape earlier (ss ++ x ∷ []) ≡ added (by_shape earlier ss) x
+pub by_shape-more : (earlier : List Shape) (ss : List Section) (x : Section) → has_shape earlier x.shape ≡ false
+    → by_shape earlier (ss ++ x ∷ []) ≡ added (by_shape earlier ss) x
 by_shape-more earlier [] x h = by_shape-cons earlier x [] false h ∙ only earlier x
 by_shape-more earlier (s ∷ ss) x h =
     elim (cases_Bool (has_shape earlier s.shape)) [
-      | inl old ↦ by_shape-cons earlier s (ss ++ x ∷ []) true old ∙ by_shape-more earlier ss x h ∙ ap (λ g. added g x) (sym (by_shape-cons earlier s ss true old))
+      | inl old ↦ by_shape-cons earlier s (ss ++ x ∷ []) true old ∙ by_shape-more earlier ss x h
+          ∙ ap (λ g. added g x) (sym (by_shape-cons earlier s ss true old))
       | inr fresh ↦ elim (cases_Bool (same_shape x.shape s.shape)) [
         | inl hit ↦
             by_shape-cons earlier s (ss ++ x ∷ []) false fresh
-            ∙ (λ i. (s.shape, s ∷ group_with_more s.shape ss x hit i) ∷ by_shape-old (s.shape ∷ earlier) ss x (or_left (same_shape s.shape x.shape) (has_shape earlier x.shape) (flip x.shape s.shape true hit)) i)
+            ∙ (λ i. (s.shape, s ∷ group_with_more s.shape ss x hit i)
+            ∷ by_shape-old (s.shape ∷ earlier) ss x
+            (or_left (same_shape s.shape x.shape) (has_shape earlier x.shape) (flip x.shape s.shape true hit)) i)
             ∙ ap (λ b. group_joins b (s.shape, s ∷ with_shape s.shape ss) (by_shape (s.shape ∷ earlier) ss) x) (sym hit)
             ∙ ap (λ g. added g x) (sym (by_shape-cons earlier s ss false fresh))
         | inr other ↦
             by_shape-cons earlier s (ss ++ x ∷ []) false fresh
-            ∙ (λ i. (s.shape, s ∷ with_same s.shape ss x other i) ∷ by_shape-more (s.shape ∷ earlier) ss x (or_from (same_shape s.shape x.shape) (has_shape earlier x.shape) (flip x.shape s.shape false other) h) i)
-            ∙ ap (λ b. group_joins b (s.shape, s ∷ with_shape s.shape ss) (by_shape (s.shape ∷ earlier) ss) x) (sym other)
+            ∙ (λ i. (s.shape, s ∷ with_same s.shape ss x other i)
+            ∷ by_shape-more (s.shape ∷ earlier) ss x
+            (or_from (same_shape s.shape x.shape) (has_shape earlier x.shape) (flip x.shape s.shape false other) h)
+            i)
+            ∙ ap (λ b. group_joins b (s.shape, s ∷ with_shape s.shape ss) (by_shape (s.shape ∷ earlier) ss) x)
+            (sym other)
             ∙ ap (λ g. added g x) (sym (by_shape-cons earlier s ss false fresh))
       ]
     ]

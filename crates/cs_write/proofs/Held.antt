@@ -1,5 +1,6 @@
 -- Sums of lengths, where a `usize` holds them.
-use Rattle.std.proofs.Common.{◌≡◌, ℕ, ◌+◌, ◌^◌, ◌<◌, ◌≤◌, ◌⊎◌, cond, ltb, Option, Some, None, SomeIff, inl, inr, refl, sym, ap, ◌∙◌, arith}
+use Rattle.std.proofs.Common.{◌≡◌, ℕ, ◌+◌, ◌^◌, ◌<◌, ◌≤◌, ◌⊎◌, cond, ltb, Option, Some, None, SomeIff, inl, inr, refl}
+use Rattle.std.proofs.Common.{sym, ap, ◌∙◌, arith}
 use Rattle.std.proofs.lemmas.Bool.{le-ltb, lt-ltb}
 use Rattle.std.proofs.str.Laws.{order}
 use Rattle.cs_write.specs.Lengths.{held}
@@ -46,6 +47,12 @@ pub held_ends : (len : Option ℕ) (rest whole : ℕ) → rest ≡ 0 → HeldCou
 held_ends len rest whole none h = h.is_front ∙ ap held (omega (arith, h.parts, none))
 
 -- a part more
-pub held_goes_on : (len part next : Option ℕ) (n before rest whole : ℕ) → ((m k : ℕ) → len ≡ held m → part ≡ held k → next ≡ held (m + k)) → part ≡ held n → HeldCounted len before whole → before ≡ n + rest → HeldCounted next rest whole
+pub held_goes_on : (len part next : Option ℕ) (n before rest whole : ℕ)
+    → ((m k : ℕ) → len ≡ held m → part ≡ held k → next ≡ held (m + k)) → part ≡ held n → HeldCounted len before whole
+    → before ≡ n + rest → HeldCounted next rest whole
 held_goes_on len part next n before rest whole together is_part h split =
-    record { front = h.front + n; is_front = together h.front n h.is_front is_part; parts = omega (arith, h.parts, split) }
+    record {
+      front = h.front + n;
+      is_front = together h.front n h.is_front is_part;
+      parts = omega (arith, h.parts, split);
+    }

@@ -16,7 +16,8 @@ pub laid_first : (text out : List ℕ) → laid 0 text out ≡ text ++ drop (len
 unfolding laid
 laid_first text out = grind (arith, common_steps)
 
-laid_more : (at : ℕ) (a b out : List ℕ) → at + length a ≤ length out → laid (at + length a) b (laid at a out) ≡ laid at (a ++ b) out
+laid_more : (at : ℕ) (a b out : List ℕ) → at + length a ≤ length out → laid (at + length a) b (laid at a out)
+    ≡ laid at (a ++ b) out
 unfolding laid
 laid_more at a b out room =
     let front = take at out in
@@ -24,15 +25,20 @@ laid_more at a b out room =
     let behind = drop n out in
     let all = front ++ (a ++ behind) in
     let parts : all ≡ (front ++ a) ++ behind = simp append_assoc in
-    let long : length (front ++ a) ≡ n = length-append front a ∙ ap (λ k. k + length a) (length-take-le at out (omega (arith, room))) in
+    let long : length (front ++ a) ≡ n = length-append front a
+    ∙ ap (λ k. k + length a) (length-take-le at out (omega (arith, room))) in
     let took : take n all ≡ front ++ a = ap (take n) parts ∙ take_at (front ++ a) behind n long in
     let left : drop n all ≡ behind = ap (drop n) parts ∙ drop_at (front ++ a) behind n long in
-    let rest : drop (n + length b) all ≡ drop (at + length (a ++ b)) out = sym (drop-drop (length b) n all) ∙ ap (drop (length b)) left ∙ drop-drop (length b) n out ∙ ap (λ k. drop k out) (omega (arith, length-append a b)) in
+    let rest : drop (n + length b) all ≡ drop (at + length (a ++ b)) out = sym (drop-drop (length b) n all)
+    ∙ ap (drop (length b)) left ∙ drop-drop (length b) n out
+    ∙ ap (λ k. drop k out) (omega (arith, length-append a b)) in
     (λ i. took i ++ (b ++ rest i)) ∙ simp append_assoc
 
 -- the same, of what two calls gave
-pub two : (at next : ℕ) (a b out between after : List ℕ) → at + length a ≤ length out → next ≡ at + length a → between ≡ laid at a out → after ≡ laid next b between → after ≡ laid at (a ++ b) out
-two at next a b out between after room is_next is_between is_after = is_after ∙ (λ i. laid (is_next i) b (is_between i)) ∙ laid_more at a b out room
+pub two : (at next : ℕ) (a b out between after : List ℕ) → at + length a ≤ length out → next ≡ at + length a → between
+    ≡ laid at a out → after ≡ laid next b between → after ≡ laid at (a ++ b) out
+two at next a b out between after room is_next is_between is_after = is_after ∙ (λ i. laid (is_next i) b (is_between i))
+    ∙ laid_more at a b out room
 
 -- So much of a text was laid that the rest, laid behind it, makes it whole.
 pub record LayingLaid (at : ℕ) (rest out : List ℕ) (start : ℕ) (whole before : List ℕ) : Type 0 where
@@ -41,15 +47,19 @@ pub record LayingLaid (at : ℕ) (rest out : List ℕ) (start : ℕ) (whole befo
   pub same : laid at rest out ≡ laid start whole before
 
 -- a text more
-pub laying_goes_on : (at next : ℕ) (text both rest out after : List ℕ) (start : ℕ) (whole before : List ℕ) → start + length whole ≤ length before → next ≡ at + length text → after ≡ laid at text out → LayingLaid at both out start whole before → both ≡ text ++ rest → LayingLaid next rest after start whole before
+pub laying_goes_on : (at next : ℕ) (text both rest out after : List ℕ) (start : ℕ) (whole before : List ℕ) → start
+    + length whole ≤ length before → next ≡ at + length text → after ≡ laid at text out
+    → LayingLaid at both out start whole before → both ≡ text ++ rest → LayingLaid next rest after start whole before
 laying_goes_on at next text both rest out after start whole before room is_next is_after h parts =
     let long = ap length parts ∙ length-append text rest in
     let within : at + length text ≤ length out = omega (arith, room, h.end, h.size, long) in
     record {
       end = omega (arith, h.end, is_next, long);
       size = ap length is_after ∙ laid_length at text out within ∙ h.size;
-      same = (λ i. laid (is_next i) rest (is_after i)) ∙ laid_more at text rest out within ∙ ap (λ t. laid at t out) (sym parts) ∙ h.same;
+      same = (λ i. laid (is_next i) rest (is_after i)) ∙ laid_more at text rest out within
+          ∙ ap (λ t. laid at t out) (sym parts) ∙ h.same;
     }
 
-pub laying_ends : (at : ℕ) (rest out : List ℕ) (start : ℕ) (whole before : List ℕ) → rest ≡ [] → LayingLaid at rest out start whole before → out ≡ laid start whole before
+pub laying_ends : (at : ℕ) (rest out : List ℕ) (start : ℕ) (whole before : List ℕ) → rest ≡ []
+    → LayingLaid at rest out start whole before → out ≡ laid start whole before
 laying_ends at rest out start whole before none h = sym (laid_none at out) ∙ ap (λ t. laid at t out) (sym none) ∙ h.same

@@ -13,13 +13,14 @@ Group = Shape × List Section
 abbrev pub with_shape : Shape → List Section → List Section
 with_shape shape sections = filter (λ section. same_shape section.shape shape) sections
 
--- The sections by their shapes: each shape at the place of its first section, with all sections that have it. Those
--- of an earlier shape are left out.
+-- The sections by their shapes: each shape at the place of its first section, with all sections
+-- that have it. Those of an earlier shape are left out.
 unfoldable pub by_shape : List Shape → List Section → List Group
 by_shape earlier [] = []
 by_shape earlier (section ∷ sections) =
     if has_shape earlier section.shape then by_shape earlier sections
-    else (section.shape, section ∷ with_shape section.shape sections) ∷ by_shape (section.shape ∷ earlier) sections
+    else (section.shape, section ∷ with_shape section.shape sections)
+    ∷ by_shape (section.shape ∷ earlier) sections
 
 -- one section for a group
 abbrev pub joined_section : Group → Section
@@ -28,8 +29,8 @@ joined_section group = record { shape = group.0; changes = all_changes group.1 }
 abbrev pub has_changes : Section → Bool
 has_changes section = nat_lt 0 (length section.changes)
 
--- The canonical form: one section for each shape, at the place of the first with that shape, with the changes of all
--- of them in order; and none without changes.
+-- The canonical form: one section for each shape, at the place of the first with that shape, with
+-- the changes of all of them in order; and none without changes.
 abbrev pub canon_of : List Group → List Section
 canon_of groups = filter has_changes (map joined_section groups)
 

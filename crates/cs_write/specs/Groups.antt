@@ -10,11 +10,13 @@ use Rattle.cs_write.specs.Text.{section_text}
 abbrev pub added : List Group → Section → List Group
 added [] section = (section.shape, section ∷ []) ∷ []
 added (group ∷ groups) section =
-    if same_shape section.shape group.0 then (group.0, group.1 ++ section ∷ []) ∷ groups else group ∷ added groups section
+    if same_shape section.shape group.0 then (group.0, group.1 ++ section ∷ []) ∷ groups else group
+    ∷ added groups section
 
 -- a group's text: nothing where it has no change
 abbrev pub group_text : Group → List ℕ
-group_text group = if has_changes (joined_section group) then section_text (joined_section group) else []
+group_text group = if has_changes (joined_section group) then section_text (joined_section group)
+    else []
 
 abbrev pub groups_text : List Group → List ℕ
 groups_text groups = flat_map group_text groups

@@ -11,14 +11,16 @@ IsCut max text (piece ∷ next ∷ more) =
     (length piece ≡ max) × ((rest : List ℕ) × (text ≡ piece ++ rest) × IsCut max rest (next ∷ more))
 
 -- All pieces of a text are taken, behind those taken before.
-pub record TakesAll (max : ℕ) (text : List ℕ) (taken_old taken_new failed_old failed_new : List (List ℕ)) : Type 0 where
+pub record TakesAll (max : ℕ) (text : List ℕ)
+    (taken_old taken_new failed_old failed_new : List (List ℕ)) : Type 0 where
   pub pieces : List (List ℕ)
   pub cut : IsCut max text pieces
   pub taken : taken_new ≡ taken_old ++ pieces
   pub failed : failed_new ≡ failed_old
 
 -- One piece of a text fails: those in front of it are taken, and none behind it was handed over.
-pub record FailsAt (max : ℕ) (text : List ℕ) (taken_old taken_new failed_old failed_new : List (List ℕ)) : Type 0 where
+pub record FailsAt (max : ℕ) (text : List ℕ)
+    (taken_old taken_new failed_old failed_new : List (List ℕ)) : Type 0 where
   pub front : List (List ℕ)
   pub piece : List ℕ
   pub back : List (List ℕ)
@@ -27,7 +29,11 @@ pub record FailsAt (max : ℕ) (text : List ℕ) (taken_old taken_new failed_old
   pub failed : failed_new ≡ failed_old ++ piece ∷ []
 
 -- What a call that puts a text in pieces of so many bytes hands to its sink, by what it answers.
-abbrev pub Puts : Result (Unit {0}) WriteError → ℕ → List ℕ → List (List ℕ) → List (List ℕ) → List (List ℕ) → List (List ℕ) → Type 0
-Puts (Ok _) max text taken_old taken_new failed_old failed_new = TakesAll max text taken_old taken_new failed_old failed_new
-Puts (Err Sink) max text taken_old taken_new failed_old failed_new = FailsAt max text taken_old taken_new failed_old failed_new
-Puts (Err Memory) max text taken_old taken_new failed_old failed_new = (taken_new ≡ taken_old) × (failed_new ≡ failed_old)
+abbrev pub Puts : Result (Unit {0}) WriteError → ℕ → List ℕ → List (List ℕ) → List (List ℕ)
+    → List (List ℕ) → List (List ℕ) → Type 0
+Puts (Ok _) max text taken_old taken_new failed_old failed_new =
+    TakesAll max text taken_old taken_new failed_old failed_new
+Puts (Err Sink) max text taken_old taken_new failed_old failed_new =
+    FailsAt max text taken_old taken_new failed_old failed_new
+Puts (Err Memory) max text taken_old taken_new failed_old failed_new = (taken_new ≡ taken_old)
+    × (failed_new ≡ failed_old)

@@ -40,8 +40,9 @@ fn form_of(alloc: Global, groups: &Groups) -> Result<Vec<Section>, AllocError>
     Ok(form)
 }
 
-/// The canonical form of a changeset, a copy: one section for each shape, at the place of the first with that shape, with
-/// the changes of all of them in order, and none without changes. `AllocError` where memory runs out.
+/// The canonical form of a changeset, a copy: one section for each shape, at the place of the first
+/// with that shape, with the changes of all of them in order, and none without changes.
+/// `AllocError` where memory runs out.
 pub fn canonical(alloc: Global, changeset: &Changeset) -> Result<Changeset, AllocError>
     ensures { IfOk result (λ form. form ≡ canon changeset.now) }
 {

@@ -1,5 +1,6 @@
-//! Laws of the canonical text: public functions that do nothing, whose contracts say what holds. The two on a text that was read ask that it is of bytes: a list with larger numbers can
-//! spell a length in fewer of them than its shortest varint has.
+//! Laws of the canonical text: public functions that do nothing, whose contracts say what holds.
+//! The two on a text that was read ask that it is of bytes: a list with larger numbers can spell a
+//! length in fewer of them than its shortest varint has.
 
 ghost use Rattle.std.specs.Prelude.{ℕ, ◌≤◌, List, length};
 ghost use Rattle.cs_model.specs.Bytes.{AreBytes};

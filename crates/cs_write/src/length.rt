@@ -1,5 +1,5 @@
-//! How long a canonical text is, counted before it is written. `None` exactly where a `usize` doesn't hold it, which
-//! no changeset in memory reaches.
+//! How long a canonical text is, counted before it is written. `None` exactly where a `usize`
+//! doesn't hold it, which no changeset in memory reaches.
 
 ghost use Rattle.std.specs.Prelude.{◌≡◌, ℕ, ◌+◌, ◌≤◌, length};
 ghost use Rattle.cs_model.specs.Varint.{varint};

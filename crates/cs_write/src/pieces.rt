@@ -38,10 +38,11 @@ impl From<AllocError> for WriteError {
     }
 }
 
-/// Puts the canonical text of a changeset into a sink, for one that doesn't take it whole: in pieces of `max` bytes, the
-/// last one with the rest. An empty text is no piece. The pieces are parts of one text, which is made before the first of
-/// them goes out, and none is copied. `Sink` where the sink fails to take a piece: those in front of it are taken, and
-/// none behind it is handed over. `Memory` where memory runs out, before any of them is handed over.
+/// Puts the canonical text of a changeset into a sink, for one that doesn't take it whole: in
+/// pieces of `max` bytes, the last one with the rest. An empty text is no piece. The pieces are
+/// parts of one text, which is made before the first of them goes out, and none is copied. `Sink`
+/// where the sink fails to take a piece: those in front of it are taken, and none behind it is
+/// handed over. `Memory` where memory runs out, before any of them is handed over.
 pub fn write_pieces<S: Sink>(
     alloc: Global,
     changeset: &Changeset,

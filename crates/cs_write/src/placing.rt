@@ -1,5 +1,6 @@
-//! Writing at a place of a buffer that has room. Each of these lays its bytes there, and tells the place behind them. The
-//! other bytes of the buffer stay, and no memory is taken, so that nothing can fail once the first byte is written.
+//! Writing at a place of a buffer that has room. Each of these lays its bytes there, and tells the
+//! place behind them. The other bytes of the buffer stay, and no memory is taken, so that nothing
+//! can fail once the first byte is written.
 
 ghost use Rattle.std.specs.Prelude.{◌≡◌, ◌+◌, ◌≤◌, length};
 ghost use Rattle.cs_write.specs.Buffer.{laid};

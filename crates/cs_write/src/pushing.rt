@@ -1,4 +1,5 @@
-//! Headers and changes as canonical bytes. Each of these adds to the end of `out`; an `Err` may leave part of it there.
+//! Headers and changes as canonical bytes. Each of these adds to the end of `out`; an `Err` may
+//! leave part of it there.
 
 ghost use Rattle.std.specs.Prelude.{◌<◌};
 ghost use Rattle.cs_model.specs.Bytes.{AddsBytes};

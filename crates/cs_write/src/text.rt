@@ -97,8 +97,8 @@ fn bytes_of(alloc: Global, groups: &Groups, len: usize) -> Result<Vec<u8>, Alloc
     Ok(out)
 }
 
-/// The canonical text of a changeset: that of `canonical`, with shortest varints and indirect bytes 0 and 1. Nothing of the
-/// changeset is copied besides. `AllocError` where memory runs out.
+/// The canonical text of a changeset: that of `canonical`, with shortest varints and indirect bytes
+/// 0 and 1. Nothing of the changeset is copied besides. `AllocError` where memory runs out.
 pub fn write(alloc: Global, changeset: &Changeset) -> Result<Bytes, AllocError>
     ensures { IfOk result (λ text. text ≡ text_of changeset.now) }
 {
@@ -107,9 +107,10 @@ pub fn write(alloc: Global, changeset: &Changeset) -> Result<Bytes, AllocError>
     Ok(Bytes::from_vec(bytes_of(alloc, &groups, len)?)?)
 }
 
-/// Writes the canonical text of a changeset to the front of `out`, where there is room for it, and answers its length, in
-/// bytes. Where there is less room nothing is written, so that a call with an empty buffer tells how much is needed.
-/// The text is made in `out` itself, in no other buffer. `AllocError` where memory runs out, which leaves `out` as it was.
+/// Writes the canonical text of a changeset to the front of `out`, where there is room for it, and
+/// answers its length, in bytes. Where there is less room nothing is written, so that a call with
+/// an empty buffer tells how much is needed. The text is made in `out` itself, in no other buffer.
+/// `AllocError` where memory runs out, which leaves `out` as it was.
 #[tactic(auto, using(crate::proofs::Laying::laid_first))]
 pub fn write_to(alloc: Global, changeset: &Changeset, out: &mut [u8]) -> Result<usize, AllocError>
     ensures length { IfOk result (λ n. n ≡ length (text_of changeset.now)) }

@@ -1,10 +1,12 @@
--- What the desk's laws say of its calls, as the lemmas here take it: what a call keeps, and what it shows in the outline.
+-- What the desk's laws say of its calls, as the lemmas here take it: what a call keeps, and what it shows in the
+-- outline.
 use Rattle.std.proofs.Common.{◌≡◌, ℕ, Result, Ok, refl, subst}
 use Rattle.rb_desk.specs.declared.delivery.Delivery.{Delivery}
 use Rattle.rb_desk.specs.declared.refusal.DeskRefusal.{DeskRefusal}
 use Rattle.rb_desk.specs.declared.step.Step.{Step}
 use Rattle.rb_desk.specs.declared.step.Step.TheVariants as step
-use Rattle.rb_desk.specs.Calls.{subscribe, take, take_any, ack, nack, expire, reconnect, unsubscribe, prepare, place, close}
+use Rattle.rb_desk.specs.Calls.{subscribe, take, take_any, ack, nack, expire, reconnect, unsubscribe, prepare, place}
+use Rattle.rb_desk.specs.Calls.{close}
 use Rattle.rb_desk.specs.IsPicture.{IsPicture}
 use Rattle.rb_desk.specs.Outline.{outline_of}
 use Rattle.rb_desk.specs.Outline as outline
@@ -17,16 +19,27 @@ KeepsPictures = (old : Picture) (step : Step) → IsPicture old → IsPicture (a
 
 -- what each call changes in the outline
 pub record DeskShows : Type 0 where
-  pub subscribes : (old : Picture) (start s link : ℕ) (new : Picture) → subscribe old start ≡ (Ok (s, link), new) → outline.Subscribes (outline_of old) (outline_of new) start s link
-  pub takes : (old : Picture) (s link cursor now : ℕ) (delivery : Delivery) (new : Picture) → IsPicture old → take old s link cursor now ≡ (Ok delivery, new) → (delivery.sub ≡ s) × outline.Delivers (outline_of old) (outline_of new) delivery
-  pub takes_any : (old : Picture) (now : ℕ) (delivery : Delivery) (new : Picture) → IsPicture old → take_any old now ≡ (Ok delivery, new) → outline.Delivers (outline_of old) (outline_of new) delivery
-  pub acks : (old : Picture) (s link number cursor floor : ℕ) (new : Picture) → ack old s link number cursor ≡ (Ok floor, new) → outline_of new ≡ outline_of old
-  pub nacks : (old : Picture) (s link number : ℕ) (new : Picture) → nack old s link number ≡ (Ok tt, new) → outline_of new ≡ outline_of old
-  pub expires : (old : Picture) (now many : ℕ) (new : Picture) → expire old now ≡ (many, new) → outline_of new ≡ outline_of old
-  pub reconnects : (old : Picture) (s cursor link : ℕ) (new : Picture) → reconnect old s cursor ≡ (Ok link, new) → outline.Reconnects (outline_of old) (outline_of new) s link
-  pub unsubscribes : (old : Picture) (s link : ℕ) (new : Picture) → unsubscribe old s link ≡ (Ok tt, new) → outline.Unsubscribes (outline_of old) (outline_of new) s
-  pub places : (old : Picture) (number : ℕ) → prepare old ≡ Ok number → outline.Places (outline_of old) (outline_of (place old)) number
-  pub closes : (old : Picture) (last : ℕ) (new : Picture) → IsPicture old → close old ≡ (last, new) → outline.Closes (outline_of old) (outline_of new) last
+  pub subscribes : (old : Picture) (start s link : ℕ) (new : Picture) → subscribe old start ≡ (Ok (s, link), new)
+      → outline.Subscribes (outline_of old) (outline_of new) start s link
+  pub takes : (old : Picture) (s link cursor now : ℕ) (delivery : Delivery) (new : Picture) → IsPicture old
+      → take old s link cursor now ≡ (Ok delivery, new) → (delivery.sub ≡ s)
+      × outline.Delivers (outline_of old) (outline_of new) delivery
+  pub takes_any : (old : Picture) (now : ℕ) (delivery : Delivery) (new : Picture) → IsPicture old → take_any old now
+      ≡ (Ok delivery, new) → outline.Delivers (outline_of old) (outline_of new) delivery
+  pub acks : (old : Picture) (s link number cursor floor : ℕ) (new : Picture) → ack old s link number cursor
+      ≡ (Ok floor, new) → outline_of new ≡ outline_of old
+  pub nacks : (old : Picture) (s link number : ℕ) (new : Picture) → nack old s link number ≡ (Ok tt, new)
+      → outline_of new ≡ outline_of old
+  pub expires : (old : Picture) (now many : ℕ) (new : Picture) → expire old now ≡ (many, new) → outline_of new
+      ≡ outline_of old
+  pub reconnects : (old : Picture) (s cursor link : ℕ) (new : Picture) → reconnect old s cursor ≡ (Ok link, new)
+      → outline.Reconnects (outline_of old) (outline_of new) s link
+  pub unsubscribes : (old : Picture) (s link : ℕ) (new : Picture) → unsubscribe old s link ≡ (Ok tt, new)
+      → outline.Unsubscribes (outline_of old) (outline_of new) s
+  pub places : (old : Picture) (number : ℕ) → prepare old ≡ Ok number
+      → outline.Places (outline_of old) (outline_of (place old)) number
+  pub closes : (old : Picture) (last : ℕ) (new : Picture) → IsPicture old → close old ≡ (last, new)
+      → outline.Closes (outline_of old) (outline_of new) last
 
 -- a call's answer beside the picture that it leaves
 abbrev pub beside : {A : Type 0} → Picture → Result A DeskRefusal → Result A DeskRefusal × Picture
@@ -38,7 +51,8 @@ pub subscribe_keeps : KeepsPictures → (old : Picture) (start : ℕ) → IsPict
 unfolding after_step
 subscribe_keeps keeps old start good = keeps old (step.Subscribe start) good
 
-pub take_keeps : KeepsPictures → (old : Picture) (s link cursor now : ℕ) → IsPicture old → IsPicture (take old s link cursor now).1
+pub take_keeps : KeepsPictures → (old : Picture) (s link cursor now : ℕ) → IsPicture old
+    → IsPicture (take old s link cursor now).1
 unfolding after_step
 take_keeps keeps old s link cursor now good = keeps old (step.Take s link cursor now) good
 
@@ -46,11 +60,13 @@ pub take_any_keeps : KeepsPictures → (old : Picture) (now : ℕ) → IsPicture
 unfolding after_step
 take_any_keeps keeps old now good = keeps old (step.TakeAny now) good
 
-pub ack_keeps : KeepsPictures → (old : Picture) (s link number cursor : ℕ) → IsPicture old → IsPicture (ack old s link number cursor).1
+pub ack_keeps : KeepsPictures → (old : Picture) (s link number cursor : ℕ) → IsPicture old
+    → IsPicture (ack old s link number cursor).1
 unfolding after_step
 ack_keeps keeps old s link number cursor good = keeps old (step.Ack s link number cursor) good
 
-pub nack_keeps : KeepsPictures → (old : Picture) (s link number : ℕ) → IsPicture old → IsPicture (nack old s link number).1
+pub nack_keeps : KeepsPictures → (old : Picture) (s link number : ℕ) → IsPicture old
+    → IsPicture (nack old s link number).1
 unfolding after_step
 nack_keeps keeps old s link number good = keeps old (step.Nack s link number) good
 
@@ -58,11 +74,13 @@ pub expire_keeps : KeepsPictures → (old : Picture) (now : ℕ) → IsPicture o
 unfolding after_step
 expire_keeps keeps old now good = keeps old (step.Expire now) good
 
-pub reconnect_keeps : KeepsPictures → (old : Picture) (s cursor : ℕ) → IsPicture old → IsPicture (reconnect old s cursor).1
+pub reconnect_keeps : KeepsPictures → (old : Picture) (s cursor : ℕ) → IsPicture old
+    → IsPicture (reconnect old s cursor).1
 unfolding after_step
 reconnect_keeps keeps old s cursor good = keeps old (step.Reconnect s cursor) good
 
-pub unsubscribe_keeps : KeepsPictures → (old : Picture) (s link : ℕ) → IsPicture old → IsPicture (unsubscribe old s link).1
+pub unsubscribe_keeps : KeepsPictures → (old : Picture) (s link : ℕ) → IsPicture old
+    → IsPicture (unsubscribe old s link).1
 unfolding after_step
 unsubscribe_keeps keeps old s link good = keeps old (step.Unsubscribe s link) good
 
@@ -75,5 +93,6 @@ placed_step : (old : Picture) (number : ℕ) → prepare old ≡ Ok number → a
 unfolding after_step
 placed_step old number ready = rw ready refl
 
-pub place_keeps : KeepsPictures → (old : Picture) (number : ℕ) → prepare old ≡ Ok number → IsPicture old → IsPicture (place old)
+pub place_keeps : KeepsPictures → (old : Picture) (number : ℕ) → prepare old ≡ Ok number → IsPicture old
+    → IsPicture (place old)
 place_keeps keeps old number ready good = subst IsPicture (placed_step old number ready) (keeps old step.Place good)

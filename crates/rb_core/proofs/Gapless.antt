@@ -1,5 +1,6 @@
 -- What a subscription accepted is one run of the sequence from its start on.
-use Rattle.std.proofs.Common.{◌≡◌, ℕ, zero, suc, ◌+◌, ◌-◌, ◌<◌, ◌≤◌, Bool, true, false, List, [], ◌∷◌, ◌++◌, length, take, drop, min, Option, Some, None, refl, sym, ap, subst, ◌∙◌, arith}
+use Rattle.std.proofs.Common.{◌≡◌, ℕ, zero, suc, ◌+◌, ◌-◌, ◌<◌, ◌≤◌, Bool, true, false, List, [], ◌∷◌, ◌++◌, length}
+use Rattle.std.proofs.Common.{take, drop, min, Option, Some, None, refl, sym, ap, subst, ◌∙◌, arith}
 use Rattle.std.specs.Prelude.{slice_get, slice_set}
 use Rattle.std.specs.List.{AllByRecursion}
 use Rattle.std.proofs.lemmas.List.{length-take, length-drop, length-append}
@@ -9,7 +10,8 @@ use Rattle.rb_sequence.specs.Entry.{Entry}
 use Rattle.rb_subscriber.specs.Accept.{part}
 use Rattle.rb_subscriber.proofs.RunLaws.{parts, part_stays}
 use Rattle.rb_core.specs.World.{Subscriber, World, world_begun, cursor, endpoint_of}
-use Rattle.rb_core.specs.Moves.{IsIn, with_subscriber, AddsPublisher, Streams, Sends, Pulls, Places, Closes, Subscribes, Delivers, Accepts, Reconnects, Unsubscribes, Moves, Leads}
+use Rattle.rb_core.specs.Moves.{IsIn, with_subscriber, AddsPublisher, Streams, Sends, Pulls, Places, Closes, Subscribes}
+use Rattle.rb_core.specs.Moves.{Delivers, Accepts, Reconnects, Unsubscribes, Moves, Leads}
 use Rattle.rb_core.proofs.Moving.{all_set, all_get, all_in, all_map, MovingKeeps, kept_through}
 
 -- a delivery's numbers are placed
@@ -29,38 +31,53 @@ AreRuns world = AllByRecursion (IsRun world.sequence) world.subscribers
 gapless_longer : (sequence : List Entry) (entry : Entry) → length (sequence ++ entry ∷ []) ≡ length sequence + 1
 gapless_longer sequence entry = length-append sequence (entry ∷ [])
 
-still_run : (sequence : List Entry) (entry : Entry) (q : Subscriber) → IsRun sequence q → IsRun (sequence ++ entry ∷ []) q
+still_run : (sequence : List Entry) (entry : Entry) (q : Subscriber) → IsRun sequence q
+    → IsRun (sequence ++ entry ∷ []) q
 still_run sequence entry q h = record {
   run = h.run ∙ sym (part_stays sequence (entry ∷ []) q.start (length q.accepted) h.placed);
   placed = omega (arith, gapless_longer sequence entry, h.placed);
-  offers = all_map (GaplessIsPlaced sequence) (GaplessIsPlaced (sequence ++ entry ∷ [])) q.offers (λ d placed. omega (arith, gapless_longer sequence entry, placed)) h.offers;
+  offers = all_map (GaplessIsPlaced sequence) (GaplessIsPlaced (sequence ++ entry ∷ [])) q.offers
+      (λ d placed. omega (arith, gapless_longer sequence entry, placed)) h.offers;
 }
 
 -- ---- what is accepted goes on
 
-pub part_length : (sequence : List Entry) (after last : ℕ) → last ≤ length sequence → after ≤ last → length (part sequence after (last - after)) ≡ last - after
+pub part_length : (sequence : List Entry) (after last : ℕ) → last ≤ length sequence → after ≤ last
+    → length (part sequence after (last - after)) ≡ last - after
 part_length sequence after last placed order =
     omega (arith, placed, order, length-take (last - after) (drop after sequence), length-drop after sequence)
 
-gapless_goes_on : (sequence : List Entry) (start last : ℕ) (accepted : List Entry) → accepted ≡ part sequence start (length accepted) → start + length accepted ≤ last → last ≤ length sequence
-    → accepted ++ part sequence (start + length accepted) (last - (start + length accepted)) ≡ part sequence start (length (accepted ++ part sequence (start + length accepted) (last - (start + length accepted))))
+gapless_goes_on : (sequence : List Entry) (start last : ℕ) (accepted : List Entry) → accepted
+    ≡ part sequence start (length accepted) → start + length accepted ≤ last → last ≤ length sequence
+    → accepted ++ part sequence (start + length accepted) (last - (start + length accepted))
+    ≡ part sequence start
+    (length (accepted ++ part sequence (start + length accepted) (last - (start + length accepted))))
 gapless_goes_on sequence start last accepted run order placed =
     let mid = start + length accepted in
     let more = part sequence mid (last - mid) in
     let so_far : length accepted ≡ mid - start = omega arith in
-    let all : length (accepted ++ more) ≡ last - start = omega (arith, order, length-append accepted more, part_length sequence mid last placed order) in
+    let all : length (accepted ++ more) ≡ last - start =
+    omega (arith, order, length-append accepted more, part_length sequence mid last placed order) in
     ap (λ xs. xs ++ more) (run ∙ ap (part sequence start) so_far)
     ∙ sym (parts sequence start mid last (omega arith) order)
     ∙ ap (part sequence start) (sym all)
 
-accepts_run : (sequence : List Entry) (q : Subscriber) (delivery : Delivery) (new : Subscriber) → IsRun sequence q → suc (cursor q) ≤ delivery.last → delivery.last ≤ length sequence → new.start ≡ q.start → new.offers ≡ q.offers
+accepts_run : (sequence : List Entry) (q : Subscriber) (delivery : Delivery) (new : Subscriber) → IsRun sequence q
+    → suc (cursor q) ≤ delivery.last → delivery.last ≤ length sequence → new.start ≡ q.start → new.offers ≡ q.offers
     → new.accepted ≡ q.accepted ++ part sequence (cursor q) (delivery.last - cursor q) → IsRun sequence new
 accepts_run sequence q delivery new h some placed start offers accepted =
     let more = part sequence (cursor q) (delivery.last - cursor q) in
     let run = gapless_goes_on sequence q.start delivery.last q.accepted h.run (omega (arith, some)) placed in
-    let long : length (q.accepted ++ more) ≡ length q.accepted + (delivery.last - cursor q) = omega (arith, length-append q.accepted more, part_length sequence (cursor q) delivery.last placed (omega (arith, some))) in
+    let long : length (q.accepted ++ more) ≡ length q.accepted + (delivery.last - cursor q) =
+    omega (
+      arith,
+      length-append q.accepted more,
+      part_length sequence (cursor q) delivery.last placed
+          (omega (arith, some)),
+    ) in
     record {
-      run = accepted ∙ run ∙ ap (λ n. part sequence n (length (q.accepted ++ more))) (sym start) ∙ ap (λ xs. part sequence new.start (length xs)) (sym accepted);
+      run = accepted ∙ run ∙ ap (λ n. part sequence n (length (q.accepted ++ more))) (sym start)
+          ∙ ap (λ xs. part sequence new.start (length xs)) (sym accepted);
       placed = omega (arith, some, placed, start, long, ap length accepted);
       offers = subst (AllByRecursion (GaplessIsPlaced sequence)) (sym offers) h.offers;
     }
@@ -68,9 +85,11 @@ accepts_run sequence q delivery new h some placed start offers accepted =
 -- ---- moves
 
 -- one subscription becomes another
-gapless_becomes : (old new : World) (s : ℕ) (q r : Subscriber) → AreRuns old → slice_get old.subscribers s ≡ Some q → (IsRun old.sequence q → IsRun old.sequence r) → new ≡ with_subscriber old s r → AreRuns new
+gapless_becomes : (old new : World) (s : ℕ) (q r : Subscriber) → AreRuns old → slice_get old.subscribers s ≡ Some q
+    → (IsRun old.sequence q → IsRun old.sequence r) → new ≡ with_subscriber old s r → AreRuns new
 gapless_becomes old new s q r runs found same kept =
-    subst AreRuns (sym kept) (all_set (IsRun old.sequence) old.subscribers s r runs (same (all_get (IsRun old.sequence) old.subscribers s q runs found)))
+    subst AreRuns (sym kept) (all_set (IsRun old.sequence) old.subscribers s r runs
+    (same (all_get (IsRun old.sequence) old.subscribers s q runs found)))
 
 runs_kept : MovingKeeps AreRuns
 runs_kept = record {
@@ -80,25 +99,60 @@ runs_kept = record {
   pulls = λ old new move runs. subst AreRuns (sym move.kept) runs;
   places = λ old new move runs.
       let entry : Entry = record { number = suc (length old.sequence); item = move.item } in
-      subst AreRuns (sym move.kept) (all_map (IsRun old.sequence) (IsRun (old.sequence ++ entry ∷ [])) old.subscribers (still_run old.sequence entry) runs);
+      subst AreRuns (sym move.kept)
+      (all_map (IsRun old.sequence) (IsRun (old.sequence ++ entry ∷ [])) old.subscribers
+      (still_run old.sequence entry) runs);
   ends = λ old new move runs. subst AreRuns (sym move.kept) runs;
   begins = λ old new move runs.
-      let q : Subscriber = record { start = move.start; base = move.base; accepted = []; tables = move.base; link = move.link; closed = false; offers = [] } in
-      subst AreRuns (sym move.kept) (all_push (IsRun old.sequence) old.subscribers q runs (record { run = refl; placed = omega (arith, move.placed); offers = tt }));
+      let q : Subscriber = record {
+        start = move.start;
+        base = move.base;
+        accepted = [];
+        tables = move.base;
+        link = move.link;
+        closed = false;
+        offers = [];
+      } in
+      subst AreRuns (sym move.kept)
+      (all_push (IsRun old.sequence) old.subscribers q runs
+      (record { run = refl; placed = omega (arith, move.placed); offers = tt }));
   offers = λ old new move runs.
-      gapless_becomes old new move.s move.subscriber (record move.subscriber { offers = move.subscriber.offers ++ move.delivery ∷ [] }) runs move.found
-      (λ h. record { run = h.run; placed = h.placed; offers = all_push (GaplessIsPlaced old.sequence) move.subscriber.offers move.delivery h.offers move.placed }) move.kept;
+      gapless_becomes old new move.s move.subscriber
+      (record move.subscriber { offers = move.subscriber.offers ++ move.delivery ∷ [] }) runs move.found
+      (λ h. record {
+        run = h.run;
+        placed = h.placed;
+        offers = all_push (GaplessIsPlaced old.sequence)
+            move.subscriber.offers move.delivery h.offers move.placed;
+      }) move.kept;
   takes = λ old new move runs.
       let q = move.subscriber in
-      gapless_becomes old new move.s q (record q { accepted = q.accepted ++ part old.sequence (cursor q) (move.delivery.last - cursor q); tables = move.end.tables }) runs move.found
-      (λ h. accepts_run old.sequence q move.delivery (record q { accepted = q.accepted ++ part old.sequence (cursor q) (move.delivery.last - cursor q); tables = move.end.tables }) h move.accepts.some (all_in (GaplessIsPlaced old.sequence) q.offers move.delivery h.offers move.offered) refl refl refl) move.kept;
+      gapless_becomes old new move.s q
+      (record q {
+        accepted = q.accepted ++ part old.sequence (cursor q) (move.delivery.last - cursor q);
+        tables = move.end.tables;
+      }) runs move.found
+      (λ h. accepts_run old.sequence q move.delivery
+      (record q {
+        accepted = q.accepted ++ part old.sequence (cursor q) (move.delivery.last - cursor q);
+        tables = move.end.tables;
+      }) h move.accepts.some
+      (all_in (GaplessIsPlaced old.sequence) q.offers move.delivery h.offers move.offered) refl refl refl)
+      move.kept;
   reconnects = λ old new move runs.
       let q = move.subscriber in
       let r : Subscriber = record q { link = move.link } in
-      subst AreRuns (sym move.kept) (all_set (IsRun old.sequence) old.subscribers move.s r runs (let h = all_get (IsRun old.sequence) old.subscribers move.s q runs move.found in record { run = h.run; placed = h.placed; offers = h.offers }));
+      subst AreRuns (sym move.kept)
+      (all_set (IsRun old.sequence) old.subscribers move.s r runs
+      (let h = all_get (IsRun old.sequence) old.subscribers move.s q runs move.found in
+      record { run = h.run; placed = h.placed; offers = h.offers }));
   leaves = λ old new move runs.
-      gapless_becomes old new move.s move.subscriber (record move.subscriber { closed = true }) runs move.found (λ h. record { run = h.run; placed = h.placed; offers = h.offers }) move.kept;
+      gapless_becomes old new move.s move.subscriber (record move.subscriber { closed = true }) runs move.found
+      (λ h. record { run = h.run; placed = h.placed; offers = h.offers }) move.kept;
 }
 
-pub gapless : (mids : List World) (new : World) (s : ℕ) (q : Subscriber) → Leads world_begun mids new → slice_get new.subscribers s ≡ Some q → q.accepted ≡ part new.sequence q.start (length q.accepted)
-gapless mids new s q leads found = (all_get (IsRun new.sequence) new.subscribers s q (kept_through AreRuns runs_kept world_begun mids new leads tt) found).run
+pub gapless : (mids : List World) (new : World) (s : ℕ) (q : Subscriber) → Leads world_begun mids new
+    → slice_get new.subscribers s ≡ Some q → q.accepted ≡ part new.sequence q.start (length q.accepted)
+gapless mids new s q leads found =
+    (all_get (IsRun new.sequence) new.subscribers s q (kept_through AreRuns runs_kept world_begun mids new leads tt)
+    found).run

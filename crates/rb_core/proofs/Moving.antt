@@ -3,16 +3,19 @@ use Rattle.std.proofs.Common.{◌≡◌, ℕ, zero, suc, ◌⊎◌, inl, inr, Li
 use Rattle.std.specs.Prelude.{slice_get, slice_set}
 use Rattle.std.specs.List.{AllByRecursion}
 use Rattle.rb_core.specs.World.{World}
-use Rattle.rb_core.specs.Moves.{IsIn, AddsPublisher, Streams, Sends, Pulls, Places, Closes, Subscribes, Delivers, Accepts, Reconnects, Unsubscribes, Moves, Leads}
+use Rattle.rb_core.specs.Moves.{IsIn, AddsPublisher, Streams, Sends, Pulls, Places, Closes, Subscribes, Delivers}
+use Rattle.rb_core.specs.Moves.{Accepts, Reconnects, Unsubscribes, Moves, Leads}
 
 -- ---- lists
 
-pub all_set : {A : Type 0} (P : A → Type 0) (xs : List A) (i : ℕ) (y : A) → AllByRecursion P xs → P y → AllByRecursion P (slice_set xs i y)
+pub all_set : {A : Type 0} (P : A → Type 0) (xs : List A) (i : ℕ) (y : A) → AllByRecursion P xs → P y
+    → AllByRecursion P (slice_set xs i y)
 all_set P [] i y all h = tt
 all_set P (x ∷ xs) zero y all h = (h, all.1)
 all_set P (x ∷ xs) (suc i) y all h = (all.0, all_set P xs i y all.1 h)
 
-pub all_get : {A : Type 0} (P : A → Type 0) (xs : List A) (i : ℕ) (x : A) → AllByRecursion P xs → slice_get xs i ≡ Some x → P x
+pub all_get : {A : Type 0} (P : A → Type 0) (xs : List A) (i : ℕ) (x : A) → AllByRecursion P xs → slice_get xs i
+    ≡ Some x → P x
 all_get P [] i x all e = absurd (cc e)
 all_get P (y ∷ xs) zero x all e =
     let same : y ≡ x = cc e in
@@ -26,12 +29,14 @@ all_in P (y ∷ xs) x all here = elim here as (λ w. P x) [
   | inr rest ↦ all_in P xs x all.1 rest
 ]
 
-pub all_map : {A : Type 0} (P Q : A → Type 0) (xs : List A) → ((x : A) → P x → Q x) → AllByRecursion P xs → AllByRecursion Q xs
+pub all_map : {A : Type 0} (P Q : A → Type 0) (xs : List A) → ((x : A) → P x → Q x) → AllByRecursion P xs
+    → AllByRecursion Q xs
 all_map P Q [] f all = tt
 all_map P Q (x ∷ xs) f all = (f x all.0, all_map P Q xs f all.1)
 
 -- what stands at a place stays there when another thing comes behind
-pub get_push : {A : Type 0} (xs : List A) (y x : A) (i : ℕ) → slice_get xs i ≡ Some x → slice_get (xs ++ y ∷ []) i ≡ Some x
+pub get_push : {A : Type 0} (xs : List A) (y x : A) (i : ℕ) → slice_get xs i ≡ Some x → slice_get (xs ++ y ∷ []) i
+    ≡ Some x
 get_push [] y x i e = absurd (cc e)
 get_push (z ∷ xs) y x zero e = e
 get_push (z ∷ xs) y x (suc i) e = get_push xs y x i e
@@ -89,6 +94,8 @@ kept_by P keeps old new move h = elim move as (λ w. P new) [
 ]
 
 -- what every move keeps holds behind all of them
-pub kept_through : (P : World → Type 0) → MovingKeeps P → (old : World) (mids : List World) (new : World) → Leads old mids new → P old → P new
+pub kept_through : (P : World → Type 0) → MovingKeeps P → (old : World) (mids : List World) (new : World)
+    → Leads old mids new → P old → P new
 kept_through P keeps old [] new leads h = subst P (sym leads) h
-kept_through P keeps old (mid ∷ rest) new leads h = kept_through P keeps mid rest new leads.1 (kept_by P keeps old mid leads.0 h)
+kept_through P keeps old (mid ∷ rest) new leads h =
+    kept_through P keeps mid rest new leads.1 (kept_by P keeps old mid leads.0 h)

@@ -1,5 +1,6 @@
 -- Things that are numbered from some number on: how they grow, and how one is found by its number.
-use Rattle.std.proofs.Common.{◌≡◌, ◌==◌, ℕ, zero, suc, ◌+◌, ◌-◌, ◌<◌, ◌≤◌, cond, List, [], ◌∷◌, ◌++◌, length, Option, Some, None, Bor, find, slice_get, inl, inr, refl, sym, ap, ◌∙◌, arith}
+use Rattle.std.proofs.Common.{◌≡◌, ◌==◌, ℕ, zero, suc, ◌+◌, ◌-◌, ◌<◌, ◌≤◌, cond, List, [], ◌∷◌, ◌++◌, length, Option}
+use Rattle.std.proofs.Common.{Some, None, Bor, find, slice_get, inl, inr, refl, sym, ap, ◌∙◌, arith}
 use Rattle.std.specs.Option.{option_copied}
 use Rattle.std.specs.Slice.{IsItemAt}
 use Rattle.std.proofs.lemmas.Bool.{ltb-true, ltb-false}
@@ -8,37 +9,45 @@ use Rattle.std.proofs.lemmas.Option.{slice_get_past, slice_get_read}
 use Rattle.rb_core.specs.State.{AreNumbered}
 
 -- one more comes behind, under the next number
-pub numbered_push : {A : Type 0} (number : A → ℕ) (n : ℕ) (xs : List A) (x : A) → AreNumbered number n xs → number x ≡ n + length xs → AreNumbered number n (xs ++ x ∷ [])
+pub numbered_push : {A : Type 0} (number : A → ℕ) (n : ℕ) (xs : List A) (x : A) → AreNumbered number n xs → number x ≡ n
+    + length xs → AreNumbered number n (xs ++ x ∷ [])
 numbered_push number n [] x are is = (omega (arith, is), tt)
 numbered_push number n (y ∷ xs) x are is = (are.0, numbered_push number (suc n) xs x are.1 (omega (arith, is)))
 
 -- ---- one of a number
 
 -- none has a number below the first
-pub none_below : {A : Type 0} (number : A → ℕ) (n : ℕ) (xs : List A) (m : ℕ) → AreNumbered number n xs → m < n → find (λ x. number x == m) xs ≡ None
+pub none_below : {A : Type 0} (number : A → ℕ) (n : ℕ) (xs : List A) (m : ℕ) → AreNumbered number n xs → m < n
+    → find (λ x. number x == m) xs ≡ None
 none_below number n [] m are less = refl
-none_below number n (x ∷ xs) m are less = elim (eqb_tells (number x) m) as (λ w. find (λ y. number y == m) (x ∷ xs) ≡ None) [
-  | inl is ↦ absurd (omega (arith, is.1, are.0, less))
-  | inr other ↦ ap (λ b. cond b (Some x) (find (λ y. number y == m) xs)) other.0 ∙ none_below number (suc n) xs m are.1 (omega (arith, less))
-]
+none_below number n (x ∷ xs) m are less =
+    elim (eqb_tells (number x) m) as (λ w. find (λ y. number y == m) (x ∷ xs) ≡ None) [
+      | inl is ↦ absurd (omega (arith, is.1, are.0, less))
+      | inr other ↦ ap (λ b. cond b (Some x) (find (λ y. number y == m) xs)) other.0
+          ∙ none_below number (suc n) xs m are.1 (omega (arith, less))
+    ]
 
 -- the one at place i has number n + i
-pub found_at : {A : Type 0} (number : A → ℕ) (n : ℕ) (xs : List A) (i : ℕ) → AreNumbered number n xs → find (λ x. number x == n + i) xs ≡ slice_get xs i
+pub found_at : {A : Type 0} (number : A → ℕ) (n : ℕ) (xs : List A) (i : ℕ) → AreNumbered number n xs
+    → find (λ x. number x == n + i) xs ≡ slice_get xs i
 found_at number n [] i are = refl
-found_at number n (x ∷ xs) zero are = elim (eqb_tells (number x) (n + zero)) as (λ w. find (λ y. number y == n + zero) (x ∷ xs) ≡ Some x) [
-  | inl is ↦ ap (λ b. cond b (Some x) (find (λ y. number y == n + zero) xs)) is.0
-  | inr other ↦ absurd (other.1 (omega (arith, are.0)))
-]
-found_at number n (x ∷ xs) (suc i) are = elim (eqb_tells (number x) (n + suc i)) as (λ w. find (λ y. number y == n + suc i) (x ∷ xs) ≡ slice_get xs i) [
-  | inl is ↦ absurd (omega (arith, is.1, are.0))
-  | inr other ↦
-      ap (λ b. cond b (Some x) (find (λ y. number y == n + suc i) xs)) other.0
-      ∙ ap (λ (m : ℕ). find (λ y. number y == m) xs) (omega arith)
-      ∙ found_at number (suc n) xs i are.1
-]
+found_at number n (x ∷ xs) zero are =
+    elim (eqb_tells (number x) (n + zero)) as (λ w. find (λ y. number y == n + zero) (x ∷ xs) ≡ Some x) [
+      | inl is ↦ ap (λ b. cond b (Some x) (find (λ y. number y == n + zero) xs)) is.0
+      | inr other ↦ absurd (other.1 (omega (arith, are.0)))
+    ]
+found_at number n (x ∷ xs) (suc i) are =
+    elim (eqb_tells (number x) (n + suc i)) as (λ w. find (λ y. number y == n + suc i) (x ∷ xs) ≡ slice_get xs i) [
+      | inl is ↦ absurd (omega (arith, is.1, are.0))
+      | inr other ↦
+          ap (λ b. cond b (Some x) (find (λ y. number y == n + suc i) xs)) other.0
+          ∙ ap (λ (m : ℕ). find (λ y. number y == m) xs) (omega arith)
+          ∙ found_at number (suc n) xs i are.1
+    ]
 
 -- so of things that are numbered from 1, one's place is the number before its own
-pub found_from_one : {A : Type 0} (number : A → ℕ) (xs : List A) (m : ℕ) → AreNumbered number 1 xs → 1 ≤ m → find (λ x. number x == m) xs ≡ slice_get xs (m - 1)
+pub found_from_one : {A : Type 0} (number : A → ℕ) (xs : List A) (m : ℕ) → AreNumbered number 1 xs → 1 ≤ m
+    → find (λ x. number x == m) xs ≡ slice_get xs (m - 1)
 found_from_one number xs m are some =
     ap (λ (k : ℕ). find (λ x. number x == k) xs) (omega (arith, some)) ∙ found_at number 1 xs (m - 1) are
 
@@ -50,6 +59,8 @@ got xs i None is = sym (slice_get_past xs i (ltb-false i (length xs) (sym is.0))
 got xs i (Some x) is = sym (slice_get_read xs (length xs) i x.now refl (ltb-true i (length xs) (sym is.0)) is.1)
 
 -- a number from 1 on, looked up by its place
-pub found_by_place : {A : Type 0} (number : A → ℕ) (xs : List A) (m place : ℕ) (r : Option (Bor A)) → AreNumbered number 1 xs → 1 ≤ m → place ≡ m - 1 → IsItemAt xs place r → option_copied r ≡ find (λ x. number x == m) xs
+pub found_by_place : {A : Type 0} (number : A → ℕ) (xs : List A) (m place : ℕ) (r : Option (Bor A))
+    → AreNumbered number 1 xs → 1 ≤ m → place ≡ m - 1 → IsItemAt xs place r → option_copied r
+    ≡ find (λ x. number x == m) xs
 found_by_place number xs m place r are some is got_it =
     got xs place r got_it ∙ ap (slice_get xs) is ∙ sym (found_from_one number xs m are some)

@@ -1,5 +1,6 @@
 -- Lists that pair with others: what stands at a place of one, and of the other; and lists seen through a function.
-use Rattle.std.proofs.Common.{◌≡◌, ℕ, zero, suc, inl, inr, Bool, true, false, cond, List, [], ◌∷◌, ◌++◌, map, Some, None, find, refl, sym, ap, subst}
+use Rattle.std.proofs.Common.{◌≡◌, ℕ, zero, suc, inl, inr, Bool, true, false, cond, List, [], ◌∷◌, ◌++◌, map, Some}
+use Rattle.std.proofs.Common.{None, find, refl, sym, ap, subst}
 use Rattle.std.specs.Prelude.{slice_get, slice_set}
 use Rattle.std.specs.List.{AllByRecursion}
 use Rattle.rb_core.specs.Moves.{IsIn}
@@ -7,14 +8,16 @@ use Rattle.rb_core.specs.Told.{Paired}
 
 -- ---- lists seen through a function
 
-pub get_of_map : {A B : Type 0} (f : A → B) (xs : List A) (i : ℕ) (y : B) → slice_get (map f xs) i ≡ Some y → (x : A) × (slice_get xs i ≡ Some x) × (f x ≡ y)
+pub get_of_map : {A B : Type 0} (f : A → B) (xs : List A) (i : ℕ) (y : B) → slice_get (map f xs) i ≡ Some y → (x : A)
+    × (slice_get xs i ≡ Some x) × (f x ≡ y)
 get_of_map f [] i y e = absurd (cc e)
 get_of_map f (x ∷ xs) zero y e =
     let same : f x ≡ y = cc e in
     (x, refl, same)
 get_of_map f (x ∷ xs) (suc i) y e = get_of_map f xs i y e
 
-pub map_set : {A B : Type 0} (f : A → B) (xs : List A) (i : ℕ) (x : A) → map f (slice_set xs i x) ≡ slice_set (map f xs) i (f x)
+pub map_set : {A B : Type 0} (f : A → B) (xs : List A) (i : ℕ) (x : A) → map f (slice_set xs i x)
+    ≡ slice_set (map f xs) i (f x)
 map_set f [] i x = refl
 map_set f (y ∷ xs) zero x = refl
 map_set f (y ∷ xs) (suc i) x = ap (λ zs. f y ∷ zs) (map_set f xs i x)
@@ -28,7 +31,8 @@ set_same (y ∷ xs) zero x e =
 set_same (y ∷ xs) (suc i) x e = ap (λ zs. y ∷ zs) (set_same xs i x e)
 
 -- what is found among things of a kind is of that kind
-pub all_find : {A : Type 0} (P : A → Type 0) (test : A → Bool) (xs : List A) (x : A) → AllByRecursion P xs → find test xs ≡ Some x → P x
+pub all_find : {A : Type 0} (P : A → Type 0) (test : A → Bool) (xs : List A) (x : A) → AllByRecursion P xs
+    → find test xs ≡ Some x → P x
 all_find P test [] x all e = absurd (let none : None ≡ Some x = e in cc)
 all_find P test (y ∷ xs) x all e = by (test y) e (all_find P test xs x all.1)
   where
@@ -40,7 +44,8 @@ all_find P test (y ∷ xs) x all e = by (test y) e (all_find P test xs x all.1)
 
 -- ---- lists that pair
 
-pub paired_get : {A B : Type 0} (R : A → B → Type 0) (xs : List A) (ys : List B) (i : ℕ) (x : A) → Paired R xs ys → slice_get xs i ≡ Some x → (y : B) × (slice_get ys i ≡ Some y) × R x y
+pub paired_get : {A B : Type 0} (R : A → B → Type 0) (xs : List A) (ys : List B) (i : ℕ) (x : A) → Paired R xs ys
+    → slice_get xs i ≡ Some x → (y : B) × (slice_get ys i ≡ Some y) × R x y
 paired_get R [] ys i x all e = absurd (cc e)
 paired_get R (z ∷ xs) [] i x all e = absurd all
 paired_get R (z ∷ xs) (y ∷ ys) zero x all e =
@@ -48,14 +53,16 @@ paired_get R (z ∷ xs) (y ∷ ys) zero x all e =
     (y, refl, subst (λ w. R w y) same all.0)
 paired_get R (z ∷ xs) (y ∷ ys) (suc i) x all e = paired_get R xs ys i x all.1 e
 
-pub paired_set : {A B : Type 0} (R : A → B → Type 0) (xs : List A) (ys : List B) (i : ℕ) (x : A) (y : B) → Paired R xs ys → R x y → Paired R (slice_set xs i x) (slice_set ys i y)
+pub paired_set : {A B : Type 0} (R : A → B → Type 0) (xs : List A) (ys : List B) (i : ℕ) (x : A) (y : B)
+    → Paired R xs ys → R x y → Paired R (slice_set xs i x) (slice_set ys i y)
 paired_set R [] [] i x y all h = tt
 paired_set R [] (v ∷ ys) i x y all h = absurd all
 paired_set R (z ∷ xs) [] i x y all h = absurd all
 paired_set R (z ∷ xs) (v ∷ ys) zero x y all h = (h, all.1)
 paired_set R (z ∷ xs) (v ∷ ys) (suc i) x y all h = (all.0, paired_set R xs ys i x y all.1 h)
 
-pub paired_push : {A B : Type 0} (R : A → B → Type 0) (xs : List A) (ys : List B) (x : A) (y : B) → Paired R xs ys → R x y → Paired R (xs ++ x ∷ []) (ys ++ y ∷ [])
+pub paired_push : {A B : Type 0} (R : A → B → Type 0) (xs : List A) (ys : List B) (x : A) (y : B) → Paired R xs ys
+    → R x y → Paired R (xs ++ x ∷ []) (ys ++ y ∷ [])
 paired_push R [] [] x y all h = (h, tt)
 paired_push R [] (v ∷ ys) x y all h = absurd all
 paired_push R (z ∷ xs) [] x y all h = absurd all

@@ -1,5 +1,6 @@
 -- Each publisher's sendings stand in the sequence in the order in which it sent them, and each once.
-use Rattle.std.proofs.Common.{◌≡◌, ◌==◌, ℕ, zero, suc, ◌+◌, ◌≤◌, inl, inr, Bool, true, false, cond, List, [], ◌∷◌, ◌++◌, length, map, Option, Some, None, refl, sym, ap, subst, ◌∙◌, append_assoc, arith}
+use Rattle.std.proofs.Common.{◌≡◌, ◌==◌, ℕ, zero, suc, ◌+◌, ◌≤◌, inl, inr, Bool, true, false, cond, List, [], ◌∷◌, ◌++◌}
+use Rattle.std.proofs.Common.{length, map, Option, Some, None, refl, sym, ap, subst, ◌∙◌, append_assoc, arith}
 use Rattle.std.specs.Prelude.{slice_get, slice_set}
 use Rattle.std.specs.List.{filter}
 use Rattle.std.proofs.lemmas.Bool.Decides.{eqb_tells}
@@ -9,7 +10,8 @@ use Rattle.rb_desk.proofs.pictures.PictureLaws.{get_set, get_set_other}
 use Rattle.rb_sequence.specs.declared.item.Item.{Item}
 use Rattle.rb_sequence.specs.Entry.{Entry}
 use Rattle.rb_core.specs.World.{Sender, World, world_begun}
-use Rattle.rb_core.specs.Moves.{with_sender, AddsPublisher, Streams, Sends, Pulls, Places, Leads, items_of, own_of, IsFront}
+use Rattle.rb_core.specs.Moves.{with_sender, AddsPublisher, Streams, Sends, Pulls, Places, Leads, items_of, own_of}
+use Rattle.rb_core.specs.Moves.{IsFront}
 use Rattle.rb_core.proofs.Moving.{MovingKeeps, kept_through}
 
 -- ---- numbers
@@ -19,9 +21,11 @@ abbrev SendingsNumbered : ℕ → List Item → Type 0
 SendingsNumbered n [] = Unit {0}
 SendingsNumbered n (item ∷ items) = (item.own ≡ n) × SendingsNumbered (suc n) items
 
-sendings_numbered_push : (n : ℕ) (items : List Item) (item : Item) → SendingsNumbered n items → item.own ≡ n + length items → SendingsNumbered n (items ++ item ∷ [])
+sendings_numbered_push : (n : ℕ) (items : List Item) (item : Item) → SendingsNumbered n items → item.own ≡ n
+    + length items → SendingsNumbered n (items ++ item ∷ [])
 sendings_numbered_push n [] item all own = (omega (arith, own), tt)
-sendings_numbered_push n (first ∷ items) item all own = (all.0, sendings_numbered_push (suc n) items item all.1 (omega (arith, own)))
+sendings_numbered_push n (first ∷ items) item all own =
+    (all.0, sendings_numbered_push (suc n) items item all.1 (omega (arith, own)))
 
 numbered_front : (n : ℕ) (items more : List Item) → SendingsNumbered n (items ++ more) → SendingsNumbered n items
 numbered_front n [] more all = tt
@@ -46,52 +50,83 @@ SendingsSent p world = SendingsHolds (slice_get world.senders p) (own_of p (flow
 
 -- ---- publishers
 
-push_holds : (senders : List Sender) (p : ℕ) (new : Sender) (own : List Item) → new.sent ≡ [] → SendingsHolds (slice_get senders p) own → SendingsHolds (slice_get (senders ++ new ∷ []) p) own
+push_holds : (senders : List Sender) (p : ℕ) (new : Sender) (own : List Item) → new.sent ≡ []
+    → SendingsHolds (slice_get senders p) own → SendingsHolds (slice_get (senders ++ new ∷ []) p) own
 push_holds [] zero new own none h = (h ∙ sym none, subst (SendingsNumbered 1) (sym none) tt)
 push_holds [] (suc p) new own none h = h
 push_holds (q ∷ senders) zero new own none h = h
 push_holds (q ∷ senders) (suc p) new own none h = push_holds senders p new own none h
 
-same_holds : (senders : List Sender) (p at : ℕ) (before after : Sender) (own : List Item) → slice_get senders at ≡ Some before → after.sent ≡ before.sent → SendingsHolds (slice_get senders p) own → SendingsHolds (slice_get (slice_set senders at after) p) own
-same_holds senders p at before after own found same h = elim (eqb_tells at p) as (λ w. SendingsHolds (slice_get (slice_set senders at after) p) own) [
-  | inl is ↦
-      let here : SendingsHolds (Some before) own = subst (λ o. SendingsHolds o own) (subst (λ n. slice_get senders n ≡ Some before) is.1 found) h in
-      let new : slice_get (slice_set senders at after) p ≡ Some after = subst (λ n. slice_get (slice_set senders at after) n ≡ Some after) is.1 (get_set senders at before after found) in
-      subst (λ o. SendingsHolds o own) (sym new) (here.0 ∙ sym same, subst (SendingsNumbered 1) (sym same) here.1)
-  | inr other ↦ subst (λ o. SendingsHolds o own) (sym (get_set_other senders at p after (λ e. other.1 (sym e)))) h
-]
+same_holds : (senders : List Sender) (p at : ℕ) (before after : Sender) (own : List Item) → slice_get senders at
+    ≡ Some before → after.sent ≡ before.sent → SendingsHolds (slice_get senders p) own
+    → SendingsHolds (slice_get (slice_set senders at after) p) own
+same_holds senders p at before after own found same h =
+    elim (eqb_tells at p) as (λ w. SendingsHolds (slice_get (slice_set senders at after) p) own) [
+      | inl is ↦
+          let here : SendingsHolds (Some before) own =
+          subst (λ o. SendingsHolds o own) (subst (λ n. slice_get senders n ≡ Some before) is.1 found) h in
+          let new : slice_get (slice_set senders at after) p ≡ Some after =
+          subst (λ n. slice_get (slice_set senders at after) n ≡ Some after) is.1
+          (get_set senders at before after found) in
+          subst (λ o. SendingsHolds o own) (sym new) (here.0 ∙ sym same, subst (SendingsNumbered 1) (sym same) here.1)
+      | inr other ↦ subst (λ o. SendingsHolds o own) (sym (get_set_other senders at p after (λ e. other.1 (sym e)))) h
+    ]
 
 -- ---- a sending
 
-flow_sent : (world : World) (items : List Item) (item : Item) → items_of world.sequence ++ (sendings_held world.hand ++ (world.intake ++ item ∷ [])) ≡ flow world ++ item ∷ []
+flow_sent : (world : World) (items : List Item) (item : Item) → items_of world.sequence
+    ++ (sendings_held world.hand ++ (world.intake ++ item ∷ [])) ≡ flow world ++ item ∷ []
 flow_sent world items item =
     ap (λ xs. items_of world.sequence ++ xs) (sym (append_assoc (sendings_held world.hand) world.intake (item ∷ [])))
     ∙ sym (append_assoc (items_of world.sequence) (sendings_held world.hand ++ world.intake) (item ∷ []))
 
-own_sent : (p : ℕ) (world : World) (item : Item) → own_of p (items_of world.sequence ++ (sendings_held world.hand ++ (world.intake ++ item ∷ []))) ≡ own_of p (flow world) ++ cond (item.publisher == p) (item ∷ []) []
-own_sent p world item = ap (own_of p) (flow_sent world [] item) ∙ filter-append (λ (i : Item). i.publisher == p) (flow world) (item ∷ [])
+own_sent : (p : ℕ) (world : World) (item : Item)
+    → own_of p (items_of world.sequence ++ (sendings_held world.hand ++ (world.intake ++ item ∷ [])))
+    ≡ own_of p (flow world) ++ cond (item.publisher == p) (item ∷ []) []
+own_sent p world item = ap (own_of p) (flow_sent world [] item)
+    ∙ filter-append (λ (i : Item). i.publisher == p) (flow world) (item ∷ [])
 
-sends_holds : (senders : List Sender) (p at : ℕ) (before after : Sender) (item : Item) (own : List Item) → slice_get senders at ≡ Some before → after.sent ≡ before.sent ++ item ∷ [] → item.publisher ≡ at → item.own ≡ suc (length before.sent)
-    → SendingsHolds (slice_get senders p) own → SendingsHolds (slice_get (slice_set senders at after) p) (own ++ cond (item.publisher == p) (item ∷ []) [])
-sends_holds senders p at before after item own found grown mine number h = elim (eqb_tells at p) as (λ w. SendingsHolds (slice_get (slice_set senders at after) p) (own ++ cond (item.publisher == p) (item ∷ []) [])) [
-  | inl is ↦
-      let here : SendingsHolds (Some before) own = subst (λ o. SendingsHolds o own) (subst (λ n. slice_get senders n ≡ Some before) is.1 found) h in
-      let new : slice_get (slice_set senders at after) p ≡ Some after = subst (λ n. slice_get (slice_set senders at after) n ≡ Some after) is.1 (get_set senders at before after found) in
-      let tested : (item.publisher == p) ≡ true = ap (λ n. n == p) mine ∙ is.0 in
-      let all : own ++ cond (item.publisher == p) (item ∷ []) [] ≡ after.sent = ap (λ b. own ++ cond b (item ∷ []) []) tested ∙ ap (λ xs. xs ++ item ∷ []) here.0 ∙ sym grown in
-      subst (λ o. SendingsHolds o (own ++ cond (item.publisher == p) (item ∷ []) [])) (sym new) (all, subst (SendingsNumbered 1) (sym grown) (sendings_numbered_push 1 before.sent item here.1 (omega (arith, number))))
-  | inr other ↦
-      let tested : (item.publisher == p) ≡ false = ap (λ n. n == p) mine ∙ other.0 in
-      let all : own ++ cond (item.publisher == p) (item ∷ []) [] ≡ own = ap (λ b. own ++ cond b (item ∷ []) []) tested ∙ append-nil own in
-      subst (λ o. SendingsHolds o (own ++ cond (item.publisher == p) (item ∷ []) [])) (sym (get_set_other senders at p after (λ e. other.1 (sym e)))) (subst (SendingsHolds (slice_get senders p)) (sym all) h)
-]
+sends_holds : (senders : List Sender) (p at : ℕ) (before after : Sender) (item : Item) (own : List Item)
+    → slice_get senders at ≡ Some before → after.sent ≡ before.sent ++ item ∷ [] → item.publisher ≡ at → item.own
+    ≡ suc (length before.sent)
+    → SendingsHolds (slice_get senders p) own
+    → SendingsHolds (slice_get (slice_set senders at after) p) (own ++ cond (item.publisher == p) (item ∷ []) [])
+sends_holds senders p at before after item own found grown mine number h =
+    elim (eqb_tells at p) as (λ w. SendingsHolds (slice_get (slice_set senders at after) p)
+    (own ++ cond (item.publisher == p) (item ∷ []) [])) [
+      | inl is ↦
+          let here : SendingsHolds (Some before) own =
+          subst (λ o. SendingsHolds o own) (subst (λ n. slice_get senders n ≡ Some before) is.1 found) h in
+          let new : slice_get (slice_set senders at after) p ≡ Some after =
+          subst (λ n. slice_get (slice_set senders at after) n ≡ Some after) is.1
+          (get_set senders at before after found) in
+          let tested : (item.publisher == p) ≡ true = ap (λ n. n == p) mine ∙ is.0 in
+          let all : own ++ cond (item.publisher == p) (item ∷ []) [] ≡ after.sent =
+          ap (λ b. own ++ cond b (item ∷ []) []) tested ∙ ap (λ xs. xs ++ item ∷ []) here.0 ∙ sym grown in
+          subst (λ o. SendingsHolds o (own ++ cond (item.publisher == p) (item ∷ []) [])) (sym new) (
+            all,
+            subst (SendingsNumbered 1) (sym grown)
+                (sendings_numbered_push 1 before.sent item here.1 (omega (arith, number))),
+          )
+      | inr other ↦
+          let tested : (item.publisher == p) ≡ false = ap (λ n. n == p) mine ∙ other.0 in
+          let all : own ++ cond (item.publisher == p) (item ∷ []) [] ≡ own =
+          ap (λ b. own ++ cond b (item ∷ []) []) tested
+          ∙ append-nil own in
+          subst (λ o. SendingsHolds o (own ++ cond (item.publisher == p) (item ∷ []) []))
+          (sym (get_set_other senders at p after (λ e. other.1 (sym e))))
+          (subst (SendingsHolds (slice_get senders p)) (sym all) h)
+    ]
 
 -- ---- moves
 
-flow_pulled : (old : World) (item : Item) (rest : List Item) → old.hand ≡ None → old.intake ≡ item ∷ rest → flow old ≡ items_of old.sequence ++ (sendings_held (Some item) ++ rest)
-flow_pulled old item rest empty first = ap (λ h. items_of old.sequence ++ (sendings_held h ++ old.intake)) empty ∙ ap (λ xs. items_of old.sequence ++ xs) first
+flow_pulled : (old : World) (item : Item) (rest : List Item) → old.hand ≡ None → old.intake ≡ item ∷ rest → flow old
+    ≡ items_of old.sequence ++ (sendings_held (Some item) ++ rest)
+flow_pulled old item rest empty first = ap (λ h. items_of old.sequence ++ (sendings_held h ++ old.intake)) empty
+    ∙ ap (λ xs. items_of old.sequence ++ xs) first
 
-flow_placed : (old : World) (item : Item) (entry : Entry) → old.hand ≡ Some item → entry.item ≡ item → flow old ≡ items_of (old.sequence ++ entry ∷ []) ++ (sendings_held None ++ old.intake)
+flow_placed : (old : World) (item : Item) (entry : Entry) → old.hand ≡ Some item → entry.item ≡ item → flow old
+    ≡ items_of (old.sequence ++ entry ∷ []) ++ (sendings_held None ++ old.intake)
 flow_placed old item entry holds is =
     ap (λ h. items_of old.sequence ++ (sendings_held h ++ old.intake)) holds
     ∙ ap (λ i. items_of old.sequence ++ (i ∷ old.intake)) (sym is)
@@ -100,16 +135,25 @@ flow_placed old item entry holds is =
 
 sent_kept : (p : ℕ) → MovingKeeps (SendingsSent p)
 sent_kept p = record {
-  comes = λ old new move h. subst (SendingsSent p) (sym move) (push_holds old.senders p (record { text = []; staged = None; sent = [] }) (own_of p (flow old)) refl h);
-  stages = λ old new move h. subst (SendingsSent p) (sym move.kept) (same_holds old.senders p move.p move.before move.after (own_of p (flow old)) move.found move.sent h);
+  comes = λ old new move h. subst (SendingsSent p) (sym move)
+      (push_holds old.senders p (record { text = []; staged = None; sent = [] }) (own_of p (flow old)) refl h);
+  stages = λ old new move h. subst (SendingsSent p) (sym move.kept)
+      (same_holds old.senders p move.p move.before move.after (own_of p (flow old)) move.found move.sent h);
   sends = λ old new move h.
       let after : Sender = record move.sender { staged = None; sent = move.sender.sent ++ move.item ∷ [] } in
-      let held_now = sends_holds old.senders p move.p move.sender after move.item (own_of p (flow old)) move.found refl (ap (λ (i : Item). i.publisher) move.is) (ap (λ (i : Item). i.own) move.is) h in
-      subst (SendingsSent p) (sym move.kept) (subst (SendingsHolds (slice_get (slice_set old.senders move.p after) p)) (sym (own_sent p old move.item)) held_now);
-  pulls = λ old new move h. subst (SendingsSent p) (sym move.kept) (subst (λ xs. SendingsHolds (slice_get old.senders p) (own_of p xs)) (flow_pulled old move.item move.rest move.empty move.first) h);
+      let held_now = sends_holds old.senders p move.p move.sender after move.item (own_of p (flow old)) move.found refl
+      (ap (λ (i : Item). i.publisher) move.is) (ap (λ (i : Item). i.own) move.is) h in
+      subst (SendingsSent p) (sym move.kept)
+      (subst (SendingsHolds (slice_get (slice_set old.senders move.p after) p)) (sym (own_sent p old move.item))
+      held_now);
+  pulls = λ old new move h. subst (SendingsSent p) (sym move.kept)
+      (subst (λ xs. SendingsHolds (slice_get old.senders p) (own_of p xs))
+      (flow_pulled old move.item move.rest move.empty move.first) h);
   places = λ old new move h.
       let entry : Entry = record { number = suc (length old.sequence); item = move.item } in
-      subst (SendingsSent p) (sym move.kept) (subst (λ xs. SendingsHolds (slice_get old.senders p) (own_of p xs)) (flow_placed old move.item entry move.held refl) h);
+      subst (SendingsSent p) (sym move.kept)
+      (subst (λ xs. SendingsHolds (slice_get old.senders p) (own_of p xs))
+      (flow_placed old move.item entry move.held refl) h);
   ends = λ old new move h. subst (SendingsSent p) (sym move.kept) h;
   begins = λ old new move h. subst (SendingsSent p) (sym move.kept) h;
   offers = λ old new move h. subst (SendingsSent p) (sym move.kept) h;
@@ -123,15 +167,18 @@ sent_kept p = record {
 abbrev sendings_waiting : World → List Item
 sendings_waiting world = sendings_held world.hand ++ world.intake
 
-own_parts : (p : ℕ) (world : World) → own_of p (flow world) ≡ own_of p (items_of world.sequence) ++ own_of p (sendings_waiting world)
+own_parts : (p : ℕ) (world : World) → own_of p (flow world) ≡ own_of p (items_of world.sequence)
+    ++ own_of p (sendings_waiting world)
 own_parts p world = filter-append (λ (i : Item). i.publisher == p) (items_of world.sequence) (sendings_waiting world)
 
 sent_through : (p : ℕ) (mids : List World) (new : World) → Leads world_begun mids new → SendingsSent p new
 sent_through p mids new leads = kept_through (SendingsSent p) (sent_kept p) world_begun mids new leads refl
 
-pub in_order : (mids : List World) (new : World) (p : ℕ) (q : Sender) → Leads world_begun mids new → slice_get new.senders p ≡ Some q → IsFront (own_of p (items_of new.sequence)) q.sent
+pub in_order : (mids : List World) (new : World) (p : ℕ) (q : Sender) → Leads world_begun mids new
+    → slice_get new.senders p ≡ Some q → IsFront (own_of p (items_of new.sequence)) q.sent
 in_order mids new p q leads found =
-    let h : SendingsHolds (Some q) (own_of p (flow new)) = subst (λ o. SendingsHolds o (own_of p (flow new))) found (sent_through p mids new leads) in
+    let h : SendingsHolds (Some q) (own_of p (flow new)) =
+    subst (λ o. SendingsHolds o (own_of p (flow new))) found (sent_through p mids new leads) in
     (own_of p (sendings_waiting new), sym (own_parts p new) ∙ h.0)
 
 -- ---- once
@@ -149,58 +196,77 @@ with_first p entry entries b = cond b (entry.item ∷ placed_of p entries) (plac
 entry_at : (x b : Entry) → Some x ≡ Some b → x ≡ b
 entry_at x b e = cc e
 
-sendings_at_least : (n p : ℕ) (entries : List Entry) → SendingsNumbered n (placed_of p entries) → (j : ℕ) (b : Entry) → slice_get entries j ≡ Some b → b.item.publisher ≡ p → n ≤ b.item.own
+sendings_at_least : (n p : ℕ) (entries : List Entry) → SendingsNumbered n (placed_of p entries) → (j : ℕ) (b : Entry)
+    → slice_get entries j ≡ Some b → b.item.publisher ≡ p → n ≤ b.item.own
 sendings_at_least n p [] all j b found mine = absurd (cc found)
-sendings_at_least n p (x ∷ entries) all zero b found mine = elim (eqb_tells x.item.publisher p) as (λ w. n ≤ b.item.own) [
-  | inl is ↦
-      let here : SendingsNumbered n (x.item ∷ placed_of p entries) = subst (λ t. SendingsNumbered n (with_first p x entries t)) is.0 all in
-      omega (arith, here.0, ap (λ (e : Entry). e.item.own) (entry_at x b found))
-  | inr other ↦ absurd (other.1 (ap (λ (e : Entry). e.item.publisher) (entry_at x b found) ∙ mine))
-]
-sendings_at_least n p (x ∷ entries) all (suc j) b found mine = elim (eqb_tells x.item.publisher p) as (λ w. n ≤ b.item.own) [
-  | inl is ↦
-      let here : SendingsNumbered n (x.item ∷ placed_of p entries) = subst (λ t. SendingsNumbered n (with_first p x entries t)) is.0 all in
-      let more = sendings_at_least (suc n) p entries here.1 j b found mine in
-      omega (arith, more)
-  | inr other ↦
-      let rest : SendingsNumbered n (placed_of p entries) = subst (λ t. SendingsNumbered n (with_first p x entries t)) other.0 all in
-      sendings_at_least n p entries rest j b found mine
-]
+sendings_at_least n p (x ∷ entries) all zero b found mine =
+    elim (eqb_tells x.item.publisher p) as (λ w. n ≤ b.item.own) [
+      | inl is ↦
+          let here : SendingsNumbered n (x.item ∷ placed_of p entries) =
+          subst (λ t. SendingsNumbered n (with_first p x entries t)) is.0 all in
+          omega (arith, here.0, ap (λ (e : Entry). e.item.own) (entry_at x b found))
+      | inr other ↦ absurd (other.1 (ap (λ (e : Entry). e.item.publisher) (entry_at x b found) ∙ mine))
+    ]
+sendings_at_least n p (x ∷ entries) all (suc j) b found mine =
+    elim (eqb_tells x.item.publisher p) as (λ w. n ≤ b.item.own) [
+      | inl is ↦
+          let here : SendingsNumbered n (x.item ∷ placed_of p entries) =
+          subst (λ t. SendingsNumbered n (with_first p x entries t)) is.0 all in
+          let more = sendings_at_least (suc n) p entries here.1 j b found mine in
+          omega (arith, more)
+      | inr other ↦
+          let rest : SendingsNumbered n (placed_of p entries) =
+          subst (λ t. SendingsNumbered n (with_first p x entries t)) other.0 all in
+          sendings_at_least n p entries rest j b found mine
+    ]
 
 -- the first entry has another own number than each later one of its publisher
-first_alone : (n p : ℕ) (x : Entry) (entries : List Entry) → SendingsNumbered n (placed_of p (x ∷ entries)) → x.item.publisher ≡ p → (j : ℕ) (b : Entry) → slice_get entries j ≡ Some b → b.item.publisher ≡ p → x.item.own ≡ b.item.own → ⊥
+first_alone : (n p : ℕ) (x : Entry) (entries : List Entry) → SendingsNumbered n (placed_of p (x ∷ entries))
+    → x.item.publisher ≡ p → (j : ℕ) (b : Entry) → slice_get entries j ≡ Some b → b.item.publisher ≡ p → x.item.own
+    ≡ b.item.own → ⊥
 first_alone n p x entries all first j b found mine same = elim (eqb_tells x.item.publisher p) as (λ w. ⊥) [
   | inl is ↦
-      let here : SendingsNumbered n (x.item ∷ placed_of p entries) = subst (λ t. SendingsNumbered n (with_first p x entries t)) is.0 all in
+      let here : SendingsNumbered n (x.item ∷ placed_of p entries) =
+      subst (λ t. SendingsNumbered n (with_first p x entries t)) is.0 all in
       let more = sendings_at_least (suc n) p entries here.1 j b found mine in
       absurd (omega (arith, more, here.0, same))
   | inr other ↦ absurd (other.1 first)
 ]
 
-rest_numbered : (n p : ℕ) (x : Entry) (entries : List Entry) → SendingsNumbered n (placed_of p (x ∷ entries)) → (m : ℕ) × SendingsNumbered m (placed_of p entries)
-rest_numbered n p x entries all = elim (eqb_tells x.item.publisher p) as (λ w. (m : ℕ) × SendingsNumbered m (placed_of p entries)) [
-  | inl is ↦
-      let here : SendingsNumbered n (x.item ∷ placed_of p entries) = subst (λ t. SendingsNumbered n (with_first p x entries t)) is.0 all in
-      (suc n, here.1)
-  | inr other ↦ (n, subst (λ t. SendingsNumbered n (with_first p x entries t)) other.0 all)
-]
+rest_numbered : (n p : ℕ) (x : Entry) (entries : List Entry) → SendingsNumbered n (placed_of p (x ∷ entries)) → (m : ℕ)
+    × SendingsNumbered m (placed_of p entries)
+rest_numbered n p x entries all =
+    elim (eqb_tells x.item.publisher p) as (λ w. (m : ℕ) × SendingsNumbered m (placed_of p entries)) [
+      | inl is ↦
+          let here : SendingsNumbered n (x.item ∷ placed_of p entries) =
+          subst (λ t. SendingsNumbered n (with_first p x entries t)) is.0 all in
+          (suc n, here.1)
+      | inr other ↦ (n, subst (λ t. SendingsNumbered n (with_first p x entries t)) other.0 all)
+    ]
 
-distinct : (n p : ℕ) (entries : List Entry) → SendingsNumbered n (placed_of p entries) → (i j : ℕ) (a b : Entry) → slice_get entries i ≡ Some a → slice_get entries j ≡ Some b → a.item.publisher ≡ p → b.item.publisher ≡ p → a.item.own ≡ b.item.own → i ≡ j
+distinct : (n p : ℕ) (entries : List Entry) → SendingsNumbered n (placed_of p entries) → (i j : ℕ) (a b : Entry)
+    → slice_get entries i ≡ Some a → slice_get entries j ≡ Some b → a.item.publisher ≡ p → b.item.publisher ≡ p
+    → a.item.own ≡ b.item.own → i ≡ j
 distinct n p [] all i j a b at_i at_j of_a of_b same = absurd (cc at_i)
 distinct n p (x ∷ entries) all zero zero a b at_i at_j of_a of_b same = refl
 distinct n p (x ∷ entries) all zero (suc j) a b at_i at_j of_a of_b same =
     let is = entry_at x a at_i in
-    absurd (first_alone n p x entries all (ap (λ (e : Entry). e.item.publisher) is ∙ of_a) j b at_j of_b (ap (λ (e : Entry). e.item.own) is ∙ same))
+    absurd (first_alone n p x entries all (ap (λ (e : Entry). e.item.publisher) is ∙ of_a) j b at_j of_b
+    (ap (λ (e : Entry). e.item.own) is ∙ same))
 distinct n p (x ∷ entries) all (suc i) zero a b at_i at_j of_a of_b same =
     let is = entry_at x b at_j in
-    absurd (first_alone n p x entries all (ap (λ (e : Entry). e.item.publisher) is ∙ of_b) i a at_i of_a (ap (λ (e : Entry). e.item.own) is ∙ sym same))
+    absurd (first_alone n p x entries all (ap (λ (e : Entry). e.item.publisher) is ∙ of_b) i a at_i of_a
+    (ap (λ (e : Entry). e.item.own) is ∙ sym same))
 distinct n p (x ∷ entries) all (suc i) (suc j) a b at_i at_j of_a of_b same =
     let rest = rest_numbered n p x entries all in
     ap suc (distinct rest.0 p entries rest.1 i j a b at_i at_j of_a of_b same)
 
-pub once : (mids : List World) (new : World) (i j : ℕ) (a b : Entry) → Leads world_begun mids new → slice_get new.sequence i ≡ Some a → slice_get new.sequence j ≡ Some b → a.item.publisher ≡ b.item.publisher → a.item.own ≡ b.item.own → i ≡ j
+pub once : (mids : List World) (new : World) (i j : ℕ) (a b : Entry) → Leads world_begun mids new
+    → slice_get new.sequence i ≡ Some a → slice_get new.sequence j ≡ Some b → a.item.publisher ≡ b.item.publisher
+    → a.item.own ≡ b.item.own → i ≡ j
 once mids new i j a b leads at_i at_j publisher same =
     let p = b.item.publisher in
     let all = numbered_by (slice_get new.senders p) (own_of p (flow new)) (sent_through p mids new leads) in
-    let front = numbered_front 1 (own_of p (items_of new.sequence)) (own_of p (sendings_waiting new)) (subst (SendingsNumbered 1) (own_parts p new) all) in
+    let front = numbered_front 1 (own_of p (items_of new.sequence)) (own_of p (sendings_waiting new))
+    (subst (SendingsNumbered 1) (own_parts p new) all) in
     distinct 1 p new.sequence front i j a b at_i at_j publisher refl same

@@ -12,14 +12,17 @@ use Rattle.rb_core.proofs.Moving.{all_get}
 use Rattle.rb_core.proofs.Telling.{BeginsEmpty, IsTold}
 
 -- the thing at a place of a list, and what is made of it
-mapped_at : {A B : Type 0} (f : A → B) (xs : List A) (i : ℕ) (x : A) → slice_get xs i ≡ Some x → slice_get (map f xs) i ≡ Some (f x)
+mapped_at : {A B : Type 0} (f : A → B) (xs : List A) (i : ℕ) (x : A) → slice_get xs i ≡ Some x → slice_get (map f xs) i
+    ≡ Some (f x)
 mapped_at f [] i x e = absurd (cc e)
 mapped_at f (y ∷ xs) zero x e = let same : y ≡ x = cc e in ap (λ z. Some (f z)) same
 mapped_at f (y ∷ xs) (suc i) x e = mapped_at f xs i x e
 
 -- a subscription of which the course says that it has its run, in a broker that was told so
-pub gapless_run : ((mids : List World) (new : World) (s : ℕ) (subscriber : Subscriber) → Leads world_begun mids new → slice_get new.subscribers s ≡ Some subscriber → HasRun new.sequence subscriber)
-    → (schema : List Shape) (new : State) (world : World) (s : ℕ) (subscriber : Subscriber) → IsTold schema world_begun new world → slice_get world.subscribers s ≡ Some subscriber
+pub gapless_run : ((mids : List World) (new : World) (s : ℕ) (subscriber : Subscriber) → Leads world_begun mids new
+    → slice_get new.subscribers s ≡ Some subscriber → HasRun new.sequence subscriber)
+    → (schema : List Shape) (new : State) (world : World) (s : ℕ) (subscriber : Subscriber)
+    → IsTold schema world_begun new world → slice_get world.subscribers s ≡ Some subscriber
     → HasRun new.sequence subscriber × (slice_get new.endpoints s ≡ Some (endpoint_of subscriber))
 gapless_run law schema new world s subscriber told found = (
   subst (λ sequence. HasRun sequence subscriber) told.1.sequence (law told.0.0 world s subscriber told.0.1 found),
@@ -27,19 +30,27 @@ gapless_run law schema new world s subscriber told found = (
 )
 
 -- nothing is placed behind a close, nor accepted behind one
-pub closed_run : (schema : List Shape) (mid new : State) (old world : World) (last : ℕ) → IsToldBy schema mid old → IsTold schema old new world → mid.desk.closing ≡ Some last
+pub closed_run : (schema : List Shape) (mid new : State) (old world : World) (last : ℕ) → IsToldBy schema mid old
+    → IsTold schema old new world → mid.desk.closing ≡ Some last
     → (new.desk.closing ≡ Some last) × (new.sequence ≡ mid.sequence)
 closed_run schema mid new old world last before told closing =
     let stays = nothing_placed old told.0.0 world last (before.closing ∙ closing) told.0.1 in
     (sym told.1.closing ∙ stays.0, sym told.1.sequence ∙ stays.1 ∙ before.sequence)
 
-pub left_run : (schema : List Shape) (new : State) (old world : World) (s : ℕ) (subscriber : Subscriber) → IsTold schema old new world → slice_get old.subscribers s ≡ Some subscriber → subscriber.closed ≡ true
+pub left_run : (schema : List Shape) (new : State) (old world : World) (s : ℕ) (subscriber : Subscriber)
+    → IsTold schema old new world → slice_get old.subscribers s ≡ Some subscriber → subscriber.closed ≡ true
     → (after : Subscriber) × (slice_get world.subscribers s ≡ Some after) × StaysClosed subscriber after
-left_run schema new old world s subscriber told found closed = nothing_accepted old told.0.0 world s subscriber found closed told.0.1
+left_run schema new old world s subscriber told found closed =
+    nothing_accepted old told.0.0 world s subscriber found closed told.0.1
 
 -- a subscription of which the course says that its tables follow from those that it began with
-pub singly_run : ((mids : List World) (new : World) (s : ℕ) (subscriber : Subscriber) → Leads world_begun mids new → slice_get new.subscribers s ≡ Some subscriber → AppliesSingly subscriber.base subscriber.accepted subscriber.tables)
-    → (schema : List Shape) (new : State) (world : World) (s : ℕ) (subscriber : Subscriber) → IsTold schema world_begun new world → slice_get world.subscribers s ≡ Some subscriber
+pub singly_run : ((mids : List World) (new : World) (s : ℕ) (subscriber : Subscriber) → Leads world_begun mids new
+    → slice_get new.subscribers s ≡ Some subscriber
+    → AppliesSingly subscriber.base subscriber.accepted subscriber.tables)
+    → (schema : List Shape) (new : State) (world : World) (s : ℕ) (subscriber : Subscriber)
+    → IsTold schema world_begun new world → slice_get world.subscribers s ≡ Some subscriber
     → AppliesSingly (empty_tables schema) subscriber.accepted subscriber.tables
 singly_run law schema new world s subscriber told found =
-    subst (λ t. AppliesSingly t subscriber.accepted subscriber.tables) (all_get (BeginsEmpty schema) world.subscribers s subscriber told.1.bases found) (law told.0.0 world s subscriber told.0.1 found)
+    subst (λ t. AppliesSingly t subscriber.accepted subscriber.tables)
+    (all_get (BeginsEmpty schema) world.subscribers s subscriber told.1.bases found)
+    (law told.0.0 world s subscriber told.0.1 found)

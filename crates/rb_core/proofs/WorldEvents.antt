@@ -1,5 +1,6 @@
 -- Each event keeps what a world keeps, by the arms of its outcome.
-use Rattle.std.proofs.Common.{◌≡◌, ◌↔◌, ℕ, Bool, true, false, cond, List, [], ◌∷◌, ◌++◌, Option, Some, None, Result, Ok, Err, slice_get, slice_set, refl, sym, ap, ◌∙◌, arith}
+use Rattle.std.proofs.Common.{◌≡◌, ◌↔◌, ℕ, Bool, true, false, cond, List, [], ◌∷◌, ◌++◌, Option, Some, None, Result, Ok}
+use Rattle.std.proofs.Common.{Err, slice_get, slice_set, refl, sym, ap, ◌∙◌, arith}
 use Rattle.std.specs.Prelude.{⊤}
 use Rattle.std.proofs.lemmas.List.{length-append, length-set, map_push}
 use Rattle.cs_model.specs.Section.{Section}
@@ -22,15 +23,23 @@ use Rattle.rb_core.specs.declared.event.Event.{Event}
 use Rattle.rb_core.specs.declared.event.Event.TheVariants as event
 use Rattle.rb_core.specs.declared.publisher.Publisher.{Publisher}
 use Rattle.rb_core.specs.declared.reply.Reply.{Reply}
-use Rattle.rb_core.specs.Outcome.{fed_by, reset_by, staged_by, ended_by, ended_for, sent_while, sent_by, sent_for, turned_with, subscribed_by, delivered_to, accepted_by, accepted_at, accepted_as, acked_by_desk, acked_at, acked_for, nacked_by_desk, nacked_for, reconnected_with, reconnected_for, unsubscribed_with, unsubscribed_for, delivery_of, with_endpoint, outcome}
+use Rattle.rb_core.specs.Outcome.{fed_by, reset_by, staged_by, ended_by, ended_for, sent_while, sent_by, sent_for}
+use Rattle.rb_core.specs.Outcome.{turned_with, subscribed_by, delivered_for, accepted_by, accepted_at, accepted_as}
+use Rattle.rb_core.specs.Outcome.{acked_by_desk, acked_at, acked_for, nacked_by_desk, nacked_for, reconnected_with}
+use Rattle.rb_core.specs.Outcome.{reconnected_for, unsubscribed_with, unsubscribed_for, delivery_of, with_endpoint}
+use Rattle.rb_core.specs.Outcome.{outcome}
 use Rattle.rb_core.specs.Outcome as outcome
 use Rattle.rb_core.specs.State.{State, empty_tables, member_of_end, IsWorld}
-use Rattle.rb_core.proofs.DeskLaws.{KeepsPictures, DeskShows, beside, subscribe_keeps, take_keeps, take_any_keeps, ack_keeps, nack_keeps, expire_keeps, reconnect_keeps, unsubscribe_keeps, close_keeps, place_keeps}
-use Rattle.rb_core.proofs.Worlds.{apart, worlds_changed, same_outline, handed_over, placed_next, set_end, same_end, found_end}
+use Rattle.rb_core.proofs.DeskLaws.{KeepsPictures, DeskShows, beside, subscribe_keeps, take_keeps, take_any_keeps}
+use Rattle.rb_core.proofs.DeskLaws.{ack_keeps, nack_keeps, expire_keeps, reconnect_keeps, unsubscribe_keeps}
+use Rattle.rb_core.proofs.DeskLaws.{close_keeps, place_keeps}
+use Rattle.rb_core.proofs.Worlds.{apart, worlds_changed, same_outline, handed_over, placed_next, set_end, same_end}
+use Rattle.rb_core.proofs.Worlds.{found_end}
 
 -- an end accepts where it takes the step, and only there
 abbrev pub AcceptsBySteps : Type 0
-AcceptsBySteps = (old : Endpoint) (sequence : List Entry) (delivery : Delivery) (new : Endpoint) → (accept old sequence delivery ≡ Ok new) ↔ AcceptsDelivery old sequence delivery new
+AcceptsBySteps = (old : Endpoint) (sequence : List Entry) (delivery : Delivery) (new : Endpoint)
+    → (accept old sequence delivery ≡ Ok new) ↔ AcceptsDelivery old sequence delivery new
 
 -- the world is one after either of two outcomes
 world_events_either : (b : Bool) (x y : Reply × State) → IsWorld x.1 → IsWorld y.1 → IsWorld (cond b x y).1
@@ -42,7 +51,8 @@ world_events_either false x y h k = k
 publisher_keeps : (old : State) → IsWorld old → IsWorld (outcome.publisher_added old).1
 publisher_keeps old good = world_events_either _ _ _ good (apart old _ old.intake old.hand good)
 
-feed_keeps : (old : State) (p : ℕ) (bytes : List ℕ) (found : Option Publisher) → IsWorld old → IsWorld (fed_by old p bytes found).1
+feed_keeps : (old : State) (p : ℕ) (bytes : List ℕ) (found : Option Publisher) → IsWorld old
+    → IsWorld (fed_by old p bytes found).1
 feed_keeps old p bytes None good = good
 feed_keeps old p bytes (Some publisher) good = apart old _ old.intake old.hand good
 
@@ -50,23 +60,28 @@ reset_keeps : (old : State) (p : ℕ) (found : Option Publisher) → IsWorld old
 reset_keeps old p None good = good
 reset_keeps old p (Some publisher) good = apart old _ old.intake old.hand good
 
-staged_keeps : (old : State) (p : ℕ) (publisher : Publisher) (r : Result (List Section) EndError) → IsWorld old → IsWorld (staged_by old p publisher r).1
+staged_keeps : (old : State) (p : ℕ) (publisher : Publisher) (r : Result (List Section) EndError) → IsWorld old
+    → IsWorld (staged_by old p publisher r).1
 staged_keeps old p publisher (Ok changeset) good = apart old _ old.intake old.hand good
 staged_keeps old p publisher (Err error) good = good
 
-ended_by_keeps : (old : State) (p : ℕ) (publisher : Publisher) (kept : Option (List Section)) → IsWorld old → IsWorld (ended_by old p publisher kept).1
-ended_by_keeps old p publisher None good = staged_keeps old p publisher (admitted_answer old.schema (stream.answer_at_end publisher.stream)) good
+ended_by_keeps : (old : State) (p : ℕ) (publisher : Publisher) (kept : Option (List Section)) → IsWorld old
+    → IsWorld (ended_by old p publisher kept).1
+ended_by_keeps old p publisher None good =
+    staged_keeps old p publisher (admitted_answer old.schema (stream.answer_at_end publisher.stream)) good
 ended_by_keeps old p publisher (Some changeset) good = good
 
 end_keeps : (old : State) (p : ℕ) (found : Option Publisher) → IsWorld old → IsWorld (ended_for old p found).1
 end_keeps old p None good = good
 end_keeps old p (Some publisher) good = ended_by_keeps old p publisher publisher.staged good
 
-sent_while_keeps : (old : State) (p : ℕ) (publisher : Publisher) (changeset : List Section) (closing : Option ℕ) → IsWorld old → IsWorld (sent_while old p publisher changeset closing).1
+sent_while_keeps : (old : State) (p : ℕ) (publisher : Publisher) (changeset : List Section) (closing : Option ℕ)
+    → IsWorld old → IsWorld (sent_while old p publisher changeset closing).1
 sent_while_keeps old p publisher changeset (Some last) good = good
 sent_while_keeps old p publisher changeset None good = world_events_either _ _ _ good (apart old _ _ old.hand good)
 
-sent_by_keeps : (old : State) (p : ℕ) (publisher : Publisher) (kept : Option (List Section)) → IsWorld old → IsWorld (sent_by old p publisher kept).1
+sent_by_keeps : (old : State) (p : ℕ) (publisher : Publisher) (kept : Option (List Section)) → IsWorld old
+    → IsWorld (sent_by old p publisher kept).1
 sent_by_keeps old p publisher None good = good
 sent_by_keeps old p publisher (Some changeset) good = sent_while_keeps old p publisher changeset old.desk.closing good
 
@@ -76,110 +91,152 @@ send_keeps old p (Some publisher) good = sent_by_keeps old p publisher publisher
 
 -- ---- the sequence
 
-placed_keeps : KeepsPictures → DeskShows → (mid : State) (item : Item) (r : Result ℕ DeskRefusal) → desk.prepare mid.desk ≡ r → IsWorld mid → IsWorld (outcome.placed mid item r).1
+placed_keeps : KeepsPictures → DeskShows → (mid : State) (item : Item) (r : Result ℕ DeskRefusal)
+    → desk.prepare mid.desk ≡ r → IsWorld mid → IsWorld (outcome.placed mid item r).1
 placed_keeps keeps shows mid item (Ok number) is good =
-    placed_next mid (desk.place mid.desk) number item good (place_keeps keeps mid.desk number is good.picture) (shows.places mid.desk number is)
+    placed_next mid (desk.place mid.desk) number item good (place_keeps keeps mid.desk number is good.picture)
+    (shows.places mid.desk number is)
 placed_keeps keeps shows mid item (Err why) is good = good
 
-turned_keeps : KeepsPictures → DeskShows → (mid : State) (hand : Option Item) → IsWorld mid → IsWorld (turned_with mid hand).1
+turned_keeps : KeepsPictures → DeskShows → (mid : State) (hand : Option Item) → IsWorld mid
+    → IsWorld (turned_with mid hand).1
 turned_keeps keeps shows mid None good = good
 turned_keeps keeps shows mid (Some item) good = placed_keeps keeps shows mid item (desk.prepare mid.desk) refl good
 
-turn_keeps : KeepsPictures → DeskShows → (old : State) → IsWorld old → IsWorld (turned_with (outcome.pulled old) (outcome.pulled old).hand).1
-turn_keeps keeps shows old good = turned_keeps keeps shows (outcome.pulled old) (outcome.pulled old).hand (apart old old.publishers _ _ good)
+turn_keeps : KeepsPictures → DeskShows → (old : State) → IsWorld old
+    → IsWorld (turned_with (outcome.pulled old) (outcome.pulled old).hand).1
+turn_keeps keeps shows old good =
+    turned_keeps keeps shows (outcome.pulled old) (outcome.pulled old).hand (apart old old.publishers _ _ good)
 
 end_sequence_keeps : KeepsPictures → DeskShows → (old : State) → IsWorld old → IsWorld (outcome.closed old).1
 end_sequence_keeps keeps shows old good =
     let new = (desk.close old.desk).1 in
     let ends = shows.closes old.desk (desk.close old.desk).0 new good.picture refl in
-    worlds_changed old new old.endpoints good (close_keeps keeps old.desk good.picture) (ap (λ (o : Outline). o.front) ends.kept) (ap (λ (o : Outline). o.next_delivery) ends.kept)
+    worlds_changed old new old.endpoints good (close_keeps keeps old.desk good.picture)
+    (ap (λ (o : Outline). o.front) ends.kept) (ap (λ (o : Outline). o.next_delivery) ends.kept)
     (good.members ∙ sym (ap (λ (o : Outline). o.members) ends.kept)) (omega arith)
 
 -- ---- subscriptions
 
-world_events_subscribed_keeps : (old : State) (start : ℕ) (r : Result (ℕ × ℕ) DeskRefusal) (new : Picture) → IsWorld old → IsPicture new → ((made : ℕ × ℕ) → r ≡ Ok made → outline.Subscribes (outline_of old.desk) (outline_of new) start made.0 made.1)
+world_events_subscribed_keeps : (old : State) (start : ℕ) (r : Result (ℕ × ℕ) DeskRefusal) (new : Picture) → IsWorld old
+    → IsPicture new → ((made : ℕ × ℕ) → r ≡ Ok made → outline.Subscribes (outline_of old.desk) (outline_of new) start
+    made.0 made.1)
     → IsWorld (subscribed_by old start r new).1
 world_events_subscribed_keeps old start (Ok made) new good picture joins =
     let join = joins made refl in
     let end : Endpoint = new_endpoint start made.1 (empty_tables old.schema) in
-    let members = map_push member_of_end old.endpoints end ∙ ap (λ (ms : List Member). ms ++ member_of_end end ∷ []) good.members ∙ sym (ap (λ (o : Outline). o.members) join.kept) in
-    worlds_changed old new (old.endpoints ++ end ∷ []) good picture (ap (λ (o : Outline). o.front) join.kept) (ap (λ (o : Outline). o.next_delivery) join.kept) members (omega (arith, length-append old.endpoints (end ∷ [])))
+    let members = map_push member_of_end old.endpoints end
+    ∙ ap (λ (ms : List Member). ms ++ member_of_end end ∷ []) good.members
+    ∙ sym (ap (λ (o : Outline). o.members) join.kept) in
+    worlds_changed old new (old.endpoints ++ end ∷ []) good picture (ap (λ (o : Outline). o.front) join.kept)
+    (ap (λ (o : Outline). o.next_delivery) join.kept) members
+    (omega (arith, length-append old.endpoints (end ∷ [])))
 world_events_subscribed_keeps old start (Err why) new good picture joins = good
 
-subscription_keeps : KeepsPictures → DeskShows → (old : State) (start : ℕ) → IsWorld old → IsWorld (subscribed_by old start (desk.subscribe old.desk start).0 (desk.subscribe old.desk start).1).1
+subscription_keeps : KeepsPictures → DeskShows → (old : State) (start : ℕ) → IsWorld old
+    → IsWorld (subscribed_by old start (desk.subscribe old.desk start).0 (desk.subscribe old.desk start).1).1
 subscription_keeps keeps shows old start good =
     let call = desk.subscribe old.desk start in
-    world_events_subscribed_keeps old start call.0 call.1 good (subscribe_keeps keeps old.desk start good.picture) (λ made is. shows.subscribes old.desk start made.0 made.1 call.1 (ap (beside call.1) is))
+    world_events_subscribed_keeps old start call.0 call.1 good (subscribe_keeps keeps old.desk start good.picture)
+    (λ made is. shows.subscribes old.desk start made.0 made.1 call.1 (ap (beside call.1) is))
 
-handed_keeps : (old : State) (r : Result Delivery DeskRefusal) (new : Picture) → IsWorld old → IsPicture new → ((delivery : Delivery) → r ≡ Ok delivery → outline.Delivers (outline_of old.desk) (outline_of new) delivery) → IsWorld (outcome.delivered_by old r new).1
+handed_keeps : (old : State) (r : Result Delivery DeskRefusal) (new : Picture) → IsWorld old → IsPicture new
+    → ((delivery : Delivery) → r ≡ Ok delivery → outline.Delivers (outline_of old.desk) (outline_of new) delivery)
+    → IsWorld (outcome.delivered_by old r new).1
 handed_keeps old (Ok delivery) new good picture hands = handed_over old new delivery good picture (hands delivery refl)
 handed_keeps old (Err why) new good picture hands = good
 
-taken_keeps : KeepsPictures → DeskShows → (old : State) (s now : ℕ) (found : Option Endpoint) → IsWorld old → IsWorld (delivered_to old s now found).1
+taken_keeps : KeepsPictures → DeskShows → (old : State) (s now : ℕ) (found : Option Endpoint) → IsWorld old
+    → IsWorld (delivered_for old s now found).1
 taken_keeps keeps shows old s now None good = good
 taken_keeps keeps shows old s now (Some end) good =
     let call = desk.take old.desk s end.link end.cursor now in
     handed_keeps old call.0 call.1 good (take_keeps keeps old.desk s end.link end.cursor now good.picture)
-    (λ delivery is. (shows.takes old.desk s end.link end.cursor now delivery call.1 good.picture (ap (beside call.1) is)).1)
+    (λ delivery is. (shows.takes old.desk s end.link end.cursor now delivery call.1 good.picture
+    (ap (beside call.1) is)).1)
 
-taken_any_keeps : KeepsPictures → DeskShows → (old : State) (now : ℕ) → IsWorld old → IsWorld (outcome.delivered_by old (desk.take_any old.desk now).0 (desk.take_any old.desk now).1).1
+taken_any_keeps : KeepsPictures → DeskShows → (old : State) (now : ℕ) → IsWorld old
+    → IsWorld (outcome.delivered_by old (desk.take_any old.desk now).0 (desk.take_any old.desk now).1).1
 taken_any_keeps keeps shows old now good =
     let call = desk.take_any old.desk now in
-    handed_keeps old call.0 call.1 good (take_any_keeps keeps old.desk now good.picture) (λ delivery is. shows.takes_any old.desk now delivery call.1 good.picture (ap (beside call.1) is))
+    handed_keeps old call.0 call.1 good (take_any_keeps keeps old.desk now good.picture)
+    (λ delivery is. shows.takes_any old.desk now delivery call.1 good.picture (ap (beside call.1) is))
 
 -- ---- deliveries
 
-accepted_keeps : AcceptsBySteps → (old : State) (s : ℕ) (end : Endpoint) (delivery : Delivery) (r : Result Endpoint AcceptRefusal) → accept end old.sequence delivery ≡ r → slice_get old.endpoints s ≡ Some end → IsWorld old
+accepted_keeps : AcceptsBySteps
+    → (old : State) (s : ℕ) (end : Endpoint) (delivery : Delivery) (r : Result Endpoint AcceptRefusal)
+    → accept end old.sequence delivery ≡ r → slice_get old.endpoints s ≡ Some end → IsWorld old
     → IsWorld (accepted_by old s r).1
 accepted_keeps steps old s end delivery (Ok new) is found good =
     let step = (steps end old.sequence delivery new).0 is in
-    worlds_changed old old.desk (slice_set old.endpoints s new) good good.picture refl refl (same_end old.endpoints s end new found (ap member_of_end step.kept) ∙ good.members) (omega (arith, length-set old.endpoints s new))
+    worlds_changed old old.desk (slice_set old.endpoints s new) good good.picture refl refl
+    (same_end old.endpoints s end new found (ap member_of_end step.kept) ∙ good.members)
+    (omega (arith, length-set old.endpoints s new))
 accepted_keeps steps old s end delivery (Err why) is found good = good
 
-accepted_at_keeps : AcceptsBySteps → (old : State) (delivery : Delivery) (found : Option Endpoint) → slice_get old.endpoints delivery.sub ≡ found → IsWorld old → IsWorld (accepted_at old delivery found).1
+accepted_at_keeps : AcceptsBySteps → (old : State) (delivery : Delivery) (found : Option Endpoint)
+    → slice_get old.endpoints delivery.sub ≡ found → IsWorld old → IsWorld (accepted_at old delivery found).1
 accepted_at_keeps steps old delivery None is good = good
-accepted_at_keeps steps old delivery (Some end) is good = accepted_keeps steps old delivery.sub end delivery (accept end old.sequence delivery) refl is good
+accepted_at_keeps steps old delivery (Some end) is good =
+    accepted_keeps steps old delivery.sub end delivery (accept end old.sequence delivery) refl is good
 
-accepted_as_keeps : AcceptsBySteps → (old : State) (found : Option Delivery) → IsWorld old → IsWorld (accepted_as old found).1
+accepted_as_keeps : AcceptsBySteps → (old : State) (found : Option Delivery) → IsWorld old
+    → IsWorld (accepted_as old found).1
 accepted_as_keeps steps old None good = good
-accepted_as_keeps steps old (Some delivery) good = accepted_at_keeps steps old delivery (slice_get old.endpoints delivery.sub) refl good
+accepted_as_keeps steps old (Some delivery) good =
+    accepted_at_keeps steps old delivery (slice_get old.endpoints delivery.sub) refl good
 
-settled_keeps : (old : State) (r : Result ℕ DeskRefusal) (new : Picture) → IsWorld old → IsPicture new → ((floor : ℕ) → r ≡ Ok floor → outline_of new ≡ outline_of old.desk) → IsWorld (acked_by_desk old r new).1
+settled_keeps : (old : State) (r : Result ℕ DeskRefusal) (new : Picture) → IsWorld old → IsPicture new
+    → ((floor : ℕ) → r ≡ Ok floor → outline_of new ≡ outline_of old.desk) → IsWorld (acked_by_desk old r new).1
 settled_keeps old (Ok floor) new good picture same = same_outline old new good picture (same floor refl)
 settled_keeps old (Err why) new good picture same = good
 
-acked_at_keeps : KeepsPictures → DeskShows → (old : State) (delivery : Delivery) (found : Option Endpoint) → IsWorld old → IsWorld (acked_at old delivery found).1
+acked_at_keeps : KeepsPictures → DeskShows → (old : State) (delivery : Delivery) (found : Option Endpoint) → IsWorld old
+    → IsWorld (acked_at old delivery found).1
 acked_at_keeps keeps shows old delivery None good = good
 acked_at_keeps keeps shows old delivery (Some end) good =
     let call = desk.ack old.desk delivery.sub delivery.link delivery.number end.cursor in
-    settled_keeps old call.0 call.1 good (ack_keeps keeps old.desk delivery.sub delivery.link delivery.number end.cursor good.picture)
-    (λ floor is. shows.acks old.desk delivery.sub delivery.link delivery.number end.cursor floor call.1 (ap (beside call.1) is))
+    settled_keeps old call.0 call.1 good
+    (ack_keeps keeps old.desk delivery.sub delivery.link delivery.number end.cursor good.picture)
+    (λ floor is. shows.acks old.desk delivery.sub delivery.link delivery.number end.cursor floor call.1
+    (ap (beside call.1) is))
 
-acked_keeps : KeepsPictures → DeskShows → (old : State) (found : Option Delivery) → IsWorld old → IsWorld (acked_for old found).1
+acked_keeps : KeepsPictures → DeskShows → (old : State) (found : Option Delivery) → IsWorld old
+    → IsWorld (acked_for old found).1
 acked_keeps keeps shows old None good = good
-acked_keeps keeps shows old (Some delivery) good = acked_at_keeps keeps shows old delivery (slice_get old.endpoints delivery.sub) good
+acked_keeps keeps shows old (Some delivery) good =
+    acked_at_keeps keeps shows old delivery (slice_get old.endpoints delivery.sub) good
 
-returned_keeps : (old : State) (r : Result ⊤ DeskRefusal) (new : Picture) → IsWorld old → IsPicture new → (r ≡ Ok tt → outline_of new ≡ outline_of old.desk) → IsWorld (nacked_by_desk old r new).1
+returned_keeps : (old : State) (r : Result ⊤ DeskRefusal) (new : Picture) → IsWorld old → IsPicture new
+    → (r ≡ Ok tt → outline_of new ≡ outline_of old.desk) → IsWorld (nacked_by_desk old r new).1
 returned_keeps old (Ok done) new good picture same = same_outline old new good picture (same refl)
 returned_keeps old (Err why) new good picture same = good
 
-nacked_keeps : KeepsPictures → DeskShows → (old : State) (found : Option Delivery) → IsWorld old → IsWorld (nacked_for old found).1
+nacked_keeps : KeepsPictures → DeskShows → (old : State) (found : Option Delivery) → IsWorld old
+    → IsWorld (nacked_for old found).1
 nacked_keeps keeps shows old None good = good
 nacked_keeps keeps shows old (Some delivery) good =
     let call = desk.nack old.desk delivery.sub delivery.link delivery.number in
-    returned_keeps old call.0 call.1 good (nack_keeps keeps old.desk delivery.sub delivery.link delivery.number good.picture)
+    returned_keeps old call.0 call.1 good
+    (nack_keeps keeps old.desk delivery.sub delivery.link delivery.number good.picture)
     (λ is. shows.nacks old.desk delivery.sub delivery.link delivery.number call.1 (ap (beside call.1) is))
 
-world_events_expired_keeps : KeepsPictures → DeskShows → (old : State) (now : ℕ) → IsWorld old → IsWorld (outcome.expired old now).1
+world_events_expired_keeps : KeepsPictures → DeskShows → (old : State) (now : ℕ) → IsWorld old
+    → IsWorld (outcome.expired old now).1
 world_events_expired_keeps keeps shows old now good =
     let call = desk.expire old.desk now in
-    same_outline old call.1 good (expire_keeps keeps old.desk now good.picture) (shows.expires old.desk now call.0 call.1 refl)
+    same_outline old call.1 good (expire_keeps keeps old.desk now good.picture)
+    (shows.expires old.desk now call.0 call.1 refl)
 
 -- ---- links
 
 -- an end becomes another, and so does the desk's member
-changed_end : (old : State) (s : ℕ) (next : Endpoint) (member : Member) (new : Picture) → IsWorld old → IsPicture new → (outline_of new).front ≡ (outline_of old.desk).front → (outline_of new).next_delivery ≡ (outline_of old.desk).next_delivery
-    → (outline_of new).members ≡ slice_set (outline_of old.desk).members s member → member_of_end next ≡ member → IsWorld (record (with_endpoint old s next) { desk = new })
+changed_end : (old : State) (s : ℕ) (next : Endpoint) (member : Member) (new : Picture) → IsWorld old → IsPicture new
+    → (outline_of new).front ≡ (outline_of old.desk).front → (outline_of new).next_delivery
+    ≡ (outline_of old.desk).next_delivery
+    → (outline_of new).members ≡ slice_set (outline_of old.desk).members s member → member_of_end next ≡ member
+    → IsWorld (record (with_endpoint old s next) { desk = new })
 changed_end old s next member new good picture front delivery members is =
     let kept =
     set_end old.endpoints s next
@@ -187,39 +244,53 @@ changed_end old s next member new good picture front delivery members is =
     ∙ ap (slice_set (outline_of old.desk).members s) is
     ∙ sym members
     in
-    worlds_changed old new (slice_set old.endpoints s next) good picture front delivery kept (omega (arith, length-set old.endpoints s next))
+    worlds_changed old new (slice_set old.endpoints s next) good picture front delivery kept
+    (omega (arith, length-set old.endpoints s next))
 
-linked_keeps : (old : State) (s : ℕ) (end : Endpoint) (r : Result ℕ DeskRefusal) (new : Picture) → slice_get old.endpoints s ≡ Some end → IsWorld old → IsPicture new
-    → ((link : ℕ) → r ≡ Ok link → outline.Reconnects (outline_of old.desk) (outline_of new) s link) → IsWorld (reconnected_with old s end r new).1
+linked_keeps : (old : State) (s : ℕ) (end : Endpoint) (r : Result ℕ DeskRefusal) (new : Picture)
+    → slice_get old.endpoints s ≡ Some end → IsWorld old → IsPicture new
+    → ((link : ℕ) → r ≡ Ok link → outline.Reconnects (outline_of old.desk) (outline_of new) s link)
+    → IsWorld (reconnected_with old s end r new).1
 linked_keeps old s end (Ok link) new here good picture relinks =
     let h = relinks link refl in
     let is = found_end old s end h.member good here h.found in
-    changed_end old s (record end { link = link }) (record h.member { link = link }) new good picture (ap (λ (o : Outline). o.front) h.kept) (ap (λ (o : Outline). o.next_delivery) h.kept) (ap (λ (o : Outline). o.members) h.kept) (ap (λ (m : Member). record m { link = link }) (sym is))
+    changed_end old s (record end { link = link }) (record h.member { link = link }) new good picture
+    (ap (λ (o : Outline). o.front) h.kept) (ap (λ (o : Outline). o.next_delivery) h.kept)
+    (ap (λ (o : Outline). o.members) h.kept) (ap (λ (m : Member). record m { link = link }) (sym is))
 linked_keeps old s end (Err why) new here good picture relinks = good
 
-world_events_reconnected_keeps : KeepsPictures → DeskShows → (old : State) (s cursor : ℕ) (found : Option Endpoint) → slice_get old.endpoints s ≡ found → IsWorld old → IsWorld (reconnected_for old s cursor found).1
+world_events_reconnected_keeps : KeepsPictures → DeskShows → (old : State) (s cursor : ℕ) (found : Option Endpoint)
+    → slice_get old.endpoints s ≡ found → IsWorld old → IsWorld (reconnected_for old s cursor found).1
 world_events_reconnected_keeps keeps shows old s cursor None is good = good
 world_events_reconnected_keeps keeps shows old s cursor (Some end) is good =
     let call = desk.reconnect old.desk s cursor in
-    linked_keeps old s end call.0 call.1 is good (reconnect_keeps keeps old.desk s cursor good.picture) (λ link e. shows.reconnects old.desk s cursor link call.1 (ap (beside call.1) e))
+    linked_keeps old s end call.0 call.1 is good (reconnect_keeps keeps old.desk s cursor good.picture)
+    (λ link e. shows.reconnects old.desk s cursor link call.1 (ap (beside call.1) e))
 
-left_keeps : (old : State) (s : ℕ) (end : Endpoint) (r : Result ⊤ DeskRefusal) (new : Picture) → slice_get old.endpoints s ≡ Some end → IsWorld old → IsPicture new → (r ≡ Ok tt → outline.Unsubscribes (outline_of old.desk) (outline_of new) s)
+left_keeps : (old : State) (s : ℕ) (end : Endpoint) (r : Result ⊤ DeskRefusal) (new : Picture)
+    → slice_get old.endpoints s ≡ Some end → IsWorld old → IsPicture new
+    → (r ≡ Ok tt → outline.Unsubscribes (outline_of old.desk) (outline_of new) s)
     → IsWorld (unsubscribed_with old s end r new).1
 left_keeps old s end (Ok done) new here good picture leaves =
     let h = leaves refl in
     let is = found_end old s end h.member good here h.found in
-    changed_end old s (record end { closed = true }) (record h.member { closed = true }) new good picture (ap (λ (o : Outline). o.front) h.kept) (ap (λ (o : Outline). o.next_delivery) h.kept) (ap (λ (o : Outline). o.members) h.kept) (ap (λ (m : Member). record m { closed = true }) (sym is))
+    changed_end old s (record end { closed = true }) (record h.member { closed = true }) new good picture
+    (ap (λ (o : Outline). o.front) h.kept) (ap (λ (o : Outline). o.next_delivery) h.kept)
+    (ap (λ (o : Outline). o.members) h.kept) (ap (λ (m : Member). record m { closed = true }) (sym is))
 left_keeps old s end (Err why) new here good picture leaves = good
 
-world_events_unsubscribed_keeps : KeepsPictures → DeskShows → (old : State) (s : ℕ) (found : Option Endpoint) → slice_get old.endpoints s ≡ found → IsWorld old → IsWorld (unsubscribed_for old s found).1
+world_events_unsubscribed_keeps : KeepsPictures → DeskShows → (old : State) (s : ℕ) (found : Option Endpoint)
+    → slice_get old.endpoints s ≡ found → IsWorld old → IsWorld (unsubscribed_for old s found).1
 world_events_unsubscribed_keeps keeps shows old s None is good = good
 world_events_unsubscribed_keeps keeps shows old s (Some end) is good =
     let call = desk.unsubscribe old.desk s end.link in
-    left_keeps old s end call.0 call.1 is good (unsubscribe_keeps keeps old.desk s end.link good.picture) (λ e. shows.unsubscribes old.desk s end.link call.1 (ap (beside call.1) e))
+    left_keeps old s end call.0 call.1 is good (unsubscribe_keeps keeps old.desk s end.link good.picture)
+    (λ e. shows.unsubscribes old.desk s end.link call.1 (ap (beside call.1) e))
 
 -- ---- all of these
 
-pub event_keeps : KeepsPictures → DeskShows → AcceptsBySteps → (old : State) (event : Event) → IsWorld old → IsWorld (outcome old event).1
+pub event_keeps : KeepsPictures → DeskShows → AcceptsBySteps → (old : State) (event : Event) → IsWorld old
+    → IsWorld (outcome old event).1
 unfolding outcome
 event_keeps keeps shows steps old event.Publisher good = publisher_keeps old good
 event_keeps keeps shows steps old (event.Feed p bytes) good = feed_keeps old p bytes (slice_get old.publishers p) good
@@ -229,11 +300,14 @@ event_keeps keeps shows steps old (event.Send p) good = send_keeps old p (slice_
 event_keeps keeps shows steps old event.Turn good = turn_keeps keeps shows old good
 event_keeps keeps shows steps old event.Close good = end_sequence_keeps keeps shows old good
 event_keeps keeps shows steps old (event.Subscribe start) good = subscription_keeps keeps shows old start good
-event_keeps keeps shows steps old (event.Take s now) good = taken_keeps keeps shows old s now (slice_get old.endpoints s) good
+event_keeps keeps shows steps old (event.Take s now) good =
+    taken_keeps keeps shows old s now (slice_get old.endpoints s) good
 event_keeps keeps shows steps old (event.TakeAny now) good = taken_any_keeps keeps shows old now good
 event_keeps keeps shows steps old (event.Accept d) good = accepted_as_keeps steps old (delivery_of old d) good
 event_keeps keeps shows steps old (event.Ack d) good = acked_keeps keeps shows old (delivery_of old d) good
 event_keeps keeps shows steps old (event.Nack d) good = nacked_keeps keeps shows old (delivery_of old d) good
 event_keeps keeps shows steps old (event.Expire now) good = world_events_expired_keeps keeps shows old now good
-event_keeps keeps shows steps old (event.Reconnect s cursor) good = world_events_reconnected_keeps keeps shows old s cursor (slice_get old.endpoints s) refl good
-event_keeps keeps shows steps old (event.Unsubscribe s) good = world_events_unsubscribed_keeps keeps shows old s (slice_get old.endpoints s) refl good
+event_keeps keeps shows steps old (event.Reconnect s cursor) good =
+    world_events_reconnected_keeps keeps shows old s cursor (slice_get old.endpoints s) refl good
+event_keeps keeps shows steps old (event.Unsubscribe s) good =
+    world_events_unsubscribed_keeps keeps shows old s (slice_get old.endpoints s) refl good

@@ -1,5 +1,6 @@
 -- What a world keeps, part by part.
-use Rattle.std.proofs.Common.{◌≡◌, ℕ, zero, suc, ◌+◌, ◌<◌, ◌≤◌, List, [], ◌∷◌, ◌++◌, length, map, Option, Some, None, option_map, slice_get, slice_set, refl, sym, ap, ◌∙◌, arith}
+use Rattle.std.proofs.Common.{◌≡◌, ℕ, zero, suc, ◌+◌, ◌<◌, ◌≤◌, List, [], ◌∷◌, ◌++◌, length, map, Option, Some, None}
+use Rattle.std.proofs.Common.{option_map, slice_get, slice_set, refl, sym, ap, ◌∙◌, arith}
 use Rattle.std.specs.List.{AllByRecursion}
 use Rattle.std.proofs.lemmas.List.{length-append, length-map, map-set}
 use Rattle.std.proofs.lemmas.Option.{slice_get-map, slice_get_within}
@@ -23,40 +24,52 @@ worlds_one_more : {A : Type 0} (xs : List A) (x : A) → length (xs ++ x ∷ [])
 worlds_one_more xs x = omega (arith, length-append xs (x ∷ []))
 
 -- a delivery stays one of a subscription, and its numbers placed, where both lists grow
-still_of : (endpoints endpoints' : List Endpoint) (sequence sequence' : List Entry) (ds : List Delivery) → length endpoints ≤ length endpoints' → length sequence ≤ length sequence'
+still_of : (endpoints endpoints' : List Endpoint) (sequence sequence' : List Entry) (ds : List Delivery)
+    → length endpoints ≤ length endpoints' → length sequence ≤ length sequence'
     → AllByRecursion (IsOf endpoints sequence) ds → AllByRecursion (IsOf endpoints' sequence') ds
 still_of endpoints endpoints' sequence sequence' ds more longer all =
-    all_map (IsOf endpoints sequence) (IsOf endpoints' sequence') ds (λ d is. (omega (arith, more, is.0), omega (arith, longer, is.1))) all
+    all_map (IsOf endpoints sequence) (IsOf endpoints' sequence') ds
+    (λ d is. (omega (arith, more, is.0), omega (arith, longer, is.1))) all
 
 -- an end that becomes another one stands among the members as that
-pub set_end : (endpoints : List Endpoint) (s : ℕ) (end : Endpoint) → map member_of_end (slice_set endpoints s end) ≡ slice_set (map member_of_end endpoints) s (member_of_end end)
+pub set_end : (endpoints : List Endpoint) (s : ℕ) (end : Endpoint) → map member_of_end (slice_set endpoints s end)
+    ≡ slice_set (map member_of_end endpoints) s (member_of_end end)
 set_end endpoints s end = map-set member_of_end endpoints s end
 
 -- one that stays the same member changes no members
-pub same_end : (endpoints : List Endpoint) (s : ℕ) (old new : Endpoint) → slice_get endpoints s ≡ Some old → member_of_end new ≡ member_of_end old → map member_of_end (slice_set endpoints s new) ≡ map member_of_end endpoints
+pub same_end : (endpoints : List Endpoint) (s : ℕ) (old new : Endpoint) → slice_get endpoints s ≡ Some old
+    → member_of_end new ≡ member_of_end old → map member_of_end (slice_set endpoints s new)
+    ≡ map member_of_end endpoints
 same_end [] s old new found same = refl
 same_end (e ∷ endpoints) zero old new found same =
     let is : old ≡ e = cc in
     ap (λ (m : Member). m ∷ map member_of_end endpoints) (same ∙ ap member_of_end is)
-same_end (e ∷ endpoints) (suc s) old new found same = ap (λ (ms : List Member). member_of_end e ∷ ms) (same_end endpoints s old new found same)
+same_end (e ∷ endpoints) (suc s) old new found same =
+    ap (λ (ms : List Member). member_of_end e ∷ ms) (same_end endpoints s old new found same)
 
 -- the member that the desk finds is that of the end at this place
-pub found_end : (w : State) (s : ℕ) (end : Endpoint) (member : Member) → IsWorld w → slice_get w.endpoints s ≡ Some end → slice_get (outline_of w.desk).members s ≡ Some member → member ≡ member_of_end end
+pub found_end : (w : State) (s : ℕ) (end : Endpoint) (member : Member) → IsWorld w → slice_get w.endpoints s ≡ Some end
+    → slice_get (outline_of w.desk).members s ≡ Some member → member ≡ member_of_end end
 found_end w s end member good here found =
-    let is : slice_get (map member_of_end w.endpoints) s ≡ Some (member_of_end end) = slice_get-map member_of_end w.endpoints s ∙ ap (option_map member_of_end) here in
-    let there : slice_get (map member_of_end w.endpoints) s ≡ Some member = ap (λ (ms : List Member). slice_get ms s) good.members ∙ found in
+    let is : slice_get (map member_of_end w.endpoints) s ≡ Some (member_of_end end) =
+    slice_get-map member_of_end w.endpoints s ∙ ap (option_map member_of_end) here in
+    let there : slice_get (map member_of_end w.endpoints) s ≡ Some member =
+    ap (λ (ms : List Member). slice_get ms s) good.members ∙ found in
     cc (sym there ∙ is)
 
 -- and it is there
-pub end_within : (w : State) (s : ℕ) (member : Member) → IsWorld w → slice_get (outline_of w.desk).members s ≡ Some member → s < length w.endpoints
+pub end_within : (w : State) (s : ℕ) (member : Member) → IsWorld w → slice_get (outline_of w.desk).members s
+    ≡ Some member → s < length w.endpoints
 end_within w s member good found =
-    let there : slice_get (map member_of_end w.endpoints) s ≡ Some member = ap (λ (ms : List Member). slice_get ms s) good.members ∙ found in
+    let there : slice_get (map member_of_end w.endpoints) s ≡ Some member =
+    ap (λ (ms : List Member). slice_get ms s) good.members ∙ found in
     omega (arith, slice_get_within (map member_of_end w.endpoints) s member there, length-map w.endpoints member_of_end)
 
 -- ---- parts that change
 
 -- publishers, what waits and the hand are no matter
-pub apart : (old : State) (publishers : List Publisher) (intake : List Item) (hand : Option Item) → IsWorld old → IsWorld (record old { publishers = publishers; intake = intake; hand = hand })
+pub apart : (old : State) (publishers : List Publisher) (intake : List Item) (hand : Option Item) → IsWorld old
+    → IsWorld (record old { publishers = publishers; intake = intake; hand = hand })
 apart old publishers intake hand good = record {
   picture = good.picture;
   front = good.front;
@@ -68,8 +81,10 @@ apart old publishers intake hand good = record {
 }
 
 -- the desk and the ends change together, where nothing is placed or handed over
-pub worlds_changed : (old : State) (desk : Picture) (endpoints : List Endpoint) → IsWorld old → IsPicture desk → desk.front ≡ old.desk.front → desk.next_delivery ≡ old.desk.next_delivery
-    → map member_of_end endpoints ≡ (outline_of desk).members → length old.endpoints ≤ length endpoints → IsWorld (record old { desk = desk; endpoints = endpoints })
+pub worlds_changed : (old : State) (desk : Picture) (endpoints : List Endpoint) → IsWorld old → IsPicture desk
+    → desk.front ≡ old.desk.front → desk.next_delivery ≡ old.desk.next_delivery
+    → map member_of_end endpoints ≡ (outline_of desk).members → length old.endpoints ≤ length endpoints
+    → IsWorld (record old { desk = desk; endpoints = endpoints })
 worlds_changed old desk endpoints good picture front next members more = record {
   picture = picture;
   front = front ∙ good.front;
@@ -81,13 +96,16 @@ worlds_changed old desk endpoints good picture front next members more = record 
 }
 
 -- the desk alone, where its outline stays
-pub same_outline : (old : State) (desk : Picture) → IsWorld old → IsPicture desk → outline_of desk ≡ outline_of old.desk → IsWorld (record old { desk = desk })
+pub same_outline : (old : State) (desk : Picture) → IsWorld old → IsPicture desk → outline_of desk ≡ outline_of old.desk
+    → IsWorld (record old { desk = desk })
 same_outline old desk good picture same =
-    worlds_changed old desk old.endpoints good picture (ap (λ (o : Outline). o.front) same) (ap (λ (o : Outline). o.next_delivery) same)
+    worlds_changed old desk old.endpoints good picture (ap (λ (o : Outline). o.front) same)
+    (ap (λ (o : Outline). o.next_delivery) same)
     (good.members ∙ sym (ap (λ (o : Outline). o.members) same)) (omega arith)
 
 -- a delivery is handed over
-pub handed_over : (old : State) (desk : Picture) (delivery : Delivery) → IsWorld old → IsPicture desk → outline.Delivers (outline_of old.desk) (outline_of desk) delivery
+pub handed_over : (old : State) (desk : Picture) (delivery : Delivery) → IsWorld old → IsPicture desk
+    → outline.Delivers (outline_of old.desk) (outline_of desk) delivery
     → IsWorld (record old { desk = desk; deliveries = old.deliveries ++ delivery ∷ [] })
 handed_over old desk delivery good picture hands =
     let front : desk.front ≡ old.desk.front = ap (λ (o : Outline). o.front) hands.kept in
@@ -98,16 +116,19 @@ handed_over old desk delivery good picture hands =
       front = front ∙ good.front;
       members = good.members ∙ sym (ap (λ (o : Outline). o.members) hands.kept);
       entries = good.entries;
-      deliveries = numbered_push (λ (d : Delivery). d.number) 1 old.deliveries delivery good.deliveries (omega (arith, number));
+      deliveries = numbered_push (λ (d : Delivery). d.number) 1 old.deliveries delivery good.deliveries
+          (omega (arith, number));
       next = omega (arith, next, number, worlds_one_more old.deliveries delivery);
-      are_of = all_push (IsOf old.endpoints old.sequence) old.deliveries delivery good.are_of (end_within old delivery.sub hands.member good hands.found, omega (arith, hands.placed, good.front));
+      are_of = all_push (IsOf old.endpoints old.sequence) old.deliveries delivery good.are_of
+          (end_within old delivery.sub hands.member good hands.found, omega (arith, hands.placed, good.front));
     }
 
 -- an item is placed
 abbrev pub entry_as : ℕ → Item → Entry
 entry_as number item = record { number = number; item = item }
 
-pub placed_next : (old : State) (desk : Picture) (number : ℕ) (item : Item) → IsWorld old → IsPicture desk → outline.Places (outline_of old.desk) (outline_of desk) number
+pub placed_next : (old : State) (desk : Picture) (number : ℕ) (item : Item) → IsWorld old → IsPicture desk
+    → outline.Places (outline_of old.desk) (outline_of desk) number
     → IsWorld (record old { hand = None; sequence = old.sequence ++ entry_as number item ∷ []; desk = desk })
 placed_next old desk number item good picture places =
     let front : desk.front ≡ number = ap (λ (o : Outline). o.front) places.kept in
@@ -117,8 +138,10 @@ placed_next old desk number item good picture places =
       picture = picture;
       front = omega (arith, front, is, longer);
       members = good.members ∙ sym (ap (λ (o : Outline). o.members) places.kept);
-      entries = numbered_push (λ (e : Entry). e.number) 1 old.sequence (entry_as number item) good.entries (omega (arith, is));
+      entries = numbered_push (λ (e : Entry). e.number) 1 old.sequence (entry_as number item) good.entries
+          (omega (arith, is));
       deliveries = good.deliveries;
       next = ap (λ (o : Outline). o.next_delivery) places.kept ∙ good.next;
-      are_of = still_of old.endpoints old.endpoints old.sequence (old.sequence ++ entry_as number item ∷ []) old.deliveries (omega arith) (omega (arith, longer)) good.are_of;
+      are_of = still_of old.endpoints old.endpoints old.sequence (old.sequence ++ entry_as number item ∷ [])
+          old.deliveries (omega arith) (omega (arith, longer)) good.are_of;
     }

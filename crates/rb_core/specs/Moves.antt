@@ -1,5 +1,7 @@
--- What may happen to the world at once. A refused call, an acknowledgement, one that is taken back and an expiry change nothing here.
-use Rattle.std.specs.Prelude.{◌≡◌, ◌==◌, ℕ, suc, ◌-◌, ◌<◌, ◌≤◌, ◌⊎◌, true, false, map, List, [], ◌∷◌, ◌++◌, length, Option, Some, None, slice_get, slice_set}
+-- What may happen to the world at once. A refused call, an acknowledgement, one that is taken back
+-- and an expiry change nothing here.
+use Rattle.std.specs.Prelude.{◌≡◌, ◌==◌, ℕ, suc, ◌-◌, ◌<◌, ◌≤◌, ◌⊎◌, true, false, map, List, []}
+use Rattle.std.specs.Prelude.{◌∷◌, ◌++◌, length, Option, Some, None, slice_get, slice_set}
 use Rattle.std.specs.List.{AllByRecursion, filter}
 use Rattle.cs_model.specs.declared.origin.Origin.{Origin}
 use Rattle.cs_model.specs.Section.{Section}
@@ -15,7 +17,8 @@ abbrev pub with_sender : World → ℕ → Sender → World
 with_sender old p sender = record old { senders = slice_set old.senders p sender }
 
 abbrev pub with_subscriber : World → ℕ → Subscriber → World
-with_subscriber old s subscriber = record old { subscribers = slice_set old.subscribers s subscriber }
+with_subscriber old s subscriber =
+    record old { subscribers = slice_set old.subscribers s subscriber }
 
 -- a number isn't one of these
 abbrev pub IsNew : List ℕ → ℕ → Type 0
@@ -34,7 +37,8 @@ IsUnused number q = AllByRecursion (λ offer. offer.number ≡ number → ⊥) q
 
 -- a publisher comes
 abbrev pub AddsPublisher : World → World → Type 0
-AddsPublisher old new = new ≡ record old { senders = old.senders ++ record { text = []; staged = None; sent = [] } ∷ [] }
+AddsPublisher old new = new
+    ≡ record old { senders = old.senders ++ record { text = []; staged = None; sent = [] } ∷ [] }
 
 -- a publisher's text and what it staged change, and nothing else
 pub record Streams (old new : World) : Type 0 where
@@ -54,8 +58,16 @@ pub record Sends (old new : World) : Type 0 where
   pub found : slice_get old.senders p ≡ Some sender
   pub staged : sender.staged ≡ Some body
   pub item : Item
-  pub is : item ≡ record { publisher = p; own = suc (length sender.sent); origin = origin; body = body }
-  pub kept : new ≡ record (with_sender old p (record sender { staged = None; sent = sender.sent ++ item ∷ [] })) { intake = old.intake ++ item ∷ [] }
+  pub is : item ≡ record {
+    publisher = p;
+    own = suc (length sender.sent);
+    origin = origin;
+    body = body;
+  }
+  pub kept : new
+      ≡ record (with_sender old p
+      (record sender { staged = None; sent = sender.sent ++ item ∷ [] }))
+      { intake = old.intake ++ item ∷ [] }
 
 -- ---- the sequence
 
@@ -72,7 +84,11 @@ pub record Places (old new : World) : Type 0 where
   pub item : Item
   pub held : old.hand ≡ Some item
   pub not_closed : old.closing ≡ None
-  pub kept : new ≡ record old { hand = None; sequence = old.sequence ++ record { number = suc (length old.sequence); item = item } ∷ [] }
+  pub kept : new ≡ record old {
+    hand = None;
+    sequence = old.sequence
+        ++ record { number = suc (length old.sequence); item = item } ∷ [];
+  }
 
 -- the sequence is closed: its last number is the closing number
 pub record Closes (old new : World) : Type 0 where
@@ -81,7 +97,8 @@ pub record Closes (old new : World) : Type 0 where
 
 -- ---- subscriptions
 
--- one begins behind a number that is placed, under a link that was never drawn before, with some tables
+-- one begins behind a number that is placed, under a link that was never drawn before, with some
+-- tables
 pub record Subscribes (old new : World) : Type 0 where
   pub start : ℕ
   pub link : ℕ
@@ -90,10 +107,20 @@ pub record Subscribes (old new : World) : Type 0 where
   pub new_link : IsNew old.links link
   pub kept : new ≡ record old {
     links = link ∷ old.links;
-    subscribers = old.subscribers ++ record { start = start; base = base; accepted = []; tables = base; link = link; closed = false; offers = [] } ∷ [];
+    subscribers = old.subscribers
+        ++ record {
+          start = start;
+          base = base;
+          accepted = [];
+          tables = base;
+          link = link;
+          closed = false;
+          offers = [];
+        } ∷ [];
   }
 
--- one is offered numbers that are placed, under its present link, as a delivery whose number was never used
+-- one is offered numbers that are placed, under its present link, as a delivery whose number was
+-- never used
 pub record Delivers (old new : World) : Type 0 where
   pub s : ℕ
   pub subscriber : Subscriber
@@ -104,7 +131,8 @@ pub record Delivers (old new : World) : Type 0 where
   pub behind : subscriber.start < delivery.first
   pub order : delivery.first ≤ delivery.last
   pub placed : delivery.last ≤ length old.sequence
-  pub kept : new ≡ with_subscriber old s (record subscriber { offers = subscriber.offers ++ delivery ∷ [] })
+  pub kept : new ≡ with_subscriber old s
+      (record subscriber { offers = subscriber.offers ++ delivery ∷ [] })
 
 -- one accepts a delivery that it was offered, as its end does
 pub record Accepts (old new : World) : Type 0 where
@@ -115,7 +143,12 @@ pub record Accepts (old new : World) : Type 0 where
   pub found : slice_get old.subscribers s ≡ Some subscriber
   pub offered : IsIn delivery subscriber.offers
   pub accepts : AcceptsDelivery (endpoint_of subscriber) old.sequence delivery end
-  pub kept : new ≡ with_subscriber old s (record subscriber { accepted = subscriber.accepted ++ brought (endpoint_of subscriber) old.sequence delivery; tables = end.tables })
+  pub kept : new ≡ with_subscriber old s
+      (record subscriber {
+        accepted = subscriber.accepted
+            ++ brought (endpoint_of subscriber) old.sequence delivery;
+        tables = end.tables;
+      })
 
 -- one goes on under a link that was never drawn before
 pub record Reconnects (old new : World) : Type 0 where
@@ -124,7 +157,8 @@ pub record Reconnects (old new : World) : Type 0 where
   pub link : ℕ
   pub found : slice_get old.subscribers s ≡ Some subscriber
   pub new_link : IsNew old.links link
-  pub kept : new ≡ record (with_subscriber old s (record subscriber { link = link })) { links = link ∷ old.links }
+  pub kept : new ≡ record (with_subscriber old s (record subscriber { link = link }))
+      { links = link ∷ old.links }
 
 -- one is closed
 pub record Unsubscribes (old new : World) : Type 0 where
@@ -137,8 +171,11 @@ pub record Unsubscribes (old new : World) : Type 0 where
 
 abbrev pub Moves : World → World → Type 0
 Moves old new =
-    (new ≡ old) ⊎ (AddsPublisher old new ⊎ (Streams old new ⊎ (Sends old new ⊎ (Pulls old new ⊎ (Places old new ⊎ (Closes old new
-    ⊎ (Subscribes old new ⊎ (Delivers old new ⊎ (Accepts old new ⊎ (Reconnects old new ⊎ Unsubscribes old new))))))))))
+    (new ≡ old) ⊎ (AddsPublisher old new
+    ⊎ (Streams old new ⊎ (Sends old new ⊎ (Pulls old new ⊎ (Places old new ⊎ (Closes old new
+    ⊎ (Subscribes old new
+    ⊎ (Delivers old new
+    ⊎ (Accepts old new ⊎ (Reconnects old new ⊎ Unsubscribes old new))))))))))
 
 -- one move after another, through these worlds
 abbrev pub Leads : World → List World → World → Type 0

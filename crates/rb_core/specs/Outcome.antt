@@ -1,10 +1,14 @@
--- What an event does: the reply, and the world after it. A refused event leaves the world as it was, but that a refused turn has pulled.
-use Rattle.std.specs.Prelude.{ℕ, suc, ◌+◌, ⊤, Bool, true, List, [], ◌∷◌, ◌++◌, length, Option, Some, None, Result, Ok, Err, ◌==◌, slice_get, slice_set, nat_le, if◌then◌else◌}
+-- What an event does: the reply, and the world after it. A refused event leaves the world as it
+-- was, but that a refused turn has pulled.
+use Rattle.std.specs.Prelude.{ℕ, suc, ◌+◌, ⊤, Bool, true, List, [], ◌∷◌, ◌++◌, length, Option, Some}
+use Rattle.std.specs.Prelude.{None, Result, Ok, Err, ◌==◌, slice_get, slice_set, nat_le}
+use Rattle.std.specs.Prelude.{if◌then◌else◌}
 use Rattle.std.specs.List.{find}
 use Rattle.cs_model.specs.Section.{Section}
 use Rattle.cs_model.specs.declared.origin.Origin.TheVariants.{Sent}
 use Rattle.cs_model.specs.declared.schema.SectionFault.{SectionFault}
-use Rattle.cs_model.specs.declared.schema.SectionFault.TheVariants.{UnknownTable as Unknown, ShapeDiffers as Differs}
+use Rattle.cs_model.specs.declared.schema.SectionFault.TheVariants.{UnknownTable as Unknown}
+use Rattle.cs_model.specs.declared.schema.SectionFault.TheVariants.{ShapeDiffers as Differs}
 use Rattle.cs_parse.specs.declared.end.EndError.{EndError}
 use Rattle.cs_parse.specs.declared.end.EndError.TheVariants as end_error
 use Rattle.cs_parse.specs.declared.fault.ParseFault.{ParseFault}
@@ -53,19 +57,28 @@ delivery_of w d = find (λ delivery. delivery.number == d) w.deliveries
 abbrev pub publisher_added : State → Reply × State
 publisher_added old =
     if nat_le 64 (length old.publishers) then refused old refusal.TooMany
-    else (reply.Publisher (length old.publishers), record old { publishers = old.publishers ++ record { stream = stream.nothing; staged = None; sent = 0 } ∷ [] })
+    else (
+      reply.Publisher (length old.publishers),
+      record old {
+        publishers = old.publishers
+            ++ record { stream = stream.nothing; staged = None; sent = 0 } ∷ [];
+      },
+    )
 
--- Feed: the stream is read on by the bytes, where it has no fault yet; a fault that no more bytes mend is told at once.
+-- Feed: the stream is read on by the bytes, where it has no fault yet; a fault that no more bytes
+-- mend is told at once.
 abbrev pub fed_reply : Option ParseFault → Reply
 fed_reply None = reply.Fed
 fed_reply (Some fault) = reply.Fault fault
 
 abbrev pub fed_stream : State → ℕ → Publisher → Progress → Reply × State
-fed_stream old p publisher progress = (fed_reply progress.fault, with_publisher old p (record publisher { stream = progress }))
+fed_stream old p publisher progress =
+    (fed_reply progress.fault, with_publisher old p (record publisher { stream = progress }))
 
 abbrev pub fed_by : State → ℕ → List ℕ → Option Publisher → Reply × State
 fed_by old p bytes None = refused old refusal.NoPublisher
-fed_by old p bytes (Some publisher) = fed_stream old p publisher (stream.advanced publisher.stream bytes)
+fed_by old p bytes (Some publisher) =
+    fed_stream old p publisher (stream.advanced publisher.stream bytes)
 
 abbrev pub fed : State → ℕ → List ℕ → Reply × State
 fed old p bytes = fed_by old p bytes (slice_get old.publishers p)
@@ -73,12 +86,14 @@ fed old p bytes = fed_by old p bytes (slice_get old.publishers p)
 -- Reset: nothing of the stream is kept; what is staged stays.
 abbrev pub reset_by : State → ℕ → Option Publisher → Reply × State
 reset_by old p None = refused old refusal.NoPublisher
-reset_by old p (Some publisher) = (reply.Reset, with_publisher old p (record publisher { stream = stream.nothing }))
+reset_by old p (Some publisher) =
+    (reply.Reset, with_publisher old p (record publisher { stream = stream.nothing }))
 
 abbrev pub reset : State → ℕ → Reply × State
 reset old p = reset_by old p (slice_get old.publishers p)
 
--- End: what the stream spells is staged where the schema admits it, and a new stream begins; else it stays.
+-- End: what the stream spells is staged where the schema admits it, and a new stream begins; else
+-- it stays.
 abbrev pub fault_refusal : SectionFault → BrokerRefusal
 fault_refusal (Unknown i) = refusal.UnknownTable i
 fault_refusal (Differs i) = refusal.ShapeDiffers i
@@ -88,11 +103,16 @@ end_reply (end_error.Fault fault) = reply.Fault fault
 end_reply (end_error.Refused fault) = reply.Refused (fault_refusal fault)
 
 abbrev pub staged_by : State → ℕ → Publisher → Result (List Section) EndError → Reply × State
-staged_by old p publisher (Ok changeset) = (reply.Staged, with_publisher old p (record publisher { stream = stream.nothing; staged = Some changeset }))
+staged_by old p publisher (Ok changeset) = (
+  reply.Staged,
+  with_publisher old p
+      (record publisher { stream = stream.nothing; staged = Some changeset }),
+)
 staged_by old p publisher (Err error) = (end_reply error, old)
 
 abbrev pub ended_by : State → ℕ → Publisher → Option (List Section) → Reply × State
-ended_by old p publisher None = staged_by old p publisher (admitted_answer old.schema (stream.answer_at_end publisher.stream))
+ended_by old p publisher None =
+    staged_by old p publisher (admitted_answer old.schema (stream.answer_at_end publisher.stream))
 ended_by old p publisher (Some changeset) = refused old refusal.Holding
 
 abbrev pub ended_for : State → ℕ → Option Publisher → Reply × State
@@ -102,18 +122,26 @@ ended_for old p (Some publisher) = ended_by old p publisher publisher.staged
 abbrev pub ended : State → ℕ → Reply × State
 ended old p = ended_for old p (slice_get old.publishers p)
 
--- Send: what is staged goes to the end of the intake, as the publisher's next sending, unless the sequence is closed or the intake full.
+-- Send: what is staged goes to the end of the intake, as the publisher's next sending, unless the
+-- sequence is closed or the intake full.
 abbrev pub sent_item : State → ℕ → Publisher → List Section → Reply × State
 sent_item old p publisher changeset = (
   reply.Sent (publisher.sent + 1),
-  record (with_publisher old p (record publisher { staged = None; sent = publisher.sent + 1 }))
-      { intake = old.intake ++ record { publisher = p; own = publisher.sent + 1; origin = Sent; body = changeset } ∷ [] },
+  record (with_publisher old p (record publisher { staged = None; sent = publisher.sent + 1 })) {
+    intake = old.intake ++ record {
+      publisher = p;
+      own = publisher.sent + 1;
+      origin = Sent;
+      body = changeset;
+    } ∷ [];
+  },
 )
 
 abbrev pub sent_while : State → ℕ → Publisher → List Section → Option ℕ → Reply × State
 sent_while old p publisher changeset (Some last) = refused old refusal.Closed
 sent_while old p publisher changeset None =
-    if nat_le old.desk.limits.intake (length old.intake) then refused old refusal.Full else sent_item old p publisher changeset
+    if nat_le old.desk.limits.intake (length old.intake) then refused old refusal.Full else
+    sent_item old p publisher changeset
 
 abbrev pub sent_by : State → ℕ → Publisher → Option (List Section) → Reply × State
 sent_by old p publisher None = refused old refusal.NothingStaged
@@ -128,8 +156,8 @@ sent old p = sent_for old p (slice_get old.publishers p)
 
 -- ---- the sequence
 
--- Turn: an empty hand pulls the intake's first item. What is in hand becomes the last entry of the sequence, under the next number;
--- where the desk refuses the number it stays in hand.
+-- Turn: an empty hand pulls the intake's first item. What is in hand becomes the last entry of the
+-- sequence, under the next number; where the desk refuses the number it stays in hand.
 abbrev pub hand_of : Option Item → List Item → Option Item
 hand_of (Some item) intake = Some item
 hand_of None [] = None
@@ -144,8 +172,15 @@ abbrev pub pulled : State → State
 pulled old = record old { hand = hand_of old.hand old.intake; intake = rest_of old.hand old.intake }
 
 abbrev pub placed : State → Item → Result ℕ DeskRefusal → Reply × State
-placed mid item (Ok number) =
-    (reply.Placed number, record mid { hand = None; sequence = mid.sequence ++ record { number = number; item = item } ∷ []; desk = desk.place mid.desk })
+placed mid item (Ok number) = (
+  reply.Placed number,
+  record mid {
+    hand = None;
+    sequence = mid.sequence
+        ++ record { number = number; item = item } ∷ [];
+    desk = desk.place mid.desk;
+  },
+)
 placed mid item (Err why) = refused mid (refusal.Desk why)
 
 abbrev pub turned_with : State → Option Item → Reply × State
@@ -166,28 +201,41 @@ closed old = closed_by old (desk.close old.desk)
 
 -- Subscribe: the desk's, with an end that has empty tables of the schema
 abbrev pub subscribed_by : State → ℕ → Result (ℕ × ℕ) DeskRefusal → Picture → Reply × State
-subscribed_by old start (Ok made) picture =
-    (reply.Subscriber made.0 made.1, record old { desk = picture; endpoints = old.endpoints ++ new_endpoint start made.1 (empty_tables old.schema) ∷ [] })
+subscribed_by old start (Ok made) picture = (
+  reply.Subscriber made.0 made.1,
+  record old {
+    desk = picture;
+    endpoints = old.endpoints
+        ++ new_endpoint start made.1 (empty_tables old.schema) ∷ [];
+  },
+)
 subscribed_by old start (Err why) picture = refused old (refusal.Desk why)
 
 abbrev pub subscribed : State → ℕ → Reply × State
-subscribed old start = subscribed_by old start (desk.subscribe old.desk start).0 (desk.subscribe old.desk start).1
+subscribed old start = subscribed_by old start (desk.subscribe old.desk start).0
+    (desk.subscribe old.desk start).1
 
 -- Take: the desk's, with the end's link and cursor
 abbrev pub delivered_by : State → Result Delivery DeskRefusal → Picture → Reply × State
-delivered_by old (Ok delivery) picture = (reply.Delivery delivery, record old { desk = picture; deliveries = old.deliveries ++ delivery ∷ [] })
+delivered_by old (Ok delivery) picture = (
+  reply.Delivery delivery,
+  record old { desk = picture; deliveries = old.deliveries ++ delivery ∷ [] },
+)
 delivered_by old (Err why) picture = refused old (refusal.Desk why)
 
-abbrev pub delivered_to : State → ℕ → ℕ → Option Endpoint → Reply × State
-delivered_to old s now None = refused old (refusal.Desk NoSuch)
-delivered_to old s now (Some end) = delivered_by old (desk.take old.desk s end.link end.cursor now).0 (desk.take old.desk s end.link end.cursor now).1
+abbrev pub delivered_for : State → ℕ → ℕ → Option Endpoint → Reply × State
+delivered_for old s now None = refused old (refusal.Desk NoSuch)
+delivered_for old s now (Some end) =
+    delivered_by old (desk.take old.desk s end.link end.cursor now).0
+    (desk.take old.desk s end.link end.cursor now).1
 
 abbrev pub delivered : State → ℕ → ℕ → Reply × State
-delivered old s now = delivered_to old s now (slice_get old.endpoints s)
+delivered old s now = delivered_for old s now (slice_get old.endpoints s)
 
 -- TakeAny: the desk's
 abbrev pub delivered_any : State → ℕ → Reply × State
-delivered_any old now = delivered_by old (desk.take_any old.desk now).0 (desk.take_any old.desk now).1
+delivered_any old now = delivered_by old (desk.take_any old.desk now).0
+    (desk.take_any old.desk now).1
 
 -- Accept: that of the delivery's end, whether or not it is in flight
 abbrev pub accepted_by : State → ℕ → Result Endpoint AcceptRefusal → Reply × State
@@ -196,7 +244,8 @@ accepted_by old s (Err why) = refused old (refusal.Accept why)
 
 abbrev pub accepted_at : State → Delivery → Option Endpoint → Reply × State
 accepted_at old delivery None = refused old refusal.NoDelivery
-accepted_at old delivery (Some end) = accepted_by old delivery.sub (accept end old.sequence delivery)
+accepted_at old delivery (Some end) =
+    accepted_by old delivery.sub (accept end old.sequence delivery)
 
 abbrev pub accepted_as : State → Option Delivery → Reply × State
 accepted_as old None = refused old refusal.NoDelivery
@@ -213,7 +262,8 @@ acked_by_desk old (Err why) picture = refused old (refusal.Desk why)
 abbrev pub acked_at : State → Delivery → Option Endpoint → Reply × State
 acked_at old delivery None = refused old refusal.NoDelivery
 acked_at old delivery (Some end) =
-    acked_by_desk old (desk.ack old.desk delivery.sub delivery.link delivery.number end.cursor).0 (desk.ack old.desk delivery.sub delivery.link delivery.number end.cursor).1
+    acked_by_desk old (desk.ack old.desk delivery.sub delivery.link delivery.number end.cursor).0
+    (desk.ack old.desk delivery.sub delivery.link delivery.number end.cursor).1
 
 abbrev pub acked_for : State → Option Delivery → Reply × State
 acked_for old None = refused old refusal.NoDelivery
@@ -230,7 +280,8 @@ nacked_by_desk old (Err why) picture = refused old (refusal.Desk why)
 abbrev pub nacked_for : State → Option Delivery → Reply × State
 nacked_for old None = refused old refusal.NoDelivery
 nacked_for old (Some delivery) =
-    nacked_by_desk old (desk.nack old.desk delivery.sub delivery.link delivery.number).0 (desk.nack old.desk delivery.sub delivery.link delivery.number).1
+    nacked_by_desk old (desk.nack old.desk delivery.sub delivery.link delivery.number).0
+    (desk.nack old.desk delivery.sub delivery.link delivery.number).1
 
 abbrev pub nacked : State → ℕ → Reply × State
 nacked old d = nacked_for old (delivery_of old d)
@@ -244,24 +295,33 @@ expired old now = expired_by_desk old (desk.expire old.desk now)
 
 -- Reconnect: the desk's; the end goes on under the new link.
 abbrev pub reconnected_with : State → ℕ → Endpoint → Result ℕ DeskRefusal → Picture → Reply × State
-reconnected_with old s end (Ok link) picture = (reply.Link link, record (with_endpoint old s (record end { link = link })) { desk = picture })
+reconnected_with old s end (Ok link) picture =
+    (reply.Link link, record (with_endpoint old s (record end { link = link })) { desk = picture })
 reconnected_with old s end (Err why) picture = refused old (refusal.Desk why)
 
 abbrev pub reconnected_for : State → ℕ → ℕ → Option Endpoint → Reply × State
 reconnected_for old s cursor None = refused old (refusal.Desk NoSuch)
-reconnected_for old s cursor (Some end) = reconnected_with old s end (desk.reconnect old.desk s cursor).0 (desk.reconnect old.desk s cursor).1
+reconnected_for old s cursor (Some end) =
+    reconnected_with old s end (desk.reconnect old.desk s cursor).0
+    (desk.reconnect old.desk s cursor).1
 
 abbrev pub reconnected : State → ℕ → ℕ → Reply × State
 reconnected old s cursor = reconnected_for old s cursor (slice_get old.endpoints s)
 
 -- Unsubscribe: the desk's, with the end's link; the end is closed.
 abbrev pub unsubscribed_with : State → ℕ → Endpoint → Result ⊤ DeskRefusal → Picture → Reply × State
-unsubscribed_with old s end (Ok done) picture = (reply.Unsubscribed, record (with_endpoint old s (record end { closed = true })) { desk = picture })
+unsubscribed_with old s end (Ok done) picture = (
+  reply.Unsubscribed,
+  record (with_endpoint old s (record end { closed = true }))
+      { desk = picture },
+)
 unsubscribed_with old s end (Err why) picture = refused old (refusal.Desk why)
 
 abbrev pub unsubscribed_for : State → ℕ → Option Endpoint → Reply × State
 unsubscribed_for old s None = refused old (refusal.Desk NoSuch)
-unsubscribed_for old s (Some end) = unsubscribed_with old s end (desk.unsubscribe old.desk s end.link).0 (desk.unsubscribe old.desk s end.link).1
+unsubscribed_for old s (Some end) =
+    unsubscribed_with old s end (desk.unsubscribe old.desk s end.link).0
+    (desk.unsubscribe old.desk s end.link).1
 
 abbrev pub unsubscribed : State → ℕ → Reply × State
 unsubscribed old s = unsubscribed_for old s (slice_get old.endpoints s)

@@ -26,22 +26,25 @@ abbrev pub Run : State → List Event → List Answer → State → Type 0
 Run old [] [] new = new ≡ old
 Run old [] (answer ∷ answers) new = ⊥
 Run old (event ∷ events) [] new = ⊥
-Run old (event ∷ events) (answer ∷ answers) new = (mid : State) × Stepped old event answer mid × Run mid events answers new
+Run old (event ∷ events) (answer ∷ answers) new = (mid : State) × Stepped old event answer mid
+    × Run mid events answers new
 
 -- what an event feeds are bytes, if it feeds any
 abbrev pub FeedsBytes : Event → Type 0
 FeedsBytes (event.Feed p bytes) = AreBytes bytes
 FeedsBytes other = Unit {0}
 
--- A run from the start: from the empty world of this schema, under limits in their ranges, these events are answered so
--- and leave new. What they feed are bytes.
-pub record IsRunOf (limits : Limits) (schema : List Shape) (events : List Event) (answers : List Answer)
+-- A run from the start: from the empty world of this schema, under limits in their ranges, these
+-- events are answered so and leave new. What they feed are bytes.
+pub record IsRunOf (limits : Limits) (schema : List Shape) (events : List Event)
+    (answers : List Answer)
     (new : State) : Type 0 where
   pub ranges : AreInRange limits
   pub feeds : AllByRecursion FeedsBytes events
   pub run : Run (empty_world limits schema) events answers new
 
 -- A run goes on: from mid, more events are answered so and leave new. What they feed are bytes.
-pub record RunsOn (mid : State) (more : List Event) (later : List Answer) (new : State) : Type 0 where
-  pub feeds : AllByRecursion FeedsBytes more
-  pub run : Run mid more later new
+pub record RunsOn (mid : State) (more : List Event) (later : List Answer) (new : State) : Type 0
+  where
+    pub feeds : AllByRecursion FeedsBytes more
+    pub run : Run mid more later new

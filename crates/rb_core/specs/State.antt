@@ -1,5 +1,6 @@
 -- The world as a value.
-use Rattle.std.specs.Prelude.{◌≡◌, ℕ, suc, ◌+◌, ◌<◌, ◌≤◌, Bool, true, List, [], ◌∷◌, length, map, replicate, Option, Some, None, refl}
+use Rattle.std.specs.Prelude.{◌≡◌, ℕ, suc, ◌+◌, ◌<◌, ◌≤◌, Bool, true, List, [], ◌∷◌, length, map}
+use Rattle.std.specs.Prelude.{replicate, Option, Some, None, refl}
 use Rattle.std.specs.Coded.{Coded, code_by, coded×, coded_list, coded_option}
 use Rattle.std.specs.FinMap as map
 use Rattle.std.specs.List.{AllByRecursion}
@@ -19,9 +20,10 @@ use Rattle.rb_subscriber.specs.Endpoint.{Endpoint, endpoint_code}
 use Rattle.rb_core.specs.contracts.publisher.Publisher as publisher
 use Rattle.rb_core.specs.declared.publisher.Publisher.{Publisher}
 
--- A world: the schema that it serves; the publishers; what was sent and waits, in order; the item in hand, which waits no more and has
--- no number yet; the sequence; what the desk knows, the limits among it; the subscriptions' ends; all deliveries, in order.
--- Publishers and subscriptions are named by their places from 0, entries and deliveries by their numbers from 1.
+-- A world: the schema that it serves; the publishers; what was sent and waits, in order; the item
+-- in hand, which waits no more and has no number yet; the sequence; what the desk knows, the limits
+-- among it; the subscriptions' ends; all deliveries, in order. Publishers and subscriptions are
+-- named by their places from 0, entries and deliveries by their numbers from 1.
 pub record State : Type 0 where
   pub schema : List Shape
   pub publishers : List Publisher
@@ -47,7 +49,11 @@ empty_world limits schema = record {
 
 -- tables without rows, every one of them kept
 abbrev pub empty_tables : List Shape → tables.TableState
-empty_tables schema = record { schema = schema; kept = replicate (length schema) true; rows = map.empty }
+empty_tables schema = record {
+  schema = schema;
+  kept = replicate (length schema) true;
+  rows = map.empty;
+}
 
 -- an end as the desk knows its subscription
 abbrev pub member_of_end : Endpoint → Member
@@ -62,8 +68,9 @@ AreNumbered number n (x ∷ rest) = (number x ≡ n) × AreNumbered number (suc 
 abbrev pub IsOf : List Endpoint → List Entry → Delivery → Type 0
 IsOf endpoints sequence d = (d.sub < length endpoints) × (d.last ≤ length sequence)
 
--- What a world keeps: its desk shows a picture, whose front is the sequence's last number; the desk's subscriptions are those of the
--- ends; entries and deliveries are numbered from 1; each delivery is of a subscription, and its numbers are placed.
+-- What a world keeps: its desk shows a picture, whose front is the sequence's last number; the
+-- desk's subscriptions are those of the ends; entries and deliveries are numbered from 1; each
+-- delivery is of a subscription, and its numbers are placed.
 pub record IsWorld (w : State) : Type 0 where
   pub picture : IsPicture w.desk
   pub front : w.desk.front ≡ length w.sequence
@@ -84,10 +91,27 @@ how_many_wait w = how_many_held w.hand + length w.intake
 -- a world is stored as its parts
 abbrev pub world_code : Coded State
 world_code =
-    code_by (List Shape × (List Publisher × (List Item × (Option Item × (List Entry × (Picture × (List Endpoint × List Delivery)))))))
-    (coded× (coded_list shape.the_row.coded) (coded× (coded_list publisher.the_row.coded) (coded× (coded_list item.the_row.coded)
-    (coded× (coded_option item.the_row.coded) (coded× (coded_list entry_code) (coded× picture_code (coded× (coded_list endpoint_code)
+    code_by (List Shape
+    × (List Publisher
+    × (List Item × (Option Item × (List Entry × (Picture × (List Endpoint × List Delivery)))))))
+    (coded× (coded_list shape.the_row.coded)
+    (coded× (coded_list publisher.the_row.coded) (coded× (coded_list item.the_row.coded)
+    (coded× (coded_option item.the_row.coded)
+    (coded× (coded_list entry_code) (coded× picture_code (coded× (coded_list endpoint_code)
     (coded_list delivery.the_row.coded))))))))
-    (λ w. (w.schema, (w.publishers, (w.intake, (w.hand, (w.sequence, (w.desk, (w.endpoints, w.deliveries))))))))
-    (λ p. record { schema = p.0; publishers = p.1.0; intake = p.1.1.0; hand = p.1.1.1.0; sequence = p.1.1.1.1.0; desk = p.1.1.1.1.1.0; endpoints = p.1.1.1.1.1.1.0; deliveries = p.1.1.1.1.1.1.1 })
+    (λ w. (
+      w.schema,
+      (w.publishers, (w.intake, (w.hand, (w.sequence, (w.desk, (w.endpoints, w.deliveries)))))),
+    ))
+    (λ p. record {
+      schema = p.0;
+      publishers = p.1.0;
+      intake = p.1.1.0;
+      hand = p.1.1.1.0;
+      sequence = p.1.1.1.1.0;
+      desk = p.1.1.1.1.1.0;
+      endpoints = p.1.1.1.1.1.1.0;
+      deliveries =
+          p.1.1.1.1.1.1.1;
+    })
     (λ _. refl)

@@ -14,23 +14,31 @@ use Rattle.rb_core.specs.declared.reply.Reply.TheVariants as reply
 use Rattle.rb_core.specs.Outcome.{with_publisher, fault_refusal}
 use Rattle.rb_core.specs.State.{State}
 
--- Bytes come behind a text that the stream has taken: it has taken the text with the bytes, and nothing else changes. The fault of these
--- that no more bytes mend is told, and where there is none, that they were fed. Behind such a fault of the text it is told again, and
--- nothing changes.
-pub record FeedsByText (old : State) (p : ℕ) (publisher : Publisher) (text bytes : List ℕ) (given : Reply) (new : State) : Type 0 where
+-- Bytes come behind a text that the stream has taken: it has taken the text with the bytes, and
+-- nothing else changes. The fault of these that no more bytes mend is told, and where there is
+-- none, that they were fed. Behind such a fault of the text it is told again, and nothing changes.
+pub record FeedsByText (old : State) (p : ℕ) (publisher : Publisher) (text bytes : List ℕ)
+    (given : Reply) (new : State) : Type 0 where
   pub stream : Progress
   pub takes : Took stream (text ++ bytes)
   pub kept : new ≡ with_publisher old p (record publisher { stream = stream })
   pub told : (fault : ParseFault) → IsLasting (text ++ bytes) fault → given ≡ reply.Fault fault
   pub untold : ((fault : ParseFault) → IsLasting (text ++ bytes) fault → ⊥) → given ≡ reply.Fed
-  pub stays : (fault : ParseFault) → IsLasting text fault → (given ≡ reply.Fault fault) × (new ≡ old)
+  pub stays : (fault : ParseFault) → IsLasting text fault → (given ≡ reply.Fault fault)
+      × (new ≡ old)
 
--- A stream ends behind a text that it has taken, where nothing is staged. What the text spells is staged where the schema admits it, a
--- new stream begins, and nothing else changes; else it is refused, with the first section that isn't admitted. Where the text has a fault
--- this is told. A refusal and a fault change nothing.
-pub record EndsByText (old : State) (p : ℕ) (publisher : Publisher) (text : List ℕ) (given : Reply) (new : State) : Type 0 where
-  pub stages : (changeset : List Section) → Spells text changeset → refusal_of old.schema changeset ≡ None
-      → (given ≡ reply.Staged) × (new ≡ with_publisher old p (record publisher { stream = nothing; staged = Some changeset }))
-  pub refuses : (changeset : List Section) (fault : SectionFault) → Spells text changeset → refusal_of old.schema changeset ≡ Some fault
+-- A stream ends behind a text that it has taken, where nothing is staged. What the text spells is
+-- staged where the schema admits it, a new stream begins, and nothing else changes; else it is
+-- refused, with the first section that isn't admitted. Where the text has a fault this is told. A
+-- refusal and a fault change nothing.
+pub record EndsByText (old : State) (p : ℕ) (publisher : Publisher) (text : List ℕ) (given : Reply)
+    (new : State) : Type 0 where
+  pub stages : (changeset : List Section) → Spells text changeset → refusal_of old.schema changeset
+      ≡ None
+      → (given ≡ reply.Staged)
+      × (new ≡ with_publisher old p
+      (record publisher { stream = nothing; staged = Some changeset }))
+  pub refuses : (changeset : List Section) (fault : SectionFault) → Spells text changeset
+      → refusal_of old.schema changeset ≡ Some fault
       → (given ≡ reply.Refused (fault_refusal fault)) × (new ≡ old)
   pub faults : (fault : ParseFault) → IsFault text fault → (given ≡ reply.Fault fault) × (new ≡ old)

@@ -1,5 +1,7 @@
--- What events and their answers tell: what was fed, staged, sent, placed, offered and accepted, without a look at the broker.
-use Rattle.std.specs.Prelude.{◌≡◌, ℕ, suc, ◌-◌, ◌<◌, true, false, map, List, [], ◌∷◌, ◌++◌, length, Option, Some, None, Result, Ok, Err, slice_get}
+-- What events and their answers tell: what was fed, staged, sent, placed, offered and accepted,
+-- without a look at the broker.
+use Rattle.std.specs.Prelude.{◌≡◌, ℕ, suc, ◌-◌, ◌<◌, true, false, map, List, [], ◌∷◌, ◌++◌, length}
+use Rattle.std.specs.Prelude.{Option, Some, None, Result, Ok, Err, slice_get}
 use Rattle.std.specs.List.{AllByRecursion}
 use Rattle.cs_model.specs.declared.origin.Origin.TheVariants.{Sent}
 use Rattle.cs_model.specs.declared.shape.Shape.{Shape}
@@ -43,7 +45,8 @@ subscriber_changed old s change = subscriber_set old s change (slice_get old.sub
 
 -- one comes: nothing of it is fed, staged or sent
 abbrev pub publisher_added : World → World
-publisher_added old = record old { senders = old.senders ++ record { text = []; staged = None; sent = [] } ∷ [] }
+publisher_added old = record old
+    { senders = old.senders ++ record { text = []; staged = None; sent = [] } ∷ [] }
 
 -- bytes stand behind its text, also where they bring a fault; its text is empty again
 abbrev pub fed : List ℕ → Sender → Sender
@@ -63,11 +66,13 @@ ended sender = record sender { text = []; staged = staged_by_text (answer_of sen
 -- what it staged is sent, as its sending of this number, and waits behind all others
 abbrev pub with_sent : World → ℕ → Sender → Item → World
 with_sent old p sender item =
-    record (with_sender old p (record sender { staged = None; sent = sender.sent ++ item ∷ [] })) { intake = old.intake ++ item ∷ [] }
+    record (with_sender old p (record sender { staged = None; sent = sender.sent ++ item ∷ [] }))
+    { intake = old.intake ++ item ∷ [] }
 
 abbrev pub sent_staged : World → ℕ → ℕ → Sender → Option (List Section) → World
 sent_staged old p own sender None = old
-sent_staged old p own sender (Some body) = with_sent old p sender (record { publisher = p; own = own; origin = Sent; body = body })
+sent_staged old p own sender (Some body) =
+    with_sent old p sender (record { publisher = p; own = own; origin = Sent; body = body })
 
 abbrev pub sent_of : World → ℕ → ℕ → Option Sender → World
 sent_of old p own None = old
@@ -90,7 +95,12 @@ pulled old = pulled_by old old.hand old.intake
 -- the item in hand is placed under this number
 abbrev pub placed_from : World → ℕ → Option Item → World
 placed_from old number None = old
-placed_from old number (Some item) = record old { hand = None; sequence = old.sequence ++ record { number = number; item = item } ∷ [] }
+placed_from old number (Some item) =
+    record old {
+      hand = None;
+      sequence = old.sequence ++ record { number = number; item = item }
+          ∷ [];
+    }
 
 abbrev pub placed : World → ℕ → World
 placed old number = placed_from old number old.hand
@@ -102,19 +112,33 @@ abbrev pub subscribed : List Shape → World → ℕ → ℕ → World
 subscribed schema old start link = record old {
   links = link ∷ old.links;
   subscribers = old.subscribers
-      ++ record { start = start; base = empty_tables schema; accepted = []; tables = empty_tables schema; link = link; closed = false; offers = [] } ∷ [];
+      ++ record {
+        start = start;
+        base = empty_tables schema;
+        accepted = [];
+        tables = empty_tables schema;
+        link = link;
+        closed = false;
+        offers = [];
+      } ∷ [];
 }
 
 abbrev pub delivered : Delivery → Subscriber → Subscriber
 delivered delivery q = record q { offers = q.offers ++ delivery ∷ [] }
 
--- it has accepted up to this number: the entries from its cursor to there, which are applied to its tables
+-- it has accepted up to this number: the entries from its cursor to there, which are applied to its
+-- tables
 abbrev pub if_applied : tables.TableState → Result tables.TableState Conflict → tables.TableState
 if_applied old (Ok new) = new
 if_applied old (Err conflict) = old
 
 abbrev pub with_accepted : List Entry → Subscriber → Subscriber
-with_accepted entries q = record q { accepted = q.accepted ++ entries; tables = if_applied q.tables (single q.tables (joined_bodies entries)) }
+with_accepted entries q =
+    record q {
+      accepted = q.accepted
+          ++ entries;
+      tables = if_applied q.tables (single q.tables (joined_bodies entries));
+    }
 
 abbrev pub accepted : List Entry → ℕ → Subscriber → Subscriber
 accepted sequence last q = with_accepted (part sequence (cursor q) (last - cursor q)) q
@@ -139,10 +163,14 @@ told schema old event.Turn (reply.Placed number) = placed (pulled old) number
 told schema old event.Turn (reply.Refused why) = pulled old
 told schema old event.Close (reply.Closed last) = record old { closing = Some last }
 told schema old (event.Subscribe start) (reply.Subscriber s link) = subscribed schema old start link
-told schema old (event.Take s now) (reply.Delivery delivery) = subscriber_changed old delivery.sub (delivered delivery)
-told schema old (event.TakeAny now) (reply.Delivery delivery) = subscriber_changed old delivery.sub (delivered delivery)
-told schema old (event.Accept d) (reply.Accepted s last) = subscriber_changed old s (accepted old.sequence last)
-told schema old (event.Reconnect s cursor) (reply.Link link) = record (subscriber_changed old s (reconnected link)) { links = link ∷ old.links }
+told schema old (event.Take s now) (reply.Delivery delivery) =
+    subscriber_changed old delivery.sub (delivered delivery)
+told schema old (event.TakeAny now) (reply.Delivery delivery) =
+    subscriber_changed old delivery.sub (delivered delivery)
+told schema old (event.Accept d) (reply.Accepted s last) =
+    subscriber_changed old s (accepted old.sequence last)
+told schema old (event.Reconnect s cursor) (reply.Link link) =
+    record (subscriber_changed old s (reconnected link)) { links = link ∷ old.links }
 told schema old (event.Unsubscribe s) reply.Unsubscribed = subscriber_changed old s unsubscribed
 told schema old event given = old
 
@@ -155,7 +183,8 @@ told_by schema old event (Err e) = old
 abbrev pub told_from : List Shape → World → List Event → List Answer → World
 told_from schema old [] answers = old
 told_from schema old (event ∷ events) [] = old
-told_from schema old (event ∷ events) (answer ∷ answers) = told_from schema (told_by schema old event answer) events answers
+told_from schema old (event ∷ events) (answer ∷ answers) =
+    told_from schema (told_by schema old event answer) events answers
 
 -- the world that these events and answers tell, from the first one on
 abbrev pub world_told : List Shape → List Event → List Answer → World
@@ -178,15 +207,16 @@ pub record IsSender (publisher : Publisher) (sender : Sender) : Type 0 where
 
 -- a delivery was offered to its subscription
 abbrev pub IsDelivered : List Subscriber → Delivery → Type 0
-IsDelivered subscribers delivery = (q : Subscriber) × (slice_get subscribers delivery.sub ≡ Some q) × IsIn delivery q.offers
+IsDelivered subscribers delivery = (q : Subscriber) × (slice_get subscribers delivery.sub ≡ Some q)
+    × IsIn delivery q.offers
 
 -- the deliveries that were offered to a subscription have numbers below this one
 abbrev pub AreBelow : ℕ → Subscriber → Type 0
 AreBelow next q = AllByRecursion (λ offer. offer.number < next) q.offers
 
--- A broker's state is what was told: publisher by publisher, what waits, the item in hand, the sequence and its closing number, end by
--- end. All its deliveries were offered, and all links and numbers so far are below the next ones. Each subscription began with empty
--- tables.
+-- A broker's state is what was told: publisher by publisher, what waits, the item in hand, the
+-- sequence and its closing number, end by end. All its deliveries were offered, and all links and
+-- numbers so far are below the next ones. Each subscription began with empty tables.
 pub record IsToldBy (schema : List Shape) (state : State) (world : World) : Type 0 where
   pub served : state.schema ≡ schema
   pub senders : Paired IsSender state.publishers world.senders

@@ -1,4 +1,5 @@
--- The world as what was sent, placed and accepted tells it. It knows no window, no clock, no spans and no order of deliveries.
+-- The world as what was sent, placed and accepted tells it. It knows no window, no clock, no spans
+-- and no order of deliveries.
 use Rattle.std.specs.Prelude.{ℕ, ◌+◌, Bool, List, [], length, Option, None}
 use Rattle.cs_model.specs.Section.{Section}
 use Rattle.cs_apply.specs.State as tables
@@ -13,8 +14,9 @@ pub record Sender : Type 0 where
   pub staged : Option (List Section)
   pub sent : List Item
 
--- A subscription: the number behind which it began, the tables that it began with, the entries that it accepted, in order, its
--- tables, its present link, whether it is closed, and all deliveries that it was ever offered.
+-- A subscription: the number behind which it began, the tables that it began with, the entries that
+-- it accepted, in order, its tables, its present link, whether it is closed, and all deliveries
+-- that it was ever offered.
 pub record Subscriber : Type 0 where
   pub start : ℕ
   pub base : tables.TableState
@@ -24,9 +26,10 @@ pub record Subscriber : Type 0 where
   pub closed : Bool
   pub offers : List Delivery
 
--- The publishers; what was sent and waits, in order; the item in hand, which waits no more and has no number yet; the
--- sequence; the closing number, where the sequence is closed; all links that were ever drawn; the subscriptions. Publishers and
--- subscriptions are named by their places, from 0.
+-- The publishers; what was sent and waits, in order; the item in hand, which waits no more and has
+-- no number yet; the sequence; the closing number, where the sequence is closed; all links that
+-- were ever drawn; the subscriptions. Publishers and subscriptions are named by their places, from
+-- 0.
 pub record World : Type 0 where
   pub senders : List Sender
   pub intake : List Item
@@ -38,7 +41,15 @@ pub record World : Type 0 where
 
 -- the world before anything happened
 abbrev pub world_begun : World
-world_begun = record { senders = []; intake = []; hand = None; sequence = []; closing = None; links = []; subscribers = [] }
+world_begun = record {
+  senders = [];
+  intake = [];
+  hand = None;
+  sequence = [];
+  closing = None;
+  links = [];
+  subscribers = [];
+}
 
 -- how far a subscription has accepted
 abbrev pub cursor : Subscriber → ℕ
@@ -46,4 +57,10 @@ cursor q = q.start + length q.accepted
 
 -- its end, as the one that accepts knows it
 abbrev pub endpoint_of : Subscriber → Endpoint
-endpoint_of q = record { start = q.start; cursor = cursor q; link = q.link; closed = q.closed; tables = q.tables }
+endpoint_of q = record {
+  start = q.start;
+  cursor = cursor q;
+  link = q.link;
+  closed = q.closed;
+  tables = q.tables;
+}

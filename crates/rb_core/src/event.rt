@@ -2,8 +2,9 @@
 
 use cs_model::Octets;
 
-/// An event, with its operands. Publishers and subscriptions are named by their numbers from 0, entries and
-/// deliveries by theirs from 1; a moment is any number, and the clock is the greatest one so far.
+/// An event, with its operands. Publishers and subscriptions are named by their numbers from 0,
+/// entries and deliveries by theirs from 1; a moment is any number, and the clock is the greatest
+/// one so far.
 #[derive(Debug, Drop)]
 pub enum Event {
     /// A publisher comes.

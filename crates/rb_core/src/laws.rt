@@ -1,7 +1,8 @@
-//! Laws: public functions that do nothing, whose contracts say what holds of every run. Who needs one calls it.
+//! Laws: public functions that do nothing, whose contracts say what holds of every run. Who needs
+//! one calls it.
 //!
-//! What a subscription accepted and what a publisher sent are told by the events and their answers (*world_told*), without a look at the
-//! broker.
+//! What a subscription accepted and what a publisher sent are told by the events and their answers
+//! (*world_told*), without a look at the broker.
 
 ghost use Rattle.std.specs.Prelude.{◌≡◌, ◌++◌, ℕ, true, List, Some, None, slice_get};
 ghost use Rattle.cs_model.specs.Bytes.{AreBytes};
@@ -39,9 +40,10 @@ pub fn events_keep_worlds()
     calls_show_in_outline();
 }
 
-/// What feeding a publisher answers, and what the end of its stream answers where nothing is staged, is said of every text that the stream
-/// may have taken: the fault that no more bytes mend, what the text spells, and its fault. What its publisher was told to be fed is such a
-/// text (*Tells*).
+/// What feeding a publisher answers, and what the end of its stream answers where nothing is
+/// staged, is said of every text that the stream may have taken: the fault that no more bytes mend,
+/// what the text spells, and its fault. What its publisher was told to be fed is such a text
+/// (*Tells*).
 pub fn streams_answer_by_text()
     ensures feed { (old : State) (p : ℕ) (bytes : List ℕ) (publisher : Publisher)
         (text : List ℕ) (given : Reply) (new : State)
@@ -61,9 +63,10 @@ pub fn streams_answer_by_text()
     progress_tells();
 }
 
-/// In every run of events from an empty world, what they and their answers tell is what the broker has, and it is a course of moves from
-/// the beginning on: those of a world that knows no window, no clock, no spans and no order of deliveries. Where the run goes on, the
-/// course goes on from there.
+/// In every run of events from an empty world, what they and their answers tell is what the broker
+/// has, and it is a course of moves from the beginning on: those of a world that knows no window,
+/// no clock, no spans and no order of deliveries. Where the run goes on, the course goes on from
+/// there.
 pub fn runs_are_told()
     ensures told { (limits : Limits) (schema : List Shape) (events : List Event)
         (answers : List Answer) (new : State)
@@ -73,7 +76,8 @@ pub fn runs_are_told()
     ensures goes_on { (limits : Limits) (schema : List Shape) (events more : List Event)
         (answers later : List Answer) (mid new : State)
         → IsRunOf limits schema events answers mid → RunsOn mid more later new
-        → ((mids : List World) × Leads (world_told schema events answers) mids (world_told schema (events ++ more) (answers ++ later)))
+        → ((mids : List World) × Leads (world_told schema events answers) mids
+        (world_told schema (events ++ more) (answers ++ later)))
         × IsToldBy schema new (world_told schema (events ++ more) (answers ++ later)) }
 {
     events_keep_worlds();
@@ -84,33 +88,37 @@ pub fn runs_are_told()
     progress_tells();
 }
 
-/// In every run each publisher's stream has taken what the publisher was fed since the stream began, as the events and their answers tell
-/// it. So `streams_answer_by_text` says of that text what it is answered.
+/// In every run each publisher's stream has taken what the publisher was fed since the stream
+/// began, as the events and their answers tell it. So `streams_answer_by_text` says of that text
+/// what it is answered.
 pub fn streams_take_what_is_fed()
     ensures { (limits : Limits) (schema : List Shape) (events : List Event)
         (answers : List Answer) (new : State) (p : ℕ) (publisher : Publisher)
         → IsRunOf limits schema events answers new
         → slice_get new.publishers p ≡ Some publisher
-        → (sender : Sender) × (slice_get (world_told schema events answers).senders p ≡ Some sender) × Took publisher.stream sender.text }
+        → (sender : Sender) × (slice_get (world_told schema events answers).senders p ≡ Some sender)
+        × Took publisher.stream sender.text }
 {
     runs_are_told();
 }
 
-/// In every run and at every time, what a subscription has accepted is one run of the sequence behind its start: no number is left out, and
-/// each one comes once. Its end has come as far.
+/// In every run and at every time, what a subscription has accepted is one run of the sequence
+/// behind its start: no number is left out, and each one comes once. Its end has come as far.
 pub fn accepted_is_gapless()
     ensures { (limits : Limits) (schema : List Shape) (events : List Event)
         (answers : List Answer) (new : State) (s : ℕ) (subscriber : Subscriber)
         → IsRunOf limits schema events answers new
         → slice_get (world_told schema events answers).subscribers s ≡ Some subscriber
-        → HasRun new.sequence subscriber × (slice_get new.endpoints s ≡ Some (endpoint_of subscriber)) }
+        → HasRun new.sequence subscriber
+        × (slice_get new.endpoints s ≡ Some (endpoint_of subscriber)) }
 {
     runs_are_told();
     courses::accepted_is_gapless();
 }
 
-/// In every run and at every time, what stands in the sequence of one publisher is the front of what it sent, in that order; and no two
-/// entries have the same publisher and the same own number, so that each sending is placed once.
+/// In every run and at every time, what stands in the sequence of one publisher is the front of
+/// what it sent, in that order; and no two entries have the same publisher and the same own number,
+/// so that each sending is placed once.
 pub fn sendings_come_once_in_order()
     ensures order { (limits : Limits) (schema : List Shape) (events : List Event)
         (answers : List Answer) (new : State) (p : ℕ) (sender : Sender)
@@ -127,8 +135,8 @@ pub fn sendings_come_once_in_order()
     courses::sendings_come_once_in_order();
 }
 
-/// In every run that goes on once the sequence is closed, it stays closed and nothing is placed; and once a subscription is closed, it stays
-/// so and accepts nothing more.
+/// In every run that goes on once the sequence is closed, it stays closed and nothing is placed;
+/// and once a subscription is closed, it stays so and accepts nothing more.
 pub fn nothing_after_close()
     ensures sequence { (limits : Limits) (schema : List Shape) (events more : List Event)
         (answers later : List Answer) (mid new : State) (last : ℕ)
@@ -140,14 +148,16 @@ pub fn nothing_after_close()
         → IsRunOf limits schema events answers mid → RunsOn mid more later new
         → slice_get (world_told schema events answers).subscribers s ≡ Some subscriber
         → subscriber.closed ≡ true
-        → (after : Subscriber) × (slice_get (world_told schema (events ++ more) (answers ++ later)).subscribers s ≡ Some after) × StaysClosed subscriber after }
+        → (after : Subscriber)
+        × (slice_get (world_told schema (events ++ more) (answers ++ later)).subscribers s
+        ≡ Some after) × StaysClosed subscriber after }
 {
     runs_are_told();
     courses::nothing_after_close();
 }
 
-/// In every run and at every time, a subscription's tables are what one thread gets that applies the changesets that it accepted to empty
-/// tables, one after another.
+/// In every run and at every time, a subscription's tables are what one thread gets that applies
+/// the changesets that it accepted to empty tables, one after another.
 pub fn tables_apply_singly()
     ensures { (limits : Limits) (schema : List Shape) (events : List Event)
         (answers : List Answer) (new : State) (s : ℕ) (subscriber : Subscriber)

@@ -14,8 +14,8 @@ use std::collections::VecDeque;
 use std::marker::Model;
 use std::sync::Arc;
 
-/// The parts of a world, which the events change. What holds of them together (*IsWorld*) is asked of them where it is needed, and
-/// the world keeps it.
+/// The parts of a world, which the events change. What holds of them together (*IsWorld*) is asked
+/// of them where it is needed, and the world keeps it.
 #[derive(Debug, Drop)]
 pub(crate) struct Parts {
     pub(crate) schema: Arc<Schema>,

@@ -1,6 +1,7 @@
 //! Publishers.
 
-ghost use Rattle.std.specs.Prelude.{◌≡◌, List, Some, length, slice_get, nat_le, IfOk, OnErr, IsSome, IsSomeAnd};
+ghost use Rattle.std.specs.Prelude.{◌≡◌, List, Some, length, slice_get, nat_le, IfOk, OnErr};
+ghost use Rattle.std.specs.Prelude.{IsSome, IsSomeAnd};
 ghost use Rattle.cs_model.specs.Section.{Section};
 ghost use Rattle.cs_parse.specs.End.{admitted_answer, left_by};
 ghost use Rattle.cs_parse.specs.Progress.{answer_at_end};
@@ -38,8 +39,8 @@ impl Parts {
         Ok(Reply::Publisher(number))
     }
 
-    /// The next piece of a publisher's stream. A piece with a fault is answered with it, and so is each one behind it until
-    /// the stream is reset.
+    /// The next piece of a publisher's stream. A piece with a fault is answered with it, and so is
+    /// each one behind it until the stream is reset.
     pub(crate) fn feed(
         &mut self,
         alloc: Global,
@@ -76,7 +77,8 @@ impl Parts {
         Ok(Reply::Reset)
     }
 
-    /// Ends a publisher's stream: the changeset that it spells is staged, where the schema admits it, and a new stream begins.
+    /// Ends a publisher's stream: the changeset that it spells is staged, where the schema admits
+    /// it, and a new stream begins.
     pub(crate) fn end(&mut self, alloc: Global, publisher: u64) -> Result<Reply, AllocError>
         ensures ok { IfOk result (λ reply. outcome.ended self.old publisher ≡ (reply, self.new)) }
         ensures err { OnErr result (self.new ≡ self.old) }
@@ -97,7 +99,8 @@ impl Parts {
         Ok(Reply::Staged)
     }
 
-    /// Puts what a publisher staged at the end of the intake, with its number among that publisher's.
+    /// Puts what a publisher staged at the end of the intake, with its number among that
+    /// publisher's.
     pub(crate) fn send(&mut self, publisher: u64) -> Result<Reply, AllocError>
         ensures ok { IfOk result (λ reply. outcome.sent self.old publisher ≡ (reply, self.new)) }
         ensures err { OnErr result (self.new ≡ self.old) }
@@ -127,7 +130,8 @@ impl Parts {
 
     // sends what a publisher has staged
     fn queue(&mut self, publisher: u64) -> Result<Reply, AllocError>
-        requires { IsSomeAnd (slice_get self.old.publishers publisher) (λ found. IsSome found.staged) }
+        requires { IsSomeAnd (slice_get self.old.publishers publisher)
+            (λ found. IsSome found.staged) }
         ensures ok { IfOk result (λ reply. (found : Publisher) (changeset : List Section)
             → slice_get self.old.publishers publisher ≡ Some found → found.staged ≡ Some changeset
             → outcome.sent_item self.old publisher found changeset ≡ (reply, self.new)) }

@@ -40,15 +40,17 @@ pub enum Reply {
     Link(u64),
     /// The subscription is closed.
     Unsubscribed,
-    /// The stream isn't that of a changeset: its first fault. A `Feed` that meets it keeps the bytes, and every later one
-    /// answers the same and takes nothing; an `End` leaves the stream as it is.
+    /// The stream isn't that of a changeset: its first fault. A `Feed` that meets it keeps the
+    /// bytes, and every later one answers the same and takes nothing; an `End` leaves the stream as
+    /// it is.
     Fault(ParseFault),
     /// The event is refused.
     Refused(BrokerRefusal),
 }
 
-/// Why `World::step` refuses an event. The world is as it was before, but that a turn which the desk refuses has pulled the item that
-/// it keeps in hand. Where several hold, the first in the event's documentation is told.
+/// Why `World::step` refuses an event. The world is as it was before, but that a turn which the
+/// desk refuses has pulled the item that it keeps in hand. Where several hold, the first in the
+/// event's documentation is told.
 #[derive(Clone, Copy, Debug, PartialEq, Eq, Error)]
 pub enum BrokerRefusal {
     /// `Feed`, `Reset`, `End`, `Send`: no publisher has this number.
@@ -78,7 +80,8 @@ pub enum BrokerRefusal {
     /// `End`: the section at this place has another shape than its table.
     #[error("section {0} has another shape than its table")]
     ShapeDiffers(u64),
-    /// `Turn`, `Subscribe`, `Take`, `TakeAny`, `Ack`, `Nack`, `Reconnect`, `Unsubscribe`: the desk refuses it.
+    /// `Turn`, `Subscribe`, `Take`, `TakeAny`, `Ack`, `Nack`, `Reconnect`, `Unsubscribe`: the desk
+    /// refuses it.
     #[error(transparent)]
     Desk(DeskRefusal),
     /// `Accept`: the subscription's end refuses it.

@@ -22,12 +22,13 @@ use cs_model::Schema;
 use rb_desk::Config;
 use std::alloc::{AllocError, Global};
 
-/// Serves events one after another from an empty world, and gives the world and what each was answered: a reply,
-/// or that memory ran out for it. `AllocError` where memory runs out for the answers themselves.
+/// Serves events one after another from an empty world, and gives the world and what each was
+/// answered: a reply, or that memory ran out for it. `AllocError` where memory runs out for the
+/// answers themselves.
 ///
-/// The clauses behind the first one are the laws, said of this run: of publishers and subscriptions as the events and their answers tell
-/// them (*world_told*), without a look at the world. What the laws ask is so of every call: the limits are in their ranges, and what
-/// events feed are bytes.
+/// The clauses behind the first one are the laws, said of this run: of publishers and subscriptions
+/// as the events and their answers tell them (*world_told*), without a look at the world. What the
+/// laws ask is so of every call: the limits are in their ranges, and what events feed are bytes.
 pub fn run(
     alloc: Global,
     config: Config,
@@ -36,10 +37,12 @@ pub fn run(
 ) -> Result<(World, Vec<Result<Reply, AllocError>>), AllocError>
     // The answers and the world are those of a run of the events.
     ensures run { IfOk result (λ r. Run (empty_world config schema) events.now r.1.items r.0) }
-    // What a subscription accepted is one run of the sequence behind its start, and its end is what it accepted.
+    // What a subscription accepted is one run of the sequence behind its start, and its end is what
+    // it accepted.
     ensures gapless { IfOk result (λ r. (s : ℕ) (subscriber : Subscriber)
         → slice_get (world_told schema events.now r.1.items).subscribers s ≡ Some subscriber
-        → HasRun r.0.sequence subscriber × (slice_get r.0.endpoints s ≡ Some (endpoint_of subscriber))) }
+        → HasRun r.0.sequence subscriber
+        × (slice_get r.0.endpoints s ≡ Some (endpoint_of subscriber))) }
     // What stands in the sequence of a publisher is the front of what it sent, in that order.
     ensures in_order { IfOk result (λ r. (p : ℕ) (sender : Sender)
         → slice_get (world_told schema events.now r.1.items).senders p ≡ Some sender
@@ -55,10 +58,13 @@ pub fn run(
         × (r.0.sequence ≡ (world_told schema (take n events.now) (take n r.1.items)).sequence)) }
     // Once they have closed a subscription, it stays so and accepts nothing more.
     ensures left { IfOk result (λ r. (n s : ℕ) (subscriber : Subscriber)
-        → slice_get (world_told schema (take n events.now) (take n r.1.items)).subscribers s ≡ Some subscriber
+        → slice_get (world_told schema (take n events.now) (take n r.1.items)).subscribers s
+        ≡ Some subscriber
         → subscriber.closed ≡ true
-        → (after : Subscriber) × (slice_get (world_told schema events.now r.1.items).subscribers s ≡ Some after) × StaysClosed subscriber after) }
-    // A subscription's tables are what one thread gets that applies what it accepted to empty tables, one changeset after another.
+        → (after : Subscriber) × (slice_get (world_told schema events.now r.1.items).subscribers s
+        ≡ Some after) × StaysClosed subscriber after) }
+    // A subscription's tables are what one thread gets that applies what it accepted to empty
+    // tables, one changeset after another.
     ensures tables { IfOk result (λ r. (s : ℕ) (subscriber : Subscriber)
         → slice_get (world_told schema events.now r.1.items).subscribers s ≡ Some subscriber
         → AppliesSingly (empty_tables schema) subscriber.accepted subscriber.tables) }
@@ -71,7 +77,8 @@ pub fn run(
     served(alloc, config, schema, events)
 }
 
-// The events served, with the one clause from which the others follow: it is a run, and what the events feed are bytes.
+// The events served, with the one clause from which the others follow: it is a run, and what the
+// events feed are bytes.
 fn served(
     alloc: Global,
     config: Config,

@@ -13,7 +13,8 @@ use std::alloc::{AllocError, Global};
 use std::collections::VecDeque;
 
 impl Parts {
-    /// Moves the item in hand, or where there is none the first that waits, to the end of the sequence, and answers its number, from
+    /// Moves the item in hand, or where there is none the first that waits, to the end of the
+    /// sequence, and answers its number, from
     /// 1. Where the desk refuses the number the item stays in hand.
     pub(crate) fn turn(&mut self, alloc: Global) -> Result<Reply, AllocError>
         ensures ok { IfOk result (λ reply. outcome.turned self.old ≡ (reply, self.new)) }

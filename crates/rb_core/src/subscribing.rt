@@ -36,7 +36,8 @@ impl Parts {
 
     /// Hands a subscription the first of its entries that are ready, as a delivery.
     pub(crate) fn take(&mut self, subscription: u64, now: u64) -> Result<Reply, AllocError>
-        ensures ok { IfOk result (λ reply. outcome.delivered self.old subscription now ≡ (reply, self.new)) }
+        ensures ok { IfOk result (λ reply. outcome.delivered self.old subscription now
+            ≡ (reply, self.new)) }
         ensures err { OnErr result (self.new ≡ self.old) }
     {
         let Some(end) = self.endpoints.get(subscription as usize) else {
@@ -53,7 +54,8 @@ impl Parts {
         }
     }
 
-    /// Hands over the entries that are ready longest, among those of subscriptions with room, as a delivery.
+    /// Hands over the entries that are ready longest, among those of subscriptions with room, as a
+    /// delivery.
     pub(crate) fn take_any(&mut self, now: u64) -> Result<Reply, AllocError>
         ensures ok { IfOk result (λ reply. outcome.delivered_any self.old now ≡ (reply, self.new)) }
         ensures err { OnErr result (self.new ≡ self.old) }
@@ -96,7 +98,8 @@ impl Parts {
 
     /// Closes a subscription.
     pub(crate) fn unsubscribe(&mut self, subscription: u64) -> Result<Reply, AllocError>
-        ensures ok { IfOk result (λ reply. outcome.unsubscribed self.old subscription ≡ (reply, self.new)) }
+        ensures ok { IfOk result (λ reply. outcome.unsubscribed self.old subscription
+            ≡ (reply, self.new)) }
         ensures err { OnErr result (self.new ≡ self.old) }
     {
         let s = subscription as usize;

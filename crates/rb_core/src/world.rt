@@ -47,8 +47,8 @@ impl World {
         })
     }
 
-    /// Moves the world by one event and answers it. `AllocError` where memory runs out, with the world as it
-    /// was; a refusal is a reply.
+    /// Moves the world by one event and answers it. `AllocError` where memory runs out, with the
+    /// world as it was; a refusal is a reply.
     pub fn step(&mut self, alloc: Global, event: Event) -> Result<Reply, AllocError>
         ensures ok { IfOk result (λ reply. outcome self.old event ≡ (reply, self.new)) }
         ensures err { OnErr result (self.new ≡ self.old) }
@@ -74,8 +74,8 @@ impl World {
         entries.get(place as usize)
     }
 
-    /// The rows of a subscription with their keys, by table, then by the key's bytes; `None` where there is no
-    /// such subscription. `AllocError` where memory runs out.
+    /// The rows of a subscription with their keys, by table, then by the key's bytes; `None` where
+    /// there is no such subscription. `AllocError` where memory runs out.
     pub fn rows(
         &self,
         alloc: Global,

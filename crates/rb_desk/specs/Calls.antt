@@ -1,12 +1,15 @@
 -- What each call answers, and the picture after it. A refused call leaves the picture as it was.
-use Rattle.std.specs.Prelude.{ℕ, suc, max, ⊤, Bool, true, false, not, ◌&&◌, ◌||◌, List, [], ◌∷◌, ◌++◌, length, map, Option, Some, None, Result, Ok, Err, slice_get, slice_set, ◌==◌, nat_lt, nat_le, if◌then◌else◌}
+use Rattle.std.specs.Prelude.{ℕ, suc, max, ⊤, Bool, true, false, not, ◌&&◌, ◌||◌, List, [], ◌∷◌}
+use Rattle.std.specs.Prelude.{◌++◌, length, map, Option, Some, None, Result, Ok, Err, slice_get}
+use Rattle.std.specs.Prelude.{slice_set, ◌==◌, nat_lt, nat_le, if◌then◌else◌}
 use Rattle.std.specs.List.{filter, find}
 use Rattle.rb_desk.specs.declared.span.Span.{Span}
 use Rattle.rb_desk.specs.declared.span.Status.TheVariants.{Ready, InFlight, Settled}
 use Rattle.rb_desk.specs.declared.delivery.Delivery.{Delivery}
 use Rattle.rb_desk.specs.declared.refusal.DeskRefusal.{DeskRefusal}
 use Rattle.rb_desk.specs.declared.refusal.DeskRefusal.TheVariants as refusal
-use Rattle.rb_desk.specs.Spans.{cut_spans, first_ready, out_as, beginning, how_many_out, is_due, with_status, gone_back, raised, last_takes, grown_spans}
+use Rattle.rb_desk.specs.Spans.{cut_spans, first_ready, out_as, beginning, how_many_out, is_due}
+use Rattle.rb_desk.specs.Spans.{with_status, gone_back, raised, last_takes, grown_spans}
 use Rattle.rb_desk.specs.Picture.{Picture, Subscription}
 
 -- a refused call
@@ -17,7 +20,8 @@ refused_call old why = (Err why, old)
 abbrev pub with_subscription : Picture → ℕ → Subscription → Picture
 with_subscription old s q = record old { subscriptions = slice_set old.subscriptions s q }
 
--- an order without one span, and without all spans of a subscription; and the spans of a subscription by their names
+-- an order without one span, and without all spans of a subscription; and the spans of a
+-- subscription by their names
 abbrev pub is_span : ℕ → ℕ → ℕ × ℕ → Bool
 is_span s first at = (at.0 == s) && (at.1 == first)
 
@@ -34,11 +38,20 @@ named s = map (λ p. (s, p.first))
 abbrev pub has_room : ℕ → Subscription → Bool
 has_room window q = nat_lt (how_many_out q.spans) window
 
--- Subscribe: a new subscription behind a number that is placed. The numbers from there to the front are cut.
+-- Subscribe: a new subscription behind a number that is placed. The numbers from there to the front
+-- are cut.
 abbrev pub subscribed_picture : Picture → ℕ → List Span → Picture
 subscribed_picture old start spans = record old {
   next_link = suc old.next_link;
-  subscriptions = old.subscriptions ++ record { start = start; floor = start; offered = start; link = old.next_link; closed = false; spans = spans } ∷ [];
+  subscriptions = old.subscriptions
+      ++ record {
+        start = start;
+        floor = start;
+        offered = start;
+        link = old.next_link;
+        closed = false;
+        spans = spans;
+      } ∷ [];
   ready = old.ready ++ named (length old.subscriptions) spans;
 }
 
@@ -46,37 +59,56 @@ unfoldable pub subscribe : Picture → ℕ → Result (ℕ × ℕ) DeskRefusal �
 subscribe old start =
     if nat_lt old.front start then refused_call old (refusal.StartAhead old.front)
     else if nat_le 1024 (length old.subscriptions) then refused_call old refusal.TooMany
-    else (Ok (length old.subscriptions, old.next_link), subscribed_picture old start (cut_spans old.limits.batch (suc start) old.front))
+    else (
+      Ok (length old.subscriptions, old.next_link),
+      subscribed_picture old start (cut_spans old.limits.batch (suc start) old.front),
+    )
 
--- A span is handed over: it is in flight as the next delivery, from this moment on, which is the clock now; it stands at
--- the end of the in-flight order and no longer in the ready order; at least its last number is offered.
+-- A span is handed over: it is in flight as the next delivery, from this moment on, which is the
+-- clock now; it stands at the end of the in-flight order and no longer in the ready order; at least
+-- its last number is offered.
 abbrev pub delivery_from : Picture → ℕ → Subscription → Span → Delivery
-delivery_from old s q span = record { number = old.next_delivery; sub = s; link = q.link; first = span.first; last = span.last }
+delivery_from old s q span =
+    record {
+      number = old.next_delivery;
+      sub = s;
+      link = q.link;
+      first = span.first;
+      last = span.last;
+    }
 
 abbrev pub delivered_picture : Picture → ℕ → Subscription → Span → ℕ → Picture
 delivered_picture old s q span clock = record (with_subscription old s
-    (record q { offered = max q.offered span.last; spans = with_status span.first (InFlight old.next_delivery clock) q.spans })) {
+    (record q {
+      offered = max q.offered span.last;
+      spans = with_status span.first (InFlight old.next_delivery clock) q.spans;
+    })) {
       clock = clock;
       next_delivery = suc old.next_delivery;
       ready = without_span s span.first old.ready;
       in_flight = old.in_flight ++ (s, span.first) ∷ [];
     }
 
--- Take: the subscription's ready span with the least numbers. Where there is none, it is drained if the sequence is closed,
--- no span is left and the cursor is the closing number; else nothing is ready.
+-- Take: the subscription's ready span with the least numbers. Where there is none, it is drained if
+-- the sequence is closed, no span is left and the cursor is the closing number; else nothing is
+-- ready.
 abbrev pub is_drained : List Span → ℕ → ℕ → Bool
 is_drained [] cursor last = cursor == last
 is_drained (p ∷ rest) cursor last = false
 
 abbrev pub none_ready : Picture → Subscription → ℕ → Option ℕ → DeskRefusal
 none_ready old q cursor None = refusal.Empty old.front
-none_ready old q cursor (Some last) = if is_drained q.spans cursor last then refusal.Drained last else refusal.Empty old.front
+none_ready old q cursor (Some last) =
+    if is_drained q.spans cursor last then refusal.Drained last else refusal.Empty old.front
 
-abbrev pub delivered_span : Picture → ℕ → Subscription → ℕ → ℕ → Option Span → Result Delivery DeskRefusal × Picture
+abbrev pub delivered_span : Picture → ℕ → Subscription → ℕ → ℕ → Option Span
+    → Result Delivery DeskRefusal × Picture
 delivered_span old s q cursor now None = refused_call old (none_ready old q cursor old.closing)
-delivered_span old s q cursor now (Some span) = (Ok (delivery_from old s q span), delivered_picture old s q span (max old.clock now))
+delivered_span old s q cursor now (Some span) =
+    (Ok (delivery_from old s q span), delivered_picture old s q span (max old.clock now))
 
-abbrev pub delivered_from : Picture → ℕ → ℕ → ℕ → ℕ → Option Subscription → Result Delivery DeskRefusal × Picture
+abbrev pub delivered_from : Picture → ℕ → ℕ → ℕ → ℕ → Option Subscription
+    → Result Delivery DeskRefusal × Picture
 delivered_from old s link cursor now None = refused_call old refusal.NoSuch
 delivered_from old s link cursor now (Some q) =
     if not (link == q.link) then refused_call old refusal.StaleLink
@@ -95,31 +127,37 @@ may_deliver old at = has_room_at old.limits.window (slice_get old.subscriptions 
     has_room_at window None = false
     has_room_at window (Some q) = has_room window q
 
-abbrev pub delivered_any_span : Picture → ℕ → Subscription → ℕ → Option Span → Result Delivery DeskRefusal × Picture
+abbrev pub delivered_any_span : Picture → ℕ → Subscription → ℕ → Option Span
+    → Result Delivery DeskRefusal × Picture
 delivered_any_span old s q now None = refused_call old (refusal.Empty old.front)
-delivered_any_span old s q now (Some span) = (Ok (delivery_from old s q span), delivered_picture old s q span (max old.clock now))
+delivered_any_span old s q now (Some span) =
+    (Ok (delivery_from old s q span), delivered_picture old s q span (max old.clock now))
 
-abbrev pub delivered_any_of : Picture → ℕ → ℕ → ℕ → Option Subscription → Result Delivery DeskRefusal × Picture
+abbrev pub delivered_any_of : Picture → ℕ → ℕ → ℕ → Option Subscription
+    → Result Delivery DeskRefusal × Picture
 delivered_any_of old s first now None = refused_call old (refusal.Empty old.front)
 delivered_any_of old s first now (Some q) = delivered_any_span old s q now (beginning first q.spans)
 
 abbrev pub delivered_any_from : Picture → ℕ → Option (ℕ × ℕ) → Result Delivery DeskRefusal × Picture
 delivered_any_from old now None = refused_call old (refusal.Empty old.front)
-delivered_any_from old now (Some at) = delivered_any_of old at.0 at.1 now (slice_get old.subscriptions at.0)
+delivered_any_from old now (Some at) =
+    delivered_any_of old at.0 at.1 now (slice_get old.subscriptions at.0)
 
 unfoldable pub take_any : Picture → ℕ → Result Delivery DeskRefusal × Picture
 take_any old now = delivered_any_from old now (find (may_deliver old) old.ready)
 
--- Ack: the span that is out as this delivery, all of which is accepted, is settled, and the floor rises over what is settled
--- in front.
-abbrev pub settled_span : Picture → ℕ → Subscription → ℕ → ℕ × List Span → Result ℕ DeskRefusal × Picture
+-- Ack: the span that is out as this delivery, all of which is accepted, is settled, and the floor
+-- rises over what is settled in front.
+abbrev pub settled_span : Picture → ℕ → Subscription → ℕ → ℕ × List Span → Result ℕ DeskRefusal
+    × Picture
 settled_span old s q first rest = (
   Ok rest.0,
   record (with_subscription old s (record q { floor = rest.0; spans = rest.1 }))
       { in_flight = without_span s first old.in_flight },
 )
 
-abbrev pub acked_span : Picture → ℕ → Subscription → ℕ → Option Span → Result ℕ DeskRefusal × Picture
+abbrev pub acked_span : Picture → ℕ → Subscription → ℕ → Option Span → Result ℕ DeskRefusal
+    × Picture
 acked_span old s q cursor None = refused_call old refusal.NotInFlight
 acked_span old s q cursor (Some span) =
     if nat_lt cursor span.last then refused_call old (refusal.NotAccepted cursor)
@@ -134,12 +172,15 @@ acked_by old s link number cursor (Some q) =
 unfoldable pub ack : Picture → ℕ → ℕ → ℕ → ℕ → Result ℕ DeskRefusal × Picture
 ack old s link number cursor = acked_by old s link number cursor (slice_get old.subscriptions s)
 
--- Nack: the span that is out as this delivery goes back: it is ready, at the end of the ready order.
+-- Nack: the span that is out as this delivery goes back: it is ready, at the end of the ready
+-- order.
 abbrev pub nacked_picture : Picture → ℕ → Subscription → Span → Picture
-nacked_picture old s q span = record (with_subscription old s (record q { spans = with_status span.first (Ready true) q.spans })) {
-  ready = old.ready ++ (s, span.first) ∷ [];
-  in_flight = without_span s span.first old.in_flight;
-}
+nacked_picture old s q span =
+    record (with_subscription old s
+    (record q { spans = with_status span.first (Ready true) q.spans })) {
+      ready = old.ready ++ (s, span.first) ∷ [];
+      in_flight = without_span s span.first old.in_flight;
+    }
 
 abbrev pub nacked_span : Picture → ℕ → Subscription → Option Span → Result ⊤ DeskRefusal × Picture
 nacked_span old s q None = refused_call old refusal.NotInFlight
@@ -154,7 +195,8 @@ nacked_by old s link number (Some q) =
 unfoldable pub nack : Picture → ℕ → ℕ → ℕ → Result ⊤ DeskRefusal × Picture
 nack old s link number = nacked_by old s link number (slice_get old.subscriptions s)
 
--- Expire: each span in flight that was taken as many moments ago as the timeout, or more, goes back, in the in-flight order.
+-- Expire: each span in flight that was taken as many moments ago as the timeout, or more, goes
+-- back, in the in-flight order.
 abbrev pub span_is_due : ℕ → ℕ → Option Span → Bool
 span_is_due timeout clock None = false
 span_is_due timeout clock (Some p) = is_due timeout clock p.status
@@ -183,31 +225,39 @@ expired_at old clock = (
 unfoldable pub expire : Picture → ℕ → ℕ × Picture
 expire old now = expired_at old (max old.clock now)
 
--- Reconnect: the subscription goes on behind the cursor, under a new link: all its spans go, and the numbers from there to
--- the front are cut.
+-- Reconnect: the subscription goes on behind the cursor, under a new link: all its spans go, and
+-- the numbers from there to the front are cut.
 abbrev pub reconnected_picture : Picture → ℕ → Subscription → ℕ → List Span → Picture
-reconnected_picture old s q cursor spans = record (with_subscription old s (record q { floor = cursor; link = old.next_link; spans = spans })) {
-  next_link = suc old.next_link;
-  ready = without_subscription s old.ready ++ named s spans;
-  in_flight = without_subscription s old.in_flight;
-}
+reconnected_picture old s q cursor spans =
+    record (with_subscription old s
+    (record q { floor = cursor; link = old.next_link; spans = spans })) {
+      next_link = suc old.next_link;
+      ready = without_subscription s old.ready ++ named s spans;
+      in_flight = without_subscription s old.in_flight;
+    }
 
 abbrev pub reconnected_by : Picture → ℕ → ℕ → Option Subscription → Result ℕ DeskRefusal × Picture
 reconnected_by old s cursor None = refused_call old refusal.NoSuch
 reconnected_by old s cursor (Some q) =
     if q.closed then refused_call old refusal.Closed
-    else if nat_lt cursor q.floor || nat_lt q.offered cursor then refused_call old (refusal.BadCursor q.floor q.offered)
-    else (Ok old.next_link, reconnected_picture old s q cursor (cut_spans old.limits.batch (suc cursor) old.front))
+    else if nat_lt cursor q.floor
+    || nat_lt q.offered cursor then refused_call old (refusal.BadCursor q.floor q.offered)
+    else (
+      Ok old.next_link,
+      reconnected_picture old s q cursor
+          (cut_spans old.limits.batch (suc cursor) old.front),
+    )
 
 unfoldable pub reconnect : Picture → ℕ → ℕ → Result ℕ DeskRefusal × Picture
 reconnect old s cursor = reconnected_by old s cursor (slice_get old.subscriptions s)
 
 -- Unsubscribe: all its spans go, and it is closed.
 abbrev pub unsubscribed_picture : Picture → ℕ → Subscription → Picture
-unsubscribed_picture old s q = record (with_subscription old s (record q { closed = true; spans = [] })) {
-  ready = without_subscription s old.ready;
-  in_flight = without_subscription s old.in_flight;
-}
+unsubscribed_picture old s q =
+    record (with_subscription old s (record q { closed = true; spans = [] })) {
+      ready = without_subscription s old.ready;
+      in_flight = without_subscription s old.in_flight;
+    }
 
 abbrev pub unsubscribed_by : Picture → ℕ → ℕ → Option Subscription → Result ⊤ DeskRefusal × Picture
 unsubscribed_by old s link None = refused_call old refusal.NoSuch
@@ -222,19 +272,24 @@ unsubscribe old s link = unsubscribed_by old s link (slice_get old.subscriptions
 -- Prepare: the number that a placement would give now. It changes nothing.
 abbrev pub next_place : Picture → Option ℕ → Result ℕ DeskRefusal
 next_place old (Some last) = Err refusal.Closed
-next_place old None = if nat_lt old.front old.limits.capacity then Ok (suc old.front) else Err refusal.SequenceFull
+next_place old None = if nat_lt old.front old.limits.capacity then Ok (suc old.front) else Err
+    refusal.SequenceFull
 
 unfoldable pub prepare : Picture → Result ℕ DeskRefusal
 prepare old = next_place old old.closing
 
--- Place: the next number is placed. In each subscription that isn't closed the last span takes it, or it begins a new one,
--- which stands at the end of the ready order, the subscriptions by rising number.
+-- Place: the next number is placed. In each subscription that isn't closed the last span takes it,
+-- or it begins a new one, which stands at the end of the ready order, the subscriptions by rising
+-- number.
 abbrev pub grown_subscription : ℕ → ℕ → Subscription → Subscription
-grown_subscription batch n q = if q.closed then q else record q { spans = grown_spans batch n q.spans }
+grown_subscription batch n q =
+    if q.closed then q else record q { spans = grown_spans batch n q.spans }
 
 abbrev pub begun_spans : ℕ → ℕ → ℕ → List Subscription → List (ℕ × ℕ)
 begun_spans batch n s [] = []
-begun_spans batch n s (q ∷ rest) = if q.closed || last_takes batch q.spans then begun_spans batch n (suc s) rest else (s, n) ∷ begun_spans batch n (suc s) rest
+begun_spans batch n s (q ∷ rest) =
+    if q.closed || last_takes batch q.spans then begun_spans batch n (suc s) rest else (s, n)
+    ∷ begun_spans batch n (suc s) rest
 
 unfoldable pub place : Picture → Picture
 place old = record old {
@@ -249,4 +304,5 @@ last_number old None = old.front
 last_number old (Some last) = last
 
 unfoldable pub close : Picture → ℕ × Picture
-close old = (last_number old old.closing, record old { closing = Some (last_number old old.closing) })
+close old =
+    (last_number old old.closing, record old { closing = Some (last_number old old.closing) })

@@ -1,5 +1,5 @@
--- What expiring makes of the spans that a desk keeps: each that is due stands in line by its delivery's number, so that those that
--- go back do so in the in-flight order.
+-- What expiring makes of the spans that a desk keeps: each that is due stands in line by its
+-- delivery's number, so that those that go back do so in the in-flight order.
 use Rattle.std.specs.Prelude.{ℕ, suc, ◌+◌, List, [], ◌∷◌, length, map, if◌then◌else◌, true}
 use Rattle.std.specs.List.{filter}
 use Rattle.rb_desk.specs.declared.ticket.Ticket.{Ticket}
@@ -25,16 +25,24 @@ by_number tk h = ticket_of tk h.span.status
 
 -- a span that is due is ready again, with a ticket by what it was
 abbrev pub expired_held : ℕ → ℕ → (Held → Ticket) → Held → Held
-expired_held timeout clock ticket h = if is_due timeout clock h.span.status then record { span = record h.span { status = Ready true }; ticket = ticket h } else h
+expired_held timeout clock ticket h =
+    if is_due timeout clock h.span.status then
+    record { span = record h.span { status = Ready true }; ticket = ticket h } else h
 
 abbrev pub expired_by : ℕ → ℕ → Ticket → Held → Held
-expired_by timeout clock latest = expired_held timeout clock (by_number (turns_from latest.front latest.turn))
+expired_by timeout clock latest =
+    expired_held timeout clock (by_number (turns_from latest.front latest.turn))
 
 abbrev pub expired_lane : ℕ → ℕ → Ticket → Lane → Lane
-expired_lane timeout clock latest kept = record kept { held = map (expired_by timeout clock latest) kept.held }
+expired_lane timeout clock latest kept =
+    record kept { held = map (expired_by timeout clock latest) kept.held }
 
 abbrev pub expired_sub : ℕ → ℕ → (Held → Ticket) → Sub → Sub
-expired_sub timeout clock ticket sub = record sub { lane = record sub.lane { held = map (expired_held timeout clock ticket) sub.lane.held } }
+expired_sub timeout clock ticket sub =
+    record sub {
+      lane = record sub.lane
+          { held = map (expired_held timeout clock ticket) sub.lane.held };
+    }
 
 -- how many are due: those of the open subscriptions that were taken before
 abbrev pub due_held : ℕ → ℕ → List Held → ℕ

@@ -1,11 +1,13 @@
 -- What a picture keeps.
-use Rattle.std.specs.Prelude.{◌≡◌, ℕ, suc, ◌+◌, ◌<◌, ◌≤◌, Bool, true, false, List, [], ◌∷◌, length, IfSome, Option, Some, None, slice_get, ◌==◌}
+use Rattle.std.specs.Prelude.{◌≡◌, ℕ, suc, ◌+◌, ◌<◌, ◌≤◌, Bool, true, false, List, [], ◌∷◌, length}
+use Rattle.std.specs.Prelude.{IfSome, Option, Some, None, slice_get, ◌==◌}
 use Rattle.std.specs.List.{filter, AllByRecursion}
 use Rattle.rb_desk.specs.declared.span.Span.{Span}
 use Rattle.rb_desk.specs.declared.span.Status.{Status}
 use Rattle.rb_desk.specs.declared.span.Status.TheVariants.{Ready, InFlight, Settled}
 use Rattle.rb_desk.specs.Limits.{Limits, first_out_of_range}
-use Rattle.rb_desk.specs.Spans.{is_ready, is_fresh, is_out, is_out_as, is_settled, beginning, how_many_out}
+use Rattle.rb_desk.specs.Spans.{is_ready, is_fresh, is_out, is_out_as, is_settled, beginning}
+use Rattle.rb_desk.specs.Spans.{how_many_out}
 use Rattle.rb_desk.specs.Picture.{Picture, Subscription}
 use Rattle.rb_desk.specs.Calls.{is_span}
 
@@ -13,15 +15,18 @@ use Rattle.rb_desk.specs.Calls.{is_span}
 abbrev pub AreInRange : Limits → Type 0
 AreInRange c = first_out_of_range c.batch c.window c.timeout c.capacity c.intake c.appliers ≡ None
 
--- spans partition the numbers from low to high: each follows the one before it, and each has a number
+-- spans partition the numbers from low to high: each follows the one before it, and each has a
+-- number
 abbrev pub Partition : ℕ → List Span → ℕ → Type 0
 Partition low [] high = suc high ≡ low
-Partition low (p ∷ rest) high = (p.first ≡ low) × (p.first ≤ p.last) × Partition (suc p.last) rest high
+Partition low (p ∷ rest) high = (p.first ≡ low) × (p.first ≤ p.last)
+    × Partition (suc p.last) rest high
 
--- a span has no more than batch numbers; where it was taken, its numbers were offered; where it is out, its delivery's number
--- was given
+-- a span has no more than batch numbers; where it was taken, its numbers were offered; where it is
+-- out, its delivery's number was given
 abbrev pub WasOffered : ℕ → ℕ → Span → Type 0
-WasOffered offered next p = (is_fresh p.status ≡ false → p.last ≤ offered) × IsNumbered next p.status
+WasOffered offered next p = (is_fresh p.status ≡ false → p.last ≤ offered)
+    × IsNumbered next p.status
   where
     IsNumbered : ℕ → Status → Type 0
     IsNumbered next (Ready taken) = Unit {0}
@@ -37,9 +42,10 @@ abbrev pub StartsUnsettled : List Span → Type 0
 StartsUnsettled [] = Unit {0}
 StartsUnsettled (p ∷ rest) = is_settled p.status ≡ false
 
--- a subscription: the start isn't behind the floor, nor the floor behind what was offered, nor this behind the front; its link
--- was given; a closed one has no spans, and those of another one partition the numbers from its floor to the front, the first
--- of them isn't settled, and no more are out than the window holds
+-- a subscription: the start isn't behind the floor, nor the floor behind what was offered, nor this
+-- behind the front; its link was given; a closed one has no spans, and those of another one
+-- partition the numbers from its floor to the front, the first of them isn't settled, and no more
+-- are out than the window holds
 pub record IsGoodSubscription (p : Picture) (q : Subscription) : Type 0 where
   pub begins : q.start ≤ q.floor
   pub reaches : q.floor ≤ q.offered
@@ -76,9 +82,10 @@ abbrev pub out_in : ℕ → List Subscription → ℕ
 out_in d [] = 0
 out_in d (q ∷ rest) = length (filter (λ p. is_out_as d p.status) q.spans) + out_in d rest
 
--- A picture: its limits are in their ranges and the front within the capacity; the closing number is the front; each
--- subscription is good; no two have one link, and no two spans are out as one delivery; a ready span stands once in the ready
--- order and nothing else does, and a span that is out once in the in-flight order and nothing else does.
+-- A picture: its limits are in their ranges and the front within the capacity; the closing number
+-- is the front; each subscription is good; no two have one link, and no two spans are out as one
+-- delivery; a ready span stands once in the ready order and nothing else does, and a span that is
+-- out once in the in-flight order and nothing else does.
 pub record IsPicture (p : Picture) : Type 0 where
   pub in_range : AreInRange p.limits
   pub within : p.front ≤ p.limits.capacity
@@ -86,5 +93,7 @@ pub record IsPicture (p : Picture) : Type 0 where
   pub good : AllByRecursion (IsGoodSubscription p) p.subscriptions
   pub links : (link : ℕ) → links_of link p.subscriptions ≤ 1
   pub deliveries : (d : ℕ) → out_in d p.subscriptions ≤ 1
-  pub ready : (s first : ℕ) → how_often s first p.ready ≡ stands_there is_ready first (slice_get p.subscriptions s)
-  pub out : (s first : ℕ) → how_often s first p.in_flight ≡ stands_there is_out first (slice_get p.subscriptions s)
+  pub ready : (s first : ℕ) → how_often s first p.ready
+      ≡ stands_there is_ready first (slice_get p.subscriptions s)
+  pub out : (s first : ℕ) → how_often s first p.in_flight
+      ≡ stands_there is_out first (slice_get p.subscriptions s)

@@ -1,6 +1,9 @@
--- How a desk keeps the spans of one subscription. Those that were never taken follow from where they begin, since they are what
--- is left of one cutting, grown by every placement; so only those that were taken are kept, each with its ticket.
-use Rattle.std.specs.Prelude.{◌≡◌, ℕ, suc, ◌≤◌, ◌<◌, Bool, true, false, ◌||◌, ◌&&◌, List, [], ◌∷◌, ◌++◌, map, Option, Some, None, ◌==◌, nat_lt, nat_le, if◌then◌else◌, refl}
+-- How a desk keeps the spans of one subscription. Those that were never taken follow from where
+-- they begin, since they are what is left of one cutting, grown by every placement; so only those
+-- that were taken are kept, each with its ticket.
+use Rattle.std.specs.Prelude.{◌≡◌, ℕ, suc, ◌≤◌, ◌<◌, Bool, true, false, ◌||◌, ◌&&◌, List, [], ◌∷◌}
+use Rattle.std.specs.Prelude.{◌++◌, map, Option, Some, None, ◌==◌, nat_lt, nat_le, if◌then◌else◌}
+use Rattle.std.specs.Prelude.{refl}
 use Rattle.std.specs.Coded.{Coded, code_by, coded×, coded_list, coded_ℕ}
 use Rattle.rb_desk.specs.contracts.ticket.Held as held
 use Rattle.rb_desk.specs.contracts.ticket.Ticket as ticket
@@ -11,8 +14,8 @@ use Rattle.rb_desk.specs.declared.span.Status.{Status}
 use Rattle.rb_desk.specs.declared.span.Status.TheVariants.{Ready, Settled}
 use Rattle.rb_desk.specs.Spans.{cut_spans, is_ready, is_settled}
 
--- A lane: the floor, the spans that were taken before, the number that the first span never taken begins with, and the
--- ticket of the cutting.
+-- A lane: the floor, the spans that were taken before, the number that the first span never taken
+-- begins with, and the ticket of the cutting.
 pub record Lane : Type 0 where
   pub floor : ℕ
   pub held : List Held
@@ -22,16 +25,21 @@ pub record Lane : Type 0 where
 -- a lane is stored as its parts
 abbrev pub lane_code : Coded Lane
 lane_code =
-    code_by (ℕ × (List Held × (ℕ × Ticket))) (coded× coded_ℕ (coded× (coded_list held.the_row.coded) (coded× coded_ℕ ticket.the_row.coded)))
-    (λ k. (k.floor, (k.held, (k.next, k.cutting)))) (λ p. record { floor = p.0; held = p.1.0; next = p.1.1.0; cutting = p.1.1.1 }) (λ _. refl)
+    code_by (ℕ × (List Held × (ℕ × Ticket)))
+    (coded× coded_ℕ (coded× (coded_list held.the_row.coded)
+    (coded× coded_ℕ ticket.the_row.coded)))
+    (λ k. (k.floor, (k.held, (k.next, k.cutting))))
+    (λ p. record { floor = p.0; held = p.1.0; next = p.1.1.0; cutting = p.1.1.1 }) (λ _. refl)
 
 -- a ticket is drawn before another: with a smaller front, or with the same and in an earlier turn
 abbrev pub earlier : Ticket → Ticket → Bool
 earlier a b = nat_lt a.front b.front || ((a.front == b.front) && nat_lt a.turn b.turn)
 
--- the ticket of a span never taken: the cutting's, where it had numbers then, else that of its first number's placement
+-- the ticket of a span never taken: the cutting's, where it had numbers then, else that of its
+-- first number's placement
 abbrev pub birth : Ticket → ℕ → Ticket
-birth cutting first = if nat_le first cutting.front then cutting else record { front = first; turn = 0 }
+birth cutting first = if nat_le first cutting.front then cutting else
+    record { front = first; turn = 0 }
 
 abbrev pub with_birth : Ticket → Span → Held
 with_birth cutting p = record { span = p; ticket = birth cutting p.first }
@@ -69,7 +77,9 @@ least (h ∷ rest) = better (if_ready h) (least rest)
 
 -- the one that begins with this number becomes so
 abbrev pub stated : ℕ → Status → Ticket → Held → Held
-stated first status ticket h = if h.span.first == first then record { span = record h.span { status = status }; ticket = ticket } else h
+stated first status ticket h =
+    if h.span.first == first then
+    record { span = record h.span { status = status }; ticket = ticket } else h
 
 abbrev pub restated : ℕ → Status → Ticket → List Held → List Held
 restated first status ticket = map (stated first status ticket)
@@ -77,12 +87,14 @@ restated first status ticket = map (stated first status ticket)
 -- while the first span is settled, the floor rises to its last number and it goes
 abbrev pub risen : ℕ → List Held → ℕ × List Held
 risen floor [] = (floor, [])
-risen floor (h ∷ rest) = if is_settled h.span.status then risen h.span.last rest else (floor, h ∷ rest)
+risen floor (h ∷ rest) = if is_settled h.span.status then risen h.span.last rest else
+    (floor, h ∷ rest)
 
 -- the spans follow one another without a gap from this number on, up to the next one
 abbrev pub FollowOn : ℕ → List Held → ℕ → Type 0
 FollowOn low [] next = next ≡ low
-FollowOn low (h ∷ rest) next = (h.span.first ≡ low) × (h.span.first ≤ h.span.last) × FollowOn (suc h.span.last) rest next
+FollowOn low (h ∷ rest) next = (h.span.first ≡ low) × (h.span.first ≤ h.span.last)
+    × FollowOn (suc h.span.last) rest next
 
 -- a lane's spans follow one another behind its floor
 abbrev pub AreJoined : Lane → Type 0
@@ -94,23 +106,33 @@ cut_lane cursor ticket = record { floor = cursor; held = []; next = suc cursor; 
 
 -- a span that was taken before becomes so; the first one that wasn't does; the floor rises
 abbrev pub restated_lane : Lane → ℕ → Status → Ticket → Lane
-restated_lane kept first status ticket = record kept { held = restated first status ticket kept.held }
+restated_lane kept first status ticket =
+    record kept { held = restated first status ticket kept.held }
 
 abbrev pub pushed_lane : Lane → Span → Status → Lane
-pushed_lane kept span status = record kept { held = kept.held ++ record { span = record span { status = status }; ticket = kept.cutting } ∷ []; next = suc span.last }
+pushed_lane kept span status =
+    record kept {
+      held = kept.held
+          ++ record { span = record span { status = status }; ticket = kept.cutting } ∷ [];
+      next =
+          suc span.last;
+    }
 
 abbrev pub raised_lane : Lane → ℕ × List Held → Lane
 raised_lane kept rest = record kept { floor = rest.0; held = rest.1 }
 
 -- after a span was handed over, went back, was settled
 abbrev pub delivered_lane : Lane → Span → Status → Lane
-delivered_lane kept span status = if span.first == kept.next then pushed_lane kept span status else restated_lane kept span.first status kept.cutting
+delivered_lane kept span status =
+    if span.first == kept.next then pushed_lane kept span status else restated_lane kept span.first
+    status kept.cutting
 
 abbrev pub returned_lane : Lane → ℕ → Ticket → Lane
 returned_lane kept first ticket = restated_lane kept first (Ready true) ticket
 
 abbrev pub settled_lane : Lane → ℕ → Lane
-settled_lane kept first = raised_lane kept (risen kept.floor (restated first Settled kept.cutting kept.held))
+settled_lane kept first =
+    raised_lane kept (risen kept.floor (restated first Settled kept.cutting kept.held))
 
 -- a batch is of 1 to 256 numbers, and no more than 1,048,576 are placed
 abbrev pub AreLimited : ℕ → ℕ → Type 0

@@ -2,11 +2,12 @@
 use Rattle.std.specs.Prelude.{ℕ, Bool, ◌&&◌, not, nat_le, Option, Some, None, if◌then◌else◌, refl}
 use Rattle.std.specs.Coded.{Coded, code_by, coded×, coded_ℕ}
 use Rattle.rb_desk.specs.declared.config.ConfigFault.{ConfigFault}
-use Rattle.rb_desk.specs.declared.config.ConfigFault.TheVariants.{Batch, Window, Timeout, Capacity, Intake, Appliers}
+use Rattle.rb_desk.specs.declared.config.ConfigFault.TheVariants.{Batch, Window, Timeout, Capacity}
+use Rattle.rb_desk.specs.declared.config.ConfigFault.TheVariants.{Intake, Appliers}
 
--- The limits: the most numbers in a delivery, the most deliveries in flight to a subscription, after how many moments a
--- delivery expires, the most entries of the sequence, the most changesets that wait to be placed, how many workers apply
--- a changeset.
+-- The limits: the most numbers in a delivery, the most deliveries in flight to a subscription,
+-- after how many moments a delivery expires, the most entries of the sequence, the most changesets
+-- that wait to be placed, how many workers apply a changeset.
 pub record Limits : Type 0 where
   pub batch : ℕ
   pub window : ℕ
@@ -18,9 +19,17 @@ pub record Limits : Type 0 where
 -- limits are stored as their numbers
 abbrev pub limits_code : Coded Limits
 limits_code =
-    code_by (ℕ × (ℕ × (ℕ × (ℕ × (ℕ × ℕ))))) (coded× coded_ℕ (coded× coded_ℕ (coded× coded_ℕ (coded× coded_ℕ (coded× coded_ℕ coded_ℕ)))))
+    code_by (ℕ × (ℕ × (ℕ × (ℕ × (ℕ × ℕ)))))
+    (coded× coded_ℕ (coded× coded_ℕ (coded× coded_ℕ (coded× coded_ℕ (coded× coded_ℕ coded_ℕ)))))
     (λ c. (c.batch, (c.window, (c.timeout, (c.capacity, (c.intake, c.appliers))))))
-    (λ p. record { batch = p.0; window = p.1.0; timeout = p.1.1.0; capacity = p.1.1.1.0; intake = p.1.1.1.1.0; appliers = p.1.1.1.1.1 })
+    (λ p. record {
+      batch = p.0;
+      window = p.1.0;
+      timeout = p.1.1.0;
+      capacity = p.1.1.1.0;
+      intake = p.1.1.1.1.0;
+      appliers = p.1.1.1.1.1;
+    })
     (λ _. refl)
 
 -- whether a number is at least 1 and at most this

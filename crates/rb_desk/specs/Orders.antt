@@ -1,4 +1,5 @@
--- The ready order and the in-flight order, as what a desk keeps makes them: the spans that are in it, sorted by their tickets.
+-- The ready order and the in-flight order, as what a desk keeps makes them: the spans that are in
+-- it, sorted by their tickets.
 use Rattle.std.specs.Prelude.{ℕ, suc, List, [], ◌∷◌, ◌++◌, map, Option, Some, None, if◌then◌else◌}
 use Rattle.std.specs.List.{filter_map}
 use Rattle.rb_desk.specs.declared.ticket.Ticket.{Ticket}
@@ -8,7 +9,8 @@ use Rattle.rb_desk.specs.declared.span.Status.TheVariants.{Ready, InFlight, Sett
 use Rattle.rb_desk.specs.Spans.{is_ready}
 use Rattle.rb_desk.specs.Lanes.{earlier}
 
--- a thing at its place among those before it, and all things so: where two have the same ticket, in the order that they come in
+-- a thing at its place among those before it, and all things so: where two have the same ticket, in
+-- the order that they come in
 abbrev pub placed_in : {X : Type 0} → Ticket × X → List (Ticket × X) → List (Ticket × X)
 placed_in e [] = e ∷ []
 placed_in e (f ∷ rest) = if earlier f.0 e.0 then f ∷ placed_in e rest else e ∷ f ∷ rest
@@ -23,14 +25,16 @@ ready_at s h = if is_ready h.span.status then Some (h.ticket, (s, h.span.first))
 
 abbrev pub out_at_status : ℕ → ℕ → Status → Option (Ticket × (ℕ × ℕ))
 out_at_status s first (Ready taken) = None
-out_at_status s first (InFlight number moment) = Some (record { front = number; turn = 0 }, (s, first))
+out_at_status s first (InFlight number moment) =
+    Some (record { front = number; turn = 0 }, (s, first))
 out_at_status s first Settled = None
 
 abbrev pub out_at : ℕ → Held → Option (Ticket × (ℕ × ℕ))
 out_at s h = out_at_status s h.span.first h.span.status
 
 -- the spans of all subscriptions from number s on
-abbrev pub all_at : (ℕ → Held → Option (Ticket × (ℕ × ℕ))) → ℕ → List (List Held) → List (Ticket × (ℕ × ℕ))
+abbrev pub all_at : (ℕ → Held → Option (Ticket × (ℕ × ℕ))) → ℕ → List (List Held)
+    → List (Ticket × (ℕ × ℕ))
 all_at at s [] = []
 all_at at s (held ∷ rest) = filter_map (at s) held ++ all_at at (suc s) rest
 

@@ -1,6 +1,7 @@
--- What calls change for those who know no spans and no clock: the front, the closing number, the numbers that were given, and of
--- each subscription its start, its link and whether it is closed.
-use Rattle.std.specs.Prelude.{◌≡◌, ℕ, suc, ◌<◌, ◌≤◌, Bool, true, false, List, [], ◌∷◌, ◌++◌, length, map, Option, Some, None, slice_get, slice_set}
+-- What calls change for those who know no spans and no clock: the front, the closing number, the
+-- numbers that were given, and of each subscription its start, its link and whether it is closed.
+use Rattle.std.specs.Prelude.{◌≡◌, ℕ, suc, ◌<◌, ◌≤◌, Bool, true, false, List, [], ◌∷◌, ◌++◌, length}
+use Rattle.std.specs.Prelude.{map, Option, Some, None, slice_get, slice_set}
 use Rattle.rb_desk.specs.declared.delivery.Delivery.{Delivery}
 use Rattle.rb_desk.specs.Picture.{Picture, Subscription}
 
@@ -35,10 +36,14 @@ pub record Subscribes (old new : Outline) (start s link : ℕ) : Type 0 where
   pub placed : start ≤ old.front
   pub last : s ≡ length old.members
   pub given : link ≡ old.next_link
-  pub kept : new ≡ record old { next_link = suc link; members = old.members ++ record { start = start; link = link; closed = false } ∷ [] }
+  pub kept : new ≡ record old {
+    next_link = suc link;
+    members = old.members
+        ++ record { start = start; link = link; closed = false } ∷ [];
+  }
 
--- a delivery, whose number was never given, of numbers that are placed, to a subscription that isn't closed and began before
--- them, under its present link
+-- a delivery, whose number was never given, of numbers that are placed, to a subscription that
+-- isn't closed and began before them, under its present link
 pub record Delivers (old new : Outline) (delivery : Delivery) : Type 0 where
   pub member : Member
   pub found : slice_get old.members delivery.sub ≡ Some member
@@ -56,14 +61,16 @@ pub record Reconnects (old new : Outline) (s link : ℕ) : Type 0 where
   pub found : slice_get old.members s ≡ Some member
   pub not_closed : member.closed ≡ false
   pub given : link ≡ old.next_link
-  pub kept : new ≡ record old { next_link = suc link; members = slice_set old.members s (record member { link = link }) }
+  pub kept : new ≡ record old
+      { next_link = suc link; members = slice_set old.members s (record member { link = link }) }
 
 -- a subscription that isn't closed is closed
 pub record Unsubscribes (old new : Outline) (s : ℕ) : Type 0 where
   pub member : Member
   pub found : slice_get old.members s ≡ Some member
   pub not_closed : member.closed ≡ false
-  pub kept : new ≡ record old { members = slice_set old.members s (record member { closed = true }) }
+  pub kept : new ≡ record old
+      { members = slice_set old.members s (record member { closed = true }) }
 
 -- the next number is placed, while the sequence isn't closed
 pub record Places (old new : Outline) (number : ℕ) : Type 0 where

@@ -5,8 +5,9 @@ use Rattle.rb_desk.specs.contracts.span.Span as span
 use Rattle.rb_desk.specs.declared.span.Span.{Span}
 use Rattle.rb_desk.specs.Limits.{Limits, limits_code}
 
--- A subscription: the number behind which it began; the floor, up to which everything is settled; the greatest number that
--- was offered to it; its present link; whether it is closed; its spans in order.
+-- A subscription: the number behind which it began; the floor, up to which everything is settled;
+-- the greatest number that was offered to it; its present link; whether it is closed; its spans in
+-- order.
 pub record Subscription : Type 0 where
   pub start : ℕ
   pub floor : ℕ
@@ -15,9 +16,10 @@ pub record Subscription : Type 0 where
   pub closed : Bool
   pub spans : List Span
 
--- A picture: the limits; the front, which is the last number placed, 0 before the first; the closing number, if the sequence
--- is closed; the clock; the next link and the next delivery's number; the subscriptions, named by their places from 0; the
--- ready order and the in-flight order, which name spans by subscription and first number.
+-- A picture: the limits; the front, which is the last number placed, 0 before the first; the
+-- closing number, if the sequence is closed; the clock; the next link and the next delivery's
+-- number; the subscriptions, named by their places from 0; the ready order and the in-flight order,
+-- which name spans by subscription and first number.
 pub record Picture : Type 0 where
   pub limits : Limits
   pub front : ℕ
@@ -46,16 +48,50 @@ empty_picture limits = record {
 -- subscriptions and pictures are stored as their parts
 abbrev pub subscription_code : Coded Subscription
 subscription_code =
-    code_by (ℕ × (ℕ × (ℕ × (ℕ × (Bool × List Span))))) (coded× coded_ℕ (coded× coded_ℕ (coded× coded_ℕ (coded× coded_ℕ (coded× coded_bool (coded_list span.the_row.coded))))))
+    code_by (ℕ × (ℕ × (ℕ × (ℕ × (Bool × List Span)))))
+    (coded× coded_ℕ
+    (coded× coded_ℕ
+    (coded× coded_ℕ (coded× coded_ℕ (coded× coded_bool (coded_list span.the_row.coded))))))
     (λ s. (s.start, (s.floor, (s.offered, (s.link, (s.closed, s.spans))))))
-    (λ p. record { start = p.0; floor = p.1.0; offered = p.1.1.0; link = p.1.1.1.0; closed = p.1.1.1.1.0; spans = p.1.1.1.1.1 })
+    (λ p. record {
+      start = p.0;
+      floor = p.1.0;
+      offered = p.1.1.0;
+      link = p.1.1.1.0;
+      closed = p.1.1.1.1.0;
+      spans = p.1.1.1.1.1;
+    })
     (λ _. refl)
 
 abbrev pub picture_code : Coded Picture
 picture_code =
-    code_by (Limits × (ℕ × (Option ℕ × (ℕ × (ℕ × (ℕ × (List Subscription × (List (ℕ × ℕ) × List (ℕ × ℕ)))))))))
-    (coded× limits_code (coded× coded_ℕ (coded× (coded_option coded_ℕ) (coded× coded_ℕ (coded× coded_ℕ (coded× coded_ℕ
-    (coded× (coded_list subscription_code) (coded× (coded_list (coded× coded_ℕ coded_ℕ)) (coded_list (coded× coded_ℕ coded_ℕ))))))))))
-    (λ d. (d.limits, (d.front, (d.closing, (d.clock, (d.next_link, (d.next_delivery, (d.subscriptions, (d.ready, d.in_flight)))))))))
-    (λ p. record { limits = p.0; front = p.1.0; closing = p.1.1.0; clock = p.1.1.1.0; next_link = p.1.1.1.1.0; next_delivery = p.1.1.1.1.1.0; subscriptions = p.1.1.1.1.1.1.0; ready = p.1.1.1.1.1.1.1.0; in_flight = p.1.1.1.1.1.1.1.1 })
+    code_by (Limits
+    × (ℕ × (Option ℕ × (ℕ × (ℕ × (ℕ × (List Subscription × (List (ℕ × ℕ) × List (ℕ × ℕ)))))))))
+    (coded× limits_code
+    (coded× coded_ℕ (coded× (coded_option coded_ℕ)
+    (coded× coded_ℕ (coded× coded_ℕ (coded× coded_ℕ
+    (coded× (coded_list subscription_code)
+    (coded× (coded_list (coded× coded_ℕ coded_ℕ)) (coded_list (coded× coded_ℕ coded_ℕ))))))))))
+    (λ d. (
+      d.limits,
+      (
+        d.front,
+        (
+          d.closing,
+          (d.clock, (d.next_link, (d.next_delivery, (d.subscriptions, (d.ready, d.in_flight))))),
+        ),
+      ),
+    ))
+    (λ p. record {
+      limits = p.0;
+      front = p.1.0;
+      closing = p.1.1.0;
+      clock = p.1.1.1.0;
+      next_link = p.1.1.1.1.0;
+      next_delivery = p.1.1.1.1.1.0;
+      subscriptions =
+          p.1.1.1.1.1.1.0;
+      ready = p.1.1.1.1.1.1.1.0;
+      in_flight = p.1.1.1.1.1.1.1.1;
+    })
     (λ _. refl)

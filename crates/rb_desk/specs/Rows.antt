@@ -1,25 +1,43 @@
 -- Worked rows, read off the definitions: what calls answer one after another.
 use Rattle.std.specs.Prelude.{◌≡◌, [], ◌∷◌, Ok, Err, refl}
 use Rattle.rb_desk.specs.declared.refusal.DeskRefusal.TheVariants as refusal
-use Rattle.rb_desk.specs.declared.step.Step.TheVariants.{Subscribe, Take, Ack, Nack, Reconnect, Place, Close}
+use Rattle.rb_desk.specs.declared.step.Step.TheVariants.{Subscribe, Take, Ack, Nack, Reconnect}
+use Rattle.rb_desk.specs.declared.step.Step.TheVariants.{Place, Close}
 use Rattle.rb_desk.specs.Limits.{Limits}
 use Rattle.rb_desk.specs.Picture.{Picture}
 use Rattle.rb_desk.specs.Spans.{cut_spans}
-use Rattle.rb_desk.specs.Calls.{subscribe, take, take_any, ack, nack, expire, reconnect, prepare, place, close}
+use Rattle.rb_desk.specs.Calls.{subscribe, take, take_any, ack, nack, expire, reconnect, prepare}
+use Rattle.rb_desk.specs.Calls.{place, close}
 use Rattle.rb_desk.specs.Steps.{after_step, replay}
 
 -- batches of one number and two deliveries in flight; batches of up to 256
 abbrev two_in_flight : Limits
-two_in_flight = record { batch = 1; window = 2; timeout = 10; capacity = 9; intake = 1; appliers = 1 }
+two_in_flight = record {
+  batch = 1;
+  window = 2;
+  timeout = 10;
+  capacity = 9;
+  intake = 1;
+  appliers = 1;
+}
 
 abbrev large_batches : Limits
-large_batches = record { batch = 256; window = 4; timeout = 10; capacity = 9; intake = 1; appliers = 1 }
+large_batches = record {
+  batch = 256;
+  window = 4;
+  timeout = 10;
+  capacity = 9;
+  intake = 1;
+  appliers = 1;
+}
 
 -- three numbers are placed, and two are taken
 abbrev two_taken : Picture
-two_taken = replay two_in_flight (Subscribe 0 ∷ Place ∷ Place ∷ Place ∷ Take 0 1 0 0 ∷ Take 0 1 0 0 ∷ [])
+two_taken = replay two_in_flight
+    (Subscribe 0 ∷ Place ∷ Place ∷ Place ∷ Take 0 1 0 0 ∷ Take 0 1 0 0 ∷ [])
 
--- the window is full; an ack asks that all is accepted, and one of the second delivery doesn't raise the floor past the first
+-- the window is full; an ack asks that all is accepted, and one of the second delivery doesn't
+-- raise the floor past the first
 pub window : (take two_taken 0 1 0 0).0 ≡ Err refusal.WindowFull
 unfolding subscribe take prepare place after_step cut_spans
 window = refl
@@ -37,7 +55,8 @@ unfolding subscribe take ack prepare place after_step cut_spans
 floor_rises = refl
 
 -- what went back waits behind the rest
-pub behind_the_rest : (take_any (after_step two_taken (Nack 0 1 2)) 0).0 ≡ Ok (record { number = 3; sub = 0; link = 1; first = 3; last = 3 })
+pub behind_the_rest : (take_any (after_step two_taken (Nack 0 1 2)) 0).0
+    ≡ Ok (record { number = 3; sub = 0; link = 1; first = 3; last = 3 })
 unfolding subscribe take take_any nack prepare place after_step cut_spans
 behind_the_rest = refl
 
@@ -57,11 +76,13 @@ due = refl
 abbrev taken_and_placed : Picture
 taken_and_placed = replay large_batches (Subscribe 0 ∷ Place ∷ Take 0 1 0 0 ∷ Place ∷ Place ∷ [])
 
-pub not_lengthened : (take taken_and_placed 0 1 0 0).0 ≡ Ok (record { number = 2; sub = 0; link = 1; first = 2; last = 3 })
+pub not_lengthened : (take taken_and_placed 0 1 0 0).0
+    ≡ Ok (record { number = 2; sub = 0; link = 1; first = 2; last = 3 })
 unfolding subscribe take prepare place after_step cut_spans
 not_lengthened = refl
 
-pub cut_anew : (take (after_step taken_and_placed (Reconnect 0 0)) 0 2 0 0).0 ≡ Ok (record { number = 2; sub = 0; link = 2; first = 1; last = 3 })
+pub cut_anew : (take (after_step taken_and_placed (Reconnect 0 0)) 0 2 0 0).0
+    ≡ Ok (record { number = 2; sub = 0; link = 2; first = 1; last = 3 })
 unfolding subscribe take reconnect prepare place after_step cut_spans
 cut_anew = refl
 
@@ -70,10 +91,14 @@ unfolding subscribe take reconnect prepare place after_step cut_spans
 stale = refl
 
 -- after a close what is placed can still be taken; then the subscription is drained
-pub delivers_after_close : (take (replay large_batches (Subscribe 0 ∷ Place ∷ Close ∷ [])) 0 1 0 0).0 ≡ Ok (record { number = 1; sub = 0; link = 1; first = 1; last = 1 })
+pub delivers_after_close :
+    (take (replay large_batches (Subscribe 0 ∷ Place ∷ Close ∷ [])) 0 1 0 0).0
+    ≡ Ok (record { number = 1; sub = 0; link = 1; first = 1; last = 1 })
 unfolding subscribe take prepare place close after_step cut_spans
 delivers_after_close = refl
 
-pub drained : (take (replay large_batches (Subscribe 0 ∷ Place ∷ Close ∷ Take 0 1 0 0 ∷ Ack 0 1 1 1 ∷ [])) 0 1 1 0).0 ≡ Err (refusal.Drained 1)
+pub drained :
+    (take (replay large_batches (Subscribe 0 ∷ Place ∷ Close ∷ Take 0 1 0 0 ∷ Ack 0 1 1 1 ∷ [])) 0 1
+    1 0).0 ≡ Err (refusal.Drained 1)
 unfolding subscribe take ack prepare place close after_step cut_spans
 drained = refl

@@ -1,5 +1,7 @@
 -- The picture that a desk shows, and what its fields keep.
-use Rattle.std.specs.Prelude.{◌≡◌, ℕ, suc, ◌+◌, ◌<◌, ◌≤◌, max, Bool, true, false, not, ◌&&◌, ◌==◌, nat_lt, None, List, [], ◌∷◌, ◌++◌, map, ◌⊎◌, Option, Some, Result, Ok, Err, slice_get, slice_set, if◌then◌else◌}
+use Rattle.std.specs.Prelude.{◌≡◌, ℕ, suc, ◌+◌, ◌<◌, ◌≤◌, max, Bool, true, false, not, ◌&&◌, ◌==◌}
+use Rattle.std.specs.Prelude.{nat_lt, None, List, [], ◌∷◌, ◌++◌, map, ◌⊎◌, Option, Some, Result, Ok}
+use Rattle.std.specs.Prelude.{Err, slice_get, slice_set, if◌then◌else◌}
 use Rattle.rb_desk.specs.declared.delivery.Delivery.{Delivery}
 use Rattle.std.specs.List.{AllByRecursion}
 use Rattle.std.specs.Option.{option_map}
@@ -14,7 +16,8 @@ use Rattle.rb_desk.specs.declared.refusal.DeskError.{DeskError}
 use Rattle.rb_desk.specs.declared.refusal.DeskError.TheVariants.{Memory}
 use Rattle.rb_desk.specs.declared.sub.Sub.{Sub}
 use Rattle.rb_desk.specs.Spans.{cut_spans, is_fresh, is_ready, how_many_out, out_as}
-use Rattle.rb_desk.specs.Lanes.{AreJoined, earlier, least, cut_lane, delivered_lane, returned_lane, settled_lane, Lane, lane_held, spans_of}
+use Rattle.rb_desk.specs.Lanes.{AreJoined, earlier, least, cut_lane, delivered_lane, returned_lane}
+use Rattle.rb_desk.specs.Lanes.{settled_lane, Lane, lane_held, spans_of}
 use Rattle.rb_desk.specs.Orders.{order, ready_at, out_at}
 use Rattle.rb_desk.specs.Limits.{Limits}
 use Rattle.rb_desk.specs.Picture.{Picture, Subscription}
@@ -48,7 +51,8 @@ shown limits front closing clock next_link next_delivery subs = record {
 
 -- the limits are in their ranges, and the front within the capacity
 abbrev pub IsWithin : Limits → ℕ → Type 0
-IsWithin limits front = (1 ≤ limits.batch) × (limits.batch ≤ 256) × (limits.capacity ≤ 1048576) × (front ≤ limits.capacity)
+IsWithin limits front = (1 ≤ limits.batch) × (limits.batch ≤ 256) × (limits.capacity ≤ 1048576)
+    × (front ≤ limits.capacity)
 
 -- a ticket was drawn by now: no later front, no later turn
 abbrev pub IsDrawn : ℕ → ℕ → Ticket → Type 0
@@ -62,11 +66,13 @@ IsGiven next Settled = Unit {0}
 
 -- the numbers of those that are out were given, and there are turns for as many numbers
 abbrev pub AreGiven : ℕ → ℕ → List Held → Type 0
-AreGiven next turn held = AllByRecursion (λ h. IsGiven next h.span.status) held × (turn + next < 18446744073709551616)
+AreGiven next turn held = AllByRecursion (λ h. IsGiven next h.span.status) held
+    × (turn + next < 18446744073709551616)
 
 -- a span that is kept was taken before; its ticket was drawn, and its delivery's number given
 abbrev pub IsKnown : ℕ → ℕ → ℕ → Held → Type 0
-IsKnown front turn next h = (is_fresh h.span.status ≡ false) × IsDrawn front turn h.ticket × IsGiven next h.span.status
+IsKnown front turn next h = (is_fresh h.span.status ≡ false) × IsDrawn front turn h.ticket
+    × IsGiven next h.span.status
 
 -- what a desk keeps of a subscription belongs to its front, its turns and its deliveries
 pub record Belongs (front turn number : ℕ) (sub : Sub) : Type 0 where
@@ -78,7 +84,11 @@ pub record Belongs (front turn number : ℕ) (sub : Sub) : Type 0 where
 -- ---- what a call makes of a subscription
 
 abbrev pub delivered_sub : Sub → Span → ℕ → ℕ → Sub
-delivered_sub sub span number clock = record sub { offered = max sub.offered span.last; lane = delivered_lane sub.lane span (InFlight number clock) }
+delivered_sub sub span number clock =
+    record sub {
+      offered = max sub.offered span.last;
+      lane = delivered_lane sub.lane span (InFlight number clock);
+    }
 
 abbrev pub returned_sub : Sub → ℕ → Ticket → Sub
 returned_sub sub first ticket = record sub { lane = returned_lane sub.lane first ticket }
@@ -87,7 +97,14 @@ abbrev pub settled_sub : Sub → ℕ → Sub
 settled_sub sub first = record sub { lane = settled_lane sub.lane first }
 
 abbrev pub new_sub : ℕ → ℕ → Ticket → Sub
-new_sub start link ticket = record { start = start; offered = start; link = link; closed = false; lane = cut_lane start ticket }
+new_sub start link ticket =
+    record {
+      start = start;
+      offered = start;
+      link = link;
+      closed = false;
+      lane = cut_lane start ticket;
+    }
 
 abbrev pub reconnected_sub : Sub → ℕ → ℕ → Ticket → Sub
 reconnected_sub sub cursor link ticket = record sub { link = link; lane = cut_lane cursor ticket }
@@ -95,8 +112,9 @@ reconnected_sub sub cursor link ticket = record sub { link = link; lane = cut_la
 abbrev pub closed_sub : Sub → Sub
 closed_sub sub = record sub { closed = true; lane = cut_lane sub.lane.floor sub.lane.cutting }
 
--- The subscription `found`, with number s, is delivered a span, as delivery `number`, at tick `taken`: the delivery and what
--- becomes of the subscriptions, of the next delivery's number and of the clock.
+-- The subscription `found`, with number s, is delivered a span, as delivery `number`, at tick
+-- `taken`: the delivery and what becomes of the subscriptions, of the next delivery's number and of
+-- the clock.
 pub record DeliveredTo (subs : List Sub) (s : ℕ) (found : Sub) (span : Span) (number taken : ℕ)
     (delivery : Delivery) (new : List Sub) (next clock : ℕ) : Type 0 where
   pub delivery_is : delivery
@@ -116,24 +134,29 @@ WhenDelivered (Err why) subs s span number clock now new next tick =
 
 -- the span is one that was taken before, and is ready; or the first one that wasn't
 abbrev pub IsHeld : Lane → Span → Type 0
-IsHeld kept span = (front : List Held) × (h : Held) × (back : List Held) × (kept.held ≡ front ++ h ∷ back) × (h.span ≡ span)
+IsHeld kept span = (front : List Held) × (h : Held) × (back : List Held)
+    × (kept.held ≡ front ++ h ∷ back) × (h.span ≡ span)
 
 abbrev pub IsDeliverable : ℕ → ℕ → Lane → Span → Type 0
-IsDeliverable batch front kept span = (IsHeld kept span × (is_ready span.status ≡ true)) ⊎ (slice_get (cut_spans batch kept.next front) 0 ≡ Some span)
+IsDeliverable batch front kept span = (IsHeld kept span × (is_ready span.status ≡ true))
+    ⊎ (slice_get (cut_spans batch kept.next front) 0 ≡ Some span)
 
 -- why nothing is handed over, by whether a span is left
 abbrev pub why_none : ℕ → Bool → ℕ → Option ℕ → DeskRefusal
 why_none front none_left cursor None = Empty front
-why_none front none_left cursor (Some last) = if none_left && (cursor == last) then Drained last else Empty front
+why_none front none_left cursor (Some last) =
+    if none_left && (cursor == last) then Drained last else Empty front
 
 -- the span that is out as this delivery
 abbrev pub sub_out_as : ℕ → Sub → Option Span
 sub_out_as d sub = if sub.closed then None else out_as d (spans_of sub.lane.held)
 
--- the span of a subscription that may be handed over before its others, and the first of all, with its subscription's number
+-- the span of a subscription that may be handed over before its others, and the first of all, with
+-- its subscription's number
 abbrev pub next_to_deliver : ℕ → ℕ → ℕ → Sub → Option Held
 next_to_deliver window batch front sub =
-    if not sub.closed && nat_lt (how_many_out (spans_of sub.lane.held)) window then least (lane_held batch front sub.lane) else None
+    if not sub.closed && nat_lt (how_many_out (spans_of sub.lane.held)) window then least
+    (lane_held batch front sub.lane) else None
 
 abbrev pub span_to_deliver : ℕ × Held → ℕ × Span
 span_to_deliver c = (c.0, c.1.span)
@@ -145,7 +168,9 @@ goes_first (Some a) (Some b) = if earlier b.1.ticket a.1.ticket then Some b else
 
 abbrev pub first_to_deliver : ℕ → ℕ → ℕ → ℕ → List Sub → Option (ℕ × Held)
 first_to_deliver window batch front s [] = None
-first_to_deliver window batch front s (sub ∷ rest) = goes_first (option_map (λ h. (s, h)) (next_to_deliver window batch front sub)) (first_to_deliver window batch front (suc s) rest)
+first_to_deliver window batch front s (sub ∷ rest) =
+    goes_first (option_map (λ h. (s, h)) (next_to_deliver window batch front sub))
+    (first_to_deliver window batch front (suc s) rest)
 
 -- the spans of the subscription with this number follow one another
 abbrev pub IsJoinedAt : List Sub → ℕ → Type 0

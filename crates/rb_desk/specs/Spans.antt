@@ -1,11 +1,13 @@
 -- The spans of one subscription: how numbers are cut into spans, and what becomes of them.
-use Rattle.std.specs.Prelude.{ℕ, zero, suc, ◌+◌, ◌-◌, min, Bool, true, false, not, ◌&&◌, List, [], ◌∷◌, ◌++◌, length, Option, ◌==◌, nat_lt, nat_le, if◌then◌else◌}
+use Rattle.std.specs.Prelude.{ℕ, zero, suc, ◌+◌, ◌-◌, min, Bool, true, false, not, ◌&&◌, List, []}
+use Rattle.std.specs.Prelude.{◌∷◌, ◌++◌, length, Option, ◌==◌, nat_lt, nat_le, if◌then◌else◌}
 use Rattle.std.specs.List.{filter, find}
 use Rattle.rb_desk.specs.declared.span.Span.{Span}
 use Rattle.rb_desk.specs.declared.span.Status.{Status}
 use Rattle.rb_desk.specs.declared.span.Status.TheVariants.{Ready, InFlight, Settled}
 
--- it waits to be taken; it does, and never was; it is out as the delivery of this number; it is out; it is settled
+-- it waits to be taken; it does, and never was; it is out as the delivery of this number; it is
+-- out; it is settled
 abbrev pub is_ready : Status → Bool
 is_ready (Ready taken) = true
 is_ready (InFlight number moment) = false
@@ -41,16 +43,18 @@ is_due timeout clock Settled = false
 abbrev pub fresh : ℕ → ℕ → Span
 fresh first last = record { first = first; last = last; status = Ready false }
 
--- The numbers from a to b, cut by batch: the first batch numbers, or as many as there are, then the rest. There are no
--- more spans than numbers.
+-- The numbers from a to b, cut by batch: the first batch numbers, or as many as there are, then the
+-- rest. There are no more spans than numbers.
 abbrev pub cut_into : ℕ → ℕ → ℕ → ℕ → List Span
 cut_into zero batch a b = []
-cut_into (suc most) batch a b = if nat_lt b a then [] else fresh a (min (a + batch - 1) b) ∷ cut_into most batch (a + batch) b
+cut_into (suc most) batch a b = if nat_lt b a then [] else fresh a (min (a + batch - 1) b)
+    ∷ cut_into most batch (a + batch) b
 
 unfoldable pub cut_spans : ℕ → ℕ → ℕ → List Span
 cut_spans batch a b = cut_into (suc b - a) batch a b
 
--- the first one that is ready, and the one that is out as this delivery, and the one that begins with this number
+-- the first one that is ready, and the one that is out as this delivery, and the one that begins
+-- with this number
 abbrev pub first_ready : List Span → Option Span
 first_ready = find (λ p. is_ready p.status)
 
@@ -67,19 +71,23 @@ how_many_out spans = length (filter (λ p. is_out p.status) spans)
 -- the one that begins with this number gets this status
 abbrev pub with_status : ℕ → Status → List Span → List Span
 with_status first status [] = []
-with_status first status (p ∷ rest) = (if p.first == first then record p { status = status } else p) ∷ with_status first status rest
+with_status first status (p ∷ rest) = (if p.first == first then record p { status = status } else p)
+    ∷ with_status first status rest
 
 -- those that are due are ready again
 abbrev pub gone_back : ℕ → ℕ → List Span → List Span
 gone_back timeout clock [] = []
-gone_back timeout clock (p ∷ rest) = (if is_due timeout clock p.status then record p { status = Ready true } else p) ∷ gone_back timeout clock rest
+gone_back timeout clock (p ∷ rest) =
+    (if is_due timeout clock p.status then record p { status = Ready true } else p)
+    ∷ gone_back timeout clock rest
 
 -- while the first span is settled, the floor rises to its last number and it goes
 abbrev pub raised : ℕ → List Span → ℕ × List Span
 raised floor [] = (floor, [])
 raised floor (p ∷ rest) = if is_settled p.status then raised p.last rest else (floor, p ∷ rest)
 
--- the last span takes one number more: where it is ready, was never taken and has less than batch numbers
+-- the last span takes one number more: where it is ready, was never taken and has less than batch
+-- numbers
 abbrev pub takes_one_more : ℕ → Span → Bool
 takes_one_more batch p = is_fresh p.status && nat_lt (suc p.last - p.first) batch
 
@@ -95,4 +103,5 @@ last_with n (p ∷ q ∷ rest) = p ∷ last_with n (q ∷ rest)
 
 -- the spans once number n is placed: the last one takes it, or it begins a new one
 abbrev pub grown_spans : ℕ → ℕ → List Span → List Span
-grown_spans batch n spans = if last_takes batch spans then last_with n spans else spans ++ fresh n n ∷ []
+grown_spans batch n spans = if last_takes batch spans then last_with n spans else spans ++ fresh n n
+    ∷ []

@@ -1,13 +1,17 @@
 -- Calls one after another.
 use Rattle.std.specs.List.{cons_option}
-use Rattle.std.specs.Prelude.{◌≡◌, ◌≤◌, suc, slice_get, ⊤, ℕ, List, [], ◌∷◌, Option, Some, None, Result, Ok, Err}
+use Rattle.std.specs.Prelude.{◌≡◌, ◌≤◌, suc, slice_get, ⊤, ℕ, List, [], ◌∷◌, Option, Some, None}
+use Rattle.std.specs.Prelude.{Result, Ok, Err}
 use Rattle.rb_desk.specs.declared.refusal.DeskRefusal.{DeskRefusal}
 use Rattle.rb_desk.specs.declared.delivery.Delivery.{Delivery}
 use Rattle.rb_desk.specs.declared.step.Step.{Step}
-use Rattle.rb_desk.specs.declared.step.Step.TheVariants.{Subscribe, Take, TakeAny, Ack, Nack, Expire, Reconnect, Unsubscribe, Place, Close}
+use Rattle.rb_desk.specs.declared.step.Step.TheVariants.{Subscribe, Take, TakeAny, Ack, Nack}
+use Rattle.rb_desk.specs.declared.step.Step.TheVariants.{Expire, Reconnect, Unsubscribe, Place}
+use Rattle.rb_desk.specs.declared.step.Step.TheVariants.{Close}
 use Rattle.rb_desk.specs.Limits.{Limits}
 use Rattle.rb_desk.specs.Picture.{Picture, Subscription, empty_picture}
-use Rattle.rb_desk.specs.Calls.{subscribe, take, take_any, ack, nack, expire, reconnect, unsubscribe, prepare, place, close}
+use Rattle.rb_desk.specs.Calls.{subscribe, take, take_any, ack, nack, expire, reconnect}
+use Rattle.rb_desk.specs.Calls.{unsubscribe, prepare, place, close}
 
 -- a placement that isn't prepared changes nothing
 abbrev pub placed_if : Picture → Result ℕ DeskRefusal → Picture
@@ -75,11 +79,13 @@ number_given old Close = None
 -- the links, and the deliveries' numbers, of those steps that give one
 abbrev pub links_given : Picture → List Step → List ℕ
 links_given p [] = []
-links_given p (step ∷ steps) = cons_option (link_given p step) (links_given (after_step p step) steps)
+links_given p (step ∷ steps) =
+    cons_option (link_given p step) (links_given (after_step p step) steps)
 
 abbrev pub numbers_given : Picture → List Step → List ℕ
 numbers_given p [] = []
-numbers_given p (step ∷ steps) = cons_option (number_given p step) (numbers_given (after_step p step) steps)
+numbers_given p (step ∷ steps) =
+    cons_option (number_given p step) (numbers_given (after_step p step) steps)
 
 -- each number is at least so high, and those behind it are above it
 abbrev pub RisesAbove : ℕ → List ℕ → Type 0
@@ -88,4 +94,5 @@ RisesAbove low (n ∷ rest) = (low ≤ n) × RisesAbove (suc n) rest
 
 -- each subscription that stays has a floor as high as before, or higher
 abbrev pub FloorsRise : Picture → Picture → Type 0
-FloorsRise old new = (i : ℕ) (a b : Subscription) → slice_get old.subscriptions i ≡ Some a → slice_get new.subscriptions i ≡ Some b → a.floor ≤ b.floor
+FloorsRise old new = (i : ℕ) (a b : Subscription) → slice_get old.subscriptions i ≡ Some a
+    → slice_get new.subscriptions i ≡ Some b → a.floor ≤ b.floor

@@ -17,7 +17,8 @@ pub struct Config {
     appliers: u64,
 }
 
-/// Which operand `Config::new` refuses: the first that is out of its range. There is no configuration then.
+/// Which operand `Config::new` refuses: the first that is out of its range. There is no
+/// configuration then.
 #[derive(Clone, Copy, Debug, PartialEq, Eq, Error)]
 pub enum ConfigFault {
     #[error("batch is 1 to 256")]
@@ -65,9 +66,10 @@ impl Model for Config {
 }
 
 impl Config {
-    /// These limits: the most numbers in a delivery, the most deliveries in flight to a subscription, after how many moments a
-    /// delivery expires, the most entries of the sequence, the most changesets that wait to be placed, and how many workers
-    /// apply a changeset. Refuses the first that is out of its range.
+    /// These limits: the most numbers in a delivery, the most deliveries in flight to a
+    /// subscription, after how many moments a delivery expires, the most entries of the sequence,
+    /// the most changesets that wait to be placed, and how many workers apply a changeset. Refuses
+    /// the first that is out of its range.
     pub fn new(
         batch: u64,
         window: u64,
@@ -102,8 +104,8 @@ impl Config {
         }
     }
 
-    /// The limits where none are asked for: batch 16, window 4, timeout 10, capacity 65,536, intake 64 and one
-    /// applier.
+    /// The limits where none are asked for: batch 16, window 4, timeout 10, capacity 65,536, intake
+    /// 64 and one applier.
     pub fn standard() -> Config
         ensures { result ≡ record {
           batch = 16;

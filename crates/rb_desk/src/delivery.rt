@@ -16,7 +16,13 @@ pub struct Delivery {
 
 impl Delivery {
     pub(crate) fn of(number: u64, sub: u64, link: u64, span: Span) -> Delivery
-        ensures { result ≡ record { number = number; sub = sub; link = link; first = span.first; last = span.last } }
+        ensures { result ≡ record {
+          number = number;
+          sub = sub;
+          link = link;
+          first = span.first;
+          last = span.last;
+        } }
     {
         Delivery {
             number,
@@ -41,7 +47,8 @@ impl Delivery {
         self.sub
     }
 
-    /// The subscription's link at that time. Once the subscription has another one, this delivery is stale.
+    /// The subscription's link at that time. Once the subscription has another one, this delivery
+    /// is stale.
     pub fn link(&self) -> u64
         ensures { result ≡ self.now.link }
     {

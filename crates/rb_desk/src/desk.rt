@@ -8,7 +8,8 @@ use crate::sub::Sub;
 use std::alloc::Global;
 use std::marker::Model;
 
-/// A desk: which numbers wait for which subscriptions, and which are out. Contracts see its picture.
+/// A desk: which numbers wait for which subscriptions, and which are out. Contracts see its
+/// picture.
 #[derive(Debug, Drop)]
 pub struct Desk {
     pub(crate) config: Config,
@@ -31,7 +32,8 @@ impl Model for Desk {
 
     ghost coded = { picture_code };
 
-    ghost view = { λ d. shown d.config d.front d.closing d.clock d.next_link d.next_delivery d.subs.items };
+    ghost view = { λ d. shown d.config d.front d.closing d.clock d.next_link d.next_delivery
+        d.subs.items };
 
     ghost invariant = { λ d. IsWithin d.config d.front
         × AllByRecursion (Belongs d.front d.turn d.next_delivery) d.subs.items };

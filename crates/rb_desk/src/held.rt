@@ -123,8 +123,8 @@ pub(crate) fn how_many_due(lane: &[Held], timeout: u64, clock: u64) -> u64
     count
 }
 
-/// The spans that are due are ready again. Each has a ticket of a turn behind `latest`, by its delivery's number, which is below
-/// `next`.
+/// The spans that are due are ready again. Each has a ticket of a turn behind `latest`, by its
+/// delivery's number, which is below `next`.
 pub(crate) fn expire(lane: &mut Vec<Held>, timeout: u64, clock: u64, latest: Ticket, next: u64)
     requires { AreGiven next latest.turn lane.old.items }
     ensures { lane.new.items ≡ map (expired_by timeout clock latest) lane.old.items }

@@ -1,9 +1,13 @@
-//! The spans of one subscription. Only those that were taken before are kept; the others follow from where they begin.
+//! The spans of one subscription. Only those that were taken before are kept; the others follow
+//! from where they begin.
 
 ghost use Rattle.std.specs.Prelude.{◌≡◌, ◌<◌, ◌≤◌, slice_get, OnOk, OnErr};
 ghost use Rattle.rb_desk.specs.declared.span.Status.TheVariants.{InFlight};
 ghost use Rattle.rb_desk.specs.Spans.{cut_spans, first_ready, out_as, how_many_out};
-ghost use Rattle.rb_desk.specs.Lanes.{AreJoined, AreLimited, HasNumbers, spans_of, lane_held, lane_spans, is_none_left, least, cut_lane, delivered_lane, returned_lane, settled_lane, pushed_lane, restated_lane, raised_lane, risen};
+ghost use Rattle.rb_desk.specs.Lanes.{AreJoined, AreLimited, HasNumbers, spans_of, lane_held};
+ghost use Rattle.rb_desk.specs.Lanes.{lane_spans, is_none_left, least, cut_lane, delivered_lane};
+ghost use Rattle.rb_desk.specs.Lanes.{returned_lane, settled_lane, pushed_lane, restated_lane};
+ghost use Rattle.rb_desk.specs.Lanes.{raised_lane, risen};
 
 use crate::held;
 use crate::span::{Span, Status};
@@ -11,8 +15,8 @@ use crate::ticket::{Held, Ticket, sooner};
 use std::alloc::{AllocError, Global};
 use std::marker::Model;
 
-/// What a desk keeps of a subscription's spans. Contracts see the floor, the spans that were taken before, where the others begin,
-/// and the ticket of the cutting that they are left of.
+/// What a desk keeps of a subscription's spans. Contracts see the floor, the spans that were taken
+/// before, where the others begin, and the ticket of the cutting that they are left of.
 #[derive(Debug, Drop)]
 pub(crate) struct Lane {
     floor: u64,
@@ -33,7 +37,12 @@ impl Model for Lane {
 
     ghost coded = { lane_code };
 
-    ghost view = { λ l. record { floor = l.floor; held = l.held.items; next = l.next; cutting = l.cutting } };
+    ghost view = { λ l. record {
+      floor = l.floor;
+      held = l.held.items;
+      next = l.next;
+      cutting = l.cutting;
+    } };
 
     ghost invariant = { λ l. (l.out ≡ how_many_out (spans_of l.held.items))
         × (l.first ≡ least l.held.items) × FollowOn (suc l.floor) l.held.items l.next };
@@ -126,12 +135,15 @@ impl Lane {
     }
 
     /// Delivers a ready span: it is in flight as this delivery, taken at this tick.
-    pub(crate) fn deliver(&mut self, span: Span, number: u64, moment: u64) -> Result<(), AllocError>
+    pub(crate) fn deliver(&mut self, span: Span, number: u64, tick: u64) -> Result<(), AllocError>
         requires { HasNumbers span }
-        ensures ok { OnOk result (self.new ≡ delivered_lane self.old span (InFlight number moment)) }
+        ensures ok { OnOk result (self.new ≡ delivered_lane self.old span (InFlight number tick)) }
         ensures err { OnErr result (self.new ≡ self.old) }
     {
-        let status = Status::InFlight { number, moment };
+        let status = Status::InFlight {
+            number,
+            moment: tick,
+        };
         if span.first == self.next {
             return self.push(span, status);
         }
@@ -200,7 +212,8 @@ impl Lane {
         held::how_many_due(&self.held, timeout, clock)
     }
 
-    /// The spans that are due are ready again, each with a ticket behind `latest`, by its delivery's number, which is below `next`.
+    /// The spans that are due are ready again, each with a ticket behind `latest`, by its
+    /// delivery's number, which is below `next`.
     pub(crate) fn expire(&mut self, timeout: u64, clock: u64, latest: Ticket, next: u64)
         requires { AreGiven next latest.turn self.old.held }
         ensures { self.new ≡ expired_lane timeout clock latest self.old }

@@ -1,5 +1,5 @@
-//! Laws: public functions that do nothing, whose contracts say what holds of every picture and of every list of calls. Who needs
-//! one calls it.
+//! Laws: public functions that do nothing, whose contracts say what holds of every picture and of
+//! every list of calls. Who needs one calls it.
 
 ghost use Rattle.std.specs.Prelude.{◌≡◌, ℕ, ◌≤◌, List, Ok, Err};
 ghost use Rattle.rb_desk.specs.declared.delivery.Delivery.{Delivery};
@@ -7,8 +7,10 @@ ghost use Rattle.rb_desk.specs.declared.refusal.DeskRefusal.{DeskRefusal};
 ghost use Rattle.rb_desk.specs.declared.step.Step.{Step};
 ghost use Rattle.rb_desk.specs.Limits.{Limits};
 ghost use Rattle.rb_desk.specs.Picture.{Picture, empty_picture};
-ghost use Rattle.rb_desk.specs.Calls.{subscribe, take, take_any, ack, nack, expire, reconnect, unsubscribe, prepare, place, close};
-ghost use Rattle.rb_desk.specs.Steps.{after_step, replayed, replay, links_given, numbers_given, RisesAbove, FloorsRise};
+ghost use Rattle.rb_desk.specs.Calls.{subscribe, take, take_any, ack, nack, expire, reconnect};
+ghost use Rattle.rb_desk.specs.Calls.{unsubscribe, prepare, place, close};
+ghost use Rattle.rb_desk.specs.Steps.{after_step, replayed, replay, links_given, numbers_given};
+ghost use Rattle.rb_desk.specs.Steps.{RisesAbove, FloorsRise};
 ghost use Rattle.rb_desk.specs.Outline.{outline_of};
 ghost use Rattle.rb_desk.specs.Outline as outline;
 ghost use Rattle.rb_desk.specs.IsPicture.{AreInRange, IsPicture};
@@ -20,10 +22,12 @@ pub fn calls_keep_pictures()
 
 /// So every list of calls does, from the opening on.
 pub fn replays_are_pictures()
-    ensures { (limits : Limits) (steps : List Step) → AreInRange limits → IsPicture (replay limits steps) }
+    ensures { (limits : Limits) (steps : List Step) → AreInRange limits
+        → IsPicture (replay limits steps) }
 {}
 
-/// No link is given twice, nor any delivery's number: those that a list of calls gives rise from 1 on.
+/// No link is given twice, nor any delivery's number: those that a list of calls gives rise from 1
+/// on.
 pub fn numbers_are_given_once()
     ensures links { (limits : Limits) (steps : List Step)
         → RisesAbove 1 (links_given (empty_picture limits) steps) }
@@ -38,11 +42,12 @@ pub fn front_and_floors_rise()
         → IsPicture old → FloorsRise old (replayed old steps) }
 {}
 
-/// What a call that isn't refused changes in the outline, for those who know no spans and no clock; `ack`, `nack` and `expire` change
-/// nothing there.
+/// What a call that isn't refused changes in the outline, for those who know no spans and no clock;
+/// `ack`, `nack` and `expire` change nothing there.
 pub fn calls_show_in_outline()
     ensures subscribe { (old : Picture) (start s link : ℕ) (new : Picture)
-        → subscribe old start ≡ (Ok (s, link), new) → outline.Subscribes (outline_of old) (outline_of new) start s link }
+        → subscribe old start ≡ (Ok (s, link), new)
+        → outline.Subscribes (outline_of old) (outline_of new) start s link }
     ensures take { (old : Picture) (s link cursor now : ℕ) (delivery : Delivery) (new : Picture)
         → IsPicture old → take old s link cursor now ≡ (Ok delivery, new)
         → (delivery.sub ≡ s) × outline.Delivers (outline_of old) (outline_of new) delivery }
@@ -56,9 +61,11 @@ pub fn calls_show_in_outline()
     ensures expire { (old : Picture) (now many : ℕ) (new : Picture)
         → expire old now ≡ (many, new) → outline_of new ≡ outline_of old }
     ensures reconnect { (old : Picture) (s cursor link : ℕ) (new : Picture)
-        → reconnect old s cursor ≡ (Ok link, new) → outline.Reconnects (outline_of old) (outline_of new) s link }
+        → reconnect old s cursor ≡ (Ok link, new)
+        → outline.Reconnects (outline_of old) (outline_of new) s link }
     ensures unsubscribe { (old : Picture) (s link : ℕ) (new : Picture)
-        → unsubscribe old s link ≡ (Ok tt, new) → outline.Unsubscribes (outline_of old) (outline_of new) s }
+        → unsubscribe old s link ≡ (Ok tt, new)
+        → outline.Unsubscribes (outline_of old) (outline_of new) s }
     ensures place { (old : Picture) (number : ℕ) → prepare old ≡ Ok number
         → outline.Places (outline_of old) (outline_of (place old)) number }
     ensures close { (old : Picture) (last : ℕ) (new : Picture) → IsPicture old

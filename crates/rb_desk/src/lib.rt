@@ -1,5 +1,5 @@
-//! The desk: who is handed which numbers of a sequence, and when a number is done with. Theorem: each call answers, and leaves,
-//! what `specs/Calls.antt` says of the picture that the desk shows.
+//! The desk: who is handed which numbers of a sequence, and when a number is done with. Theorem:
+//! each call answers, and leaves, what `specs/Calls.antt` says of the picture that the desk shows.
 #![tactic(auto)]
 
 mod config;

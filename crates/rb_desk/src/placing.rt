@@ -9,7 +9,8 @@ use crate::refusal::DeskRefusal;
 impl Desk {
     /// The number that `place` would give now. It changes nothing.
     ///
-    /// Refuses `Closed` where the sequence is closed, `SequenceFull` where it has as many entries as it may have.
+    /// Refuses `Closed` where the sequence is closed, `SequenceFull` where it has as many entries
+    /// as it may have.
     #[tactic(auto, unfolding(crate::specs::Calls::prepare))]
     pub fn prepare(&self) -> Result<u64, DeskRefusal>
         ensures { result ≡ prepare self.now }
@@ -23,8 +24,9 @@ impl Desk {
         Ok(self.front + 1)
     }
 
-    /// Places the next number, which it answers: every open subscription has it from now on. It takes no memory, and asks that
-    /// `prepare` would be Ok, as it is after a `prepare` that was and no call since.
+    /// Places the next number, which it answers: every open subscription has it from now on. It
+    /// takes no memory, and asks that `prepare` would be Ok, as it is after a `prepare` that was
+    /// and no call since.
     pub fn place(&mut self) -> u64
         requires { IsOk (prepare self.old) }
         ensures number { prepare self.old ≡ Ok result }
@@ -34,7 +36,8 @@ impl Desk {
         self.front
     }
 
-    /// Ends placing. Answers the last number placed, now or by an earlier call. All other calls go on.
+    /// Ends placing. Answers the last number placed, now or by an earlier call. All other calls go
+    /// on.
     #[tactic(auto, unfolding(crate::specs::Calls::close))]
     pub fn close(&mut self) -> u64
         ensures { close self.old ≡ (result, self.new) }

@@ -5,8 +5,8 @@ ghost use Rattle.std.specs.Prelude.{◌≡◌};
 use std::alloc::AllocError;
 use thiserror::Error;
 
-/// Why a desk refuses a call. The desk is as it was before the call. Where several hold, the call answers the first one in
-/// its own documentation.
+/// Why a desk refuses a call. The desk is as it was before the call. Where several hold, the call
+/// answers the first one in its own documentation.
 #[derive(Clone, Copy, Debug, PartialEq, Eq, Error)]
 pub enum DeskRefusal {
     /// `take`, `ack`, `nack`, `reconnect`, `unsubscribe`: no subscription has this number.
@@ -21,10 +21,12 @@ pub enum DeskRefusal {
     /// `take`: as many deliveries are in flight to the subscription as its window holds.
     #[error("the window is full")]
     WindowFull,
-    /// `take`: the sequence is closed, and the subscription has settled everything up to its last number.
+    /// `take`: the sequence is closed, and the subscription has settled everything up to its last
+    /// number.
     #[error("everything up to the last number, {last}, is settled")]
     Drained { last: u64 },
-    /// `take`, `take_any`: nothing waits that could be handed over now. The last number placed is `front`.
+    /// `take`, `take_any`: nothing waits that could be handed over now. The last number placed is
+    /// `front`.
     #[error("nothing is ready; the last number placed is {front}")]
     Empty { front: u64 },
     /// `ack`, `nack`: no delivery of this number is in flight to the subscription.

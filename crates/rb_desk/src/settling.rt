@@ -16,8 +16,8 @@ use crate::ticket::Ticket;
 use std::alloc::AllocError;
 
 impl Desk {
-    /// Settles a delivery's numbers, all of which the subscriber has accepted: `cursor` is how far. Answers the floor, up to which
-    /// everything is settled now.
+    /// Settles a delivery's numbers, all of which the subscriber has accepted: `cursor` is how far.
+    /// Answers the floor, up to which everything is settled now.
     ///
     /// Refuses `NoSuch`, `StaleLink`, `NotInFlight`, `NotAccepted`.
     #[tactic(auto, unfolding(crate::specs::Calls::ack))]
@@ -71,10 +71,12 @@ impl Desk {
         Ok(())
     }
 
-    /// Gives all deliveries back that were taken `timeout` moments ago or more, in the order that they were taken in. `now` is a
-    /// moment; the clock is the greatest one handed in so far. Answers how many.
+    /// Gives all deliveries back that were taken `timeout` moments ago or more, in the order that
+    /// they were taken in. `now` is a moment; the clock is the greatest one handed in so far.
+    /// Answers how many.
     ///
-    /// Refuses nothing. `AllocError` where there are no numbers left to give, with the desk as it was.
+    /// Refuses nothing. `AllocError` where there are no numbers left to give, with the desk as it
+    /// was.
     #[tactic(auto, unfolding(crate::specs::Calls::expire))]
     pub fn expire(&mut self, now: u64) -> Result<u64, AllocError>
         ensures ok { IfOk result (λ many. expire self.old now ≡ (many, self.new)) }
@@ -125,7 +127,8 @@ fn how_many_due(subs: &[Sub], timeout: u64, clock: u64) -> Result<u64, AllocErro
 fn expire_all(subs: &mut Vec<Sub>, timeout: u64, clock: u64, latest: Ticket, next: u64)
     requires { AllByRecursion (λ sub. AreGiven next latest.turn sub.lane.held) subs.old.items }
     ensures { subs.new.items
-        ≡ map (expired_sub timeout clock (by_number (turns_from latest.front latest.turn))) subs.old.items }
+        ≡ map (expired_sub timeout clock (by_number (turns_from latest.front latest.turn)))
+        subs.old.items }
 {
     for i in 0..subs.len() {
         subs[i].expire(timeout, clock, latest, next);

@@ -17,7 +17,8 @@ pub struct Span {
 /// How it stands with the numbers of a span.
 #[derive(Clone, Copy, Debug, PartialEq, Eq)]
 pub enum Status {
-    /// They wait to be taken. `taken` tells whether they were taken before: such a span is never lengthened.
+    /// They wait to be taken. `taken` tells whether they were taken before: such a span is never
+    /// lengthened.
     Ready { taken: bool },
     /// They are out as the delivery of this number, taken at this moment.
     InFlight { number: u64, moment: u64 },

@@ -1,7 +1,8 @@
 //! Calls as values.
 
-/// A call of a desk, with its operands: what the call of this name in [`Desk`](crate::Desk) takes. From a list of them and
-/// the limits the desk's picture follows (*replay*). `prepare` changes nothing and is none of them.
+/// A call of a desk, with its operands: what the call of this name in [`Desk`](crate::Desk) takes.
+/// From a list of them and the limits the desk's picture follows (*replay*). `prepare` changes
+/// nothing and is none of them.
 #[derive(Clone, Copy, Debug, PartialEq, Eq)]
 pub enum Step {
     Subscribe {

@@ -9,8 +9,8 @@ use crate::span::Span;
 use crate::ticket::{Held, Ticket};
 use std::alloc::{AllocError, Global};
 
-/// A subscription: the number behind which it began, the greatest number offered, its present link, whether it is closed, and
-/// its spans.
+/// A subscription: the number behind which it began, the greatest number offered, its present link,
+/// whether it is closed, and its spans.
 #[derive(Debug, Drop)]
 pub(crate) struct Sub {
     pub(crate) start: u64,
@@ -22,9 +22,12 @@ pub(crate) struct Sub {
 
 impl Sub {
     ghost use Rattle.rb_desk.specs.Expiry.{due_in, expired_sub, by_number, turns_from};
-    ghost use Rattle.rb_desk.specs.Shown.{AreGiven, new_sub, next_to_deliver, sub_out_as, delivered_sub, returned_sub, settled_sub, reconnected_sub, closed_sub};
+    ghost use Rattle.rb_desk.specs.Shown.{AreGiven, new_sub, next_to_deliver, sub_out_as};
+    ghost use Rattle.rb_desk.specs.Shown.{delivered_sub, returned_sub, settled_sub};
+    ghost use Rattle.rb_desk.specs.Shown.{reconnected_sub, closed_sub};
 
-    /// A subscription behind this number, under this link. What is placed behind it is cut with this ticket.
+    /// A subscription behind this number, under this link. What is placed behind it is cut with
+    /// this ticket.
     pub(crate) fn behind(alloc: Global, start: u64, link: u64, ticket: Ticket) -> Sub
         requires { start ≤ 1048576 }
         ensures { result ≡ new_sub start link ticket }
@@ -39,12 +42,12 @@ impl Sub {
     }
 
     /// Delivers a span: it is in flight as this delivery, taken at this tick.
-    pub(crate) fn deliver(&mut self, span: Span, number: u64, moment: u64) -> Result<(), AllocError>
+    pub(crate) fn deliver(&mut self, span: Span, number: u64, tick: u64) -> Result<(), AllocError>
         requires { HasNumbers span }
-        ensures ok { OnOk result (self.new ≡ delivered_sub self.old span number moment) }
+        ensures ok { OnOk result (self.new ≡ delivered_sub self.old span number tick) }
         ensures err { OnErr result (self.new ≡ self.old) }
     {
-        self.lane.deliver(span, number, moment)?;
+        self.lane.deliver(span, number, tick)?;
         self.offered = self.offered.max(span.last);
         Ok(())
     }
@@ -76,8 +79,8 @@ impl Sub {
         self.lane.out_as(delivery)
     }
 
-    /// The span that may be handed over before its others, where fewer are out than the window holds, and the subscription's
-    /// number.
+    /// The span that may be handed over before its others, where fewer are out than the window
+    /// holds, and the subscription's number.
     pub(crate) fn next_to_deliver(
         &self,
         sub: u64,
@@ -86,7 +89,8 @@ impl Sub {
         front: u64,
     ) -> Option<(u64, Held)>
         requires { AreLimited batch front }
-        ensures value { result ≡ option_map (λ h. (sub, h)) (next_to_deliver window batch front self.now) }
+        ensures value { result ≡ option_map (λ h. (sub, h))
+            (next_to_deliver window batch front self.now) }
         ensures joined { OnSome result (AreJoined self.now.lane) }
     {
         if self.closed || self.lane.out() >= window {
@@ -108,15 +112,18 @@ impl Sub {
         many
     }
 
-    /// The spans that are due are ready again, each with a ticket behind `latest`, by its delivery's number, which is below `next`.
+    /// The spans that are due are ready again, each with a ticket behind `latest`, by its
+    /// delivery's number, which is below `next`.
     pub(crate) fn expire(&mut self, timeout: u64, clock: u64, latest: Ticket, next: u64)
         requires { AreGiven next latest.turn self.old.lane.held }
-        ensures { self.new ≡ expired_sub timeout clock (by_number (turns_from latest.front latest.turn)) self.old }
+        ensures { self.new ≡ expired_sub timeout clock
+            (by_number (turns_from latest.front latest.turn)) self.old }
     {
         self.lane.expire(timeout, clock, latest, next);
     }
 
-    /// Goes on behind this number, under this link. What is placed behind it is cut with this ticket.
+    /// Goes on behind this number, under this link. What is placed behind it is cut with this
+    /// ticket.
     pub(crate) fn reconnect(&mut self, alloc: Global, cursor: u64, link: u64, ticket: Ticket)
         requires { cursor ≤ 1048576 }
         ensures { self.new ≡ reconnected_sub self.old cursor link ticket }

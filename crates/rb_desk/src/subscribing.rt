@@ -11,9 +11,11 @@ use crate::ticket::Ticket;
 use std::alloc::Global;
 
 impl Desk {
-    /// One subscription more, of the numbers behind `start`. Answers its number, counted from 0, and its link.
+    /// One subscription more, of the numbers behind `start`. Answers its number, counted from 0,
+    /// and its link.
     ///
-    /// Refuses `StartAhead` where `start` isn't placed yet, `TooMany` where 1,024 subscriptions were made.
+    /// Refuses `StartAhead` where `start` isn't placed yet, `TooMany` where 1,024 subscriptions
+    /// were made.
     #[tactic(auto, unfolding(crate::specs::Calls::subscribe))]
     pub fn subscribe(&mut self, alloc: Global, start: u64) -> Result<(u64, u64), DeskError>
         ensures { DeskAnswers result (subscribe self.old start) self.old self.new }
@@ -37,10 +39,11 @@ impl Desk {
         Ok((sub, link))
     }
 
-    /// Lets a subscription go on behind `cursor`, up to which it has accepted: what was in flight or waited is cut anew. Answers
-    /// its new link; deliveries under the old one are stale.
+    /// Lets a subscription go on behind `cursor`, up to which it has accepted: what was in flight
+    /// or waited is cut anew. Answers its new link; deliveries under the old one are stale.
     ///
-    /// Refuses `NoSuch`, `Closed`, and `BadCursor` where the cursor isn't between the floor and what was offered.
+    /// Refuses `NoSuch`, `Closed`, and `BadCursor` where the cursor isn't between the floor and
+    /// what was offered.
     #[tactic(auto, unfolding(crate::specs::Calls::reconnect))]
     pub fn reconnect(&mut self, alloc: Global, sub: u64, cursor: u64) -> Result<u64, DeskError>
         ensures { DeskAnswers result (reconnect self.old sub cursor) self.old self.new }

@@ -5,7 +5,8 @@ ghost use Rattle.rb_desk.specs.Calls.{take, take_any};
 ghost use Rattle.rb_desk.specs.Answers.{DeskAnswers};
 ghost use Rattle.std.specs.Option.{option_map};
 ghost use Rattle.rb_desk.specs.Lanes.{AreLimited, HasNumbers};
-ghost use Rattle.rb_desk.specs.Shown.{why_none, WhenDelivered, first_to_deliver, span_to_deliver, goes_first, IsJoinedAt};
+ghost use Rattle.rb_desk.specs.Shown.{why_none, WhenDelivered, first_to_deliver, span_to_deliver};
+ghost use Rattle.rb_desk.specs.Shown.{goes_first, IsJoinedAt};
 
 use crate::delivery::Delivery;
 use crate::desk::Desk;
@@ -16,11 +17,12 @@ use crate::subscribing::after;
 use crate::ticket::Held;
 
 impl Desk {
-    /// Hands a subscription its ready span with the least numbers, as a delivery that is in flight from now on. `cursor` is how far
-    /// the subscriber has accepted, `now` a moment; the clock is the greatest moment handed in so far.
+    /// Hands a subscription its ready span with the least numbers, as a delivery that is in flight
+    /// from now on. `cursor` is how far the subscriber has accepted, `now` a moment; the clock is
+    /// the greatest moment handed in so far.
     ///
-    /// Refuses `NoSuch`, `StaleLink`, `Closed`, `WindowFull`; where nothing is ready `Drained`, if the sequence is closed and all of
-    /// it is settled, else `Empty`.
+    /// Refuses `NoSuch`, `StaleLink`, `Closed`, `WindowFull`; where nothing is ready `Drained`, if
+    /// the sequence is closed and all of it is settled, else `Empty`.
     #[tactic(auto, unfolding(crate::specs::Calls::take))]
     pub fn take(
         &mut self,
@@ -58,7 +60,8 @@ impl Desk {
         )
     }
 
-    /// Hands over the span that is first in the ready order among those of subscriptions with room in their window.
+    /// Hands over the span that is first in the ready order among those of subscriptions with room
+    /// in their window.
     ///
     /// Refuses `Empty` where there is none.
     #[tactic(auto, unfolding(crate::specs::Calls::take_any))]
@@ -109,7 +112,8 @@ fn deliver(
 // the span that may be delivered before all others, and its subscription's number
 fn first_to_deliver(subs: &[Sub], window: u64, batch: u64, front: u64) -> Option<(u64, Span)>
     requires { AreLimited batch front }
-    ensures value { result ≡ option_map span_to_deliver (first_to_deliver window batch front 0 subs.now) }
+    ensures value { result ≡ option_map span_to_deliver
+        (first_to_deliver window batch front 0 subs.now) }
     ensures joined { IfSome result (λ c. IsJoinedAt subs.now c.0) }
 {
     let mut first: Option<(u64, Held)> = None;

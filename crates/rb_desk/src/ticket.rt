@@ -6,7 +6,8 @@ ghost use Rattle.rb_desk.specs.Lanes.{goes_before, earlier, birth, with_birth, b
 
 use crate::span::Span;
 
-/// A place in the ready order: drawn when the front was `front`, in this turn. A placement's tickets have turn 0.
+/// A place in the ready order: drawn when the front was `front`, in this turn. A placement's
+/// tickets have turn 0.
 #[derive(Clone, Copy, Debug, PartialEq, Eq)]
 pub(crate) struct Ticket {
     pub(crate) front: u64,
@@ -28,8 +29,8 @@ impl Ticket {
         self.front < other.front || (self.front == other.front && self.turn < other.turn)
     }
 
-    /// The ticket of a span never taken that begins with this number, where this is the ticket of its cutting: a number
-    /// placed after it has its placement's.
+    /// The ticket of a span never taken that begins with this number, where this is the ticket of
+    /// its cutting: a number placed after it has its placement's.
     pub(crate) fn of_span(self, first: u64) -> Ticket
         ensures { result ≡ birth self first }
     {

@@ -2,7 +2,8 @@
 use Rattle.std.specs.Prelude.{ℕ, List, [], Option, Some, None, Result, Ok, Err, codes}
 use Rattle.rb_desk.specs.Limits.{Limits, first_out_of_range}
 use Rattle.rb_desk.specs.declared.config.ConfigFault.{ConfigFault}
-use Rattle.rb_desk.specs.declared.config.ConfigFault.TheVariants.{Batch, Window, Timeout, Capacity, Intake, Appliers}
+use Rattle.rb_desk.specs.declared.config.ConfigFault.TheVariants.{Batch, Window, Timeout, Capacity}
+use Rattle.rb_desk.specs.declared.config.ConfigFault.TheVariants.{Intake, Appliers}
 use Rattle.rb_script.specs.Words.{number_in_word}
 
 -- the number that an option's word says; where it says none, 0, which is in no range
@@ -19,12 +20,23 @@ limits_or None limits = Ok limits
 limits_or (Some fault) limits = Err fault
 
 abbrev pub limits_of : ℕ → ℕ → ℕ → ℕ → ℕ → Result Limits ConfigFault
-limits_of batch window timeout capacity intake = limits_or (first_out_of_range batch window timeout capacity intake 1)
-    (record { batch = batch; window = window; timeout = timeout; capacity = capacity; intake = intake; appliers = 1 })
+limits_of batch window timeout capacity intake =
+    limits_or (first_out_of_range batch window timeout capacity intake 1)
+    (record {
+      batch = batch;
+      window = window;
+      timeout = timeout;
+      capacity = capacity;
+      intake = intake;
+      appliers = 1;
+    })
 
--- the limits that the words of the options say, or the first option whose word says no number in its range
+-- the limits that the words of the options say, or the first option whose word says no number in
+-- its range
 abbrev pub config_of : List ℕ → List ℕ → List ℕ → List ℕ → List ℕ → Result Limits ConfigFault
-config_of batch window timeout capacity intake = limits_of (value_of batch) (value_of window) (value_of timeout) (value_of capacity) (value_of intake)
+config_of batch window timeout capacity intake =
+    limits_of (value_of batch) (value_of window) (value_of timeout) (value_of capacity)
+    (value_of intake)
 
 -- an option with its range
 abbrev pub range_text : ConfigFault → List ℕ

@@ -33,8 +33,8 @@ Lines, each with its answer when it is done:
   rows S              rows N, N rows      the rows of a subscription
   left                left COUNT          how many changesets are sent and not placed
 
-All `table` lines come first. Numbers are decimal, and bytes hexadecimal, - for none. A line that is refused is
-answered `refused NAME` with its values, or `fault AT KIND`, and changes nothing.
+All `table` lines come first. Numbers are decimal, and bytes hexadecimal, - for none. A line that is
+refused is answered `refused NAME` with its values, or `fault AT KIND`, and changes nothing.
 
 Statuses:
   0  all lines are answered
@@ -42,8 +42,8 @@ Statuses:
      more than 16777216 bytes, or want of memory
   2  the command line is faulty";
 
-/// Reads a command line, of which the first word is the program's name. An error is a text to print: help, the version, or
-/// how to call the program.
+/// Reads a command line, of which the first word is the program's name. An error is a text to
+/// print: help, the version, or how to call the program.
 pub fn matches<'a>(alloc: Global, words: &'a [String]) -> Result<ArgMatches<'a>, Error> {
     let script = Command::new(alloc, "script")
         .about("Answers the lines of a script on standard input, one after another")

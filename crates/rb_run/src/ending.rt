@@ -8,7 +8,8 @@ use rb_script::ScriptFault;
 /// How the program ends, which decides its status.
 #[derive(Clone, Copy, Debug)]
 pub enum Ending {
-    /// What was asked for is done: a script is answered to its end, refusals among the answers, or help is printed.
+    /// What was asked for is done: a script is answered to its end, refusals among the answers, or
+    /// help is printed.
     Done,
     /// The script, or what was to be printed, stopped.
     Stopped(ScriptFault),

@@ -1,5 +1,6 @@
-//! The program: a command line, and a script from standard input to standard output. Theorem: the limits are those that the
-//! options say, or the first option at fault is told, and the status says how the script ended.
+//! The program: a command line, and a script from standard input to standard output. Theorem: the
+//! limits are those that the options say, or the first option at fault is told, and the status says
+//! how the script ended.
 #![tactic(auto)]
 
 mod command;

@@ -8,7 +8,8 @@ use clap::ArgMatches;
 use rb_core::{Config, ConfigFault};
 use rb_script::number;
 
-/// The limits that the options of a command line say, or the first option whose word is no number in its range.
+/// The limits that the options of a command line say, or the first option whose word is no number
+/// in its range.
 pub fn config(found: &ArgMatches) -> Result<Config, ConfigFault>
     ensures { result ≡ config_of
         (word_of (first_value (found_of found.now) (codes "batch")))

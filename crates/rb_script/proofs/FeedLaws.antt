@@ -1,5 +1,6 @@
 -- What the lines of a script feed are bytes.
-use Rattle.std.proofs.Common.{◌≡◌, ℕ, Bool, true, false, cond, ltb, List, [], ◌∷◌, length, Option, Some, None, Result, Ok, Err, refl, ap, subst, codes, option_map, arith}
+use Rattle.std.proofs.Common.{◌≡◌, ℕ, Bool, true, false, cond, ltb, List, [], ◌∷◌, length, Option, Some, None, Result}
+use Rattle.std.proofs.Common.{Ok, Err, refl, ap, subst, codes, option_map, arith}
 use Rattle.std.specs.List.{AllByRecursion}
 use Rattle.std.specs.Result.{result_ok}
 use Rattle.hex.specs.Hex.{decode_of, decode_pairs}
@@ -13,7 +14,8 @@ use Rattle.rb_core.specs.Run.{FeedsBytes}
 use Rattle.rb_script.specs.declared.forms.Form.{Form}
 use Rattle.rb_script.specs.declared.forms.Form.TheVariants as form
 use Rattle.rb_script.specs.Words.{words_of, number_in_word, bytes_of}
-use Rattle.rb_script.specs.Forms.{one_word, two_words, name_and_number, two_numbers, fed_form, number_and_word, form_of_words, form_of}
+use Rattle.rb_script.specs.Forms.{one_word, two_words, name_and_number, two_numbers, fed_form, number_and_word}
+use Rattle.rb_script.specs.Forms.{form_of_words, form_of}
 use Rattle.rb_script.specs.Lines.{most_of_line}
 use Rattle.rb_script.specs.Script.{event_in, event_of, with_event, lines_events}
 
@@ -22,11 +24,13 @@ abbrev SaysBytes : Option (List ℕ) → Type 0
 SaysBytes None = Unit {0}
 SaysBytes (Some bytes) = AreBytes bytes
 
-decoded : (r : Result (List ℕ) FromHexError) → ((bytes : List ℕ) → r ≡ Ok bytes → AreBytes bytes) → SaysBytes (result_ok r)
+decoded : (r : Result (List ℕ) FromHexError) → ((bytes : List ℕ) → r ≡ Ok bytes → AreBytes bytes)
+    → SaysBytes (result_ok r)
 decoded (Ok bytes) h = h bytes refl
 decoded (Err e) h = tt
 
-decoded_pairs : (odd : Bool) (word bytes : List ℕ) (e : FromHexError) → cond odd (Err e) (decode_pairs 0 word) ≡ Ok bytes → AreBytes bytes
+decoded_pairs : (odd : Bool) (word bytes : List ℕ) (e : FromHexError) → cond odd (Err e) (decode_pairs 0 word)
+    ≡ Ok bytes → AreBytes bytes
 decoded_pairs true word bytes e h = cc h
 decoded_pairs false word bytes e h = (decode_pairs-ok 0 word bytes h).2
 
@@ -63,7 +67,8 @@ table_feeds (Some table) p bytes h = cc h
 two_feed : (name word : List ℕ) → FeedsNone (two_words name word)
 two_feed name word = by (same_bytes name (codes "table"))
   where
-    by : (t : Bool) → FeedsNone (cond t (option_map form.Table (bytes_of word)) (name_and_number name (number_in_word word)))
+    by : (t : Bool) → FeedsNone
+        (cond t (option_map form.Table (bytes_of word)) (name_and_number name (number_in_word word)))
     by true = table_feeds (bytes_of word)
     by false = number_feeds name (number_in_word word)
 
@@ -107,7 +112,8 @@ event_feeds other h = tt
 form_feeds : (o : Option Form) → Feeds o → EventFeeds (event_in o)
 form_feeds None h = tt
 form_feeds (Some (form.Table bytes)) h = tt
-form_feeds (Some (form.Happens e)) h = event_feeds e (λ p bytes is. h p bytes (ap (λ (x : Event). Some (form.Happens x)) is))
+form_feeds (Some (form.Happens e)) h =
+    event_feeds e (λ p bytes is. h p bytes (ap (λ (x : Event). Some (form.Happens x)) is))
 form_feeds (Some (form.Entry n)) h = tt
 form_feeds (Some (form.Rows s)) h = tt
 form_feeds (Some form.Left) h = tt
@@ -119,7 +125,8 @@ line_feeds line = by (ltb most_of_line (length line))
     by true = tt
     by false = form_feeds (form_of line) (words_feed (words_of line))
 
-feed_with_one : (o : Option Event) (events : List Event) → EventFeeds o → AllByRecursion FeedsBytes events → AllByRecursion FeedsBytes (with_event o events)
+feed_with_one : (o : Option Event) (events : List Event) → EventFeeds o → AllByRecursion FeedsBytes events
+    → AllByRecursion FeedsBytes (with_event o events)
 feed_with_one None events h rest = rest
 feed_with_one (Some event) events h rest = (h, rest)
 

@@ -1,5 +1,6 @@
 -- Known bytes over several reads and writes.
-use Rattle.std.proofs.Common.{◌≡◌, ℕ, ◌+◌, ◌-◌, List, [], ◌++◌, length, take, drop, Option, Some, None, Result, Ok, Err, OnErr, refl, sym, ap, subst, ◌∙◌, append_assoc, length-drop, take-append-drop}
+use Rattle.std.proofs.Common.{◌≡◌, ℕ, ◌+◌, ◌-◌, List, [], ◌++◌, length, take, drop, Option, Some, None, Result, Ok, Err}
+use Rattle.std.proofs.Common.{OnErr, refl, sym, ap, subst, ◌∙◌, append_assoc, length-drop, take-append-drop}
 use Rattle.std.proofs.Math.Seq.{take-add, take-length}
 use Rattle.std.proofs.lemmas.List.{append-nil}
 use Rattle.std.specs.Io.KnownBytes.{Appends, Consumes, Keeps}
@@ -37,17 +38,20 @@ pub Appends-none : (a : Option (List ℕ)) → Appends a a []
 Appends-none None = tt
 Appends-none (Some xs) = sym (append-nil xs)
 
-pub Appends-trans : (a b c : Option (List ℕ)) (xs ys : List ℕ) → Appends a b xs → Appends b c ys → Appends a c (xs ++ ys)
+pub Appends-trans : (a b c : Option (List ℕ)) (xs ys : List ℕ) → Appends a b xs → Appends b c ys
+    → Appends a c (xs ++ ys)
 Appends-trans None b c xs ys p q = tt
 Appends-trans (Some us) None c xs ys p q = absurd p
 Appends-trans (Some us) (Some bs) None xs ys p q = absurd q
 Appends-trans (Some us) (Some bs) (Some cs) xs ys p q = q ∙ ap (λ (w : List ℕ). w ++ ys) p ∙ append_assoc us xs ys
 
-pub Consumes-trans : (a b c : Option (List ℕ)) (xs ys : List ℕ) → Consumes a b xs → Consumes b c ys → Consumes a c (xs ++ ys)
+pub Consumes-trans : (a b c : Option (List ℕ)) (xs ys : List ℕ) → Consumes a b xs → Consumes b c ys
+    → Consumes a c (xs ++ ys)
 Consumes-trans None b c xs ys p q = tt
 Consumes-trans (Some us) None c xs ys p q = absurd p
 Consumes-trans (Some us) (Some bs) None xs ys p q = absurd q
-Consumes-trans (Some us) (Some bs) (Some cs) xs ys p q = p ∙ ap (λ (w : List ℕ). xs ++ w) q ∙ sym (append_assoc xs ys cs)
+Consumes-trans (Some us) (Some bs) (Some cs) xs ys p q = p ∙ ap (λ (w : List ℕ). xs ++ w) q
+    ∙ sym (append_assoc xs ys cs)
 
 pub Consumes-none : (a : Option (List ℕ)) → Consumes a a []
 Consumes-none None = tt
@@ -59,23 +63,39 @@ Consumes-Keeps (Some us) None c xs p q = absurd p
 Consumes-Keeps (Some us) (Some bs) None xs p q = absurd q
 Consumes-Keeps (Some us) (Some bs) (Some cs) xs p q = p ∙ ap (λ (w : List ℕ). xs ++ w) (sym q)
 
-pub ruleset known_bytes = (Keeps-refl, Keeps-trans, Keeps-Consumes, Keeps-Appends, Appends-Keeps, Appends-none, Appends-trans, Consumes-trans, Consumes-none, Consumes-Keeps)
+pub ruleset known_bytes = (
+  Keeps-refl,
+  Keeps-trans,
+  Keeps-Consumes,
+  Keeps-Appends,
+  Appends-Keeps,
+  Appends-none,
+  Appends-trans,
+  Consumes-trans,
+  Consumes-none,
+  Consumes-Keeps,
+)
 
 stream_rest_is : (at : ℕ) (bytes : List ℕ) → take (length bytes - at) (drop at bytes) ≡ drop at bytes
-stream_rest_is at bytes = ap (λ (n : ℕ). take n (drop at bytes)) (sym (length-drop at bytes)) ∙ take-length (drop at bytes)
+stream_rest_is at bytes = ap (λ (n : ℕ). take n (drop at bytes)) (sym (length-drop at bytes))
+    ∙ take-length (drop at bytes)
 
 pub length-rest : (at : ℕ) (bytes : List ℕ) → length (take (length bytes - at) (drop at bytes)) ≡ length bytes - at
 length-rest at bytes = ap (λ (t : List ℕ). length t) (stream_rest_is at bytes) ∙ length-drop at bytes
 
 -- n bytes more of the rest are written
-pub writes_more : (w0 w w' : Option (List ℕ)) (bytes : List ℕ) (at n : ℕ) → Appends w0 w (take at bytes) → Appends w w' (take n (take (length bytes - at) (drop at bytes))) → Appends w0 w' (take (at + n) bytes)
+pub writes_more : (w0 w w' : Option (List ℕ)) (bytes : List ℕ) (at n : ℕ) → Appends w0 w (take at bytes)
+    → Appends w w' (take n (take (length bytes - at) (drop at bytes))) → Appends w0 w' (take (at + n) bytes)
 writes_more w0 w w' bytes at n before now =
-    let now' : Appends w w' (take n (drop at bytes)) = subst (λ (t : List ℕ). Appends w w' (take n t)) (stream_rest_is at bytes) now in
+    let now' : Appends w w' (take n (drop at bytes)) =
+    subst (λ (t : List ℕ). Appends w w' (take n t)) (stream_rest_is at bytes) now in
     rw (take-add at n bytes) (Appends-trans w0 w w' (take at bytes) (take n (drop at bytes)) before now')
 
 -- what is written before a fault is a front
-pub stops_writing : (w0 w w' : Option (List ℕ)) (bytes : List ℕ) (at : ℕ) → Appends w0 w (take at bytes) → Keeps w w' → AppendsFront w0 w' bytes
-stops_writing w0 w w' bytes at before keeps = (take at bytes, drop at bytes, sym (take-append-drop at bytes), Appends-Keeps w0 w w' (take at bytes) before keeps)
+pub stops_writing : (w0 w w' : Option (List ℕ)) (bytes : List ℕ) (at : ℕ) → Appends w0 w (take at bytes) → Keeps w w'
+    → AppendsFront w0 w' bytes
+stops_writing w0 w w' bytes at before keeps =
+    (take at bytes, drop at bytes, sym (take-append-drop at bytes), Appends-Keeps w0 w w' (take at bytes) before keeps)
 
 pub on_err : {T E : Type 0} (r : Result T E) (P : Type 0) → P → OnErr r P
 on_err (Ok x) P h = tt

@@ -8,31 +8,42 @@ use Rattle.rb_script.specs.Output.{first_place, written, answers}
 use Rattle.rb_script.specs.Streams.{AppendsFront}
 
 -- The input is read to its end, which is within the limit, and the answers to it are written.
-abbrev pub IsAnswered : Limits → Option (List ℕ) → Option (List ℕ) → Option (List ℕ) → Option (List ℕ) → Type 0
+abbrev pub IsAnswered : Limits → Option (List ℕ) → Option (List ℕ) → Option (List ℕ)
+    → Option (List ℕ) → Type 0
 IsAnswered config r0 r w0 w =
-    (input : List ℕ) × Consumes r0 r input × IsAtEnd r × (length input ≤ 16777216) × Appends w0 w (answers config input)
+    (input : List ℕ) × Consumes r0 r input × IsAtEnd r × (length input ≤ 16777216)
+    × Appends w0 w (answers config input)
 
 -- Some input is read, within the limit, and its whole lines are answered, not more and not less.
-abbrev pub IsReadInPart : Limits → Option (List ℕ) → Option (List ℕ) → Option (List ℕ) → Option (List ℕ) → Type 0
+abbrev pub IsReadInPart : Limits → Option (List ℕ) → Option (List ℕ) → Option (List ℕ)
+    → Option (List ℕ) → Type 0
 IsReadInPart config r0 r w0 w =
-    (input : List ℕ) × Consumes r0 r input × (length input ≤ 16777216) × Appends w0 w (written config first_place input)
+    (input : List ℕ) × Consumes r0 r input × (length input ≤ 16777216)
+    × Appends w0 w (written config first_place input)
 
 -- More is read than the limit, and the lines that end within it are answered.
-abbrev pub IsOverrun : Limits → Option (List ℕ) → Option (List ℕ) → Option (List ℕ) → Option (List ℕ) → Type 0
+abbrev pub IsOverrun : Limits → Option (List ℕ) → Option (List ℕ) → Option (List ℕ)
+    → Option (List ℕ) → Type 0
 IsOverrun config r0 r w0 w =
-    (input : List ℕ) × Consumes r0 r input × (16777216 < length input) × Appends w0 w (written config first_place (take 16777216 input))
+    (input : List ℕ) × Consumes r0 r input × (16777216 < length input)
+    × Appends w0 w (written config first_place (take 16777216 input))
 
--- The answers break off: those to the whole lines that are read and end within the limit; at the input's end, all of them.
-abbrev pub BreaksOff : Limits → List ℕ → Option (List ℕ) → Option (List ℕ) → Option (List ℕ) → Type 0
+-- The answers break off: those to the whole lines that are read and end within the limit; at the
+-- input's end, all of them.
+abbrev pub BreaksOff : Limits → List ℕ → Option (List ℕ) → Option (List ℕ) → Option (List ℕ)
+    → Type 0
 BreaksOff config input r w0 w =
     AppendsFront w0 w (written config first_place (take 16777216 input))
     ⊎ (IsAtEnd r × (length input ≤ 16777216) × AppendsFront w0 w (answers config input))
 
-abbrev pub IsCutOff : Limits → Option (List ℕ) → Option (List ℕ) → Option (List ℕ) → Option (List ℕ) → Type 0
+abbrev pub IsCutOff : Limits → Option (List ℕ) → Option (List ℕ) → Option (List ℕ) → Option (List ℕ)
+    → Type 0
 IsCutOff config r0 r w0 w = (input : List ℕ) × Consumes r0 r input × BreaksOff config input r w0 w
 
--- How a script ends, by its result, where the reader had r0 left and has r, and the writer held w0 and holds w.
-abbrev pub ScriptEnds : {A : Type 0} → Limits → Result A ScriptFault → Option (List ℕ) → Option (List ℕ) → Option (List ℕ) → Option (List ℕ) → Type 0
+-- How a script ends, by its result, where the reader had r0 left and has r, and the writer held w0
+-- and holds w.
+abbrev pub ScriptEnds : {A : Type 0} → Limits → Result A ScriptFault → Option (List ℕ)
+    → Option (List ℕ) → Option (List ℕ) → Option (List ℕ) → Type 0
 ScriptEnds config (Ok done) r0 r w0 w = IsAnswered config r0 r w0 w
 ScriptEnds config (Err (Read why)) r0 r w0 w = IsReadInPart config r0 r w0 w
 ScriptEnds config (Err (Write why)) r0 r w0 w = IsCutOff config r0 r w0 w

@@ -1,5 +1,6 @@
 -- The forms of lines.
-use Rattle.std.specs.Prelude.{ℕ, List, [], ◌∷◌, Option, Some, None, option_map, if◌then◌else◌, codes}
+use Rattle.std.specs.Prelude.{ℕ, List, [], ◌∷◌, Option, Some, None, option_map, if◌then◌else◌}
+use Rattle.std.specs.Prelude.{codes}
 use Rattle.rb_core.specs.declared.event.Event.TheVariants as event
 use Rattle.cs_model.specs.Schema.{same_bytes}
 use Rattle.rb_script.specs.declared.forms.Form.{Form}
@@ -15,8 +16,8 @@ one_word name =
     else if same_bytes name (codes "left") then Some Left
     else None
 
--- `reset P`, `end P`, `send P`, `subscribe START`, `takeany NOW`, `accept D`, `ack D`, `nack D`, `expire NOW`, `unsubscribe S`,
--- `entry N` and `rows S`
+-- `reset P`, `end P`, `send P`, `subscribe START`, `takeany NOW`, `accept D`, `ack D`, `nack D`,
+-- `expire NOW`, `unsubscribe S`, `entry N` and `rows S`
 abbrev pub name_and_number : List ℕ → Option ℕ → Option Form
 name_and_number name None = None
 name_and_number name (Some n) =
@@ -37,7 +38,8 @@ name_and_number name (Some n) =
 -- these, and `table HEX`
 abbrev pub two_words : List ℕ → List ℕ → Option Form
 two_words name word =
-    if same_bytes name (codes "table") then option_map Table (bytes_of word) else name_and_number name (number_in_word word)
+    if same_bytes name (codes "table") then option_map Table (bytes_of word) else name_and_number
+    name (number_in_word word)
 
 -- `take S NOW` and `reconnect S CURSOR`
 abbrev pub two_numbers : List ℕ → ℕ → Option ℕ → Option Form
@@ -56,7 +58,8 @@ fed_form p (Some bytes) = Some (Happens (event.Feed p bytes))
 abbrev pub number_and_word : List ℕ → Option ℕ → List ℕ → Option Form
 number_and_word name None word = None
 number_and_word name (Some n) word =
-    if same_bytes name (codes "feed") then fed_form n (bytes_of word) else two_numbers name n (number_in_word word)
+    if same_bytes name (codes "feed") then fed_form n (bytes_of word) else two_numbers name n
+    (number_in_word word)
 
 -- the form that these words fit
 abbrev pub form_of_words : List (List ℕ) → Option Form

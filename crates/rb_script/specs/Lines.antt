@@ -1,5 +1,6 @@
 -- The answer to a line.
-use Rattle.std.specs.Prelude.{ℕ, List, [], ◌∷◌, ◌++◌, length, nat_lt, Option, Some, None, Result, Ok, Err, option_map, slice_get, if◌then◌else◌, codes}
+use Rattle.std.specs.Prelude.{ℕ, List, [], ◌∷◌, ◌++◌, length, nat_lt, Option, Some, None, Result}
+use Rattle.std.specs.Prelude.{Ok, Err, option_map, slice_get, if◌then◌else◌, codes}
 use Rattle.std.specs.FinMap as map
 use Rattle.std.specs.Fmt.{decimal}
 use Rattle.cs_model.specs.declared.shape.Shape.{Shape}
@@ -78,7 +79,8 @@ found_rows None = line_of (desk_refusal_text desk.NoSuch)
 found_rows (Some rows) = rows_text rows
 
 abbrev pub rows_answer : State → ℕ → List ℕ
-rows_answer world s = found_rows (option_map (λ end. map.entries end.tables.rows) (slice_get world.endpoints s))
+rows_answer world s = found_rows
+    (option_map (λ end. map.entries end.tables.rows) (slice_get world.endpoints s))
 
 abbrev pub found_entry : Option Entry → List ℕ
 found_entry None = codes "refused NotPlaced"
@@ -96,14 +98,19 @@ with_line_end given = (line_of given.0, given.1)
 abbrev pub form_answer : Limits → Stage → Option Form → List ℕ × Stage
 form_answer config stage None = (line_of (codes "refused Line"), stage)
 form_answer config stage (Some (form.Table bytes)) = with_line_end (table_answer stage bytes)
-form_answer config stage (Some (form.Happens event)) = event_answer (outcome (world_of config stage) event)
-form_answer config stage (Some (form.Entry n)) = (entry_answer (world_of config stage) n, Running (world_of config stage))
-form_answer config stage (Some (form.Rows s)) = (rows_answer (world_of config stage) s, Running (world_of config stage))
-form_answer config stage (Some form.Left) = (left_answer (world_of config stage), Running (world_of config stage))
+form_answer config stage (Some (form.Happens event)) =
+    event_answer (outcome (world_of config stage) event)
+form_answer config stage (Some (form.Entry n)) =
+    (entry_answer (world_of config stage) n, Running (world_of config stage))
+form_answer config stage (Some (form.Rows s)) =
+    (rows_answer (world_of config stage) s, Running (world_of config stage))
+form_answer config stage (Some form.Left) =
+    (left_answer (world_of config stage), Running (world_of config stage))
 
 -- the answer to a line, with the end of each of its lines, and the stage after it
 abbrev pub line_answer : Limits → Stage → List ℕ → List ℕ × Stage
 line_answer config stage [] = ([], stage)
 line_answer config stage (byte ∷ bytes) =
-    if nat_lt most_of_line (length (byte ∷ bytes)) then (line_of (codes "refused LineTooLong"), stage)
+    if nat_lt most_of_line (length (byte ∷ bytes)) then
+    (line_of (codes "refused LineTooLong"), stage)
     else form_answer config stage (form_of (byte ∷ bytes))

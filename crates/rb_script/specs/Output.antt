@@ -26,12 +26,14 @@ ends_line given = (given.0, place_at given.1 [])
 
 abbrev pub byte_answer : Limits → ScriptPlace → ℕ → List ℕ × ScriptPlace
 byte_answer config place byte =
-    if byte == 10 then ends_line (line_answer config place.stage place.line) else ([], record place { line = longer place.line byte })
+    if byte == 10 then ends_line (line_answer config place.stage place.line) else
+    ([], record place { line = longer place.line byte })
 
 -- what bytes have written, and where the script then is
 unfoldable pub written : Limits → ScriptPlace → List ℕ → List ℕ
 written config place [] = []
-written config place (byte ∷ bytes) = (byte_answer config place byte).0 ++ written config (byte_answer config place byte).1 bytes
+written config place (byte ∷ bytes) = (byte_answer config place byte).0
+    ++ written config (byte_answer config place byte).1 bytes
 
 unfoldable pub place_after : Limits → ScriptPlace → List ℕ → ScriptPlace
 place_after config place [] = place
@@ -42,4 +44,5 @@ abbrev pub last_answer : Limits → ScriptPlace → List ℕ
 last_answer config place = (line_answer config place.stage place.line).0
 
 abbrev pub answers : Limits → List ℕ → List ℕ
-answers config input = written config first_place input ++ last_answer config (place_after config first_place input)
+answers config input = written config first_place input
+    ++ last_answer config (place_after config first_place input)

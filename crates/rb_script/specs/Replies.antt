@@ -1,4 +1,5 @@
--- Replies as text, each without the end of its line. A refusal is its name, with its values behind it.
+-- Replies as text, each without the end of its line. A refusal is its name, with its values behind
+-- it.
 use Rattle.std.specs.Prelude.{ℕ, List, ◌++◌, codes}
 use Rattle.std.specs.Fmt.{decimal}
 use Rattle.cs_apply.specs.Conflict.{code_of}
@@ -43,7 +44,8 @@ desk_refusal_text (desk.Drained last) = codes "refused Drained " ++ decimal last
 desk_refusal_text (desk.Empty front) = codes "refused Empty " ++ decimal front
 desk_refusal_text desk.NotInFlight = codes "refused NotInFlight"
 desk_refusal_text (desk.NotAccepted cursor) = codes "refused NotAccepted " ++ decimal cursor
-desk_refusal_text (desk.BadCursor floor offered) = codes "refused BadCursor " ++ (decimal floor ++ (codes " " ++ decimal offered))
+desk_refusal_text (desk.BadCursor floor offered) = codes "refused BadCursor "
+    ++ (decimal floor ++ (codes " " ++ decimal offered))
 desk_refusal_text (desk.StartAhead front) = codes "refused StartAhead " ++ decimal front
 desk_refusal_text desk.TooMany = codes "refused TooMany"
 desk_refusal_text desk.SequenceFull = codes "refused SequenceFull"
@@ -55,7 +57,8 @@ end_refusal_text end.StaleLink = codes "refused StaleLink"
 end_refusal_text end.Seen = codes "refused Seen"
 end_refusal_text (end.Gap expected) = codes "refused Gap " ++ decimal expected
 end_refusal_text (end.Shape number) = codes "refused Shape " ++ decimal number
-end_refusal_text (end.Conflict c) = codes "refused Conflict " ++ (decimal c.position ++ (codes " " ++ decimal (code_of c.kind)))
+end_refusal_text (end.Conflict c) = codes "refused Conflict "
+    ++ (decimal c.position ++ (codes " " ++ decimal (code_of c.kind)))
 
 -- why the world refuses
 abbrev pub refusal_text : BrokerRefusal → List ℕ
@@ -74,7 +77,10 @@ refusal_text (refusal.Accept why) = end_refusal_text why
 -- a delivery: its number, its subscription, and the first and the last number that it hands over
 abbrev pub delivery_text : Delivery → List ℕ
 delivery_text d =
-    codes "delivery " ++ (decimal d.number ++ (codes " " ++ (decimal d.sub ++ (codes " " ++ (decimal d.first ++ (codes " " ++ decimal d.last))))))
+    codes "delivery "
+    ++ (decimal d.number
+    ++ (codes " "
+    ++ (decimal d.sub ++ (codes " " ++ (decimal d.first ++ (codes " " ++ decimal d.last))))))
 
 -- a reply
 abbrev pub reply_text : Reply → List ℕ
@@ -86,7 +92,8 @@ reply_text (reply.Sent own) = codes "sent " ++ decimal own
 reply_text (reply.Placed n) = codes "placed " ++ decimal n
 reply_text reply.Idle = codes "idle"
 reply_text (reply.Closed last) = codes "closed " ++ decimal last
-reply_text (reply.Subscriber s link) = codes "subscriber " ++ (decimal s ++ (codes " link " ++ decimal link))
+reply_text (reply.Subscriber s link) = codes "subscriber "
+    ++ (decimal s ++ (codes " link " ++ decimal link))
 reply_text (reply.Delivery delivery) = delivery_text delivery
 reply_text (reply.Accepted s cursor) = codes "accepted " ++ decimal cursor
 reply_text (reply.Floor floor) = codes "floor " ++ decimal floor
@@ -94,5 +101,6 @@ reply_text reply.Returned = codes "ok"
 reply_text (reply.Expired count) = codes "expired " ++ decimal count
 reply_text (reply.Link link) = codes "link " ++ decimal link
 reply_text reply.Unsubscribed = codes "ok"
-reply_text (reply.Fault fault) = codes "fault " ++ (decimal fault.at ++ (codes " " ++ kind_name fault.kind))
+reply_text (reply.Fault fault) = codes "fault "
+    ++ (decimal fault.at ++ (codes " " ++ kind_name fault.kind))
 reply_text (reply.Refused why) = refusal_text why

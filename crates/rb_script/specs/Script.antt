@@ -1,5 +1,6 @@
 -- A script as its lines.
-use Rattle.std.specs.Prelude.{◌≢◌, ℕ, List, [], ◌∷◌, ◌++◌, length, nat_lt, Option, Some, None, Ok, if◌then◌else◌}
+use Rattle.std.specs.Prelude.{◌≢◌, ℕ, List, [], ◌∷◌, ◌++◌, length, nat_lt, Option, Some, None, Ok}
+use Rattle.std.specs.Prelude.{if◌then◌else◌}
 use Rattle.std.specs.List.{AllByRecursion}
 use Rattle.rb_desk.specs.Limits.{Limits}
 use Rattle.rb_core.specs.declared.event.Event.{Event}
@@ -23,7 +24,8 @@ ended_lines (line ∷ lines) = line ++ (10 ∷ ended_lines lines)
 -- the answers to lines, one after another
 abbrev pub lines_answers : Limits → Stage → List (List ℕ) → List ℕ
 lines_answers config stage [] = []
-lines_answers config stage (line ∷ lines) = (line_answer config stage line).0 ++ lines_answers config (line_answer config stage line).1 lines
+lines_answers config stage (line ∷ lines) = (line_answer config stage line).0
+    ++ lines_answers config (line_answer config stage line).1 lines
 
 -- the event that a line is, where it is one and not too long
 abbrev pub event_in : Option Form → Option Event
@@ -56,4 +58,5 @@ answer_before config stage (Some event) rest = Ok (outcome (world_of config stag
 abbrev pub lines_replies : Limits → Stage → List (List ℕ) → List Answer
 lines_replies config stage [] = []
 lines_replies config stage (line ∷ lines) =
-    answer_before config stage (event_of line) (lines_replies config (line_answer config stage line).1 lines)
+    answer_before config stage (event_of line)
+    (lines_replies config (line_answer config stage line).1 lines)

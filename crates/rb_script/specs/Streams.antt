@@ -4,4 +4,5 @@ use Rattle.std.specs.Io.KnownBytes.{Appends}
 
 -- known bytes grow by a front of bs
 abbrev pub AppendsFront : Option (List ℕ) → Option (List ℕ) → List ℕ → Type 0
-AppendsFront old new bs = (front : List ℕ) × (more : List ℕ) × (bs ≡ front ++ more) × Appends old new front
+AppendsFront old new bs = (front : List ℕ) × (more : List ℕ) × (bs ≡ front ++ more)
+    × Appends old new front

@@ -22,10 +22,14 @@ abbrev pub origin_text : Origin → List ℕ
 origin_text Sent = codes "s"
 origin_text (Withdraws n) = codes "w" ++ decimal n
 
--- an entry: its number, who sent it, its place among that publisher's sendings, why it was sent, and its text
+-- an entry: its number, who sent it, its place among that publisher's sendings, why it was sent,
+-- and its text
 abbrev pub entry_text : Entry → List ℕ
 entry_text entry =
-    (codes "entry " ++ (decimal entry.number ++ (codes " " ++ (decimal entry.item.publisher ++ (codes " " ++ (decimal entry.item.own ++ (codes " " ++ (origin_text entry.item.origin ++ codes " "))))))))
+    (codes "entry " ++ (decimal entry.number
+    ++ (codes " " ++ (decimal entry.item.publisher
+    ++ (codes " " ++ (decimal entry.item.own
+    ++ (codes " " ++ (origin_text entry.item.origin ++ codes " "))))))))
     ++ bytes_word (text_of entry.item.body)
 
 -- a value behind a space, as its canonical bytes in hexadecimal

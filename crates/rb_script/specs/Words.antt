@@ -1,5 +1,7 @@
 -- The words of a line.
-use Rattle.std.specs.Prelude.{ℕ, ◌+◌, ◌-◌, ◌*◌, ◌^◌, Bool, false, ◌&&◌, ◌||◌, not, ◌==◌, nat_lt, nat_le, List, [], ◌∷◌, length, Option, Some, None, if◌then◌else◌, codes}
+use Rattle.std.specs.Prelude.{ℕ, ◌+◌, ◌-◌, ◌*◌, ◌^◌, Bool, false, ◌&&◌, ◌||◌, not, ◌==◌, nat_lt}
+use Rattle.std.specs.Prelude.{nat_le, List, [], ◌∷◌, length, Option, Some, None, if◌then◌else◌}
+use Rattle.std.specs.Prelude.{codes}
 use Rattle.std.specs.List.{list_all, slice_split}
 use Rattle.std.specs.Result.{result_ok}
 use Rattle.hex.specs.Hex.{decode_of}
@@ -16,7 +18,8 @@ is_digit byte = nat_le 48 byte && nat_le byte 57
 -- whether a word is digits, the first of them no zero where more follow
 abbrev pub is_numeral : List ℕ → Bool
 is_numeral [] = false
-is_numeral (first ∷ rest) = list_all is_digit (first ∷ rest) && (not (first == 48) || nat_lt (length rest) 1)
+is_numeral (first ∷ rest) = list_all is_digit (first ∷ rest)
+    && (not (first == 48) || nat_lt (length rest) 1)
 
 -- the value of digits behind a value
 abbrev pub value_from : ℕ → List ℕ → ℕ
@@ -25,7 +28,8 @@ value_from high (digit ∷ digits) = value_from (10 * high + (digit - 48)) digit
 
 -- the value of digits, where it has 64 bits
 abbrev pub value_within : List ℕ → Option ℕ
-value_within digits = if nat_lt (value_from 0 digits) (2 ^ 64) then Some (value_from 0 digits) else None
+value_within digits = if nat_lt (value_from 0 digits) (2 ^ 64) then Some (value_from 0 digits) else
+    None
 
 -- the number of 64 bits that a word says in decimal
 abbrev pub number_in_word : List ℕ → Option ℕ
@@ -34,4 +38,5 @@ number_in_word word = if is_numeral word then value_within word else None
 -- the bytes that a word says in hexadecimal of either case, and none as `-`
 abbrev pub bytes_of : List ℕ → Option (List ℕ)
 bytes_of [] = None
-bytes_of (first ∷ rest) = if same_bytes (first ∷ rest) (codes "-") then Some [] else result_ok (decode_of (first ∷ rest))
+bytes_of (first ∷ rest) = if same_bytes (first ∷ rest) (codes "-") then Some [] else result_ok
+    (decode_of (first ∷ rest))

@@ -7,8 +7,9 @@ use std::alloc::AllocError;
 use std::io;
 use thiserror::Error;
 
-/// Why `run_script` stopped, with the system's reason where there is one. After `Read` and `Endless` the answers to all whole
-/// lines before are written; after `Write` and `Memory` a front of them, the last one perhaps in part.
+/// Why `run_script` stopped, with the system's reason where there is one. After `Read` and
+/// `Endless` the answers to all whole lines before are written; after `Write` and `Memory` a front
+/// of them, the last one perhaps in part.
 #[derive(Clone, Copy, Debug, Error)]
 pub enum ScriptFault {
     /// The reader failed.

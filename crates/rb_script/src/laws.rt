@@ -13,11 +13,13 @@ ghost use Rattle.rb_core.specs.World.{Subscriber};
 ghost use Rattle.rb_script.specs.declared.lines.Stage.TheVariants.{Tables};
 ghost use Rattle.rb_script.specs.Lines.{world_of};
 ghost use Rattle.rb_script.specs.Output.{answers};
-ghost use Rattle.rb_script.specs.Script.{IsLine, ended_lines, lines_answers, lines_events, lines_replies, stage_after};
+ghost use Rattle.rb_script.specs.Script.{IsLine, ended_lines, lines_answers, lines_events};
+ghost use Rattle.rb_script.specs.Script.{lines_replies, stage_after};
 
 use rb_core::laws::accepted_is_gapless;
 
-/// What is written for a script is the answers to its lines, one after another, the last of which lacks its end.
+/// What is written for a script is the answers to its lines, one after another, the last of which
+/// lacks its end.
 pub fn lines_are_answered()
     ensures { (config : Limits) (lines : List (List ℕ)) (last : List ℕ)
         → AllByRecursion IsLine lines → IsLine last
@@ -25,12 +27,13 @@ pub fn lines_are_answered()
         ≡ lines_answers config (Tables []) (lines ++ last ∷ []) }
 {}
 
-/// The events in the lines of a script, with the replies that their lines are given, are a run from an empty world to the one
-/// behind all lines.
+/// The events in the lines of a script, with the replies that their lines are given, are a run from
+/// an empty world to the one behind all lines.
 pub fn scripts_are_runs()
     ensures { (config : Limits) (lines : List (List ℕ))
         → (schema : List Shape)
-        × Run (empty_world config schema) (lines_events lines) (lines_replies config (Tables []) lines)
+        × Run (empty_world config schema) (lines_events lines)
+        (lines_replies config (Tables []) lines)
         (world_of config (stage_after config (Tables []) lines)) }
 {}
 
@@ -39,12 +42,14 @@ pub fn scripts_feed_bytes()
     ensures { (lines : List (List ℕ)) → AllByRecursion FeedsBytes (lines_events lines) }
 {}
 
-/// In the answers to the lines of a script, what a subscription accepted is one run of the sequence behind its start: no number is left
-/// out, and each comes once. So is every law over runs one over scripts.
+/// In the answers to the lines of a script, what a subscription accepted is one run of the sequence
+/// behind its start: no number is left out, and each comes once. So is every law over runs one over
+/// scripts.
 pub fn accepted_lines_are_gapless()
     ensures { (config : Limits) (lines : List (List ℕ)) → AreInRange config
         → (schema : List Shape) × ((s : ℕ) (subscriber : Subscriber)
-        → slice_get (world_told schema (lines_events lines) (lines_replies config (Tables []) lines)).subscribers s ≡ Some subscriber
+        → slice_get (world_told schema (lines_events lines)
+        (lines_replies config (Tables []) lines)).subscribers s ≡ Some subscriber
         → HasRun (world_of config (stage_after config (Tables []) lines)).sequence subscriber) }
 {
     scripts_are_runs();

@@ -1,6 +1,7 @@
-//! Scripts: lines of text that move a world, each with its answer. Theorem: what `run_script` writes is *answers* of what it reads,
-//! or where it stops as much of it as *Ends* says; and the events in its lines and the replies to them are a run of the world, so
-//! that each law over runs is one over scripts.
+//! Scripts: lines of text that move a world, each with its answer. Theorem: what `run_script`
+//! writes is *answers* of what it reads, or where it stops as much of it as *Ends* says; and the
+//! events in its lines and the replies to them are a run of the world, so that each law over runs
+//! is one over scripts.
 #![tactic(auto)]
 
 mod fault;

@@ -1,10 +1,14 @@
 //! The answer to a line.
 
-ghost use Rattle.std.specs.Prelude.{◌≡◌, ◌++◌, ◌∷◌, [], codes, IfOk, IfSome, Some, None, length, map as list_map, string_bytes, ◌<◌};
+ghost use Rattle.std.specs.Prelude.{◌≡◌, ◌++◌, ◌∷◌, [], codes, IfOk, IfSome, Some, None, length};
+ghost use Rattle.std.specs.Prelude.{map as list_map, string_bytes, ◌<◌};
 ghost use Rattle.cs_model.specs.Schema.{table_refusal};
 ghost use Rattle.cs_parse.specs.Reading.{answer_of};
 ghost use Rattle.rb_core.specs.Outcome.{outcome};
-ghost use Rattle.rb_script.specs.Lines.{line_answer, form_answer, line_of, world_of, event_answer, entry_answer, rows_answer, left_answer, with_line_end, table_answer, table_added, header_of_answer, header_of_sections};
+ghost use Rattle.rb_script.specs.Lines.{line_answer, form_answer, line_of, world_of, event_answer};
+ghost use Rattle.rb_script.specs.Lines.{entry_answer, rows_answer, left_answer, with_line_end};
+ghost use Rattle.rb_script.specs.Lines.{table_answer, table_added, header_of_answer};
+ghost use Rattle.rb_script.specs.Lines.{header_of_sections};
 
 use crate::forms::Form;
 use crate::reading::form;
@@ -26,8 +30,9 @@ pub enum Stage {
     Running(World),
 }
 
-/// The answer to a line, with the end of each of its lines, and the stage after it. A line of more than 65,536
-/// bytes may be handed in cut, as long as it still has more. `AllocError` where memory runs out.
+/// The answer to a line, with the end of each of its lines, and the stage after it. A line of more
+/// than 65,536 bytes may be handed in cut, as long as it still has more. `AllocError` where memory
+/// runs out.
 pub fn answer(
     alloc: Global,
     config: Config,

@@ -2,7 +2,8 @@
 
 ghost use Rattle.std.specs.Prelude.{◌≡◌, IfOk, map};
 ghost use Rattle.rb_script.specs.Words.{words_of, number_in_word};
-ghost use Rattle.rb_script.specs.Forms.{one_word, two_words, name_and_number, two_numbers, number_and_word, form_of_words, form_of};
+ghost use Rattle.rb_script.specs.Forms.{one_word, two_words, name_and_number, two_numbers};
+ghost use Rattle.rb_script.specs.Forms.{number_and_word, form_of_words, form_of};
 
 use crate::forms::Form;
 use crate::words::{is, number, octets};

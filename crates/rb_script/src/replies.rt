@@ -1,7 +1,8 @@
 //! Replies as text.
 
 ghost use Rattle.std.specs.Prelude.{◌≡◌, ◌++◌, IfOk, string_bytes};
-ghost use Rattle.rb_script.specs.Replies.{kind_name, desk_refusal_text, end_refusal_text, refusal_text, delivery_text, reply_text};
+ghost use Rattle.rb_script.specs.Replies.{kind_name, desk_refusal_text, end_refusal_text};
+ghost use Rattle.rb_script.specs.Replies.{refusal_text, delivery_text, reply_text};
 
 use cs_parse::FaultKind;
 use rb_core::{BrokerRefusal, Delivery, Reply};
@@ -69,7 +70,8 @@ fn text_of_refusal(alloc: Global, why: BrokerRefusal) -> Result<String, AllocErr
     }
 }
 
-/// The text of a refusal of the desk, without the end of its line. `AllocError` where memory runs out.
+/// The text of a refusal of the desk, without the end of its line. `AllocError` where memory runs
+/// out.
 pub fn text_of_desk_refusal(alloc: Global, why: DeskRefusal) -> Result<String, AllocError>
     ensures { IfOk result (λ text. string_bytes text ≡ desk_refusal_text why) }
 {

@@ -1,6 +1,7 @@
 //! A script, from a reader to a writer.
 
-ghost use Rattle.std.specs.Prelude.{◌≡◌, ◌<◌, ◌≤◌, ◌^◌, ℕ, List, length, take, replicate, vec_len, Ok, Err, OnOk, OnErr, IfErr, IfOk};
+ghost use Rattle.std.specs.Prelude.{◌≡◌, ◌<◌, ◌≤◌, ◌^◌, ℕ, List, length, take, replicate, vec_len};
+ghost use Rattle.std.specs.Prelude.{Ok, Err, OnOk, OnErr, IfErr, IfOk};
 ghost use Rattle.std.specs.Io.KnownBytes.{Appends, Consumes, Keeps, IsAtEnd};
 ghost use Rattle.rb_script.specs.Lines.{line_answer};
 ghost use Rattle.rb_script.specs.Output.{place_at, written, place_after, longer};
@@ -21,21 +22,23 @@ pub const MOST_OF_SCRIPT: usize = 16_777_216;
 // how many bytes are read at a time
 const PIECE: usize = 65_536;
 
-/// Answers the lines that a reader gives, in order, on a writer. Each line has one answer line, but an empty
-/// line has none and `rows` has several. The last line may lack its end.
+/// Answers the lines that a reader gives, in order, on a writer. Each line has one answer line, but
+/// an empty line has none and `rows` has several. The last line may lack its end.
 ///
 /// Whole lines are answered, and the writer flushed, before the next read waits.
 ///
-/// `Read` where the reader fails, and `Endless` where more than 16,777,216 bytes come: the answers to all whole lines before
-/// are written then. `Write` where the writer fails or takes no byte, `Memory` where memory runs out: a front of the answers
-/// is written then, the last of them perhaps in part.
+/// `Read` where the reader fails, and `Endless` where more than 16,777,216 bytes come: the answers
+/// to all whole lines before are written then. `Write` where the writer fails or takes no byte,
+/// `Memory` where memory runs out: a front of the answers is written then, the last of them perhaps
+/// in part.
 pub fn run_script<R: Read, W: Write>(
     alloc: Global,
     reader: &mut R,
     writer: &mut W,
     config: Config,
 ) -> Result<(), ScriptFault>
-    // What is written is the answers to what is read: to all of it, or, after a fault, as far as the fault lets them be.
+    // What is written is the answers to what is read: to all of it, or, after a fault, as far as
+    // the fault lets them be.
     ensures { ScriptEnds config result (R.remaining reader.old) (R.remaining reader.new)
         (W.contents writer.old) (W.contents writer.new) }
 {
@@ -122,7 +125,8 @@ fn hand_on<W: Write>(writer: &mut W) -> Result<(), ScriptFault>
     }
 }
 
-// Answers the lines that end in these bytes, and gives the stage after them and what has come of the next line.
+// Answers the lines that end in these bytes, and gives the stage after them and what has come of
+// the next line.
 fn feed<W: Write>(
     alloc: Global,
     config: Config,
@@ -133,7 +137,8 @@ fn feed<W: Write>(
 ) -> Result<(Stage, Vec<u8>), ScriptFault>
     ensures ok { IfOk result (λ next. Appends (W.contents writer.old) (W.contents writer.new)
         (written config (place_at stage line.items) bytes.now)
-        × (place_at next.0 next.1.items ≡ place_after config (place_at stage line.items) bytes.now)) }
+        × (place_at next.0 next.1.items
+        ≡ place_after config (place_at stage line.items) bytes.now)) }
     ensures err { OnErr result (AppendsFront (W.contents writer.old) (W.contents writer.new)
         (written config (place_at stage line.items) bytes.now)) }
     ensures faults { IfErr result IsOfAnswers }

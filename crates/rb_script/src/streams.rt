@@ -7,8 +7,8 @@ ghost use Rattle.rb_script.specs.Streams.{AppendsFront};
 use std::io;
 use std::io::{ErrorKind, Read, Write};
 
-/// Reads some bytes into the front of `buffer`, and tells how many: none at the end of the input. What the
-/// reader interrupts is tried again. An `Err` has taken nothing.
+/// Reads some bytes into the front of `buffer`, and tells how many: none at the end of the input.
+/// What the reader interrupts is tried again. An `Err` has taken nothing.
 #[tactic(auto, using(crate::proofs::StreamLaws::known_bytes))]
 pub fn read_some<R: Read>(reader: &mut R, buffer: &mut [u8]) -> io::Result<usize>
     requires { 0 < length buffer.old }
@@ -45,7 +45,8 @@ pub fn write_whole<W: Write>(writer: &mut W, bytes: &[u8]) -> io::Result<()>
     Ok(())
 }
 
-/// Hands on what the writer holds back. What the writer interrupts is tried again. An `Err` has handed on some of it.
+/// Hands on what the writer holds back. What the writer interrupts is tried again. An `Err` has
+/// handed on some of it.
 #[tactic(auto, using(crate::proofs::StreamLaws::known_bytes))]
 pub fn flush<W: Write>(writer: &mut W) -> io::Result<()>
     ensures { Keeps (W.contents writer.old) (W.contents writer.new) }

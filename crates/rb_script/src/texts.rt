@@ -3,7 +3,8 @@
 ghost use Rattle.std.specs.Prelude.{◌≡◌, ◌++◌, IfOk, OnOk, string_bytes};
 ghost use Rattle.cs_apply.specs.Seen.{listed};
 ghost use Rattle.cs_model.specs.Seen.{field_seen};
-ghost use Rattle.rb_script.specs.Texts.{origin_text, bytes_word, entry_text, field_text, row_text, rows_text};
+ghost use Rattle.rb_script.specs.Texts.{origin_text, bytes_word, entry_text, field_text, row_text};
+ghost use Rattle.rb_script.specs.Texts.{rows_text};
 
 use cs_model::{FieldRef, Origin, Row, RowKey, field_push};
 use rb_core::Entry;
@@ -41,8 +42,8 @@ fn add_word(alloc: Global, text: &mut Vec<u8>, bytes: &[u8]) -> Result<(), Alloc
     }
 }
 
-/// The text of rows with their keys: how many, and each on a line of its own. `AllocError` where memory runs
-/// out.
+/// The text of rows with their keys: how many, and each on a line of its own. `AllocError` where
+/// memory runs out.
 pub fn text_of_rows(alloc: Global, rows: &[(&RowKey, &Row)]) -> Result<Vec<u8>, AllocError>
     ensures { IfOk result (λ text. text.items ≡ rows_text (listed rows.now)) }
 {

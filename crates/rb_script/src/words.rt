@@ -2,7 +2,8 @@
 
 ghost use Rattle.std.specs.Prelude.{◌≡◌, true, IfOk};
 ghost use Rattle.cs_model.specs.Schema.{same_bytes};
-ghost use Rattle.rb_script.specs.Words.{is_digit, is_numeral, value_within, number_in_word, bytes_of};
+ghost use Rattle.rb_script.specs.Words.{is_digit, is_numeral, value_within, number_in_word};
+ghost use Rattle.rb_script.specs.Words.{bytes_of};
 ghost use Rattle.std.specs.List.{list_all};
 
 use cs_model::{Octets, Seq};
@@ -45,8 +46,8 @@ fn all_digits(word: &[u8]) -> bool
     word.iter().all(|byte| b'0' <= *byte && *byte <= b'9')
 }
 
-/// The bytes that a word says in hexadecimal of either case, and none as `-`. `AllocError` where memory runs
-/// out.
+/// The bytes that a word says in hexadecimal of either case, and none as `-`. `AllocError` where
+/// memory runs out.
 pub fn octets(alloc: Global, word: &[u8]) -> Result<Option<Octets>, AllocError>
     ensures { IfOk result (λ bytes. bytes ≡ bytes_of word.now) }
 {

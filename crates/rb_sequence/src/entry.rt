@@ -8,8 +8,8 @@ use bytes::Bytes;
 use cs_model::{Changeset, Origin};
 use std::marker::Model;
 
-/// An entry of the sequence: an item under its number, with the canonical text of its body. Contracts see the number and the
-/// item, from which the text follows.
+/// An entry of the sequence: an item under its number, with the canonical text of its body.
+/// Contracts see the number and the item, from which the text follows.
 #[derive(Debug, Drop)]
 pub struct Entry {
     number: u64,
@@ -32,7 +32,8 @@ impl Model for Entry {
 }
 
 impl Entry {
-    /// The entry of an item that gets this number, with the text that `Item::text` gave. Nothing is copied.
+    /// The entry of an item that gets this number, with the text that `Item::text` gave. Nothing is
+    /// copied.
     pub fn new(number: u64, item: Item, text: Bytes) -> Entry
         requires { text ≡ text_of item.body }
         ensures { result ≡ record { number = number; item = item } }

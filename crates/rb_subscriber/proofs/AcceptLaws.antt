@@ -1,5 +1,6 @@
 -- Accepting is a step, read off its definition in both directions.
-use Rattle.std.proofs.Common.{◌≡◌, ◌==◌, ℕ, suc, ◌≤◌, inl, inr, Bool, true, false, not, cond, List, [], ◌∷◌, ◌++◌, Option, Some, None, Result, Ok, Err, refl, sym, ap, subst, ◌∙◌, arith}
+use Rattle.std.proofs.Common.{◌≡◌, ◌==◌, ℕ, suc, ◌≤◌, inl, inr, Bool, true, false, not, cond, List, [], ◌∷◌, ◌++◌}
+use Rattle.std.proofs.Common.{Option, Some, None, Result, Ok, Err, refl, sym, ap, subst, ◌∙◌, arith}
 use Rattle.std.specs.Prelude.{nat_le}
 use Rattle.std.specs.List.{AllByRecursion}
 use Rattle.std.proofs.lemmas.Bool.{leb-false, false≢true}
@@ -14,7 +15,8 @@ use Rattle.rb_desk.specs.declared.delivery.Delivery.{Delivery}
 use Rattle.rb_sequence.specs.Entry.{Entry}
 use Rattle.rb_subscriber.specs.declared.refusal.AcceptRefusal.{AcceptRefusal}
 use Rattle.rb_subscriber.specs.declared.refusal.AcceptRefusal.TheVariants as refusal
-use Rattle.rb_subscriber.specs.Accept.{brought, joined_bodies, IsAdmitted, if_admitted, first_outside_entry, applied, applied_if_admitted, accept, AcceptsDelivery}
+use Rattle.rb_subscriber.specs.Accept.{brought, joined_bodies, IsAdmitted, if_admitted, first_outside_entry, applied}
+use Rattle.rb_subscriber.specs.Accept.{applied_if_admitted, accept, AcceptsDelivery}
 use Rattle.rb_subscriber.specs.Endpoint.{Endpoint}
 
 -- ---- tests
@@ -37,27 +39,35 @@ above last cursor less = grind (arith, nat_tests)
 -- ---- refusals
 
 -- what isn't refused goes on
-accept_not_refused : (b : Bool) (why : AcceptRefusal) (rest : Result Endpoint AcceptRefusal) (new : Endpoint) → cond b (Err why) rest ≡ Ok new → (b ≡ false) × (rest ≡ Ok new)
+accept_not_refused : (b : Bool) (why : AcceptRefusal) (rest : Result Endpoint AcceptRefusal) (new : Endpoint)
+    → cond b (Err why) rest ≡ Ok new → (b ≡ false) × (rest ≡ Ok new)
 accept_not_refused true why rest new e = absurd cc
 accept_not_refused false why rest new e = (refl, e)
 
-accept_goes_on : (b : Bool) (why : AcceptRefusal) (rest : Result Endpoint AcceptRefusal) (new : Endpoint) → b ≡ false → rest ≡ Ok new → cond b (Err why) rest ≡ Ok new
+accept_goes_on : (b : Bool) (why : AcceptRefusal) (rest : Result Endpoint AcceptRefusal) (new : Endpoint) → b ≡ false
+    → rest ≡ Ok new → cond b (Err why) rest ≡ Ok new
 accept_goes_on b why rest new tested e = ap (λ c. cond c (Err why) rest) tested ∙ e
 
 -- ---- which entries are admitted
 
-admitted_by : (schema : List Shape) (entry : Entry) (entries : List Entry) (fault : Option SectionFault) → refusal_of schema entry.item.body ≡ fault → if_admitted fault entry (first_outside_entry schema entries) ≡ None
-    → (first_outside_entry schema entries ≡ None → AllByRecursion (IsAdmitted schema) entries) → AllByRecursion (IsAdmitted schema) (entry ∷ entries)
+admitted_by : (schema : List Shape) (entry : Entry) (entries : List Entry) (fault : Option SectionFault)
+    → refusal_of schema entry.item.body ≡ fault → if_admitted fault entry (first_outside_entry schema entries) ≡ None
+    → (first_outside_entry schema entries ≡ None → AllByRecursion (IsAdmitted schema) entries)
+    → AllByRecursion (IsAdmitted schema) (entry ∷ entries)
 admitted_by schema entry entries None is e rest = (is, rest e)
 admitted_by schema entry entries (Some fault) is e rest = absurd cc
 
-all_admitted : (schema : List Shape) (entries : List Entry) → first_outside_entry schema entries ≡ None → AllByRecursion (IsAdmitted schema) entries
+all_admitted : (schema : List Shape) (entries : List Entry) → first_outside_entry schema entries ≡ None
+    → AllByRecursion (IsAdmitted schema) entries
 all_admitted schema [] e = tt
-all_admitted schema (entry ∷ entries) e = admitted_by schema entry entries (refusal_of schema entry.item.body) refl e (all_admitted schema entries)
+all_admitted schema (entry ∷ entries) e =
+    admitted_by schema entry entries (refusal_of schema entry.item.body) refl e (all_admitted schema entries)
 
-none_outside : (schema : List Shape) (entries : List Entry) → AllByRecursion (IsAdmitted schema) entries → first_outside_entry schema entries ≡ None
+none_outside : (schema : List Shape) (entries : List Entry) → AllByRecursion (IsAdmitted schema) entries
+    → first_outside_entry schema entries ≡ None
 none_outside schema [] all = refl
-none_outside schema (entry ∷ entries) all = ap (λ fault. if_admitted fault entry (first_outside_entry schema entries)) all.0 ∙ none_outside schema entries all.1
+none_outside schema (entry ∷ entries) all =
+    ap (λ fault. if_admitted fault entry (first_outside_entry schema entries)) all.0 ∙ none_outside schema entries all.1
 
 -- ---- the tables
 
@@ -68,30 +78,41 @@ record AcceptApplied (old : Endpoint) (last : ℕ) (entries : List Entry) (new :
 abbrev with_tables : Endpoint → ℕ → tables.TableState → Endpoint
 with_tables old last tables = record old { cursor = last; tables = tables }
 
-applied_is : (old : Endpoint) (last : ℕ) (entries : List Entry) (new : Endpoint) (r : Result tables.TableState Conflict) → single old.tables (joined_bodies entries) ≡ r → applied old last r ≡ Ok new → AcceptApplied old last entries new
+applied_is : (old : Endpoint) (last : ℕ) (entries : List Entry) (new : Endpoint) (r : Result tables.TableState Conflict)
+    → single old.tables (joined_bodies entries) ≡ r → applied old last r ≡ Ok new → AcceptApplied old last entries new
 applied_is old last entries new (Ok tables) is e =
     let same : with_tables old last tables ≡ new = cc in
     let here : tables ≡ new.tables = ap (λ (x : Endpoint). x.tables) same in
     record { tables = is ∙ ap (λ t. Ok t) here; kept = sym same ∙ ap (λ t. with_tables old last t) here }
 applied_is old last entries new (Err conflict) is e = absurd cc
 
-opened_is : (old : Endpoint) (last : ℕ) (entries : List Entry) (new : Endpoint) (o : Option Entry) → first_outside_entry old.tables.schema entries ≡ o → applied_if_admitted old last entries o ≡ Ok new → AllByRecursion (IsAdmitted old.tables.schema) entries × AcceptApplied old last entries new
-opened_is old last entries new None is e = (all_admitted old.tables.schema entries is, applied_is old last entries new (single old.tables (joined_bodies entries)) refl e)
+opened_is : (old : Endpoint) (last : ℕ) (entries : List Entry) (new : Endpoint) (o : Option Entry)
+    → first_outside_entry old.tables.schema entries ≡ o → applied_if_admitted old last entries o ≡ Ok new
+    → AllByRecursion (IsAdmitted old.tables.schema) entries × AcceptApplied old last entries new
+opened_is old last entries new None is e = (
+  all_admitted old.tables.schema entries is,
+  applied_is old last entries new (single old.tables (joined_bodies entries)) refl e,
+)
 opened_is old last entries new (Some entry) is e = absurd cc
 
 -- ---- the step
 
 abbrev tested : Endpoint → List Entry → Delivery → Result Endpoint AcceptRefusal
-tested old sequence delivery = applied_if_admitted old delivery.last (brought old sequence delivery) (first_outside_entry old.tables.schema (brought old sequence delivery))
+tested old sequence delivery =
+    applied_if_admitted old delivery.last (brought old sequence delivery)
+    (first_outside_entry old.tables.schema (brought old sequence delivery))
 
-pub accepted_steps : (old : Endpoint) (sequence : List Entry) (delivery : Delivery) (new : Endpoint) → accept old sequence delivery ≡ Ok new → AcceptsDelivery old sequence delivery new
+pub accepted_steps : (old : Endpoint) (sequence : List Entry) (delivery : Delivery) (new : Endpoint)
+    → accept old sequence delivery ≡ Ok new → AcceptsDelivery old sequence delivery new
 unfolding accept
 accepted_steps old sequence delivery new e =
     let closed = accept_not_refused old.closed refusal.Closed _ new e in
     let link = accept_not_refused (not (delivery.link == old.link)) refusal.StaleLink _ new closed.1 in
     let seen = accept_not_refused (nat_le delivery.last old.cursor) refusal.Seen _ new link.1 in
-    let gap = accept_not_refused (not (delivery.first == suc old.cursor)) (refusal.Gap (suc old.cursor)) (tested old sequence delivery) new seen.1 in
-    let open_ = opened_is old delivery.last (brought old sequence delivery) new (first_outside_entry old.tables.schema (brought old sequence delivery)) refl gap.1 in
+    let gap = accept_not_refused (not (delivery.first == suc old.cursor)) (refusal.Gap (suc old.cursor))
+    (tested old sequence delivery) new seen.1 in
+    let open_ = opened_is old delivery.last (brought old sequence delivery) new
+    (first_outside_entry old.tables.schema (brought old sequence delivery)) refl gap.1 in
     record {
       not_closed = closed.0;
       linked = same_numbers delivery.link old.link link.0;
@@ -102,13 +123,18 @@ accepted_steps old sequence delivery new e =
       kept = open_.1.kept;
     }
 
-pub steps_accepted : (old : Endpoint) (sequence : List Entry) (delivery : Delivery) (new : Endpoint) → AcceptsDelivery old sequence delivery new → accept old sequence delivery ≡ Ok new
+pub steps_accepted : (old : Endpoint) (sequence : List Entry) (delivery : Delivery) (new : Endpoint)
+    → AcceptsDelivery old sequence delivery new → accept old sequence delivery ≡ Ok new
 unfolding accept
 steps_accepted old sequence delivery new a =
     let entries = brought old sequence delivery in
     let done : tested old sequence delivery ≡ Ok new =
-    ap (applied_if_admitted old delivery.last entries) (none_outside old.tables.schema entries a.admitted) ∙ ap (applied old delivery.last) a.tables ∙ ap (λ x. Ok x) (sym a.kept) in
-    let gap = accept_goes_on (not (delivery.first == suc old.cursor)) (refusal.Gap (suc old.cursor)) (tested old sequence delivery) new (numbers_tested delivery.first (suc old.cursor) a.next) done in
-    let seen = accept_goes_on (nat_le delivery.last old.cursor) refusal.Seen _ new (above delivery.last old.cursor a.some) gap in
-    let link = accept_goes_on (not (delivery.link == old.link)) refusal.StaleLink _ new (numbers_tested delivery.link old.link a.linked) seen in
+    ap (applied_if_admitted old delivery.last entries) (none_outside old.tables.schema entries a.admitted)
+    ∙ ap (applied old delivery.last) a.tables ∙ ap (λ x. Ok x) (sym a.kept) in
+    let gap = accept_goes_on (not (delivery.first == suc old.cursor)) (refusal.Gap (suc old.cursor))
+    (tested old sequence delivery) new (numbers_tested delivery.first (suc old.cursor) a.next) done in
+    let seen = accept_goes_on (nat_le delivery.last old.cursor) refusal.Seen _ new
+    (above delivery.last old.cursor a.some) gap in
+    let link = accept_goes_on (not (delivery.link == old.link)) refusal.StaleLink _ new
+    (numbers_tested delivery.link old.link a.linked) seen in
     accept_goes_on old.closed refusal.Closed _ new a.not_closed link

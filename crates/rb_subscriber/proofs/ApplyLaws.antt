@@ -1,5 +1,6 @@
 -- Entries one after another: the first that isn't admitted, and the sections of all bodies.
-use Rattle.std.proofs.Common.{◌≡◌, ℕ, suc, ◌+◌, ◌<◌, ◌≤◌, Bool, true, false, List, [], ◌∷◌, ◌++◌, length, drop, get_or, Option, Some, None, Result, Ok, Err, refl, sym, ap, subst, ◌∙◌, append_assoc, arith}
+use Rattle.std.proofs.Common.{◌≡◌, ℕ, suc, ◌+◌, ◌<◌, ◌≤◌, Bool, true, false, List, [], ◌∷◌, ◌++◌, length, drop, get_or}
+use Rattle.std.proofs.Common.{Option, Some, None, Result, Ok, Err, refl, sym, ap, subst, ◌∙◌, append_assoc, arith}
 use Rattle.std.specs.Prelude.{OnOk, IfErr, is_err, slice_index_or}
 use Rattle.std.proofs.lemmas.List.{drop_more, drop_all, append-nil}
 use Rattle.cs_model.specs.Section.{Section}
@@ -10,15 +11,18 @@ use Rattle.rb_sequence.specs.Entry.{Entry}
 use Rattle.rb_subscriber.specs.Accept.{joined_bodies, if_admitted, first_outside_entry}
 
 -- the entry at a place stands in front of those behind it
-pub at_front : (entries : List Entry) (i : ℕ) (entry : Entry) → i < length entries → entry ≡ slice_index_or entries i entry → drop i entries ≡ entry ∷ drop (i + 1) entries
-at_front entries i entry less is = drop_more entries i entry less ∙ ap (λ (e : Entry). e ∷ drop (i + 1) entries) (sym is)
+pub at_front : (entries : List Entry) (i : ℕ) (entry : Entry) → i < length entries → entry
+    ≡ slice_index_or entries i entry → drop i entries ≡ entry ∷ drop (i + 1) entries
+at_front entries i entry less is = drop_more entries i entry less
+    ∙ ap (λ (e : Entry). e ∷ drop (i + 1) entries) (sym is)
 
 -- ---- the first that isn't admitted
 
 abbrev ApplyAnswer : Type 0
 ApplyAnswer = Result (Unit {0}) SectionFault
 
-told_fault : (r : ApplyAnswer) (told : Option SectionFault) → IfErr r (λ fault. told ≡ Some fault) → is_err r ≡ true → (fault : SectionFault) × (told ≡ Some fault)
+told_fault : (r : ApplyAnswer) (told : Option SectionFault) → IfErr r (λ fault. told ≡ Some fault) → is_err r ≡ true
+    → (fault : SectionFault) × (told ≡ Some fault)
 told_fault (Ok done) told refused e = absurd cc
 told_fault (Err fault) told refused e = (fault, refused)
 
@@ -26,23 +30,34 @@ told_none : (r : ApplyAnswer) (told : Option SectionFault) → OnOk r (told ≡ 
 told_none (Ok done) told ok e = ok
 told_none (Err fault) told ok e = absurd cc
 
-pub found_outside : (schema : List Shape) (entries : List Entry) (i : ℕ) (entry : Entry) (r : ApplyAnswer) → drop i entries ≡ entry ∷ drop (i + 1) entries → IfErr r (λ fault. refusal_of schema entry.item.body ≡ Some fault) → is_err r ≡ true
-    → first_outside_entry schema entries ≡ first_outside_entry schema (drop i entries) → Some entry ≡ first_outside_entry schema entries
+pub found_outside : (schema : List Shape) (entries : List Entry) (i : ℕ) (entry : Entry) (r : ApplyAnswer)
+    → drop i entries ≡ entry ∷ drop (i + 1) entries → IfErr r (λ fault. refusal_of schema entry.item.body ≡ Some fault)
+    → is_err r ≡ true
+    → first_outside_entry schema entries ≡ first_outside_entry schema (drop i entries) → Some entry
+    ≡ first_outside_entry schema entries
 found_outside schema entries i entry r front refused e so_far =
     let t = told_fault r (refusal_of schema entry.item.body) refused e in
-    sym (so_far ∙ ap (first_outside_entry schema) front ∙ ap (λ fault. if_admitted fault entry (first_outside_entry schema (drop (i + 1) entries))) t.1)
+    sym (so_far ∙ ap (first_outside_entry schema) front
+    ∙ ap (λ fault. if_admitted fault entry (first_outside_entry schema (drop (i + 1) entries))) t.1)
 
-pub goes_past : (schema : List Shape) (entries : List Entry) (i : ℕ) (entry : Entry) (r : ApplyAnswer) → drop i entries ≡ entry ∷ drop (i + 1) entries → OnOk r (refusal_of schema entry.item.body ≡ None) → is_err r ≡ false
-    → first_outside_entry schema entries ≡ first_outside_entry schema (drop i entries) → first_outside_entry schema entries ≡ first_outside_entry schema (drop (i + 1) entries)
+pub goes_past : (schema : List Shape) (entries : List Entry) (i : ℕ) (entry : Entry) (r : ApplyAnswer) → drop i entries
+    ≡ entry ∷ drop (i + 1) entries → OnOk r (refusal_of schema entry.item.body ≡ None) → is_err r ≡ false
+    → first_outside_entry schema entries ≡ first_outside_entry schema (drop i entries)
+    → first_outside_entry schema entries ≡ first_outside_entry schema (drop (i + 1) entries)
 goes_past schema entries i entry r front ok e so_far =
-    so_far ∙ ap (first_outside_entry schema) front ∙ ap (λ fault. if_admitted fault entry (first_outside_entry schema (drop (i + 1) entries))) (told_none r (refusal_of schema entry.item.body) ok e)
+    so_far ∙ ap (first_outside_entry schema) front
+    ∙ ap (λ fault. if_admitted fault entry (first_outside_entry schema (drop (i + 1) entries)))
+    (told_none r (refusal_of schema entry.item.body) ok e)
 
-pub none_found : (schema : List Shape) (entries : List Entry) (i : ℕ) → length entries ≤ i → first_outside_entry schema entries ≡ first_outside_entry schema (drop i entries) → None ≡ first_outside_entry schema entries
+pub none_found : (schema : List Shape) (entries : List Entry) (i : ℕ) → length entries ≤ i
+    → first_outside_entry schema entries ≡ first_outside_entry schema (drop i entries) → None
+    ≡ first_outside_entry schema entries
 none_found schema entries i all so_far = sym (so_far ∙ ap (first_outside_entry schema) (drop_all i entries all))
 
 -- ---- the sections of all bodies
 
-pub joins_more : (made body : List Section) (entries : List Entry) (i : ℕ) (entry : Entry) → drop i entries ≡ entry ∷ drop (i + 1) entries → body ≡ entry.item.body → made ++ joined_bodies (drop i entries) ≡ joined_bodies entries
+pub joins_more : (made body : List Section) (entries : List Entry) (i : ℕ) (entry : Entry) → drop i entries ≡ entry
+    ∷ drop (i + 1) entries → body ≡ entry.item.body → made ++ joined_bodies (drop i entries) ≡ joined_bodies entries
     → (made ++ body) ++ joined_bodies (drop (i + 1) entries) ≡ joined_bodies entries
 joins_more made body entries i entry front is so_far =
     ap (λ b. (made ++ b) ++ joined_bodies (drop (i + 1) entries)) is
@@ -50,5 +65,7 @@ joins_more made body entries i entry front is so_far =
     ∙ ap (λ es. made ++ joined_bodies es) (sym front)
     ∙ so_far
 
-pub joins_all : (made : List Section) (entries : List Entry) (i : ℕ) → length entries ≤ i → made ++ joined_bodies (drop i entries) ≡ joined_bodies entries → made ≡ joined_bodies entries
-joins_all made entries i all so_far = sym (append-nil made) ∙ ap (λ es. made ++ joined_bodies es) (sym (drop_all i entries all)) ∙ so_far
+pub joins_all : (made : List Section) (entries : List Entry) (i : ℕ) → length entries ≤ i → made
+    ++ joined_bodies (drop i entries) ≡ joined_bodies entries → made ≡ joined_bodies entries
+joins_all made entries i all so_far = sym (append-nil made)
+    ∙ ap (λ es. made ++ joined_bodies es) (sym (drop_all i entries all)) ∙ so_far

@@ -1,5 +1,6 @@
 -- What was accepted is one run, and its bodies apply singly.
-use Rattle.std.proofs.Common.{◌≡◌, ◌↔◌, ℕ, ◌+◌, ◌-◌, ◌≤◌, List, [], ◌∷◌, ◌++◌, length, take, drop, Result, Ok, Err, refl, sym, ap, subst, ◌∙◌, arith}
+use Rattle.std.proofs.Common.{◌≡◌, ◌↔◌, ℕ, ◌+◌, ◌-◌, ◌≤◌, List, [], ◌∷◌, ◌++◌, length, take, drop, Result, Ok, Err}
+use Rattle.std.proofs.Common.{refl, sym, ap, subst, ◌∙◌, arith}
 use Rattle.std.proofs.Math.Seq.{take-add}
 use Rattle.std.proofs.lemmas.List.{drop-drop, take-append-le, drop-append-le, length-drop}
 use Rattle.cs_model.specs.Section.{Section}
@@ -15,46 +16,58 @@ use Rattle.rb_subscriber.proofs.AcceptLaws.{accepted_steps}
 -- ---- parts of a list
 
 -- one part behind another
-pub parts : {A : Type 0} (xs : List A) (after mid last : ℕ) → after ≤ mid → mid ≤ last → part xs after (last - after) ≡ part xs after (mid - after) ++ part xs mid (last - mid)
+pub parts : {A : Type 0} (xs : List A) (after mid last : ℕ) → after ≤ mid → mid ≤ last → part xs after (last - after)
+    ≡ part xs after (mid - after) ++ part xs mid (last - mid)
 parts xs after mid last a b =
     let both : last - after ≡ (mid - after) + (last - mid) = omega (arith, a, b) in
     let there : after + (mid - after) ≡ mid = omega (arith, a) in
     ap (part xs after) both
     ∙ take-add (mid - after) (last - mid) (drop after xs)
-    ∙ ap (λ ys. part xs after (mid - after) ++ take (last - mid) ys) (drop-drop (mid - after) after xs ∙ ap (λ n. drop n xs) there)
+    ∙ ap (λ ys. part xs after (mid - after) ++ take (last - mid) ys)
+    (drop-drop (mid - after) after xs ∙ ap (λ n. drop n xs) there)
 
 -- more behind it changes nothing
-pub part_stays : {A : Type 0} (xs more : List A) (after n : ℕ) → after + n ≤ length xs → part (xs ++ more) after n ≡ part xs after n
+pub part_stays : {A : Type 0} (xs more : List A) (after n : ℕ) → after + n ≤ length xs → part (xs ++ more) after n
+    ≡ part xs after n
 part_stays xs more after n fits =
     let few : n ≤ length (drop after xs) = omega (arith, fits, length-drop after xs) in
     ap (take n) (drop-append-le after xs more (omega (arith, fits))) ∙ take-append-le n (drop after xs) more few
 
 -- ---- what was accepted
 
-pub run_goes_on : (old : Endpoint) (sequence : List Entry) (delivery : Delivery) (new : Endpoint) → old.start ≤ old.cursor → accept old sequence delivery ≡ Ok new
+pub run_goes_on : (old : Endpoint) (sequence : List Entry) (delivery : Delivery) (new : Endpoint) → old.start
+    ≤ old.cursor → accept old sequence delivery ≡ Ok new
     → accepted_entries sequence new ≡ accepted_entries sequence old ++ brought old sequence delivery
 run_goes_on old sequence delivery new begun e =
     let a = accepted_steps old sequence delivery new e in
-    ap (accepted_entries sequence) a.kept ∙ parts sequence old.start old.cursor delivery.last begun (omega (arith, a.some))
+    ap (accepted_entries sequence) a.kept
+    ∙ parts sequence old.start old.cursor delivery.last begun (omega (arith, a.some))
 
-pub run_stays : (endpoint : Endpoint) (sequence more : List Entry) → endpoint.start ≤ endpoint.cursor → endpoint.cursor ≤ length sequence → accepted_entries (sequence ++ more) endpoint ≡ accepted_entries sequence endpoint
-run_stays endpoint sequence more begun placed = part_stays sequence more endpoint.start (endpoint.cursor - endpoint.start) (omega (arith, begun, placed))
+pub run_stays : (endpoint : Endpoint) (sequence more : List Entry) → endpoint.start ≤ endpoint.cursor → endpoint.cursor
+    ≤ length sequence → accepted_entries (sequence ++ more) endpoint ≡ accepted_entries sequence endpoint
+run_stays endpoint sequence more begun placed =
+    part_stays sequence more endpoint.start (endpoint.cursor - endpoint.start) (omega (arith, begun, placed))
 
 -- ---- the tables
 
 -- of sections in two parts, as the law of applying says it
 abbrev pub RunContinues : Type 0
-RunContinues = (old : tables.TableState) (some more : List Section) (new : tables.TableState) → (single old (some ++ more) ≡ Ok new) ↔ AppliesBoth old some more new
+RunContinues = (old : tables.TableState) (some more : List Section) (new : tables.TableState)
+    → (single old (some ++ more) ≡ Ok new) ↔ AppliesBoth old some more new
 
 nothing_applies : (old : tables.TableState) → single old [] ≡ Ok old
 unfolding single_from
 nothing_applies old = refl
 
-pub singly : RunContinues → (old : tables.TableState) (entries : List Entry) (new : tables.TableState) → single old (joined_bodies entries) ≡ Ok new → AppliesSingly old entries new
+pub singly : RunContinues → (old : tables.TableState) (entries : List Entry) (new : tables.TableState)
+    → single old (joined_bodies entries) ≡ Ok new → AppliesSingly old entries new
 singly goes old [] new e = cc (sym e ∙ nothing_applies old)
 singly goes old (entry ∷ entries) new e =
     let both = (goes old entry.item.body (joined_bodies entries) new).0 e in
     (both.0, both.1, singly goes both.0 entries new both.2)
 
-pub tables_singly : RunContinues → (old : Endpoint) (sequence : List Entry) (delivery : Delivery) (new : Endpoint) → accept old sequence delivery ≡ Ok new → AppliesSingly old.tables (brought old sequence delivery) new.tables
-tables_singly goes old sequence delivery new e = singly goes old.tables (brought old sequence delivery) new.tables (accepted_steps old sequence delivery new e).tables
+pub tables_singly : RunContinues → (old : Endpoint) (sequence : List Entry) (delivery : Delivery) (new : Endpoint)
+    → accept old sequence delivery ≡ Ok new → AppliesSingly old.tables (brought old sequence delivery) new.tables
+tables_singly goes old sequence delivery new e =
+    singly goes old.tables (brought old sequence delivery) new.tables
+    (accepted_steps old sequence delivery new e).tables

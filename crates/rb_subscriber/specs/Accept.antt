@@ -1,5 +1,6 @@
 -- What accepting a delivery answers, and what it leaves.
-use Rattle.std.specs.Prelude.{◌≡◌, ℕ, suc, ◌-◌, ◌≤◌, Bool, false, not, List, [], ◌∷◌, take, drop, Option, Some, None, Result, Ok, Err, ◌==◌, nat_le, if◌then◌else◌}
+use Rattle.std.specs.Prelude.{◌≡◌, ℕ, suc, ◌-◌, ◌≤◌, Bool, false, not, List, [], ◌∷◌, take, drop}
+use Rattle.std.specs.Prelude.{Option, Some, None, Result, Ok, Err, ◌==◌, nat_le, if◌then◌else◌}
 use Rattle.std.specs.List.{flat_map, AllByRecursion}
 use Rattle.cs_model.specs.declared.shape.Shape.{Shape}
 use Rattle.cs_model.specs.Schema.{refusal_of}
@@ -43,15 +44,20 @@ if_admitted (Some fault) entry later = Some entry
 
 abbrev pub first_outside_entry : List Shape → List Entry → Option Entry
 first_outside_entry schema [] = None
-first_outside_entry schema (entry ∷ entries) = if_admitted (refusal_of schema entry.item.body) entry (first_outside_entry schema entries)
+first_outside_entry schema (entry ∷ entries) =
+    if_admitted (refusal_of schema entry.item.body) entry (first_outside_entry schema entries)
 
--- the cursor goes to the delivery's last number, and the tables are the new ones; a conflict is refused
-abbrev pub applied : Endpoint → ℕ → Result tables.TableState Conflict → Result Endpoint AcceptRefusal
+-- the cursor goes to the delivery's last number, and the tables are the new ones; a conflict is
+-- refused
+abbrev pub applied : Endpoint → ℕ → Result tables.TableState Conflict
+    → Result Endpoint AcceptRefusal
 applied old last (Ok tables) = Ok (record old { cursor = last; tables = tables })
 applied old last (Err conflict) = Err (refusal.Conflict conflict)
 
-abbrev pub applied_if_admitted : Endpoint → ℕ → List Entry → Option Entry → Result Endpoint AcceptRefusal
-applied_if_admitted old last entries None = applied old last (single old.tables (joined_bodies entries))
+abbrev pub applied_if_admitted : Endpoint → ℕ → List Entry → Option Entry
+    → Result Endpoint AcceptRefusal
+applied_if_admitted old last entries None =
+    applied old last (single old.tables (joined_bodies entries))
 applied_if_admitted old last entries (Some entry) = Err (refusal.Shape entry.number)
 
 -- Accept: the endpoint behind a delivery, or the first refusal in this order
@@ -61,7 +67,8 @@ accept old sequence delivery =
     else if not (delivery.link == old.link) then Err refusal.StaleLink
     else if nat_le delivery.last old.cursor then Err refusal.Seen
     else if not (delivery.first == suc old.cursor) then Err (refusal.Gap (suc old.cursor))
-    else applied_if_admitted old delivery.last (brought old sequence delivery) (first_outside_entry old.tables.schema (brought old sequence delivery))
+    else applied_if_admitted old delivery.last (brought old sequence delivery)
+    (first_outside_entry old.tables.schema (brought old sequence delivery))
 
 -- Whether the tables are asked: then it is accepted, or a change conflicts.
 abbrev pub AsksTables : Result Endpoint AcceptRefusal → Type 0
@@ -73,19 +80,22 @@ AsksTables (Err (refusal.Gap expected)) = ⊥
 AsksTables (Err (refusal.Shape number)) = ⊥
 AsksTables (Err (refusal.Conflict conflict)) = Unit {0}
 
--- The answer is that of the definition: the new cursor, or the refusal. Want of memory comes only where the tables are asked.
--- Both leave the endpoint as it was.
-abbrev pub AcceptAnswers : Result ℕ AcceptError → Result Endpoint AcceptRefusal → Endpoint → Endpoint → Type 0
+-- The answer is that of the definition: the new cursor, or the refusal. Want of memory comes only
+-- where the tables are asked. Both leave the endpoint as it was.
+abbrev pub AcceptAnswers : Result ℕ AcceptError → Result Endpoint AcceptRefusal → Endpoint
+    → Endpoint → Type 0
 AcceptAnswers (Ok cursor) accepted old new = (accepted ≡ Ok new) × (cursor ≡ new.cursor)
 AcceptAnswers (Err (Refused why)) accepted old new = (accepted ≡ Err why) × (new ≡ old)
 AcceptAnswers (Err Memory) accepted old new = AsksTables accepted × (new ≡ old)
 
 -- ---- as a step
 
--- An endpoint accepts a delivery: it isn't closed, the delivery is one of its present link and begins right behind its cursor,
--- the entries that it brings are all of the endpoint's tables, and their bodies apply without conflict, one behind another.
--- The cursor goes to the delivery's last number, and nothing but cursor and tables changes.
-pub record AcceptsDelivery (old : Endpoint) (sequence : List Entry) (delivery : Delivery) (new : Endpoint) : Type 0 where
+-- An endpoint accepts a delivery: it isn't closed, the delivery is one of its present link and
+-- begins right behind its cursor, the entries that it brings are all of the endpoint's tables, and
+-- their bodies apply without conflict, one behind another. The cursor goes to the delivery's last
+-- number, and nothing but cursor and tables changes.
+pub record AcceptsDelivery (old : Endpoint) (sequence : List Entry) (delivery : Delivery)
+    (new : Endpoint) : Type 0 where
   pub not_closed : old.closed ≡ false
   pub linked : delivery.link ≡ old.link
   pub next : delivery.first ≡ suc old.cursor
@@ -103,4 +113,5 @@ accepted_entries sequence endpoint = part sequence endpoint.start (endpoint.curs
 -- bodies applied one changeset after another, as one thread does that gets them singly
 abbrev pub AppliesSingly : tables.TableState → List Entry → tables.TableState → Type 0
 AppliesSingly old [] new = new ≡ old
-AppliesSingly old (entry ∷ entries) new = (mid : tables.TableState) × (single old entry.item.body ≡ Ok mid) × AppliesSingly mid entries new
+AppliesSingly old (entry ∷ entries) new = (mid : tables.TableState)
+    × (single old entry.item.body ≡ Ok mid) × AppliesSingly mid entries new

@@ -3,8 +3,8 @@ use Rattle.std.specs.Prelude.{ℕ, Bool, false, refl}
 use Rattle.std.specs.Coded.{Coded, code_by, coded×, coded_ℕ, coded_bool}
 use Rattle.cs_apply.specs.State as tables
 
--- A subscriber's end: the number behind which it began, the last number that it accepted, at first its start; its present
--- link; whether it is closed; its tables.
+-- A subscriber's end: the number behind which it began, the last number that it accepted, at first
+-- its start; its present link; whether it is closed; its tables.
 pub record Endpoint : Type 0 where
   pub start : ℕ
   pub cursor : ℕ
@@ -14,12 +14,20 @@ pub record Endpoint : Type 0 where
 
 -- one that has accepted nothing
 abbrev pub new_endpoint : ℕ → ℕ → tables.TableState → Endpoint
-new_endpoint start link tables = record { start = start; cursor = start; link = link; closed = false; tables = tables }
+new_endpoint start link tables =
+    record { start = start; cursor = start; link = link; closed = false; tables = tables }
 
 -- an endpoint is stored as its parts
 abbrev pub endpoint_code : Coded Endpoint
 endpoint_code =
-    code_by (ℕ × (ℕ × (ℕ × (Bool × tables.TableState)))) (coded× coded_ℕ (coded× coded_ℕ (coded× coded_ℕ (coded× coded_bool tables.state_code))))
+    code_by (ℕ × (ℕ × (ℕ × (Bool × tables.TableState))))
+    (coded× coded_ℕ (coded× coded_ℕ (coded× coded_ℕ (coded× coded_bool tables.state_code))))
     (λ e. (e.start, (e.cursor, (e.link, (e.closed, e.tables)))))
-    (λ p. record { start = p.0; cursor = p.1.0; link = p.1.1.0; closed = p.1.1.1.0; tables = p.1.1.1.1 })
+    (λ p. record {
+      start = p.0;
+      cursor = p.1.0;
+      link = p.1.1.0;
+      closed = p.1.1.1.0;
+      tables = p.1.1.1.1;
+    })
     (λ _. refl)

@@ -34,10 +34,12 @@ fn join(alloc: Global, entries: &[Entry]) -> Result<Changeset, AllocError>
     Ok(changeset)
 }
 
-/// Applies the bodies of entries one behind another, as one changeset: all of their changes, or none.
+/// Applies the bodies of entries one behind another, as one changeset: all of their changes, or
+/// none.
 pub(crate) fn apply(alloc: Global, tables: &mut Tables, entries: &[Entry]) -> Result<(), ApplyError>
     ensures ok { OnOk result (single tables.old (joined_bodies entries.now) ≡ Ok tables.new) }
-    ensures refused { IfErr result (λ e. ReportsConflict e (single tables.old (joined_bodies entries.now))) }
+    ensures refused { IfErr result
+        (λ e. ReportsConflict e (single tables.old (joined_bodies entries.now))) }
     ensures err { OnErr result (tables.new ≡ tables.old) }
 {
     if let [entry] = entries {

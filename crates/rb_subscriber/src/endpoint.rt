@@ -12,7 +12,8 @@ use rb_sequence::Entry;
 use std::alloc::Global;
 use std::marker::Model;
 
-/// A subscriber's end of a subscription: how far it has accepted, its present link, and its tables. Only `accept` moves the cursor.
+/// A subscriber's end of a subscription: how far it has accepted, its present link, and its tables.
+/// Only `accept` moves the cursor.
 #[derive(Debug, Drop)]
 pub struct Endpoint {
     start: u64,
@@ -30,13 +31,20 @@ impl Model for Endpoint {
 
     ghost coded = { endpoint_code };
 
-    ghost view = { λ e. record { start = e.start; cursor = e.cursor; link = e.link; closed = e.closed; tables = e.tables } };
+    ghost view = { λ e. record {
+      start = e.start;
+      cursor = e.cursor;
+      link = e.link;
+      closed = e.closed;
+      tables = e.tables;
+    } };
 
     ghost invariant = { λ e. e.start ≤ e.cursor };
 }
 
 impl Endpoint {
-    /// An endpoint that begins behind the number `start`, under this link and with these tables, and has accepted nothing.
+    /// An endpoint that begins behind the number `start`, under this link and with these tables,
+    /// and has accepted nothing.
     pub fn new(start: u64, link: u64, tables: Tables) -> Endpoint
         ensures { result ≡ new_endpoint start link tables }
     {
@@ -49,11 +57,13 @@ impl Endpoint {
         }
     }
 
-    /// Accepts a delivery: applies the changesets that it brings, one behind another, and moves the cursor to its last number, which
-    /// it answers. `sequence` is all entries placed so far, up to the delivery's last one at least.
+    /// Accepts a delivery: applies the changesets that it brings, one behind another, and moves the
+    /// cursor to its last number, which it answers. `sequence` is all entries placed so far, up to
+    /// the delivery's last one at least.
     ///
-    /// Refuses, in this order, `Closed`, `StaleLink`, `Seen`, `Gap`, `Shape`, `Conflict`. `Memory` may come in place of a conflict,
-    /// and of no other refusal. Each leaves the endpoint as it was.
+    /// Refuses, in this order, `Closed`, `StaleLink`, `Seen`, `Gap`, `Shape`, `Conflict`. `Memory`
+    /// may come in place of a conflict, and of no other refusal. Each leaves the endpoint as it
+    /// was.
     #[tactic(auto, unfolding(crate::specs::Accept::accept))]
     pub fn accept(
         &mut self,
@@ -62,7 +72,8 @@ impl Endpoint {
         delivery: &Delivery,
     ) -> Result<u64, AcceptError>
         requires { delivery.now.last ≤ length sequence.now }
-        ensures { AcceptAnswers result (accept self.old sequence.now delivery.now) self.old self.new }
+        ensures { AcceptAnswers result (accept self.old sequence.now delivery.now) self.old
+            self.new }
     {
         if self.closed {
             return Err(AcceptRefusal::Closed.into());

@@ -1,31 +1,38 @@
-//! Laws: public functions that do nothing, whose contracts say what holds of every delivery. Who needs one calls it.
+//! Laws: public functions that do nothing, whose contracts say what holds of every delivery. Who
+//! needs one calls it.
 
 ghost use Rattle.std.specs.Prelude.{◌≡◌, ◌≤◌, ◌↔◌, ◌++◌, List, Ok, length};
 ghost use Rattle.rb_desk.specs.declared.delivery.Delivery.{Delivery};
 ghost use Rattle.rb_sequence.specs.Entry.{Entry};
 ghost use Rattle.rb_subscriber.specs.Endpoint.{Endpoint};
-ghost use Rattle.rb_subscriber.specs.Accept.{accept, AcceptsDelivery, brought, accepted_entries, AppliesSingly};
+ghost use Rattle.rb_subscriber.specs.Accept.{accept, AcceptsDelivery, brought, accepted_entries};
+ghost use Rattle.rb_subscriber.specs.Accept.{AppliesSingly};
 
 use cs_apply::laws::applying_goes_on;
 
-/// What a delivery is answered is a step: it is accepted exactly where `Accepts` says so, with that endpoint behind it.
+/// What a delivery is answered is a step: it is accepted exactly where `Accepts` says so, with that
+/// endpoint behind it.
 pub fn accepting_is_step()
     ensures { (old : Endpoint) (sequence : List Entry) (delivery : Delivery) (new : Endpoint)
         → (accept old sequence delivery ≡ Ok new) ↔ AcceptsDelivery old sequence delivery new }
 {}
 
-/// What an endpoint has accepted is one run of the sequence from its start on: a delivery that it accepts goes on where the cursor
-/// was, so that nothing is left out and nothing comes twice, and entries that are placed later change nothing of it.
+/// What an endpoint has accepted is one run of the sequence from its start on: a delivery that it
+/// accepts goes on where the cursor was, so that nothing is left out and nothing comes twice, and
+/// entries that are placed later change nothing of it.
 pub fn accepted_is_a_run()
-    ensures goes_on { (old : Endpoint) (sequence : List Entry) (delivery : Delivery) (new : Endpoint)
+    ensures goes_on { (old : Endpoint) (sequence : List Entry) (delivery : Delivery)
+        (new : Endpoint)
         → old.start ≤ old.cursor → accept old sequence delivery ≡ Ok new
-        → accepted_entries sequence new ≡ accepted_entries sequence old ++ brought old sequence delivery }
+        → accepted_entries sequence new ≡ accepted_entries sequence old
+        ++ brought old sequence delivery }
     ensures stays { (endpoint : Endpoint) (sequence more : List Entry)
         → endpoint.start ≤ endpoint.cursor → endpoint.cursor ≤ length sequence
         → accepted_entries (sequence ++ more) endpoint ≡ accepted_entries sequence endpoint }
 {}
 
-/// The tables behind an accepted delivery are what one thread gets that applies its changesets one after another.
+/// The tables behind an accepted delivery are what one thread gets that applies its changesets one
+/// after another.
 pub fn accepted_apply_singly()
     ensures { (old : Endpoint) (sequence : List Entry) (delivery : Delivery) (new : Endpoint)
         → accept old sequence delivery ≡ Ok new

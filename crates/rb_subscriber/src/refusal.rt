@@ -6,8 +6,8 @@ use cs_apply::Conflict;
 use std::alloc::AllocError;
 use thiserror::Error;
 
-/// Why `Endpoint::accept` refuses a delivery. The endpoint is as it was before the call. Where several hold, the call answers the
-/// first one in this order.
+/// Why `Endpoint::accept` refuses a delivery. The endpoint is as it was before the call. Where
+/// several hold, the call answers the first one in this order.
 #[derive(Clone, Copy, Debug, PartialEq, Eq, Error)]
 pub enum AcceptRefusal {
     /// The endpoint is closed.

@@ -1,9 +1,10 @@
-//! Runs with ample memory: a list of events, and a changeset with more changes than sixteen bits count.
+//! Runs with ample memory: a list of events, and a changeset with more changes than sixteen bits
+//! count.
 
 ghost use Rattle.std.specs.Prelude.{◌<◌};
 
 use cs_model::{Octets, Schema, Seq, Shape};
-use rb_core::{Config, Event, BrokerRefusal, Reply, World, run};
+use rb_core::{BrokerRefusal, Config, Event, Reply, World, run};
 use rb_script::run_script;
 use rb_subscriber::AcceptRefusal;
 use std::alloc::{AllocError, Global};
@@ -27,7 +28,8 @@ fn schema(alloc: Global) -> Result<Schema, Fail> {
     Ok(Schema::new(shapes)?)
 }
 
-// after a feed: the INSERT is staged, sent and placed, and a subscription takes it and accepts it twice
+// after a feed: the INSERT is staged, sent and placed, and a subscription takes it and accepts it
+// twice
 fn event(place: usize) -> Event {
     match place {
         0 => Event::End { publisher: 0 },
@@ -65,7 +67,10 @@ fn some_events(alloc: Global) -> Result<Vec<Event>, AllocError> {
 fn is_done(rt: &impl Abort, alloc: Global, world: &World, last: Reply) -> Result<(), Fail> {
     let rows = world.rows(alloc, 0)?;
     assert_eq!(rt; rows.map(|rows| rows.len()), Some(1));
-    assert_eq!(rt; last, Reply::Refused(BrokerRefusal::Accept(AcceptRefusal::Seen)));
+    assert_eq!(rt;
+        last,
+        Reply::Refused(BrokerRefusal::Accept(AcceptRefusal::Seen))
+    );
     Ok(())
 }
 

@@ -16,7 +16,8 @@ use Rattle.cs_parse.proofs.counting.Skims.{size, counted_value}
 counts_long : (text front back : List ℕ) → text ≡ front ++ back → length text ≡ length front + length back
 counts_long text front back e = ap length e ∙ length-append front back
 
-counts_changes_fit : (text : List ℕ) (changes : List Change) → SpellsEach SpellsChange text changes → length changes ≤ length text
+counts_changes_fit : (text : List ℕ) (changes : List Change) → SpellsEach SpellsChange text changes → length changes
+    ≤ length text
 counts_changes_fit text [] h = omega arith
 counts_changes_fit text (change ∷ changes) (front, back, e, one, more) =
     let l = counts_long text front back e in
@@ -30,7 +31,8 @@ section_fits text section h =
     let a = counts_changes_fit h.body section.changes h.is_body in
     omega (arith, l, a)
 
-sections_fit : (text : List ℕ) (sections : List Section) → SpellsEach SpellsSection text sections → changes_in sections ≤ length text
+sections_fit : (text : List ℕ) (sections : List Section) → SpellsEach SpellsSection text sections → changes_in sections
+    ≤ length text
 sections_fit text [] h = omega arith
 sections_fit text (section ∷ sections) (front, back, e, one, more) =
     let l = counts_long text front back e in
@@ -45,7 +47,8 @@ few_changes text sections h =
     omega (arith, fit, h.within_limit)
 
 -- a section that is counted takes a byte at least for each change
-pub counted_fits : (bytes : List ℕ) (k : ℕ) (after : List ℕ) → AreBytes bytes → counted size (section_at bytes) ≡ Ok (k, after) → AreBytes after × (k + length after ≤ length bytes)
+pub counted_fits : (bytes : List ℕ) (k : ℕ) (after : List ℕ) → AreBytes bytes → counted size (section_at bytes)
+    ≡ Ok (k, after) → AreBytes after × (k + length after ≤ length bytes)
 counted_fits bytes k after fits h =
     let v = counted_value size (section_at bytes) k after h in
     let t = (section_reader.takes bytes (v.0, after) fits v.1).0 in

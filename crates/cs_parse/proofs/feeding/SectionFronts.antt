@@ -1,5 +1,6 @@
 -- A loop over sections, of which the last one may go on.
-use Rattle.std.proofs.Common.{◌≡◌, ℕ, ◌<◌, true, false, List, [], ◌∷◌, ◌++◌, length, Option, Some, None, Ok, Err, refl, sym, ap, subst, ◌∙◌, append_assoc, arith}
+use Rattle.std.proofs.Common.{◌≡◌, ℕ, ◌<◌, true, false, List, [], ◌∷◌, ◌++◌, length, Option, Some, None, Ok, Err, refl}
+use Rattle.std.proofs.Common.{sym, ap, subst, ◌∙◌, append_assoc, arith}
 use Rattle.std.specs.Prelude.{is_some}
 use Rattle.std.proofs.lemmas.List.{append-nil, nil_from_length}
 use Rattle.cs_model.specs.Bytes.{AreBytes}
@@ -19,11 +20,14 @@ use Rattle.cs_parse.proofs.joining.PartLaws.{nothing_behind, part_refused, part_
 header_first : (bytes : List ℕ) → part_at [] bytes ≡ (shape_at bytes >>= headed [])
 header_first bytes = part_by [] bytes None refl
 
-section_fronts_refused_first : (bytes : List ℕ) (why : ParseRefusal) → 0 < length bytes → shape_at bytes ≡ Err why → read_on [] bytes ≡ sections_reached [] bytes (Some why)
+section_fronts_refused_first : (bytes : List ℕ) (why : ParseRefusal) → 0 < length bytes → shape_at bytes ≡ Err why
+    → read_on [] bytes ≡ sections_reached [] bytes (Some why)
 section_fronts_refused_first [] why some e = absurd (omega arith)
-section_fronts_refused_first (byte ∷ bytes) why some e = part_refused [] byte bytes why (header_first (byte ∷ bytes) ∙ ap (λ r. r >>= headed []) e)
+section_fronts_refused_first (byte ∷ bytes) why some e =
+    part_refused [] byte bytes why (header_first (byte ∷ bytes) ∙ ap (λ r. r >>= headed []) e)
 
-pub next_refused : (old : List Section) (bytes : List ℕ) (why : ParseRefusal) → AreBytes bytes → 0 < length bytes → shape_at bytes ≡ Err why → NextSection old old bytes bytes (Some why)
+pub next_refused : (old : List Section) (bytes : List ℕ) (why : ParseRefusal) → AreBytes bytes → 0 < length bytes
+    → shape_at bytes ≡ Err why → NextSection old old bytes bytes (Some why)
 next_refused old bytes why fits some e = record {
   sections = [];
   added = sym (append-nil old);
@@ -36,12 +40,16 @@ abbrev alone : Shape → List Change → List Section
 alone shape changes = record { shape = shape; changes = changes } ∷ []
 
 -- behind its changes no section goes on where none of them is stopped at
-section_read : (shape : Shape) (changes : List Change) (rest : List ℕ) (why : Option ParseRefusal) → AreBytes rest → (why ≡ None → ends_section rest ≡ true) → behind_front (alone shape []) changes rest why ≡ sections_reached (alone shape changes) rest why
+section_read : (shape : Shape) (changes : List Change) (rest : List ℕ) (why : Option ParseRefusal) → AreBytes rest
+    → (why ≡ None → ends_section rest ≡ true) → behind_front (alone shape []) changes rest why
+    ≡ sections_reached (alone shape changes) rest why
 section_read shape changes rest None fits over = sections_apart (alone shape changes) rest fits (over refl)
 section_read shape changes rest (Some why) fits over = refl
 
-pub next_read : (old new : List Section) (bytes rest after : List ℕ) (shape : Shape) (changes : List Change) (why : Option ParseRefusal) → AreBytes bytes → shape_at bytes ≡ Ok (shape, rest)
-    → changes ≡ (changes_front shape.flags rest).items → after ≡ (changes_front shape.flags rest).rest → why ≡ (changes_front shape.flags rest).why
+pub next_read : (old new : List Section) (bytes rest after : List ℕ) (shape : Shape) (changes : List Change)
+    (why : Option ParseRefusal) → AreBytes bytes → shape_at bytes ≡ Ok (shape, rest)
+    → changes ≡ (changes_front shape.flags rest).items → after ≡ (changes_front shape.flags rest).rest → why
+    ≡ (changes_front shape.flags rest).why
     → new ≡ old ++ alone shape changes → NextSection old new bytes after why
 next_read old new bytes rest after shape changes why fits read are is reason added =
     let first : List Section × List ℕ = (alone shape [], rest) in
@@ -49,14 +57,18 @@ next_read old new bytes rest after shape changes why fits read are is reason add
     let fits_rest = part_rest_fits [] bytes first fits part in
     let f = changes_front shape.flags rest in
     let less = part_shorter [] bytes first fits part in
-    let over : why ≡ None → ends_section after ≡ true = λ none. ap ends_section is ∙ changes_over shape.flags rest fits_rest (sym reason ∙ none) in
+    let over : why ≡ None → ends_section after ≡ true = λ none. ap ends_section is
+    ∙ changes_over shape.flags rest fits_rest (sym reason ∙ none) in
     let after_fits = subst (λ w. AreBytes w) (sym is) (front_fits shape.flags rest fits_rest) in
     let parts : behind_front (alone shape []) f.items f.rest f.why ≡ behind_front (alone shape []) changes after why =
-    ap (λ cs. behind_front (alone shape []) cs f.rest f.why) (sym are) ∙ ap (λ w. behind_front (alone shape []) changes w f.why) (sym is) ∙ ap (behind_front (alone shape []) changes after) (sym reason) in
+    ap (λ cs. behind_front (alone shape []) cs f.rest f.why) (sym are)
+    ∙ ap (λ w. behind_front (alone shape []) changes w f.why) (sym is)
+    ∙ ap (behind_front (alone shape []) changes after) (sym reason) in
     record {
       sections = alone shape changes;
       added = added;
-      read = part_read [] bytes first fits part ∙ front_parts_changes_parts (alone shape []) shape.flags rest refl fits_rest ∙ parts ∙ section_read shape changes after why after_fits over;
+      read = part_read [] bytes first fits part ∙ front_parts_changes_parts (alone shape []) shape.flags rest refl
+          fits_rest ∙ parts ∙ section_read shape changes after why after_fits over;
       shorter = λ none. omega (arith, less, front_shorter shape.flags rest fits_rest, ap length is);
       fits = after_fits;
     }
@@ -71,24 +83,31 @@ pub record Along (sections : List Section) (rest : List ℕ) (bytes : List ℕ) 
 pub along_start : (bytes : List ℕ) → AreBytes bytes → Along [] bytes bytes
 along_start bytes fits = record { fits = fits; read = refl }
 
-pub along_goes : (old new : List Section) (rest after bytes : List ℕ) (why : Option ParseRefusal) → is_some why ≡ false → NextSection old new rest after why → Along old rest bytes → Along new after bytes
+pub along_goes : (old new : List Section) (rest after bytes : List ℕ) (why : Option ParseRefusal) → is_some why ≡ false
+    → NextSection old new rest after why → Along old rest bytes → Along new after bytes
 along_goes old new rest after bytes (Some why) none next along = absurd cc
 along_goes old new rest after bytes None none next along = record {
   fits = next.fits;
   read =
       ap (λ s. prefixed s (read_on [] after)) next.added
-      ∙ ap (λ s. record { sections = s; rest = (read_on [] after).rest; why = (read_on [] after).why }) (append_assoc old next.sections (read_on [] after).sections)
+      ∙ ap (λ s. record { sections = s; rest = (read_on [] after).rest; why = (read_on [] after).why })
+      (append_assoc old next.sections (read_on [] after).sections)
       ∙ ap (prefixed old) (sym next.read)
       ∙ along.read;
 }
 
-pub along_stops : (old new : List Section) (rest after bytes : List ℕ) (why : Option ParseRefusal) → is_some why ≡ true → NextSection old new rest after why → Along old rest bytes → read_on [] bytes ≡ record { sections = new; rest = after; why = why }
+pub along_stops : (old new : List Section) (rest after bytes : List ℕ) (why : Option ParseRefusal) → is_some why ≡ true
+    → NextSection old new rest after why → Along old rest bytes → read_on [] bytes
+    ≡ record { sections = new; rest = after; why = why }
 along_stops old new rest after bytes None some next along = absurd cc
 along_stops old new rest after bytes (Some why) some next along =
-    sym along.read ∙ ap (prefixed old) next.read ∙ ap (λ s. record { sections = s; rest = after; why = Some why }) (sym next.added)
+    sym along.read ∙ ap (prefixed old) next.read ∙ ap (λ s. record { sections = s; rest = after; why = Some why })
+    (sym next.added)
 
-pub along_ends : (sections : List Section) (rest bytes : List ℕ) → length rest ≡ 0 → Along sections rest bytes → read_on [] bytes ≡ record { sections = sections; rest = rest; why = None }
+pub along_ends : (sections : List Section) (rest bytes : List ℕ) → length rest ≡ 0 → Along sections rest bytes
+    → read_on [] bytes ≡ record { sections = sections; rest = rest; why = None }
 along_ends sections rest bytes empty along =
     let nil = nil_from_length rest empty in
     sym along.read ∙ ap (λ w. prefixed sections (read_on [] w)) nil ∙ ap (prefixed sections) (nothing_behind [])
-    ∙ ap (λ s. record { sections = s; rest = []; why = None }) (append-nil sections) ∙ ap (λ w. record { sections = sections; rest = w; why = None }) (sym nil)
+    ∙ ap (λ s. record { sections = s; rest = []; why = None }) (append-nil sections)
+    ∙ ap (λ w. record { sections = sections; rest = w; why = None }) (sym nil)

@@ -1,5 +1,7 @@
 -- Reading a text part by part gives what reading it whole gives.
-use Rattle.std.proofs.Common.{◌≡◌, ℕ, zero, suc, ◌<◌, ◌≤◌, ◌⊎◌, inl, inr, Bool, true, false, cond, List, [], ◌∷◌, ◌++◌, length, Option, Some, None, Result, Ok, Err, refl, sym, ap, subst, ◌∙◌, append_assoc, arith}
+use Rattle.std.proofs.Common.{◌≡◌, ℕ, zero, suc, ◌<◌, ◌≤◌, ◌⊎◌, inl, inr, Bool, true, false, cond, List, [], ◌∷◌, ◌++◌}
+use Rattle.std.proofs.Common.{length, Option, Some, None, Result, Ok, Err, refl, sym, ap, subst, ◌∙◌, append_assoc}
+use Rattle.std.proofs.Common.{arith}
 use Rattle.std.proofs.lemmas.Bool.{cases_Bool, ne_eqb, false≢true}
 use Rattle.std.proofs.lemmas.List.{append-nil, nil_from_length, length-append}
 use Rattle.cs_model.specs.declared.shape.Shape.{Shape}
@@ -10,7 +12,8 @@ use Rattle.cs_model.specs.Changeset.{IsSection}
 use Rattle.cs_model.specs.Text.{SpellsChange, SpellsSection}
 use Rattle.cs_parse.specs.declared.fault.FaultKind.TheVariants.{Truncated}
 use Rattle.cs_parse.specs.declared.stop.ParseRefusal.{ParseRefusal}
-use Rattle.cs_parse.specs.Reading.{◌>>=◌, many_at, change_at, ends_section, changes_at, shape_at, section_at, is_empty, sections_at, whole_answer, fault_of}
+use Rattle.cs_parse.specs.Reading.{◌>>=◌, many_at, change_at, ends_section, changes_at, shape_at, section_at, is_empty}
+use Rattle.cs_parse.specs.Reading.{sections_at, whole_answer, fault_of}
 use Rattle.cs_parse.specs.Progress.{last_flags, with_changes, with_header, with_part, part_at, read_on, Reached}
 use Rattle.cs_parse.proofs.reading.Steps.{back_fits}
 use Rattle.cs_parse.proofs.reading.Loops.{with_front, then_others, loops_rest_of, many_more, many_done}
@@ -27,50 +30,68 @@ Read = Result (List Section × List ℕ) ParseRefusal
 -- ---- more fuel than bytes changes nothing
 
 -- two ways to go on that agree where something is read
-behind_same : {A : Type 0} (r : Result (A × List ℕ) ParseRefusal) (f g : A × List ℕ → Result (List A × List ℕ) ParseRefusal) → ((x : A × List ℕ) → r ≡ Ok x → f x ≡ g x) → (r >>= f) ≡ (r >>= g)
+behind_same : {A : Type 0} (r : Result (A × List ℕ) ParseRefusal)
+    (f g : A × List ℕ → Result (List A × List ℕ) ParseRefusal) → ((x : A × List ℕ) → r ≡ Ok x → f x ≡ g x) → (r >>= f)
+    ≡ (r >>= g)
 behind_same (Ok x) f g h = h x refl
 behind_same (Err e) f g h = refl
 
-module _ {A : Type 0} (over : List ℕ → Bool) (read : List ℕ → Result (A × List ℕ) ParseRefusal) (Spelling : List ℕ → A → Type 0) (IsItem : A → Type 0) (Follows : List ℕ → Type 0) (reader : IsReader over read Spelling IsItem Follows) where
-  left_less : (bytes : List ℕ) (x : A × List ℕ) → AreBytes bytes → read bytes ≡ Ok x → (length x.1 < length bytes) × AreBytes x.1
+module _ {A : Type 0} (over : List ℕ → Bool) (read : List ℕ → Result (A × List ℕ) ParseRefusal)
+    (Spelling : List ℕ → A → Type 0) (IsItem : A → Type 0) (Follows : List ℕ → Type 0)
+    (reader : IsReader over read Spelling IsItem Follows) where
+  left_less : (bytes : List ℕ) (x : A × List ℕ) → AreBytes bytes → read bytes ≡ Ok x → (length x.1 < length bytes)
+      × AreBytes x.1
   left_less bytes x fits e =
-      let t = (reader.takes bytes x fits e).0 in
-      (omega (arith, ap length t.parts, length-append t.text x.1, reader.long t.text x.0 t.spelled), back_fits bytes t.text x.1 t.parts fits)
+      let t = (reader.takes bytes x fits e).0 in (
+        omega (arith, ap length t.parts, length-append t.text x.1, reader.long t.text x.0 t.spelled),
+        back_fits bytes t.text x.1 t.parts fits,
+      )
 
   none_left : (n m : ℕ) (bytes : List ℕ) → over bytes ≡ true → many_at over read n bytes ≡ many_at over read m bytes
   none_left n m bytes ended = many_done over read n bytes (inl ended) ∙ sym (many_done over read m bytes (inl ended))
 
-  enough : (n m : ℕ) (bytes : List ℕ) → AreBytes bytes → length bytes ≤ n → length bytes ≤ m → many_at over read n bytes ≡ many_at over read m bytes
+  enough : (n m : ℕ) (bytes : List ℕ) → AreBytes bytes → length bytes ≤ n → length bytes ≤ m → many_at over read n bytes
+      ≡ many_at over read m bytes
   enough zero m bytes fits a b = none_left zero m bytes (ap over (nil_from_length bytes (omega arith)) ∙ reader.at_end)
-  enough (suc n) zero bytes fits a b = none_left (suc n) zero bytes (ap over (nil_from_length bytes (omega arith)) ∙ reader.at_end)
-  enough (suc n) (suc m) bytes fits a b = elim (cases_Bool (over bytes)) as (λ w. many_at over read (suc n) bytes ≡ many_at over read (suc m) bytes) [
-    | inl ended ↦ none_left (suc n) (suc m) bytes ended
-    | inr more ↦
-        let each : (x : A × List ℕ) → read bytes ≡ Ok x → loops_rest_of over read n x ≡ loops_rest_of over read m x = λ x e.
-        let l = left_less bytes x fits e in
-        ap (then_others x.0) (enough n m x.1 l.1 (omega (arith, l.0)) (omega (arith, l.0))) in
-        many_more over read n bytes more ∙ behind_same (read bytes) (loops_rest_of over read n) (loops_rest_of over read m) each ∙ sym (many_more over read m bytes more)
-  ]
+  enough (suc n) zero bytes fits a b =
+      none_left (suc n) zero bytes (ap over (nil_from_length bytes (omega arith)) ∙ reader.at_end)
+  enough (suc n) (suc m) bytes fits a b =
+      elim (cases_Bool (over bytes)) as (λ w. many_at over read (suc n) bytes ≡ many_at over read (suc m) bytes) [
+        | inl ended ↦ none_left (suc n) (suc m) bytes ended
+        | inr more ↦
+            let each : (x : A × List ℕ) → read bytes ≡ Ok x → loops_rest_of over read n x
+            ≡ loops_rest_of over read m x =
+            λ x e.
+            let l = left_less bytes x fits e in
+            ap (then_others x.0) (enough n m x.1 l.1 (omega (arith, l.0)) (omega (arith, l.0))) in
+            many_more over read n bytes more
+            ∙ behind_same (read bytes) (loops_rest_of over read n) (loops_rest_of over read m) each
+            ∙ sym (many_more over read m bytes more)
+      ]
 
   -- the first item, and then all others
   abbrev others_by : A × List ℕ → Result (List A × List ℕ) ParseRefusal
   others_by x = then_others x.0 (many_at over read (length x.1) x.1)
 
-  many_step : (bytes : List ℕ) → AreBytes bytes → over bytes ≡ false → many_at over read (length bytes) bytes ≡ (read bytes >>= others_by)
+  many_step : (bytes : List ℕ) → AreBytes bytes → over bytes ≡ false → many_at over read (length bytes) bytes
+      ≡ (read bytes >>= others_by)
   many_step [] fits more = absurd (false≢true (sym more ∙ reader.at_end))
   many_step (byte ∷ rest) fits more =
       let bytes = byte ∷ rest in
       let each : (x : A × List ℕ) → read bytes ≡ Ok x → loops_rest_of over read (length rest) x ≡ others_by x = λ x e.
       let l = left_less bytes x fits e in
       ap (then_others x.0) (enough (length rest) (length x.1) x.1 l.1 (omega (arith, l.0)) (omega arith)) in
-      many_more over read (length rest) bytes more ∙ behind_same (read bytes) (loops_rest_of over read (length rest)) others_by each
+      many_more over read (length rest) bytes more ∙ behind_same (read bytes) (loops_rest_of over read (length rest))
+      others_by each
 
 abbrev changes_others : List ℕ → Change × List ℕ → Result (List Change × List ℕ) ParseRefusal
 changes_others flags change = then_others change.0 (changes_at flags change.1)
 
-changes_step : (flags bytes : List ℕ) → AreBytes bytes → ends_section bytes ≡ false → changes_at flags bytes ≡ (change_at flags bytes >>= changes_others flags)
+changes_step : (flags bytes : List ℕ) → AreBytes bytes → ends_section bytes ≡ false → changes_at flags bytes
+    ≡ (change_at flags bytes >>= changes_others flags)
 unfolding changes_at
-changes_step flags bytes fits more = many_step ends_section (change_at flags) SpellsChange (IsChangeBy flags) IsAny (change_reader flags) bytes fits more
+changes_step flags bytes fits more =
+    many_step ends_section (change_at flags) SpellsChange (IsChangeBy flags) IsAny (change_reader flags) bytes fits more
 
 parts_answer_changes_over : (flags bytes : List ℕ) → ends_section bytes ≡ true → changes_at flags bytes ≡ Ok ([], bytes)
 unfolding changes_at
@@ -79,9 +100,11 @@ parts_answer_changes_over flags bytes ended = many_done ends_section (change_at 
 abbrev sections_others : Section × List ℕ → Read
 sections_others section = then_others section.0 (sections_at section.1)
 
-sections_step : (bytes : List ℕ) → AreBytes bytes → is_empty bytes ≡ false → sections_at bytes ≡ (section_at bytes >>= sections_others)
+sections_step : (bytes : List ℕ) → AreBytes bytes → is_empty bytes ≡ false → sections_at bytes
+    ≡ (section_at bytes >>= sections_others)
 unfolding sections_at
-sections_step bytes fits more = many_step is_empty section_at SpellsSection IsSection CanFollow section_reader bytes fits more
+sections_step bytes fits more = many_step is_empty section_at SpellsSection IsSection CanFollow section_reader bytes
+    fits more
 
 sections_over : sections_at [] ≡ Ok ([], [])
 unfolding sections_at
@@ -117,31 +140,37 @@ go_part part = go_on part.0 part.1
 abbrev with_new : List Section → Shape × List ℕ → Read
 with_new sections shape = Ok (sections ++ record { shape = shape.0; changes = [] } ∷ [], shape.1)
 
-parts_answer_regroup : (front : List Section) (first : Section) (read : Read) → with_front front (then_others first read) ≡ with_front (front ++ first ∷ []) read
+parts_answer_regroup : (front : List Section) (first : Section) (read : Read)
+    → with_front front (then_others first read) ≡ with_front (front ++ first ∷ []) read
 parts_answer_regroup front first (Ok x) = ap (λ xs. Ok (xs, x.1)) (simp append_assoc)
 parts_answer_regroup front first (Err e) = refl
 
 -- behind a header's changes
 new_section : (sections : List Section) (shape : Shape) (changes : Result (List Change × List ℕ) ParseRefusal)
-    → with_front sections ((changes >>= sectioned shape) >>= sections_others) ≡ (changes >>= parts_answer_behind_changes (sections ++ record { shape = shape; changes = [] } ∷ []))
+    → with_front sections ((changes >>= sectioned shape) >>= sections_others)
+    ≡ (changes >>= parts_answer_behind_changes (sections ++ record { shape = shape; changes = [] } ∷ []))
 new_section sections shape (Ok x) =
     parts_answer_regroup sections (record { shape = shape; changes = x.0 }) (sections_at x.1)
     ∙ ap (λ s. with_front s (sections_at x.1)) (sym (with_last sections (record { shape = shape; changes = [] }) x.0))
 new_section sections shape (Err e) = refl
 
-behind_header : (sections : List Section) (shape : Result (Shape × List ℕ) ParseRefusal) → with_front sections ((shape >>= changes_behind) >>= sections_others) ≡ ((shape >>= with_new sections) >>= go_part)
+behind_header : (sections : List Section) (shape : Result (Shape × List ℕ) ParseRefusal)
+    → with_front sections ((shape >>= changes_behind) >>= sections_others) ≡ ((shape >>= with_new sections) >>= go_part)
 behind_header sections (Ok x) =
     let new : Section = record { shape = x.0; changes = [] } in
-    new_section sections x.0 (changes_at x.0.flags x.1) ∙ ap (λ o. go_by (sections ++ new ∷ []) o x.1) (sym (last_of sections new))
+    new_section sections x.0 (changes_at x.0.flags x.1)
+    ∙ ap (λ o. go_by (sections ++ new ∷ []) o x.1) (sym (last_of sections new))
 behind_header sections (Err e) = refl
 
 section_by : (bytes : List ℕ) → section_at bytes ≡ (shape_at bytes >>= changes_behind)
 unfolding section_at
 section_by bytes = refl
 
-header_step : (sections : List Section) (bytes : List ℕ) → AreBytes bytes → is_empty bytes ≡ false → with_front sections (sections_at bytes) ≡ (with_header sections bytes >>= go_part)
+header_step : (sections : List Section) (bytes : List ℕ) → AreBytes bytes → is_empty bytes ≡ false
+    → with_front sections (sections_at bytes) ≡ (with_header sections bytes >>= go_part)
 header_step sections bytes fits more =
-    ap (with_front sections) (sections_step bytes fits more ∙ ap (λ r. r >>= sections_others) (section_by bytes)) ∙ behind_header sections (shape_at bytes)
+    ap (with_front sections) (sections_step bytes fits more ∙ ap (λ r. r >>= sections_others) (section_by bytes))
+    ∙ behind_header sections (shape_at bytes)
 
 -- ---- a change
 
@@ -149,34 +178,44 @@ abbrev with_one : List Section → Change × List ℕ → Read
 with_one sections change = Ok (with_changes sections (change.0 ∷ []), change.1)
 
 change_and_more : (sections : List Section) (change : Change) (changes : Result (List Change × List ℕ) ParseRefusal)
-    → (then_others change changes >>= parts_answer_behind_changes sections) ≡ (changes >>= parts_answer_behind_changes (with_changes sections (change ∷ [])))
+    → (then_others change changes >>= parts_answer_behind_changes sections)
+    ≡ (changes >>= parts_answer_behind_changes (with_changes sections (change ∷ [])))
 change_and_more sections change (Ok x) = ap (λ s. with_front s (sections_at x.1)) (sym (with_both sections change x.0))
 change_and_more sections change (Err e) = refl
 
-behind_change : (sections : List Section) (flags : List ℕ) → last_flags sections ≡ Some flags → (change : Result (Change × List ℕ) ParseRefusal)
-    → ((change >>= changes_others flags) >>= parts_answer_behind_changes sections) ≡ ((change >>= with_one sections) >>= go_part)
+behind_change : (sections : List Section) (flags : List ℕ) → last_flags sections ≡ Some flags
+    → (change : Result (Change × List ℕ) ParseRefusal)
+    → ((change >>= changes_others flags) >>= parts_answer_behind_changes sections)
+    ≡ ((change >>= with_one sections) >>= go_part)
 behind_change sections flags last (Ok x) =
     let new = with_changes sections (x.0 ∷ []) in
-    change_and_more sections x.0 (changes_at flags x.1) ∙ ap (λ o. go_by new o x.1) (sym (last_same sections (x.0 ∷ []) ∙ last))
+    change_and_more sections x.0 (changes_at flags x.1)
+    ∙ ap (λ o. go_by new o x.1) (sym (last_same sections (x.0 ∷ []) ∙ last))
 behind_change sections flags last (Err e) = refl
 
 -- ---- a part
 
-part_step : (sections : List Section) (o : Option (List ℕ)) (bytes : List ℕ) → last_flags sections ≡ o → AreBytes bytes → is_empty bytes ≡ false → go_by sections o bytes ≡ (with_part sections o bytes >>= go_part)
+part_step : (sections : List Section) (o : Option (List ℕ)) (bytes : List ℕ) → last_flags sections ≡ o → AreBytes bytes
+    → is_empty bytes ≡ false → go_by sections o bytes ≡ (with_part sections o bytes >>= go_part)
 part_step sections None bytes last fits more = header_step sections bytes fits more
-part_step sections (Some flags) bytes last fits more = elim (cases_Bool (ends_section bytes)) as (λ w. go_by sections (Some flags) bytes ≡ (with_part sections (Some flags) bytes >>= go_part)) [
-  | inl ended ↦
-      ap (λ r. r >>= parts_answer_behind_changes sections) (parts_answer_changes_over flags bytes ended)
-      ∙ ap (λ s. with_front s (sections_at bytes)) (with_none sections)
-      ∙ header_step sections bytes fits more
-      ∙ ap (λ b. cond b (with_header sections bytes) (change_at flags bytes >>= with_one sections) >>= go_part) (sym ended)
-  | inr on ↦
-      ap (λ r. r >>= parts_answer_behind_changes sections) (changes_step flags bytes fits on)
-      ∙ behind_change sections flags last (change_at flags bytes)
-      ∙ ap (λ b. cond b (with_header sections bytes) (change_at flags bytes >>= with_one sections) >>= go_part) (sym on)
-]
+part_step sections (Some flags) bytes last fits more =
+    elim (cases_Bool (ends_section bytes)) as
+    (λ w. go_by sections (Some flags) bytes ≡ (with_part sections (Some flags) bytes >>= go_part)) [
+      | inl ended ↦
+          ap (λ r. r >>= parts_answer_behind_changes sections) (parts_answer_changes_over flags bytes ended)
+          ∙ ap (λ s. with_front s (sections_at bytes)) (with_none sections)
+          ∙ header_step sections bytes fits more
+          ∙ ap (λ b. cond b (with_header sections bytes) (change_at flags bytes >>= with_one sections) >>= go_part)
+          (sym ended)
+      | inr on ↦
+          ap (λ r. r >>= parts_answer_behind_changes sections) (changes_step flags bytes fits on)
+          ∙ behind_change sections flags last (change_at flags bytes)
+          ∙ ap (λ b. cond b (with_header sections bytes) (change_at flags bytes >>= with_one sections)
+          >>= go_part) (sym on)
+    ]
 
-go_step : (sections : List Section) (bytes : List ℕ) → AreBytes bytes → is_empty bytes ≡ false → go_on sections bytes ≡ (part_at sections bytes >>= go_part)
+go_step : (sections : List Section) (bytes : List ℕ) → AreBytes bytes → is_empty bytes ≡ false → go_on sections bytes
+    ≡ (part_at sections bytes >>= go_part)
 unfolding part_at
 go_step sections bytes fits more = part_step sections (last_flags sections) bytes refl fits more
 
@@ -190,7 +229,8 @@ go_nothing sections (Some flags) =
 -- ---- all parts
 
 -- a part is read from some bytes
-not_empty : (sections : List Section) (bytes : List ℕ) (part : List Section × List ℕ) → AreBytes bytes → part_at sections bytes ≡ Ok part → is_empty bytes ≡ false
+not_empty : (sections : List Section) (bytes : List ℕ) (part : List Section × List ℕ) → AreBytes bytes
+    → part_at sections bytes ≡ Ok part → is_empty bytes ≡ false
 not_empty sections bytes part fits e =
     let less = part_shorter sections bytes part fits e in
     ne_eqb (length bytes) 0 (λ none. absurd (omega (arith, less, none)))
@@ -198,11 +238,14 @@ not_empty sections bytes part fits e =
 abbrev IsAnswer : List Section → List ℕ → Reached → Type 0
 IsAnswer sections bytes reached = go_on sections bytes ≡ finished reached
 
-pub parts_answer : (sections : List Section) (bytes : List ℕ) → AreBytes bytes → go_on sections bytes ≡ finished (read_on sections bytes)
+pub parts_answer : (sections : List Section) (bytes : List ℕ) → AreBytes bytes → go_on sections bytes
+    ≡ finished (read_on sections bytes)
 parts_answer = read_induction IsAnswer (record {
   none = λ sections. go_nothing sections (last_flags sections);
-  refused = λ sections byte bytes why fits e. go_step sections (byte ∷ bytes) fits (some_bytes byte bytes) ∙ ap (λ r. r >>= go_part) e;
-  goes = λ sections bytes part fits e behind. go_step sections bytes fits (not_empty sections bytes part fits e) ∙ ap (λ r. r >>= go_part) e ∙ behind;
+  refused = λ sections byte bytes why fits e. go_step sections (byte ∷ bytes) fits (some_bytes byte bytes)
+      ∙ ap (λ r. r >>= go_part) e;
+  goes = λ sections bytes part fits e behind. go_step sections bytes fits (not_empty sections bytes part fits e)
+      ∙ ap (λ r. r >>= go_part) e ∙ behind;
 })
 
 none_in_front : (read : Read) → with_front [] read ≡ read
@@ -222,7 +265,8 @@ abbrev PartsAnswerRestIs : List Section → List ℕ → Reached → Type 0
 PartsAnswerRestIs sections bytes reached = is_empty reached.rest ≡ parts_answer_is_none reached.why
 
 -- bytes are left exactly where a part is refused
-pub rest_is : (sections : List Section) (bytes : List ℕ) → AreBytes bytes → is_empty (read_on sections bytes).rest ≡ parts_answer_is_none (read_on sections bytes).why
+pub rest_is : (sections : List Section) (bytes : List ℕ) → AreBytes bytes → is_empty (read_on sections bytes).rest
+    ≡ parts_answer_is_none (read_on sections bytes).why
 rest_is = read_induction PartsAnswerRestIs (record {
   none = λ sections. refl;
   refused = λ sections byte bytes why fits e. some_bytes byte bytes;
@@ -231,13 +275,21 @@ rest_is = read_induction PartsAnswerRestIs (record {
 
 -- ---- as code reads a text
 
-whole_by : (text : List ℕ) (sections : List Section) (rest : List ℕ) (why o : Option ParseRefusal) → AreBytes text → read_on [] text ≡ record { sections = sections; rest = rest; why = why } → why ≡ o → sections_at text ≡ finished_by sections rest o
-whole_by text sections rest why o fits read is = text_answer text fits ∙ ap finished read ∙ ap (finished_by sections rest) is
+whole_by : (text : List ℕ) (sections : List Section) (rest : List ℕ) (why o : Option ParseRefusal) → AreBytes text
+    → read_on [] text ≡ record { sections = sections; rest = rest; why = why } → why ≡ o → sections_at text
+    ≡ finished_by sections rest o
+whole_by text sections rest why o fits read is = text_answer text fits ∙ ap finished read
+    ∙ ap (finished_by sections rest) is
 
-pub whole_read : (text : List ℕ) (sections : List Section) (rest : List ℕ) (why : Option ParseRefusal) → AreBytes text → read_on [] text ≡ record { sections = sections; rest = rest; why = why } → why ≡ None
+pub whole_read : (text : List ℕ) (sections : List Section) (rest : List ℕ) (why : Option ParseRefusal) → AreBytes text
+    → read_on [] text ≡ record { sections = sections; rest = rest; why = why } → why ≡ None
     → whole_answer (length text) (sections_at text) ≡ Ok sections
-whole_read text sections rest why fits read none = ap (whole_answer (length text)) (whole_by text sections rest why None fits read none)
+whole_read text sections rest why fits read none =
+    ap (whole_answer (length text)) (whole_by text sections rest why None fits read none)
 
-pub whole_refused : (text : List ℕ) (sections : List Section) (rest : List ℕ) (why : Option ParseRefusal) (refusal : ParseRefusal) → AreBytes text → read_on [] text ≡ record { sections = sections; rest = rest; why = why } → why ≡ Some refusal
+pub whole_refused : (text : List ℕ) (sections : List Section) (rest : List ℕ) (why : Option ParseRefusal)
+    (refusal : ParseRefusal) → AreBytes text → read_on [] text ≡ record { sections = sections; rest = rest; why = why }
+    → why ≡ Some refusal
     → whole_answer (length text) (sections_at text) ≡ Err (fault_of (length text) Truncated refusal)
-whole_refused text sections rest why refusal fits read some = ap (whole_answer (length text)) (whole_by text sections rest why (Some refusal) fits read some)
+whole_refused text sections rest why refusal fits read some =
+    ap (whole_answer (length text)) (whole_by text sections rest why (Some refusal) fits read some)

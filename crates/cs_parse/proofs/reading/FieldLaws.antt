@@ -1,5 +1,6 @@
 -- Fields and records: what is read was spelled so, and what is spelled so is read.
-use Rattle.std.proofs.Common.{◌≡◌, ℕ, zero, suc, true, cond, eqb, ltb, List, [], ◌∷◌, ◌++◌, Some, None, Ok, refl, sym, ap, subst, ◌∙◌, append_assoc, arith}
+use Rattle.std.proofs.Common.{◌≡◌, ℕ, zero, suc, true, cond, eqb, ltb, List, [], ◌∷◌, ◌++◌, Some, None, Ok, refl, sym}
+use Rattle.std.proofs.Common.{ap, subst, ◌∙◌, append_assoc, arith}
 use Rattle.std.proofs.lemmas.Bool.{lt-ltb}
 use Rattle.cs_model.specs.declared.value.Value.TheVariants.{Integer, Text, Blob, Null}
 use Rattle.cs_model.specs.declared.value.Field.{Field}
@@ -75,70 +76,111 @@ follows (PairedWith (Is old)) (Is value) h = refl
 abbrev FieldReads : Rule → List ℕ → Field × List ℕ → Type 0
 FieldReads rule bytes x = Takes SpellsField bytes x × IsField x.0 × (meets rule x.0 ≡ true)
 
-pub typed_takes : (rule : Rule) (byte : ℕ) (rest : List ℕ) (x : Field × List ℕ) → AreBytes rest → type_refusal rule byte ≡ None → typed_at byte rest ≡ Ok x → FieldReads rule (byte ∷ rest) x
+pub typed_takes : (rule : Rule) (byte : ℕ) (rest : List ℕ) (x : Field × List ℕ) → AreBytes rest → type_refusal rule byte
+    ≡ None → typed_at byte rest ≡ Ok x → FieldReads rule (byte ∷ rest) x
 unfolding typed_at
 typed_takes rule zero rest x fits none e =
-    subst (λ (y : Field × List ℕ). FieldReads rule (0 ∷ rest) y) (ok_is (Undefined, rest) x e) (record { text = 0 ∷ []; parts = refl; spelled = refl }, tt, follows rule Undefined none)
+    subst (λ (y : Field × List ℕ). FieldReads rule (0 ∷ rest) y) (ok_is (Undefined, rest) x e)
+    (record { text = 0 ∷ []; parts = refl; spelled = refl }, tt, follows rule Undefined none)
 typed_takes rule (suc zero) rest x fits none e =
     let b = bind_ok (integer_at rest) (λ number. Ok (Is (Integer number.0), number.1)) x e in
     let t = integer_takes rest b.0 fits b.1 in
-    subst (λ (y : Field × List ℕ). FieldReads rule (1 ∷ rest) y) (ok_is (Is (Integer b.0.0), b.0.1) x b.2) (record { text = 1 ∷ t.0.text; parts = ap (λ w. 1 ∷ w) t.0.parts; spelled = ap (λ w. 1 ∷ w) t.0.spelled }, t.1, follows rule (Is (Integer b.0.0)) none)
+    subst (λ (y : Field × List ℕ). FieldReads rule (1 ∷ rest) y) (ok_is (Is (Integer b.0.0), b.0.1) x b.2) (
+      record { text = 1 ∷ t.0.text; parts = ap (λ w. 1 ∷ w) t.0.parts; spelled = ap (λ w. 1 ∷ w) t.0.spelled },
+      t.1,
+      follows rule (Is (Integer b.0.0)) none,
+    )
 typed_takes rule (suc (suc zero)) rest x fits none e = absurd cc
 typed_takes rule (suc (suc (suc zero))) rest x fits none e =
     let b = bind_ok (counted_at rest) (λ bytes. Ok (Is (Text bytes.0), bytes.1)) x e in
     let t = counted_takes rest b.0 b.1 in
-    subst (λ (y : Field × List ℕ). FieldReads rule (3 ∷ rest) y) (ok_is (Is (Text b.0.0), b.0.1) x b.2) (record { text = 3 ∷ t.0.text; parts = ap (λ w. 3 ∷ w) t.0.parts; spelled = (t.0.text, refl, t.0.spelled) }, t.1, follows rule (Is (Text b.0.0)) none)
+    subst (λ (y : Field × List ℕ). FieldReads rule (3 ∷ rest) y) (ok_is (Is (Text b.0.0), b.0.1) x b.2) (
+      record { text = 3 ∷ t.0.text; parts = ap (λ w. 3 ∷ w) t.0.parts; spelled = (t.0.text, refl, t.0.spelled) },
+      t.1,
+      follows rule (Is (Text b.0.0)) none,
+    )
 typed_takes rule (suc (suc (suc (suc zero)))) rest x fits none e =
     let b = bind_ok (counted_at rest) (λ bytes. Ok (Is (Blob bytes.0), bytes.1)) x e in
     let t = counted_takes rest b.0 b.1 in
-    subst (λ (y : Field × List ℕ). FieldReads rule (4 ∷ rest) y) (ok_is (Is (Blob b.0.0), b.0.1) x b.2) (record { text = 4 ∷ t.0.text; parts = ap (λ w. 4 ∷ w) t.0.parts; spelled = (t.0.text, refl, t.0.spelled) }, t.1, follows rule (Is (Blob b.0.0)) none)
+    subst (λ (y : Field × List ℕ). FieldReads rule (4 ∷ rest) y) (ok_is (Is (Blob b.0.0), b.0.1) x b.2) (
+      record { text = 4 ∷ t.0.text; parts = ap (λ w. 4 ∷ w) t.0.parts; spelled = (t.0.text, refl, t.0.spelled) },
+      t.1,
+      follows rule (Is (Blob b.0.0)) none,
+    )
 typed_takes rule (suc (suc (suc (suc (suc zero))))) rest x fits none e =
-    subst (λ (y : Field × List ℕ). FieldReads rule (5 ∷ rest) y) (ok_is (Is Null, rest) x e) (record { text = 5 ∷ []; parts = refl; spelled = refl }, tt, follows rule (Is Null) none)
+    subst (λ (y : Field × List ℕ). FieldReads rule (5 ∷ rest) y) (ok_is (Is Null, rest) x e)
+    (record { text = 5 ∷ []; parts = refl; spelled = refl }, tt, follows rule (Is Null) none)
 typed_takes rule (suc (suc (suc (suc (suc (suc byte)))))) rest x fits none e =
-    let large : ltb 5 (suc (suc (suc (suc (suc (suc byte)))))) ≡ true = lt-ltb 5 (suc (suc (suc (suc (suc (suc byte)))))) (omega arith) in
-    let refused : Some BadType ≡ None = sym (ap (λ b. cond b (Some BadType) (cond (eqb (suc (suc (suc (suc (suc (suc byte)))))) 2) (Some Real) (rule_refusal rule (suc (suc (suc (suc (suc (suc byte))))))))) large) ∙ none in
+    let large : ltb 5 (suc (suc (suc (suc (suc (suc byte)))))) ≡ true =
+    lt-ltb 5 (suc (suc (suc (suc (suc (suc byte)))))) (omega arith) in
+    let refused : Some BadType ≡ None =
+    sym (ap (λ b. cond b (Some BadType)
+    (cond (eqb (suc (suc (suc (suc (suc (suc byte)))))) 2) (Some Real)
+    (rule_refusal rule (suc (suc (suc (suc (suc (suc byte))))))))) large) ∙ none in
     absurd cc
 
-pub field_takes : (rule : Rule) (bytes : List ℕ) (x : Field × List ℕ) → AreBytes bytes → field_at rule bytes ≡ Ok x → FieldReads rule bytes x
+pub field_takes : (rule : Rule) (bytes : List ℕ) (x : Field × List ℕ) → AreBytes bytes → field_at rule bytes ≡ Ok x
+    → FieldReads rule bytes x
 unfolding field_at
 field_takes rule [] x fits e = absurd cc
 field_takes rule (byte ∷ rest) x fits e =
     let u = unless_ok (type_refusal rule byte) rest (typed_at byte rest) x e in
     typed_takes rule byte rest x (λ i. fits (suc i)) u.0 u.1
 
-field_by : (rule : Rule) (field : Field) (bytes rest : List ℕ) → meets rule field ≡ true → typed_at (type_byte field) bytes ≡ Ok (field, rest) → field_at rule (type_byte field ∷ bytes) ≡ Ok (field, rest)
+field_by : (rule : Rule) (field : Field) (bytes rest : List ℕ) → meets rule field ≡ true
+    → typed_at (type_byte field) bytes ≡ Ok (field, rest) → field_at rule (type_byte field ∷ bytes) ≡ Ok (field, rest)
 unfolding field_at
-field_by rule field bytes rest h read = ap (λ o. unless_refused o bytes (typed_at (type_byte field) bytes)) (not_refused rule field h) ∙ read
+field_by rule field bytes rest h read =
+    ap (λ o. unless_refused o bytes (typed_at (type_byte field) bytes)) (not_refused rule field h) ∙ read
 
 -- what stands behind the type byte
-pub typed_again : (field : Field) (text rest : List ℕ) → SpellsField text field → IsField field → (back : List ℕ) × (text ≡ type_byte field ∷ back) × (typed_at (type_byte field) (back ++ rest) ≡ Ok (field, rest))
+pub typed_again : (field : Field) (text rest : List ℕ) → SpellsField text field → IsField field → (back : List ℕ)
+    × (text ≡ type_byte field ∷ back) × (typed_at (type_byte field) (back ++ rest) ≡ Ok (field, rest))
 unfolding typed_at
 typed_again Undefined text rest h valid = ([], h, refl)
-typed_again (Is (Integer number)) text rest h valid = (_, h, ap (λ r. r >>= λ n. Ok (Is (Integer n.0), n.1)) (integer_again number rest valid))
-typed_again (Is (Text bytes)) text rest h valid = (h.0, h.1, ap (λ r. r >>= λ b. Ok (Is (Text b.0), b.1)) (counted_again h.0 bytes rest h.2 valid))
-typed_again (Is (Blob bytes)) text rest h valid = (h.0, h.1, ap (λ r. r >>= λ b. Ok (Is (Blob b.0), b.1)) (counted_again h.0 bytes rest h.2 valid))
+typed_again (Is (Integer number)) text rest h valid =
+    (_, h, ap (λ r. r >>= λ n. Ok (Is (Integer n.0), n.1)) (integer_again number rest valid))
+typed_again (Is (Text bytes)) text rest h valid =
+    (h.0, h.1, ap (λ r. r >>= λ b. Ok (Is (Text b.0), b.1)) (counted_again h.0 bytes rest h.2 valid))
+typed_again (Is (Blob bytes)) text rest h valid =
+    (h.0, h.1, ap (λ r. r >>= λ b. Ok (Is (Blob b.0), b.1)) (counted_again h.0 bytes rest h.2 valid))
 typed_again (Is Null) text rest h valid = ([], h, refl)
 
-pub field_again : (rule : Rule) (text : List ℕ) (field : Field) (rest : List ℕ) → SpellsField text field → IsField field → meets rule field ≡ true → field_at rule (text ++ rest) ≡ Ok (field, rest)
+pub field_again : (rule : Rule) (text : List ℕ) (field : Field) (rest : List ℕ) → SpellsField text field → IsField field
+    → meets rule field ≡ true → field_at rule (text ++ rest) ≡ Ok (field, rest)
 field_again rule text field rest h valid follows_it =
     let t = typed_again field text rest h valid in
     ap (λ w. field_at rule (w ++ rest)) t.1 ∙ field_by rule field (t.0 ++ rest) rest follows_it t.2
 
 -- ---- records
 
-pub record_takes : (rules : List Rule) (bytes : List ℕ) (x : List Field × List ℕ) → AreBytes bytes → record_at rules bytes ≡ Ok x → Takes (SpellsEach SpellsField) bytes x × Obeys rules x.0
+pub record_takes : (rules : List Rule) (bytes : List ℕ) (x : List Field × List ℕ) → AreBytes bytes
+    → record_at rules bytes ≡ Ok x → Takes (SpellsEach SpellsField) bytes x × Obeys rules x.0
 unfolding record_at
-record_takes [] bytes x fits e = subst (λ (y : List Field × List ℕ). Takes (SpellsEach SpellsField) bytes y × Obeys [] y.0) (ok_is ([], bytes) x e) (record { text = []; parts = refl; spelled = refl }, tt)
+record_takes [] bytes x fits e =
+    subst (λ (y : List Field × List ℕ). Takes (SpellsEach SpellsField) bytes y × Obeys [] y.0) (ok_is ([], bytes) x e)
+    (record { text = []; parts = refl; spelled = refl }, tt)
 record_takes (rule ∷ rules) bytes x fits e =
-    let a = bind_ok (field_at rule bytes) (λ field. record_at rules field.1 >>= λ fields. Ok (field.0 ∷ fields.0, fields.1)) x e in
+    let a = bind_ok (field_at rule bytes)
+    (λ field. record_at rules field.1 >>= λ fields. Ok (field.0 ∷ fields.0, fields.1)) x e in
     let b = bind_ok (record_at rules a.0.1) (λ fields. Ok (a.0.0 ∷ fields.0, fields.1)) x a.2 in
     let first = field_takes rule bytes a.0 fits a.1 in
     let others = record_takes rules a.0.1 b.0 (back_fits bytes first.0.text a.0.1 first.0.parts fits) b.1 in
-    let whole : bytes ≡ (first.0.text ++ others.0.text) ++ b.0.1 = first.0.parts ∙ ap (λ w. first.0.text ++ w) others.0.parts ∙ sym (append_assoc first.0.text others.0.text b.0.1) in
-    subst (λ (y : List Field × List ℕ). Takes (SpellsEach SpellsField) bytes y × Obeys (rule ∷ rules) y.0) (ok_is (a.0.0 ∷ b.0.0, b.0.1) x b.2)
-    (record { text = first.0.text ++ others.0.text; parts = whole; spelled = (first.0.text, others.0.text, refl, first.0.spelled, others.0.spelled) }, (first.1, first.2, others.1))
+    let whole : bytes ≡ (first.0.text ++ others.0.text) ++ b.0.1 =
+    first.0.parts ∙ ap (λ w. first.0.text ++ w) others.0.parts
+    ∙ sym (append_assoc first.0.text others.0.text b.0.1) in
+    subst (λ (y : List Field × List ℕ). Takes (SpellsEach SpellsField) bytes y × Obeys (rule ∷ rules) y.0)
+    (ok_is (a.0.0 ∷ b.0.0, b.0.1) x b.2) (
+      record {
+        text = first.0.text ++ others.0.text;
+        parts = whole;
+        spelled = (first.0.text, others.0.text, refl, first.0.spelled, others.0.spelled);
+      },
+      (first.1, first.2, others.1),
+    )
 
-pub record_again : (rules : List Rule) (text : List ℕ) (fields : List Field) (rest : List ℕ) → SpellsEach SpellsField text fields → Obeys rules fields → record_at rules (text ++ rest) ≡ Ok (fields, rest)
+pub record_again : (rules : List Rule) (text : List ℕ) (fields : List Field) (rest : List ℕ)
+    → SpellsEach SpellsField text fields → Obeys rules fields → record_at rules (text ++ rest) ≡ Ok (fields, rest)
 unfolding record_at
 record_again [] text [] rest h valid = ap (λ w. done ([], w ++ rest)) h
 record_again [] text (field ∷ fields) rest h valid = absurd valid

@@ -1,5 +1,6 @@
 -- Headers: what is read was spelled so, and what is spelled so is read.
-use Rattle.std.proofs.Common.{◌≡◌, ℕ, suc, ◌≤◌, inl, inr, Bool, true, false, cond, ltb, List, [], ◌∷◌, ◌++◌, length, take, drop, Result, Ok, Err, refl, sym, ap, subst, ◌∙◌, append_assoc, arith}
+use Rattle.std.proofs.Common.{◌≡◌, ℕ, suc, ◌≤◌, inl, inr, Bool, true, false, cond, ltb, List, [], ◌∷◌, ◌++◌, length}
+use Rattle.std.proofs.Common.{take, drop, Result, Ok, Err, refl, sym, ap, subst, ◌∙◌, append_assoc, arith}
 use Rattle.std.specs.Prelude.{nat_lt}
 use Rattle.std.specs.List.{list_any}
 use Rattle.std.proofs.lemmas.Bool.{ltb-false, le-ltb}
@@ -26,19 +27,24 @@ pub flags_take : (count : ℕ) (bytes : List ℕ) (x : List ℕ × List ℕ) →
 unfolding flags_at
 flags_take count bytes x e =
     let front = take count bytes in
-    let g = guard_ok (ltb (length bytes) count) Short (cond (any_key front) (Ok (front, drop count bytes)) (refuse NoKey (drop count bytes))) x e in
+    let g = guard_ok (ltb (length bytes) count) Short
+    (cond (any_key front) (Ok (front, drop count bytes)) (refuse NoKey (drop count bytes))) x e in
     let long : count ≤ length bytes = ltb-false _ _ g.0 in
-    elim (steps_chosen (any_key front) (Ok (front, drop count bytes)) (refuse NoKey (drop count bytes)) (Ok x) g.1) as (λ w. HasKey count bytes x) [
-      | inl key ↦ subst (λ (y : List ℕ × List ℕ). HasKey count bytes y) (ok_is (front, drop count bytes) x key.1) (sym (take-append-drop count bytes), omega (arith, length-take count bytes), key.0)
+    elim (steps_chosen (any_key front) (Ok (front, drop count bytes)) (refuse NoKey (drop count bytes)) (Ok x) g.1) as
+    (λ w. HasKey count bytes x) [
+      | inl key ↦ subst (λ (y : List ℕ × List ℕ). HasKey count bytes y) (ok_is (front, drop count bytes) x key.1)
+          (sym (take-append-drop count bytes), omega (arith, length-take count bytes), key.0)
       | inr other ↦
           let none : Err (Bad (suc (length (drop count bytes))) NoKey) ≡ done x = other.1 in
           absurd cc
     ]
 
-pub flags_again : (flags rest : List ℕ) → any_key flags ≡ true → flags_at (length flags) (flags ++ rest) ≡ Ok (flags, rest)
+pub flags_again : (flags rest : List ℕ) → any_key flags ≡ true → flags_at (length flags) (flags ++ rest)
+    ≡ Ok (flags, rest)
 unfolding flags_at
 flags_again flags rest key =
-    let long : ltb (length (flags ++ rest)) (length flags) ≡ false = le-ltb _ _ (omega (arith, length-append flags rest)) in
+    let long : ltb (length (flags ++ rest)) (length flags) ≡ false =
+    le-ltb _ _ (omega (arith, length-append flags rest)) in
     rw (long, take_at flags rest (length flags) refl, drop_at flags rest (length flags) refl, key) refl
 
 abbrev shaped : List ℕ → List ℕ × List ℕ → Result (Shape × List ℕ) ParseRefusal
@@ -53,7 +59,8 @@ HeaderTextOf text shape = SpellsHeader (84 ∷ text) shape
 joined_header : (a b c d : List ℕ) → (((a ++ b) ++ c) ++ 0 ∷ []) ++ d ≡ a ++ (b ++ (c ++ 0 ∷ d))
 joined_header a b c d = simp append_assoc
 
-pub header_takes : (bytes : List ℕ) (x : Shape × List ℕ) → header_at bytes ≡ Ok x → Takes HeaderTextOf bytes x × IsShape x.0
+pub header_takes : (bytes : List ℕ) (x : Shape × List ℕ) → header_at bytes ≡ Ok x → Takes HeaderTextOf bytes x
+    × IsShape x.0
 unfolding header_at
 header_takes bytes x e =
     let a = bind_ok (columns_at bytes) (λ count. flags_at count.0 count.1 >>= named_by) x e in
@@ -64,18 +71,32 @@ header_takes bytes x e =
     let t2 = name_takes b.0.1 c.0 c.1 in
     let count = t0.0.text in
     let text = ((count ++ b.0.0) ++ c.0.0) ++ 0 ∷ [] in
-    let whole : bytes ≡ text ++ c.0.1 = t0.0.parts ∙ ap (λ w. count ++ w) (t1.0 ∙ ap (λ w. b.0.0 ++ w) t2.0.0) ∙ sym (joined_header count b.0.0 c.0.0 c.0.1) in
+    let whole : bytes ≡ text ++ c.0.1 = t0.0.parts ∙ ap (λ w. count ++ w) (t1.0 ∙ ap (λ w. b.0.0 ++ w) t2.0.0)
+    ∙ sym (joined_header count b.0.0 c.0.0 c.0.1) in
     let shape : Shape = record { name = c.0.0; flags = b.0.0 } in
-    let spelled : HeaderTextOf text shape = record { count = count; parts = refl; is_count = subst (λ n. IsVarint count n) (sym t1.1) t0.0.spelled } in
-    let valid : IsShape shape = record { columns = omega (arith, t1.1, t0.1); not_more_columns = omega (arith, t1.1, t0.2); key = t1.2; named = t2.1; not_longer = t2.0.1; no_zero = t2.0.2 } in
-    subst (λ (y : Shape × List ℕ). Takes HeaderTextOf bytes y × IsShape y.0) (ok_is (shape, c.0.1) x c.2) (record { text = text; parts = whole; spelled = spelled }, valid)
+    let spelled : HeaderTextOf text shape =
+    record { count = count; parts = refl; is_count = subst (λ n. IsVarint count n) (sym t1.1) t0.0.spelled } in
+    let valid : IsShape shape =
+    record {
+      columns = omega (arith, t1.1, t0.1);
+      not_more_columns = omega (arith, t1.1, t0.2);
+      key = t1.2;
+      named = t2.1;
+      not_longer = t2.0.1;
+      no_zero = t2.0.2;
+    } in
+    subst (λ (y : Shape × List ℕ). Takes HeaderTextOf bytes y × IsShape y.0) (ok_is (shape, c.0.1) x c.2)
+    (record { text = text; parts = whole; spelled = spelled }, valid)
 
-pub header_again : (header : List ℕ) (shape : Shape) (rest : List ℕ) → (h : SpellsHeader header shape) → IsShape shape → header_at ((h.count ++ shape.flags ++ shape.name ++ 0 ∷ []) ++ rest) ≡ Ok (shape, rest)
+pub header_again : (header : List ℕ) (shape : Shape) (rest : List ℕ) → (h : SpellsHeader header shape) → IsShape shape
+    → header_at ((h.count ++ shape.flags ++ shape.name ++ 0 ∷ []) ++ rest) ≡ Ok (shape, rest)
 unfolding header_at
 header_again header shape rest h valid =
     let flags = shape.flags in
     let name = shape.name in
     ap header_at (joined_header h.count flags name rest)
-    ∙ ap (λ r. r >>= λ count. flags_at count.0 count.1 >>= named_by) (columns_again h.count (length flags) (flags ++ (name ++ 0 ∷ rest)) h.is_count valid.columns valid.not_more_columns)
+    ∙ ap (λ r. r >>= λ count. flags_at count.0 count.1 >>= named_by)
+    (columns_again h.count (length flags) (flags ++ (name ++ 0 ∷ rest)) h.is_count valid.columns
+    valid.not_more_columns)
     ∙ ap (λ r. r >>= named_by) (flags_again flags (name ++ 0 ∷ rest) valid.key)
     ∙ ap (λ r. r >>= shaped flags) (name_again name rest valid.named valid.not_longer valid.no_zero)

@@ -1,5 +1,6 @@
 -- The faults of numbers, lengths and the values behind them are exact.
-use Rattle.std.proofs.Common.{◌≡◌, ℕ, zero, suc, ◌+◌, ◌-◌, ◌*◌, ◌<◌, ◌≤◌, inl, inr, true, false, cond, ltb, List, [], ◌∷◌, ◌++◌, length, Some, None, Ok, Err, refl, sym, ap, subst, ◌∙◌, arith}
+use Rattle.std.proofs.Common.{◌≡◌, ℕ, zero, suc, ◌+◌, ◌-◌, ◌*◌, ◌<◌, ◌≤◌, inl, inr, true, false, cond, ltb, List, []}
+use Rattle.std.proofs.Common.{◌∷◌, ◌++◌, length, Some, None, Ok, Err, refl, sym, ap, subst, ◌∙◌, arith}
 use Rattle.std.proofs.lemmas.Bool.{lt-ltb, le-ltb, ltb-true, ltb-false, ne_eqb, and_from}
 use Rattle.cs_model.specs.Varint.{EndsVarint, IsVarint}
 use Rattle.cs_parse.specs.declared.fault.FaultKind.{FaultKind}
@@ -28,23 +29,30 @@ one_byte byte small = and_from (ltb byte 256) true (lt-ltb byte 256 small) refl
 factor_more : (left : ℕ) → factor (suc left) ≡ 128
 factor_more left = ap (λ b. cond b 256 128) (ne_eqb (suc left) 0 (λ e. absurd cc))
 
-within_err : (least most : ℕ) (kind k : FaultKind) (n l : ℕ) (rest : List ℕ) → number_within least most kind n rest ≡ Err (Bad l k) → (outside least most n ≡ true) × (l ≡ suc (length rest)) × (kind ≡ k)
-within_err least most kind k n l rest e = elim (steps_chosen (outside least most n) (Err (Bad (suc (length rest)) kind)) (Ok (n, rest)) (Err (Bad l k)) e) as (λ w. (outside least most n ≡ true) × (l ≡ suc (length rest)) × (kind ≡ k)) [
-  | inl h ↦
-      let len : l ≡ suc (length rest) = cc h.1 in
-      let same : kind ≡ k = cc h.1 in
-      (h.0, len, same)
-  | inr h ↦ absurd (cc h.1)
-]
+within_err : (least most : ℕ) (kind k : FaultKind) (n l : ℕ) (rest : List ℕ) → number_within least most kind n rest
+    ≡ Err (Bad l k) → (outside least most n ≡ true) × (l ≡ suc (length rest)) × (kind ≡ k)
+within_err least most kind k n l rest e =
+    elim (steps_chosen (outside least most n) (Err (Bad (suc (length rest)) kind)) (Ok (n, rest)) (Err (Bad l k)) e) as
+    (λ w. (outside least most n ≡ true) × (l ≡ suc (length rest)) × (kind ≡ k)) [
+      | inl h ↦
+          let len : l ≡ suc (length rest) = cc h.1 in
+          let same : kind ≡ k = cc h.1 in
+          (h.0, len, same)
+      | inr h ↦ absurd (cc h.1)
+    ]
 
-within_refused : (least most : ℕ) (kind : FaultKind) (n : ℕ) (rest : List ℕ) → outside least most n ≡ true → number_within least most kind n rest ≡ Err (Bad (suc (length rest)) kind)
+within_refused : (least most : ℕ) (kind : FaultKind) (n : ℕ) (rest : List ℕ) → outside least most n ≡ true
+    → number_within least most kind n rest ≡ Err (Bad (suc (length rest)) kind)
 within_refused least most kind n rest out = ap (λ b. cond b (Err (Bad (suc (length rest)) kind)) (Ok (n, rest))) out
 
-within_whole : (least most : ℕ) (kind : FaultKind) (n : ℕ) (rest : List ℕ) → number_within least most kind n rest ≡ Err Short → ⊥
-within_whole least most kind n rest e = elim (steps_chosen (outside least most n) (Err (Bad (suc (length rest)) kind)) (Ok (n, rest)) (Err Short) e) as (λ w. ⊥) [
-  | inl h ↦ absurd (cc h.1)
-  | inr h ↦ absurd (cc h.1)
-]
+within_whole : (least most : ℕ) (kind : FaultKind) (n : ℕ) (rest : List ℕ) → number_within least most kind n rest
+    ≡ Err Short → ⊥
+within_whole least most kind n rest e =
+    elim (steps_chosen (outside least most n) (Err (Bad (suc (length rest)) kind)) (Ok (n, rest)) (Err Short) e) as
+    (λ w. ⊥) [
+      | inl h ↦ absurd (cc h.1)
+      | inr h ↦ absurd (cc h.1)
+    ]
 
 -- ---- a number within limits
 
@@ -54,102 +62,176 @@ NumberText least most left high text n = EndsVarint left high text n × (least �
 abbrev Digits : ℕ → (ℕ → ℕ → BytePlace) → ℕ → ℕ → List ℕ → BytePlace → Type 0
 Digits most P left high front place = (l : ℕ) × (h : ℕ) × Unfinished most left high front l h × (place ≡ P l h)
 
-number_begins : (least most left high : ℕ) → least ≤ 1 → 1 ≤ most → factor left * high ≤ most → Completes (NumberText least most left high) []
-number_begins least most zero zero low top room = record { more = least ∷ []; bytes = one_byte least (omega arith); value = 256 * 0 + least; whole = ((refl, refl), omega arith, omega arith) }
+number_begins : (least most left high : ℕ) → least ≤ 1 → 1 ≤ most → factor left * high ≤ most
+    → Completes (NumberText least most left high) []
+number_begins least most zero zero low top room =
+    record {
+      more = least ∷ [];
+      bytes = one_byte least (omega arith);
+      value = 256 * 0
+          + least;
+      whole = ((refl, refl), omega arith, omega arith);
+    }
 number_begins least most zero (suc high) low top room =
     let k : 256 * suc high ≤ most = room in
     record { more = 0 ∷ []; bytes = refl; value = 256 * suc high + 0; whole = ((refl, refl), omega arith, omega arith) }
-number_begins least most (suc left) zero low top room = record { more = least ∷ []; bytes = one_byte least (omega arith); value = 128 * 0 + least; whole = (inl (omega arith, refl, refl), omega arith, omega arith) }
+number_begins least most (suc left) zero low top room =
+    record {
+      more = least ∷ [];
+      bytes = one_byte least (omega arith);
+      value = 128 * 0
+          + least;
+      whole = (inl (omega arith, refl, refl), omega arith, omega arith);
+    }
 number_begins least most (suc left) (suc high) low top room =
     let k : 128 * suc high ≤ most = subst (λ f. f * suc high ≤ most) (factor_more left) room in
-    record { more = 0 ∷ []; bytes = refl; value = 128 * suc high + 0; whole = (inl (omega arith, refl, refl), omega arith, omega arith) }
+    record {
+      more = 0 ∷ [];
+      bytes = refl;
+      value = 128 * suc high
+          + 0;
+      whole = (inl (omega arith, refl, refl), omega arith, omega arith);
+    }
 
 module _ (least most : ℕ) (kind : FaultKind) (P : ℕ → ℕ → BytePlace) (low : least ≤ 1) (top : 1 ≤ most)
-    (table : (left high byte : ℕ) → wrong (P left high) byte ≡ cond (leaves_none least most left high byte) (Some kind) None) where
-  wrong_is : (left high byte : ℕ) (k : FaultKind) → leaves_none least most left high byte ≡ true → kind ≡ k → wrong (P left high) byte ≡ Some k
-  wrong_is left high byte k none same = table left high byte ∙ ap (λ b. cond b (Some kind) None) none ∙ ap (λ f. Some f) same
+    (table : (left high byte : ℕ) → wrong (P left high) byte
+    ≡ cond (leaves_none least most left high byte) (Some kind) None) where
+  wrong_is : (left high byte : ℕ) (k : FaultKind) → leaves_none least most left high byte ≡ true → kind ≡ k
+      → wrong (P left high) byte ≡ Some k
+  wrong_is left high byte k none same = table left high byte ∙ ap (λ b. cond b (Some kind) None) none
+      ∙ ap (λ f. Some f) same
 
   -- the number stops at its first byte
-  here : (left high byte l : ℕ) (rest : List ℕ) (k : FaultKind) → factor left * high ≤ most → leaves_none least most left high byte ≡ true → l ≡ suc (length rest) → kind ≡ k
+  here : (left high byte l : ℕ) (rest : List ℕ) (k : FaultKind) → factor left * high ≤ most
+      → leaves_none least most left high byte ≡ true → l ≡ suc (length rest) → kind ≡ k
       → ExactStopped (NumberText least most left high) (Digits most P left high) (byte ∷ rest) l k
   here left high byte l rest k room none len same =
-      record { front = []; byte = byte; back = rest; place = P left high; parts = refl; left_is = len; alive = number_begins least most left high low top room; stands = (left, high, (refl, refl), refl); is_wrong = wrong_is left high byte k none same }
+      record {
+        front = [];
+        byte = byte;
+        back = rest;
+        place = P left high;
+        parts = refl;
+        left_is = len;
+        alive = number_begins least most left high low top room;
+        stands = (left, high, (refl, refl), refl);
+        is_wrong =
+            wrong_is left high byte k none same;
+      }
 
-  number_stops : (left high : ℕ) (bytes : List ℕ) (l : ℕ) (k : FaultKind) → factor left * high ≤ most → number_at least most kind left high bytes ≡ Err (Bad l k)
+  number_stops : (left high : ℕ) (bytes : List ℕ) (l : ℕ) (k : FaultKind) → factor left * high ≤ most
+      → number_at least most kind left high bytes ≡ Err (Bad l k)
       → ExactStopped (NumberText least most left high) (Digits most P left high) bytes l k
   number_stops left high [] l k room e =
       let none : Err Short ≡ Err (Bad l k) = sym (number_short least most kind left high) ∙ e in
       absurd cc
   number_stops zero high (byte ∷ rest) l k room e =
-      let w = within_err least most kind k (256 * high + byte) l rest (sym (number_last least most kind high byte rest) ∙ e) in
+      let w = within_err least most kind k (256 * high + byte) l rest
+      (sym (number_last least most kind high byte rest) ∙ e) in
       here zero high byte l rest k room w.0 w.1 w.2
   number_stops (suc left) high (byte ∷ rest) l k room e =
       let next = 128 * high + (byte - 128) in
-      elim (steps_chosen (ltb byte 128) (number_within least most kind (128 * high + byte) rest) (goes least most kind left high byte rest) (Err (Bad l k)) (sym (number_more least most kind left high byte rest) ∙ e)) as (λ w. ExactStopped (NumberText least most (suc left) high) (Digits most P (suc left) high) (byte ∷ rest) l k) [
+      elim (steps_chosen (ltb byte 128) (number_within least most kind (128 * high + byte) rest)
+      (goes least most kind left high byte rest) (Err (Bad l k))
+      (sym (number_more least most kind left high byte rest) ∙ e)) as
+      (λ w. ExactStopped (NumberText least most (suc left) high) (Digits most P (suc left) high) (byte ∷ rest) l k) [
         | inl last ↦
             let w = within_err least most kind k (128 * high + byte) l rest last.1 in
-            let none = ap (λ b. cond b (outside least most (128 * high + byte)) (ltb most (factor left * next))) last.0 ∙ w.0 in
+            let none = ap (λ b. cond b (outside least most (128 * high + byte)) (ltb most (factor left * next))) last.0
+            ∙ w.0 in
             here (suc left) high byte l rest k room none w.1 w.2
-        | inr more ↦ elim (steps_chosen (ltb most (factor left * next)) (Err (Bad (suc (length rest)) kind)) (number_at least most kind left next rest) (Err (Bad l k)) more.1) as (λ w. ExactStopped (NumberText least most (suc left) high) (Digits most P (suc left) high) (byte ∷ rest) l k) [
-          | inl over ↦
-              let len : l ≡ suc (length rest) = cc over.1 in
-              let same : kind ≡ k = cc over.1 in
-              let none = ap (λ b. cond b (outside least most (128 * high + byte)) (ltb most (factor left * next))) more.0 ∙ over.0 in
-              here (suc left) high byte l rest k room none len same
-          | inr on ↦
-              let under = ltb-false most (factor left * next) on.0 in
-              let large = ltb-false byte 128 more.0 in
-              let s = number_stops left next rest l k under on.1 in
-              let c = s.alive in
-              record {
-                front = byte ∷ s.front;
-                byte = s.byte;
-                back = s.back;
-                place = s.place;
-                parts = ap (λ w. byte ∷ w) s.parts;
-                left_is = s.left_is;
-                alive = record { more = c.more; bytes = c.bytes; value = c.value; whole = (inr (large, c.whole.0), c.whole.1, c.whole.2) };
-                stands = (s.stands.0, s.stands.1, (large, under, s.stands.2), s.stands.3);
-                is_wrong = s.is_wrong;
-              }
-        ]
+        | inr more ↦ elim (steps_chosen (ltb most (factor left * next)) (Err (Bad (suc (length rest)) kind))
+            (number_at least most kind left next rest) (Err (Bad l k)) more.1) as
+            (λ w. ExactStopped (NumberText least most (suc left) high) (Digits most P (suc left) high) (byte ∷ rest) l
+            k) [
+              | inl over ↦
+                  let len : l ≡ suc (length rest) = cc over.1 in
+                  let same : kind ≡ k = cc over.1 in
+                  let none = ap (λ b. cond b (outside least most (128 * high + byte)) (ltb most (factor left * next)))
+                  more.0 ∙ over.0 in
+                  here (suc left) high byte l rest k room none len same
+              | inr on ↦
+                  let under = ltb-false most (factor left * next) on.0 in
+                  let large = ltb-false byte 128 more.0 in
+                  let s = number_stops left next rest l k under on.1 in
+                  let c = s.alive in
+                  record {
+                    front = byte ∷ s.front;
+                    byte = s.byte;
+                    back = s.back;
+                    place = s.place;
+                    parts = ap (λ w. byte ∷ w) s.parts;
+                    left_is = s.left_is;
+                    alive = record {
+                      more = c.more;
+                      bytes = c.bytes;
+                      value = c.value;
+                      whole = (inr (large, c.whole.0), c.whole.1, c.whole.2);
+                    };
+                    stands = (s.stands.0, s.stands.1, (large, under, s.stands.2), s.stands.3);
+                    is_wrong = s.is_wrong;
+                  }
+            ]
       ]
 
-  bad_here : (left high byte : ℕ) (k : FaultKind) (more : List ℕ) → leaves_none least most left high byte ≡ true → kind ≡ k → number_at least most kind left high (byte ∷ more) ≡ Err (Bad (suc (length more)) k)
-  bad_here zero high byte k more none same = number_last least most kind high byte more ∙ within_refused least most kind (256 * high + byte) more none ∙ ap (λ f. Err (Bad (suc (length more)) f)) same
+  bad_here : (left high byte : ℕ) (k : FaultKind) (more : List ℕ) → leaves_none least most left high byte ≡ true → kind
+      ≡ k → number_at least most kind left high (byte ∷ more) ≡ Err (Bad (suc (length more)) k)
+  bad_here zero high byte k more none same = number_last least most kind high byte more
+      ∙ within_refused least most kind (256 * high + byte) more none ∙ ap (λ f. Err (Bad (suc (length more)) f)) same
   bad_here (suc left) high byte k more none same =
       let next = 128 * high + (byte - 128) in
-      elim (steps_chosen (ltb byte 128) (outside least most (128 * high + byte)) (ltb most (factor left * next)) true none) as (λ w. number_at least most kind (suc left) high (byte ∷ more) ≡ Err (Bad (suc (length more)) k)) [
-        | inl last ↦ number_ends least most kind left high byte more (ltb-true byte 128 last.0) ∙ within_refused least most kind (128 * high + byte) more last.1 ∙ ap (λ f. Err (Bad (suc (length more)) f)) same
-        | inr on ↦ number_goes least most kind left high byte more (ltb-false byte 128 on.0) ∙ ap (λ b. cond b (Err (Bad (suc (length more)) kind)) (number_at least most kind left next more)) on.1 ∙ ap (λ f. Err (Bad (suc (length more)) f)) same
+      elim (steps_chosen (ltb byte 128) (outside least most (128 * high + byte)) (ltb most (factor left * next)) true
+      none) as (λ w. number_at least most kind (suc left) high (byte ∷ more) ≡ Err (Bad (suc (length more)) k)) [
+        | inl last ↦ number_ends least most kind left high byte more (ltb-true byte 128 last.0)
+            ∙ within_refused least most kind (128 * high + byte) more last.1
+            ∙ ap (λ f. Err (Bad (suc (length more)) f)) same
+        | inr on ↦ number_goes least most kind left high byte more (ltb-false byte 128 on.0)
+            ∙ ap (λ b. cond b (Err (Bad (suc (length more)) kind)) (number_at least most kind left next more)) on.1
+            ∙ ap (λ f. Err (Bad (suc (length more)) f)) same
       ]
 
-  number_places : (left high : ℕ) (front : List ℕ) (place : BytePlace) (byte : ℕ) (k : FaultKind) (more : List ℕ) → Digits most P left high front place → wrong place byte ≡ Some k
+  number_places : (left high : ℕ) (front : List ℕ) (place : BytePlace) (byte : ℕ) (k : FaultKind) (more : List ℕ)
+      → Digits most P left high front place → wrong place byte ≡ Some k
       → number_at least most kind left high (front ++ byte ∷ more) ≡ Err (Bad (suc (length more)) k)
   number_places left high [] place byte k more h w =
       let at : place ≡ P left high = h.3 ∙ ap (λ i. P i h.1) h.2.0 ∙ ap (λ i. P left i) h.2.1 in
-      let r = refused_is (leaves_none least most left high byte) kind k (sym (table left high byte) ∙ sym (ap (λ p. wrong p byte) at) ∙ w) in
+      let r = refused_is (leaves_none least most left high byte) kind k
+      (sym (table left high byte) ∙ sym (ap (λ p. wrong p byte) at) ∙ w) in
       bad_here left high byte k more r.0 r.1
   number_places zero high (first ∷ front) place byte k more h w = absurd h.2
   number_places (suc left) high (first ∷ front) place byte k more h w =
       let next = 128 * high + (first - 128) in
       number_goes least most kind left high first (front ++ byte ∷ more) h.2.0
-      ∙ ap (λ b. cond b (Err (Bad (suc (length (front ++ byte ∷ more))) kind)) (number_at least most kind left next (front ++ byte ∷ more))) (le-ltb most (factor left * next) h.2.1)
+      ∙ ap (λ b. cond b (Err (Bad (suc (length (front ++ byte ∷ more))) kind))
+      (number_at least most kind left next (front ++ byte ∷ more))) (le-ltb most (factor left * next) h.2.1)
       ∙ number_places left next front place byte k more (h.0, h.1, h.2.2, h.3) w
 
-  number_completes : (left high : ℕ) (bytes : List ℕ) → factor left * high ≤ most → number_at least most kind left high bytes ≡ Err Short → Completes (NumberText least most left high) bytes
+  number_completes : (left high : ℕ) (bytes : List ℕ) → factor left * high ≤ most
+      → number_at least most kind left high bytes ≡ Err Short → Completes (NumberText least most left high) bytes
   number_completes left high [] room e = number_begins least most left high low top room
-  number_completes zero high (byte ∷ rest) room e = absurd (within_whole least most kind (256 * high + byte) rest (sym (number_last least most kind high byte rest) ∙ e))
+  number_completes zero high (byte ∷ rest) room e =
+      absurd (within_whole least most kind (256 * high + byte) rest
+      (sym (number_last least most kind high byte rest) ∙ e))
   number_completes (suc left) high (byte ∷ rest) room e =
       let next = 128 * high + (byte - 128) in
-      elim (steps_chosen (ltb byte 128) (number_within least most kind (128 * high + byte) rest) (goes least most kind left high byte rest) (Err Short) (sym (number_more least most kind left high byte rest) ∙ e)) as (λ w. Completes (NumberText least most (suc left) high) (byte ∷ rest)) [
+      elim (steps_chosen (ltb byte 128) (number_within least most kind (128 * high + byte) rest)
+      (goes least most kind left high byte rest) (Err Short)
+      (sym (number_more least most kind left high byte rest) ∙ e)) as
+      (λ w. Completes (NumberText least most (suc left) high) (byte ∷ rest)) [
         | inl last ↦ absurd (within_whole least most kind (128 * high + byte) rest last.1)
-        | inr more ↦ elim (steps_chosen (ltb most (factor left * next)) (Err (Bad (suc (length rest)) kind)) (number_at least most kind left next rest) (Err Short) more.1) as (λ w. Completes (NumberText least most (suc left) high) (byte ∷ rest)) [
-          | inl over ↦ absurd (cc over.1)
-          | inr on ↦
-              let c = number_completes left next rest (ltb-false most (factor left * next) on.0) on.1 in
-              record { more = c.more; bytes = c.bytes; value = c.value; whole = (inr (ltb-false byte 128 more.0, c.whole.0), c.whole.1, c.whole.2) }
-        ]
+        | inr more ↦ elim (steps_chosen (ltb most (factor left * next)) (Err (Bad (suc (length rest)) kind))
+            (number_at least most kind left next rest) (Err Short) more.1) as
+            (λ w. Completes (NumberText least most (suc left) high) (byte ∷ rest)) [
+              | inl over ↦ absurd (cc over.1)
+              | inr on ↦
+                  let c = number_completes left next rest (ltb-false most (factor left * next) on.0) on.1 in
+                  record {
+                    more = c.more;
+                    bytes = c.bytes;
+                    value = c.value;
+                    whole = (inr (ltb-false byte 128 more.0, c.whole.0), c.whole.1, c.whole.2);
+                  }
+            ]
       ]
 
   number_exact : ExactReader (number_at least most kind 8 0) (NumberText least most 8 0) (Digits most P 8 0)

@@ -1,5 +1,7 @@
 -- What a call's definition says, once it is known what was found.
-use Rattle.std.proofs.Common.{◌≡◌, ◌⊎◌, inl, inr, ℕ, max, Bool, true, false, not, cond, ◌==◌, ◌||◌, ◌&&◌, ◌<◌, ◌≤◌, nat_lt, nat_le, filter, length, List, [], ◌∷◌, ◌++◌, Option, Some, None, Result, Ok, Err, IsOk, map, suc, if◌then◌else◌, slice_get, append-nil, refl, sym, ap, subst, ◌∙◌, arith}
+use Rattle.std.proofs.Common.{◌≡◌, ◌⊎◌, inl, inr, ℕ, max, Bool, true, false, not, cond, ◌==◌, ◌||◌, ◌&&◌, ◌<◌, ◌≤◌}
+use Rattle.std.proofs.Common.{nat_lt, nat_le, filter, length, List, [], ◌∷◌, ◌++◌, Option, Some, None, Result, Ok, Err}
+use Rattle.std.proofs.Common.{IsOk, map, suc, if◌then◌else◌, slice_get, append-nil, refl, sym, ap, subst, ◌∙◌, arith}
 use Rattle.std.proofs.lemmas.Option.{slice_get-map}
 use Rattle.std.specs.Option.{option_map, option_or}
 use Rattle.std.specs.List.{AllByRecursion}
@@ -16,7 +18,11 @@ use Rattle.rb_desk.specs.declared.refusal.DeskError.{DeskError}
 use Rattle.rb_desk.specs.declared.refusal.DeskError.TheVariants.{Memory}
 use Rattle.rb_desk.specs.Spans.{cut_spans, first_ready, is_out, how_many_out, is_out_as, out_as, raised, with_status}
 use Rattle.rb_desk.specs.Picture.{Picture, Subscription}
-use Rattle.rb_desk.specs.Calls.{subscribe, subscribed_picture, settled_span, prepare, next_place, delivery_from, delivered_picture, is_drained, none_ready, has_room, refused_call, reconnect, reconnected_by, reconnected_picture, unsubscribe, unsubscribed_by, unsubscribed_picture, take, delivered_from, delivered_span, ack, acked_by, acked_span, nack, nacked_by, nacked_span}
+use Rattle.rb_desk.specs.Calls.{subscribe, subscribed_picture, settled_span, prepare, next_place, delivery_from}
+use Rattle.rb_desk.specs.Calls.{delivered_picture, is_drained, none_ready, has_room, refused_call, reconnect}
+use Rattle.rb_desk.specs.Calls.{reconnected_by, reconnected_picture, unsubscribe, unsubscribed_by, unsubscribed_picture}
+use Rattle.rb_desk.specs.Calls.{take, delivered_from, delivered_span, ack, acked_by, acked_span, nack, nacked_by}
+use Rattle.rb_desk.specs.Calls.{nacked_span}
 use Rattle.rb_desk.specs.Shown.{shown, shown_sub, sub_held, sub_out_as, why_none}
 use Rattle.rb_desk.specs.Limits.{Limits}
 use Rattle.rb_desk.specs.Lanes.{Lane, spans_of, lane_held, lane_spans, is_none_left}
@@ -25,44 +31,67 @@ use Rattle.rb_desk.proofs.spans.LaneLaws.{lane_spans_is}
 use Rattle.rb_desk.specs.Answers.{DeskAnswers}
 
 -- a subscription that is kept is shown
-pub sub_shown : (batch front s : ℕ) (subs : List Sub) (sub : Sub) → slice_get subs s ≡ Some sub → slice_get (map (shown_sub batch front) subs) s ≡ Some (shown_sub batch front sub)
-sub_shown batch front s subs sub h = slice_get-map (shown_sub batch front) subs s ∙ ap (option_map (shown_sub batch front)) h
+pub sub_shown : (batch front s : ℕ) (subs : List Sub) (sub : Sub) → slice_get subs s ≡ Some sub
+    → slice_get (map (shown_sub batch front) subs) s ≡ Some (shown_sub batch front sub)
+sub_shown batch front s subs sub h = slice_get-map (shown_sub batch front) subs s
+    ∙ ap (option_map (shown_sub batch front)) h
 
 -- ---- calls of a subscription that was found
 
-pub nack_found : (p : Picture) (s link d : ℕ) (q : Subscription) → slice_get p.subscriptions s ≡ Some q → (link == q.link) ≡ true → nack p s link d ≡ nacked_span p s q (out_as d q.spans)
+pub nack_found : (p : Picture) (s link d : ℕ) (q : Subscription) → slice_get p.subscriptions s ≡ Some q
+    → (link == q.link) ≡ true → nack p s link d ≡ nacked_span p s q (out_as d q.spans)
 unfolding nack
-nack_found p s link d q h same = ap (nacked_by p s link d) h ∙ ap (λ t. cond (not t) (refused_call p refusal.StaleLink) (nacked_span p s q (out_as d q.spans))) same
+nack_found p s link d q h same = ap (nacked_by p s link d) h
+    ∙ ap (λ t. cond (not t) (refused_call p refusal.StaleLink) (nacked_span p s q (out_as d q.spans))) same
 
-pub ack_found : (p : Picture) (s link d cursor : ℕ) (q : Subscription) → slice_get p.subscriptions s ≡ Some q → (link == q.link) ≡ true → ack p s link d cursor ≡ acked_span p s q cursor (out_as d q.spans)
+pub ack_found : (p : Picture) (s link d cursor : ℕ) (q : Subscription) → slice_get p.subscriptions s ≡ Some q
+    → (link == q.link) ≡ true → ack p s link d cursor ≡ acked_span p s q cursor (out_as d q.spans)
 unfolding ack
-ack_found p s link d cursor q h same = ap (acked_by p s link d cursor) h ∙ ap (λ t. cond (not t) (refused_call p refusal.StaleLink) (acked_span p s q cursor (out_as d q.spans))) same
+ack_found p s link d cursor q h same = ap (acked_by p s link d cursor) h
+    ∙ ap (λ t. cond (not t) (refused_call p refusal.StaleLink) (acked_span p s q cursor (out_as d q.spans))) same
 
-pub take_found : (p : Picture) (s link cursor now : ℕ) (q : Subscription) → slice_get p.subscriptions s ≡ Some q → (link == q.link) ≡ true → q.closed ≡ false
-    → take p s link cursor now ≡ (if not (has_room p.limits.window q) then refused_call p refusal.WindowFull else delivered_span p s q cursor now (first_ready q.spans))
+pub take_found : (p : Picture) (s link cursor now : ℕ) (q : Subscription) → slice_get p.subscriptions s ≡ Some q
+    → (link == q.link) ≡ true → q.closed ≡ false
+    → take p s link cursor now
+    ≡ (if not (has_room p.limits.window q) then refused_call p refusal.WindowFull else delivered_span p s q cursor
+    now (first_ready q.spans))
 unfolding take
 take_found p s link cursor now q h same running =
     ap (delivered_from p s link cursor now) h
-    ∙ (λ i. cond (not (same i)) (refused_call p refusal.StaleLink) (cond (running i) (refused_call p refusal.Closed) (if not (has_room p.limits.window q) then refused_call p refusal.WindowFull else delivered_span p s q cursor now (first_ready q.spans))))
+    ∙ (λ i. cond (not (same i)) (refused_call p refusal.StaleLink)
+    (cond (running i) (refused_call p refusal.Closed)
+    (if not (has_room p.limits.window q) then refused_call p refusal.WindowFull else delivered_span p s q cursor now
+    (first_ready q.spans))))
 
-pub unsubscribe_found : (p : Picture) (s link : ℕ) (q : Subscription) → slice_get p.subscriptions s ≡ Some q → (link == q.link) ≡ true → q.closed ≡ false → unsubscribe p s link ≡ (Ok tt, unsubscribed_picture p s q)
+pub unsubscribe_found : (p : Picture) (s link : ℕ) (q : Subscription) → slice_get p.subscriptions s ≡ Some q
+    → (link == q.link) ≡ true → q.closed ≡ false → unsubscribe p s link ≡ (Ok tt, unsubscribed_picture p s q)
 unfolding unsubscribe
 unsubscribe_found p s link q h same running =
-    ap (unsubscribed_by p s link) h ∙ (λ i. cond (not (same i)) (refused_call p refusal.StaleLink) (cond (running i) (refused_call p refusal.Closed) (Ok tt, unsubscribed_picture p s q)))
+    ap (unsubscribed_by p s link) h
+    ∙ (λ i. cond (not (same i)) (refused_call p refusal.StaleLink)
+    (cond (running i) (refused_call p refusal.Closed) (Ok tt, unsubscribed_picture p s q)))
 
-pub reconnect_found : (p : Picture) (s cursor : ℕ) (q : Subscription) → slice_get p.subscriptions s ≡ Some q → q.closed ≡ false
-    → reconnect p s cursor ≡ (if nat_lt cursor q.floor || nat_lt q.offered cursor then refused_call p (refusal.BadCursor q.floor q.offered) else (Ok p.next_link, reconnected_picture p s q cursor (cut_spans p.limits.batch (suc cursor) p.front)))
+pub reconnect_found : (p : Picture) (s cursor : ℕ) (q : Subscription) → slice_get p.subscriptions s ≡ Some q → q.closed
+    ≡ false
+    → reconnect p s cursor ≡ (if nat_lt cursor q.floor
+    || nat_lt q.offered cursor then refused_call p (refusal.BadCursor q.floor q.offered) else
+    (Ok p.next_link, reconnected_picture p s q cursor (cut_spans p.limits.batch (suc cursor) p.front)))
 unfolding reconnect
 reconnect_found p s cursor q h running =
     ap (reconnected_by p s cursor) h
-    ∙ ap (λ t. cond t (refused_call p refusal.Closed) (if nat_lt cursor q.floor || nat_lt q.offered cursor then refused_call p (refusal.BadCursor q.floor q.offered) else (Ok p.next_link, reconnected_picture p s q cursor (cut_spans p.limits.batch (suc cursor) p.front)))) running
+    ∙ ap (λ t. cond t (refused_call p refusal.Closed)
+    (if nat_lt cursor q.floor || nat_lt q.offered cursor then refused_call p (refusal.BadCursor q.floor q.offered)
+    else (Ok p.next_link, reconnected_picture p s q cursor (cut_spans p.limits.batch (suc cursor) p.front))))
+    running
 
 -- ---- want of memory
 
-pub memory_answers : {A : Type 0} (result : Result A DeskError) (call : Result A DeskRefusal × Picture) (old new : Picture) → result ≡ Err Memory → IsOk call.0 → new ≡ old → DeskAnswers result call old new
+pub memory_answers : {A : Type 0} (result : Result A DeskError) (call : Result A DeskRefusal × Picture)
+    (old new : Picture) → result ≡ Err Memory → IsOk call.0 → new ≡ old → DeskAnswers result call old new
 memory_answers result call old new e ok same = subst (λ r. DeskAnswers r call old new) (sym e) (ok, same)
 
-pub ok_call : {A : Type 0} (call : Result A DeskRefusal × Picture) (answer : A) (new : Picture) → call ≡ (Ok answer, new) → IsOk call.0
+pub ok_call : {A : Type 0} (call : Result A DeskRefusal × Picture) (answer : A) (new : Picture) → call
+    ≡ (Ok answer, new) → IsOk call.0
 ok_call {A = A} call answer new e = subst (λ (c : Result A DeskRefusal × Picture). IsOk c.0) (sym e) refl
 
 -- ---- what is shown of a subscription
@@ -72,38 +101,51 @@ absurd_none {p} h = cc
 
 fresh_none_out : (d : ℕ) (spans : List Span) → AllByRecursion CutIsFresh spans → out_as d spans ≡ None
 fresh_none_out d [] h = refl
-fresh_none_out d (p ∷ rest) h = ap (λ status. cond (is_out_as d status) (Some p) (out_as d rest)) h.0 ∙ fresh_none_out d rest h.1
+fresh_none_out d (p ∷ rest) h = ap (λ status. cond (is_out_as d status) (Some p) (out_as d rest)) h.0
+    ∙ fresh_none_out d rest h.1
 
 call_or_none : {X : Type 0} (o : Option X) → option_or o None ≡ o
 call_or_none None = refl
 call_or_none (Some x) = refl
 
-out_shown_by : (batch front d : ℕ) (sub : Sub) (t : Bool) → out_as d (spans_of (cond t [] (lane_held batch front sub.lane))) ≡ cond t None (out_as d (spans_of sub.lane.held))
+out_shown_by : (batch front d : ℕ) (sub : Sub) (t : Bool)
+    → out_as d (spans_of (cond t [] (lane_held batch front sub.lane))) ≡ cond t None (out_as d (spans_of sub.lane.held))
 out_shown_by batch front d sub true = refl
 out_shown_by batch front d sub false =
-    ap (out_as d) (lane_spans_is batch front sub.lane) ∙ find-append (λ (p : Span). is_out_as d p.status) (spans_of sub.lane.held) (cut_spans batch sub.lane.next front)
-    ∙ ap (option_or (out_as d (spans_of sub.lane.held))) (fresh_none_out d (cut_spans batch sub.lane.next front) (cut_fresh batch sub.lane.next front)) ∙ call_or_none _
+    ap (out_as d) (lane_spans_is batch front sub.lane)
+    ∙ find-append (λ (p : Span). is_out_as d p.status) (spans_of sub.lane.held)
+    (cut_spans batch sub.lane.next front)
+    ∙ ap (option_or (out_as d (spans_of sub.lane.held)))
+    (fresh_none_out d (cut_spans batch sub.lane.next front) (cut_fresh batch sub.lane.next front)) ∙ call_or_none _
 
 -- the span that is out as a delivery is the one that is kept
 pub out_shown : (batch front d : ℕ) (sub : Sub) → out_as d (shown_sub batch front sub).spans ≡ sub_out_as d sub
 out_shown batch front d sub = out_shown_by batch front d sub sub.closed
 
-fresh_none_counted : (spans : List Span) → AllByRecursion CutIsFresh spans → filter (λ (p : Span). is_out p.status) spans ≡ []
+fresh_none_counted : (spans : List Span) → AllByRecursion CutIsFresh spans
+    → filter (λ (p : Span). is_out p.status) spans ≡ []
 fresh_none_counted [] h = refl
-fresh_none_counted (p ∷ rest) h = ap (λ status. cond (is_out status) (p ∷ filter (λ (p : Span). is_out p.status) rest) (filter (λ (p : Span). is_out p.status) rest)) h.0 ∙ fresh_none_counted rest h.1
+fresh_none_counted (p ∷ rest) h =
+    ap (λ status. cond (is_out status) (p ∷ filter (λ (p : Span). is_out p.status) rest)
+    (filter (λ (p : Span). is_out p.status) rest)) h.0 ∙ fresh_none_counted rest h.1
 
 -- those that are out are among those that are kept
-pub out_counted : (batch front : ℕ) (kept : Lane) → how_many_out (lane_spans batch front kept) ≡ how_many_out (spans_of kept.held)
+pub out_counted : (batch front : ℕ) (kept : Lane) → how_many_out (lane_spans batch front kept)
+    ≡ how_many_out (spans_of kept.held)
 out_counted batch front kept =
     ap how_many_out (lane_spans_is batch front kept)
-    ∙ ap length (filter-append (λ (p : Span). is_out p.status) (spans_of kept.held) (cut_spans batch kept.next front) ∙ ap (λ rest. filter (λ (p : Span). is_out p.status) (spans_of kept.held) ++ rest) (fresh_none_counted _ (cut_fresh batch kept.next front)) ∙ append-nil _)
+    ∙ ap length (filter-append (λ (p : Span). is_out p.status) (spans_of kept.held) (cut_spans batch kept.next front)
+    ∙ ap (λ rest. filter (λ (p : Span). is_out p.status) (spans_of kept.held) ++ rest)
+    (fresh_none_counted _ (cut_fresh batch kept.next front)) ∙ append-nil _)
 
-out_running_by : (t : Bool) (o : Option Span) (span : Span) → (if t then None else o) ≡ Some span → (t ≡ false) × (o ≡ Some span)
+out_running_by : (t : Bool) (o : Option Span) (span : Span) → (if t then None else o) ≡ Some span → (t ≡ false)
+    × (o ≡ Some span)
 out_running_by true o span h = absurd (absurd_none h)
 out_running_by false o span h = (refl, h)
 
 -- what is out is out of a subscription that isn't closed
-pub out_running : (d : ℕ) (sub : Sub) (span : Span) → sub_out_as d sub ≡ Some span → (sub.closed ≡ false) × (out_as d (spans_of sub.lane.held) ≡ Some span)
+pub out_running : (d : ℕ) (sub : Sub) (span : Span) → sub_out_as d sub ≡ Some span → (sub.closed ≡ false)
+    × (out_as d (spans_of sub.lane.held) ≡ Some span)
 out_running d sub span h = out_running_by sub.closed (out_as d (spans_of sub.lane.held)) span h
 
 -- ---- calls by what is kept
@@ -111,7 +153,8 @@ out_running d sub span h = out_running_by sub.closed (out_as d (spans_of sub.lan
 same_link : (a b : ℕ) → a ≡ b → (b == a) ≡ true
 same_link a b h = grind (arith, h)
 
-module _ (lim : Limits) (front : ℕ) (closing : Option ℕ) (clock next_link next_delivery : ℕ) (subs : List Sub) (s : ℕ) (sub : Sub) (here : slice_get subs s ≡ Some sub) where
+module _ (lim : Limits) (front : ℕ) (closing : Option ℕ) (clock next_link next_delivery : ℕ) (subs : List Sub) (s : ℕ)
+    (sub : Sub) (here : slice_get subs s ≡ Some sub) where
   abbrev old : Picture
   old = shown lim front closing clock next_link next_delivery subs
 
@@ -119,33 +162,51 @@ module _ (lim : Limits) (front : ℕ) (closing : Option ℕ) (clock next_link ne
   mine = shown_sub lim.batch front sub
 
   pub nack_kept : (link d : ℕ) → sub.link ≡ link → nack old s link d ≡ nacked_span old s mine (sub_out_as d sub)
-  nack_kept link d same = nack_found old s link d mine (sub_shown lim.batch front s subs sub here) (same_link _ _ same) ∙ ap (nacked_span old s mine) (out_shown lim.batch front d sub)
+  nack_kept link d same = nack_found old s link d mine (sub_shown lim.batch front s subs sub here) (same_link _ _ same)
+      ∙ ap (nacked_span old s mine) (out_shown lim.batch front d sub)
 
-  pub ack_kept : (link d cursor : ℕ) → sub.link ≡ link → ack old s link d cursor ≡ acked_span old s mine cursor (sub_out_as d sub)
-  ack_kept link d cursor same = ack_found old s link d cursor mine (sub_shown lim.batch front s subs sub here) (same_link _ _ same) ∙ ap (acked_span old s mine cursor) (out_shown lim.batch front d sub)
+  pub ack_kept : (link d cursor : ℕ) → sub.link ≡ link → ack old s link d cursor
+      ≡ acked_span old s mine cursor (sub_out_as d sub)
+  ack_kept link d cursor same =
+      ack_found old s link d cursor mine (sub_shown lim.batch front s subs sub here) (same_link _ _ same)
+      ∙ ap (acked_span old s mine cursor) (out_shown lim.batch front d sub)
 
-  pub ack_none : (link d cursor : ℕ) → sub.link ≡ link → sub_out_as d sub ≡ None → ack old s link d cursor ≡ refused_call old refusal.NotInFlight
+  pub ack_none : (link d cursor : ℕ) → sub.link ≡ link → sub_out_as d sub ≡ None → ack old s link d cursor
+      ≡ refused_call old refusal.NotInFlight
   ack_none link d cursor same none = ack_kept link d cursor same ∙ ap (acked_span old s mine cursor) none
 
-  pub ack_behind : (link d cursor : ℕ) → sub.link ≡ link → (span : Span) → sub_out_as d sub ≡ Some span → cursor < span.last → ack old s link d cursor ≡ refused_call old (refusal.NotAccepted cursor)
+  pub ack_behind : (link d cursor : ℕ) → sub.link ≡ link → (span : Span) → sub_out_as d sub ≡ Some span → cursor
+      < span.last → ack old s link d cursor ≡ refused_call old (refusal.NotAccepted cursor)
   ack_behind link d cursor same span out behind =
       ack_kept link d cursor same ∙ ap (acked_span old s mine cursor) out
-      ∙ ap (λ t. if t then refused_call old (refusal.NotAccepted cursor) else settled_span old s mine span.first (raised sub.lane.floor (with_status span.first Settled (spans_of (sub_held lim.batch front sub))))) (lt-ltb _ _ behind)
+      ∙ ap (λ t. if t then refused_call old (refusal.NotAccepted cursor) else settled_span old s mine span.first
+      (raised sub.lane.floor (with_status span.first Settled (spans_of (sub_held lim.batch front sub)))))
+      (lt-ltb _ _ behind)
 
   pub acked : (link d cursor : ℕ) → sub.link ≡ link → (span : Span) → sub_out_as d sub ≡ Some span → span.last ≤ cursor
-      → ack old s link d cursor ≡ settled_span old s mine span.first (raised sub.lane.floor (with_status span.first Settled (spans_of (sub_held lim.batch front sub))))
+      → ack old s link d cursor
+      ≡ settled_span old s mine span.first
+      (raised sub.lane.floor (with_status span.first Settled (spans_of (sub_held lim.batch front sub))))
   acked link d cursor same span out whole =
       ack_kept link d cursor same ∙ ap (acked_span old s mine cursor) out
-      ∙ ap (λ t. if t then refused_call old (refusal.NotAccepted cursor) else settled_span old s mine span.first (raised sub.lane.floor (with_status span.first Settled (spans_of (sub_held lim.batch front sub))))) (le-ltb _ _ whole)
+      ∙ ap (λ t. if t then refused_call old (refusal.NotAccepted cursor) else settled_span old s mine span.first
+      (raised sub.lane.floor (with_status span.first Settled (spans_of (sub_held lim.batch front sub)))))
+      (le-ltb _ _ whole)
 
   pub reconnect_kept : (cursor : ℕ) → sub.closed ≡ false
-      → reconnect old s cursor ≡ (if nat_lt cursor sub.lane.floor || nat_lt sub.offered cursor then refused_call old (refusal.BadCursor sub.lane.floor sub.offered) else (Ok next_link, reconnected_picture old s mine cursor (cut_spans lim.batch (suc cursor) front)))
+      → reconnect old s cursor ≡ (if nat_lt cursor sub.lane.floor
+      || nat_lt sub.offered cursor then refused_call old (refusal.BadCursor sub.lane.floor sub.offered) else
+      (Ok next_link, reconnected_picture old s mine cursor (cut_spans lim.batch (suc cursor) front)))
   reconnect_kept cursor running = reconnect_found old s cursor mine (sub_shown lim.batch front s subs sub here) running
 
-  pub reconnect_ok : (cursor : ℕ) → sub.closed ≡ false → sub.lane.floor ≤ cursor → cursor ≤ sub.offered → reconnect old s cursor ≡ (Ok next_link, reconnected_picture old s mine cursor (cut_spans lim.batch (suc cursor) front))
+  pub reconnect_ok : (cursor : ℕ) → sub.closed ≡ false → sub.lane.floor ≤ cursor → cursor ≤ sub.offered
+      → reconnect old s cursor
+      ≡ (Ok next_link, reconnected_picture old s mine cursor (cut_spans lim.batch (suc cursor) front))
   reconnect_ok cursor running reached offered =
       reconnect_kept cursor running
-      ∙ (λ i. cond (le-ltb _ _ reached i || le-ltb _ _ offered i) (refused_call old (refusal.BadCursor sub.lane.floor sub.offered)) (Ok next_link, reconnected_picture old s mine cursor (cut_spans lim.batch (suc cursor) front)))
+      ∙ (λ i. cond (le-ltb _ _ reached i || le-ltb _ _ offered i)
+      (refused_call old (refusal.BadCursor sub.lane.floor sub.offered))
+      (Ok next_link, reconnected_picture old s mine cursor (cut_spans lim.batch (suc cursor) front)))
 
   pub reconnect_bad : (cursor : ℕ) → sub.closed ≡ false
       → (cursor < sub.lane.floor) ⊎ ((sub.lane.floor ≤ cursor) × (sub.offered < cursor))
@@ -161,14 +222,19 @@ module _ (lim : Limits) (front : ℕ) (closing : Option ℕ) (clock next_link ne
       (refused_call old (refusal.BadCursor sub.lane.floor sub.offered))
       (Ok next_link, reconnected_picture old s mine cursor (cut_spans lim.batch (suc cursor) front)))
 
-  pub unsubscribe_kept : (link : ℕ) → sub.link ≡ link → sub.closed ≡ false → unsubscribe old s link ≡ (Ok tt, unsubscribed_picture old s mine)
-  unsubscribe_kept link same running = unsubscribe_found old s link mine (sub_shown lim.batch front s subs sub here) (same_link _ _ same) running
+  pub unsubscribe_kept : (link : ℕ) → sub.link ≡ link → sub.closed ≡ false → unsubscribe old s link
+      ≡ (Ok tt, unsubscribed_picture old s mine)
+  unsubscribe_kept link same running =
+      unsubscribe_found old s link mine (sub_shown lim.batch front s subs sub here) (same_link _ _ same) running
 
   pub take_kept : (link cursor now : ℕ) → sub.link ≡ link → sub.closed ≡ false
-      → take old s link cursor now ≡ (if not (nat_lt (how_many_out (spans_of sub.lane.held)) lim.window) then refused_call old refusal.WindowFull else delivered_span old s mine cursor now (first_ready (lane_spans lim.batch front sub.lane)))
+      → take old s link cursor now
+      ≡ (if not (nat_lt (how_many_out (spans_of sub.lane.held)) lim.window) then refused_call old refusal.WindowFull
+      else delivered_span old s mine cursor now (first_ready (lane_spans lim.batch front sub.lane)))
   take_kept link cursor now same running =
       take_found old s link cursor now mine (sub_shown lim.batch front s subs sub here) (same_link _ _ same) running
-      ∙ (λ i. if not (nat_lt (counted i) lim.window) then refused_call old refusal.WindowFull else delivered_span old s mine cursor now (first_ready (spans_of (held i))))
+      ∙ (λ i. if not (nat_lt (counted i) lim.window) then refused_call old refusal.WindowFull else delivered_span old s
+      mine cursor now (first_ready (spans_of (held i))))
     where
       held : sub_held lim.batch front sub ≡ lane_held lim.batch front sub.lane
       held = ap (λ t. cond t [] (lane_held lim.batch front sub.lane)) running
@@ -176,65 +242,93 @@ module _ (lim : Limits) (front : ℕ) (closing : Option ℕ) (clock next_link ne
       counted : how_many_out (spans_of (sub_held lim.batch front sub)) ≡ how_many_out (spans_of sub.lane.held)
       counted = ap (λ xs. how_many_out (spans_of xs)) held ∙ out_counted lim.batch front sub.lane
 
-  pub take_full : (link cursor now : ℕ) → sub.link ≡ link → sub.closed ≡ false → lim.window ≤ how_many_out (spans_of sub.lane.held) → take old s link cursor now ≡ refused_call old refusal.WindowFull
+  pub take_full : (link cursor now : ℕ) → sub.link ≡ link → sub.closed ≡ false → lim.window
+      ≤ how_many_out (spans_of sub.lane.held) → take old s link cursor now ≡ refused_call old refusal.WindowFull
   take_full link cursor now same running full =
       take_kept link cursor now same running
-      ∙ ap (λ t. if not t then refused_call old refusal.WindowFull else delivered_span old s mine cursor now (first_ready (lane_spans lim.batch front sub.lane))) (le-ltb _ _ full)
+      ∙ ap (λ t. if not t then refused_call old refusal.WindowFull else delivered_span old s mine cursor now
+      (first_ready (lane_spans lim.batch front sub.lane))) (le-ltb _ _ full)
 
-  pub take_room : (link cursor now : ℕ) → sub.link ≡ link → sub.closed ≡ false → how_many_out (spans_of sub.lane.held) < lim.window
-      → take old s link cursor now ≡ delivered_span old s mine cursor now (first_ready (lane_spans lim.batch front sub.lane))
+  pub take_room : (link cursor now : ℕ) → sub.link ≡ link → sub.closed ≡ false → how_many_out (spans_of sub.lane.held)
+      < lim.window
+      → take old s link cursor now
+      ≡ delivered_span old s mine cursor now (first_ready (lane_spans lim.batch front sub.lane))
   take_room link cursor now same running room =
       take_kept link cursor now same running
-      ∙ ap (λ t. if not t then refused_call old refusal.WindowFull else delivered_span old s mine cursor now (first_ready (lane_spans lim.batch front sub.lane))) (lt-ltb _ _ room)
+      ∙ ap (λ t. if not t then refused_call old refusal.WindowFull else delivered_span old s mine cursor now
+      (first_ready (lane_spans lim.batch front sub.lane))) (lt-ltb _ _ room)
 
 -- ---- nothing to hand over
 
-drained_cut : (t : Bool) (cursor last front : ℕ) (spans : List Span) → (t ≡ true → spans ≡ []) → (t ≡ false → slice_get spans 0 ≡ None → ⊥) → is_drained spans cursor last ≡ (t && (cursor == last))
+drained_cut : (t : Bool) (cursor last front : ℕ) (spans : List Span) → (t ≡ true → spans ≡ [])
+    → (t ≡ false → slice_get spans 0 ≡ None → ⊥) → is_drained spans cursor last ≡ (t && (cursor == last))
 drained_cut true cursor last front spans none some = ap (λ xs. is_drained xs cursor last) (none refl)
 drained_cut false cursor last front [] none some = absurd (some refl refl)
 drained_cut false cursor last front (p ∷ rest) none some = refl
 
-drained_held : (batch front cursor last : ℕ) (held : List Held) (kept : Lane) → kept.held ≡ held → 1 ≤ batch → is_drained (spans_of held ++ cut_spans batch kept.next front) cursor last ≡ (is_none_left kept front && (cursor == last))
+drained_held : (batch front cursor last : ℕ) (held : List Held) (kept : Lane) → kept.held ≡ held → 1 ≤ batch
+    → is_drained (spans_of held ++ cut_spans batch kept.next front) cursor last
+    ≡ (is_none_left kept front && (cursor == last))
 drained_held batch front cursor last [] kept e one =
-    drained_cut (nat_lt front kept.next) cursor last front (cut_spans batch kept.next front) (λ less. cut_none batch kept.next front (ltb-true _ _ less))
+    drained_cut (nat_lt front kept.next) cursor last front (cut_spans batch kept.next front)
+    (λ less. cut_none batch kept.next front (ltb-true _ _ less))
     (λ more none. some_first (cut_some batch kept.next front one (ltb-false _ _ more)) none)
     ∙ ap (λ xs. is_none_left (record kept { held = xs }) front && (cursor == last)) (sym e)
   where
-    some_first : {p : Span} {rest : List Span} → cut_spans batch kept.next front ≡ p ∷ rest → slice_get (cut_spans batch kept.next front) 0 ≡ None → ⊥
+    some_first : {p : Span} {rest : List Span} → cut_spans batch kept.next front ≡ p ∷ rest
+        → slice_get (cut_spans batch kept.next front) 0 ≡ None → ⊥
     some_first {p} {rest} e none = absurd_none (sym none ∙ ap (λ xs. slice_get xs 0) e)
-drained_held batch front cursor last (h ∷ rest) kept e one = ap (λ xs. is_none_left (record kept { held = xs }) front && (cursor == last)) (sym e)
+drained_held batch front cursor last (h ∷ rest) kept e one =
+    ap (λ xs. is_none_left (record kept { held = xs }) front && (cursor == last)) (sym e)
 
-pub drained_is : (batch front cursor last : ℕ) (kept : Lane) → 1 ≤ batch → is_drained (lane_spans batch front kept) cursor last ≡ (is_none_left kept front && (cursor == last))
-drained_is batch front cursor last kept one = ap (λ xs. is_drained xs cursor last) (lane_spans_is batch front kept) ∙ drained_held batch front cursor last kept.held kept refl one
+pub drained_is : (batch front cursor last : ℕ) (kept : Lane) → 1 ≤ batch
+    → is_drained (lane_spans batch front kept) cursor last ≡ (is_none_left kept front && (cursor == last))
+drained_is batch front cursor last kept one = ap (λ xs. is_drained xs cursor last) (lane_spans_is batch front kept)
+    ∙ drained_held batch front cursor last kept.held kept refl one
 
-why_by : (front cursor : ℕ) (none_left : Bool) (p : Picture) (q : Subscription) (closing : Option ℕ) → p.front ≡ front → ((last : ℕ) → is_drained q.spans cursor last ≡ (none_left && (cursor == last)))
+why_by : (front cursor : ℕ) (none_left : Bool) (p : Picture) (q : Subscription) (closing : Option ℕ) → p.front ≡ front
+    → ((last : ℕ) → is_drained q.spans cursor last ≡ (none_left && (cursor == last)))
     → none_ready p q cursor closing ≡ why_none front none_left cursor closing
 why_by front cursor none_left p q None e h = ap refusal.Empty e
-why_by front cursor none_left p q (Some last) e h = (λ i. if h last i then refusal.Drained last else refusal.Empty (e i))
+why_by front cursor none_left p q (Some last) e h =
+    (λ i. if h last i then refusal.Drained last else refusal.Empty (e i))
 
-module _ (lim : Limits) (front : ℕ) (closing : Option ℕ) (clock next_link next_delivery : ℕ) (subs : List Sub) (sub : Sub) where
+module _ (lim : Limits) (front : ℕ) (closing : Option ℕ) (clock next_link next_delivery : ℕ) (subs : List Sub)
+    (sub : Sub) where
   -- why nothing is handed over, by what is kept
   pub none_ready_is : (cursor : ℕ) → 1 ≤ lim.batch → sub.closed ≡ false
-      → none_ready (shown lim front closing clock next_link next_delivery subs) (shown_sub lim.batch front sub) cursor closing ≡ why_none front (is_none_left sub.lane front) cursor closing
+      → none_ready (shown lim front closing clock next_link next_delivery subs) (shown_sub lim.batch front sub) cursor
+      closing ≡ why_none front (is_none_left sub.lane front) cursor closing
   none_ready_is cursor one running =
-      why_by front cursor (is_none_left sub.lane front) (shown lim front closing clock next_link next_delivery subs) (shown_sub lim.batch front sub) closing refl
-      (λ last. ap (λ t. is_drained (spans_of (cond t [] (lane_held lim.batch front sub.lane))) cursor last) running ∙ drained_is lim.batch front cursor last sub.lane one)
+      why_by front cursor (is_none_left sub.lane front) (shown lim front closing clock next_link next_delivery subs)
+      (shown_sub lim.batch front sub) closing refl
+      (λ last. ap (λ t. is_drained (spans_of (cond t [] (lane_held lim.batch front sub.lane))) cursor last) running
+      ∙ drained_is lim.batch front cursor last sub.lane one)
 
 -- ---- take, whole
 
-module _ (lim : Limits) (front : ℕ) (closing : Option ℕ) (clock next_link next_delivery : ℕ) (subs : List Sub) (s : ℕ) (sub : Sub) (here : slice_get subs s ≡ Some sub)
-    (link cursor now : ℕ) (same : sub.link ≡ link) (running : sub.closed ≡ false) (room : how_many_out (spans_of sub.lane.held) < lim.window) where
+module _ (lim : Limits) (front : ℕ) (closing : Option ℕ) (clock next_link next_delivery : ℕ) (subs : List Sub) (s : ℕ)
+    (sub : Sub) (here : slice_get subs s ≡ Some sub)
+    (link cursor now : ℕ) (same : sub.link ≡ link) (running : sub.closed ≡ false)
+    (room : how_many_out (spans_of sub.lane.held) < lim.window) where
   abbrev before : Picture
   before = shown lim front closing clock next_link next_delivery subs
 
-  pub nothing_taken : 1 ≤ lim.batch → first_ready (lane_spans lim.batch front sub.lane) ≡ None → take before s link cursor now ≡ refused_call before (why_none front (is_none_left sub.lane front) cursor closing)
+  pub nothing_taken : 1 ≤ lim.batch → first_ready (lane_spans lim.batch front sub.lane) ≡ None
+      → take before s link cursor now
+      ≡ refused_call before (why_none front (is_none_left sub.lane front) cursor closing)
   nothing_taken one none =
       take_room lim front closing clock next_link next_delivery subs s sub here link cursor now same running room
       ∙ ap (delivered_span before s (shown_sub lim.batch front sub) cursor now) none
-      ∙ ap (refused_call before) (none_ready_is lim front closing clock next_link next_delivery subs sub cursor one running)
+      ∙ ap (refused_call before)
+      (none_ready_is lim front closing clock next_link next_delivery subs sub cursor one running)
 
   pub taken : (span : Span) → first_ready (lane_spans lim.batch front sub.lane) ≡ Some span
-      → take before s link cursor now ≡ (Ok (delivery_from before s (shown_sub lim.batch front sub) span), delivered_picture before s (shown_sub lim.batch front sub) span (max clock now))
+      → take before s link cursor now
+      ≡ (
+        Ok (delivery_from before s (shown_sub lim.batch front sub) span),
+        delivered_picture before s (shown_sub lim.batch front sub) span (max clock now),
+      )
   taken span some =
       take_room lim front closing clock next_link next_delivery subs s sub here link cursor now same running room
       ∙ ap (delivered_span before s (shown_sub lim.batch front sub) cursor now) some
@@ -242,11 +336,18 @@ module _ (lim : Limits) (front : ℕ) (closing : Option ℕ) (clock next_link ne
 -- ---- a subscription more
 
 pub subscribe_kept : (p : Picture) (start : ℕ) → start ≤ p.front → length p.subscriptions < 1024
-    → subscribe p start ≡ (Ok (length p.subscriptions, p.next_link), subscribed_picture p start (cut_spans p.limits.batch (suc start) p.front))
+    → subscribe p start
+    ≡ (
+      Ok (length p.subscriptions, p.next_link),
+      subscribed_picture p start (cut_spans p.limits.batch (suc start) p.front),
+    )
 unfolding subscribe
 subscribe_kept p start behind few =
     (λ i. cond (le-ltb _ _ behind i) (refused_call p (refusal.StartAhead p.front))
-    (cond (few_enough i) (refused_call p refusal.TooMany) (Ok (length p.subscriptions, p.next_link), subscribed_picture p start (cut_spans p.limits.batch (suc start) p.front))))
+    (cond (few_enough i) (refused_call p refusal.TooMany) (
+      Ok (length p.subscriptions, p.next_link),
+      subscribed_picture p start (cut_spans p.limits.batch (suc start) p.front),
+    )))
   where
     few_enough : nat_le 1024 (length p.subscriptions) ≡ false
     few_enough = lt-leb 1024 (length p.subscriptions) few
@@ -269,4 +370,6 @@ may_place p ok = may_place_by p p.closing ok
 pub prepared : (p : Picture) → IsOk (prepare p) → prepare p ≡ Ok (suc p.front)
 unfolding prepare
 prepared p ok =
-    ap (next_place p) (may_place_by p p.closing ok).0 ∙ ap (λ t. if t then Ok (suc p.front) else Err refusal.SequenceFull) (lt-ltb _ _ (may_place_by p p.closing ok).1)
+    ap (next_place p) (may_place_by p p.closing ok).0
+    ∙ ap (λ t. if t then Ok (suc p.front) else Err refusal.SequenceFull)
+    (lt-ltb _ _ (may_place_by p p.closing ok).1)

@@ -1,5 +1,7 @@
 -- What a desk shows once spans that were out for long go back.
-use Rattle.std.proofs.Common.{◌≡◌, ℕ, suc, ◌+◌, ◌-◌, ◌≤◌, ne_eqb, eq-eqb, Bool, true, false, not, cond, List, [], ◌∷◌, ◌++◌, map, Option, Some, option_map, filter, filter_map, slice_get, nat_le, append-nil, refl, sym, ap, ◌∙◌, arith}
+use Rattle.std.proofs.Common.{◌≡◌, ℕ, suc, ◌+◌, ◌-◌, ◌≤◌, ne_eqb, eq-eqb, Bool, true, false, not, cond, List, [], ◌∷◌}
+use Rattle.std.proofs.Common.{◌++◌, map, Option, Some, option_map, filter, filter_map, slice_get, nat_le, append-nil}
+use Rattle.std.proofs.Common.{refl, sym, ap, ◌∙◌, arith}
 use Rattle.std.specs.Prelude.{⊤}
 use Rattle.std.specs.List.{AllByRecursion, cons_option}
 use Rattle.std.proofs.lemmas.List.Elements.{filter_map-append}
@@ -44,58 +46,90 @@ AllExpire timeout clock (old ∷ olds) [] = ⊥
 AllExpire timeout clock (old ∷ olds) (new ∷ news) = ExpiresNow timeout clock old new × AllExpire timeout clock olds news
 
 -- so its spans went back
-held_expire : (timeout clock : ℕ) (ticket : Held → Ticket) (held : List Held) → spans_of (map (expired_held timeout clock ticket) held) ≡ gone_back timeout clock (spans_of held)
+held_expire : (timeout clock : ℕ) (ticket : Held → Ticket) (held : List Held)
+    → spans_of (map (expired_held timeout clock ticket) held) ≡ gone_back timeout clock (spans_of held)
 held_expire timeout clock ticket [] = refl
-held_expire timeout clock ticket (h ∷ held) = λ i. by (is_due timeout clock h.span.status) i ∷ held_expire timeout clock ticket held i
+held_expire timeout clock ticket (h ∷ held) = λ i. by (is_due timeout clock h.span.status) i
+    ∷ held_expire timeout clock ticket held i
   where
-    by : (t : Bool) → (cond t (record { span = record h.span { status = Ready true }; ticket = ticket h }) h).span ≡ cond t (record h.span { status = Ready true }) h.span
+    by : (t : Bool) → (cond t (record { span = record h.span { status = Ready true }; ticket = ticket h }) h).span
+        ≡ cond t (record h.span { status = Ready true }) h.span
     by true = refl
     by false = refl
 
-pub sub_expires : (timeout clock : ℕ) (ticket : Held → Ticket) (sub : Sub) → ExpiresNow timeout clock sub (expired_sub timeout clock ticket sub)
-sub_expires timeout clock ticket sub = record { start = refl; floor = refl; offered = refl; link = refl; closed = refl; next = refl; spans = held_expire timeout clock ticket sub.lane.held }
+pub sub_expires : (timeout clock : ℕ) (ticket : Held → Ticket) (sub : Sub)
+    → ExpiresNow timeout clock sub (expired_sub timeout clock ticket sub)
+sub_expires timeout clock ticket sub =
+    record {
+      start = refl;
+      floor = refl;
+      offered = refl;
+      link = refl;
+      closed = refl;
+      next = refl;
+      spans = held_expire timeout clock ticket sub.lane.held;
+    }
 
-pub subs_expire : (timeout clock : ℕ) (ticket : Held → Ticket) (subs : List Sub) → AllExpire timeout clock subs (map (expired_sub timeout clock ticket) subs)
+pub subs_expire : (timeout clock : ℕ) (ticket : Held → Ticket) (subs : List Sub)
+    → AllExpire timeout clock subs (map (expired_sub timeout clock ticket) subs)
 subs_expire timeout clock ticket [] = tt
-subs_expire timeout clock ticket (sub ∷ subs) = (sub_expires timeout clock ticket sub, subs_expire timeout clock ticket subs)
+subs_expire timeout clock ticket (sub ∷ subs) =
+    (sub_expires timeout clock ticket sub, subs_expire timeout clock ticket subs)
 
 -- ---- the subscriptions
 
-gone_append : (timeout clock : ℕ) (xs ys : List Span) → gone_back timeout clock (xs ++ ys) ≡ gone_back timeout clock xs ++ gone_back timeout clock ys
+gone_append : (timeout clock : ℕ) (xs ys : List Span) → gone_back timeout clock (xs ++ ys) ≡ gone_back timeout clock xs
+    ++ gone_back timeout clock ys
 gone_append timeout clock [] ys = refl
-gone_append timeout clock (x ∷ xs) ys = ap (λ (l : List Span). cond (is_due timeout clock x.status) (record x { status = Ready true }) x ∷ l) (gone_append timeout clock xs ys)
+gone_append timeout clock (x ∷ xs) ys =
+    ap (λ (l : List Span). cond (is_due timeout clock x.status) (record x { status = Ready true }) x ∷ l)
+    (gone_append timeout clock xs ys)
 
 -- spans that were never taken stay
-gone_fresh : (timeout clock : ℕ) (spans : List Span) → AllByRecursion CutIsFresh spans → gone_back timeout clock spans ≡ spans
+gone_fresh : (timeout clock : ℕ) (spans : List Span) → AllByRecursion CutIsFresh spans → gone_back timeout clock spans
+    ≡ spans
 gone_fresh timeout clock [] h = refl
-gone_fresh timeout clock (p ∷ rest) h = λ i. ap (λ status. cond (is_due timeout clock status) (record p { status = Ready true }) p) h.0 i ∷ gone_fresh timeout clock rest h.1 i
+gone_fresh timeout clock (p ∷ rest) h =
+    λ i. ap (λ status. cond (is_due timeout clock status) (record p { status = Ready true }) p) h.0 i
+    ∷ gone_fresh timeout clock rest h.1 i
 
 -- what a lane shows
-lane_expires : (batch front timeout clock : ℕ) (kept kept' : Lane) → kept'.next ≡ kept.next → spans_of kept'.held ≡ gone_back timeout clock (spans_of kept.held)
+lane_expires : (batch front timeout clock : ℕ) (kept kept' : Lane) → kept'.next ≡ kept.next → spans_of kept'.held
+    ≡ gone_back timeout clock (spans_of kept.held)
     → spans_of (lane_held batch front kept') ≡ gone_back timeout clock (spans_of (lane_held batch front kept))
 lane_expires batch front timeout clock kept kept' next spans =
-    lane_spans_is batch front kept' ∙ (λ i. spans i ++ cut_spans batch (next i) front) ∙ ap (λ l. gone_back timeout clock (spans_of kept.held) ++ l) (sym (gone_fresh timeout clock (cut_spans batch kept.next front) (cut_fresh batch kept.next front)))
-    ∙ sym (gone_append timeout clock (spans_of kept.held) (cut_spans batch kept.next front)) ∙ ap (gone_back timeout clock) (sym (lane_spans_is batch front kept))
+    lane_spans_is batch front kept' ∙ (λ i. spans i ++ cut_spans batch (next i) front)
+    ∙ ap (λ l. gone_back timeout clock (spans_of kept.held) ++ l)
+    (sym (gone_fresh timeout clock (cut_spans batch kept.next front) (cut_fresh batch kept.next front)))
+    ∙ sym (gone_append timeout clock (spans_of kept.held) (cut_spans batch kept.next front))
+    ∙ ap (gone_back timeout clock) (sym (lane_spans_is batch front kept))
 
 -- what a subscription shows
-sub_goes_back : (batch front timeout clock : ℕ) (old new : Sub) → ExpiresNow timeout clock old new → shown_sub batch front new ≡ goes_back timeout clock (shown_sub batch front old)
+sub_goes_back : (batch front timeout clock : ℕ) (old new : Sub) → ExpiresNow timeout clock old new
+    → shown_sub batch front new ≡ goes_back timeout clock (shown_sub batch front old)
 sub_goes_back batch front timeout clock old new e =
-    (λ i. shown_as (e.start i) (e.floor i) (e.offered i) (e.link i) (e.closed i) (spans_of (cond (e.closed i) [] (lane_held batch front new.lane))))
+    (λ i. shown_as (e.start i) (e.floor i) (e.offered i) (e.link i) (e.closed i)
+    (spans_of (cond (e.closed i) [] (lane_held batch front new.lane))))
     ∙ ap (shown_as old.start old.lane.floor old.offered old.link old.closed) (by old.closed)
   where
     shown_as : ℕ → ℕ → ℕ → ℕ → Bool → List Span → Subscription
-    shown_as start floor offered link closed spans = record { start = start; floor = floor; offered = offered; link = link; closed = closed; spans = spans }
+    shown_as start floor offered link closed spans =
+        record { start = start; floor = floor; offered = offered; link = link; closed = closed; spans = spans }
 
-    by : (t : Bool) → spans_of (cond t [] (lane_held batch front new.lane)) ≡ gone_back timeout clock (spans_of (cond t [] (lane_held batch front old.lane)))
+    by : (t : Bool) → spans_of (cond t [] (lane_held batch front new.lane))
+        ≡ gone_back timeout clock (spans_of (cond t [] (lane_held batch front old.lane)))
     by true = refl
     by false = lane_expires batch front timeout clock old.lane new.lane e.next e.spans
 
 -- what all show
-pub expired_subscriptions : (batch front timeout clock : ℕ) (subs subs' : List Sub) → AllExpire timeout clock subs subs' → map (shown_sub batch front) subs' ≡ map (goes_back timeout clock) (map (shown_sub batch front) subs)
+pub expired_subscriptions : (batch front timeout clock : ℕ) (subs subs' : List Sub) → AllExpire timeout clock subs subs'
+    → map (shown_sub batch front) subs' ≡ map (goes_back timeout clock) (map (shown_sub batch front) subs)
 expired_subscriptions batch front timeout clock [] [] e = refl
 expired_subscriptions batch front timeout clock [] (new ∷ news) e = absurd e
 expired_subscriptions batch front timeout clock (old ∷ olds) [] e = absurd e
-expired_subscriptions batch front timeout clock (old ∷ olds) (new ∷ news) e = λ i. sub_goes_back batch front timeout clock old new e.0 i ∷ expired_subscriptions batch front timeout clock olds news e.1 i
+expired_subscriptions batch front timeout clock (old ∷ olds) (new ∷ news) e =
+    λ i. sub_goes_back batch front timeout clock old new e.0 i
+    ∷ expired_subscriptions batch front timeout clock olds news e.1 i
 
 -- ---- the in-flight order
 
@@ -109,7 +143,9 @@ each_begins low next (x ∷ rest) j =
     let at : x.span.first ≡ low = j.0 in
     let up : x.span.first ≤ x.span.last = j.1 in (
       (omega (arith, at), rw (eq-eqb x.span.first x.span.first refl) refl),
-      all_then (ExpireFound (suc x.span.last) rest) (ExpireFound low (x ∷ rest)) rest (λ h f. (omega (arith, at, up, f.0), rw (ne_eqb x.span.first h.span.first (omega (arith, up, f.0))) f.1)) (each_begins (suc x.span.last) next rest j.2),
+      all_then (ExpireFound (suc x.span.last) rest) (ExpireFound low (x ∷ rest)) rest
+          (λ h f. (omega (arith, at, up, f.0), rw (ne_eqb x.span.first h.span.first (omega (arith, up, f.0))) f.1))
+          (each_begins (suc x.span.last) next rest j.2),
     )
 
 -- so whether a span is due is told by its name
@@ -117,7 +153,8 @@ abbrev pub ExpireReports : (ℕ × ℕ → Bool) → ℕ → ℕ → ℕ → Hel
 ExpireReports due timeout clock s h = due (s, h.span.first) ≡ is_due timeout clock h.span.status
 
 -- spans of which those that are due went back are out as before, without those
-spans_leave : (due : ℕ × ℕ → Bool) (timeout clock s : ℕ) (held held' : List Held) → AllByRecursion (ExpireReports due timeout clock s) held → spans_of held' ≡ gone_back timeout clock (spans_of held)
+spans_leave : (due : ℕ × ℕ → Bool) (timeout clock s : ℕ) (held held' : List Held)
+    → AllByRecursion (ExpireReports due timeout clock s) held → spans_of held' ≡ gone_back timeout clock (spans_of held)
     → filter_map (out_at s) held' ≡ filter (λ e. not (due e.1)) (filter_map (out_at s) held)
 spans_leave due timeout clock s held held' tells spans = seen held' ∙ ap (filter_map span_out) spans ∙ left held tells
   where
@@ -128,48 +165,69 @@ spans_leave due timeout clock s held held' tells spans = seen held' ∙ ap (filt
     seen [] = refl
     seen (h ∷ held) = ap (cons_option (out_at s h)) (seen held)
 
-    one : (p : Span) (status : Status) → due (s, p.first) ≡ is_due timeout clock status → (rest left : List (Ticket × (ℕ × ℕ))) → rest ≡ filter (λ e. not (due e.1)) left
-        → cons_option (span_out (cond (is_due timeout clock status) (record p { status = Ready true }) (record p { status = status }))) rest ≡ filter (λ e. not (due e.1)) (cons_option (out_at_status s p.first status) left)
+    one : (p : Span) (status : Status) → due (s, p.first) ≡ is_due timeout clock status
+        → (rest left : List (Ticket × (ℕ × ℕ))) → rest ≡ filter (λ e. not (due e.1)) left
+        → cons_option
+        (span_out (cond (is_due timeout clock status) (record p { status = Ready true })
+        (record p { status = status }))) rest
+        ≡ filter (λ e. not (due e.1)) (cons_option (out_at_status s p.first status) left)
     one p (Ready taken) tell rest left h = h
     one p (InFlight number moment) tell rest left h = by (nat_le timeout (clock - moment)) tell
       where
-        by : (t : Bool) → due (s, p.first) ≡ t → cons_option (span_out (cond t (record p { status = Ready true }) (record p { status = InFlight number moment }))) rest
+        by : (t : Bool) → due (s, p.first) ≡ t
+            → cons_option
+            (span_out (cond t (record p { status = Ready true }) (record p { status = InFlight number moment }))) rest
             ≡ filter (λ e. not (due e.1)) ((record { front = number; turn = 0 }, (s, p.first)) ∷ left)
         by true is = rw is h
-        by false is = rw is (ap (λ (l : List (Ticket × (ℕ × ℕ))). (record { front = number; turn = 0 }, (s, p.first)) ∷ l) h)
+        by false is =
+            rw is (ap (λ (l : List (Ticket × (ℕ × ℕ))). (record { front = number; turn = 0 }, (s, p.first)) ∷ l) h)
     one p Settled tell rest left h = h
 
-    left : (held : List Held) → AllByRecursion (ExpireReports due timeout clock s) held → filter_map span_out (gone_back timeout clock (spans_of held)) ≡ filter (λ e. not (due e.1)) (filter_map (out_at s) held)
+    left : (held : List Held) → AllByRecursion (ExpireReports due timeout clock s) held
+        → filter_map span_out (gone_back timeout clock (spans_of held))
+        ≡ filter (λ e. not (due e.1)) (filter_map (out_at s) held)
     left [] tells = refl
     left (h ∷ held) tells = one h.span h.span.status tells.0 _ _ (left held tells.1)
 
 -- a lane has only spans out that were taken before
-pub lane_out : (batch front s : ℕ) (kept : Lane) → 1 ≤ batch → filter_map (out_at s) (lane_held batch front kept) ≡ filter_map (out_at s) kept.held
+pub lane_out : (batch front s : ℕ) (kept : Lane) → 1 ≤ batch → filter_map (out_at s) (lane_held batch front kept)
+    ≡ filter_map (out_at s) kept.held
 lane_out batch front s kept one =
-    filter_map-append (out_at s) kept.held _ ∙ ap (λ l. filter_map (out_at s) kept.held ++ l) (cut_out batch front kept.next s kept.cutting one) ∙ append-nil _
+    filter_map-append (out_at s) kept.held _
+    ∙ ap (λ l. filter_map (out_at s) kept.held ++ l) (cut_out batch front kept.next s kept.cutting one)
+    ∙ append-nil _
 
 -- what is out of a subscription, where its open lane's spans are told by their names
-sub_leaves : (batch front : ℕ) (due : ℕ × ℕ → Bool) (timeout clock s : ℕ) (old new : Sub) → 1 ≤ batch → (old.closed ≡ false → AllByRecursion (ExpireReports due timeout clock s) old.lane.held) → ExpiresNow timeout clock old new
-    → filter_map (out_at s) (sub_held batch front new) ≡ filter (λ e. not (due e.1)) (filter_map (out_at s) (sub_held batch front old))
-sub_leaves batch front due timeout clock s old new one tells e = ap (λ c. filter_map (out_at s) (cond c [] (lane_held batch front new.lane))) e.closed ∙ by old.closed tells
+sub_leaves : (batch front : ℕ) (due : ℕ × ℕ → Bool) (timeout clock s : ℕ) (old new : Sub) → 1 ≤ batch
+    → (old.closed ≡ false → AllByRecursion (ExpireReports due timeout clock s) old.lane.held)
+    → ExpiresNow timeout clock old new
+    → filter_map (out_at s) (sub_held batch front new)
+    ≡ filter (λ e. not (due e.1)) (filter_map (out_at s) (sub_held batch front old))
+sub_leaves batch front due timeout clock s old new one tells e =
+    ap (λ c. filter_map (out_at s) (cond c [] (lane_held batch front new.lane))) e.closed ∙ by old.closed tells
   where
     by : (c : Bool) → (c ≡ false → AllByRecursion (ExpireReports due timeout clock s) old.lane.held)
-        → filter_map (out_at s) (cond c [] (lane_held batch front new.lane)) ≡ filter (λ e. not (due e.1)) (filter_map (out_at s) (cond c [] (lane_held batch front old.lane)))
+        → filter_map (out_at s) (cond c [] (lane_held batch front new.lane))
+        ≡ filter (λ e. not (due e.1)) (filter_map (out_at s) (cond c [] (lane_held batch front old.lane)))
     by true tells = refl
     by false tells =
-        lane_out batch front s new.lane one ∙ spans_leave due timeout clock s old.lane.held new.lane.held (tells refl) e.spans
+        lane_out batch front s new.lane one ∙ spans_leave due timeout clock s old.lane.held new.lane.held (tells refl)
+        e.spans
         ∙ ap (filter (λ e. not (due e.1))) (sym (lane_out batch front s old.lane one))
 
 -- and of all from number s on
 subs_leave : (batch front : ℕ) (due : ℕ × ℕ → Bool) (timeout clock s : ℕ) (subs subs' : List Sub) → 1 ≤ batch
-    → ((k i : ℕ) (sub : Sub) → k ≡ s + i → slice_get subs i ≡ Some sub → sub.closed ≡ false → AllByRecursion (ExpireReports due timeout clock k) sub.lane.held)
-    → AllExpire timeout clock subs subs' → Leaves out_at due s (map (sub_held batch front) subs) (map (sub_held batch front) subs')
+    → ((k i : ℕ) (sub : Sub) → k ≡ s + i → slice_get subs i ≡ Some sub → sub.closed ≡ false
+    → AllByRecursion (ExpireReports due timeout clock k) sub.lane.held)
+    → AllExpire timeout clock subs subs'
+    → Leaves out_at due s (map (sub_held batch front) subs) (map (sub_held batch front) subs')
 subs_leave batch front due timeout clock s [] [] one tell e = tt
 subs_leave batch front due timeout clock s [] (new ∷ news) one tell e = e
 subs_leave batch front due timeout clock s (old ∷ olds) [] one tell e = e
 subs_leave batch front due timeout clock s (old ∷ olds) (new ∷ news) one tell e = (
   sub_leaves batch front due timeout clock s old new one (tell s 0 old (omega arith) refl) e.0,
-  subs_leave batch front due timeout clock (suc s) olds news one (λ k i sub is found. tell k (suc i) sub (omega (arith, is)) found) e.1,
+  subs_leave batch front due timeout clock (suc s) olds news one
+      (λ k i sub is found. tell k (suc i) sub (omega (arith, is)) found) e.1,
 )
 
 -- the spans that a subscription keeps follow one another from its floor on
@@ -177,41 +235,65 @@ abbrev pub ExpireFollows : ℕ → Sub → Type 0
 ExpireFollows front sub = (sub.lane.next ≤ suc front) × FollowOn (suc sub.lane.floor) sub.lane.held sub.lane.next
 
 -- the picture's test on a name tells whether the span is due
-pub expire_told : (lim : Limits) (front clock now next_link next_delivery : ℕ) (closing : Option ℕ) (subs : List Sub) (k : ℕ) (sub : Sub) → 1 ≤ lim.batch → ExpireFollows front sub → slice_get subs k ≡ Some sub → sub.closed ≡ false
-    → AllByRecursion (ExpireReports (expires (shown lim front closing clock next_link next_delivery subs) now) lim.timeout now k) (lane_held lim.batch front sub.lane)
+pub expire_told : (lim : Limits) (front clock now next_link next_delivery : ℕ) (closing : Option ℕ) (subs : List Sub)
+    (k : ℕ) (sub : Sub) → 1 ≤ lim.batch → ExpireFollows front sub → slice_get subs k ≡ Some sub → sub.closed ≡ false
+    → AllByRecursion (ExpireReports (expires (shown lim front closing clock next_link next_delivery subs) now)
+    lim.timeout now k) (lane_held lim.batch front sub.lane)
 expire_told lim front clock now next_link next_delivery closing subs k sub one follows found opened =
-    all_then (ExpireFound (suc sub.lane.floor) (lane_held lim.batch front sub.lane)) (ExpireReports (expires (shown lim front closing clock next_link next_delivery subs) now) lim.timeout now k) (lane_held lim.batch front sub.lane) each
-    (each_begins (suc sub.lane.floor) (suc front) (lane_held lim.batch front sub.lane) (joins_lane lim.batch front sub.lane one follows.0 follows.1))
+    all_then (ExpireFound (suc sub.lane.floor) (lane_held lim.batch front sub.lane))
+    (ExpireReports (expires (shown lim front closing clock next_link next_delivery subs) now) lim.timeout now k)
+    (lane_held lim.batch front sub.lane) each
+    (each_begins (suc sub.lane.floor) (suc front) (lane_held lim.batch front sub.lane)
+    (joins_lane lim.batch front sub.lane one follows.0 follows.1))
   where
     seen : slice_get (map (shown_sub lim.batch front) subs) k ≡ Some (shown_sub lim.batch front sub)
     seen = slice_get-map (shown_sub lim.batch front) subs k ∙ ap (option_map (shown_sub lim.batch front)) found
 
-    each : (h : Held) → ExpireFound (suc sub.lane.floor) (lane_held lim.batch front sub.lane) h → is_due_of lim.timeout now h.span.first (slice_get (map (shown_sub lim.batch front) subs) k) ≡ is_due lim.timeout now h.span.status
+    each : (h : Held) → ExpireFound (suc sub.lane.floor) (lane_held lim.batch front sub.lane) h
+        → is_due_of lim.timeout now h.span.first (slice_get (map (shown_sub lim.batch front) subs) k)
+        ≡ is_due lim.timeout now h.span.status
     each h f =
-        ap (is_due_of lim.timeout now h.span.first) seen ∙ ap (λ c. span_is_due lim.timeout now (beginning h.span.first (spans_of (cond c [] (lane_held lim.batch front sub.lane))))) opened
+        ap (is_due_of lim.timeout now h.span.first) seen
+        ∙ ap (λ c. span_is_due lim.timeout now
+        (beginning h.span.first (spans_of (cond c [] (lane_held lim.batch front sub.lane))))) opened
         ∙ ap (span_is_due lim.timeout now) f.1
 
 -- ---- the call
 
 -- what is out after it is what was, without what expires
-pub expired_in_flight : (lim : Limits) (front clock now next_link next_delivery : ℕ) (closing : Option ℕ) (subs subs' : List Sub) → 1 ≤ lim.batch → AllByRecursion (ExpireFollows front) subs → AllExpire lim.timeout now subs subs'
+pub expired_in_flight : (lim : Limits) (front clock now next_link next_delivery : ℕ) (closing : Option ℕ)
+    (subs subs' : List Sub) → 1 ≤ lim.batch → AllByRecursion (ExpireFollows front) subs
+    → AllExpire lim.timeout now subs subs'
     → order out_at (map (sub_held lim.batch front) subs')
-    ≡ filter (λ at. not (expires (shown lim front closing clock next_link next_delivery subs) now at)) (order out_at (map (sub_held lim.batch front) subs))
+    ≡ filter (λ at. not (expires (shown lim front closing clock next_link next_delivery subs) now at))
+    (order out_at (map (sub_held lim.batch front) subs))
 expired_in_flight lim front clock now next_link next_delivery closing subs subs' one follows e =
-    expired_order out_at (expires (shown lim front closing clock next_link next_delivery subs) now) (map (sub_held lim.batch front) subs) (map (sub_held lim.batch front) subs')
-    (subs_leave lim.batch front (expires (shown lim front closing clock next_link next_delivery subs) now) lim.timeout now 0 subs subs' one tell e)
+    expired_order out_at (expires (shown lim front closing clock next_link next_delivery subs) now)
+    (map (sub_held lim.batch front) subs) (map (sub_held lim.batch front) subs')
+    (subs_leave lim.batch front (expires (shown lim front closing clock next_link next_delivery subs) now) lim.timeout
+    now 0 subs subs' one tell e)
   where
-    tell : (k i : ℕ) (sub : Sub) → k ≡ 0 + i → slice_get subs i ≡ Some sub → sub.closed ≡ false → AllByRecursion (ExpireReports (expires (shown lim front closing clock next_link next_delivery subs) now) lim.timeout now k) sub.lane.held
+    tell : (k i : ℕ) (sub : Sub) → k ≡ 0 + i → slice_get subs i ≡ Some sub → sub.closed ≡ false
+        → AllByRecursion (ExpireReports (expires (shown lim front closing clock next_link next_delivery subs) now)
+        lim.timeout now k) sub.lane.held
     tell k i sub is found opened =
         let same : k ≡ i = omega (arith, is) in
-        all_first (ExpireReports (expires (shown lim front closing clock next_link next_delivery subs) now) lim.timeout now k) sub.lane.held _
-        (expire_told lim front clock now next_link next_delivery closing subs k sub one (all_get (ExpireFollows front) subs i sub follows found) (ap (slice_get subs) same ∙ found) opened)
+        all_first (ExpireReports (expires (shown lim front closing clock next_link next_delivery subs) now) lim.timeout
+        now k) sub.lane.held _
+        (expire_told lim front clock now next_link next_delivery closing subs k sub one
+        (all_get (ExpireFollows front) subs i sub follows found) (ap (slice_get subs) same ∙ found) opened)
 
 -- what a desk shows after it, where the ready order has at its end what expires
-pub expired_shown : (lim : Limits) (front clock now next_link next_delivery : ℕ) (closing : Option ℕ) (subs subs' : List Sub) → 1 ≤ lim.batch → AllByRecursion (ExpireFollows front) subs → AllExpire lim.timeout now subs subs'
+pub expired_shown : (lim : Limits) (front clock now next_link next_delivery : ℕ) (closing : Option ℕ)
+    (subs subs' : List Sub) → 1 ≤ lim.batch → AllByRecursion (ExpireFollows front) subs
+    → AllExpire lim.timeout now subs subs'
     → order ready_at (map (sub_held lim.batch front) subs')
-    ≡ order ready_at (map (sub_held lim.batch front) subs) ++ filter (expires (shown lim front closing clock next_link next_delivery subs) now) (order out_at (map (sub_held lim.batch front) subs))
-    → shown lim front closing now next_link next_delivery subs' ≡ (expired_at (shown lim front closing clock next_link next_delivery subs) now).1
+    ≡ order ready_at (map (sub_held lim.batch front) subs)
+    ++ filter (expires (shown lim front closing clock next_link next_delivery subs) now)
+    (order out_at (map (sub_held lim.batch front) subs))
+    → shown lim front closing now next_link next_delivery subs'
+    ≡ (expired_at (shown lim front closing clock next_link next_delivery subs) now).1
 expired_shown lim front clock now next_link next_delivery closing subs subs' one follows e ready =
-    same_picture lim front now next_link next_delivery closing _ _ _ _ _ _ (expired_subscriptions lim.batch front lim.timeout now subs subs' e) ready
+    same_picture lim front now next_link next_delivery closing _ _ _ _ _ _
+    (expired_subscriptions lim.batch front lim.timeout now subs subs' e) ready
     (expired_in_flight lim front clock now next_link next_delivery closing subs subs' one follows e)

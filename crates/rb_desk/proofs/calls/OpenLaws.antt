@@ -1,5 +1,6 @@
 -- One open subscription of a desk: what the desk shows where another one is put in its place.
-use Rattle.std.proofs.Common.{◌≡◌, ℕ, suc, ◌≤◌, true, false, cond, List, map, Option, Some, None, option_map, slice_get, slice_set, refl, sym, ap, ◌∙◌}
+use Rattle.std.proofs.Common.{◌≡◌, ℕ, suc, ◌≤◌, true, false, cond, List, map, Option, Some, None, option_map, slice_get}
+use Rattle.std.proofs.Common.{slice_set, refl, sym, ap, ◌∙◌}
 use Rattle.std.specs.List.{AllByRecursion}
 use Rattle.std.proofs.lemmas.List.{map-set}
 use Rattle.std.proofs.lemmas.Option.{slice_get-map}
@@ -59,34 +60,42 @@ not_out_at s first (InFlight number moment) is = absurd (cc)
 not_out_at s first Settled is = refl
 
 -- so it is of a span that is this one
-pub stood_not_ready : (s : ℕ) (h : Held) (span : Span) → h.span ≡ span → is_ready span.status ≡ false → ready_at s h ≡ None
+pub stood_not_ready : (s : ℕ) (h : Held) (span : Span) → h.span ≡ span → is_ready span.status ≡ false → ready_at s h
+    ≡ None
 stood_not_ready s h span same is = not_ready_at s h (ap (λ (p : Span). is_ready p.status) same ∙ is)
 
 pub stood_not_out : (s : ℕ) (h : Held) (span : Span) → h.span ≡ span → is_out span.status ≡ false → out_at s h ≡ None
-stood_not_out s h span same is = ap (λ (p : Span). out_at_status s p.first p.status) same ∙ not_out_at s span.first span.status is
+stood_not_out s h span same is = ap (λ (p : Span). out_at_status s p.first p.status) same
+    ∙ not_out_at s span.first span.status is
 
 -- ---- one subscription among the others
 
-module _ (lim : Limits) (front turn number : ℕ) (subs : List Sub) (s : ℕ) (sub : Sub) (o : IsOpen lim.batch front turn number subs s sub) where
+module _ (lim : Limits) (front turn number : ℕ) (subs : List Sub) (s : ℕ) (sub : Sub)
+    (o : IsOpen lim.batch front turn number subs s sub) where
   -- the lanes of all
   abbrev pub lanes : List (List Held)
   lanes = map (sub_held lim.batch front) subs
 
   -- its lane
   pub lane_found : slice_get lanes s ≡ Some (lane_held lim.batch front sub.lane)
-  lane_found = slice_get-map (sub_held lim.batch front) subs s ∙ ap (option_map (sub_held lim.batch front)) o.found ∙ ap (λ held. Some held) (held_open lim.batch front sub o.is_open)
+  lane_found = slice_get-map (sub_held lim.batch front) subs s ∙ ap (option_map (sub_held lim.batch front)) o.found
+      ∙ ap (λ held. Some held) (held_open lim.batch front sub o.is_open)
 
   -- it belongs
   pub belongs : Belongs front turn number sub
   belongs = all_get (Belongs front turn number) subs s sub o.belong o.found
 
   -- another one in its place
-  lanes_set : (sub' : Sub) → sub'.closed ≡ false → map (sub_held lim.batch front) (slice_set subs s sub') ≡ slice_set lanes s (lane_held lim.batch front sub'.lane)
-  lanes_set sub' is = map-set (sub_held lim.batch front) subs s sub' ∙ ap (slice_set lanes s) (held_open lim.batch front sub' is)
+  lanes_set : (sub' : Sub) → sub'.closed ≡ false → map (sub_held lim.batch front) (slice_set subs s sub')
+      ≡ slice_set lanes s (lane_held lim.batch front sub'.lane)
+  lanes_set sub' is = map-set (sub_held lim.batch front) subs s sub'
+      ∙ ap (slice_set lanes s) (held_open lim.batch front sub' is)
 
   -- the picture with another one in its place
-  pub shown_changed : (closing : Option ℕ) (clock next_link number' : ℕ) (sub' : Sub) (q : Subscription) (ready out : List (ℕ × ℕ)) → sub'.closed ≡ false → shown_sub lim.batch front sub' ≡ q
-      → order ready_at (slice_set lanes s (lane_held lim.batch front sub'.lane)) ≡ ready → order out_at (slice_set lanes s (lane_held lim.batch front sub'.lane)) ≡ out
+  pub shown_changed : (closing : Option ℕ) (clock next_link number' : ℕ) (sub' : Sub) (q : Subscription)
+      (ready out : List (ℕ × ℕ)) → sub'.closed ≡ false → shown_sub lim.batch front sub' ≡ q
+      → order ready_at (slice_set lanes s (lane_held lim.batch front sub'.lane)) ≡ ready
+      → order out_at (slice_set lanes s (lane_held lim.batch front sub'.lane)) ≡ out
       → shown lim front closing clock next_link number' (slice_set subs s sub') ≡ record {
         limits = lim;
         front = front;
@@ -99,7 +108,9 @@ module _ (lim : Limits) (front turn number : ℕ) (subs : List Sub) (s : ℕ) (s
         in_flight = out;
       }
   shown_changed closing clock next_link number' sub' q ready out is seen ready_is out_is =
-      let subscriptions : map (shown_sub lim.batch front) (slice_set subs s sub') ≡ slice_set (map (shown_sub lim.batch front) subs) s q = map-set (shown_sub lim.batch front) subs s sub' ∙ ap (slice_set (map (shown_sub lim.batch front) subs) s) seen in
+      let subscriptions : map (shown_sub lim.batch front) (slice_set subs s sub')
+      ≡ slice_set (map (shown_sub lim.batch front) subs) s q = map-set (shown_sub lim.batch front) subs s sub'
+      ∙ ap (slice_set (map (shown_sub lim.batch front) subs) s) seen in
       let ready_order = ap (order ready_at) (lanes_set sub' is) ∙ ready_is in
       let out_order = ap (order out_at) (lanes_set sub' is) ∙ out_is in
       (λ i. record {
@@ -115,7 +126,10 @@ module _ (lim : Limits) (front turn number : ℕ) (subs : List Sub) (s : ℕ) (s
       })
 
   -- the spans of another one in its place, where one span of its lane changes
-  pub spans_changed : (span : Span) (status : Status) (ticket : Ticket) (sub' : Sub) → sub'.closed ≡ false → Changes span status ticket (lane_held lim.batch front sub.lane) (lane_held lim.batch front sub'.lane)
-      → spans_of (sub_held lim.batch front sub') ≡ with_status span.first status (spans_of (sub_held lim.batch front sub))
+  pub spans_changed : (span : Span) (status : Status) (ticket : Ticket) (sub' : Sub) → sub'.closed ≡ false
+      → Changes span status ticket (lane_held lim.batch front sub.lane) (lane_held lim.batch front sub'.lane)
+      → spans_of (sub_held lim.batch front sub')
+      ≡ with_status span.first status (spans_of (sub_held lim.batch front sub))
   spans_changed span status ticket sub' is c =
-      ap spans_of (held_open lim.batch front sub' is) ∙ changed_spans span status ticket c ∙ ap (λ held. with_status span.first status (spans_of held)) (sym (held_open lim.batch front sub o.is_open))
+      ap spans_of (held_open lim.batch front sub' is) ∙ changed_spans span status ticket c
+      ∙ ap (λ held. with_status span.first status (spans_of held)) (sym (held_open lim.batch front sub o.is_open))

@@ -1,5 +1,7 @@
 -- Things with tickets, and the line that they make: what a change to the things changes in the line.
-use Rattle.std.proofs.Common.{◌≡◌, Bool, true, false, not, cond, List, [], ◌∷◌, ◌++◌, map, Option, Some, None, option_map, filter, find, if◌then◌else◌, append_assoc, append-nil, refl, sym, ap, ◌∙◌, subst, arith}
+use Rattle.std.proofs.Common.{◌≡◌, Bool, true, false, not, cond, List, [], ◌∷◌, ◌++◌, map, Option, Some, None}
+use Rattle.std.proofs.Common.{option_map, filter, find, if◌then◌else◌, append_assoc, append-nil, refl, sym, ap, ◌∙◌}
+use Rattle.std.proofs.Common.{subst, arith}
 use Rattle.std.specs.Prelude.{⊤}
 use Rattle.std.specs.List.{AllByRecursion}
 use Rattle.rb_desk.specs.declared.ticket.Ticket.{Ticket}
@@ -42,29 +44,35 @@ module _ {A : Type 0} (P : A → Type 0) where
   all_second (x ∷ xs) ys h = all_second xs ys h.1
 
   -- of those that pass a test, where it holds of what passes
-  pub all_passing : (test : A → Bool) (xs : List A) → AllByRecursion (λ x. test x ≡ true → P x) xs → AllByRecursion P (filter test xs)
+  pub all_passing : (test : A → Bool) (xs : List A) → AllByRecursion (λ x. test x ≡ true → P x) xs
+      → AllByRecursion P (filter test xs)
   all_passing test [] h = tt
   all_passing test (x ∷ xs) h = by (test x) h.0 (all_passing test xs h.1)
     where
-      by : (b : Bool) → (b ≡ true → P x) → AllByRecursion P (filter test xs) → AllByRecursion P (cond b (x ∷ filter test xs) (filter test xs))
+      by : (b : Bool) → (b ≡ true → P x) → AllByRecursion P (filter test xs)
+          → AllByRecursion P (cond b (x ∷ filter test xs) (filter test xs))
       by true first rest = (first refl, rest)
       by false first rest = rest
 
 -- what follows of each
-pub all_then : {A : Type 0} (P Q : A → Type 0) (xs : List A) → ((x : A) → P x → Q x) → AllByRecursion P xs → AllByRecursion Q xs
+pub all_then : {A : Type 0} (P Q : A → Type 0) (xs : List A) → ((x : A) → P x → Q x) → AllByRecursion P xs
+    → AllByRecursion Q xs
 all_then P Q [] step h = tt
 all_then P Q (x ∷ xs) step h = (step x h.0, all_then P Q xs step h.1)
 
 -- of those that pass a test, where it holds of all
-pub all_filter : {A : Type 0} (P : A → Type 0) (test : A → Bool) (xs : List A) → AllByRecursion P xs → AllByRecursion P (filter test xs)
+pub all_filter : {A : Type 0} (P : A → Type 0) (test : A → Bool) (xs : List A) → AllByRecursion P xs
+    → AllByRecursion P (filter test xs)
 all_filter P test xs h = all_passing P test xs (all_then P (λ x. test x ≡ true → P x) xs (λ x p passed. p) h)
 
 -- all pass, or none does
-pub filter_all : {A : Type 0} (test : A → Bool) (xs : List A) → AllByRecursion (λ x. test x ≡ true) xs → filter test xs ≡ xs
+pub filter_all : {A : Type 0} (test : A → Bool) (xs : List A) → AllByRecursion (λ x. test x ≡ true) xs → filter test xs
+    ≡ xs
 filter_all test [] h = refl
 filter_all test (x ∷ xs) h = rw h.0 (ap (λ l. x ∷ l) (filter_all test xs h.1))
 
-pub filter_none : {A : Type 0} (test : A → Bool) (xs : List A) → AllByRecursion (λ x. test x ≡ false) xs → filter test xs ≡ []
+pub filter_none : {A : Type 0} (test : A → Bool) (xs : List A) → AllByRecursion (λ x. test x ≡ false) xs
+    → filter test xs ≡ []
 filter_none test [] h = refl
 filter_none test (x ∷ xs) h = rw h.0 (filter_none test xs h.1)
 
@@ -84,10 +92,12 @@ Rises (e ∷ rest) = LineBehind e.0 rest × Rises rest
 module _ {X : Type 0} where
   -- what is none of it earlier than s is not earlier than t, where s is not
   behind_more : (s t : Ticket) (xs : List (Ticket × X)) → earlier s t ≡ false → LineBehind s xs → LineBehind t xs
-  behind_more s t xs h = all_then (λ e. earlier e.0 s ≡ false) (λ e. earlier e.0 t ≡ false) xs (λ e p. later_transitive e.0 s t p h)
+  behind_more s t xs h = all_then (λ e. earlier e.0 s ≡ false) (λ e. earlier e.0 t ≡ false) xs
+      (λ e p. later_transitive e.0 s t p h)
 
   -- what holds of each thing holds of each in line
-  all_placed : (P : Ticket × X → Type 0) (e : Ticket × X) (xs : List (Ticket × X)) → P e → AllByRecursion P xs → AllByRecursion P (placed_in e xs)
+  all_placed : (P : Ticket × X → Type 0) (e : Ticket × X) (xs : List (Ticket × X)) → P e → AllByRecursion P xs
+      → AllByRecursion P (placed_in e xs)
   all_placed P e [] p h = (p, tt)
   all_placed P e (f ∷ xs) p h = by (earlier f.0 e.0) (all_placed P e xs p h.1)
     where
@@ -95,7 +105,8 @@ module _ {X : Type 0} where
       by true rest = (h.0, rest)
       by false rest = (p, h)
 
-  pub all_line : (P : Ticket × X → Type 0) (xs : List (Ticket × X)) → AllByRecursion P xs → AllByRecursion P (in_line xs)
+  pub all_line : (P : Ticket × X → Type 0) (xs : List (Ticket × X)) → AllByRecursion P xs
+      → AllByRecursion P (in_line xs)
   all_line P [] h = tt
   all_line P (e ∷ xs) h = all_placed P e (in_line xs) h.0 (all_line P xs h.1)
 
@@ -112,17 +123,21 @@ module _ {X : Type 0} where
   rises_line [] = tt
   rises_line (e ∷ xs) = rises_placed e (in_line xs) (rises_line xs)
 
-  -- ahead of things that are none of them earlier a thing is placed first, and behind earlier ones it is placed among the rest
-  pub placed_first : (e : Ticket × X) (xs ys : List (Ticket × X)) → LineBehind e.0 ys → placed_in e (xs ++ ys) ≡ placed_in e xs ++ ys
+  -- ahead of things that are none of them earlier a thing is placed first, and behind earlier ones it is placed among
+  -- the rest
+  pub placed_first : (e : Ticket × X) (xs ys : List (Ticket × X)) → LineBehind e.0 ys → placed_in e (xs ++ ys)
+      ≡ placed_in e xs ++ ys
   placed_first e [] [] h = refl
   placed_first e [] (f ∷ ys) h = rw h.0 refl
   placed_first e (f ∷ xs) ys h = by (earlier f.0 e.0) (placed_first e xs ys h)
     where
-      by : (b : Bool) → placed_in e (xs ++ ys) ≡ placed_in e xs ++ ys → cond b (f ∷ placed_in e (xs ++ ys)) (e ∷ f ∷ (xs ++ ys)) ≡ cond b (f ∷ placed_in e xs) (e ∷ f ∷ xs) ++ ys
+      by : (b : Bool) → placed_in e (xs ++ ys) ≡ placed_in e xs ++ ys
+          → cond b (f ∷ placed_in e (xs ++ ys)) (e ∷ f ∷ (xs ++ ys)) ≡ cond b (f ∷ placed_in e xs) (e ∷ f ∷ xs) ++ ys
       by true rest = ap (λ (l : List (Ticket × X)). f ∷ l) rest
       by false rest = refl
 
-  pub placed_behind : (e : Ticket × X) (xs ys : List (Ticket × X)) → Before e.0 xs → placed_in e (xs ++ ys) ≡ xs ++ placed_in e ys
+  pub placed_behind : (e : Ticket × X) (xs ys : List (Ticket × X)) → Before e.0 xs → placed_in e (xs ++ ys) ≡ xs
+      ++ placed_in e ys
   placed_behind e [] ys h = refl
   placed_behind e (f ∷ xs) ys h = rw h.0 (ap (λ (l : List (Ticket × X)). f ∷ l) (placed_behind e xs ys h.1))
 
@@ -135,32 +150,41 @@ module _ {X : Type 0} where
       front : LineBehind e.0 xs → placed_in e (filter test xs) ≡ e ∷ filter test xs
       front low = placed_first e [] (filter test xs) (all_filter (λ g. earlier g.0 e.0 ≡ false) test xs low)
 
-      pass : (b c : Bool) → earlier f.0 e.0 ≡ true → filter test (placed_in e xs) ≡ cond c (placed_in e (filter test xs)) (filter test xs)
-          → cond b (f ∷ filter test (placed_in e xs)) (filter test (placed_in e xs)) ≡ cond c (placed_in e (cond b (f ∷ filter test xs) (filter test xs))) (cond b (f ∷ filter test xs) (filter test xs))
+      pass : (b c : Bool) → earlier f.0 e.0 ≡ true → filter test (placed_in e xs)
+          ≡ cond c (placed_in e (filter test xs)) (filter test xs)
+          → cond b (f ∷ filter test (placed_in e xs)) (filter test (placed_in e xs))
+          ≡ cond c (placed_in e (cond b (f ∷ filter test xs) (filter test xs)))
+          (cond b (f ∷ filter test xs) (filter test xs))
       pass true true is rest = rw is (ap (λ (l : List (Ticket × X)). f ∷ l) rest)
       pass true false is rest = ap (λ (l : List (Ticket × X)). f ∷ l) rest
       pass false true is rest = rest
       pass false false is rest = rest
 
       stop : (b c : Bool) → earlier f.0 e.0 ≡ false
-          → cond c (e ∷ cond b (f ∷ filter test xs) (filter test xs)) (cond b (f ∷ filter test xs) (filter test xs)) ≡ cond c (placed_in e (cond b (f ∷ filter test xs) (filter test xs))) (cond b (f ∷ filter test xs) (filter test xs))
+          → cond c (e ∷ cond b (f ∷ filter test xs) (filter test xs)) (cond b (f ∷ filter test xs) (filter test xs))
+          ≡ cond c (placed_in e (cond b (f ∷ filter test xs) (filter test xs)))
+          (cond b (f ∷ filter test xs) (filter test xs))
       stop true true is = rw is refl
       stop true false is = refl
       stop false true is = sym (front (behind_more f.0 e.0 xs is h.0))
       stop false false is = refl
 
-      by : (b : Bool) → earlier f.0 e.0 ≡ b → filter test (placed_in e xs) ≡ cond (test e) (placed_in e (filter test xs)) (filter test xs)
-          → filter test (cond b (f ∷ placed_in e xs) (e ∷ f ∷ xs)) ≡ cond (test e) (placed_in e (filter test (f ∷ xs))) (filter test (f ∷ xs))
+      by : (b : Bool) → earlier f.0 e.0 ≡ b → filter test (placed_in e xs)
+          ≡ cond (test e) (placed_in e (filter test xs)) (filter test xs)
+          → filter test (cond b (f ∷ placed_in e xs) (e ∷ f ∷ xs))
+          ≡ cond (test e) (placed_in e (filter test (f ∷ xs))) (filter test (f ∷ xs))
       by true is rest = pass (test f) (test e) is rest
       by false is rest = stop (test f) (test e) is
 
   -- what is left of a line is the line of what is left
-  pub line_filter : (test : Ticket × X → Bool) (xs : List (Ticket × X)) → filter test (in_line xs) ≡ in_line (filter test xs)
+  pub line_filter : (test : Ticket × X → Bool) (xs : List (Ticket × X)) → filter test (in_line xs)
+      ≡ in_line (filter test xs)
   line_filter test [] = refl
   line_filter test (e ∷ xs) = filter_placed test e (in_line xs) (rises_line xs) ∙ by (test e) (line_filter test xs)
     where
       by : (b : Bool) → filter test (in_line xs) ≡ in_line (filter test xs)
-          → cond b (placed_in e (filter test (in_line xs))) (filter test (in_line xs)) ≡ in_line (cond b (e ∷ filter test xs) (filter test xs))
+          → cond b (placed_in e (filter test (in_line xs))) (filter test (in_line xs))
+          ≡ in_line (cond b (e ∷ filter test xs) (filter test xs))
       by true rest = ap (placed_in e) rest
       by false rest = rest
 
@@ -170,7 +194,8 @@ module _ {X : Type 0} where
   behind_same s t (x ∷ xs) h = (h, behind_same s t xs h)
 
   -- those of the last ticket stand behind the line of the others, as they come in
-  pub line_splits : (t : Ticket) (late : Ticket × X → Bool) (xs : List (Ticket × X)) → AllByRecursion (λ e. (late e ≡ false → earlier e.0 t ≡ true) × (late e ≡ true → e.0 ≡ t)) xs
+  pub line_splits : (t : Ticket) (late : Ticket × X → Bool) (xs : List (Ticket × X))
+      → AllByRecursion (λ e. (late e ≡ false → earlier e.0 t ≡ true) × (late e ≡ true → e.0 ≡ t)) xs
       → in_line xs ≡ in_line (filter (λ e. not (late e)) xs) ++ filter late xs
   line_splits t late [] h = refl
   line_splits t late (e ∷ xs) h = ap (placed_in e) (line_splits t late xs h.1) ∙ by (late e) h.0.0 h.0.1
@@ -186,34 +211,50 @@ module _ {X : Type 0} where
       passes false is = refl
 
       before : Before t (in_line others)
-      before = all_line (λ e. earlier e.0 t ≡ true) others (all_passing (λ e. earlier e.0 t ≡ true) (λ e. not (late e)) xs (all_then Parts (λ e. not (late e) ≡ true → earlier e.0 t ≡ true) xs (λ e p is. p.0 (passes (late e) is)) h.1))
+      before = all_line (λ e. earlier e.0 t ≡ true) others
+          (all_passing (λ e. earlier e.0 t ≡ true) (λ e. not (late e)) xs
+          (all_then Parts (λ e. not (late e) ≡ true → earlier e.0 t ≡ true) xs (λ e p is. p.0 (passes (late e) is))
+          h.1))
 
       behind : earlier t e.0 ≡ false → LineBehind e.0 (filter late xs)
-      behind none = all_passing (λ f. earlier f.0 e.0 ≡ false) late xs (all_then Parts (λ f. late f ≡ true → earlier f.0 e.0 ≡ false) xs (λ f p is. ap (λ u. earlier u e.0) (p.1 is) ∙ none) h.1)
+      behind none = all_passing (λ f. earlier f.0 e.0 ≡ false) late xs
+          (all_then Parts (λ f. late f ≡ true → earlier f.0 e.0 ≡ false) xs
+          (λ f p is. ap (λ u. earlier u e.0) (p.1 is) ∙ none) h.1)
 
-      by : (b : Bool) → (b ≡ false → earlier e.0 t ≡ true) → (b ≡ true → e.0 ≡ t) → placed_in e (in_line others ++ filter late xs) ≡ in_line (cond (not b) (e ∷ others) others) ++ cond b (e ∷ filter late xs) (filter late xs)
+      by : (b : Bool) → (b ≡ false → earlier e.0 t ≡ true) → (b ≡ true → e.0 ≡ t)
+          → placed_in e (in_line others ++ filter late xs) ≡ in_line (cond (not b) (e ∷ others) others)
+          ++ cond b (e ∷ filter late xs) (filter late xs)
       by true early at =
-          placed_behind e (in_line others) (filter late xs) (subst (λ u. Before u (in_line others)) (sym (at refl)) before)
-          ∙ ap (λ l. in_line others ++ l) (placed_first e [] (filter late xs) (behind (ap (earlier t) (at refl) ∙ earlier_irreflexive t)))
-      by false early at = placed_first e (in_line others) (filter late xs) (behind (earlier_asymmetric e.0 t (early refl)))
+          placed_behind e (in_line others) (filter late xs)
+          (subst (λ u. Before u (in_line others)) (sym (at refl)) before)
+          ∙ ap (λ l. in_line others ++ l)
+          (placed_first e [] (filter late xs) (behind (ap (earlier t) (at refl) ∙ earlier_irreflexive t)))
+      by false early at = placed_first e (in_line others) (filter late xs)
+          (behind (earlier_asymmetric e.0 t (early refl)))
 
   -- things of one later ticket among the others stand behind the line, ahead of more of that ticket
-  pub line_more : (t : Ticket) (xs ys zs : List (Ticket × X)) (new more : List X) → Before t xs → Before t ys → in_line zs ≡ in_line ys ++ map (λ x. (t, x)) more
+  pub line_more : (t : Ticket) (xs ys zs : List (Ticket × X)) (new more : List X) → Before t xs → Before t ys
+      → in_line zs ≡ in_line ys ++ map (λ x. (t, x)) more
       → in_line (xs ++ (map (λ x. (t, x)) new ++ zs)) ≡ in_line (xs ++ ys) ++ map (λ x. (t, x)) (new ++ more)
   line_more t [] ys zs [] more p q rest = rest
   line_more t [] ys zs (x ∷ new) more p q rest =
       ap (placed_in (t, x)) (line_more t [] ys zs new more p q rest)
       ∙ placed_behind (t, x) (in_line ys) (map (λ x. (t, x)) (new ++ more)) (all_line (λ e. earlier e.0 t ≡ true) ys q)
-      ∙ ap (λ l. in_line ys ++ l) (placed_first (t, x) [] (map (λ x. (t, x)) (new ++ more)) (behind_same t t (new ++ more) (earlier_irreflexive t)))
+      ∙ ap (λ l. in_line ys ++ l)
+      (placed_first (t, x) [] (map (λ x. (t, x)) (new ++ more))
+      (behind_same t t (new ++ more) (earlier_irreflexive t)))
   line_more t (e ∷ xs) ys zs new more p q rest =
       ap (placed_in e) (line_more t xs ys zs new more p.1 q rest)
-      ∙ placed_first e (in_line (xs ++ ys)) (map (λ x. (t, x)) (new ++ more)) (behind_same e.0 t (new ++ more) (earlier_asymmetric e.0 t p.0))
+      ∙ placed_first e (in_line (xs ++ ys)) (map (λ x. (t, x)) (new ++ more))
+      (behind_same e.0 t (new ++ more) (earlier_asymmetric e.0 t p.0))
 
   -- things of one later ticket among the others stand behind the line, as they come in
-  pub line_appends : (t : Ticket) (xs ys : List (Ticket × X)) (new : List X) → Before t (xs ++ ys) → in_line (xs ++ map (λ x. (t, x)) new ++ ys) ≡ in_line (xs ++ ys) ++ map (λ x. (t, x)) new
+  pub line_appends : (t : Ticket) (xs ys : List (Ticket × X)) (new : List X) → Before t (xs ++ ys)
+      → in_line (xs ++ map (λ x. (t, x)) new ++ ys) ≡ in_line (xs ++ ys) ++ map (λ x. (t, x)) new
   line_appends t xs ys new h =
       ap in_line (append_assoc xs (map (λ x. (t, x)) new) ys)
-      ∙ line_more t xs ys ys new [] (all_first (λ e. earlier e.0 t ≡ true) xs ys h) (all_second (λ e. earlier e.0 t ≡ true) xs ys h) (sym (append-nil (in_line ys)))
+      ∙ line_more t xs ys ys new [] (all_first (λ e. earlier e.0 t ≡ true) xs ys h)
+      (all_second (λ e. earlier e.0 t ≡ true) xs ys h) (sym (append-nil (in_line ys)))
       ∙ ap (λ l. in_line (xs ++ ys) ++ map (λ x. (t, x)) l) (append-nil new)
 
 -- ---- the first one
@@ -241,19 +282,23 @@ module _ {X : Type 0} where
   sooner_assoc (Some a) (Some b) None = sooner_none (sooner (Some a) (Some b))
   sooner_assoc (Some a) (Some b) (Some c) = by (earlier b.0 a.0) (earlier c.0 b.0) refl refl
     where
-      by : (p q : Bool) → earlier b.0 a.0 ≡ p → earlier c.0 b.0 ≡ q → sooner (cond p (Some b) (Some a)) (Some c) ≡ sooner (Some a) (cond q (Some c) (Some b))
+      by : (p q : Bool) → earlier b.0 a.0 ≡ p → earlier c.0 b.0 ≡ q → sooner (cond p (Some b) (Some a)) (Some c)
+          ≡ sooner (Some a) (cond q (Some c) (Some b))
       by true true h k = rw (k, earlier_transitive c.0 b.0 a.0 k h) refl
       by true false h k = rw (k, h) refl
       by false true h k = refl
       by false false h k = rw (h, later_transitive c.0 b.0 a.0 k h) refl
 
   -- the first of two lists in a row
-  pub first_of_append : (p : X → Bool) (xs ys : List (Ticket × X)) → first_of p (xs ++ ys) ≡ sooner (first_of p xs) (first_of p ys)
+  pub first_of_append : (p : X → Bool) (xs ys : List (Ticket × X)) → first_of p (xs ++ ys)
+      ≡ sooner (first_of p xs) (first_of p ys)
   first_of_append p [] ys = refl
-  first_of_append p (e ∷ xs) ys = ap (sooner (cond (p e.1) (Some e) None)) (first_of_append p xs ys) ∙ sym (sooner_assoc (cond (p e.1) (Some e) None) (first_of p xs) (first_of p ys))
+  first_of_append p (e ∷ xs) ys = ap (sooner (cond (p e.1) (Some e) None)) (first_of_append p xs ys)
+      ∙ sym (sooner_assoc (cond (p e.1) (Some e) None) (first_of p xs) (first_of p ys))
 
   -- what is found behind a thing is not sooner
-  found_behind : (q : Ticket × X → Bool) (e : Ticket × X) (xs : List (Ticket × X)) → LineBehind e.0 xs → sooner (Some e) (find q xs) ≡ Some e
+  found_behind : (q : Ticket × X → Bool) (e : Ticket × X) (xs : List (Ticket × X)) → LineBehind e.0 xs
+      → sooner (Some e) (find q xs) ≡ Some e
   found_behind q e [] h = refl
   found_behind q e (f ∷ xs) h = by (q f) (found_behind q e xs h.1)
     where
@@ -262,36 +307,44 @@ module _ {X : Type 0} where
       by false rest = rest
 
   -- what is found in a line in which a thing was placed
-  find_placed : (q : Ticket × X → Bool) (e : Ticket × X) (xs : List (Ticket × X)) → Rises xs → find q (placed_in e xs) ≡ sooner (cond (q e) (Some e) None) (find q xs)
+  find_placed : (q : Ticket × X → Bool) (e : Ticket × X) (xs : List (Ticket × X)) → Rises xs → find q (placed_in e xs)
+      ≡ sooner (cond (q e) (Some e) None) (find q xs)
   find_placed q e [] h = sym (sooner_none (cond (q e) (Some e) None))
   find_placed q e (f ∷ xs) h = by (earlier f.0 e.0) refl (find_placed q e xs h.1)
     where
-      pass : (b c : Bool) → earlier f.0 e.0 ≡ true → find q (placed_in e xs) ≡ sooner (cond c (Some e) None) (find q xs) → cond b (Some f) (find q (placed_in e xs)) ≡ sooner (cond c (Some e) None) (cond b (Some f) (find q xs))
+      pass : (b c : Bool) → earlier f.0 e.0 ≡ true → find q (placed_in e xs) ≡ sooner (cond c (Some e) None) (find q xs)
+          → cond b (Some f) (find q (placed_in e xs)) ≡ sooner (cond c (Some e) None) (cond b (Some f) (find q xs))
       pass true true is rest = rw is refl
       pass true false is rest = refl
       pass false c is rest = rest
 
-      stop : (c : Bool) → LineBehind e.0 (f ∷ xs) → cond c (Some e) (find q (f ∷ xs)) ≡ sooner (cond c (Some e) None) (find q (f ∷ xs))
+      stop : (c : Bool) → LineBehind e.0 (f ∷ xs) → cond c (Some e) (find q (f ∷ xs))
+          ≡ sooner (cond c (Some e) None) (find q (f ∷ xs))
       stop true low = sym (found_behind q e (f ∷ xs) low)
       stop false low = refl
 
-      by : (b : Bool) → earlier f.0 e.0 ≡ b → find q (placed_in e xs) ≡ sooner (cond (q e) (Some e) None) (find q xs) → find q (cond b (f ∷ placed_in e xs) (e ∷ f ∷ xs)) ≡ sooner (cond (q e) (Some e) None) (find q (f ∷ xs))
+      by : (b : Bool) → earlier f.0 e.0 ≡ b → find q (placed_in e xs) ≡ sooner (cond (q e) (Some e) None) (find q xs)
+          → find q (cond b (f ∷ placed_in e xs) (e ∷ f ∷ xs)) ≡ sooner (cond (q e) (Some e) None) (find q (f ∷ xs))
       by true is rest = pass (q f) (q e) is rest
       by false is rest = stop (q e) (is, behind_more f.0 e.0 xs is h.0)
 
   -- the first that passes in the line, with its ticket
   find_line : (p : X → Bool) (xs : List (Ticket × X)) → find (λ e. p e.1) (in_line xs) ≡ first_of p xs
   find_line p [] = refl
-  find_line p (e ∷ xs) = find_placed (λ e. p e.1) e (in_line xs) (rises_line xs) ∙ ap (sooner (cond (p e.1) (Some e) None)) (find_line p xs)
+  find_line p (e ∷ xs) = find_placed (λ e. p e.1) e (in_line xs) (rises_line xs)
+      ∙ ap (sooner (cond (p e.1) (Some e) None)) (find_line p xs)
 
   -- and without it
-  pub find_first : (p : X → Bool) (xs : List (Ticket × X)) → find p (map (λ e. e.1) (in_line xs)) ≡ option_map (λ e. e.1) (first_of p xs)
+  pub find_first : (p : X → Bool) (xs : List (Ticket × X)) → find p (map (λ e. e.1) (in_line xs))
+      ≡ option_map (λ e. e.1) (first_of p xs)
   find_first p xs = find_seen (in_line xs) ∙ ap (option_map (λ e. e.1)) (find_line p xs)
     where
       find_seen : (ys : List (Ticket × X)) → find p (map (λ e. e.1) ys) ≡ option_map (λ e. e.1) (find (λ e. p e.1) ys)
       find_seen [] = refl
       find_seen (e ∷ ys) = by (p e.1) (find_seen ys)
         where
-          by : (b : Bool) → find p (map (λ e. e.1) ys) ≡ option_map (λ e. e.1) (find (λ e. p e.1) ys) → cond b (Some e.1) (find p (map (λ e. e.1) ys)) ≡ option_map (λ e. e.1) (cond b (Some e) (find (λ e. p e.1) ys))
+          by : (b : Bool) → find p (map (λ e. e.1) ys) ≡ option_map (λ e. e.1) (find (λ e. p e.1) ys)
+              → cond b (Some e.1) (find p (map (λ e. e.1) ys))
+              ≡ option_map (λ e. e.1) (cond b (Some e) (find (λ e. p e.1) ys))
           by true rest = refl
           by false rest = rest

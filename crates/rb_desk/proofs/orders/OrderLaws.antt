@@ -1,5 +1,8 @@
 -- The order that the spans of all subscriptions stand in: what a change of one lane, or of each, changes in it.
-use Rattle.std.proofs.Common.{◌≡◌, ℕ, zero, suc, ◌+◌, ◌≤◌, ne_eqb, eq-eqb, Bool, true, false, not, ◌==◌, cond, List, [], ◌∷◌, ◌++◌, length, map, Option, Some, None, option_map, IfSome, filter, filter_map, find, slice_get, slice_set, if◌then◌else◌, append_assoc, append-nil, refl, sym, ap, ◌∙◌, subst, arith}
+use Rattle.std.proofs.Common.{◌≡◌, ℕ, zero, suc, ◌+◌, ◌≤◌, ne_eqb, eq-eqb, Bool, true, false, not, ◌==◌, cond, List, []}
+use Rattle.std.proofs.Common.{◌∷◌, ◌++◌, length, map, Option, Some, None, option_map, IfSome, filter, filter_map, find}
+use Rattle.std.proofs.Common.{slice_get, slice_set, if◌then◌else◌, append_assoc, append-nil, refl, sym, ap, ◌∙◌, subst}
+use Rattle.std.proofs.Common.{arith}
 use Rattle.std.specs.Prelude.{⊤}
 use Rattle.std.specs.List.{AllByRecursion, cons_option}
 use Rattle.std.proofs.lemmas.List.Elements.{filter-append}
@@ -12,7 +15,9 @@ use Rattle.rb_desk.specs.Spans.{is_ready}
 use Rattle.rb_desk.specs.Calls.{is_span, without_span, without_subscription}
 use Rattle.rb_desk.specs.Lanes.{earlier, least, better}
 use Rattle.rb_desk.specs.Orders.{in_line, ready_at, out_at, out_at_status, all_at, order}
-use Rattle.rb_desk.proofs.orders.Line.{all_both, all_first, all_second, all_then, filter_all, filter_none, Before, line_filter, line_more, line_appends, sooner, first_of, first_of_append, find_first}
+use Rattle.rb_desk.proofs.orders.Line.{all_both, all_first, all_second, all_then, filter_all, filter_none, Before}
+use Rattle.rb_desk.proofs.orders.Line.{line_filter, line_more, line_appends, sooner, first_of, first_of_append}
+use Rattle.rb_desk.proofs.orders.Line.{find_first}
 
 -- what stands in an order, by a function that says where a span of a subscription stands
 abbrev pub At : Type 0
@@ -30,7 +35,8 @@ Tagged at = (s : ℕ) (h : Held) → IfSome (at s h) (λ e. e.1 ≡ (s, h.span.f
 pub tagged_ready : Tagged ready_at
 tagged_ready s h = by (is_ready h.span.status)
   where
-    by : (b : Bool) → IfSome {T = Ticket × (ℕ × ℕ)} (cond b (Some (h.ticket, (s, h.span.first))) None) (λ e. e.1 ≡ (s, h.span.first))
+    by : (b : Bool) → IfSome {T = Ticket × (ℕ × ℕ)} (cond b (Some (h.ticket, (s, h.span.first))) None)
+        (λ e. e.1 ≡ (s, h.span.first))
     by true = refl
     by false = tt
 
@@ -46,23 +52,27 @@ tagged_out s h = by h.span.status
 -- ---- lists
 
 -- the second parts of what is left
-pub seen_filter : (q : ℕ × ℕ → Bool) (es : OrderEntries) → map (λ e. e.1) (filter (λ e. q e.1) es) ≡ filter q (map (λ e. e.1) es)
+pub seen_filter : (q : ℕ × ℕ → Bool) (es : OrderEntries) → map (λ e. e.1) (filter (λ e. q e.1) es)
+    ≡ filter q (map (λ e. e.1) es)
 seen_filter q [] = refl
 seen_filter q (e ∷ es) = by (q e.1) (seen_filter q es)
   where
     by : (b : Bool) → map (λ e. e.1) (filter (λ e. q e.1) es) ≡ filter q (map (λ e. e.1) es)
-        → map (λ e. e.1) (cond b (e ∷ filter (λ e. q e.1) es) (filter (λ e. q e.1) es)) ≡ cond b (e.1 ∷ filter q (map (λ e. e.1) es)) (filter q (map (λ e. e.1) es))
+        → map (λ e. e.1) (cond b (e ∷ filter (λ e. q e.1) es) (filter (λ e. q e.1) es))
+        ≡ cond b (e.1 ∷ filter q (map (λ e. e.1) es)) (filter q (map (λ e. e.1) es))
     by true rest = ap (λ (l : List (ℕ × ℕ)). e.1 ∷ l) rest
     by false rest = rest
 
 -- the second parts of what was added
-seen_more : (t : Ticket) (es : OrderEntries) (new : List (ℕ × ℕ)) → map (λ e. e.1) (es ++ map (λ x. (t, x)) new) ≡ map (λ e. e.1) es ++ new
+seen_more : (t : Ticket) (es : OrderEntries) (new : List (ℕ × ℕ)) → map (λ e. e.1) (es ++ map (λ x. (t, x)) new)
+    ≡ map (λ e. e.1) es ++ new
 seen_more t [] [] = refl
 seen_more t [] (x ∷ new) = ap (λ (l : List (ℕ × ℕ)). x ∷ l) (seen_more t [] new)
 seen_more t (e ∷ es) new = ap (λ (l : List (ℕ × ℕ)). e.1 ∷ l) (seen_more t es new)
 
 -- what is left of what stands in line
-order_filter : (q : ℕ × ℕ → Bool) (es : OrderEntries) → map (λ e. e.1) (in_line (filter (λ e. q e.1) es)) ≡ filter q (map (λ e. e.1) (in_line es))
+order_filter : (q : ℕ × ℕ → Bool) (es : OrderEntries) → map (λ e. e.1) (in_line (filter (λ e. q e.1) es))
+    ≡ filter q (map (λ e. e.1) (in_line es))
 order_filter q es = ap (map (λ e. e.1)) (sym (line_filter (λ e. q e.1) es)) ∙ seen_filter q (in_line es)
 
 -- ---- one lane among the others
@@ -72,7 +82,9 @@ lane_own : (at : At) (s : ℕ) → Tagged at → (lane : List Held) → AllByRec
 lane_own at s tagged [] = tt
 lane_own at s tagged (h ∷ lane) = by (at s h) (tagged s h) (lane_own at s tagged lane)
   where
-    by : (o : Option (Ticket × (ℕ × ℕ))) → IfSome o (λ e. e.1 ≡ (s, h.span.first)) → AllByRecursion (λ e. e.1.0 ≡ s) (filter_map (at s) lane) → AllByRecursion (λ e. e.1.0 ≡ s) (cons_option o (filter_map (at s) lane))
+    by : (o : Option (Ticket × (ℕ × ℕ))) → IfSome o (λ e. e.1 ≡ (s, h.span.first))
+        → AllByRecursion (λ e. e.1.0 ≡ s) (filter_map (at s) lane)
+        → AllByRecursion (λ e. e.1.0 ≡ s) (cons_option o (filter_map (at s) lane))
     by None is rest = rest
     by (Some e) is rest = (ap (λ x. x.0) is, rest)
 
@@ -82,17 +94,23 @@ record Around (at : At) (n k : ℕ) (lanes : List (List Held)) (s : ℕ) (lane :
   behind : OrderEntries
   whole : all_at at n lanes ≡ ahead ++ (filter_map (at k) lane ++ behind)
   changed : (new : List Held) → all_at at n (slice_set lanes s new) ≡ ahead ++ (filter_map (at k) new ++ behind)
-  others : Tagged at → AllByRecursion (λ e. (e.1.0 == k) ≡ false) ahead × AllByRecursion (λ e. (e.1.0 == k) ≡ false) behind
+  others : Tagged at → AllByRecursion (λ e. (e.1.0 == k) ≡ false) ahead
+      × AllByRecursion (λ e. (e.1.0 == k) ≡ false) behind
 
 -- the entries of all subscriptions from a number on are under such numbers
-all_from : (at : At) (n : ℕ) (lanes : List (List Held)) → Tagged at → AllByRecursion (λ e. n ≤ e.1.0) (all_at at n lanes)
+all_from : (at : At) (n : ℕ) (lanes : List (List Held)) → Tagged at
+    → AllByRecursion (λ e. n ≤ e.1.0) (all_at at n lanes)
 all_from at n [] tagged = tt
 all_from at n (lane ∷ lanes) tagged =
-    all_both (λ e. n ≤ e.1.0) (filter_map (at n) lane) (all_at at (suc n) lanes) (all_then (λ e. e.1.0 ≡ n) (λ e. n ≤ e.1.0) (filter_map (at n) lane) (λ e is. omega (arith, is)) (lane_own at n tagged lane))
-    (all_then (λ e. suc n ≤ e.1.0) (λ e. n ≤ e.1.0) (all_at at (suc n) lanes) (λ e low. omega (arith, low)) (all_from at (suc n) lanes tagged))
+    all_both (λ e. n ≤ e.1.0) (filter_map (at n) lane) (all_at at (suc n) lanes)
+    (all_then (λ e. e.1.0 ≡ n) (λ e. n ≤ e.1.0) (filter_map (at n) lane) (λ e is. omega (arith, is))
+    (lane_own at n tagged lane))
+    (all_then (λ e. suc n ≤ e.1.0) (λ e. n ≤ e.1.0) (all_at at (suc n) lanes) (λ e low. omega (arith, low))
+    (all_from at (suc n) lanes tagged))
 
 -- each lane that there is has the others around it, where the first lane's number is n
-around_from : (at : At) (n k : ℕ) (lanes : List (List Held)) (s : ℕ) (lane : List Held) → k ≡ n + s → slice_get lanes s ≡ Some lane → Around at n k lanes s lane
+around_from : (at : At) (n k : ℕ) (lanes : List (List Held)) (s : ℕ) (lane : List Held) → k ≡ n + s → slice_get lanes s
+    ≡ Some lane → Around at n k lanes s lane
 around_from at n k [] s lane is found = absurd (omega (arith, slice_get_within [] s lane found))
 around_from at n k (l ∷ lanes) zero lane is found =
     let here : n ≡ k = omega (arith, is) in
@@ -102,7 +120,11 @@ around_from at n k (l ∷ lanes) zero lane is found =
       behind = all_at at (suc n) lanes;
       whole = λ i. filter_map (at (here i)) (same i) ++ all_at at (suc n) lanes;
       changed = λ new i. filter_map (at (here i)) new ++ all_at at (suc n) lanes;
-      others = λ tagged. (tt, all_then (λ e. suc n ≤ e.1.0) (λ e. (e.1.0 == k) ≡ false) (all_at at (suc n) lanes) (λ e low. ne_eqb e.1.0 k (omega (arith, low, here))) (all_from at (suc n) lanes tagged));
+      others = λ tagged. (
+        tt,
+        all_then (λ e. suc n ≤ e.1.0) (λ e. (e.1.0 == k) ≡ false) (all_at at (suc n) lanes)
+            (λ e low. ne_eqb e.1.0 k (omega (arith, low, here))) (all_from at (suc n) lanes tagged),
+      );
     }
 around_from at n k (l ∷ lanes) (suc s) lane is found =
     let a = around_from at (suc n) k lanes s lane (omega (arith, is)) found in
@@ -111,85 +133,133 @@ around_from at n k (l ∷ lanes) (suc s) lane is found =
       ahead = own ++ a.ahead;
       behind = a.behind;
       whole = ap (λ z. own ++ z) a.whole ∙ sym (append_assoc own a.ahead (filter_map (at k) lane ++ a.behind));
-      changed = λ new. ap (λ z. own ++ z) (a.changed new) ∙ sym (append_assoc own a.ahead (filter_map (at k) new ++ a.behind));
-      others = λ tagged. (all_both (λ e. (e.1.0 == k) ≡ false) own a.ahead (all_then (λ e. e.1.0 ≡ n) (λ e. (e.1.0 == k) ≡ false) own (λ e here. ne_eqb e.1.0 k (omega (arith, here, is))) (lane_own at n tagged l)) (a.others tagged).0, (a.others tagged).1);
+      changed = λ new. ap (λ z. own ++ z) (a.changed new)
+          ∙ sym (append_assoc own a.ahead (filter_map (at k) new ++ a.behind));
+      others = λ tagged. (
+        all_both (λ e. (e.1.0 == k) ≡ false) own a.ahead
+            (all_then (λ e. e.1.0 ≡ n) (λ e. (e.1.0 == k) ≡ false) own
+            (λ e here. ne_eqb e.1.0 k (omega (arith, here, is))) (lane_own at n tagged l)) (a.others tagged).0,
+        (a.others tagged).1,
+      );
     }
 
 -- and where it is 0
-around : (at : At) (lanes : List (List Held)) (s : ℕ) (lane : List Held) → slice_get lanes s ≡ Some lane → Around at 0 s lanes s lane
+around : (at : At) (lanes : List (List Held)) (s : ℕ) (lane : List Held) → slice_get lanes s ≡ Some lane
+    → Around at 0 s lanes s lane
 around at lanes s lane found = around_from at 0 s lanes s lane (omega arith) found
 
 -- ---- a change of one lane
 
 -- a lane that has the same entries
-pub order_same : (at : At) (lanes : List (List Held)) (s : ℕ) (lane lane' : List Held) → slice_get lanes s ≡ Some lane → filter_map (at s) lane' ≡ filter_map (at s) lane
+pub order_same : (at : At) (lanes : List (List Held)) (s : ℕ) (lane lane' : List Held) → slice_get lanes s ≡ Some lane
+    → filter_map (at s) lane' ≡ filter_map (at s) lane
     → order at (slice_set lanes s lane') ≡ order at lanes
 order_same at lanes s lane lane' found same =
     let a = around at lanes s lane found in
     ap (λ z. map (λ e. e.1) (in_line z)) (a.changed lane' ∙ ap (λ z. a.ahead ++ (z ++ a.behind)) same ∙ sym a.whole)
 
 -- a lane that has those of its entries that pass a test, where those of all other lanes do
-pub order_left : (at : At) (q : ℕ × ℕ → Bool) (lanes : List (List Held)) (s : ℕ) (lane lane' : List Held) → Tagged at → slice_get lanes s ≡ Some lane → ((x : ℕ × ℕ) → (x.0 == s) ≡ false → q x ≡ true)
-    → filter_map (at s) lane' ≡ filter (λ e. q e.1) (filter_map (at s) lane) → order at (slice_set lanes s lane') ≡ filter q (order at lanes)
+pub order_left : (at : At) (q : ℕ × ℕ → Bool) (lanes : List (List Held)) (s : ℕ) (lane lane' : List Held) → Tagged at
+    → slice_get lanes s ≡ Some lane → ((x : ℕ × ℕ) → (x.0 == s) ≡ false → q x ≡ true)
+    → filter_map (at s) lane' ≡ filter (λ e. q e.1) (filter_map (at s) lane) → order at (slice_set lanes s lane')
+    ≡ filter q (order at lanes)
 order_left at q lanes s lane lane' tagged found other left =
     let a = around at lanes s lane found in
     let own : OrderEntries = filter_map (at s) lane in
     let keep : OrderEntries → OrderEntries = filter (λ e. q e.1) in
-    let all_kept : (es : OrderEntries) → AllByRecursion (λ e. (e.1.0 == s) ≡ false) es → keep es ≡ es = λ es h. filter_all (λ e. q e.1) es (all_then (λ e. (e.1.0 == s) ≡ false) (λ e. q e.1 ≡ true) es (λ e. other e.1) h) in
+    let all_kept : (es : OrderEntries) → AllByRecursion (λ e. (e.1.0 == s) ≡ false) es → keep es ≡ es =
+    λ es h. filter_all (λ e. q e.1) es
+    (all_then (λ e. (e.1.0 == s) ≡ false) (λ e. q e.1 ≡ true) es (λ e. other e.1) h) in
     let parts : keep (a.ahead ++ (own ++ a.behind)) ≡ a.ahead ++ (keep own ++ a.behind) =
-    filter-append (λ e. q e.1) a.ahead (own ++ a.behind) ∙ (λ i. all_kept a.ahead (a.others tagged).0 i ++ filter-append (λ e. q e.1) own a.behind i) ∙ ap (λ z. a.ahead ++ (keep own ++ z)) (all_kept a.behind (a.others tagged).1) in
-    ap (λ z. map (λ e. e.1) (in_line z)) (a.changed lane' ∙ ap (λ z. a.ahead ++ (z ++ a.behind)) left ∙ sym parts ∙ ap keep (sym a.whole)) ∙ order_filter q (all_at at 0 lanes)
+    filter-append (λ e. q e.1) a.ahead (own ++ a.behind)
+    ∙ (λ i. all_kept a.ahead (a.others tagged).0 i ++ filter-append (λ e. q e.1) own a.behind i)
+    ∙ ap (λ z. a.ahead ++ (keep own ++ z)) (all_kept a.behind (a.others tagged).1) in
+    ap (λ z. map (λ e. e.1) (in_line z))
+    (a.changed lane' ∙ ap (λ z. a.ahead ++ (z ++ a.behind)) left ∙ sym parts ∙ ap keep (sym a.whole))
+    ∙ order_filter q (all_at at 0 lanes)
 
 -- a lane without one span
-pub order_without : (at : At) (lanes : List (List Held)) (s first : ℕ) (lane lane' : List Held) → Tagged at → slice_get lanes s ≡ Some lane
-    → filter_map (at s) lane' ≡ filter (λ e. not (is_span s first e.1)) (filter_map (at s) lane) → order at (slice_set lanes s lane') ≡ without_span s first (order at lanes)
-order_without at lanes s first lane lane' tagged found left = order_left at (λ x. not (is_span s first x)) lanes s lane lane' tagged found (λ x other. rw other refl) left
+pub order_without : (at : At) (lanes : List (List Held)) (s first : ℕ) (lane lane' : List Held) → Tagged at
+    → slice_get lanes s ≡ Some lane
+    → filter_map (at s) lane' ≡ filter (λ e. not (is_span s first e.1)) (filter_map (at s) lane)
+    → order at (slice_set lanes s lane') ≡ without_span s first (order at lanes)
+order_without at lanes s first lane lane' tagged found left =
+    order_left at (λ x. not (is_span s first x)) lanes s lane lane' tagged found (λ x other. rw other refl) left
 
 -- an empty lane
-pub order_cleared : (at : At) (lanes : List (List Held)) (s : ℕ) (lane : List Held) → Tagged at → slice_get lanes s ≡ Some lane → order at (slice_set lanes s []) ≡ without_subscription s (order at lanes)
+pub order_cleared : (at : At) (lanes : List (List Held)) (s : ℕ) (lane : List Held) → Tagged at → slice_get lanes s
+    ≡ Some lane → order at (slice_set lanes s []) ≡ without_subscription s (order at lanes)
 order_cleared at lanes s lane tagged found =
     order_left at (λ x. not (x.0 == s)) lanes s lane [] tagged found (λ x other. rw other refl)
-    (sym (filter_none (λ e. not (e.1.0 == s)) (filter_map (at s) lane) (all_then (λ e. e.1.0 ≡ s) (λ e. not (e.1.0 == s) ≡ false) (filter_map (at s) lane) (λ e own. ap not (eq-eqb e.1.0 s own)) (lane_own at s tagged lane))))
+    (sym (filter_none (λ e. not (e.1.0 == s)) (filter_map (at s) lane)
+    (all_then (λ e. e.1.0 ≡ s) (λ e. not (e.1.0 == s) ≡ false) (filter_map (at s) lane)
+    (λ e own. ap not (eq-eqb e.1.0 s own)) (lane_own at s tagged lane))))
 
 -- a lane with more entries of one later ticket
-pub order_with : (at : At) (t : Ticket) (lanes : List (List Held)) (s : ℕ) (lane lane' : List Held) (a b : List (Ticket × (ℕ × ℕ))) (new : List (ℕ × ℕ)) → slice_get lanes s ≡ Some lane → filter_map (at s) lane ≡ a ++ b
-    → filter_map (at s) lane' ≡ a ++ map (λ x. (t, x)) new ++ b → AllByRecursion (λ e. earlier e.0 t ≡ true) (all_at at 0 lanes) → order at (slice_set lanes s lane') ≡ order at lanes ++ new
+pub order_with : (at : At) (t : Ticket) (lanes : List (List Held)) (s : ℕ) (lane lane' : List Held)
+    (a b : List (Ticket × (ℕ × ℕ))) (new : List (ℕ × ℕ)) → slice_get lanes s ≡ Some lane → filter_map (at s) lane ≡ a
+    ++ b
+    → filter_map (at s) lane' ≡ a ++ map (λ x. (t, x)) new ++ b
+    → AllByRecursion (λ e. earlier e.0 t ≡ true) (all_at at 0 lanes) → order at (slice_set lanes s lane')
+    ≡ order at lanes ++ new
 order_with at t lanes s lane lane' a b new found own more before =
     let r = around at lanes s lane found in
     let added : OrderEntries = map (λ x. (t, x)) new in
-    let old : all_at at 0 lanes ≡ (r.ahead ++ a) ++ (b ++ r.behind) = r.whole ∙ ap (λ z. r.ahead ++ (z ++ r.behind)) own ∙ simp append_assoc refl in
-    let now : all_at at 0 (slice_set lanes s lane') ≡ (r.ahead ++ a) ++ added ++ (b ++ r.behind) = r.changed lane' ∙ ap (λ z. r.ahead ++ (z ++ r.behind)) more ∙ simp append_assoc refl in
-    ap (λ z. map (λ e. e.1) (in_line z)) now ∙ ap (map (λ e. e.1)) (line_appends t (r.ahead ++ a) (b ++ r.behind) new (subst (Before t) old before))
-    ∙ seen_more t (in_line ((r.ahead ++ a) ++ (b ++ r.behind))) new ∙ ap (λ z. map (λ e. e.1) (in_line z) ++ new) (sym old)
+    let old : all_at at 0 lanes ≡ (r.ahead ++ a) ++ (b ++ r.behind) = r.whole ∙ ap (λ z. r.ahead ++ (z ++ r.behind)) own
+    ∙ simp append_assoc refl in
+    let now : all_at at 0 (slice_set lanes s lane') ≡ (r.ahead ++ a) ++ added ++ (b ++ r.behind) =
+    r.changed lane' ∙ ap (λ z. r.ahead ++ (z ++ r.behind)) more ∙ simp append_assoc refl in
+    ap (λ z. map (λ e. e.1) (in_line z)) now
+    ∙ ap (map (λ e. e.1)) (line_appends t (r.ahead ++ a) (b ++ r.behind) new (subst (Before t) old before))
+    ∙ seen_more t (in_line ((r.ahead ++ a) ++ (b ++ r.behind))) new
+    ∙ ap (λ z. map (λ e. e.1) (in_line z) ++ new) (sym old)
 
 -- a lane that has entries of one later ticket in the place of all it had
-pub order_replaced : (at : At) (t : Ticket) (lanes : List (List Held)) (s : ℕ) (lane lane' : List Held) (new : List (ℕ × ℕ)) → slice_get lanes s ≡ Some lane → Tagged at → filter_map (at s) lane' ≡ map (λ x. (t, x)) new
-    → AllByRecursion (λ e. earlier e.0 t ≡ true) (all_at at 0 lanes) → order at (slice_set lanes s lane') ≡ without_subscription s (order at lanes) ++ new
+pub order_replaced : (at : At) (t : Ticket) (lanes : List (List Held)) (s : ℕ) (lane lane' : List Held)
+    (new : List (ℕ × ℕ)) → slice_get lanes s ≡ Some lane → Tagged at → filter_map (at s) lane' ≡ map (λ x. (t, x)) new
+    → AllByRecursion (λ e. earlier e.0 t ≡ true) (all_at at 0 lanes) → order at (slice_set lanes s lane')
+    ≡ without_subscription s (order at lanes) ++ new
 order_replaced at t lanes s lane lane' new found tagged more before =
     let r = around at lanes s lane found in
     let own : OrderEntries = filter_map (at s) lane in
     let parts : Before t (r.ahead ++ (own ++ r.behind)) = subst (Before t) r.whole before in
     let first : Before t r.ahead = all_first (λ e. earlier e.0 t ≡ true) r.ahead (own ++ r.behind) parts in
-    let last : Before t r.behind = all_second (λ e. earlier e.0 t ≡ true) own r.behind (all_second (λ e. earlier e.0 t ≡ true) r.ahead (own ++ r.behind) parts) in
-    ap (λ z. map (λ e. e.1) (in_line z)) (r.changed lane' ∙ ap (λ z. r.ahead ++ (z ++ r.behind)) more ∙ sym (append_assoc r.ahead (map (λ x. (t, x)) new) r.behind))
-    ∙ ap (map (λ e. e.1)) (line_appends t r.ahead r.behind new (all_both (λ e. earlier e.0 t ≡ true) r.ahead r.behind first last)) ∙ seen_more t (in_line (r.ahead ++ r.behind)) new
-    ∙ ap (λ z. z ++ new) (ap (λ z. map (λ e. e.1) (in_line z)) (sym (r.changed [])) ∙ order_cleared at lanes s lane tagged found)
+    let last : Before t r.behind =
+    all_second (λ e. earlier e.0 t ≡ true) own r.behind
+    (all_second (λ e. earlier e.0 t ≡ true) r.ahead (own ++ r.behind) parts) in
+    ap (λ z. map (λ e. e.1) (in_line z))
+    (r.changed lane' ∙ ap (λ z. r.ahead ++ (z ++ r.behind)) more
+    ∙ sym (append_assoc r.ahead (map (λ x. (t, x)) new) r.behind))
+    ∙ ap (map (λ e. e.1)) (line_appends t r.ahead r.behind new
+    (all_both (λ e. earlier e.0 t ≡ true) r.ahead r.behind first last))
+    ∙ seen_more t (in_line (r.ahead ++ r.behind)) new
+    ∙ ap (λ z. z ++ new) (ap (λ z. map (λ e. e.1) (in_line z)) (sym (r.changed []))
+    ∙ order_cleared at lanes s lane tagged found)
 
 -- ---- one lane more
 
 -- the entries of a lane behind all stand behind all
-all_pushed : (at : At) (n k : ℕ) (lanes : List (List Held)) (lane : List Held) → k ≡ n + length lanes → all_at at n (lanes ++ lane ∷ []) ≡ all_at at n lanes ++ filter_map (at k) lane
-all_pushed at n k [] lane is = let here : n ≡ k = omega (arith, is) in append-nil (filter_map (at n) lane) ∙ ap (λ m. filter_map (at m) lane) here
-all_pushed at n k (l ∷ lanes) lane is = ap (λ z. filter_map (at n) l ++ z) (all_pushed at (suc n) k lanes lane (omega (arith, is))) ∙ sym (append_assoc (filter_map (at n) l) (all_at at (suc n) lanes) (filter_map (at k) lane))
+all_pushed : (at : At) (n k : ℕ) (lanes : List (List Held)) (lane : List Held) → k ≡ n + length lanes
+    → all_at at n (lanes ++ lane ∷ []) ≡ all_at at n lanes ++ filter_map (at k) lane
+all_pushed at n k [] lane is = let here : n ≡ k = omega (arith, is) in append-nil (filter_map (at n) lane)
+    ∙ ap (λ m. filter_map (at m) lane) here
+all_pushed at n k (l ∷ lanes) lane is =
+    ap (λ z. filter_map (at n) l ++ z) (all_pushed at (suc n) k lanes lane (omega (arith, is)))
+    ∙ sym (append_assoc (filter_map (at n) l) (all_at at (suc n) lanes) (filter_map (at k) lane))
 
 -- a lane behind all, with entries of one later ticket
-pub order_pushed : (at : At) (t : Ticket) (lanes : List (List Held)) (lane : List Held) (new : List (ℕ × ℕ)) → filter_map (at (length lanes)) lane ≡ map (λ x. (t, x)) new
-    → AllByRecursion (λ e. earlier e.0 t ≡ true) (all_at at 0 lanes) → order at (lanes ++ lane ∷ []) ≡ order at lanes ++ new
+pub order_pushed : (at : At) (t : Ticket) (lanes : List (List Held)) (lane : List Held) (new : List (ℕ × ℕ))
+    → filter_map (at (length lanes)) lane ≡ map (λ x. (t, x)) new
+    → AllByRecursion (λ e. earlier e.0 t ≡ true) (all_at at 0 lanes) → order at (lanes ++ lane ∷ []) ≡ order at lanes
+    ++ new
 order_pushed at t lanes lane new more before =
     let all : OrderEntries = all_at at 0 lanes in
     let added : OrderEntries = map (λ x. (t, x)) new in
-    ap (λ z. map (λ e. e.1) (in_line z)) (all_pushed at 0 (length lanes) lanes lane (omega arith) ∙ ap (λ z. all ++ z) more ∙ sym (append-nil (all ++ added)))
-    ∙ ap (map (λ e. e.1)) (line_appends t all [] new (subst (Before t) (sym (append-nil all)) before) ∙ ap (λ z. in_line z ++ added) (append-nil all)) ∙ seen_more t (in_line all) new
+    ap (λ z. map (λ e. e.1) (in_line z))
+    (all_pushed at 0 (length lanes) lanes lane (omega arith) ∙ ap (λ z. all ++ z) more
+    ∙ sym (append-nil (all ++ added)))
+    ∙ ap (map (λ e. e.1)) (line_appends t all [] new (subst (Before t) (sym (append-nil all)) before)
+    ∙ ap (λ z. in_line z ++ added) (append-nil all)) ∙ seen_more t (in_line all) new
 
 -- ---- a change of each lane
 
@@ -199,10 +269,13 @@ OrderGrows at t s [] [] new = new ≡ []
 OrderGrows at t s [] (lane' ∷ lanes') new = ⊥
 OrderGrows at t s (lane ∷ lanes) [] new = ⊥
 OrderGrows at t s (lane ∷ lanes) (lane' ∷ lanes') new =
-    (now : List (ℕ × ℕ)) × (later : List (ℕ × ℕ)) × (filter_map (at s) lane' ≡ filter_map (at s) lane ++ map (λ x. (t, x)) now) × (new ≡ now ++ later) × OrderGrows at t (suc s) lanes lanes' later
+    (now : List (ℕ × ℕ)) × (later : List (ℕ × ℕ))
+    × (filter_map (at s) lane' ≡ filter_map (at s) lane ++ map (λ x. (t, x)) now) × (new ≡ now ++ later)
+    × OrderGrows at t (suc s) lanes lanes' later
 
 -- so the line has them at its end, with their tickets
-grown_line : (at : At) (t : Ticket) (s : ℕ) (lanes lanes' : List (List Held)) (new : List (ℕ × ℕ)) → OrderGrows at t s lanes lanes' new → Before t (all_at at s lanes)
+grown_line : (at : At) (t : Ticket) (s : ℕ) (lanes lanes' : List (List Held)) (new : List (ℕ × ℕ))
+    → OrderGrows at t s lanes lanes' new → Before t (all_at at s lanes)
     → in_line (all_at at s lanes') ≡ in_line (all_at at s lanes) ++ map (λ x. (t, x)) new
 grown_line at t s [] [] new grows before = sym (ap (map (λ x. (t, x))) grows)
 grown_line at t s [] (lane' ∷ lanes') new grows before = absurd grows
@@ -212,53 +285,70 @@ grown_line at t s (lane ∷ lanes) (lane' ∷ lanes') new grows before =
     let rest : OrderEntries = all_at at (suc s) lanes in
     let first : Before t own = all_first (λ e. earlier e.0 t ≡ true) own rest before in
     let last : Before t rest = all_second (λ e. earlier e.0 t ≡ true) own rest before in
-    ap in_line (ap (λ z. z ++ all_at at (suc s) lanes') grows.2 ∙ append_assoc own (map (λ x. (t, x)) grows.0) (all_at at (suc s) lanes'))
-    ∙ line_more t own rest (all_at at (suc s) lanes') grows.0 grows.1 first last (grown_line at t (suc s) lanes lanes' grows.1 grows.4 last)
+    ap in_line (ap (λ z. z ++ all_at at (suc s) lanes') grows.2
+    ∙ append_assoc own (map (λ x. (t, x)) grows.0) (all_at at (suc s) lanes'))
+    ∙ line_more t own rest (all_at at (suc s) lanes') grows.0 grows.1 first last
+    (grown_line at t (suc s) lanes lanes' grows.1 grows.4 last)
     ∙ ap (λ z. in_line (own ++ rest) ++ map (λ x. (t, x)) z) (sym grows.3)
 
 -- the entries of one later ticket that lanes have more stand at the end of the order, those of the first lane first
-pub order_grown : (at : At) (t : Ticket) (lanes lanes' : List (List Held)) (new : List (ℕ × ℕ)) → OrderGrows at t 0 lanes lanes' new → AllByRecursion (λ e. earlier e.0 t ≡ true) (all_at at 0 lanes)
+pub order_grown : (at : At) (t : Ticket) (lanes lanes' : List (List Held)) (new : List (ℕ × ℕ))
+    → OrderGrows at t 0 lanes lanes' new → AllByRecursion (λ e. earlier e.0 t ≡ true) (all_at at 0 lanes)
     → order at lanes' ≡ order at lanes ++ new
-order_grown at t lanes lanes' new grows before = ap (map (λ e. e.1)) (grown_line at t 0 lanes lanes' new grows before) ∙ seen_more t (in_line (all_at at 0 lanes)) new
+order_grown at t lanes lanes' new grows before = ap (map (λ e. e.1)) (grown_line at t 0 lanes lanes' new grows before)
+    ∙ seen_more t (in_line (all_at at 0 lanes)) new
 
 -- each lane has those of its entries that aren't due
 abbrev pub Leaves : At → (ℕ × ℕ → Bool) → ℕ → List (List Held) → List (List Held) → Type 0
 Leaves at due s [] [] = ⊤
 Leaves at due s [] (lane' ∷ lanes') = ⊥
 Leaves at due s (lane ∷ lanes) [] = ⊥
-Leaves at due s (lane ∷ lanes) (lane' ∷ lanes') = (filter_map (at s) lane' ≡ filter (λ e. not (due e.1)) (filter_map (at s) lane)) × Leaves at due (suc s) lanes lanes'
+Leaves at due s (lane ∷ lanes) (lane' ∷ lanes') =
+    (filter_map (at s) lane' ≡ filter (λ e. not (due e.1)) (filter_map (at s) lane))
+    × Leaves at due (suc s) lanes lanes'
 
 -- so of all entries those are left
-left_all : (at : At) (due : ℕ × ℕ → Bool) (s : ℕ) (lanes lanes' : List (List Held)) → Leaves at due s lanes lanes' → all_at at s lanes' ≡ filter (λ e. not (due e.1)) (all_at at s lanes)
+left_all : (at : At) (due : ℕ × ℕ → Bool) (s : ℕ) (lanes lanes' : List (List Held)) → Leaves at due s lanes lanes'
+    → all_at at s lanes' ≡ filter (λ e. not (due e.1)) (all_at at s lanes)
 left_all at due s [] [] leaves = refl
 left_all at due s [] (lane' ∷ lanes') leaves = absurd leaves
 left_all at due s (lane ∷ lanes) [] leaves = absurd leaves
 left_all at due s (lane ∷ lanes) (lane' ∷ lanes') leaves =
-    (λ i. leaves.0 i ++ left_all at due (suc s) lanes lanes' leaves.1 i) ∙ sym (filter-append (λ e. not (due e.1)) (filter_map (at s) lane) (all_at at (suc s) lanes))
+    (λ i. leaves.0 i ++ left_all at due (suc s) lanes lanes' leaves.1 i)
+    ∙ sym (filter-append (λ e. not (due e.1)) (filter_map (at s) lane) (all_at at (suc s) lanes))
 
 -- what is left of all lanes stands in the order that it stood in
-pub expired_order : (at : At) (due : ℕ × ℕ → Bool) (lanes lanes' : List (List Held)) → Leaves at due 0 lanes lanes' → order at lanes' ≡ filter (λ x. not (due x)) (order at lanes)
-expired_order at due lanes lanes' leaves = ap (λ z. map (λ e. e.1) (in_line z)) (left_all at due 0 lanes lanes' leaves) ∙ order_filter (λ x. not (due x)) (all_at at 0 lanes)
+pub expired_order : (at : At) (due : ℕ × ℕ → Bool) (lanes lanes' : List (List Held)) → Leaves at due 0 lanes lanes'
+    → order at lanes' ≡ filter (λ x. not (due x)) (order at lanes)
+expired_order at due lanes lanes' leaves = ap (λ z. map (λ e. e.1) (in_line z)) (left_all at due 0 lanes lanes' leaves)
+    ∙ order_filter (λ x. not (due x)) (all_at at 0 lanes)
 
 -- ---- what holds of all entries
 
 -- the entries of one lane are earlier than the ticket t, where each span's are
-lane_earlier : (at : At) (t : Ticket) (s : ℕ) (lane : List Held) → AllByRecursion (λ h. (s : ℕ) → IfSome (at s h) (λ e. earlier e.0 t ≡ true)) lane → Before t (filter_map (at s) lane)
+lane_earlier : (at : At) (t : Ticket) (s : ℕ) (lane : List Held)
+    → AllByRecursion (λ h. (s : ℕ) → IfSome (at s h) (λ e. earlier e.0 t ≡ true)) lane
+    → Before t (filter_map (at s) lane)
 lane_earlier at t s [] h = tt
 lane_earlier at t s (x ∷ lane) h = by (at s x) (h.0 s) (lane_earlier at t s lane h.1)
   where
-    by : (o : Option (Ticket × (ℕ × ℕ))) → IfSome o (λ e. earlier e.0 t ≡ true) → Before t (filter_map (at s) lane) → Before t (cons_option o (filter_map (at s) lane))
+    by : (o : Option (Ticket × (ℕ × ℕ))) → IfSome o (λ e. earlier e.0 t ≡ true) → Before t (filter_map (at s) lane)
+        → Before t (cons_option o (filter_map (at s) lane))
     by None is rest = rest
     by (Some e) is rest = (is, rest)
 
 -- and those of all lanes from number n on
-pub earlier_from : (at : At) (t : Ticket) (n : ℕ) (lanes : List (List Held)) → AllByRecursion (λ lane. AllByRecursion (λ h. (s : ℕ) → IfSome (at s h) (λ e. earlier e.0 t ≡ true)) lane) lanes
+pub earlier_from : (at : At) (t : Ticket) (n : ℕ) (lanes : List (List Held))
+    → AllByRecursion (λ lane. AllByRecursion (λ h. (s : ℕ) → IfSome (at s h) (λ e. earlier e.0 t ≡ true)) lane) lanes
     → AllByRecursion (λ e. earlier e.0 t ≡ true) (all_at at n lanes)
 earlier_from at t n [] h = tt
-earlier_from at t n (lane ∷ lanes) h = all_both (λ e. earlier e.0 t ≡ true) (filter_map (at n) lane) (all_at at (suc n) lanes) (lane_earlier at t n lane h.0) (earlier_from at t (suc n) lanes h.1)
+earlier_from at t n (lane ∷ lanes) h =
+    all_both (λ e. earlier e.0 t ≡ true) (filter_map (at n) lane) (all_at at (suc n) lanes)
+    (lane_earlier at t n lane h.0) (earlier_from at t (suc n) lanes h.1)
 
 -- and those of all lanes
-pub all_earlier : (at : At) (t : Ticket) (lanes : List (List Held)) → AllByRecursion (λ lane. AllByRecursion (λ h. (s : ℕ) → IfSome (at s h) (λ e. earlier e.0 t ≡ true)) lane) lanes
+pub all_earlier : (at : At) (t : Ticket) (lanes : List (List Held))
+    → AllByRecursion (λ lane. AllByRecursion (λ h. (s : ℕ) → IfSome (at s h) (λ e. earlier e.0 t ≡ true)) lane) lanes
     → AllByRecursion (λ e. earlier e.0 t ≡ true) (all_at at 0 lanes)
 all_earlier at t lanes h = earlier_from at t 0 lanes h
 
@@ -269,16 +359,20 @@ abbrev pub in_ready : ℕ → Held → Ticket × (ℕ × ℕ)
 in_ready s h = (h.ticket, (s, h.span.first))
 
 -- the first in line of a span and others
-first_better : (s : ℕ) (h : Held) (o : Option Held) → sooner (Some (in_ready s h)) (option_map (in_ready s) o) ≡ option_map (in_ready s) (better (Some h) o)
+first_better : (s : ℕ) (h : Held) (o : Option Held) → sooner (Some (in_ready s h)) (option_map (in_ready s) o)
+    ≡ option_map (in_ready s) (better (Some h) o)
 first_better s h None = refl
 first_better s h (Some k) = by (earlier k.ticket h.ticket)
   where
-    by : (b : Bool) → cond b (Some (in_ready s k)) (Some (in_ready s h)) ≡ option_map (in_ready s) (cond b (Some k) (Some h))
+    by : (b : Bool) → cond b (Some (in_ready s k)) (Some (in_ready s h))
+        ≡ option_map (in_ready s) (cond b (Some k) (Some h))
     by true = refl
     by false = refl
 
 -- the first in line of a lane is the one with the least ticket
-pub first_ready_of : (test : ℕ → Bool) (s : ℕ) (lane : List Held) → first_of (λ x. test x.0) (filter_map (ready_at s) lane) ≡ (if test s then option_map (λ h. (h.ticket, (s, h.span.first))) (least lane) else None)
+pub first_ready_of : (test : ℕ → Bool) (s : ℕ) (lane : List Held)
+    → first_of (λ x. test x.0) (filter_map (ready_at s) lane)
+    ≡ (if test s then option_map (λ h. (h.ticket, (s, h.span.first))) (least lane) else None)
 first_ready_of test s [] = by (test s)
   where
     by : (b : Bool) → None ≡ cond b (option_map (in_ready s) None) None
@@ -286,19 +380,26 @@ first_ready_of test s [] = by (test s)
     by false = refl
 first_ready_of test s (h ∷ lane) = by (is_ready h.span.status) (first_ready_of test s lane)
   where
-    with_one : (b : Bool) → sooner (cond b (Some (in_ready s h)) None) (cond b (option_map (in_ready s) (least lane)) None) ≡ cond b (option_map (in_ready s) (better (Some h) (least lane))) None
+    with_one : (b : Bool) → sooner (cond b (Some (in_ready s h)) None)
+        (cond b (option_map (in_ready s) (least lane)) None)
+        ≡ cond b (option_map (in_ready s) (better (Some h) (least lane))) None
     with_one true = first_better s h (least lane)
     with_one false = refl
 
-    by : (b : Bool) → first_of (λ x. test x.0) (filter_map (ready_at s) lane) ≡ cond (test s) (option_map (in_ready s) (least lane)) None
-        → first_of (λ x. test x.0) (cons_option (cond b (Some (in_ready s h)) None) (filter_map (ready_at s) lane)) ≡ cond (test s) (option_map (in_ready s) (better (cond b (Some h) None) (least lane))) None
+    by : (b : Bool) → first_of (λ x. test x.0) (filter_map (ready_at s) lane)
+        ≡ cond (test s) (option_map (in_ready s) (least lane)) None
+        → first_of (λ x. test x.0) (cons_option (cond b (Some (in_ready s h)) None) (filter_map (ready_at s) lane))
+        ≡ cond (test s) (option_map (in_ready s) (better (cond b (Some h) None) (least lane))) None
     by true rest = ap (sooner (cond (test s) (Some (in_ready s h)) None)) rest ∙ with_one (test s)
     by false rest = rest
 
 -- the first of all lanes from number s on is that of the first lane or that of the others
-pub first_of_lanes : (at : At) (p : ℕ × ℕ → Bool) (s : ℕ) (lane : List Held) (lanes : List (List Held)) → first_of p (all_at at s (lane ∷ lanes)) ≡ sooner (first_of p (filter_map (at s) lane)) (first_of p (all_at at (suc s) lanes))
+pub first_of_lanes : (at : At) (p : ℕ × ℕ → Bool) (s : ℕ) (lane : List Held) (lanes : List (List Held))
+    → first_of p (all_at at s (lane ∷ lanes))
+    ≡ sooner (first_of p (filter_map (at s) lane)) (first_of p (all_at at (suc s) lanes))
 first_of_lanes at p s lane lanes = first_of_append p (filter_map (at s) lane) (all_at at (suc s) lanes)
 
 -- what is found in the order is the first of all lanes
-pub find_order : (at : At) (p : ℕ × ℕ → Bool) (lanes : List (List Held)) → find p (order at lanes) ≡ option_map (λ e. e.1) (first_of p (all_at at 0 lanes))
+pub find_order : (at : At) (p : ℕ × ℕ → Bool) (lanes : List (List Held)) → find p (order at lanes)
+    ≡ option_map (λ e. e.1) (first_of p (all_at at 0 lanes))
 find_order at p lanes = find_first p (all_at at 0 lanes)

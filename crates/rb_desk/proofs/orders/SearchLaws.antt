@@ -1,5 +1,7 @@
 -- Which span is taken where any subscription's may be: the first in line of those whose subscription has room.
-use Rattle.std.proofs.Common.{◌≡◌, ℕ, suc, ◌+◌, ◌≤◌, ne_eqb, eq-eqb, Bool, true, false, not, ◌&&◌, cond, ◌⊎◌, inl, inr, List, [], ◌∷◌, map, Option, Some, None, option_map, find, filter_map, slice_get, nat_lt, if◌then◌else◌, refl, sym, ap, ◌∙◌, arith, max, Ok}
+use Rattle.std.proofs.Common.{◌≡◌, ℕ, suc, ◌+◌, ◌≤◌, ne_eqb, eq-eqb, Bool, true, false, not, ◌&&◌, cond, ◌⊎◌, inl, inr}
+use Rattle.std.proofs.Common.{List, [], ◌∷◌, map, Option, Some, None, option_map, find, filter_map, slice_get, nat_lt}
+use Rattle.std.proofs.Common.{if◌then◌else◌, refl, sym, ap, ◌∙◌, arith, max, Ok}
 use Rattle.std.specs.List.{cons_option}
 use Rattle.std.proofs.lemmas.Option.{slice_get-map}
 use Rattle.rb_desk.specs.declared.ticket.Ticket.{Ticket}
@@ -11,7 +13,8 @@ use Rattle.rb_desk.specs.Orders.{all_at, ready_at}
 use Rattle.rb_desk.specs.Limits.{Limits}
 use Rattle.rb_desk.specs.Picture.{Picture}
 use Rattle.rb_desk.specs.declared.refusal.DeskRefusal.TheVariants as refusal
-use Rattle.rb_desk.specs.Calls.{may_deliver, refused_call, delivery_from, delivered_picture, delivered_any_span, delivered_any_of, delivered_any_from, take_any}
+use Rattle.rb_desk.specs.Calls.{may_deliver, refused_call, delivery_from, delivered_picture, delivered_any_span}
+use Rattle.rb_desk.specs.Calls.{delivered_any_of, delivered_any_from, take_any}
 use Rattle.rb_desk.specs.Shown.{shown, shown_sub, sub_held}
 use Rattle.rb_desk.proofs.orders.Line.{sooner, first_of}
 use Rattle.rb_desk.proofs.spans.JoinLaws.{joins_lane}
@@ -21,64 +24,81 @@ use Rattle.rb_desk.proofs.orders.OrderLaws.{first_ready_of, first_of_lanes, find
 
 -- what a subscription that is open and passes a test offers: its first in line
 abbrev pub candidate : ℕ → ℕ → (Sub → Bool) → ℕ → Sub → Option (Ticket × (ℕ × ℕ))
-candidate batch front test s sub = if not sub.closed && test sub then option_map (λ h. (h.ticket, (s, h.span.first))) (least (lane_held batch front sub.lane)) else None
+candidate batch front test s sub = if not sub.closed
+    && test sub then option_map (λ h. (h.ticket, (s, h.span.first))) (least (lane_held batch front sub.lane)) else None
 
 -- the first of what the subscriptions from number s on offer
 abbrev pub candidates : ℕ → ℕ → (Sub → Bool) → ℕ → List Sub → Option (Ticket × (ℕ × ℕ))
 candidates batch front test s [] = None
-candidates batch front test s (sub ∷ rest) = sooner (candidate batch front test s sub) (candidates batch front test (suc s) rest)
+candidates batch front test s (sub ∷ rest) =
+    sooner (candidate batch front test s sub) (candidates batch front test (suc s) rest)
 
 -- whether a subscription's window has room
 abbrev pub roomy : ℕ → ℕ → ℕ → Sub → Bool
 roomy batch front window sub = nat_lt (how_many_out (spans_of (lane_held batch front sub.lane))) window
 
 -- a test that says the same of all spans of a subscription
-first_of_own : (p : ℕ × ℕ → Bool) (b : Bool) (s : ℕ) (lane : List Held) → ((first : ℕ) → p (s, first) ≡ b) → first_of p (filter_map (ready_at s) lane) ≡ first_of (λ x. b) (filter_map (ready_at s) lane)
+first_of_own : (p : ℕ × ℕ → Bool) (b : Bool) (s : ℕ) (lane : List Held) → ((first : ℕ) → p (s, first) ≡ b)
+    → first_of p (filter_map (ready_at s) lane) ≡ first_of (λ x. b) (filter_map (ready_at s) lane)
 first_of_own p b s [] own = refl
 first_of_own p b s (h ∷ lane) own = by (is_ready h.span.status) (first_of_own p b s lane own)
   where
     by : (t : Bool) → first_of p (filter_map (ready_at s) lane) ≡ first_of (λ x. b) (filter_map (ready_at s) lane)
-        → first_of p (cons_option (cond t (Some (h.ticket, (s, h.span.first))) None) (filter_map (ready_at s) lane)) ≡ first_of (λ x. b) (cons_option (cond t (Some (h.ticket, (s, h.span.first))) None) (filter_map (ready_at s) lane))
+        → first_of p (cons_option (cond t (Some (h.ticket, (s, h.span.first))) None) (filter_map (ready_at s) lane))
+        ≡ first_of (λ x. b) (cons_option (cond t (Some (h.ticket, (s, h.span.first))) None)
+        (filter_map (ready_at s) lane))
     by true rest = λ i. sooner (cond (own h.span.first i) (Some (h.ticket, (s, h.span.first))) None) (rest i)
     by false rest = rest
 
 -- so the first of a subscription's is what it offers
-first_of_sub : (batch front : ℕ) (p : ℕ × ℕ → Bool) (test : Sub → Bool) (s : ℕ) (sub : Sub) → (sub.closed ≡ false → (first : ℕ) → p (s, first) ≡ test sub)
+first_of_sub : (batch front : ℕ) (p : ℕ × ℕ → Bool) (test : Sub → Bool) (s : ℕ) (sub : Sub)
+    → (sub.closed ≡ false → (first : ℕ) → p (s, first) ≡ test sub)
     → first_of p (filter_map (ready_at s) (sub_held batch front sub)) ≡ candidate batch front test s sub
 first_of_sub batch front p test s sub own = by sub.closed own
   where
     by : (c : Bool) → (c ≡ false → (first : ℕ) → p (s, first) ≡ test sub)
-        → first_of p (filter_map (ready_at s) (cond c [] (lane_held batch front sub.lane))) ≡ (if not c && test sub then option_map (λ h. (h.ticket, (s, h.span.first))) (least (lane_held batch front sub.lane)) else None)
+        → first_of p (filter_map (ready_at s) (cond c [] (lane_held batch front sub.lane)))
+        ≡ (if not c && test sub then option_map (λ h. (h.ticket, (s, h.span.first)))
+        (least (lane_held batch front sub.lane)) else None)
     by true own = refl
-    by false own = first_of_own p (test sub) s (lane_held batch front sub.lane) (own refl) ∙ first_ready_of (λ _. test sub) s (lane_held batch front sub.lane)
+    by false own = first_of_own p (test sub) s (lane_held batch front sub.lane) (own refl)
+        ∙ first_ready_of (λ _. test sub) s (lane_held batch front sub.lane)
 
 -- and the first of all is the first of what they offer
 first_of_subs : (batch front : ℕ) (p : ℕ × ℕ → Bool) (test : Sub → Bool) (s : ℕ) (subs : List Sub)
-    → ((k i : ℕ) (sub : Sub) → k ≡ s + i → slice_get subs i ≡ Some sub → sub.closed ≡ false → (first : ℕ) → p (k, first) ≡ test sub)
+    → ((k i : ℕ) (sub : Sub) → k ≡ s + i → slice_get subs i ≡ Some sub → sub.closed ≡ false → (first : ℕ) → p (k, first)
+    ≡ test sub)
     → first_of p (all_at ready_at s (map (sub_held batch front) subs)) ≡ candidates batch front test s subs
 first_of_subs batch front p test s [] own = refl
 first_of_subs batch front p test s (sub ∷ subs) own =
     first_of_lanes ready_at p s (sub_held batch front sub) (map (sub_held batch front) subs)
     ∙ (λ i. sooner (first_of_sub batch front p test s sub (own s 0 sub (omega arith) refl) i)
-    (first_of_subs batch front p test (suc s) subs (λ k j other is found. own k (suc j) other (omega (arith, is)) found) i))
+    (first_of_subs batch front p test (suc s) subs (λ k j other is found. own k (suc j) other (omega (arith, is)) found)
+    i))
 
 -- what the call finds in the ready order is the first of what the subscriptions with room offer
 pub find_ready : (lim : Limits) (front clock next_link next_delivery : ℕ) (closing : Option ℕ) (subs : List Sub)
-    → find (may_deliver (shown lim front closing clock next_link next_delivery subs)) (shown lim front closing clock next_link next_delivery subs).ready
-    ≡ option_map (λ e. e.1) (candidates lim.batch front (λ sub. nat_lt (how_many_out (spans_of (lane_held lim.batch front sub.lane))) lim.window) 0 subs)
+    → find (may_deliver (shown lim front closing clock next_link next_delivery subs))
+    (shown lim front closing clock next_link next_delivery subs).ready
+    ≡ option_map (λ e. e.1) (candidates lim.batch front
+    (λ sub. nat_lt (how_many_out (spans_of (lane_held lim.batch front sub.lane))) lim.window) 0 subs)
 find_ready lim front clock next_link next_delivery closing subs =
     find_order ready_at (may_deliver old) (map (sub_held lim.batch front) subs)
-    ∙ ap (option_map (λ e. e.1)) (first_of_subs lim.batch front (may_deliver old) (roomy lim.batch front lim.window) 0 subs own)
+    ∙ ap (option_map (λ e. e.1))
+    (first_of_subs lim.batch front (may_deliver old) (roomy lim.batch front lim.window) 0 subs own)
   where
     old : Picture
     old = shown lim front closing clock next_link next_delivery subs
 
-    own : (k i : ℕ) (sub : Sub) → k ≡ 0 + i → slice_get subs i ≡ Some sub → sub.closed ≡ false → (first : ℕ) → may_deliver old (k, first) ≡ roomy lim.batch front lim.window sub
+    own : (k i : ℕ) (sub : Sub) → k ≡ 0 + i → slice_get subs i ≡ Some sub → sub.closed ≡ false → (first : ℕ)
+        → may_deliver old (k, first) ≡ roomy lim.batch front lim.window sub
     own k i sub is found opened first =
         let same : k ≡ i = omega (arith, is) in
         let seen : slice_get (map (shown_sub lim.batch front) subs) k ≡ Some (shown_sub lim.batch front sub) =
-        ap (slice_get (map (shown_sub lim.batch front) subs)) same ∙ slice_get-map (shown_sub lim.batch front) subs i ∙ ap (option_map (shown_sub lim.batch front)) found in
-        rw seen (ap (λ c. nat_lt (how_many_out (spans_of (cond c [] (lane_held lim.batch front sub.lane)))) lim.window) opened)
+        ap (slice_get (map (shown_sub lim.batch front) subs)) same ∙ slice_get-map (shown_sub lim.batch front) subs i
+        ∙ ap (option_map (shown_sub lim.batch front)) found in
+        rw seen (ap (λ c. nat_lt (how_many_out (spans_of (cond c [] (lane_held lim.batch front sub.lane)))) lim.window)
+        opened)
 
 -- ---- the span that it is
 
@@ -96,7 +116,8 @@ better_either (Some a) (Some b) h is = by (earlier b.ticket a.ticket) is
 ready_one : (x h : Held) → if_ready x ≡ Some h → (x ≡ h) × (is_ready h.span.status ≡ true)
 ready_one x h is = by (is_ready x.span.status) refl is
   where
-    by : (t : Bool) → is_ready x.span.status ≡ t → cond t (Some x) None ≡ Some h → (x ≡ h) × (is_ready h.span.status ≡ true)
+    by : (t : Bool) → is_ready x.span.status ≡ t → cond t (Some x) None ≡ Some h → (x ≡ h)
+        × (is_ready h.span.status ≡ true)
     by true ready is = let same : x ≡ h = cc in (same, ap (λ (h : Held). is_ready h.span.status) (sym same) ∙ ready)
     by false ready is = let none : ⊥ = cc in absurd none
 
@@ -106,16 +127,20 @@ record SearchBegins (low : ℕ) (held : List Held) (h : Held) : Type 0 where
   found : beginning h.span.first (spans_of held) ≡ Some h.span
   ready : is_ready h.span.status ≡ true
 
-least_begins : (low next : ℕ) (held : List Held) (h : Held) → FollowOn low held next → least held ≡ Some h → SearchBegins low held h
+least_begins : (low next : ℕ) (held : List Held) (h : Held) → FollowOn low held next → least held ≡ Some h
+    → SearchBegins low held h
 least_begins low next [] h j is = let none : ⊥ = cc in absurd none
-least_begins low next (x ∷ rest) h j is = by (better_either (if_ready x) (least rest) h is) (least_begins (suc x.span.last) next rest h j.2)
+least_begins low next (x ∷ rest) h j is =
+    by (better_either (if_ready x) (least rest) h is) (least_begins (suc x.span.last) next rest h j.2)
   where
-    by : (if_ready x ≡ Some h) ⊎ (least rest ≡ Some h) → (least rest ≡ Some h → SearchBegins (suc x.span.last) rest h) → SearchBegins low (x ∷ rest) h
+    by : (if_ready x ≡ Some h) ⊎ (least rest ≡ Some h) → (least rest ≡ Some h → SearchBegins (suc x.span.last) rest h)
+        → SearchBegins low (x ∷ rest) h
     by (inl here) more =
         let one = ready_one x h here in
         record {
           from = omega (arith, j.0, ap (λ (h : Held). h.span.first) one.0);
-          found = rw (eq-eqb x.span.first h.span.first (ap (λ (h : Held). h.span.first) one.0)) (ap (λ (h : Held). Some h.span) one.0);
+          found = rw (eq-eqb x.span.first h.span.first (ap (λ (h : Held). h.span.first) one.0))
+              (ap (λ (h : Held). Some h.span) one.0);
           ready = one.1;
         }
     by (inr there) more =
@@ -129,33 +154,52 @@ least_begins low next (x ∷ rest) h j is = by (better_either (if_ready x) (leas
         }
 
 -- the span that is found by the number that the first in line begins with is that span
-pub least_found : (batch front : ℕ) (sub : Sub) (h : Held) → 1 ≤ batch → sub.lane.next ≤ suc front → FollowOn (suc sub.lane.floor) sub.lane.held sub.lane.next → sub.closed ≡ false → least (lane_held batch front sub.lane) ≡ Some h
+pub least_found : (batch front : ℕ) (sub : Sub) (h : Held) → 1 ≤ batch → sub.lane.next ≤ suc front
+    → FollowOn (suc sub.lane.floor) sub.lane.held sub.lane.next → sub.closed ≡ false
+    → least (lane_held batch front sub.lane) ≡ Some h
     → beginning h.span.first (spans_of (sub_held batch front sub)) ≡ Some h.span
 least_found batch front sub h one le j opened is =
     ap (λ c. beginning h.span.first (spans_of (cond c [] (lane_held batch front sub.lane)))) opened
-    ∙ (least_begins (suc sub.lane.floor) (suc front) (lane_held batch front sub.lane) h (joins_lane batch front sub.lane one le j) is).found
+    ∙ (least_begins (suc sub.lane.floor) (suc front) (lane_held batch front sub.lane) h
+    (joins_lane batch front sub.lane one le j) is).found
 
 -- ---- the call
 
 -- where no subscription with room offers a span
 pub take_any_none : (lim : Limits) (front clock next_link next_delivery now : ℕ) (closing : Option ℕ) (subs : List Sub)
-    → candidates lim.batch front (λ sub. nat_lt (how_many_out (spans_of (lane_held lim.batch front sub.lane))) lim.window) 0 subs ≡ None
-    → take_any (shown lim front closing clock next_link next_delivery subs) now ≡ refused_call (shown lim front closing clock next_link next_delivery subs) (refusal.Empty front)
+    → candidates lim.batch front
+    (λ sub. nat_lt (how_many_out (spans_of (lane_held lim.batch front sub.lane))) lim.window) 0 subs ≡ None
+    → take_any (shown lim front closing clock next_link next_delivery subs) now
+    ≡ refused_call (shown lim front closing clock next_link next_delivery subs) (refusal.Empty front)
 unfolding take_any
 take_any_none lim front clock next_link next_delivery now closing subs none =
-    ap (delivered_any_from (shown lim front closing clock next_link next_delivery subs) now) (find_ready lim front clock next_link next_delivery closing subs ∙ ap (option_map (λ e. e.1)) none)
+    ap (delivered_any_from (shown lim front closing clock next_link next_delivery subs) now)
+    (find_ready lim front clock next_link next_delivery closing subs ∙ ap (option_map (λ e. e.1)) none)
 
 -- where the first that is offered is the first in line of a subscription
-pub take_any_some : (lim : Limits) (front clock next_link next_delivery now s : ℕ) (closing : Option ℕ) (subs : List Sub) (sub : Sub) (h : Held) → 1 ≤ lim.batch
-    → candidates lim.batch front (λ sub. nat_lt (how_many_out (spans_of (lane_held lim.batch front sub.lane))) lim.window) 0 subs ≡ Some (h.ticket, (s, h.span.first))
-    → slice_get subs s ≡ Some sub → sub.lane.next ≤ suc front → FollowOn (suc sub.lane.floor) sub.lane.held sub.lane.next → sub.closed ≡ false → least (lane_held lim.batch front sub.lane) ≡ Some h
+pub take_any_some : (lim : Limits) (front clock next_link next_delivery now s : ℕ) (closing : Option ℕ)
+    (subs : List Sub) (sub : Sub) (h : Held) → 1 ≤ lim.batch
+    → candidates lim.batch front
+    (λ sub. nat_lt (how_many_out (spans_of (lane_held lim.batch front sub.lane))) lim.window) 0 subs
+    ≡ Some (h.ticket, (s, h.span.first))
+    → slice_get subs s ≡ Some sub → sub.lane.next ≤ suc front
+    → FollowOn (suc sub.lane.floor) sub.lane.held sub.lane.next → sub.closed ≡ false
+    → least (lane_held lim.batch front sub.lane) ≡ Some h
     → take_any (shown lim front closing clock next_link next_delivery subs) now
-    ≡ (Ok (delivery_from (shown lim front closing clock next_link next_delivery subs) s (shown_sub lim.batch front sub) h.span), delivered_picture (shown lim front closing clock next_link next_delivery subs) s (shown_sub lim.batch front sub) h.span (max clock now))
+    ≡ (
+      Ok (delivery_from (shown lim front closing clock next_link next_delivery subs) s (shown_sub lim.batch front sub)
+          h.span),
+      delivered_picture (shown lim front closing clock next_link next_delivery subs) s
+          (shown_sub lim.batch front sub) h.span (max clock now),
+    )
 unfolding take_any
 take_any_some lim front clock next_link next_delivery now s closing subs sub h one first found le j opened is =
-    ap (delivered_any_from old now) (find_ready lim front clock next_link next_delivery closing subs ∙ ap (option_map (λ e. e.1)) first)
-    ∙ ap (delivered_any_of old s h.span.first now) (slice_get-map (shown_sub lim.batch front) subs s ∙ ap (option_map (shown_sub lim.batch front)) found)
-    ∙ ap (delivered_any_span old s (shown_sub lim.batch front sub) now) (least_found lim.batch front sub h one le j opened is)
+    ap (delivered_any_from old now)
+    (find_ready lim front clock next_link next_delivery closing subs ∙ ap (option_map (λ e. e.1)) first)
+    ∙ ap (delivered_any_of old s h.span.first now)
+    (slice_get-map (shown_sub lim.batch front) subs s ∙ ap (option_map (shown_sub lim.batch front)) found)
+    ∙ ap (delivered_any_span old s (shown_sub lim.batch front sub) now)
+    (least_found lim.batch front sub h one le j opened is)
   where
     old : Picture
     old = shown lim front closing clock next_link next_delivery subs

@@ -1,5 +1,9 @@
--- A picture is still one after a subscription is made, goes on behind a cursor or is closed, and after the sequence is closed.
-use Rattle.std.proofs.Common.{◌≡◌, ℕ, zero, suc, ◌+◌, ◌-◌, ◌<◌, ◌≤◌, ne_eqb, eq-eqb, Bool, true, false, not, ◌&&◌, ◌||◌, ◌==◌, cond, ◌⊎◌, inl, inr, List, [], ◌∷◌, ◌++◌, length, Option, Some, None, IfSome, Result, filter, nat_lt, nat_le, slice_get, slice_set, append-nil, refl, sym, ap, ◌∙◌, subst, arith}
+-- A picture is still one after a subscription is made, goes on behind a cursor or is closed, and after the sequence is
+-- closed.
+use Rattle.std.proofs.Common.{◌≡◌, ℕ, zero, suc, ◌+◌, ◌-◌, ◌<◌, ◌≤◌, ne_eqb, eq-eqb, Bool, true, false, not, ◌&&◌, ◌||◌}
+use Rattle.std.proofs.Common.{◌==◌, cond, ◌⊎◌, inl, inr, List, [], ◌∷◌, ◌++◌, length, Option, Some, None, IfSome}
+use Rattle.std.proofs.Common.{Result, filter, nat_lt, nat_le, slice_get, slice_set, append-nil, refl, sym, ap, ◌∙◌}
+use Rattle.std.proofs.Common.{subst, arith}
 use Rattle.std.specs.List.{AllByRecursion}
 use Rattle.std.proofs.lemmas.Bool.{false≢true, eqb-true, ltb-false, leb-true}
 use Rattle.std.proofs.Math.Dec.{eqb-suc-suc}
@@ -11,17 +15,22 @@ use Rattle.rb_desk.specs.declared.span.Status.{Status}
 use Rattle.rb_desk.specs.Limits.{Limits}
 use Rattle.rb_desk.specs.Spans.{cut_spans, is_ready, is_out, is_out_as, is_settled, beginning, how_many_out}
 use Rattle.rb_desk.specs.Picture.{Picture, Subscription, empty_picture}
-use Rattle.rb_desk.specs.Calls.{named, with_subscription, without_subscription, subscribe, subscribed_picture, reconnect, reconnected_picture, reconnected_by, unsubscribe, unsubscribed_picture, unsubscribed_by, close, last_number}
-use Rattle.rb_desk.specs.IsPicture.{AreInRange, Partition, IsGoodSpan, StartsUnsettled, IsGoodSubscription, how_often, one_if, span_there, stands_there, links_of, IsPicture}
+use Rattle.rb_desk.specs.Calls.{named, with_subscription, without_subscription, subscribe, subscribed_picture}
+use Rattle.rb_desk.specs.Calls.{reconnect, reconnected_picture, reconnected_by, unsubscribe, unsubscribed_picture}
+use Rattle.rb_desk.specs.Calls.{unsubscribed_by, close, last_number}
+use Rattle.rb_desk.specs.IsPicture.{AreInRange, Partition, IsGoodSpan, StartsUnsettled, IsGoodSubscription, how_often}
+use Rattle.rb_desk.specs.IsPicture.{one_if, span_there, stands_there, links_of, IsPicture}
 use Rattle.rb_desk.proofs.spans.CutLaws.{CutIsFresh, cut_fresh, cut_induction}
 use Rattle.rb_desk.proofs.orders.Line.{all_both, all_then, filter_none}
 use Rattle.rb_desk.proofs.calls.KnownLaws.{all_get}
-use Rattle.rb_desk.proofs.pictures.PictureLaws.{count_cons, often_append, often_without_all, often_named, links_none, links_set, links_append, out_set, out_append, all_later, changed_keeps}
+use Rattle.rb_desk.proofs.pictures.PictureLaws.{count_cons, often_append, often_without_all, often_named, links_none}
+use Rattle.rb_desk.proofs.pictures.PictureLaws.{links_set, links_append, out_set, out_append, all_later, changed_keeps}
 
 -- ---- tests
 
 -- what holds both ways holds
-pub keep_cut_either : {X : Type 0} (P : X → Type 0) (b : Bool) (x y : X) → (b ≡ true → P x) → (b ≡ false → P y) → P (cond b x y)
+pub keep_cut_either : {X : Type 0} (P : X → Type 0) (b : Bool) (x y : X) → (b ≡ true → P x) → (b ≡ false → P y)
+    → P (cond b x y)
 keep_cut_either P true x y h k = h refl
 keep_cut_either P false x y h k = k refl
 
@@ -63,7 +72,8 @@ cut_parts batch a b one =
     (suc b - a) a (omega arith)
 
 -- each of them is good, whatever was offered or given
-pub cut_good : (batch a b offered next : ℕ) → 1 ≤ batch → AllByRecursion (IsGoodSpan batch offered next) (cut_spans batch a b)
+pub cut_good : (batch a b offered next : ℕ) → 1 ≤ batch
+    → AllByRecursion (IsGoodSpan batch offered next) (cut_spans batch a b)
 cut_good batch a b offered next one =
     cut_induction batch b (λ a spans. AllByRecursion (IsGoodSpan batch offered next) spans) one
     (λ a less. tt)
@@ -75,74 +85,101 @@ pub fresh_unsettled : (spans : List Span) → AllByRecursion CutIsFresh spans �
 fresh_unsettled [] h = tt
 fresh_unsettled (p ∷ rest) h = ap is_settled h.0
 
-pub fresh_not_out : (spans : List Span) → AllByRecursion CutIsFresh spans → AllByRecursion (λ (p : Span). is_out p.status ≡ false) spans
+pub fresh_not_out : (spans : List Span) → AllByRecursion CutIsFresh spans
+    → AllByRecursion (λ (p : Span). is_out p.status ≡ false) spans
 fresh_not_out spans h = all_then CutIsFresh (λ (p : Span). is_out p.status ≡ false) spans (λ p is. ap is_out is) h
 
 pub fresh_few : (spans : List Span) → AllByRecursion CutIsFresh spans → how_many_out spans ≡ 0
 fresh_few spans h = ap length (filter_none (λ (p : Span). is_out p.status) spans (fresh_not_out spans h))
 
-pub fresh_outs : (d : ℕ) (spans : List Span) → AllByRecursion CutIsFresh spans → length (filter (λ (p : Span). is_out_as d p.status) spans) ≡ 0
-fresh_outs d spans h = ap length (filter_none (λ (p : Span). is_out_as d p.status) spans (all_then CutIsFresh (λ (p : Span). is_out_as d p.status ≡ false) spans (λ p is. ap (is_out_as d) is) h))
+pub fresh_outs : (d : ℕ) (spans : List Span) → AllByRecursion CutIsFresh spans
+    → length (filter (λ (p : Span). is_out_as d p.status) spans) ≡ 0
+fresh_outs d spans h = ap length
+    (filter_none (λ (p : Span). is_out_as d p.status) spans
+    (all_then CutIsFresh (λ (p : Span). is_out_as d p.status ≡ false) spans (λ p is. ap (is_out_as d) is) h))
 
 -- ---- the span that begins with a number
 
 -- no span begins below the first number
-pub begins_later : (low high : ℕ) (spans : List Span) (first : ℕ) → Partition low spans high → first < low → length (filter (λ (p : Span). p.first == first) spans) ≡ 0
+pub begins_later : (low high : ℕ) (spans : List Span) (first : ℕ) → Partition low spans high → first < low
+    → length (filter (λ (p : Span). p.first == first) spans) ≡ 0
 begins_later low high [] first j less = refl
 begins_later low high (p ∷ rest) first j less =
     let none = begins_later (suc p.last) high rest first j.2 (omega (arith, j.0, j.1, less)) in
     rw (count_cons (λ (p : Span). p.first == first) p rest, ne_eqb p.first first (omega (arith, j.0, less)), none) refl
 
 -- of fresh spans in a row as many begin with a number as there is one that does
-pub fresh_there : (low high : ℕ) (spans : List Span) (first : ℕ) → Partition low spans high → AllByRecursion CutIsFresh spans → length (filter (λ (p : Span). p.first == first) spans) ≡ span_there is_ready (beginning first spans)
+pub fresh_there : (low high : ℕ) (spans : List Span) (first : ℕ) → Partition low spans high
+    → AllByRecursion CutIsFresh spans → length (filter (λ (p : Span). p.first == first) spans)
+    ≡ span_there is_ready (beginning first spans)
 fresh_there low high [] first j f = refl
-fresh_there low high (p ∷ rest) first j f = count_cons (λ (p : Span). p.first == first) p rest ∙ by (p.first == first) refl (fresh_there (suc p.last) high rest first j.2 f.1)
+fresh_there low high (p ∷ rest) first j f = count_cons (λ (p : Span). p.first == first) p rest
+    ∙ by (p.first == first) refl (fresh_there (suc p.last) high rest first j.2 f.1)
   where
-    by : (b : Bool) → (p.first == first) ≡ b → length (filter (λ (p : Span). p.first == first) rest) ≡ span_there is_ready (beginning first rest)
-        → one_if b + length (filter (λ (p : Span). p.first == first) rest) ≡ span_there is_ready (cond b (Some p) (beginning first rest))
-    by true is h = ap (λ n. 1 + n) (begins_later (suc p.last) high rest first j.2 (omega (arith, eqb-true _ _ is, j.1))) ∙ sym (ap (λ status. one_if (is_ready status)) f.0)
+    by : (b : Bool) → (p.first == first) ≡ b → length (filter (λ (p : Span). p.first == first) rest)
+        ≡ span_there is_ready (beginning first rest)
+        → one_if b + length (filter (λ (p : Span). p.first == first) rest)
+        ≡ span_there is_ready (cond b (Some p) (beginning first rest))
+    by true is h = ap (λ n. 1 + n) (begins_later (suc p.last) high rest first j.2 (omega (arith, eqb-true _ _ is, j.1)))
+        ∙ sym (ap (λ status. one_if (is_ready status)) f.0)
     by false is h = omega (arith, h)
 
 -- where no span has a status there is none with it that begins with a number
-pub none_there : (test : Status → Bool) (first : ℕ) (spans : List Span) → AllByRecursion (λ (p : Span). test p.status ≡ false) spans → span_there test (beginning first spans) ≡ 0
+pub none_there : (test : Status → Bool) (first : ℕ) (spans : List Span)
+    → AllByRecursion (λ (p : Span). test p.status ≡ false) spans → span_there test (beginning first spans) ≡ 0
 none_there test first [] h = refl
-none_there test first (p ∷ rest) h = either_way (λ (o : Option Span). span_there test o ≡ 0) (p.first == first) (Some p) (beginning first rest) (ap one_if h.0) (none_there test first rest h.1)
+none_there test first (p ∷ rest) h = either_way (λ (o : Option Span). span_there test o ≡ 0) (p.first == first) (Some p)
+    (beginning first rest) (ap one_if h.0) (none_there test first rest h.1)
 
 -- the spans of a cutting stand once among their names, as ready ones, and none of them is out
-pub cut_often : (batch a b s first : ℕ) → 1 ≤ batch → a ≤ suc b → how_often s first (named s (cut_spans batch a b)) ≡ span_there is_ready (beginning first (cut_spans batch a b))
+pub cut_often : (batch a b s first : ℕ) → 1 ≤ batch → a ≤ suc b → how_often s first (named s (cut_spans batch a b))
+    ≡ span_there is_ready (beginning first (cut_spans batch a b))
 cut_often batch a b s first one le =
-    often_named s s first (cut_spans batch a b) ∙ (λ i. cond (eq-eqb s s refl i) (fresh_there a b (cut_spans batch a b) first (cut_parts batch a b one le) (cut_fresh batch a b) i) 0)
+    often_named s s first (cut_spans batch a b)
+    ∙ (λ i. cond (eq-eqb s s refl i)
+    (fresh_there a b (cut_spans batch a b) first (cut_parts batch a b one le) (cut_fresh batch a b) i) 0)
 
 pub cut_none_out : (batch a b first : ℕ) → span_there is_out (beginning first (cut_spans batch a b)) ≡ 0
-cut_none_out batch a b first = none_there is_out first (cut_spans batch a b) (fresh_not_out (cut_spans batch a b) (cut_fresh batch a b))
+cut_none_out batch a b first =
+    none_there is_out first (cut_spans batch a b) (fresh_not_out (cut_spans batch a b) (cut_fresh batch a b))
 
 -- ---- a subscription more
 
 -- what stands there once a subscription is put behind all
 pub stands_appended : (test : Status → Bool) (first : ℕ) (subs : List Subscription) (q : Subscription) (s : ℕ)
-    → stands_there test first (slice_get (subs ++ q ∷ []) s) ≡ stands_there test first (slice_get subs s) + cond (length subs == s) (span_there test (beginning first q.spans)) 0
+    → stands_there test first (slice_get (subs ++ q ∷ []) s) ≡ stands_there test first (slice_get subs s)
+    + cond (length subs == s) (span_there test (beginning first q.spans)) 0
 stands_appended test first [] q zero = omega arith
 stands_appended test first [] q (suc s) = rw (ne_eqb zero (suc s) (omega arith)) refl
 stands_appended test first (z ∷ subs) q zero = rw (ne_eqb (suc (length subs)) zero (omega arith)) (omega arith)
 stands_appended test first (z ∷ subs) q (suc s) = rw (eqb-suc-suc (length subs) s) (stands_appended test first subs q s)
 
 -- a new one behind a number that is placed
-pub subscribed_keeps : (p : Picture) (start : ℕ) → IsPicture p → start ≤ p.front → IsPicture (subscribed_picture p start (cut_spans p.limits.batch (suc start) p.front))
+pub subscribed_keeps : (p : Picture) (start : ℕ) → IsPicture p → start ≤ p.front
+    → IsPicture (subscribed_picture p start (cut_spans p.limits.batch (suc start) p.front))
 subscribed_keeps p start k behind = record {
   in_range = k.in_range;
   within = k.within;
   closed = k.closed;
-  good = all_both (IsGoodSubscription new) p.subscriptions (q ∷ []) (all_later p new p.subscriptions refl refl (omega arith) (omega arith) k.good) (mine, tt);
-  links = λ link. rw (links_append link p.subscriptions (q ∷ []), count_cons (λ (x : Subscription). x.link == link) q []) (one_link link (p.next_link == link) refl);
-  deliveries = λ d. rw (out_append d p.subscriptions (q ∷ []), fresh_outs d spans fresh) (omega (arith, k.deliveries d));
+  good = all_both (IsGoodSubscription new) p.subscriptions (q ∷ [])
+      (all_later p new p.subscriptions refl refl (omega arith) (omega arith) k.good) (mine, tt);
+  links = λ link. rw (
+    links_append link p.subscriptions (q ∷ []),
+    count_cons (λ (x : Subscription). x.link == link) q
+        [],
+  ) (one_link link (p.next_link == link) refl);
+  deliveries = λ d. rw (out_append d p.subscriptions (q ∷ []), fresh_outs d spans fresh)
+      (omega (arith, k.deliveries d));
   ready = λ s first.
       often_append s first p.ready (named (length p.subscriptions) spans)
       ∙ (λ i. k.ready s first i + often_named (length p.subscriptions) s first spans i)
-      ∙ ap (λ n. stands_there is_ready first (slice_get p.subscriptions s) + cond (length p.subscriptions == s) n 0) (fresh_there (suc start) p.front spans first parts fresh)
+      ∙ ap (λ n. stands_there is_ready first (slice_get p.subscriptions s) + cond (length p.subscriptions == s) n 0)
+      (fresh_there (suc start) p.front spans first parts fresh)
       ∙ sym (stands_appended is_ready first p.subscriptions q s);
   out = λ s first.
       k.out s first ∙ none_more (length p.subscriptions == s) (stands_there is_out first (slice_get p.subscriptions s))
-      ∙ ap (λ n. stands_there is_out first (slice_get p.subscriptions s) + cond (length p.subscriptions == s) n 0) (sym (none_there is_out first spans (fresh_not_out spans fresh)))
+      ∙ ap (λ n. stands_there is_out first (slice_get p.subscriptions s) + cond (length p.subscriptions == s) n 0)
+      (sym (none_there is_out first spans (fresh_not_out spans fresh)))
       ∙ sym (stands_appended is_out first p.subscriptions q s);
 }
   where
@@ -175,7 +212,8 @@ subscribed_keeps p start k behind = record {
     }
 
     one_link : (link : ℕ) (b : Bool) → (p.next_link == link) ≡ b → links_of link p.subscriptions + (one_if b + 0) ≤ 1
-    one_link link true is = let none = links_none p link p.subscriptions (omega (arith, eqb-true _ _ is)) k.good in omega (arith, none)
+    one_link link true is = let none = links_none p link p.subscriptions (omega (arith, eqb-true _ _ is)) k.good in
+        omega (arith, none)
     one_link link false is = omega (arith, k.links link)
 
     none_more : (b : Bool) (n : ℕ) → n ≡ n + cond b 0 0
@@ -186,40 +224,60 @@ subscribed_keeps p start k behind = record {
 pub keep_cut_subscribe_keeps : (p : Picture) (start : ℕ) → IsPicture p → IsPicture (subscribe p start).1
 unfolding subscribe
 keep_cut_subscribe_keeps p start k =
-    keep_cut_either (λ (x : Result (ℕ × ℕ) DeskRefusal × Picture). IsPicture x.1) (nat_lt p.front start) _ _ (λ ahead. k)
-    (λ behind. keep_cut_either (λ (x : Result (ℕ × ℕ) DeskRefusal × Picture). IsPicture x.1) (nat_le 1024 (length p.subscriptions)) _ _ (λ many. k) (λ few. subscribed_keeps p start k (ltb-false _ _ behind)))
+    keep_cut_either (λ (x : Result (ℕ × ℕ) DeskRefusal × Picture). IsPicture x.1) (nat_lt p.front start) _ _
+    (λ ahead. k)
+    (λ behind. keep_cut_either (λ (x : Result (ℕ × ℕ) DeskRefusal × Picture). IsPicture x.1)
+    (nat_le 1024 (length p.subscriptions)) _ _ (λ many. k)
+    (λ few. subscribed_keeps p start k (ltb-false _ _ behind)))
 
 -- ---- a subscription whose spans all go, and that has fresh ones in place of them
 
 -- the picture then, with the next link as it is then
 abbrev pub replaced : Picture → ℕ → Subscription → ℕ → List (ℕ × ℕ) → Picture
-replaced p s q' link ready = record (with_subscription p s q') { next_link = link; ready = ready; in_flight = without_subscription s p.in_flight }
+replaced p s q' link ready =
+    record (with_subscription p s q')
+    { next_link = link; ready = ready; in_flight = without_subscription s p.in_flight }
 
 -- it is a picture where the subscription is a good one with its former link or one not given yet
-pub replaced_keeps : (p : Picture) (s link low high : ℕ) (q q' : Subscription) → IsPicture p → slice_get p.subscriptions s ≡ Some q → p.next_link ≤ link → (q'.link ≡ q.link) ⊎ (p.next_link ≤ q'.link)
-    → IsGoodSubscription (replaced p s q' link (without_subscription s p.ready ++ named s q'.spans)) q' → Partition low q'.spans high → AllByRecursion CutIsFresh q'.spans
+pub replaced_keeps : (p : Picture) (s link low high : ℕ) (q q' : Subscription) → IsPicture p
+    → slice_get p.subscriptions s ≡ Some q → p.next_link ≤ link → (q'.link ≡ q.link) ⊎ (p.next_link ≤ q'.link)
+    → IsGoodSubscription (replaced p s q' link (without_subscription s p.ready ++ named s q'.spans)) q'
+    → Partition low q'.spans high → AllByRecursion CutIsFresh q'.spans
     → IsPicture (replaced p s q' link (without_subscription s p.ready ++ named s q'.spans))
 replaced_keeps p s link low high q q' k found le own mine parts fresh =
-    changed_keeps p s q found q' p.clock link p.next_delivery (without_subscription s p.ready ++ named s q'.spans) (without_subscription s p.in_flight) k le (omega arith) mine
+    changed_keeps p s q found q' p.clock link p.next_delivery (without_subscription s p.ready ++ named s q'.spans)
+    (without_subscription s p.in_flight) k le (omega arith) mine
     (λ at. one_link at (links_of at (slice_set p.subscriptions s q')) own (links_set at p.subscriptions s q q' found))
     (λ d. omega (arith, out_set d p.subscriptions s q q' found, fresh_outs d q'.spans fresh, k.deliveries d))
-    (λ first. stands s first ∙ (λ i. cond (eq-eqb s s refl i) 0 (how_often s first p.ready) + cond (eq-eqb s s refl i) (fresh_there low high q'.spans first parts fresh i) 0) ∙ omega arith)
-    (λ t first other. stands t first ∙ (λ i. cond (ne_eqb t s other i) 0 (how_often t first p.ready) + cond (ne_eqb s t (λ e. other (sym e)) i) (begin first) 0) ∙ omega arith)
-    (λ first. often_without_all s s first p.in_flight ∙ ap (λ b. cond b 0 (how_often s first p.in_flight)) (eq-eqb s s refl) ∙ sym (none_there is_out first q'.spans (fresh_not_out q'.spans fresh)))
-    (λ t first other. often_without_all s t first p.in_flight ∙ ap (λ b. cond b 0 (how_often t first p.in_flight)) (ne_eqb t s other))
+    (λ first. stands s first ∙ (λ i. cond (eq-eqb s s refl i) 0 (how_often s first p.ready)
+    + cond (eq-eqb s s refl i) (fresh_there low high q'.spans first parts fresh i) 0) ∙ omega arith)
+    (λ t first other. stands t first
+    ∙ (λ i. cond (ne_eqb t s other i) 0 (how_often t first p.ready)
+    + cond (ne_eqb s t (λ e. other (sym e)) i) (begin first) 0) ∙ omega arith)
+    (λ first. often_without_all s s first p.in_flight
+    ∙ ap (λ b. cond b 0 (how_often s first p.in_flight)) (eq-eqb s s refl)
+    ∙ sym (none_there is_out first q'.spans (fresh_not_out q'.spans fresh)))
+    (λ t first other. often_without_all s t first p.in_flight
+    ∙ ap (λ b. cond b 0 (how_often t first p.in_flight)) (ne_eqb t s other))
   where
     begin : ℕ → ℕ
     begin first = length (filter (λ (x : Span). x.first == first) q'.spans)
 
-    stands : (t first : ℕ) → how_often t first (without_subscription s p.ready ++ named s q'.spans) ≡ cond (t == s) 0 (how_often t first p.ready) + cond (s == t) (begin first) 0
-    stands t first = often_append t first (without_subscription s p.ready) (named s q'.spans) ∙ (λ i. often_without_all s t first p.ready i + often_named s t first q'.spans i)
+    stands : (t first : ℕ) → how_often t first (without_subscription s p.ready ++ named s q'.spans)
+        ≡ cond (t == s) 0 (how_often t first p.ready) + cond (s == t) (begin first) 0
+    stands t first = often_append t first (without_subscription s p.ready) (named s q'.spans)
+        ∙ (λ i. often_without_all s t first p.ready i + often_named s t first q'.spans i)
 
-    one_link : (at m : ℕ) → (q'.link ≡ q.link) ⊎ (p.next_link ≤ q'.link) → m + one_if (q.link == at) ≡ links_of at p.subscriptions + one_if (q'.link == at) → m ≤ 1
-    one_link at m (inl same) h = let same_test : one_if (q'.link == at) ≡ one_if (q.link == at) = ap (λ l. one_if (l == at)) same in omega (arith, h, same_test, k.links at)
+    one_link : (at m : ℕ) → (q'.link ≡ q.link) ⊎ (p.next_link ≤ q'.link) → m + one_if (q.link == at)
+        ≡ links_of at p.subscriptions + one_if (q'.link == at) → m ≤ 1
+    one_link at m (inl same) h = let same_test : one_if (q'.link == at) ≡ one_if (q.link == at) =
+        ap (λ l. one_if (l == at)) same in omega (arith, h, same_test, k.links at)
     one_link at m (inr later) h = by (q'.link == at) refl h
       where
-        by : (b : Bool) → (q'.link == at) ≡ b → m + one_if (q.link == at) ≡ links_of at p.subscriptions + one_if b → m ≤ 1
-        by true is h = let none = links_none p at p.subscriptions (omega (arith, eqb-true _ _ is, later)) k.good in omega (arith, h, none)
+        by : (b : Bool) → (q'.link == at) ≡ b → m + one_if (q.link == at) ≡ links_of at p.subscriptions + one_if b → m
+            ≤ 1
+        by true is h = let none = links_none p at p.subscriptions (omega (arith, eqb-true _ _ is, later)) k.good in
+            omega (arith, h, none)
         by false is h = omega (arith, h, k.links at)
 
 -- ---- behind a cursor
@@ -231,10 +289,13 @@ either_false false true h = absurd (false≢true (sym h))
 either_false true b h = absurd (false≢true (sym h))
 
 -- one that isn't closed goes on behind a cursor from its floor to what was offered
-pub reconnected_keeps : (p : Picture) (s cursor : ℕ) (q : Subscription) → IsPicture p → slice_get p.subscriptions s ≡ Some q → q.closed ≡ false → q.floor ≤ cursor → cursor ≤ q.offered
+pub reconnected_keeps : (p : Picture) (s cursor : ℕ) (q : Subscription) → IsPicture p → slice_get p.subscriptions s
+    ≡ Some q → q.closed ≡ false → q.floor ≤ cursor → cursor ≤ q.offered
     → IsPicture (reconnected_picture p s q cursor (cut_spans p.limits.batch (suc cursor) p.front))
 reconnected_keeps p s cursor q k found running low high =
-    replaced_keeps p s (suc p.next_link) (suc cursor) p.front q (record q { floor = cursor; link = p.next_link; spans = spans }) k found (omega arith) (inr (omega arith)) mine parts fresh
+    replaced_keeps p s (suc p.next_link) (suc cursor) p.front q
+    (record q { floor = cursor; link = p.next_link; spans = spans }) k found (omega arith) (inr (omega arith)) mine
+    parts fresh
   where
     spans : List Span
     spans = cut_spans p.limits.batch (suc cursor) p.front
@@ -246,9 +307,11 @@ reconnected_keeps p s cursor q k found running low high =
     fresh = cut_fresh p.limits.batch (suc cursor) p.front
 
     parts : Partition (suc cursor) spans p.front
-    parts = cut_parts p.limits.batch (suc cursor) p.front (one_in_batch p.limits k.in_range) (omega (arith, high, was.placed))
+    parts = cut_parts p.limits.batch (suc cursor) p.front (one_in_batch p.limits k.in_range)
+        (omega (arith, high, was.placed))
 
-    mine : IsGoodSubscription (reconnected_picture p s q cursor spans) (record q { floor = cursor; link = p.next_link; spans = spans })
+    mine : IsGoodSubscription (reconnected_picture p s q cursor spans)
+        (record q { floor = cursor; link = p.next_link; spans = spans })
     mine = record {
       begins = omega (arith, was.begins, low);
       reaches = high;
@@ -270,15 +333,19 @@ keep_cut_reconnect_keeps p s cursor k = by (slice_get p.subscriptions s) refl
     by None found = k
     by (Some q) found =
         keep_cut_either (λ (x : Result ℕ DeskRefusal × Picture). IsPicture x.1) q.closed _ _ (λ closed. k)
-        (λ running. keep_cut_either (λ (x : Result ℕ DeskRefusal × Picture). IsPicture x.1) (nat_lt cursor q.floor || nat_lt q.offered cursor) _ _ (λ bad. k)
-        (λ fits. let f = either_false (nat_lt cursor q.floor) (nat_lt q.offered cursor) fits in reconnected_keeps p s cursor q k found running (ltb-false _ _ f.0) (ltb-false _ _ f.1)))
+        (λ running. keep_cut_either (λ (x : Result ℕ DeskRefusal × Picture). IsPicture x.1)
+        (nat_lt cursor q.floor || nat_lt q.offered cursor) _ _ (λ bad. k)
+        (λ fits. let f = either_false (nat_lt cursor q.floor) (nat_lt q.offered cursor) fits in
+        reconnected_keeps p s cursor q k found running (ltb-false _ _ f.0) (ltb-false _ _ f.1)))
 
 -- ---- closed
 
 -- one is closed
-pub unsubscribed_keeps : (p : Picture) (s : ℕ) (q : Subscription) → IsPicture p → slice_get p.subscriptions s ≡ Some q → IsPicture (unsubscribed_picture p s q)
+pub unsubscribed_keeps : (p : Picture) (s : ℕ) (q : Subscription) → IsPicture p → slice_get p.subscriptions s ≡ Some q
+    → IsPicture (unsubscribed_picture p s q)
 unsubscribed_keeps p s q k found =
-    subst (λ ready. IsPicture (replaced p s q' p.next_link ready)) (append-nil (without_subscription s p.ready)) (replaced_keeps p s p.next_link 1 0 q q' k found (omega arith) (inl refl) mine refl tt)
+    subst (λ ready. IsPicture (replaced p s q' p.next_link ready)) (append-nil (without_subscription s p.ready))
+    (replaced_keeps p s p.next_link 1 0 q q' k found (omega arith) (inl refl) mine refl tt)
   where
     q' : Subscription
     q' = record q { closed = true; spans = [] }
@@ -307,8 +374,10 @@ keep_cut_unsubscribe_keeps p s link k = by (slice_get p.subscriptions s) refl
     by : (o : Option Subscription) → slice_get p.subscriptions s ≡ o → IsPicture (unsubscribed_by p s link o).1
     by None found = k
     by (Some q) found =
-        keep_cut_either (λ (x : Result Unit DeskRefusal × Picture). IsPicture x.1) (not (link == q.link)) _ _ (λ stale. k)
-        (λ same. keep_cut_either (λ (x : Result Unit DeskRefusal × Picture). IsPicture x.1) q.closed _ _ (λ closed. k) (λ running. unsubscribed_keeps p s q k found))
+        keep_cut_either (λ (x : Result Unit DeskRefusal × Picture). IsPicture x.1) (not (link == q.link)) _ _
+        (λ stale. k)
+        (λ same. keep_cut_either (λ (x : Result Unit DeskRefusal × Picture). IsPicture x.1) q.closed _ _ (λ closed. k)
+        (λ running. unsubscribed_keeps p s q k found))
 
 -- the sequence is closed where its front is
 pub keep_cut_close_keeps : (p : Picture) → IsPicture p → IsPicture (close p).1
@@ -317,7 +386,8 @@ keep_cut_close_keeps p k = record {
   in_range = k.in_range;
   within = k.within;
   closed = by p.closing k.closed;
-  good = all_later p (record p { closing = Some (last_number p p.closing) }) p.subscriptions refl refl (omega arith) (omega arith) k.good;
+  good = all_later p (record p { closing = Some (last_number p p.closing) }) p.subscriptions refl refl (omega arith)
+      (omega arith) k.good;
   links = k.links;
   deliveries = k.deliveries;
   ready = k.ready;

@@ -1,5 +1,7 @@
 -- A picture is still one after what is due went back.
-use Rattle.std.proofs.Common.{◌≡◌, ℕ, suc, max, ◌+◌, ◌-◌, ◌≤◌, Bool, true, false, not, ◌==◌, cond, List, [], ◌∷◌, length, Option, Some, None, option_map, filter, nat_le, slice_get, refl, sym, ap, ◌∙◌, arith}
+use Rattle.std.proofs.Common.{◌≡◌, ℕ, suc, max, ◌+◌, ◌-◌, ◌≤◌, Bool, true, false, not, ◌==◌, cond, List, [], ◌∷◌}
+use Rattle.std.proofs.Common.{length, Option, Some, None, option_map, filter, nat_le, slice_get, refl, sym, ap, ◌∙◌}
+use Rattle.std.proofs.Common.{arith}
 use Rattle.std.specs.List.{AllByRecursion}
 use Rattle.std.proofs.lemmas.Bool.{false≢true}
 use Rattle.std.proofs.lemmas.Option.{slice_get-map}
@@ -9,7 +11,8 @@ use Rattle.rb_desk.specs.declared.span.Status.TheVariants.{Ready, InFlight, Sett
 use Rattle.rb_desk.specs.Spans.{is_ready, is_fresh, is_out, is_out_as, is_settled, is_due, beginning, gone_back}
 use Rattle.rb_desk.specs.Picture.{Picture, Subscription}
 use Rattle.rb_desk.specs.Calls.{expire, expired_at, expires, goes_back, is_due_of, span_is_due}
-use Rattle.rb_desk.specs.IsPicture.{Partition, IsGoodSpan, StartsUnsettled, IsGoodSubscription, one_if, span_there, stands_there, IsPicture}
+use Rattle.rb_desk.specs.IsPicture.{Partition, IsGoodSpan, StartsUnsettled, IsGoodSubscription, one_if, span_there}
+use Rattle.rb_desk.specs.IsPicture.{stands_there, IsPicture}
 use Rattle.rb_desk.proofs.orders.Line.{all_then}
 use Rattle.rb_desk.proofs.calls.KnownLaws.{all_mapped}
 use Rattle.rb_desk.proofs.pictures.PictureLaws.{count_cons, often_append, often_filter}
@@ -25,7 +28,8 @@ module _ (timeout clock : ℕ) where
 
   -- it begins and ends as before
   back_first : (p : Span) → (back p).first ≡ p.first
-  back_first p = either_way (λ (x : Span). x.first ≡ p.first) (is_due timeout clock p.status) (record p { status = Ready true }) p refl refl
+  back_first p = either_way (λ (x : Span). x.first ≡ p.first) (is_due timeout clock p.status)
+      (record p { status = Ready true }) p refl refl
 
   back_status : (p : Span) → (back p).status ≡ cond (is_due timeout clock p.status) (Ready true) p.status
   back_status p = by (is_due timeout clock p.status)
@@ -41,7 +45,8 @@ module _ (timeout clock : ℕ) where
   due_taken Settled due = refl
 
   -- what is out and due is ready, what was ready still is, and nothing else
-  ready_now : (status : Status) → one_if (is_ready (cond (is_due timeout clock status) (Ready true) status)) ≡ one_if (is_ready status) + cond (is_due timeout clock status) (one_if (is_out status)) 0
+  ready_now : (status : Status) → one_if (is_ready (cond (is_due timeout clock status) (Ready true) status))
+      ≡ one_if (is_ready status) + cond (is_due timeout clock status) (one_if (is_out status)) 0
   ready_now (Ready taken) = refl
   ready_now (InFlight number moment) = by (nat_le timeout (clock - moment))
     where
@@ -51,7 +56,8 @@ module _ (timeout clock : ℕ) where
   ready_now Settled = refl
 
   -- what is out and not due is out
-  out_now : (status : Status) → one_if (is_out (cond (is_due timeout clock status) (Ready true) status)) ≡ cond (not (is_due timeout clock status)) (one_if (is_out status)) 0
+  out_now : (status : Status) → one_if (is_out (cond (is_due timeout clock status) (Ready true) status))
+      ≡ cond (not (is_due timeout clock status)) (one_if (is_out status)) 0
   out_now (Ready taken) = refl
   out_now (InFlight number moment) = by (nat_le timeout (clock - moment))
     where
@@ -63,69 +69,95 @@ module _ (timeout clock : ℕ) where
   -- ---- the spans of a subscription
 
   -- they partition the same numbers
-  pub back_parts : (low high : ℕ) (spans : List Span) → Partition low spans high → Partition low (gone_back timeout clock spans) high
+  pub back_parts : (low high : ℕ) (spans : List Span) → Partition low spans high
+      → Partition low (gone_back timeout clock spans) high
   back_parts low high [] j = j
   back_parts low high (p ∷ rest) j = by (is_due timeout clock p.status) (back_parts (suc p.last) high rest j.2)
     where
-      by : (b : Bool) → Partition (suc p.last) (gone_back timeout clock rest) high → Partition low (cond b (record p { status = Ready true }) p ∷ gone_back timeout clock rest) high
+      by : (b : Bool) → Partition (suc p.last) (gone_back timeout clock rest) high
+          → Partition low (cond b (record p { status = Ready true }) p ∷ gone_back timeout clock rest) high
       by true h = (j.0, j.1, h)
       by false h = (j.0, j.1, h)
 
   -- the first of them isn't settled
   pub back_unsettled : (spans : List Span) → StartsUnsettled spans → StartsUnsettled (gone_back timeout clock spans)
   back_unsettled [] h = tt
-  back_unsettled (p ∷ rest) h = either_way (λ (x : Span). is_settled x.status ≡ false) (is_due timeout clock p.status) (record p { status = Ready true }) p refl h
+  back_unsettled (p ∷ rest) h = either_way (λ (x : Span). is_settled x.status ≡ false) (is_due timeout clock p.status)
+      (record p { status = Ready true }) p refl h
 
   -- they are good
-  pub back_good : (batch offered next : ℕ) (spans : List Span) → AllByRecursion (IsGoodSpan batch offered next) spans → AllByRecursion (IsGoodSpan batch offered next) (gone_back timeout clock spans)
+  pub back_good : (batch offered next : ℕ) (spans : List Span) → AllByRecursion (IsGoodSpan batch offered next) spans
+      → AllByRecursion (IsGoodSpan batch offered next) (gone_back timeout clock spans)
   back_good batch offered next [] g = tt
-  back_good batch offered next (p ∷ rest) g = (by (is_due timeout clock p.status) refl, back_good batch offered next rest g.1)
+  back_good batch offered next (p ∷ rest) g =
+      (by (is_due timeout clock p.status) refl, back_good batch offered next rest g.1)
     where
-      by : (b : Bool) → is_due timeout clock p.status ≡ b → IsGoodSpan batch offered next (cond b (record p { status = Ready true }) p)
+      by : (b : Bool) → is_due timeout clock p.status ≡ b
+          → IsGoodSpan batch offered next (cond b (record p { status = Ready true }) p)
       by true due = record { short = g.0.short; handed_out = (λ taken. g.0.handed_out.0 (due_taken p.status due), tt) }
       by false due = g.0
 
   -- no more of them have a status that isn't ready
-  pub back_having : (test : Status → Bool) (spans : List Span) → test (Ready true) ≡ false → length (filter (λ (p : Span). test p.status) (gone_back timeout clock spans)) ≤ length (filter (λ (p : Span). test p.status) spans)
+  pub back_having : (test : Status → Bool) (spans : List Span) → test (Ready true) ≡ false
+      → length (filter (λ (p : Span). test p.status) (gone_back timeout clock spans))
+      ≤ length (filter (λ (p : Span). test p.status) spans)
   back_having test [] h = omega arith
   back_having test (p ∷ rest) h =
       let less = back_having test rest h in
       let none : one_if (test (Ready true)) ≡ 0 = ap one_if h in
       let one : one_if (test (back p).status) ≤ one_if (test p.status) =
-      either_way (λ (x : Span). one_if (test x.status) ≤ one_if (test p.status)) (is_due timeout clock p.status) (record p { status = Ready true }) p (omega (arith, none)) (omega arith) in
-      omega (arith, less, one, count_cons (λ (p : Span). test p.status) (back p) (gone_back timeout clock rest), count_cons (λ (p : Span). test p.status) p rest)
+      either_way (λ (x : Span). one_if (test x.status) ≤ one_if (test p.status)) (is_due timeout clock p.status)
+      (record p { status = Ready true }) p (omega (arith, none)) (omega arith) in
+      omega (
+        arith,
+        less,
+        one,
+        count_cons (λ (p : Span). test p.status) (back p) (gone_back timeout clock rest),
+        count_cons (λ (p : Span). test p.status) p rest,
+      )
 
   -- the one that begins with a number is what the former one becomes
-  back_beginning : (first : ℕ) (spans : List Span) → beginning first (gone_back timeout clock spans) ≡ option_map back (beginning first spans)
+  back_beginning : (first : ℕ) (spans : List Span) → beginning first (gone_back timeout clock spans)
+      ≡ option_map back (beginning first spans)
   back_beginning first [] = refl
-  back_beginning first (p ∷ rest) = ap (λ m. cond (m == first) (Some (back p)) (beginning first (gone_back timeout clock rest))) (back_first p) ∙ by (p.first == first) (back_beginning first rest)
+  back_beginning first (p ∷ rest) =
+      ap (λ m. cond (m == first) (Some (back p)) (beginning first (gone_back timeout clock rest))) (back_first p)
+      ∙ by (p.first == first) (back_beginning first rest)
     where
       by : (b : Bool) → beginning first (gone_back timeout clock rest) ≡ option_map back (beginning first rest)
-          → cond b (Some (back p)) (beginning first (gone_back timeout clock rest)) ≡ option_map back (cond b (Some p) (beginning first rest))
+          → cond b (Some (back p)) (beginning first (gone_back timeout clock rest))
+          ≡ option_map back (cond b (Some p) (beginning first rest))
       by true h = refl
       by false h = h
 
   -- so it is ready where it was, or was out and due, and out where it was and wasn't due
-  ready_span : (o : Option Span) → span_there is_ready (option_map back o) ≡ span_there is_ready o + cond (span_is_due timeout clock o) (span_there is_out o) 0
+  ready_span : (o : Option Span) → span_there is_ready (option_map back o) ≡ span_there is_ready o
+      + cond (span_is_due timeout clock o) (span_there is_out o) 0
   ready_span None = refl
   ready_span (Some p) = ap (λ status. one_if (is_ready status)) (back_status p) ∙ ready_now p.status
 
-  out_span : (o : Option Span) → span_there is_out (option_map back o) ≡ cond (not (span_is_due timeout clock o)) (span_there is_out o) 0
+  out_span : (o : Option Span) → span_there is_out (option_map back o)
+      ≡ cond (not (span_is_due timeout clock o)) (span_there is_out o) 0
   out_span None = refl
   out_span (Some p) = ap (λ status. one_if (is_out status)) (back_status p) ∙ out_now p.status
 
   -- and at the place of a subscription
   pub ready_there : (first : ℕ) (o : Option Subscription)
-      → stands_there is_ready first (option_map (goes_back timeout clock) o) ≡ stands_there is_ready first o + cond (is_due_of timeout clock first o) (stands_there is_out first o) 0
+      → stands_there is_ready first (option_map (goes_back timeout clock) o) ≡ stands_there is_ready first o
+      + cond (is_due_of timeout clock first o) (stands_there is_out first o) 0
   ready_there first None = refl
-  ready_there first (Some q) = ap (span_there is_ready) (back_beginning first q.spans) ∙ ready_span (beginning first q.spans)
+  ready_there first (Some q) = ap (span_there is_ready) (back_beginning first q.spans)
+      ∙ ready_span (beginning first q.spans)
 
-  pub out_there : (first : ℕ) (o : Option Subscription) → stands_there is_out first (option_map (goes_back timeout clock) o) ≡ cond (not (is_due_of timeout clock first o)) (stands_there is_out first o) 0
+  pub out_there : (first : ℕ) (o : Option Subscription)
+      → stands_there is_out first (option_map (goes_back timeout clock) o)
+      ≡ cond (not (is_due_of timeout clock first o)) (stands_there is_out first o) 0
   out_there first None = refl
   out_there first (Some q) = ap (span_there is_out) (back_beginning first q.spans) ∙ out_span (beginning first q.spans)
 
   -- a good subscription is one in a picture with the same limits, front and next numbers
-  pub back_subscription : (p p' : Picture) (q : Subscription) → p'.limits ≡ p.limits → p'.front ≡ p.front → p'.next_link ≡ p.next_link → p'.next_delivery ≡ p.next_delivery → IsGoodSubscription p q
+  pub back_subscription : (p p' : Picture) (q : Subscription) → p'.limits ≡ p.limits → p'.front ≡ p.front → p'.next_link
+      ≡ p.next_link → p'.next_delivery ≡ p.next_delivery → IsGoodSubscription p q
       → IsGoodSubscription p' (goes_back timeout clock q)
   back_subscription p p' q limits front link delivery g = record {
     begins = g.begins;
@@ -147,18 +179,29 @@ expired_keeps p clock k = record {
   in_range = k.in_range;
   within = k.within;
   closed = k.closed;
-  good = all_mapped (IsGoodSubscription new) goes p.subscriptions (all_then (IsGoodSubscription p) (λ q. IsGoodSubscription new (goes q)) p.subscriptions (λ q g. back_subscription p.limits.timeout clock p new q refl refl refl refl g) k.good);
+  good = all_mapped (IsGoodSubscription new) goes p.subscriptions
+      (all_then (IsGoodSubscription p) (λ q. IsGoodSubscription new (goes q)) p.subscriptions
+      (λ q g. back_subscription p.limits.timeout clock p new q refl refl refl refl g) k.good);
   links = λ link. omega (arith, links_mapped goes link p.subscriptions (λ q. refl), k.links link);
-  deliveries = λ d. omega (arith, out_mapped goes d p.subscriptions (λ q. back_having p.limits.timeout clock (is_out_as d) q.spans refl), k.deliveries d);
+  deliveries =
+      λ d. omega (
+        arith,
+        out_mapped goes d p.subscriptions
+            (λ q. back_having p.limits.timeout clock (is_out_as d) q.spans refl),
+        k.deliveries d,
+      );
   ready = λ s first.
       often_append s first p.ready (filter (expires p clock) p.in_flight)
       ∙ (λ i. k.ready s first i + often_filter (expires p clock) s first p.in_flight i)
-      ∙ ap (λ n. stands_there is_ready first (slice_get p.subscriptions s) + cond (expires p clock (s, first)) n 0) (k.out s first)
-      ∙ sym (ap (stands_there is_ready first) (slice_get-map goes p.subscriptions s) ∙ ready_there p.limits.timeout clock first (slice_get p.subscriptions s));
+      ∙ ap (λ n. stands_there is_ready first (slice_get p.subscriptions s) + cond (expires p clock (s, first)) n 0)
+      (k.out s first)
+      ∙ sym (ap (stands_there is_ready first) (slice_get-map goes p.subscriptions s)
+      ∙ ready_there p.limits.timeout clock first (slice_get p.subscriptions s));
   out = λ s first.
       often_filter (λ at. not (expires p clock at)) s first p.in_flight
       ∙ ap (λ n. cond (not (expires p clock (s, first))) n 0) (k.out s first)
-      ∙ sym (ap (stands_there is_out first) (slice_get-map goes p.subscriptions s) ∙ out_there p.limits.timeout clock first (slice_get p.subscriptions s));
+      ∙ sym (ap (stands_there is_out first) (slice_get-map goes p.subscriptions s)
+      ∙ out_there p.limits.timeout clock first (slice_get p.subscriptions s));
 }
   where
     goes : Subscription → Subscription

@@ -1,5 +1,7 @@
 -- A picture is still one once a number is placed.
-use Rattle.std.proofs.Common.{◌≡◌, ℕ, zero, suc, ◌+◌, ◌-◌, ◌<◌, ◌≤◌, ne_eqb, eq-eqb, Bool, true, false, ◌&&◌, ◌||◌, ◌==◌, cond, List, [], ◌∷◌, ◌++◌, length, map, Option, Some, None, option_map, IfSome, Result, Ok, IsOk, filter, nat_lt, slice_get, refl, sym, ap, ◌∙◌, subst, arith}
+use Rattle.std.proofs.Common.{◌≡◌, ℕ, zero, suc, ◌+◌, ◌-◌, ◌<◌, ◌≤◌, ne_eqb, eq-eqb, Bool, true, false, ◌&&◌, ◌||◌}
+use Rattle.std.proofs.Common.{◌==◌, cond, List, [], ◌∷◌, ◌++◌, length, map, Option, Some, None, option_map, IfSome}
+use Rattle.std.proofs.Common.{Result, Ok, IsOk, filter, nat_lt, slice_get, refl, sym, ap, ◌∙◌, subst, arith}
 use Rattle.std.specs.List.{AllByRecursion}
 use Rattle.std.proofs.lemmas.Bool.{false≢true, eqb-true, ltb-true}
 use Rattle.std.proofs.lemmas.Option.{slice_get-map}
@@ -7,10 +9,12 @@ use Rattle.rb_desk.specs.declared.refusal.DeskRefusal.{DeskRefusal}
 use Rattle.rb_desk.specs.declared.span.Span.{Span}
 use Rattle.rb_desk.specs.declared.span.Status.{Status}
 use Rattle.rb_desk.specs.declared.span.Status.TheVariants.{Ready}
-use Rattle.rb_desk.specs.Spans.{fresh, is_ready, is_fresh, is_out, is_out_as, beginning, last_takes, last_with, grown_spans}
+use Rattle.rb_desk.specs.Spans.{fresh, is_ready, is_fresh, is_out, is_out_as, beginning, last_takes, last_with}
+use Rattle.rb_desk.specs.Spans.{grown_spans}
 use Rattle.rb_desk.specs.Picture.{Picture, Subscription}
 use Rattle.rb_desk.specs.Calls.{is_span, prepare, place, grown_subscription, begun_spans}
-use Rattle.rb_desk.specs.IsPicture.{Partition, IsGoodSpan, StartsUnsettled, IsGoodSubscription, how_often, one_if, span_there, stands_there, links_of, out_in, IsPicture}
+use Rattle.rb_desk.specs.IsPicture.{Partition, IsGoodSpan, StartsUnsettled, IsGoodSubscription, how_often, one_if}
+use Rattle.rb_desk.specs.IsPicture.{span_there, stands_there, links_of, out_in, IsPicture}
 use Rattle.rb_desk.proofs.calls.CallLaws.{may_place}
 use Rattle.rb_desk.proofs.orders.Line.{all_both, all_then}
 use Rattle.rb_desk.proofs.calls.KnownLaws.{all_get, all_mapped}
@@ -25,20 +29,25 @@ parts_reach low high [] j = omega (arith, j)
 parts_reach low high (p ∷ rest) j = omega (arith, j.0, j.1, parts_reach (suc p.last) high rest j.2)
 
 -- the last span takes the next number
-parts_with : (batch low front : ℕ) (spans : List Span) → last_takes batch spans ≡ true → Partition low spans front → Partition low (last_with (suc front) spans) (suc front)
+parts_with : (batch low front : ℕ) (spans : List Span) → last_takes batch spans ≡ true → Partition low spans front
+    → Partition low (last_with (suc front) spans) (suc front)
 parts_with batch low front [] takes j = absurd (false≢true takes)
 parts_with batch low front (p ∷ []) takes j = (j.0, omega (arith, j.1, j.2), refl)
 parts_with batch low front (p ∷ q ∷ rest) takes j = (j.0, j.1, parts_with batch (suc p.last) front (q ∷ rest) takes j.2)
 
 -- or it begins a new one
-parts_more : (low front : ℕ) (spans : List Span) → Partition low spans front → Partition low (spans ++ fresh (suc front) (suc front) ∷ []) (suc front)
+parts_more : (low front : ℕ) (spans : List Span) → Partition low spans front
+    → Partition low (spans ++ fresh (suc front) (suc front) ∷ []) (suc front)
 parts_more low front [] j = (j, omega arith, refl)
 parts_more low front (p ∷ rest) j = (j.0, j.1, parts_more (suc p.last) front rest j.2)
 
 -- so grown spans partition the numbers up to it
-pub grown_parts : (batch low front : ℕ) (spans : List Span) → Partition low spans front → Partition low (grown_spans batch (suc front) spans) (suc front)
+pub grown_parts : (batch low front : ℕ) (spans : List Span) → Partition low spans front
+    → Partition low (grown_spans batch (suc front) spans) (suc front)
 grown_parts batch low front spans j =
-    keep_cut_either (λ xs. Partition low xs (suc front)) (last_takes batch spans) (last_with (suc front) spans) (spans ++ fresh (suc front) (suc front) ∷ []) (λ takes. parts_with batch low front spans takes j) (λ full. parts_more low front spans j)
+    keep_cut_either (λ xs. Partition low xs (suc front)) (last_takes batch spans) (last_with (suc front) spans)
+    (spans ++ fresh (suc front) (suc front) ∷ []) (λ takes. parts_with batch low front spans takes j)
+    (λ full. parts_more low front spans j)
 
 -- ---- good spans
 
@@ -47,25 +56,39 @@ both_true true true h = (refl, refl)
 both_true true false h = absurd (false≢true h)
 both_true false b h = absurd (false≢true h)
 
-good_with : (batch offered next low front : ℕ) (spans : List Span) → last_takes batch spans ≡ true → Partition low spans front → AllByRecursion (IsGoodSpan batch offered next) spans
+good_with : (batch offered next low front : ℕ) (spans : List Span) → last_takes batch spans ≡ true
+    → Partition low spans front → AllByRecursion (IsGoodSpan batch offered next) spans
     → AllByRecursion (IsGoodSpan batch offered next) (last_with (suc front) spans)
 good_with batch offered next low front [] takes j g = tt
 good_with batch offered next low front (p ∷ []) takes j g =
     let t = both_true (is_fresh p.status) (nat_lt (suc p.last - p.first) batch) takes in
-    let less : suc p.last - p.first < batch = ltb-true _ _ t.1 in
-    (record { short = omega (arith, less, j.1, j.2); handed_out = (λ taken. absurd (false≢true (sym taken ∙ t.0)), g.0.handed_out.1) }, tt)
-good_with batch offered next low front (p ∷ q ∷ rest) takes j g = (g.0, good_with batch offered next (suc p.last) front (q ∷ rest) takes j.2 g.1)
+    let less : suc p.last - p.first < batch = ltb-true _ _ t.1 in (
+      record {
+        short = omega (arith, less, j.1, j.2);
+        handed_out = (λ taken. absurd (false≢true (sym taken ∙ t.0)), g.0.handed_out.1);
+      },
+      tt,
+    )
+good_with batch offered next low front (p ∷ q ∷ rest) takes j g =
+    (g.0, good_with batch offered next (suc p.last) front (q ∷ rest) takes j.2 g.1)
 
 -- grown spans are good
-pub grown_good : (batch offered next low front : ℕ) (spans : List Span) → 1 ≤ batch → Partition low spans front → AllByRecursion (IsGoodSpan batch offered next) spans
+pub grown_good : (batch offered next low front : ℕ) (spans : List Span) → 1 ≤ batch → Partition low spans front
+    → AllByRecursion (IsGoodSpan batch offered next) spans
     → AllByRecursion (IsGoodSpan batch offered next) (grown_spans batch (suc front) spans)
 grown_good batch offered next low front spans one j g =
-    keep_cut_either (AllByRecursion (IsGoodSpan batch offered next)) (last_takes batch spans) (last_with (suc front) spans) (spans ++ fresh (suc front) (suc front) ∷ []) (λ takes. good_with batch offered next low front spans takes j g)
-    (λ full. all_both (IsGoodSpan batch offered next) spans (fresh (suc front) (suc front) ∷ []) g (record { short = omega (arith, one); handed_out = (λ taken. absurd (false≢true (sym taken)), tt) }, tt))
+    keep_cut_either (AllByRecursion (IsGoodSpan batch offered next)) (last_takes batch spans)
+    (last_with (suc front) spans) (spans ++ fresh (suc front) (suc front) ∷ [])
+    (λ takes. good_with batch offered next low front spans takes j g)
+    (λ full. all_both (IsGoodSpan batch offered next) spans (fresh (suc front) (suc front) ∷ []) g
+    (record { short = omega (arith, one); handed_out = (λ taken. absurd (false≢true (sym taken)), tt) }, tt))
 
 -- the first of them isn't settled
-pub grown_unsettled : (batch n : ℕ) (spans : List Span) → StartsUnsettled spans → StartsUnsettled (grown_spans batch n spans)
-grown_unsettled batch n spans h = either_way StartsUnsettled (last_takes batch spans) (last_with n spans) (spans ++ fresh n n ∷ []) (longer spans h) (more spans h)
+pub grown_unsettled : (batch n : ℕ) (spans : List Span) → StartsUnsettled spans
+    → StartsUnsettled (grown_spans batch n spans)
+grown_unsettled batch n spans h =
+    either_way StartsUnsettled (last_takes batch spans) (last_with n spans) (spans ++ fresh n n ∷ []) (longer spans h)
+    (more spans h)
   where
     longer : (spans : List Span) → StartsUnsettled spans → StartsUnsettled (last_with n spans)
     longer [] h = tt
@@ -85,55 +108,81 @@ module _ (test : Status → Bool) where
 
   having_with : (n : ℕ) (spans : List Span) → having (last_with n spans) ≡ having spans
   having_with n [] = refl
-  having_with n (p ∷ []) = count_cons (λ (p : Span). test p.status) (record p { last = n }) [] ∙ sym (count_cons (λ (p : Span). test p.status) p [])
+  having_with n (p ∷ []) = count_cons (λ (p : Span). test p.status) (record p { last = n }) []
+      ∙ sym (count_cons (λ (p : Span). test p.status) p [])
   having_with n (p ∷ q ∷ rest) =
-      count_cons (λ (p : Span). test p.status) p (last_with n (q ∷ rest)) ∙ ap (λ m. one_if (test p.status) + m) (having_with n (q ∷ rest)) ∙ sym (count_cons (λ (p : Span). test p.status) p (q ∷ rest))
+      count_cons (λ (p : Span). test p.status) p (last_with n (q ∷ rest))
+      ∙ ap (λ m. one_if (test p.status) + m) (having_with n (q ∷ rest))
+      ∙ sym (count_cons (λ (p : Span). test p.status) p (q ∷ rest))
 
   -- as many as before, where fresh ones don't
-  pub grown_having : (batch n : ℕ) (spans : List Span) → test (Ready false) ≡ false → having (grown_spans batch n spans) ≡ having spans
+  pub grown_having : (batch n : ℕ) (spans : List Span) → test (Ready false) ≡ false → having (grown_spans batch n spans)
+      ≡ having spans
   grown_having batch n spans h =
-      either_way (λ xs. having xs ≡ having spans) (last_takes batch spans) (last_with n spans) (spans ++ fresh n n ∷ []) (having_with n spans)
-      (count_append (λ (p : Span). test p.status) spans (fresh n n ∷ []) ∙ (let none : having (fresh n n ∷ []) ≡ 0 = ap (λ b. length (cond b (fresh n n ∷ []) [])) h in omega (arith, none)))
+      either_way (λ xs. having xs ≡ having spans) (last_takes batch spans) (last_with n spans) (spans ++ fresh n n ∷ [])
+      (having_with n spans)
+      (count_append (λ (p : Span). test p.status) spans (fresh n n ∷ [])
+      ∙ (let none : having (fresh n n ∷ []) ≡ 0 = ap (λ b. length (cond b (fresh n n ∷ []) [])) h in
+      omega (arith, none)))
 
   -- the span that begins with a number has it as before
-  there_with : (n first : ℕ) (spans : List Span) → span_there test (beginning first (last_with n spans)) ≡ span_there test (beginning first spans)
+  there_with : (n first : ℕ) (spans : List Span) → span_there test (beginning first (last_with n spans))
+      ≡ span_there test (beginning first spans)
   there_with n first [] = refl
   there_with n first (p ∷ []) = by (p.first == first)
     where
-      by : (b : Bool) → span_there test (cond b (Some (record p { last = n })) None) ≡ span_there test (cond b (Some p) None)
+      by : (b : Bool) → span_there test (cond b (Some (record p { last = n })) None)
+          ≡ span_there test (cond b (Some p) None)
       by true = refl
       by false = refl
   there_with n first (p ∷ q ∷ rest) = by (p.first == first) (there_with n first (q ∷ rest))
     where
-      by : (b : Bool) → span_there test (beginning first (last_with n (q ∷ rest))) ≡ span_there test (beginning first (q ∷ rest))
-          → span_there test (cond b (Some p) (beginning first (last_with n (q ∷ rest)))) ≡ span_there test (cond b (Some p) (beginning first (q ∷ rest)))
+      by : (b : Bool) → span_there test (beginning first (last_with n (q ∷ rest)))
+          ≡ span_there test (beginning first (q ∷ rest))
+          → span_there test (cond b (Some p) (beginning first (last_with n (q ∷ rest))))
+          ≡ span_there test (cond b (Some p) (beginning first (q ∷ rest)))
       by true h = refl
       by false h = h
 
   -- the new span has it where fresh ones do
   there_more : (n first low high : ℕ) (spans : List Span) → Partition low spans high → high < n
-      → span_there test (beginning first (spans ++ fresh n n ∷ [])) ≡ span_there test (beginning first spans) + cond (n == first) (one_if (test (Ready false))) 0
+      → span_there test (beginning first (spans ++ fresh n n ∷ [])) ≡ span_there test (beginning first spans)
+      + cond (n == first) (one_if (test (Ready false))) 0
   there_more n first low high [] j less = by (n == first)
     where
       by : (b : Bool) → span_there test (cond b (Some (fresh n n)) None) ≡ 0 + cond b (one_if (test (Ready false))) 0
       by true = omega arith
       by false = omega arith
-  there_more n first low high (p ∷ rest) j less = by (p.first == first) refl (there_more n first (suc p.last) high rest j.2 less)
+  there_more n first low high (p ∷ rest) j less =
+      by (p.first == first) refl (there_more n first (suc p.last) high rest j.2 less)
     where
-      by : (b : Bool) → (p.first == first) ≡ b → span_there test (beginning first (rest ++ fresh n n ∷ [])) ≡ span_there test (beginning first rest) + cond (n == first) (one_if (test (Ready false))) 0
-          → span_there test (cond b (Some p) (beginning first (rest ++ fresh n n ∷ []))) ≡ span_there test (cond b (Some p) (beginning first rest)) + cond (n == first) (one_if (test (Ready false))) 0
-      by true is h = rw (ne_eqb n first (omega (arith, eqb-true _ _ is, j.1, less, parts_reach (suc p.last) high rest j.2))) (omega arith)
+      by : (b : Bool) → (p.first == first) ≡ b → span_there test (beginning first (rest ++ fresh n n ∷ []))
+          ≡ span_there test (beginning first rest) + cond (n == first) (one_if (test (Ready false))) 0
+          → span_there test (cond b (Some p) (beginning first (rest ++ fresh n n ∷ [])))
+          ≡ span_there test (cond b (Some p) (beginning first rest))
+          + cond (n == first) (one_if (test (Ready false))) 0
+      by true is h =
+          rw (ne_eqb n first (omega (arith, eqb-true _ _ is, j.1, less, parts_reach (suc p.last) high rest j.2)))
+          (omega arith)
       by false is h = h
 
   -- so it has it in what a subscription becomes as before, or it is the new one
   pub grows_there : (p : Picture) (q : Subscription) (batch first : ℕ) → IsGoodSubscription p q
       → span_there test (beginning first (grown_subscription batch (suc p.front) q).spans)
-      ≡ span_there test (beginning first q.spans) + cond (q.closed || last_takes batch q.spans) 0 (cond (suc p.front == first) (one_if (test (Ready false))) 0)
+      ≡ span_there test (beginning first q.spans)
+      + cond (q.closed || last_takes batch q.spans) 0 (cond (suc p.front == first) (one_if (test (Ready false))) 0)
   grows_there p q batch first g = by q.closed (last_takes batch q.spans) g.parts
     where
       by : (b c : Bool) → (b ≡ false → Partition (suc q.floor) q.spans p.front)
-          → span_there test (beginning first (cond b q (record q { spans = cond c (last_with (suc p.front) q.spans) (q.spans ++ fresh (suc p.front) (suc p.front) ∷ []) })).spans)
-          ≡ span_there test (beginning first q.spans) + cond (b || c) 0 (cond (suc p.front == first) (one_if (test (Ready false))) 0)
+          → span_there test
+          (beginning first
+          (cond b q
+          (record q {
+            spans = cond c (last_with (suc p.front) q.spans)
+                (q.spans ++ fresh (suc p.front) (suc p.front) ∷ []);
+          })).spans)
+          ≡ span_there test (beginning first q.spans)
+          + cond (b || c) 0 (cond (suc p.front == first) (one_if (test (Ready false))) 0)
       by true c parts = omega arith
       by false true parts = let same = there_with (suc p.front) first q.spans in omega (arith, same)
       by false false parts = there_more (suc p.front) first (suc q.floor) p.front q.spans (parts refl) (omega arith)
@@ -147,10 +196,14 @@ begins_one batch n first (Some q) = cond (q.closed || last_takes batch q.spans) 
 
 module _ (batch n s first : ℕ) where
   begun_cons : (k : ℕ) (q : Subscription) (subs : List Subscription)
-      → how_often s first (begun_spans batch n k (q ∷ subs)) ≡ cond (q.closed || last_takes batch q.spans) 0 (one_if ((k == s) && (n == first))) + how_often s first (begun_spans batch n (suc k) subs)
+      → how_often s first (begun_spans batch n k (q ∷ subs))
+      ≡ cond (q.closed || last_takes batch q.spans) 0 (one_if ((k == s) && (n == first)))
+      + how_often s first (begun_spans batch n (suc k) subs)
   begun_cons k q subs = by (q.closed || last_takes batch q.spans)
     where
-      by : (b : Bool) → how_often s first (cond b (begun_spans batch n (suc k) subs) ((k, n) ∷ begun_spans batch n (suc k) subs)) ≡ cond b 0 (one_if ((k == s) && (n == first))) + how_often s first (begun_spans batch n (suc k) subs)
+      by : (b : Bool) → how_often s first
+          (cond b (begun_spans batch n (suc k) subs) ((k, n) ∷ begun_spans batch n (suc k) subs))
+          ≡ cond b 0 (one_if ((k == s) && (n == first))) + how_often s first (begun_spans batch n (suc k) subs)
       by true = omega arith
       by false = count_cons (is_span s first) (k, n) (begun_spans batch n (suc k) subs)
 
@@ -163,15 +216,19 @@ module _ (batch n s first : ℕ) where
   begun_ahead k [] less = refl
   begun_ahead k (q ∷ subs) less =
       begun_cons k q subs
-      ∙ (λ i. cond (q.closed || last_takes batch q.spans) 0 (one_if (ne_eqb k s (omega (arith, less)) i && (n == first))) + begun_ahead (suc k) subs (omega (arith, less)) i)
+      ∙ (λ i. cond (q.closed || last_takes batch q.spans) 0
+      (one_if (ne_eqb k s (omega (arith, less)) i && (n == first)))
+      + begun_ahead (suc k) subs (omega (arith, less)) i)
       ∙ ap (λ m. m + 0) (none_of (q.closed || last_takes batch q.spans) (n == first))
 
   -- each begins its own
-  begun_own : (k i : ℕ) (subs : List Subscription) → s ≡ k + i → how_often s first (begun_spans batch n k subs) ≡ begins_one batch n first (slice_get subs i)
+  begun_own : (k i : ℕ) (subs : List Subscription) → s ≡ k + i → how_often s first (begun_spans batch n k subs)
+      ≡ begins_one batch n first (slice_get subs i)
   begun_own k i [] is = refl
   begun_own k zero (q ∷ subs) is =
       begun_cons k q subs
-      ∙ (λ i. cond (q.closed || last_takes batch q.spans) 0 (one_if (eq-eqb k s (omega (arith, is)) i && (n == first))) + begun_ahead (suc k) subs (omega (arith, is)) i)
+      ∙ (λ i. cond (q.closed || last_takes batch q.spans) 0 (one_if (eq-eqb k s (omega (arith, is)) i && (n == first)))
+      + begun_ahead (suc k) subs (omega (arith, is)) i)
       ∙ by (q.closed || last_takes batch q.spans) (n == first)
     where
       by : (b c : Bool) → cond b 0 (one_if (true && c)) + 0 ≡ cond b 0 (cond c 1 0)
@@ -180,36 +237,47 @@ module _ (batch n s first : ℕ) where
       by false false = refl
   begun_own k (suc j) (q ∷ subs) is =
       begun_cons k q subs
-      ∙ (λ i. cond (q.closed || last_takes batch q.spans) 0 (one_if (ne_eqb k s (omega (arith, is)) i && (n == first))) + begun_own (suc k) j subs (omega (arith, is)) i)
-      ∙ ap (λ m. m + begins_one batch n first (slice_get subs j)) (none_of (q.closed || last_takes batch q.spans) (n == first))
+      ∙ (λ i. cond (q.closed || last_takes batch q.spans) 0 (one_if (ne_eqb k s (omega (arith, is)) i && (n == first)))
+      + begun_own (suc k) j subs (omega (arith, is)) i)
+      ∙ ap (λ m. m + begins_one batch n first (slice_get subs j))
+      (none_of (q.closed || last_takes batch q.spans) (n == first))
       ∙ omega arith
 
 -- ---- all subscriptions
 
 -- each becomes another with the same link
-pub links_mapped : (f : Subscription → Subscription) (link : ℕ) (subs : List Subscription) → ((q : Subscription) → (f q).link ≡ q.link) → links_of link (map f subs) ≡ links_of link subs
+pub links_mapped : (f : Subscription → Subscription) (link : ℕ) (subs : List Subscription)
+    → ((q : Subscription) → (f q).link ≡ q.link) → links_of link (map f subs) ≡ links_of link subs
 links_mapped f link [] same = refl
 links_mapped f link (q ∷ subs) same =
-    count_cons (λ (q : Subscription). q.link == link) (f q) (map f subs) ∙ (λ i. one_if (same q i == link) + links_mapped f link subs same i) ∙ sym (count_cons (λ (q : Subscription). q.link == link) q subs)
+    count_cons (λ (q : Subscription). q.link == link) (f q) (map f subs)
+    ∙ (λ i. one_if (same q i == link) + links_mapped f link subs same i)
+    ∙ sym (count_cons (λ (q : Subscription). q.link == link) q subs)
 
 -- with no more that is out as a delivery
-pub out_mapped : (f : Subscription → Subscription) (d : ℕ) (subs : List Subscription) → ((q : Subscription) → out_of d (f q) ≤ out_of d q) → out_in d (map f subs) ≤ out_in d subs
+pub out_mapped : (f : Subscription → Subscription) (d : ℕ) (subs : List Subscription)
+    → ((q : Subscription) → out_of d (f q) ≤ out_of d q) → out_in d (map f subs) ≤ out_in d subs
 out_mapped f d [] less = omega arith
 out_mapped f d (q ∷ subs) less = let rest = out_mapped f d subs less in omega (arith, less q, rest)
 
 -- what grows keeps its link, and as much is out
 grows_link : (batch n : ℕ) (q : Subscription) → (grown_subscription batch n q).link ≡ q.link
-grows_link batch n q = either_way (λ (x : Subscription). x.link ≡ q.link) q.closed q (record q { spans = grown_spans batch n q.spans }) refl refl
+grows_link batch n q = either_way (λ (x : Subscription). x.link ≡ q.link) q.closed q
+    (record q { spans = grown_spans batch n q.spans }) refl refl
 
 grows_outs : (batch n d : ℕ) (q : Subscription) → out_of d (grown_subscription batch n q) ≤ out_of d q
 grows_outs batch n d q =
-    either_way (λ (x : Subscription). out_of d x ≤ out_of d q) q.closed q (record q { spans = grown_spans batch n q.spans }) (omega arith) (let same = grown_having (is_out_as d) batch n q.spans refl in omega (arith, same))
+    either_way (λ (x : Subscription). out_of d x ≤ out_of d q) q.closed q
+    (record q { spans = grown_spans batch n q.spans }) (omega arith)
+    (let same = grown_having (is_out_as d) batch n q.spans refl in omega (arith, same))
 
 -- a good subscription is one in the picture with the number
-pub grows_good : (p : Picture) (q : Subscription) → 1 ≤ p.limits.batch → IsGoodSubscription p q → IsGoodSubscription (place p) (grown_subscription p.limits.batch (suc p.front) q)
+pub grows_good : (p : Picture) (q : Subscription) → 1 ≤ p.limits.batch → IsGoodSubscription p q
+    → IsGoodSubscription (place p) (grown_subscription p.limits.batch (suc p.front) q)
 unfolding place
 grows_good p q one g =
-    keep_cut_either (IsGoodSubscription (place p)) q.closed q (record q { spans = grown_spans p.limits.batch (suc p.front) q.spans })
+    keep_cut_either (IsGoodSubscription (place p)) q.closed q
+    (record q { spans = grown_spans p.limits.batch (suc p.front) q.spans })
     (λ is. record {
       begins = g.begins;
       reaches = g.reaches;
@@ -242,16 +310,28 @@ keep_place_keeps p n k ok = record {
   in_range = k.in_range;
   within = may.1;
   closed = subst (λ o. IfSome o (λ last. last ≡ suc p.front)) (sym may.0) tt;
-  good = all_mapped (IsGoodSubscription (place p)) grow p.subscriptions (all_then (IsGoodSubscription p) (λ q. IsGoodSubscription (place p) (grow q)) p.subscriptions (λ q g. grows_good p q (one_in_batch p.limits k.in_range) g) k.good);
-  links = λ link. omega (arith, links_mapped grow link p.subscriptions (grows_link p.limits.batch (suc p.front)), k.links link);
-  deliveries = λ d. omega (arith, out_mapped grow d p.subscriptions (grows_outs p.limits.batch (suc p.front) d), k.deliveries d);
+  good = all_mapped (IsGoodSubscription (place p)) grow p.subscriptions
+      (all_then (IsGoodSubscription p) (λ q. IsGoodSubscription (place p) (grow q)) p.subscriptions
+      (λ q g. grows_good p q (one_in_batch p.limits k.in_range) g) k.good);
+  links = λ link. omega (
+    arith,
+    links_mapped grow link p.subscriptions (grows_link p.limits.batch (suc p.front)),
+    k.links link,
+  );
+  deliveries = λ d. omega (
+    arith,
+    out_mapped grow d p.subscriptions (grows_outs p.limits.batch (suc p.front) d),
+    k.deliveries d,
+  );
   ready = λ s first.
       often_append s first p.ready (begun_spans p.limits.batch (suc p.front) 0 p.subscriptions)
       ∙ (λ i. k.ready s first i + begun_own p.limits.batch (suc p.front) s first 0 s p.subscriptions (omega arith) i)
-      ∙ sym (stands is_ready s first ∙ ap (λ m. stands_there is_ready first (slice_get p.subscriptions s) + m) (ready_more first (slice_get p.subscriptions s)));
+      ∙ sym (stands is_ready s first ∙ ap (λ m. stands_there is_ready first (slice_get p.subscriptions s) + m)
+      (ready_more first (slice_get p.subscriptions s)));
   out = λ s first.
       k.out s first
-      ∙ sym (stands is_out s first ∙ ap (λ m. stands_there is_out first (slice_get p.subscriptions s) + m) (out_more first (slice_get p.subscriptions s)) ∙ omega arith);
+      ∙ sym (stands is_out s first ∙ ap (λ m. stands_there is_out first (slice_get p.subscriptions s) + m)
+      (out_more first (slice_get p.subscriptions s)) ∙ omega arith);
 }
   where
     may : (p.closing ≡ None) × (p.front < p.limits.capacity)
@@ -262,16 +342,23 @@ keep_place_keeps p n k ok = record {
 
     more : (Status → Bool) → ℕ → Option Subscription → ℕ
     more test first None = 0
-    more test first (Some q) = cond (q.closed || last_takes p.limits.batch q.spans) 0 (cond (suc p.front == first) (one_if (test (Ready false))) 0)
+    more test first (Some q) =
+        cond (q.closed || last_takes p.limits.batch q.spans) 0
+        (cond (suc p.front == first) (one_if (test (Ready false))) 0)
 
-    stands_by : (test : Status → Bool) (s first : ℕ) (o : Option Subscription) → slice_get p.subscriptions s ≡ o → stands_there test first (option_map grow o) ≡ stands_there test first o + more test first o
+    stands_by : (test : Status → Bool) (s first : ℕ) (o : Option Subscription) → slice_get p.subscriptions s ≡ o
+        → stands_there test first (option_map grow o) ≡ stands_there test first o + more test first o
     stands_by test s first None found = refl
-    stands_by test s first (Some q) found = grows_there test p q p.limits.batch first (all_get (IsGoodSubscription p) p.subscriptions s q k.good found)
+    stands_by test s first (Some q) found =
+        grows_there test p q p.limits.batch first (all_get (IsGoodSubscription p) p.subscriptions s q k.good found)
 
-    stands : (test : Status → Bool) (s first : ℕ) → stands_there test first (slice_get (map grow p.subscriptions) s) ≡ stands_there test first (slice_get p.subscriptions s) + more test first (slice_get p.subscriptions s)
-    stands test s first = ap (stands_there test first) (slice_get-map grow p.subscriptions s) ∙ stands_by test s first (slice_get p.subscriptions s) refl
+    stands : (test : Status → Bool) (s first : ℕ) → stands_there test first (slice_get (map grow p.subscriptions) s)
+        ≡ stands_there test first (slice_get p.subscriptions s) + more test first (slice_get p.subscriptions s)
+    stands test s first = ap (stands_there test first) (slice_get-map grow p.subscriptions s)
+        ∙ stands_by test s first (slice_get p.subscriptions s) refl
 
-    ready_more : (first : ℕ) (o : Option Subscription) → more is_ready first o ≡ begins_one p.limits.batch (suc p.front) first o
+    ready_more : (first : ℕ) (o : Option Subscription) → more is_ready first o
+        ≡ begins_one p.limits.batch (suc p.front) first o
     ready_more first None = refl
     ready_more first (Some q) = refl
 

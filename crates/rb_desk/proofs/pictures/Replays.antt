@@ -1,6 +1,8 @@
--- What holds of calls one after another: each leaves a picture, links and deliveries' numbers rise strictly, the front and the floors
--- don't fall.
-use Rattle.std.proofs.Common.{◌≡◌, ℕ, zero, suc, max, ◌<◌, ◌≤◌, true, false, not, ◌||◌, ◌==◌, ◌⊎◌, inl, inr, List, [], ◌∷◌, ◌++◌, length, map, Option, Some, None, option_map, Result, Ok, Err, find, nat_lt, nat_le, slice_get, slice_set, refl, sym, ap, ◌∙◌, subst, arith, length-append}
+-- What holds of calls one after another: each leaves a picture, links and deliveries' numbers rise strictly, the front
+-- and the floors don't fall.
+use Rattle.std.proofs.Common.{◌≡◌, ℕ, zero, suc, max, ◌<◌, ◌≤◌, true, false, not, ◌||◌, ◌==◌, ◌⊎◌, inl, inr, List, []}
+use Rattle.std.proofs.Common.{◌∷◌, ◌++◌, length, map, Option, Some, None, option_map, Result, Ok, Err, find, nat_lt}
+use Rattle.std.proofs.Common.{nat_le, slice_get, slice_set, refl, sym, ap, ◌∙◌, subst, arith, length-append}
 use Rattle.std.specs.List.{cons_option}
 use Rattle.std.proofs.lemmas.Bool.{ltb-false, cases_lt}
 use Rattle.std.proofs.lemmas.List.{length-map, length-set}
@@ -9,17 +11,27 @@ use Rattle.rb_desk.specs.declared.delivery.Delivery.{Delivery}
 use Rattle.rb_desk.specs.declared.refusal.DeskRefusal.{DeskRefusal}
 use Rattle.rb_desk.specs.declared.span.Span.{Span}
 use Rattle.rb_desk.specs.declared.step.Step.{Step}
-use Rattle.rb_desk.specs.declared.step.Step.TheVariants.{Subscribe, Take, TakeAny, Ack, Nack, Expire, Reconnect, Unsubscribe, Place, Close}
+use Rattle.rb_desk.specs.declared.step.Step.TheVariants.{Subscribe, Take, TakeAny, Ack, Nack, Expire, Reconnect}
+use Rattle.rb_desk.specs.declared.step.Step.TheVariants.{Unsubscribe, Place, Close}
 use Rattle.rb_desk.specs.Limits.{Limits}
 use Rattle.rb_desk.specs.Spans.{cut_spans, first_ready, out_as, beginning, grown_spans}
 use Rattle.rb_desk.specs.Picture.{Picture, Subscription, empty_picture}
-use Rattle.rb_desk.specs.Calls.{subscribe, subscribed_picture, take, delivered_from, delivered_span, has_room, take_any, delivered_any_from, delivered_any_of, delivered_any_span, may_deliver, ack, acked_by, acked_span, nack, nacked_by, nacked_span, expire, reconnect, reconnected_picture, reconnected_by, unsubscribe, unsubscribed_picture, unsubscribed_by, goes_back, prepare, place, grown_subscription, close}
+use Rattle.rb_desk.specs.Calls.{subscribe, subscribed_picture, take, delivered_from, delivered_span, has_room, take_any}
+use Rattle.rb_desk.specs.Calls.{delivered_any_from, delivered_any_of, delivered_any_span, may_deliver, ack, acked_by}
+use Rattle.rb_desk.specs.Calls.{acked_span, nack, nacked_by, nacked_span, expire, reconnect, reconnected_picture}
+use Rattle.rb_desk.specs.Calls.{reconnected_by, unsubscribe, unsubscribed_picture, unsubscribed_by, goes_back, prepare}
+use Rattle.rb_desk.specs.Calls.{place, grown_subscription, close}
 use Rattle.rb_desk.specs.IsPicture.{AreInRange, IsPicture}
-use Rattle.rb_desk.specs.Steps.{links_given, numbers_given, RisesAbove, FloorsRise, placed_if, after_step, replayed, replay, second_of, link_of, delivery_number, link_given, number_given}
-use Rattle.rb_desk.proofs.pictures.KeepHand.{keep_hand_take_keeps, keep_hand_take_any_keeps, floors_rise_take, floors_rise_take_any}
-use Rattle.rb_desk.proofs.pictures.KeepSettle.{keep_settle_ack_keeps, keep_settle_nack_keeps, floors_rise_ack, floors_rise_nack}
+use Rattle.rb_desk.specs.Steps.{links_given, numbers_given, RisesAbove, FloorsRise, placed_if, after_step, replayed}
+use Rattle.rb_desk.specs.Steps.{replay, second_of, link_of, delivery_number, link_given, number_given}
+use Rattle.rb_desk.proofs.pictures.KeepHand.{keep_hand_take_keeps, keep_hand_take_any_keeps, floors_rise_take}
+use Rattle.rb_desk.proofs.pictures.KeepHand.{floors_rise_take_any}
+use Rattle.rb_desk.proofs.pictures.KeepSettle.{keep_settle_ack_keeps, keep_settle_nack_keeps, floors_rise_ack}
+use Rattle.rb_desk.proofs.pictures.KeepSettle.{floors_rise_nack}
 use Rattle.rb_desk.proofs.pictures.PictureLaws.{floors_same, floors_set}
-use Rattle.rb_desk.proofs.pictures.KeepCut.{keep_cut_either, either_way, either_false, opening_keeps, keep_cut_subscribe_keeps, keep_cut_reconnect_keeps, keep_cut_unsubscribe_keeps, keep_cut_close_keeps}
+use Rattle.rb_desk.proofs.pictures.KeepCut.{keep_cut_either, either_way, either_false, opening_keeps}
+use Rattle.rb_desk.proofs.pictures.KeepCut.{keep_cut_subscribe_keeps, keep_cut_reconnect_keeps}
+use Rattle.rb_desk.proofs.pictures.KeepCut.{keep_cut_unsubscribe_keeps, keep_cut_close_keeps}
 use Rattle.rb_desk.proofs.pictures.KeepPlace.{keep_place_keeps}
 use Rattle.rb_desk.proofs.pictures.KeepExpire.{keep_expire_keeps}
 
@@ -60,7 +72,8 @@ abbrev pub ReplaysGoesOn : ℕ → ℕ → Option ℕ → Type 0
 ReplaysGoesOn next next' None = next ≤ next'
 ReplaysGoesOn next next' (Some n) = (n ≡ next) × (next < next')
 
--- a call that gave this link and this delivery's number, or none: the front doesn't fall, no subscription goes, and both go on
+-- a call that gave this link and this delivery's number, or none: the front doesn't fall, no subscription goes, and
+-- both go on
 pub record ReplaysRises (old new : Picture) (link number : Option ℕ) : Type 0 where
   pub front : old.front ≤ new.front
   pub stay : length old.subscriptions ≤ length new.subscriptions
@@ -76,23 +89,40 @@ same_length : (p : Picture) (s : ℕ) (q : Subscription) → length p.subscripti
 same_length p s q = omega (arith, length-set p.subscriptions s q)
 
 -- each call
-subscribe_rises : (p : Picture) (start : ℕ) → ReplaysRises p (subscribe p start).1 (second_of (subscribe p start).0) None
+subscribe_rises : (p : Picture) (start : ℕ) → ReplaysRises p (subscribe p start).1 (second_of (subscribe p start).0)
+    None
 unfolding subscribe
 subscribe_rises p start =
-    either_way (λ (x : Result (ℕ × ℕ) DeskRefusal × Picture). ReplaysRises p x.1 (second_of x.0) None) (nat_lt p.front start) _ _ (rises_same p)
-    (either_way (λ (x : Result (ℕ × ℕ) DeskRefusal × Picture). ReplaysRises p x.1 (second_of x.0) None) (nat_le 1024 (length p.subscriptions)) _ _ (rises_same p)
-    (record { front = omega arith; stay = omega (arith, length-append p.subscriptions (q ∷ [])); links = (refl, omega arith); numbers = omega arith }))
+    either_way (λ (x : Result (ℕ × ℕ) DeskRefusal × Picture). ReplaysRises p x.1 (second_of x.0) None)
+    (nat_lt p.front start) _ _ (rises_same p)
+    (either_way (λ (x : Result (ℕ × ℕ) DeskRefusal × Picture). ReplaysRises p x.1 (second_of x.0) None)
+    (nat_le 1024 (length p.subscriptions)) _ _ (rises_same p)
+    (record {
+      front = omega arith;
+      stay = omega (arith, length-append p.subscriptions (q ∷ []));
+      links = (refl, omega arith);
+      numbers = omega arith;
+    }))
   where
     q : Subscription
-    q = record { start = start; floor = start; offered = start; link = p.next_link; closed = false; spans = cut_spans p.limits.batch (suc start) p.front }
+    q = record {
+      start = start;
+      floor = start;
+      offered = start;
+      link = p.next_link;
+      closed = false;
+      spans = cut_spans p.limits.batch (suc start) p.front;
+    }
 
 -- a span is handed over
 abbrev TakeRises : Picture → Result Delivery DeskRefusal × Picture → Type 0
 TakeRises p x = ReplaysRises p x.1 None (delivery_number x.0)
 
-taken_rises : (p : Picture) (s cursor now : ℕ) (q : Subscription) (o : Option Span) → TakeRises p (delivered_span p s q cursor now o)
+taken_rises : (p : Picture) (s cursor now : ℕ) (q : Subscription) (o : Option Span)
+    → TakeRises p (delivered_span p s q cursor now o)
 taken_rises p s cursor now q None = rises_same p
-taken_rises p s cursor now q (Some span) = record { front = omega arith; stay = same_length p s _; links = omega arith; numbers = (refl, omega arith) }
+taken_rises p s cursor now q (Some span) =
+    record { front = omega arith; stay = same_length p s _; links = omega arith; numbers = (refl, omega arith) }
 
 take_rises : (p : Picture) (s link cursor now : ℕ) → TakeRises p (take p s link cursor now)
 unfolding take
@@ -102,13 +132,18 @@ take_rises p s link cursor now = by (slice_get p.subscriptions s)
     by None = rises_same p
     by (Some q) =
         either_way (TakeRises p) (not (link == q.link)) _ _ (rises_same p)
-        (either_way (TakeRises p) q.closed _ _ (rises_same p) (either_way (TakeRises p) (not (has_room p.limits.window q)) _ _ (rises_same p) (taken_rises p s cursor now q (first_ready q.spans))))
+        (either_way (TakeRises p) q.closed _ _ (rises_same p)
+        (either_way (TakeRises p) (not (has_room p.limits.window q)) _ _ (rises_same p)
+        (taken_rises p s cursor now q (first_ready q.spans))))
 
-any_span_rises : (p : Picture) (s now : ℕ) (q : Subscription) (o : Option Span) → TakeRises p (delivered_any_span p s q now o)
+any_span_rises : (p : Picture) (s now : ℕ) (q : Subscription) (o : Option Span)
+    → TakeRises p (delivered_any_span p s q now o)
 any_span_rises p s now q None = rises_same p
-any_span_rises p s now q (Some span) = record { front = omega arith; stay = same_length p s _; links = omega arith; numbers = (refl, omega arith) }
+any_span_rises p s now q (Some span) =
+    record { front = omega arith; stay = same_length p s _; links = omega arith; numbers = (refl, omega arith) }
 
-any_of_rises : (p : Picture) (s first now : ℕ) (o : Option Subscription) → TakeRises p (delivered_any_of p s first now o)
+any_of_rises : (p : Picture) (s first now : ℕ) (o : Option Subscription)
+    → TakeRises p (delivered_any_of p s first now o)
 any_of_rises p s first now None = rises_same p
 any_of_rises p s first now (Some q) = any_span_rises p s now q (beginning first q.spans)
 
@@ -126,11 +161,14 @@ ack_rises p s link delivery cursor = by (slice_get p.subscriptions s)
   where
     of_span : (q : Subscription) (o : Option Span) → ReplaysRises p (acked_span p s q cursor o).1 None None
     of_span q None = rises_same p
-    of_span q (Some span) = either_way (λ (x : Result ℕ DeskRefusal × Picture). ReplaysRises p x.1 None None) (nat_lt cursor span.last) _ _ (rises_same p) (record { front = omega arith; stay = same_length p s _; links = omega arith; numbers = omega arith })
+    of_span q (Some span) = either_way (λ (x : Result ℕ DeskRefusal × Picture). ReplaysRises p x.1 None None)
+        (nat_lt cursor span.last) _ _ (rises_same p)
+        (record { front = omega arith; stay = same_length p s _; links = omega arith; numbers = omega arith })
 
     by : (o : Option Subscription) → ReplaysRises p (acked_by p s link delivery cursor o).1 None None
     by None = rises_same p
-    by (Some q) = either_way (λ (x : Result ℕ DeskRefusal × Picture). ReplaysRises p x.1 None None) (not (link == q.link)) _ _ (rises_same p) (of_span q (out_as delivery q.spans))
+    by (Some q) = either_way (λ (x : Result ℕ DeskRefusal × Picture). ReplaysRises p x.1 None None)
+        (not (link == q.link)) _ _ (rises_same p) (of_span q (out_as delivery q.spans))
 
 nack_rises : (p : Picture) (s link delivery : ℕ) → ReplaysRises p (nack p s link delivery).1 None None
 unfolding nack
@@ -138,25 +176,42 @@ nack_rises p s link delivery = by (slice_get p.subscriptions s)
   where
     of_span : (q : Subscription) (o : Option Span) → ReplaysRises p (nacked_span p s q o).1 None None
     of_span q None = rises_same p
-    of_span q (Some span) = record { front = omega arith; stay = same_length p s _; links = omega arith; numbers = omega arith }
+    of_span q (Some span) = record {
+      front = omega arith;
+      stay = same_length p s _;
+      links = omega arith;
+      numbers = omega arith;
+    }
 
     by : (o : Option Subscription) → ReplaysRises p (nacked_by p s link delivery o).1 None None
     by None = rises_same p
-    by (Some q) = either_way (λ (x : Result Unit DeskRefusal × Picture). ReplaysRises p x.1 None None) (not (link == q.link)) _ _ (rises_same p) (of_span q (out_as delivery q.spans))
+    by (Some q) = either_way (λ (x : Result Unit DeskRefusal × Picture). ReplaysRises p x.1 None None)
+        (not (link == q.link)) _ _ (rises_same p) (of_span q (out_as delivery q.spans))
 
 expire_rises : (p : Picture) (now : ℕ) → ReplaysRises p (expire p now).1 None None
 unfolding expire
-expire_rises p now = record { front = omega arith; stay = omega (arith, length-map p.subscriptions (goes_back p.limits.timeout (max p.clock now))); links = omega arith; numbers = omega arith }
+expire_rises p now =
+    record {
+      front = omega arith;
+      stay = omega (arith, length-map p.subscriptions (goes_back p.limits.timeout (max p.clock now)));
+      links =
+          omega arith;
+      numbers = omega arith;
+    }
 
-reconnect_rises : (p : Picture) (s cursor : ℕ) → ReplaysRises p (reconnect p s cursor).1 (link_of (reconnect p s cursor).0) None
+reconnect_rises : (p : Picture) (s cursor : ℕ)
+    → ReplaysRises p (reconnect p s cursor).1 (link_of (reconnect p s cursor).0) None
 unfolding reconnect
 reconnect_rises p s cursor = by (slice_get p.subscriptions s)
   where
-    by : (o : Option Subscription) → ReplaysRises p (reconnected_by p s cursor o).1 (link_of (reconnected_by p s cursor o).0) None
+    by : (o : Option Subscription)
+        → ReplaysRises p (reconnected_by p s cursor o).1 (link_of (reconnected_by p s cursor o).0) None
     by None = rises_same p
     by (Some q) =
-        either_way (λ (x : Result ℕ DeskRefusal × Picture). ReplaysRises p x.1 (link_of x.0) None) q.closed _ _ (rises_same p)
-        (either_way (λ (x : Result ℕ DeskRefusal × Picture). ReplaysRises p x.1 (link_of x.0) None) (nat_lt cursor q.floor || nat_lt q.offered cursor) _ _ (rises_same p)
+        either_way (λ (x : Result ℕ DeskRefusal × Picture). ReplaysRises p x.1 (link_of x.0) None) q.closed _ _
+        (rises_same p)
+        (either_way (λ (x : Result ℕ DeskRefusal × Picture). ReplaysRises p x.1 (link_of x.0) None)
+        (nat_lt cursor q.floor || nat_lt q.offered cursor) _ _ (rises_same p)
         (record { front = omega arith; stay = same_length p s _; links = (refl, omega arith); numbers = omega arith }))
 
 unsubscribe_rises : (p : Picture) (s link : ℕ) → ReplaysRises p (unsubscribe p s link).1 None None
@@ -166,12 +221,22 @@ unsubscribe_rises p s link = by (slice_get p.subscriptions s)
     by : (o : Option Subscription) → ReplaysRises p (unsubscribed_by p s link o).1 None None
     by None = rises_same p
     by (Some q) =
-        either_way (λ (x : Result Unit DeskRefusal × Picture). ReplaysRises p x.1 None None) (not (link == q.link)) _ _ (rises_same p)
-        (either_way (λ (x : Result Unit DeskRefusal × Picture). ReplaysRises p x.1 None None) q.closed _ _ (rises_same p) (record { front = omega arith; stay = same_length p s _; links = omega arith; numbers = omega arith }))
+        either_way (λ (x : Result Unit DeskRefusal × Picture). ReplaysRises p x.1 None None) (not (link == q.link)) _ _
+        (rises_same p)
+        (either_way (λ (x : Result Unit DeskRefusal × Picture). ReplaysRises p x.1 None None) q.closed _ _
+        (rises_same p)
+        (record { front = omega arith; stay = same_length p s _; links = omega arith; numbers = omega arith }))
 
 place_rises : (p : Picture) → ReplaysRises p (place p) None None
 unfolding place
-place_rises p = record { front = omega arith; stay = omega (arith, length-map p.subscriptions (grown_subscription p.limits.batch (suc p.front))); links = omega arith; numbers = omega arith }
+place_rises p =
+    record {
+      front = omega arith;
+      stay = omega (arith, length-map p.subscriptions (grown_subscription p.limits.batch (suc p.front)));
+      links =
+          omega arith;
+      numbers = omega arith;
+    }
 
 close_rises : (p : Picture) → ReplaysRises p (close p).1 None None
 unfolding close
@@ -182,7 +247,8 @@ placed_if_rises p (Ok n) = place_rises p
 placed_if_rises p (Err why) = rises_same p
 
 -- each step
-pub after_rises : (p : Picture) (step : Step) → ReplaysRises p (after_step p step) (link_given p step) (number_given p step)
+pub after_rises : (p : Picture) (step : Step)
+    → ReplaysRises p (after_step p step) (link_given p step) (number_given p step)
 unfolding after_step
 after_rises p (Subscribe start) = subscribe_rises p start
 after_rises p (Take s link cursor now) = take_rises p s link cursor now
@@ -201,7 +267,8 @@ front_rises p step = (after_rises p step).front
 
 pub front_rises_all : (p : Picture) (steps : List Step) → p.front ≤ (replayed p steps).front
 front_rises_all p [] = omega arith
-front_rises_all p (step ∷ steps) = let rest = front_rises_all (after_step p step) steps in omega (arith, rest, front_rises p step)
+front_rises_all p (step ∷ steps) = let rest = front_rises_all (after_step p step) steps in
+    omega (arith, rest, front_rises p step)
 
 -- subscriptions stay
 pub subscriptions_stay : (p : Picture) (step : Step) → length p.subscriptions ≤ length (after_step p step).subscriptions
@@ -216,18 +283,24 @@ not_lower next next' None h = h
 not_lower next next' (Some n) h = omega (arith, h.1)
 
 -- a link that a step gives is the next one, and below the next one then
-pub links_rise : (p : Picture) (step : Step) (l : ℕ) → link_given p step ≡ Some l → (l ≡ p.next_link) × (p.next_link < (after_step p step).next_link)
-links_rise p step l is = went_on p.next_link (after_step p step).next_link l (link_given p step) (after_rises p step).links is
+pub links_rise : (p : Picture) (step : Step) (l : ℕ) → link_given p step ≡ Some l → (l ≡ p.next_link)
+    × (p.next_link < (after_step p step).next_link)
+links_rise p step l is = went_on p.next_link (after_step p step).next_link l (link_given p step)
+    (after_rises p step).links is
 
 pub next_link_rises : (p : Picture) (step : Step) → p.next_link ≤ (after_step p step).next_link
-next_link_rises p step = not_lower p.next_link (after_step p step).next_link (link_given p step) (after_rises p step).links
+next_link_rises p step = not_lower p.next_link (after_step p step).next_link (link_given p step)
+    (after_rises p step).links
 
 -- and so it is with a delivery's number
-pub numbers_rise : (p : Picture) (step : Step) (n : ℕ) → number_given p step ≡ Some n → (n ≡ p.next_delivery) × (p.next_delivery < (after_step p step).next_delivery)
-numbers_rise p step n is = went_on p.next_delivery (after_step p step).next_delivery n (number_given p step) (after_rises p step).numbers is
+pub numbers_rise : (p : Picture) (step : Step) (n : ℕ) → number_given p step ≡ Some n → (n ≡ p.next_delivery)
+    × (p.next_delivery < (after_step p step).next_delivery)
+numbers_rise p step n is = went_on p.next_delivery (after_step p step).next_delivery n (number_given p step)
+    (after_rises p step).numbers is
 
 pub next_delivery_rises : (p : Picture) (step : Step) → p.next_delivery ≤ (after_step p step).next_delivery
-next_delivery_rises p step = not_lower p.next_delivery (after_step p step).next_delivery (number_given p step) (after_rises p step).numbers
+next_delivery_rises p step = not_lower p.next_delivery (after_step p step).next_delivery (number_given p step)
+    (after_rises p step).numbers
 
 -- ---- what a list of steps gives
 
@@ -235,19 +308,25 @@ rises_lower : (low low' : ℕ) (list : List ℕ) → low ≤ low' → RisesAbove
 rises_lower low low' [] le h = tt
 rises_lower low low' (n ∷ rest) le h = (omega (arith, le, h.0), h.1)
 
-rises_on : (next next' : ℕ) (o : Option ℕ) (list : List ℕ) → ReplaysGoesOn next next' o → RisesAbove next' list → RisesAbove next (cons_option o list)
+rises_on : (next next' : ℕ) (o : Option ℕ) (list : List ℕ) → ReplaysGoesOn next next' o → RisesAbove next' list
+    → RisesAbove next (cons_option o list)
 rises_on next next' None list h rest = rises_lower next next' list h rest
-rises_on next next' (Some n) list h rest = (omega (arith, h.0), rises_lower (suc n) next' list (omega (arith, h.0, h.1)) rest)
+rises_on next next' (Some n) list h rest =
+    (omega (arith, h.0), rises_lower (suc n) next' list (omega (arith, h.0, h.1)) rest)
 
 -- they rise strictly, from the next one on
 pub links_rise_all : (p : Picture) (steps : List Step) → RisesAbove p.next_link (links_given p steps)
 links_rise_all p [] = tt
-links_rise_all p (step ∷ steps) = rises_on p.next_link (after_step p step).next_link (link_given p step) (links_given (after_step p step) steps) (after_rises p step).links (links_rise_all (after_step p step) steps)
+links_rise_all p (step ∷ steps) =
+    rises_on p.next_link (after_step p step).next_link (link_given p step) (links_given (after_step p step) steps)
+    (after_rises p step).links (links_rise_all (after_step p step) steps)
 
 pub numbers_rise_all : (p : Picture) (steps : List Step) → RisesAbove p.next_delivery (numbers_given p steps)
 numbers_rise_all p [] = tt
 numbers_rise_all p (step ∷ steps) =
-    rises_on p.next_delivery (after_step p step).next_delivery (number_given p step) (numbers_given (after_step p step) steps) (after_rises p step).numbers (numbers_rise_all (after_step p step) steps)
+    rises_on p.next_delivery (after_step p step).next_delivery (number_given p step)
+    (numbers_given (after_step p step) steps) (after_rises p step).numbers
+    (numbers_rise_all (after_step p step) steps)
 
 -- ---- floors
 
@@ -258,16 +337,20 @@ get_front (z ∷ xs) ys zero x h = h
 get_front (z ∷ xs) ys (suc i) x h = get_front xs ys i x h
 
 -- a subscription more
-floors_appended : (old new : Picture) (more : List Subscription) → new.subscriptions ≡ old.subscriptions ++ more → FloorsRise old new
+floors_appended : (old new : Picture) (more : List Subscription) → new.subscriptions ≡ old.subscriptions ++ more
+    → FloorsRise old new
 floors_appended old new more is i a b h k =
-    let both : Some a ≡ Some b = sym (get_front old.subscriptions more i a h) ∙ ap (λ subs. slice_get subs i) (sym is) ∙ k in
+    let both : Some a ≡ Some b = sym (get_front old.subscriptions more i a h) ∙ ap (λ subs. slice_get subs i) (sym is)
+    ∙ k in
     let same : a ≡ b = cc in
     omega (arith, ap (λ (q : Subscription). q.floor) same)
 
 -- each becomes another with the same floor
-floors_mapped : (old new : Picture) (f : Subscription → Subscription) → new.subscriptions ≡ map f old.subscriptions → ((q : Subscription) → (f q).floor ≡ q.floor) → FloorsRise old new
+floors_mapped : (old new : Picture) (f : Subscription → Subscription) → new.subscriptions ≡ map f old.subscriptions
+    → ((q : Subscription) → (f q).floor ≡ q.floor) → FloorsRise old new
 floors_mapped old new f is keeps i a b h k =
-    let both : Some (f a) ≡ Some b = sym (ap (option_map f) h) ∙ sym (slice_get-map f old.subscriptions i) ∙ ap (λ subs. slice_get subs i) (sym is) ∙ k in
+    let both : Some (f a) ≡ Some b = sym (ap (option_map f) h) ∙ sym (slice_get-map f old.subscriptions i)
+    ∙ ap (λ subs. slice_get subs i) (sym is) ∙ k in
     let same : f a ≡ b = cc in
     omega (arith, keeps a, ap (λ (q : Subscription). q.floor) same)
 
@@ -275,8 +358,11 @@ floors_mapped old new f is keeps i a b h k =
 pub subscribe_floors : (p : Picture) (start : ℕ) → FloorsRise p (subscribe p start).1
 unfolding subscribe
 subscribe_floors p start =
-    either_way (λ (x : Result (ℕ × ℕ) DeskRefusal × Picture). FloorsRise p x.1) (nat_lt p.front start) _ _ (floors_same p p refl)
-    (either_way (λ (x : Result (ℕ × ℕ) DeskRefusal × Picture). FloorsRise p x.1) (nat_le 1024 (length p.subscriptions)) _ _ (floors_same p p refl) (floors_appended p (subscribed_picture p start (cut_spans p.limits.batch (suc start) p.front)) _ refl))
+    either_way (λ (x : Result (ℕ × ℕ) DeskRefusal × Picture). FloorsRise p x.1) (nat_lt p.front start) _ _
+    (floors_same p p refl)
+    (either_way (λ (x : Result (ℕ × ℕ) DeskRefusal × Picture). FloorsRise p x.1) (nat_le 1024 (length p.subscriptions))
+    _ _ (floors_same p p refl)
+    (floors_appended p (subscribed_picture p start (cut_spans p.limits.batch (suc start) p.front)) _ refl))
 
 -- one goes on behind a cursor that isn't behind its floor
 pub reconnect_floors : (p : Picture) (s cursor : ℕ) → FloorsRise p (reconnect p s cursor).1
@@ -287,8 +373,11 @@ reconnect_floors p s cursor = by (slice_get p.subscriptions s) refl
     by None found = floors_same p p refl
     by (Some q) found =
         either_way (λ (x : Result ℕ DeskRefusal × Picture). FloorsRise p x.1) q.closed _ _ (floors_same p p refl)
-        (keep_cut_either (λ (x : Result ℕ DeskRefusal × Picture). FloorsRise p x.1) (nat_lt cursor q.floor || nat_lt q.offered cursor) _ _ (λ bad. floors_same p p refl)
-        (λ fits. floors_set p (reconnected_picture p s q cursor (cut_spans p.limits.batch (suc cursor) p.front)) s q (record q { floor = cursor; link = p.next_link; spans = cut_spans p.limits.batch (suc cursor) p.front }) found refl
+        (keep_cut_either (λ (x : Result ℕ DeskRefusal × Picture). FloorsRise p x.1)
+        (nat_lt cursor q.floor || nat_lt q.offered cursor) _ _ (λ bad. floors_same p p refl)
+        (λ fits. floors_set p (reconnected_picture p s q cursor (cut_spans p.limits.batch (suc cursor) p.front)) s q
+        (record q { floor = cursor; link = p.next_link; spans = cut_spans p.limits.batch (suc cursor) p.front })
+        found refl
         (ltb-false _ _ (either_false (nat_lt cursor q.floor) (nat_lt q.offered cursor) fits).0)))
 
 -- the other calls change no floor
@@ -299,14 +388,18 @@ unsubscribe_floors p s link = by (slice_get p.subscriptions s) refl
     by : (o : Option Subscription) → slice_get p.subscriptions s ≡ o → FloorsRise p (unsubscribed_by p s link o).1
     by None found = floors_same p p refl
     by (Some q) found =
-        either_way (λ (x : Result Unit DeskRefusal × Picture). FloorsRise p x.1) (not (link == q.link)) _ _ (floors_same p p refl)
-        (either_way (λ (x : Result Unit DeskRefusal × Picture). FloorsRise p x.1) q.closed _ _ (floors_same p p refl) (floors_set p (unsubscribed_picture p s q) s q (record q { closed = true; spans = [] }) found refl (omega arith)))
+        either_way (λ (x : Result Unit DeskRefusal × Picture). FloorsRise p x.1) (not (link == q.link)) _ _
+        (floors_same p p refl)
+        (either_way (λ (x : Result Unit DeskRefusal × Picture). FloorsRise p x.1) q.closed _ _ (floors_same p p refl)
+        (floors_set p (unsubscribed_picture p s q) s q (record q { closed = true; spans = [] }) found refl
+        (omega arith)))
 
 pub place_floors : (p : Picture) → FloorsRise p (place p)
 unfolding place
 place_floors p =
     floors_mapped p (place p) (grown_subscription p.limits.batch (suc p.front)) refl
-    (λ q. either_way (λ (x : Subscription). x.floor ≡ q.floor) q.closed q (record q { spans = grown_spans p.limits.batch (suc p.front) q.spans }) refl refl)
+    (λ q. either_way (λ (x : Subscription). x.floor ≡ q.floor) q.closed q
+    (record q { spans = grown_spans p.limits.batch (suc p.front) q.spans }) refl refl)
 
 pub close_floors : (p : Picture) → FloorsRise p (close p).1
 unfolding close
@@ -330,7 +423,8 @@ within (x ∷ xs) zero less none = let not_none : Some x ≡ None = none in cc
 within (x ∷ xs) (suc i) less none = within xs i (omega (arith, less)) none
 
 -- what rises and rises again rises, where the subscriptions stay
-pub floors_then : (p m r : Picture) → length p.subscriptions ≤ length m.subscriptions → FloorsRise p m → FloorsRise m r → FloorsRise p r
+pub floors_then : (p m r : Picture) → length p.subscriptions ≤ length m.subscriptions → FloorsRise p m → FloorsRise m r
+    → FloorsRise p r
 floors_then p m r stay h k i a c first last = by (slice_get m.subscriptions i) refl
   where
     by : (o : Option Subscription) → slice_get m.subscriptions i ≡ o → a.floor ≤ c.floor
@@ -338,7 +432,8 @@ floors_then p m r stay h k i a c first last = by (slice_get m.subscriptions i) r
       where
         past : (i < length m.subscriptions) ⊎ (length m.subscriptions ≤ i) → a.floor ≤ c.floor
         past (inl less) = absurd (within m.subscriptions i less none)
-        past (inr more) = absurd (let less = slice_get_within p.subscriptions i a first in omega (arith, less, more, stay))
+        past (inr more) = absurd (let less = slice_get_within p.subscriptions i a first in
+            omega (arith, less, more, stay))
     by (Some b) found = omega (arith, h i a b first found, k i b c found last)
 
 -- no floor falls at a step
@@ -359,5 +454,6 @@ after_floors p Close k = close_floors p
 pub replayed_floors : (p : Picture) (steps : List Step) → IsPicture p → FloorsRise p (replayed p steps)
 replayed_floors p [] k = floors_same p p refl
 replayed_floors p (step ∷ steps) k =
-    floors_then p (after_step p step) (replayed (after_step p step) steps) (subscriptions_stay p step) (after_floors p step k)
+    floors_then p (after_step p step) (replayed (after_step p step) steps) (subscriptions_stay p step)
+    (after_floors p step k)
     (replayed_floors (after_step p step) steps (after_keeps p step k))

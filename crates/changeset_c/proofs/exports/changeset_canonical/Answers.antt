@@ -8,10 +8,12 @@ pub returns-clause-only : goal.returns-clause-only
 returns-clause-only c =
     let same : to_z w64 (of_z w64 c.canonical.result) ≡ c.canonical.result = grind (arith, to_z-of_z) in
     λ changeset s. subst (λ answer. IsNumber answer (length (text_of changeset))) (sym same)
-    (canonical_only c.canonical.result c.args.out.now c.canonical.new.out c.args.text.now (c.every_text.ensures c.args.text.now (λ i. omega (arith, c.type_inv.text i))) c.canonical.ensures changeset s)
+    (canonical_only c.canonical.result c.args.out.now c.canonical.new.out c.args.text.now
+    (c.every_text.ensures c.args.text.now (λ i. omega (arith, c.type_inv.text i))) c.canonical.ensures changeset s)
 
 pub returns-clause-the_fault : goal.returns-clause-the_fault
 returns-clause-the_fault c =
     let same : to_z w64 (of_z w64 c.canonical.result) ≡ c.canonical.result = grind (arith, to_z-of_z) in
     λ fault h. subst (λ answer. answer ≡ negsuc 0) (sym same)
-    (canonical_fault c.canonical.result c.args.out.now c.canonical.new.out c.args.text.now (c.every_text.ensures c.args.text.now (λ i. omega (arith, c.type_inv.text i))) c.canonical.ensures fault h)
+    (canonical_fault c.canonical.result c.args.out.now c.canonical.new.out c.args.text.now
+    (c.every_text.ensures c.args.text.now (λ i. omega (arith, c.type_inv.text i))) c.canonical.ensures fault h)

@@ -8,10 +8,12 @@ pub insert-requires : goal.insert-requires
 insert-requires c =
     let flags = c.args.shape.now.flags in
     let change = c.args.change.now in
-    all_defined flags change.after (subst (λ (op : Op). AreRecords flags op change.before change.after) c.in-Insert.is c.requires).1
+    all_defined flags change.after
+    (subst (λ (op : Op). AreRecords flags op change.before change.after) c.in-Insert.is c.requires).1
 
 pub delete-requires : goal.delete-requires
 delete-requires c =
     let flags = c.args.shape.now.flags in
     let change = c.args.change.now in
-    all_defined flags change.before (subst (λ (op : Op). AreRecords flags op change.before change.after) c.in-Delete.is c.requires).0
+    all_defined flags change.before
+    (subst (λ (op : Op). AreRecords flags op change.before change.after) c.in-Delete.is c.requires).0

@@ -11,7 +11,8 @@ use Rattle.cs_apply.proofs.changes.change_section.Goals as goal
 
 pub change_row-requires : goal.change_row-requires
 change_row-requires c =
-    let fits = subst (AllByRecursion (IsChange c.args.section.now.shape)) c.in-Some.ensures.steps c.loop-change.invariant.fits in
+    let fits = subst (AllByRecursion (IsChange c.args.section.now.shape)) c.in-Some.ensures.steps
+    c.loop-change.invariant.fits in
     subst (λ (shape : Shape). IsChange shape (change_seen c.in-Some.change)) (sym c.shape-shape.ensures) fits.0
 
 pub loop-change-preserved : goal.loop-change-preserved
@@ -20,20 +21,27 @@ loop-change-preserved c =
     let is = c.in-Some.ensures.steps in
     let old = rows_of c.loop-change.places.rows.entries in
     let ok = rw c.shape-shape.ensures at c.in_default.ensures.ok in
-    let counted : length c.loop-change.change-iterator ≡ length c.next.new.self + 1 = ap (λ (cs : List Change). length cs) is ∙ omega arith in
+    let counted : length c.loop-change.change-iterator ≡ length c.next.new.self + 1 =
+    ap (λ (cs : List Change). length cs) is ∙ omega arith in
     record {
-      so_far = change_done c.args.table s.shape.flags (change_seen c.in-Some.change) c.next.new.self c.loop-change.change-iterator c.loop-change.position (c.loop-change.position + 1) old _ _ is (omega arith) ok c.loop-change.invariant.so_far;
+      so_far = change_done c.args.table s.shape.flags (change_seen c.in-Some.change) c.next.new.self
+          c.loop-change.change-iterator c.loop-change.position (c.loop-change.position + 1) old _ _ is (omega arith) ok
+          c.loop-change.invariant.so_far;
       fits = (subst (AllByRecursion (IsChange s.shape)) is c.loop-change.invariant.fits).1;
       counted = omega (arith, counted, c.loop-change.invariant.counted);
-      back = Back-trans c.args.places.now c.loop-change.places c.change_row.new.places c.loop-change.invariant.back c.in_default.ensures.back;
+      back = Back-trans c.args.places.now c.loop-change.places c.change_row.new.places c.loop-change.invariant.back
+          c.in_default.ensures.back;
     }
 
 pub returns-in-Err-clause-refused : goal.returns-in-Err-clause-refused
 returns-in-Err-clause-refused c =
     let s = c.args.section.now in
     let refused = rw c.shape-shape.ensures at c.in-Err.ensures.refused in
-    rw c.at.ensures (change_stops c.args.table s.shape.flags (change_seen c.in-Some.change) c.next.new.self c.loop-change.change-iterator c.loop-change.position (rows_of c.loop-change.places.rows.entries) _ c.in-Err.error c.in-Some.ensures.steps refused c.loop-change.invariant.so_far)
+    rw c.at.ensures (change_stops c.args.table s.shape.flags (change_seen c.in-Some.change) c.next.new.self
+    c.loop-change.change-iterator c.loop-change.position (rows_of c.loop-change.places.rows.entries) _
+    c.in-Err.error c.in-Some.ensures.steps refused c.loop-change.invariant.so_far)
 
 pub returns-clause-ok : goal.returns-clause-ok
 returns-clause-ok c =
-    changes_done c.args.table c.args.section.now.shape.flags c.loop-change.change-iterator c.loop-change.position (rows_of c.loop-change.places.rows.entries) _ (c.in-None.ensures).steps.0 c.loop-change.invariant.so_far
+    changes_done c.args.table c.args.section.now.shape.flags c.loop-change.change-iterator c.loop-change.position
+    (rows_of c.loop-change.places.rows.entries) _ (c.in-None.ensures).steps.0 c.loop-change.invariant.so_far

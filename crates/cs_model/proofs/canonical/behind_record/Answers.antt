@@ -7,7 +7,8 @@ pub loop-init : goal.loop-init
 loop-init c = starts_none c.args.bytes.now
 
 pub loop-preserved : goal.loop-preserved
-loop-preserved c = starts_more c.loop.counter c.args.bytes.now c.loop.rest.now c.in_ok-rest.rest.now c.loop.invariant c.in_ok-rest.ensures
+loop-preserved c = starts_more c.loop.counter c.args.bytes.now c.loop.rest.now c.in_ok-rest.rest.now c.loop.invariant
+    c.in_ok-rest.ensures
 
 pub returns : goal.returns
 returns c =

@@ -7,7 +7,10 @@ pub overflow_sub-bytes : goal.overflow_sub-bytes
 overflow_sub-bytes c = omega (arith, ap length c.behind-rest.ensures, some_no_longer c.args.columns c.args.bytes.now)
 
 pub returns-clause-record : goal.returns-clause-record
-returns-clause-record c = own_front c.args.columns c.args.bytes.now c.behind-rest.result.now c.split_at.result.0.now (length c.args.bytes.now - length c.behind-rest.result.now) c.behind-rest.ensures refl c.split_at.ensures.front
+returns-clause-record c = own_front c.args.columns c.args.bytes.now c.behind-rest.result.now c.split_at.result.0.now
+    (length c.args.bytes.now - length c.behind-rest.result.now) c.behind-rest.ensures refl c.split_at.ensures.front
 
 pub invariant_of-result : goal.invariant_of-result
-invariant_of-result c = own_packs c.args.columns c.args.bytes.now c.behind-rest.result.now c.split_at.result.0.now (length c.args.bytes.now - length c.behind-rest.result.now) c.requires c.behind-rest.ensures refl c.split_at.ensures.front
+invariant_of-result c = own_packs c.args.columns c.args.bytes.now c.behind-rest.result.now c.split_at.result.0.now
+    (length c.args.bytes.now - length c.behind-rest.result.now) c.requires c.behind-rest.ensures refl
+    c.split_at.ensures.front

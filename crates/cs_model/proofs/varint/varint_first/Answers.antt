@@ -12,10 +12,12 @@ returns-then-read-eq8-clause-reads c =
     cc
 
 pub overflow_mul-result-then-byte-lt128 : goal.overflow_mul-result-then-byte-lt128
-overflow_mul-result-then-byte-lt128 c = omega (arith, value_below c.loop-byte.value c.loop-byte.read c.loop-byte.invariant.few c.loop-byte.invariant.below)
+overflow_mul-result-then-byte-lt128 c =
+    omega (arith, value_below c.loop-byte.value c.loop-byte.read c.loop-byte.invariant.few c.loop-byte.invariant.below)
 
 pub overflow_add-result-then-byte-lt128 : goal.overflow_add-result-then-byte-lt128
-overflow_add-result-then-byte-lt128 c = omega (arith, value_below c.loop-byte.value c.loop-byte.read c.loop-byte.invariant.few c.loop-byte.invariant.below)
+overflow_add-result-then-byte-lt128 c =
+    omega (arith, value_below c.loop-byte.value c.loop-byte.read c.loop-byte.invariant.few c.loop-byte.invariant.below)
 
 pub returns-then-byte-lt128-clause-reads : goal.returns-then-byte-lt128-clause-reads
 returns-then-byte-lt128-clause-reads c =
@@ -26,7 +28,8 @@ returns-then-byte-lt128-clause-reads c =
     cc
 
 pub overflow_add-value : goal.overflow_add-value
-overflow_add-value c = omega (arith, value_below c.loop-byte.value c.loop-byte.read c.loop-byte.invariant.few c.loop-byte.invariant.below)
+overflow_add-value c = omega
+    (arith, value_below c.loop-byte.value c.loop-byte.read c.loop-byte.invariant.few c.loop-byte.invariant.below)
 
 pub returns-clause-reads : goal.returns-clause-reads
 returns-clause-reads c =

@@ -15,7 +15,8 @@ loop-start-init c = record {
 
 pub returns-else-rest-gt0-clause-text : goal.returns-else-rest-gt0-clause-text
 returns-else-rest-gt0-clause-text c =
-    unfilled_end c.args.value c.loop-start.start c.loop-start.rest _ _ (inr (c.if-rest-gt0.false.0, omega (arith, c.if-rest-gt0.false))) c.loop-start.invariant.filled
+    unfilled_end c.args.value c.loop-start.start c.loop-start.rest _ _
+    (inr (c.if-rest-gt0.false.0, omega (arith, c.if-rest-gt0.false))) c.loop-start.invariant.filled
 
 pub returns-after-loop-start-clause-text : goal.returns-after-loop-start-clause-text
 returns-after-loop-start-clause-text c =

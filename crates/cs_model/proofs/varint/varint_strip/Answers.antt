@@ -9,5 +9,8 @@ returns c =
     let text = c.varint_of-start.result.0 in
     let start = c.varint_of-start.result.1 in
     let nine : length text ≡ 9 = search rules in
-    let same : take (9 - start) (drop start text) ≡ varint c.args.value = ap (λ (n : ℕ). take (n - start) (drop start text)) (sym nine) ∙ (take_rest text start ∙ c.varint_of-start.ensures.text) in
-    subst (λ (w : List ℕ). IfSome c.strip_prefix.result (λ rest. c.args.bytes.now ≡ w ++ rest.now)) same (stripped c.strip_prefix.result c.args.bytes.now _ c.strip_prefix.ensures.cases)
+    let same : take (9 - start) (drop start text) ≡ varint c.args.value =
+    ap (λ (n : ℕ). take (n - start) (drop start text)) (sym nine)
+    ∙ (take_rest text start ∙ c.varint_of-start.ensures.text) in
+    subst (λ (w : List ℕ). IfSome c.strip_prefix.result (λ rest. c.args.bytes.now ≡ w ++ rest.now)) same
+    (stripped c.strip_prefix.result c.args.bytes.now _ c.strip_prefix.ensures.cases)

@@ -9,4 +9,5 @@ returns-in-None c =
     count_whole c.args.flags.now c.args.bytes.now (sym e.why ∙ c.in-None.is) ∙ counted_pair e.count e.rest
 
 pub returns-in-Some : goal.returns-in-Some
-returns-in-Some c = count_stops c.args.flags.now c.args.bytes.now c.in-Some.why (sym c.whole_changes-count.ensures.why ∙ c.in-Some.is)
+returns-in-Some c = count_stops c.args.flags.now c.args.bytes.now c.in-Some.why
+    (sym c.whole_changes-count.ensures.why ∙ c.in-Some.is)

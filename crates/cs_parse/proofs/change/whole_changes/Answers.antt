@@ -10,25 +10,33 @@ pub returns-in-Err-clause-count : goal.returns-in-Err-clause-count
 returns-in-Err-clause-count c =
     let read = change_at c.args.flags.now c.loop.rest.now in
     let more = sym c.is_over.ensures ∙ c.if-is_over.false in
-    (whole_changes_stop c.args.flags.now c.args.bytes.now c.loop.rest.now c.loop.count (length c.args.bytes.now) c.loop.counter c.loop.canonical c.in-Err.why (changes_front c.args.flags.now c.args.bytes.now) c.loop-test.true more (behind_refused read c.in-Err.why c.in-Err.ensures.read) c.loop.invariant.so_far).many
+    (whole_changes_stop c.args.flags.now c.args.bytes.now c.loop.rest.now c.loop.count (length c.args.bytes.now)
+    c.loop.counter c.loop.canonical c.in-Err.why (changes_front c.args.flags.now c.args.bytes.now) c.loop-test.true
+    more (behind_refused read c.in-Err.why c.in-Err.ensures.read) c.loop.invariant.so_far).many
 
 pub returns-in-Err-clause-rest : goal.returns-in-Err-clause-rest
 returns-in-Err-clause-rest c =
     let read = change_at c.args.flags.now c.loop.rest.now in
     let more = sym c.is_over.ensures ∙ c.if-is_over.false in
-    (whole_changes_stop c.args.flags.now c.args.bytes.now c.loop.rest.now c.loop.count (length c.args.bytes.now) c.loop.counter c.loop.canonical c.in-Err.why (changes_front c.args.flags.now c.args.bytes.now) c.loop-test.true more (behind_refused read c.in-Err.why c.in-Err.ensures.read) c.loop.invariant.so_far).behind
+    (whole_changes_stop c.args.flags.now c.args.bytes.now c.loop.rest.now c.loop.count (length c.args.bytes.now)
+    c.loop.counter c.loop.canonical c.in-Err.why (changes_front c.args.flags.now c.args.bytes.now) c.loop-test.true
+    more (behind_refused read c.in-Err.why c.in-Err.ensures.read) c.loop.invariant.so_far).behind
 
 pub returns-in-Err-clause-canonical : goal.returns-in-Err-clause-canonical
 returns-in-Err-clause-canonical c =
     let read = change_at c.args.flags.now c.loop.rest.now in
     let more = sym c.is_over.ensures ∙ c.if-is_over.false in
-    (whole_changes_stop c.args.flags.now c.args.bytes.now c.loop.rest.now c.loop.count (length c.args.bytes.now) c.loop.counter c.loop.canonical c.in-Err.why (changes_front c.args.flags.now c.args.bytes.now) c.loop-test.true more (behind_refused read c.in-Err.why c.in-Err.ensures.read) c.loop.invariant.so_far).packs
+    (whole_changes_stop c.args.flags.now c.args.bytes.now c.loop.rest.now c.loop.count (length c.args.bytes.now)
+    c.loop.counter c.loop.canonical c.in-Err.why (changes_front c.args.flags.now c.args.bytes.now) c.loop-test.true
+    more (behind_refused read c.in-Err.why c.in-Err.ensures.read) c.loop.invariant.so_far).packs
 
 pub returns-in-Err-clause-why : goal.returns-in-Err-clause-why
 returns-in-Err-clause-why c =
     let read = change_at c.args.flags.now c.loop.rest.now in
     let more = sym c.is_over.ensures ∙ c.if-is_over.false in
-    (whole_changes_stop c.args.flags.now c.args.bytes.now c.loop.rest.now c.loop.count (length c.args.bytes.now) c.loop.counter c.loop.canonical c.in-Err.why (changes_front c.args.flags.now c.args.bytes.now) c.loop-test.true more (behind_refused read c.in-Err.why c.in-Err.ensures.read) c.loop.invariant.so_far).reason
+    (whole_changes_stop c.args.flags.now c.args.bytes.now c.loop.rest.now c.loop.count (length c.args.bytes.now)
+    c.loop.counter c.loop.canonical c.in-Err.why (changes_front c.args.flags.now c.args.bytes.now) c.loop-test.true
+    more (behind_refused read c.in-Err.why c.in-Err.ensures.read) c.loop.invariant.so_far).reason
 
 pub loop-preserved : goal.loop-preserved
 loop-preserved c =
@@ -37,38 +45,54 @@ loop-preserved c =
     let more = sym c.is_over.ensures ∙ c.if-is_over.false in
     record {
       each_one = ap (λ k. k + 1) c.loop.invariant.each_one;
-      so_far = whole_changes_go c.args.flags.now c.args.bytes.now c.loop.rest.now after c.loop.count (length c.args.bytes.now) c.loop.counter c.loop.canonical c.both-canonical.result first.0 (changes_front c.args.flags.now c.args.bytes.now) c.loop-test.true more first.1
-          (λ is. c.both-canonical.ensures.first is) (λ is. c.in-Ok.ensures.canonical (c.both-canonical.ensures.second is) (first.0, after) first.1) c.loop.invariant.so_far;
+      so_far = whole_changes_go c.args.flags.now c.args.bytes.now c.loop.rest.now after c.loop.count
+          (length c.args.bytes.now) c.loop.counter c.loop.canonical c.both-canonical.result first.0
+          (changes_front c.args.flags.now c.args.bytes.now) c.loop-test.true more first.1
+          (λ is. c.both-canonical.ensures.first is)
+          (λ is. c.in-Ok.ensures.canonical (c.both-canonical.ensures.second is) (first.0, after) first.1)
+          c.loop.invariant.so_far;
     }
 
 pub returns-clause-count : goal.returns-clause-count
 returns-clause-count c =
-    let ended : (ends_section c.loop.rest.now ≡ true) ⊎ (length c.args.bytes.now - c.loop.counter ≡ 0) = elim c.loop-test.branch [
+    let ended : (ends_section c.loop.rest.now ≡ true) ⊎ (length c.args.bytes.now - c.loop.counter ≡ 0) =
+    elim c.loop-test.branch [
       | else-loop-test w ↦ inr (omega (arith, w.loop-test.false))
       | then-loop-test+then-is_over w ↦ inl (sym w.is_over.ensures ∙ w.if-is_over.true)
     ] in
-    (whole_changes_end c.args.flags.now c.args.bytes.now c.loop.rest.now c.loop.count (length c.args.bytes.now) c.loop.counter c.loop.canonical (changes_front c.args.flags.now c.args.bytes.now) ended c.loop.invariant.so_far).many
+    (whole_changes_end c.args.flags.now c.args.bytes.now c.loop.rest.now c.loop.count (length c.args.bytes.now)
+    c.loop.counter c.loop.canonical (changes_front c.args.flags.now c.args.bytes.now) ended
+    c.loop.invariant.so_far).many
 
 pub returns-clause-rest : goal.returns-clause-rest
 returns-clause-rest c =
-    let ended : (ends_section c.loop.rest.now ≡ true) ⊎ (length c.args.bytes.now - c.loop.counter ≡ 0) = elim c.loop-test.branch [
+    let ended : (ends_section c.loop.rest.now ≡ true) ⊎ (length c.args.bytes.now - c.loop.counter ≡ 0) =
+    elim c.loop-test.branch [
       | else-loop-test w ↦ inr (omega (arith, w.loop-test.false))
       | then-loop-test+then-is_over w ↦ inl (sym w.is_over.ensures ∙ w.if-is_over.true)
     ] in
-    (whole_changes_end c.args.flags.now c.args.bytes.now c.loop.rest.now c.loop.count (length c.args.bytes.now) c.loop.counter c.loop.canonical (changes_front c.args.flags.now c.args.bytes.now) ended c.loop.invariant.so_far).behind
+    (whole_changes_end c.args.flags.now c.args.bytes.now c.loop.rest.now c.loop.count (length c.args.bytes.now)
+    c.loop.counter c.loop.canonical (changes_front c.args.flags.now c.args.bytes.now) ended
+    c.loop.invariant.so_far).behind
 
 pub returns-clause-canonical : goal.returns-clause-canonical
 returns-clause-canonical c =
-    let ended : (ends_section c.loop.rest.now ≡ true) ⊎ (length c.args.bytes.now - c.loop.counter ≡ 0) = elim c.loop-test.branch [
+    let ended : (ends_section c.loop.rest.now ≡ true) ⊎ (length c.args.bytes.now - c.loop.counter ≡ 0) =
+    elim c.loop-test.branch [
       | else-loop-test w ↦ inr (omega (arith, w.loop-test.false))
       | then-loop-test+then-is_over w ↦ inl (sym w.is_over.ensures ∙ w.if-is_over.true)
     ] in
-    (whole_changes_end c.args.flags.now c.args.bytes.now c.loop.rest.now c.loop.count (length c.args.bytes.now) c.loop.counter c.loop.canonical (changes_front c.args.flags.now c.args.bytes.now) ended c.loop.invariant.so_far).packs
+    (whole_changes_end c.args.flags.now c.args.bytes.now c.loop.rest.now c.loop.count (length c.args.bytes.now)
+    c.loop.counter c.loop.canonical (changes_front c.args.flags.now c.args.bytes.now) ended
+    c.loop.invariant.so_far).packs
 
 pub returns-clause-why : goal.returns-clause-why
 returns-clause-why c =
-    let ended : (ends_section c.loop.rest.now ≡ true) ⊎ (length c.args.bytes.now - c.loop.counter ≡ 0) = elim c.loop-test.branch [
+    let ended : (ends_section c.loop.rest.now ≡ true) ⊎ (length c.args.bytes.now - c.loop.counter ≡ 0) =
+    elim c.loop-test.branch [
       | else-loop-test w ↦ inr (omega (arith, w.loop-test.false))
       | then-loop-test+then-is_over w ↦ inl (sym w.is_over.ensures ∙ w.if-is_over.true)
     ] in
-    (whole_changes_end c.args.flags.now c.args.bytes.now c.loop.rest.now c.loop.count (length c.args.bytes.now) c.loop.counter c.loop.canonical (changes_front c.args.flags.now c.args.bytes.now) ended c.loop.invariant.so_far).reason
+    (whole_changes_end c.args.flags.now c.args.bytes.now c.loop.rest.now c.loop.count (length c.args.bytes.now)
+    c.loop.counter c.loop.canonical (changes_front c.args.flags.now c.args.bytes.now) ended
+    c.loop.invariant.so_far).reason

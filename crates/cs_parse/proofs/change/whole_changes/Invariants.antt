@@ -7,5 +7,6 @@ use Rattle.cs_parse.proofs.change.whole_changes.Given as goal
 abbrev pub invariant-loop : goal.invariant-loop
 invariant-loop l = record {
   each_one : l.count ≡ l.counter;
-  so_far : WholeToHere l.count l.canonical l.bytes l.rest (changes_front l.flags l.bytes) (left_at l.flags (length l.bytes - l.counter) l.rest);
+  so_far : WholeToHere l.count l.canonical l.bytes l.rest (changes_front l.flags l.bytes)
+      (left_at l.flags (length l.bytes - l.counter) l.rest);
 }

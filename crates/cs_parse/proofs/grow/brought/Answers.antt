@@ -7,7 +7,8 @@ use Rattle.cs_parse.proofs.grow.brought.Goals as goal
 pub overflow_sub-len : goal.overflow_sub-len
 overflow_sub-len c =
     let w = c.head_of-count in
-    heads_shorter c.args.sections.now c.args.bytes.now w.result.0 w.result.1.now w.result.2 w.result.3 (λ i. omega (arith, c.type_inv.bytes i)) w.ensures
+    heads_shorter c.args.sections.now c.args.bytes.now w.result.0 w.result.1.now w.result.2 w.result.3
+    (λ i. omega (arith, c.type_inv.bytes i)) w.ensures
 
 pub returns-in-Some-clause-err : goal.returns-in-Some-clause-err
 returns-in-Some-clause-err c = λ others same.
@@ -16,12 +17,18 @@ returns-in-Some-clause-err c = λ others same.
     let fits : AreBytes bytes = λ i. omega (arith, c.type_inv.bytes i) in
     let text = take (length bytes - length w.result.1.now) bytes in
     let heads = subst (λ o. Heads o bytes w.result.0 w.result.1.now w.result.2 w.result.3) (sym same) w.ensures in
-    let b = batch c.changes_fit.ensures c.spelled_is_said.ensures others bytes text w.result.0 w.result.1.now w.result.2 w.result.3 c.in_ok-more.more.items c.in_ok-more.rest.now c.in_ok-more.why fits refl heads c.in_ok-more.ensures in
-    batch_bad others bytes text c.in_ok-more.more.items c.in_ok-more.rest.now c.in_ok-more.why c.args.taken c.in-Some.fault (sym c.wrong_in.ensures ∙ c.in-Some.is) b.brings
+    let b = batch c.changes_fit.ensures c.spelled_is_said.ensures others bytes text w.result.0 w.result.1.now w.result.2
+    w.result.3 c.in_ok-more.more.items c.in_ok-more.rest.now c.in_ok-more.why fits refl heads
+    c.in_ok-more.ensures in
+    batch_bad others bytes text c.in_ok-more.more.items c.in_ok-more.rest.now c.in_ok-more.why c.args.taken
+    c.in-Some.fault (sym c.wrong_in.ensures ∙ c.in-Some.is) b.brings
 
 pub returns-clause-ok : goal.returns-clause-ok
 returns-clause-ok c = λ others same.
     let w = c.head_of-count in
     let bytes = c.args.bytes.now in
     let heads = subst (λ o. Heads o bytes w.result.0 w.result.1.now w.result.2 w.result.3) (sym same) w.ensures in
-    batches_brings c.changes_fit.ensures c.spelled_is_said.ensures others bytes w.result.0 w.result.1.now w.result.2 w.result.3 c.in_ok-more.more.items c.in_ok-more.rest.now c.in_ok-more.why c.args.taken (length bytes - length w.result.1.now) (λ i. omega (arith, c.type_inv.bytes i)) refl heads c.in_ok-more.ensures (sym c.wrong_in.ensures ∙ c.in_default.is)
+    batches_brings c.changes_fit.ensures c.spelled_is_said.ensures others bytes w.result.0 w.result.1.now w.result.2
+    w.result.3 c.in_ok-more.more.items c.in_ok-more.rest.now c.in_ok-more.why c.args.taken
+    (length bytes - length w.result.1.now) (λ i. omega (arith, c.type_inv.bytes i)) refl heads c.in_ok-more.ensures
+    (sym c.wrong_in.ensures ∙ c.in_default.is)

@@ -10,35 +10,47 @@ header_short-requires c = header_waiting (last_flags c.args.sections.now) c.args
 
 pub returns-then-is_over-clause-lacks : goal.returns-then-is_over-clause-lacks
 returns-then-is_over-clause-lacks c = λ others same.
-    header_lacks others c.args.bytes.now c.header_short.result (sym c.is_empty.ensures ∙ c.if-is_empty.false) (sym c.is_over.ensures ∙ c.if-is_over.true) c.header_short.ensures.short
+    header_lacks others c.args.bytes.now c.header_short.result (sym c.is_empty.ensures ∙ c.if-is_empty.false)
+    (sym c.is_over.ensures ∙ c.if-is_over.true) c.header_short.ensures.short
 
 pub returns-then-is_over-clause-waits : goal.returns-then-is_over-clause-waits
 returns-then-is_over-clause-waits c = λ some others same.
     let bytes = c.args.bytes.now in
     let least = c.header_short.result in
-    waits_now others bytes true least (header_lacks others bytes least (sym c.is_empty.ensures ∙ c.if-is_empty.false) (sym c.is_over.ensures ∙ c.if-is_over.true) c.header_short.ensures.short) some
+    waits_now others bytes true least
+    (header_lacks others bytes least (sym c.is_empty.ensures ∙ c.if-is_empty.false)
+    (sym c.is_over.ensures ∙ c.if-is_over.true) c.header_short.ensures.short) some
 
 pub returns-then-is_over-clause-spot : goal.returns-then-is_over-clause-spot
 returns-then-is_over-clause-spot c = λ some more fits.
-    any_waits (last_flags c.args.sections.now) (c.args.bytes.now ++ more) c.header_short.new.spot (λ flags. c.header_short.ensures.spot some flags more fits)
+    any_waits (last_flags c.args.sections.now) (c.args.bytes.now ++ more) c.header_short.new.spot
+    (λ flags. c.header_short.ensures.spot some flags more fits)
 
 pub still_short-requires : goal.still_short-requires
 still_short-requires c =
-    let last = last_found c.args.sections.now c.in-Some.section.now c.deref.result.now (sym c.in-Some.ensures.value) (c.deref.ensures ∙ ap (λ s. s.flags) c.shape.ensures) in
+    let last = last_found c.args.sections.now c.in-Some.section.now c.deref.result.now (sym c.in-Some.ensures.value)
+    (c.deref.ensures ∙ ap (λ s. s.flags) c.shape.ensures) in
     subst (λ o. Waits o c.args.bytes.now c.args.spot.now) last c.requires
 
 pub returns-clause-lacks : goal.returns-clause-lacks
 returns-clause-lacks c = λ others same.
-    let last = last_found c.args.sections.now c.in-Some.section.now c.deref.result.now (sym c.in-Some.ensures.value) (c.deref.ensures ∙ ap (λ s. s.flags) c.shape.ensures) in
-    change_lacks others c.deref.result.now c.args.bytes.now c.still_short.result (same ∙ last) (sym c.is_over.ensures ∙ c.if-is_over.false) c.still_short.ensures.short
+    let last = last_found c.args.sections.now c.in-Some.section.now c.deref.result.now (sym c.in-Some.ensures.value)
+    (c.deref.ensures ∙ ap (λ s. s.flags) c.shape.ensures) in
+    change_lacks others c.deref.result.now c.args.bytes.now c.still_short.result (same ∙ last)
+    (sym c.is_over.ensures ∙ c.if-is_over.false) c.still_short.ensures.short
 
 pub returns-clause-waits : goal.returns-clause-waits
 returns-clause-waits c = λ some others same.
-    let last = last_found c.args.sections.now c.in-Some.section.now c.deref.result.now (sym c.in-Some.ensures.value) (c.deref.ensures ∙ ap (λ s. s.flags) c.shape.ensures) in
+    let last = last_found c.args.sections.now c.in-Some.section.now c.deref.result.now (sym c.in-Some.ensures.value)
+    (c.deref.ensures ∙ ap (λ s. s.flags) c.shape.ensures) in
     let over = sym c.is_over.ensures ∙ c.if-is_over.false in
-    waits_now others c.args.bytes.now false c.still_short.result (change_lacks others c.deref.result.now c.args.bytes.now c.still_short.result (same ∙ last) over c.still_short.ensures.short) some
+    waits_now others c.args.bytes.now false c.still_short.result
+    (change_lacks others c.deref.result.now c.args.bytes.now c.still_short.result (same ∙ last) over
+    c.still_short.ensures.short) some
 
 pub returns-clause-spot : goal.returns-clause-spot
 returns-clause-spot c = λ some more fits.
-    let last = last_found c.args.sections.now c.in-Some.section.now c.deref.result.now (sym c.in-Some.ensures.value) (c.deref.ensures ∙ ap (λ s. s.flags) c.shape.ensures) in
-    subst (λ o. Waits o (c.args.bytes.now ++ more) c.still_short.new.spot) (sym last) (c.still_short.ensures.spot some more fits)
+    let last = last_found c.args.sections.now c.in-Some.section.now c.deref.result.now (sym c.in-Some.ensures.value)
+    (c.deref.ensures ∙ ap (λ s. s.flags) c.shape.ensures) in
+    subst (λ o. Waits o (c.args.bytes.now ++ more) c.still_short.new.spot) (sym last)
+    (c.still_short.ensures.spot some more fits)

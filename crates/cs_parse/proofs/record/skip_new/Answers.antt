@@ -1,4 +1,5 @@
-use Rattle.std.proofs.Common.{◌≡◌, ℕ, ◌+◌, ◌<◌, ◌≤◌, List, [], ◌∷◌, length, get_or, map, drop, Result, Ok, Err, sym, ap, subst, ◌∙◌}
+use Rattle.std.proofs.Common.{◌≡◌, ℕ, ◌+◌, ◌<◌, ◌≤◌, List, [], ◌∷◌, length, get_or, map, drop, Result, Ok, Err, sym, ap}
+use Rattle.std.proofs.Common.{subst, ◌∙◌}
 use Rattle.std.proofs.lemmas.List.{drop_more, drop_all, drop-drop}
 use Rattle.std.proofs.lemmas.Result.{err_from_is_err_and}
 use Rattle.cs_model.specs.declared.value.Field.{Field}
@@ -20,33 +21,50 @@ abbrev SkipNewRead : Type 0
 SkipNewRead = Result (List Field × List ℕ) ParseRefusal
 
 -- the old record's rules from column i on
-old_column : (flags : List ℕ) (i : ℕ) (bytes : List ℕ) (read : SkipNewRead) → i < length flags → record_at (map old_rule (drop i flags)) bytes ≡ read
+old_column : (flags : List ℕ) (i : ℕ) (bytes : List ℕ) (read : SkipNewRead) → i < length flags
+    → record_at (map old_rule (drop i flags)) bytes ≡ read
     → record_at (old_rule (get_or flags i 0) ∷ map old_rule (drop (i + 1) flags)) bytes ≡ read
-old_column flags i bytes read lt so_far = sym (ap (λ w. record_at (map old_rule w) bytes) (drop_more flags i 0 lt)) ∙ so_far
+old_column flags i bytes read lt so_far = sym (ap (λ w. record_at (map old_rule w) bytes) (drop_more flags i 0 lt))
+    ∙ so_far
 
 -- and the new record's
-skip_new_column : (flags : List ℕ) (before : List Field) (i : ℕ) (old : Field) (bytes : List ℕ) (total : Result (List ℕ) ParseRefusal) → i < length flags → drop i before ≡ old ∷ drop 1 (drop i before)
+skip_new_column : (flags : List ℕ) (before : List Field) (i : ℕ) (old : Field) (bytes : List ℕ)
+    (total : Result (List ℕ) ParseRefusal) → i < length flags → drop i before ≡ old ∷ drop 1 (drop i before)
     → bytes_after (record_at (new_rules (drop i flags) (drop i before)) bytes) ≡ total
-    → bytes_after (record_at (new_rule (get_or flags i 0) old ∷ new_rules (drop (i + 1) flags) (drop (i + 1) before)) bytes) ≡ total
+    → bytes_after (record_at (new_rule (get_or flags i 0) old ∷ new_rules (drop (i + 1) flags) (drop (i + 1) before))
+    bytes) ≡ total
 skip_new_column flags before i old bytes total lt begins so_far =
     let flags_are = drop_more flags i 0 lt in
     let before_is : drop i before ≡ old ∷ drop (i + 1) before = begins ∙ ap (λ w. old ∷ w) (drop-drop 1 i before) in
-    sym (ap (λ w. bytes_after (record_at (new_rules w (drop i before)) bytes)) flags_are ∙ ap (λ w. bytes_after (record_at (new_rules (get_or flags i 0 ∷ drop (i + 1) flags) w) bytes)) before_is) ∙ so_far
+    sym (ap (λ w. bytes_after (record_at (new_rules w (drop i before)) bytes)) flags_are
+    ∙ ap (λ w. bytes_after (record_at (new_rules (get_or flags i 0 ∷ drop (i + 1) flags) w) bytes)) before_is)
+    ∙ so_far
 
-no_column : (flags : List ℕ) (before : List Field) (i : ℕ) (bytes : List ℕ) (total : Result (List ℕ) ParseRefusal) → length flags ≤ i
-    → bytes_after (record_at (new_rules (drop i flags) (drop i before)) bytes) ≡ total → bytes_after (record_at [] bytes) ≡ total
-no_column flags before i bytes total le so_far = sym (ap (λ w. bytes_after (record_at (new_rules w (drop i before)) bytes)) (drop_all i flags le)) ∙ so_far
+no_column : (flags : List ℕ) (before : List Field) (i : ℕ) (bytes : List ℕ) (total : Result (List ℕ) ParseRefusal)
+    → length flags ≤ i
+    → bytes_after (record_at (new_rules (drop i flags) (drop i before)) bytes) ≡ total
+    → bytes_after (record_at [] bytes) ≡ total
+no_column flags before i bytes total le so_far =
+    sym (ap (λ w. bytes_after (record_at (new_rules w (drop i before)) bytes)) (drop_all i flags le)) ∙ so_far
 
 -- and its bytes
-here_canonical : (flags : List ℕ) (before : List Field) (i : ℕ) (old : Field) (bytes : List ℕ) → i < length flags → drop i before ≡ old ∷ drop 1 (drop i before)
-    → IsCanonical packed bytes (record_at (new_rule (get_or flags i 0) old ∷ new_rules (drop (i + 1) flags) (drop (i + 1) before)) bytes) → IsCanonical packed bytes (record_at (new_rules (drop i flags) (drop i before)) bytes)
+here_canonical : (flags : List ℕ) (before : List Field) (i : ℕ) (old : Field) (bytes : List ℕ) → i < length flags
+    → drop i before ≡ old ∷ drop 1 (drop i before)
+    → IsCanonical packed bytes
+    (record_at (new_rule (get_or flags i 0) old ∷ new_rules (drop (i + 1) flags) (drop (i + 1) before)) bytes)
+    → IsCanonical packed bytes (record_at (new_rules (drop i flags) (drop i before)) bytes)
 here_canonical flags before i old bytes lt begins own =
     let flags_are = drop_more flags i 0 lt in
     let before_is : drop i before ≡ old ∷ drop (i + 1) before = begins ∙ ap (λ w. old ∷ w) (drop-drop 1 i before) in
-    subst (λ w. IsCanonical packed bytes (record_at w bytes)) (sym (ap (λ w. new_rules w (drop i before)) flags_are ∙ ap (λ w. new_rules (get_or flags i 0 ∷ drop (i + 1) flags) w) before_is)) own
+    subst (λ w. IsCanonical packed bytes (record_at w bytes))
+    (sym (ap (λ w. new_rules w (drop i before)) flags_are
+    ∙ ap (λ w. new_rules (get_or flags i 0 ∷ drop (i + 1) flags) w) before_is)) own
 
-all_canonical : (flags : List ℕ) (before : List Field) (i : ℕ) (bytes : List ℕ) → length flags ≤ i → IsCanonical packed bytes (record_at (new_rules (drop i flags) (drop i before)) bytes)
-all_canonical flags before i bytes le = subst (λ w. IsCanonical packed bytes (record_at (new_rules w (drop i before)) bytes)) (sym (drop_all i flags le)) (none_canonical bytes)
+all_canonical : (flags : List ℕ) (before : List Field) (i : ℕ) (bytes : List ℕ) → length flags ≤ i
+    → IsCanonical packed bytes (record_at (new_rules (drop i flags) (drop i before)) bytes)
+all_canonical flags before i bytes le =
+    subst (λ w. IsCanonical packed bytes (record_at (new_rules w (drop i before)) bytes)) (sym (drop_all i flags le))
+    (none_canonical bytes)
 
 -- the old record was read whole, so that its fields aren't refused
 pub returns-in_err-field-clause-read : goal.returns-in_err-field-clause-read
@@ -55,8 +73,10 @@ returns-in_err-field-clause-read c = λ before left h.
     let i = c.loop-flag.flag-index in
     let old = c.loop-flag.old_rest.now in
     let e = c.in_err-field.field-0.0 in
-    let fails : field_at (old_rule (get_or flags i 0)) old ≡ Err e = subst (λ r. field_at r old ≡ Err e) c.rule_by_flag.ensures c.in_err-field.ensures.read in
-    absurd (field_missing (old_rule (get_or flags i 0)) (map old_rule (drop (i + 1) flags)) old e (drop i before) left fails
+    let fails : field_at (old_rule (get_or flags i 0)) old ≡ Err e =
+    subst (λ r. field_at r old ≡ Err e) c.rule_by_flag.ensures c.in_err-field.ensures.read in
+    absurd (field_missing (old_rule (get_or flags i 0)) (map old_rule (drop (i + 1) flags)) old e (drop i before) left
+    fails
     (old_column flags i old (Ok (drop i before, left)) c.loop-flag-test.true (c.loop-flag.invariant before left h).0))
 
 pub returns-in_err-after-clause-read : goal.returns-in_err-after-clause-read
@@ -71,10 +91,16 @@ returns-in_err-after-clause-read c = λ before left h.
     let e = c.in_err-after.field-0.0 in
     let p = err_from_is_err_and c.from_residual-in_err-after.result c.from_residual-in_err-after.ensures.1 in
     let total = bytes_after (record_at (new_rules flags before) c.args.bytes.now) in
-    let old_reads : field_at (old_rule flag) old ≡ Ok (first, c.in_ok-field.old_after.now) = sym (ap (λ r. field_at r old) c.rule_by_flag.ensures) ∙ c.in_ok-field.ensures.read in
-    let begins = field_begins (old_rule flag) (map old_rule (drop (i + 1) flags)) old first c.in_ok-field.old_after.now (drop i before) left old_reads (old_column flags i old (Ok (drop i before, left)) c.loop-flag-test.true inv.0) in
-    let fails : field_at (new_rule flag first) rest ≡ Err e = sym (same_field (rule_of c.rule_by_old.result) (new_rule flag first) rest (λ byte. c.rule_by_old.ensures byte first (sym c.has_value.ensures))) ∙ c.in_err-after.ensures.read in
-    rw (p.1, p.2) (field_refused (new_rule flag first) (new_rules (drop (i + 1) flags) (drop (i + 1) before)) rest e total fails (skip_new_column flags before i first rest total c.loop-flag-test.true begins.0 inv.1))
+    let old_reads : field_at (old_rule flag) old ≡ Ok (first, c.in_ok-field.old_after.now) =
+    sym (ap (λ r. field_at r old) c.rule_by_flag.ensures) ∙ c.in_ok-field.ensures.read in
+    let begins = field_begins (old_rule flag) (map old_rule (drop (i + 1) flags)) old first c.in_ok-field.old_after.now
+    (drop i before) left old_reads (old_column flags i old (Ok (drop i before, left)) c.loop-flag-test.true inv.0)
+    in
+    let fails : field_at (new_rule flag first) rest ≡ Err e =
+    sym (same_field (rule_of c.rule_by_old.result) (new_rule flag first) rest
+    (λ byte. c.rule_by_old.ensures byte first (sym c.has_value.ensures))) ∙ c.in_err-after.ensures.read in
+    rw (p.1, p.2) (field_refused (new_rule flag first) (new_rules (drop (i + 1) flags) (drop (i + 1) before)) rest e
+    total fails (skip_new_column flags before i first rest total c.loop-flag-test.true begins.0 inv.1))
 
 pub loop-flag-preserved : goal.loop-flag-preserved
 loop-flag-preserved c = λ before left h.
@@ -86,20 +112,33 @@ loop-flag-preserved c = λ before left h.
     let first = field_seen c.in_ok-field.field in
     let inv = c.loop-flag.invariant before left h in
     let total = bytes_after (record_at (new_rules flags before) c.args.bytes.now) in
-    let old_reads : field_at (old_rule flag) old ≡ Ok (first, c.in_ok-field.old_after.now) = sym (ap (λ r. field_at r old) c.rule_by_flag.ensures) ∙ c.in_ok-field.ensures.read in
-    let begins = field_begins (old_rule flag) (map old_rule (drop (i + 1) flags)) old first c.in_ok-field.old_after.now (drop i before) left old_reads (old_column flags i old (Ok (drop i before, left)) c.loop-flag-test.true inv.0) in
-    let reads = sym (same_field (rule_of c.rule_by_old.result) (new_rule flag first) rest (λ byte. c.rule_by_old.ensures byte first (sym c.has_value.ensures))) ∙ c.in_ok-after.ensures.read in (
+    let old_reads : field_at (old_rule flag) old ≡ Ok (first, c.in_ok-field.old_after.now) =
+    sym (ap (λ r. field_at r old) c.rule_by_flag.ensures) ∙ c.in_ok-field.ensures.read in
+    let begins = field_begins (old_rule flag) (map old_rule (drop (i + 1) flags)) old first c.in_ok-field.old_after.now
+    (drop i before) left old_reads (old_column flags i old (Ok (drop i before, left)) c.loop-flag-test.true inv.0)
+    in
+    let reads =
+    sym (same_field (rule_of c.rule_by_old.result) (new_rule flag first) rest
+    (λ byte. c.rule_by_old.ensures byte first (sym c.has_value.ensures))) ∙ c.in_ok-after.ensures.read in (
       begins.1 ∙ ap (λ w. done (w, left)) (drop-drop 1 i before),
-      field_passed (new_rule flag first) (new_rules (drop (i + 1) flags) (drop (i + 1) before)) rest _ c.in_ok-after.after.now total reads (skip_new_column flags before i first rest total c.loop-flag-test.true begins.0 inv.1),
+      field_passed (new_rule flag first) (new_rules (drop (i + 1) flags) (drop (i + 1) before)) rest _
+          c.in_ok-after.after.now total reads
+          (skip_new_column flags before i first rest total c.loop-flag-test.true begins.0 inv.1),
       λ is more. inv.2 (c.in_ok-after.ensures.canonical is).0
-          (here_canonical flags before i first rest c.loop-flag-test.true begins.0 (more_canonical (new_rule flag first) (new_rules (drop (i + 1) flags) (drop (i + 1) before)) rest _ c.in_ok-after.after.now reads (c.in_ok-after.ensures.canonical is).1 more)),
+          (here_canonical flags before i first rest c.loop-flag-test.true begins.0
+          (more_canonical (new_rule flag first) (new_rules (drop (i + 1) flags) (drop (i + 1) before)) rest _
+          c.in_ok-after.after.now reads (c.in_ok-after.ensures.canonical is).1 more)),
     )
 
 pub returns-clause-read : goal.returns-clause-read
 returns-clause-read c = λ before left h.
     let flags = c.args.flags.now in
     let total = bytes_after (record_at (new_rules flags before) c.args.bytes.now) in
-    fields_passed c.loop-flag.rest.now total (no_column flags before c.loop-flag.flag-index c.loop-flag.rest.now total c.loop-flag-test.false (c.loop-flag.invariant before left h).1)
+    fields_passed c.loop-flag.rest.now total
+    (no_column flags before c.loop-flag.flag-index c.loop-flag.rest.now total c.loop-flag-test.false
+    (c.loop-flag.invariant before left h).1)
 
 pub returns-clause-canonical : goal.returns-clause-canonical
-returns-clause-canonical c = λ before left h is. (c.loop-flag.invariant before left h).2 is (all_canonical c.args.flags.now before c.loop-flag.flag-index c.loop-flag.rest.now c.loop-flag-test.false)
+returns-clause-canonical c =
+    λ before left h is. (c.loop-flag.invariant before left h).2 is
+    (all_canonical c.args.flags.now before c.loop-flag.flag-index c.loop-flag.rest.now c.loop-flag-test.false)

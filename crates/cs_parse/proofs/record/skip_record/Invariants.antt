@@ -10,7 +10,9 @@ use Rattle.cs_parse.proofs.record.skip_record.Given as goal
 -- where the fields so far are canonical, the whole is where the fields that are left are
 abbrev pub invariant-loop-flag : goal.invariant-loop-flag
 invariant-loop-flag l = record {
-  reads : bytes_after (record_at (map (column_rule (rule_of l.outside)) (drop l.flag-index l.flags)) l.rest) ≡ bytes_after (record_at (map (column_rule (rule_of l.outside)) l.flags) l.bytes);
-  canonical : IsTrue l.canonical → IsCanonical packed l.rest (record_at (map (column_rule (rule_of l.outside)) (drop l.flag-index l.flags)) l.rest)
+  reads : bytes_after (record_at (map (column_rule (rule_of l.outside)) (drop l.flag-index l.flags)) l.rest)
+      ≡ bytes_after (record_at (map (column_rule (rule_of l.outside)) l.flags) l.bytes);
+  canonical : IsTrue l.canonical
+      → IsCanonical packed l.rest (record_at (map (column_rule (rule_of l.outside)) (drop l.flag-index l.flags)) l.rest)
       → IsCanonical packed l.bytes (record_at (map (column_rule (rule_of l.outside)) l.flags) l.bytes);
 }

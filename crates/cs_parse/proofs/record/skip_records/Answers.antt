@@ -12,8 +12,10 @@ returns-in_err-rest-in-Update-2-clause-read c =
     let bytes = c.args.bytes.now in
     let rest = c.in_ok-rest-in-Update.rest.now in
     let old = behind_value (record_at (map old_rule flags) bytes) rest c.in_ok-rest-in-Update.ensures.read in
-    let whole = ap (λ op. bytes_after (records_at flags op bytes)) c.in-Update.is ∙ update_behind flags bytes old.0 rest old.1 in
-    let p = err_from_is_err_and c.from_residual-in_err-rest-in-Update-2.result c.from_residual-in_err-rest-in-Update-2.ensures.1 in
+    let whole = ap (λ op. bytes_after (records_at flags op bytes)) c.in-Update.is
+    ∙ update_behind flags bytes old.0 rest old.1 in
+    let p = err_from_is_err_and c.from_residual-in_err-rest-in-Update-2.result
+    c.from_residual-in_err-rest-in-Update-2.ensures.1 in
     rw (p.1, p.2) (whole ∙ c.in_err-rest-in-Update-2.ensures.read old.0 rest old.1)
 
 pub returns-in_ok-rest-in-Update-2-clause-read : goal.returns-in_ok-rest-in-Update-2-clause-read
@@ -22,5 +24,6 @@ returns-in_ok-rest-in-Update-2-clause-read c =
     let bytes = c.args.bytes.now in
     let rest = c.in_ok-rest-in-Update.rest.now in
     let old = behind_value (record_at (map old_rule flags) bytes) rest c.in_ok-rest-in-Update.ensures.read in
-    let whole = ap (λ op. bytes_after (records_at flags op bytes)) c.in-Update.is ∙ update_behind flags bytes old.0 rest old.1 in
+    let whole = ap (λ op. bytes_after (records_at flags op bytes)) c.in-Update.is
+    ∙ update_behind flags bytes old.0 rest old.1 in
     whole ∙ c.in_ok-rest-in-Update-2.ensures.read old.0 rest old.1

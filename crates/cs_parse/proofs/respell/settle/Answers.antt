@@ -8,7 +8,9 @@ use Rattle.cs_parse.proofs.feeding.GrowingLaws.{settled_as, respelled}
 use Rattle.cs_parse.proofs.respell.settle.Goals as goal
 
 pub returns-then-canonical-clause-ok : goal.returns-then-canonical-clause-ok
-returns-then-canonical-clause-ok c = settled_as (last_flags c.args.sections.now) c.args.kept c.args.len c.args.count c.args.canonical c.args.bytes.now.items c.requires.inside c.if-canonical.true c.requires.joins
+returns-then-canonical-clause-ok c =
+    settled_as (last_flags c.args.sections.now) c.args.kept c.args.len c.args.count c.args.canonical
+    c.args.bytes.now.items c.requires.inside c.if-canonical.true c.requires.joins
 
 pub respell-requires-clause-fit : goal.respell-requires-clause-fit
 respell-requires-clause-fit c =
@@ -24,4 +26,5 @@ returns-in-Some-clause-ok c =
     let section = c.in-Some.section.now in
     let last = last_found c.args.sections.now section section.shape.flags (sym c.in-Some.ensures.value) refl in
     let columns = c.len.ensures ∙ ap (λ s. length s.flags) c.shape.ensures in
-    respelled c.respell.result (last_flags c.args.sections.now) section.shape.flags c.len.result c.args.kept c.args.len c.args.bytes.now.items c.respell.new.bytes.items last columns c.respell.ensures.ok c.respell.ensures.own
+    respelled c.respell.result (last_flags c.args.sections.now) section.shape.flags c.len.result c.args.kept c.args.len
+    c.args.bytes.now.items c.respell.new.bytes.items last columns c.respell.ensures.ok c.respell.ensures.own

@@ -4,11 +4,16 @@ use Rattle.cs_parse.proofs.feeding.SectionFronts.{next_refused, next_read}
 use Rattle.cs_parse.proofs.section.next_section.Goals as goal
 
 pub returns-in-Err : goal.returns-in-Err
-returns-in-Err c = next_refused c.args.sections.now.items c.args.bytes.now c.in-Err.why (λ i. omega (arith, c.type_inv.bytes i)) c.requires c.in-Err.ensures
+returns-in-Err c = next_refused c.args.sections.now.items c.args.bytes.now c.in-Err.why
+    (λ i. omega (arith, c.type_inv.bytes i)) c.requires c.in-Err.ensures
 
 pub returns : goal.returns
 returns c =
     let shape = shape_seen c.in-Ok.read.0 in
-    next_read c.args.sections.now.items c.push.new.self.items c.args.bytes.now c.in-Ok.read.1.now c.in_ok-changes.rest.now shape c.in_ok-changes.changes.1 c.in_ok-changes.why (λ i. omega (arith, c.type_inv.bytes i)) c.in-Ok.ensures
+    next_read c.args.sections.now.items c.push.new.self.items c.args.bytes.now c.in-Ok.read.1.now
+    c.in_ok-changes.rest.now shape c.in_ok-changes.changes.1 c.in_ok-changes.why
+    (λ i. omega (arith, c.type_inv.bytes i)) c.in-Ok.ensures
     c.in_ok-changes.ensures.changes c.in_ok-changes.ensures.rest c.in_ok-changes.ensures.why
-    (c.in_ok-push.ensures.items ∙ ap (λ s. c.args.sections.now.items ++ s ∷ []) (c.new.ensures ∙ ap (λ w. record { shape = w; changes = c.in_ok-changes.changes.1 }) c.in_ok-shape_of.ensures))
+    (c.in_ok-push.ensures.items
+    ∙ ap (λ s. c.args.sections.now.items ++ s ∷ [])
+    (c.new.ensures ∙ ap (λ w. record { shape = w; changes = c.in_ok-changes.changes.1 }) c.in_ok-shape_of.ensures))

@@ -9,5 +9,6 @@ abbrev pub invariant-loop : goal.invariant-loop
 invariant-loop l = record {
   fits : AreBytes l.rest;
   few : l.count + length l.rest ≤ length l.bytes;
-  reads : with_count changes_in l.count (many_at is_empty section_at (length l.bytes - l.counter) l.rest) ≡ counted changes_in (many_at is_empty section_at (length l.bytes) l.bytes);
+  reads : with_count changes_in l.count (many_at is_empty section_at (length l.bytes - l.counter) l.rest)
+      ≡ counted changes_in (many_at is_empty section_at (length l.bytes) l.bytes);
 }

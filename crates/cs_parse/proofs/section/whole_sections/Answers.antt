@@ -8,6 +8,7 @@ pub returns : goal.returns
 returns c =
     let empty : length c.loop.rest.now ≡ 0 = elim c.loop-test.branch [
       | else-loop-test w ↦ omega (arith, w.loop-test.false, c.loop.invariant.few)
-      | then-loop-test+then-is_empty w ↦ eqb-true (length c.loop.rest.now) 0 (sym w.is_empty.ensures ∙ w.if-is_empty.true)
+      | then-loop-test+then-is_empty w ↦ eqb-true (length c.loop.rest.now) 0
+          (sym w.is_empty.ensures ∙ w.if-is_empty.true)
     ] in
     along_ends c.loop.sections.items c.loop.rest.now c.args.bytes.now empty c.loop.invariant.along

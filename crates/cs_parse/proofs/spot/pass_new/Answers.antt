@@ -22,10 +22,15 @@ returns-in-Err-Short-clause-halts c = λ before left h.
     let rest = c.loop-passed.rest.now in
     let first = field_seen c.in-Ok.field in
     let so_far = c.loop-passed.invariant.reads before left h in
-    let old_reads : field_at (old_rule (get_or flags i 0)) old ≡ Ok (first, c.in-Ok.old_after.now) = sym (ap (λ r. field_at r old) c.rule_by_flag-rule.ensures) ∙ c.in-Ok.ensures.read in
-    let begins = old_more flags before left i old first c.in-Ok.old_after.now c.loop-passed-test.true old_reads so_far.0 in
-    let fails = sym (same_field (rule_of c.rule_by_old.result) (new_rule (get_or flags i 0) first) rest (λ byte. c.rule_by_old.ensures byte first (sym c.has_value.ensures))) ∙ c.in-Err-Short.ensures.read in
-    new_halt flags before left c.args.bytes.now i first old rest c.in-Err-Short.field-0 c.loop-passed-test.true begins.0 so_far.0 fails c.in-Err-Short.field-0-is so_far.1
+    let old_reads : field_at (old_rule (get_or flags i 0)) old ≡ Ok (first, c.in-Ok.old_after.now) =
+    sym (ap (λ r. field_at r old) c.rule_by_flag-rule.ensures) ∙ c.in-Ok.ensures.read in
+    let begins = old_more flags before left i old first c.in-Ok.old_after.now c.loop-passed-test.true old_reads
+    so_far.0 in
+    let fails =
+    sym (same_field (rule_of c.rule_by_old.result) (new_rule (get_or flags i 0) first) rest
+    (λ byte. c.rule_by_old.ensures byte first (sym c.has_value.ensures))) ∙ c.in-Err-Short.ensures.read in
+    new_halt flags before left c.args.bytes.now i first old rest c.in-Err-Short.field-0 c.loop-passed-test.true begins.0
+    so_far.0 fails c.in-Err-Short.field-0-is so_far.1
 
 pub loop-passed-preserved : goal.loop-passed-preserved
 loop-passed-preserved c =
@@ -37,12 +42,19 @@ loop-passed-preserved c =
     let after = c.in-Ok.old_after.now in
     let old_fits : AreBytes c.args.old.now = λ k. omega (arith, c.type_inv.old k) in
     let fits : AreBytes c.args.bytes.now = λ k. omega (arith, c.type_inv.bytes k) in
-    let old_reads : field_at (old_rule (get_or flags i 0)) old ≡ Ok (first, after) = sym (ap (λ r. field_at r old) c.rule_by_flag-rule.ensures) ∙ c.in-Ok.ensures.read in
-    let reads = sym (same_field (rule_of c.rule_by_old.result) (new_rule (get_or flags i 0) first) rest (λ byte. c.rule_by_old.ensures byte first (sym c.has_value.ensures))) ∙ c.in-Ok-field_in.ensures.read in
+    let old_reads : field_at (old_rule (get_or flags i 0)) old ≡ Ok (first, after) =
+    sym (ap (λ r. field_at r old) c.rule_by_flag-rule.ensures) ∙ c.in-Ok.ensures.read in
+    let reads =
+    sym (same_field (rule_of c.rule_by_old.result) (new_rule (get_or flags i 0) first) rest
+    (λ byte. c.rule_by_old.ensures byte first (sym c.has_value.ensures))) ∙ c.in-Ok-field_in.ensures.read in
     record {
-      back = back_field (old_rule (get_or flags i 0)) c.args.old.now old first after old_fits c.loop-passed.invariant.back old_reads;
+      back = back_field (old_rule (get_or flags i 0)) c.args.old.now old first after old_fits
+          c.loop-passed.invariant.back old_reads;
       reads = λ before left h. (
           let so_far = c.loop-passed.invariant.reads before left h in
-          let begins = old_more flags before left i old first after c.loop-passed-test.true old_reads so_far.0 in
-          (begins.1, new_more flags before c.args.bytes.now i first rest _ c.in-Ok-field_in.after.now fits c.loop-passed-test.true begins.0 reads so_far.1));
+          let begins = old_more flags before left i old first after c.loop-passed-test.true old_reads so_far.0 in (
+            begins.1,
+            new_more flags before c.args.bytes.now i first rest _ c.in-Ok-field_in.after.now fits
+                c.loop-passed-test.true begins.0 reads so_far.1,
+          ));
     }

@@ -8,4 +8,5 @@ pub slice_bounds-cut_of-end : goal.slice_bounds-cut_of-end
 slice_bounds-cut_of-end c = front_long most_bytes c.args.text.now c.if-text-gt-MOST_BYTES.true
 
 pub returns-then-text-gt-MOST_BYTES : goal.returns-then-text-gt-MOST_BYTES
-returns-then-text-gt-MOST_BYTES c = sym (ap counted_answer (sym (answer_cut c.args.text.now c.if-text-gt-MOST_BYTES.true) ∙ c.cut_of.ensures))
+returns-then-text-gt-MOST_BYTES c =
+    sym (ap counted_answer (sym (answer_cut c.args.text.now c.if-text-gt-MOST_BYTES.true) ∙ c.cut_of.ensures))

@@ -9,7 +9,8 @@ use Rattle.cs_write.proofs.form.canonical.Goals as goal
 pub from_seq-requires : goal.from_seq-requires
 from_seq-requires c =
     let is : c.from_vec.result ≡ canon c.args.changeset.now =
-    c.from_vec.ensures ∙ c.in_ok-form.ensures ∙ ap canon_of (c.in_ok-groups.ensures ∙ ap (by_shape []) c.sections.ensures.same) in
+    c.from_vec.ensures ∙ c.in_ok-form.ensures
+    ∙ ap canon_of (c.in_ok-groups.ensures ∙ ap (by_shape []) c.sections.ensures.same) in
     subst IsChangeset (sym is) (canon_fits c.args.changeset.now c.sections.ensures.valid)
 
 pub form_of-requires : goal.form_of-requires

@@ -9,5 +9,6 @@ abbrev pub invariant-loop-section : goal.invariant-loop-section
 invariant-loop-section l = record {
   columns : l.changes.0 ≡ l.columns;
   left : AllByRecursion (HasColumns l.columns) (sections_of (drop l.section-index l.sections));
-  made : l.changes.1 ++ all_changes (sections_of (drop l.section-index l.sections)) ≡ all_changes (sections_of l.sections);
+  made : l.changes.1 ++ all_changes (sections_of (drop l.section-index l.sections))
+      ≡ all_changes (sections_of l.sections);
 }

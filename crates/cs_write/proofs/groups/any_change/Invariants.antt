@@ -5,4 +5,5 @@ use Rattle.cs_write.proofs.groups.any_change.Given as goal
 
 -- the changes of the sections that are left are all there are
 abbrev pub invariant-loop-section : goal.invariant-loop-section
-invariant-loop-section l = all_changes (sections_of (drop l.section-index l.sections)) ≡ all_changes (sections_of l.sections)
+invariant-loop-section l = all_changes (sections_of (drop l.section-index l.sections))
+    ≡ all_changes (sections_of l.sections)

@@ -7,6 +7,8 @@ pub returns : goal.returns
 returns c =
     let flags : length c.deref-flags.result.now ≡ length c.args.shape.now.flags = ap length c.deref-flags.ensures in
     let name : length c.deref-name.result.now ≡ length c.args.shape.now.name = ap length c.deref-name.ensures in
-    let count : length (varint (length c.deref-flags.result.now)) ≡ length (varint (length c.args.shape.now.flags)) = ap (λ n. length (varint n)) flags in
+    let count : length (varint (length c.deref-flags.result.now)) ≡ length (varint (length c.args.shape.now.flags)) =
+    ap (λ n. length (varint n)) flags in
     let names = c.in_ok-names.ensures in
-    checked c.in_ok-names.names (2 + c.varint_len.result) _ c.checked_add-2.result c.checked_add-2.ensures (simp length-append (omega (arith, names, flags, name, count)))
+    checked c.in_ok-names.names (2 + c.varint_len.result) _ c.checked_add-2.result c.checked_add-2.ensures
+    (simp length-append (omega (arith, names, flags, name, count)))

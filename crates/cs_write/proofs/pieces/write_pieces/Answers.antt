@@ -30,4 +30,5 @@ pub returns-in_err-put : goal.returns-in_err-put
 returns-in_err-put g c =
     let was = c.loop-piece.invariant in
     let error = err_from_is_err_and c.from_residual-in_err-put.result c.from_residual-in_err-put.ensures.1 in
-    rw (error.1, error.2) (stops c.requires was.so_far (cut_off was.size c.in-Some.ensures.steps) c.in_err-put.ensures.none_taken c.in_err-put.ensures.failed)
+    rw (error.1, error.2) (stops c.requires was.so_far (cut_off was.size c.in-Some.ensures.steps)
+    c.in_err-put.ensures.none_taken c.in_err-put.ensures.failed)

@@ -14,7 +14,8 @@ returns-then-not-any_change-clause-bytes c =
     let at = c.args.at in
     let out = c.args.out.now in
     let group : Group = (c.args.shape.now, sections_of c.args.sections.now) in
-    sym (laid_none at out) ∙ ap (λ b. laid at (cond b (section_text (joined_section group)) []) out) c.if-not-any_change.ensures
+    sym (laid_none at out) ∙ ap (λ b. laid at (cond b (section_text (joined_section group)) []) out)
+    c.if-not-any_change.ensures
 
 pub returns-clause-bytes : goal.returns-clause-bytes
 returns-clause-bytes c =
@@ -22,6 +23,14 @@ returns-clause-bytes c =
     let out = c.args.out.now in
     let shape = c.args.shape.now in
     let sections = sections_of c.args.sections.now in
-    let text : section_text (joined_section (shape, sections)) ≡ group_text (shape, sections) = ap (λ b. cond b (section_text (joined_section (shape, sections))) []) c.if-not-any_change.ensures in
-    let room : at + length (header_text shape) ≤ length out = omega (arith, c.requires, ap length text, length-append (header_text shape) (changes_bytes (all_changes sections))) in
-    two _ _ _ _ _ _ _ room c.put_header-end.ensures.end c.put_header-end.ensures.bytes c.put_sections.ensures.bytes ∙ ap (λ t. laid at t out) text
+    let text : section_text (joined_section (shape, sections)) ≡ group_text (shape, sections) =
+    ap (λ b. cond b (section_text (joined_section (shape, sections))) []) c.if-not-any_change.ensures in
+    let room : at + length (header_text shape) ≤ length out =
+    omega (
+      arith,
+      c.requires,
+      ap length text,
+      length-append (header_text shape) (changes_bytes (all_changes sections)),
+    ) in
+    two _ _ _ _ _ _ _ room c.put_header-end.ensures.end c.put_header-end.ensures.bytes c.put_sections.ensures.bytes
+    ∙ ap (λ t. laid at t out) text

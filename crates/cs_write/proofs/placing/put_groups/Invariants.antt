@@ -4,4 +4,5 @@ use Rattle.cs_write.proofs.Laying.{LayingLaid}
 use Rattle.cs_write.proofs.placing.put_groups.Given as goal
 
 abbrev pub invariant-loop-shape : goal.invariant-loop-shape
-invariant-loop-shape l = LayingLaid l.end (groups_text (seen l.shape-iterator)) l.out l.at (groups_text (seen l.groups.entries)) l.initial.out
+invariant-loop-shape l = LayingLaid l.end (groups_text (seen l.shape-iterator)) l.out l.at
+    (groups_text (seen l.groups.entries)) l.initial.out

@@ -6,4 +6,6 @@ use Rattle.cs_write.proofs.Laying.{LayingLaid}
 use Rattle.cs_write.proofs.placing.put_sections.Given as goal
 
 abbrev pub invariant-loop-section : goal.invariant-loop-section
-invariant-loop-section l = LayingLaid l.end (changes_bytes (all_changes (sections_of (drop l.section-index l.sections)))) l.out l.at (changes_bytes (all_changes (sections_of l.sections))) l.initial.out
+invariant-loop-section l =
+    LayingLaid l.end (changes_bytes (all_changes (sections_of (drop l.section-index l.sections)))) l.out l.at
+    (changes_bytes (all_changes (sections_of l.sections))) l.initial.out

@@ -12,7 +12,8 @@ pub returns-then-not-any_change : goal.returns-then-not-any_change
 returns-then-not-any_change c =
     let shape = c.args.shape.now in
     let sections = sections_of c.args.sections.now in
-    held-small 0 (omega arith) ∙ ap (λ b. held (length (cond b (section_text (joined_section (shape, sections))) []))) c.if-not-any_change.ensures
+    held-small 0 (omega arith) ∙ ap (λ b. held (length (cond b (section_text (joined_section (shape, sections))) [])))
+    c.if-not-any_change.ensures
 
 pub returns : goal.returns
 returns c =

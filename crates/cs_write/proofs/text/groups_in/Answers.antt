@@ -13,5 +13,6 @@ returns c =
     c.groups_of.result
     (λ groups. seen groups.entries ≡ by_shape [] c.sections.result.now)
     (λ groups. groups_text (seen groups.entries) ≡ text_of c.args.changeset.now)
-    (λ groups are. ap groups_text (are ∙ ap (by_shape []) c.sections.ensures.same) ∙ groups_are (by_shape [] c.args.changeset.now))
+    (λ groups are. ap groups_text (are ∙ ap (by_shape []) c.sections.ensures.same)
+    ∙ groups_are (by_shape [] c.args.changeset.now))
     c.groups_of.ensures

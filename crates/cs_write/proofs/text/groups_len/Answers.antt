@@ -7,7 +7,8 @@ pub loop-shape-init : goal.loop-shape-init
 loop-shape-init c = held_begins _ _ (grind (arith, common_steps))
 
 pub loop-shape-preserved : goal.loop-shape-preserved
-loop-shape-preserved c = held_goes_on _ _ _ _ _ _ _ c.plus-len.ensures c.group_len.ensures c.loop-shape.invariant (grind (arith, common_steps))
+loop-shape-preserved c = held_goes_on _ _ _ _ _ _ _ c.plus-len.ensures c.group_len.ensures c.loop-shape.invariant
+    (grind (arith, common_steps))
 
 pub returns : goal.returns
 returns c = held_ends _ _ _ (grind (arith, common_steps)) c.loop-shape.invariant

@@ -5,4 +5,5 @@ use Rattle.cs_write.proofs.Held.{HeldCounted}
 use Rattle.cs_write.proofs.text.groups_len.Given as goal
 
 abbrev pub invariant-loop-shape : goal.invariant-loop-shape
-invariant-loop-shape l = HeldCounted l.len (length (groups_text (seen l.shape-iterator))) (length (groups_text (seen l.groups.entries)))
+invariant-loop-shape l = HeldCounted l.len (length (groups_text (seen l.shape-iterator)))
+    (length (groups_text (seen l.groups.entries)))

@@ -5,4 +5,5 @@ use Rattle.cs_write.specs.Seen.{sections_of}
 use Rattle.cs_write.proofs.text.push_sections.Given as goal
 
 abbrev pub invariant-loop-section : goal.invariant-loop-section
-invariant-loop-section l = l.out.items ++ changes_bytes (all_changes (sections_of (drop l.section-index l.sections))) ≡ l.initial.out.items ++ changes_bytes (all_changes (sections_of l.sections))
+invariant-loop-section l = l.out.items ++ changes_bytes (all_changes (sections_of (drop l.section-index l.sections)))
+    ≡ l.initial.out.items ++ changes_bytes (all_changes (sections_of l.sections))

@@ -6,4 +6,6 @@ use Rattle.cs_write.proofs.Held.{HeldCounted}
 use Rattle.cs_write.proofs.text.sections_len.Given as goal
 
 abbrev pub invariant-loop-section : goal.invariant-loop-section
-invariant-loop-section l = HeldCounted l.len (length (changes_bytes (all_changes (sections_of (drop l.section-index l.sections))))) (length (changes_bytes (all_changes (sections_of l.sections))))
+invariant-loop-section l =
+    HeldCounted l.len (length (changes_bytes (all_changes (sections_of (drop l.section-index l.sections)))))
+    (length (changes_bytes (all_changes (sections_of l.sections))))

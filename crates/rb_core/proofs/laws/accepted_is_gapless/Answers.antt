@@ -4,4 +4,5 @@ use Rattle.rb_core.proofs.laws.accepted_is_gapless.Goals as goal
 
 pub returns : goal.returns
 returns c = λ limits schema events answers new s subscriber run found.
-    gapless_run c.accepted_is_gapless.ensures schema new (world_told schema events answers) s subscriber (c.runs_are_told.ensures.told limits schema events answers new run) found
+    gapless_run c.accepted_is_gapless.ensures schema new (world_told schema events answers) s subscriber
+    (c.runs_are_told.ensures.told limits schema events answers new run) found

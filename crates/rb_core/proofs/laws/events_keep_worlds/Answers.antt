@@ -19,4 +19,5 @@ returns c = λ old event given new good is.
       places = c.calls_show_in_outline.ensures.place;
       closes = c.calls_show_in_outline.ensures.close;
     } in
-    subst (λ (x : Reply × State). IsWorld x.1) is (event_keeps c.calls_keep_pictures.ensures shows c.accepting_is_step.ensures old event good)
+    subst (λ (x : Reply × State). IsWorld x.1) is
+    (event_keeps c.calls_keep_pictures.ensures shows c.accepting_is_step.ensures old event good)

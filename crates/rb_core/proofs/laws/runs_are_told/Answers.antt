@@ -24,10 +24,12 @@ laws_of c = record {
 
 pub returns-clause-told : goal.returns-clause-told
 returns-clause-told c = λ limits schema events answers new run.
-    tell_runs_are_told (laws_of c) limits schema events answers new (c.replays_are_pictures.ensures limits [] run.ranges)
-        run.feeds run.run
+    tell_runs_are_told (laws_of c) limits schema events answers new
+    (c.replays_are_pictures.ensures limits [] run.ranges)
+    run.feeds run.run
 
 pub returns-clause-goes_on : goal.returns-clause-goes_on
 returns-clause-goes_on c = λ limits schema events more answers later mid new run on.
-    tell_runs_go_on (laws_of c) limits schema events more answers later mid new (c.replays_are_pictures.ensures limits [] run.ranges)
-        run.feeds on.feeds run.run on.run
+    tell_runs_go_on (laws_of c) limits schema events more answers later mid new
+    (c.replays_are_pictures.ensures limits [] run.ranges)
+    run.feeds on.feeds run.run on.run

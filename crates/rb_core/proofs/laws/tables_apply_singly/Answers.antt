@@ -4,4 +4,5 @@ use Rattle.rb_core.proofs.laws.tables_apply_singly.Goals as goal
 
 pub returns : goal.returns
 returns c = λ limits schema events answers new s subscriber run found.
-    singly_run c.tables_apply_singly.ensures schema new (world_told schema events answers) s subscriber (c.runs_are_told.ensures.told limits schema events answers new run) found
+    singly_run c.tables_apply_singly.ensures schema new (world_told schema events answers) s subscriber
+    (c.runs_are_told.ensures.told limits schema events answers new run) found

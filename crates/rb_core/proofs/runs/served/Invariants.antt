@@ -7,4 +7,5 @@ use Rattle.rb_core.proofs.runs.served.Given as goal
 -- The world so far is what a run of the events so far leaves, and what these feed are bytes.
 abbrev pub invariant-loop-event : goal.invariant-loop-event
 invariant-loop-event l =
-    Run (empty_world l.fn.config l.fn.schema) (take l.event-index l.events) l.answers.items l.world × AllByRecursion FeedsBytes (take l.event-index l.events)
+    Run (empty_world l.fn.config l.fn.schema) (take l.event-index l.events) l.answers.items l.world
+    × AllByRecursion FeedsBytes (take l.event-index l.events)

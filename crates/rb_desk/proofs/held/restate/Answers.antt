@@ -9,7 +9,9 @@ loop-i-preserved c =
     let change : Held → Held = stated c.args.first c.args.status c.args.ticket in
     let d = c.index-found.result.now in
     let next : c.loop-i.i + 1 ≡ suc c.loop-i.i = omega arith in
-    let got = c.stated.ensures ∙ ap change (c.index-found.ensures ∙ ap (λ xs. get_or xs c.loop-i.i d) c.loop-i.invariant) in
+    let got = c.stated.ensures
+    ∙ ap change (c.index-found.ensures ∙ ap (λ xs. get_or xs c.loop-i.i d) c.loop-i.invariant) in
     (λ j. slice_set (c.loop-i.invariant j) c.loop-i.i (got j))
-    ∙ one_stated change c.args.lane.now.items c.loop-i.i d (omega (arith, c.loop-i-test.true, c.len-i-end.ensures, c.args.lane.now.ok))
+    ∙ one_stated change c.args.lane.now.items c.loop-i.i d
+    (omega (arith, c.loop-i-test.true, c.len-i-end.ensures, c.args.lane.now.ok))
     ∙ ap (λ n. map change (take n c.args.lane.now.items) ++ drop n c.args.lane.now.items) (sym next)

@@ -4,4 +4,6 @@ use Rattle.rb_desk.proofs.settling.expire_all.Given as goal
 
 -- of those seen the spans that are due went back, and the others are as they were
 abbrev pub invariant-loop-i : goal.invariant-loop-i
-invariant-loop-i l = l.subs.items ≡ map (expired_sub l.timeout l.clock (by_number (turns_from l.latest.front l.latest.turn))) (take l.i l.initial.subs.items) ++ drop l.i l.initial.subs.items
+invariant-loop-i l = l.subs.items
+    ≡ map (expired_sub l.timeout l.clock (by_number (turns_from l.latest.front l.latest.turn)))
+    (take l.i l.initial.subs.items) ++ drop l.i l.initial.subs.items

@@ -19,7 +19,8 @@ returns c found here =
     let same : c.index_mut-found.result.now ≡ found = c.index_mut-found.ensures.value
     ∙ get_or_from_slice_get c.args.subs.now.items c.args.sub found c.index_mut-found.result.now here in
     let clock : c.max-taken.result ≡ max c.args.clock.now c.args.now = c.max-taken.ensures in
-    let made : c.deliver.new.self ≡ delivered_sub found c.args.span c.args.next_delivery.now (max c.args.clock.now c.args.now) =
+    let made : c.deliver.new.self
+    ≡ delivered_sub found c.args.span c.args.next_delivery.now (max c.args.clock.now c.args.now) =
     c.in_ok-deliver.ensures.ok ∙ (λ i. delivered_sub (same i) c.args.span c.args.next_delivery.now (clock i)) in
     record {
       delivery_is = c.of.ensures ∙ ap (λ (sub : Sub). record {

@@ -7,5 +7,10 @@ use Rattle.rb_script.proofs.laws.accepted_lines_are_gapless.Goals as goal
 pub returns : goal.returns
 returns c = λ config lines ranges.
     let run = c.scripts_are_runs.ensures config lines in
-    let new = world_of config (stage_after config (Tables []) lines) in
-    (run.0, λ s subscriber found. (c.accepted_is_gapless.ensures config run.0 (lines_events lines) (lines_replies config (Tables []) lines) new s subscriber ranges (c.scripts_feed_bytes.ensures lines) run.1 found).0)
+    let new = world_of config (stage_after config (Tables []) lines) in (
+      run.0,
+      λ s subscriber found.
+          (c.accepted_is_gapless.ensures config run.0 (lines_events lines)
+          (lines_replies config (Tables []) lines) new s
+          subscriber ranges (c.scripts_feed_bytes.ensures lines) run.1 found).0,
+    )

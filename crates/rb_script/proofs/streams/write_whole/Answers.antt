@@ -3,7 +3,8 @@ use Rattle.rb_script.proofs.StreamLaws.{length-rest, writes_more, stops_writing,
 use Rattle.rb_script.proofs.streams.write_whole.Goals as goal
 
 pub returns-in_err-at-clause-err : goal.returns-in_err-at-clause-err
-returns-in_err-at-clause-err g c = on_err _ _ (stops_writing _ _ _ c.args.bytes.now c.loop.at c.loop.invariant.so_far c.in_err-at.ensures.err)
+returns-in_err-at-clause-err g c =
+    on_err _ _ (stops_writing _ _ _ c.args.bytes.now c.loop.at c.loop.invariant.so_far c.in_err-at.ensures.err)
 
 pub loop-preserved : goal.loop-preserved
 loop-preserved g c =
@@ -12,5 +13,6 @@ loop-preserved g c =
     record {
       in_range = omega (arith, within, length-rest c.loop.at c.args.bytes.now);
       as_far = omega (arith, moved);
-      so_far = writes_more _ _ _ c.args.bytes.now c.loop.at c.in_ok-at.field-0 c.loop.invariant.so_far c.in_ok-at.ensures.ok;
+      so_far = writes_more _ _ _ c.args.bytes.now c.loop.at c.in_ok-at.field-0 c.loop.invariant.so_far
+          c.in_ok-at.ensures.ok;
     }

@@ -5,4 +5,5 @@ use Rattle.rb_script.proofs.texts.add_row.Given as goal
 
 -- the text so far, and that of the values that are left, are the text of all
 abbrev pub invariant-loop-value : goal.invariant-loop-value
-invariant-loop-value l = l.text.items ++ flat_map field_text l.value-iterator ≡ l.initial.text.items ++ flat_map value_text l.row
+invariant-loop-value l = l.text.items ++ flat_map field_text l.value-iterator ≡ l.initial.text.items
+    ++ flat_map value_text l.row

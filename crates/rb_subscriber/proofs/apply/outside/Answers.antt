@@ -9,15 +9,22 @@ loop-entry-init c = refl
 
 pub returns-then-is_err : goal.returns-then-is_err
 returns-then-is_err c =
-    let front = at_front c.args.entries.now c.loop-entry.entry-index c.entry-item.result c.loop-entry-test.true c.entry-item.is in
-    let refused = subst (λ body. IfErr c.admits.result (λ fault. refusal_of c.args.schema.now body ≡ Some fault)) c.body.ensures c.admits.ensures.refused in
-    found_outside c.args.schema.now c.args.entries.now c.loop-entry.entry-index c.entry-item.result c.admits.result front refused (sym c.is_err.ensures.value ∙ c.if-is_err.true) c.loop-entry.invariant
+    let front = at_front c.args.entries.now c.loop-entry.entry-index c.entry-item.result c.loop-entry-test.true
+    c.entry-item.is in
+    let refused = subst (λ body. IfErr c.admits.result (λ fault. refusal_of c.args.schema.now body ≡ Some fault))
+    c.body.ensures c.admits.ensures.refused in
+    found_outside c.args.schema.now c.args.entries.now c.loop-entry.entry-index c.entry-item.result c.admits.result
+    front refused (sym c.is_err.ensures.value ∙ c.if-is_err.true) c.loop-entry.invariant
 
 pub loop-entry-preserved : goal.loop-entry-preserved
 loop-entry-preserved c =
-    let front = at_front c.args.entries.now c.loop-entry.entry-index c.entry-item.result c.loop-entry-test.true c.entry-item.is in
-    let ok = subst (λ body. OnOk c.admits.result (refusal_of c.args.schema.now body ≡ None)) c.body.ensures c.admits.ensures.ok in
-    goes_past c.args.schema.now c.args.entries.now c.loop-entry.entry-index c.entry-item.result c.admits.result front ok (sym c.is_err.ensures.value ∙ c.if-is_err.false) c.loop-entry.invariant
+    let front = at_front c.args.entries.now c.loop-entry.entry-index c.entry-item.result c.loop-entry-test.true
+    c.entry-item.is in
+    let ok = subst (λ body. OnOk c.admits.result (refusal_of c.args.schema.now body ≡ None)) c.body.ensures
+    c.admits.ensures.ok in
+    goes_past c.args.schema.now c.args.entries.now c.loop-entry.entry-index c.entry-item.result c.admits.result front ok
+    (sym c.is_err.ensures.value ∙ c.if-is_err.false) c.loop-entry.invariant
 
 pub returns : goal.returns
-returns c = none_found c.args.schema.now c.args.entries.now c.loop-entry.entry-index c.loop-entry-test.false c.loop-entry.invariant
+returns c = none_found c.args.schema.now c.args.entries.now c.loop-entry.entry-index c.loop-entry-test.false
+    c.loop-entry.invariant

@@ -8,4 +8,6 @@ use Rattle.cs_apply.proofs.places.Places.keep.Goals as goal
 pub returns-then-self-len-clause-rows : goal.returns-then-self-len-clause-rows
 returns-then-self-len-clause-rows c =
     let es = c.args.self.now.rows.entries in
-    ap (λ l. map.from_entries (filled l)) (filter_same_pairs _ (λ e. is_some e.1) _ (λ k v b w g call. search rules) es _ c.retain.ensures.filtered) ∙ ap map.from_entries (filled-swept es)
+    ap (λ l. map.from_entries (filled l))
+    (filter_same_pairs _ (λ e. is_some e.1) _ (λ k v b w g call. search rules) es _ c.retain.ensures.filtered)
+    ∙ ap map.from_entries (filled-swept es)

@@ -6,17 +6,26 @@ use Rattle.cs_model.proofs.changes.Changes.push.Goals as goal
 
 pub overflow_add-self : goal.overflow_add-self
 overflow_add-self c =
-    let mine = no_more c.self.inside.columns c.self.inside.count c.self.inside.bytes.items c.self.invariant.0 c.self.invariant.1 in
-    omega (arith, ap length c.in_ok-change_push.ensures.ok, length-append c.self.inside.bytes.items (change_bytes (change_of c.args.op c.args.indirect c.args.before.now c.args.after.now)))
+    let mine = no_more c.self.inside.columns c.self.inside.count c.self.inside.bytes.items c.self.invariant.0
+    c.self.invariant.1 in
+    omega (
+      arith,
+      ap length c.in_ok-change_push.ensures.ok,
+      length-append c.self.inside.bytes.items
+          (change_bytes (change_of c.args.op c.args.indirect c.args.before.now c.args.after.now)),
+    )
 
 pub invariant_of-self-2 : goal.invariant_of-self-2
 invariant_of-self-2 c =
     let p = c.in_ok-change_push.ensures in
-    let all = list_pushed c.self.inside.columns c.self.inside.count _ _ _ c.args.op c.args.indirect _ _ c.self.invariant c.self.view_is c.requires p.before p.after p.ok in
+    let all = list_pushed c.self.inside.columns c.self.inside.count _ _ _ c.args.op c.args.indirect _ _ c.self.invariant
+    c.self.view_is c.requires p.before p.after p.ok in
     (all.packs, all.counted)
 
 pub returns-clause-ok : goal.returns-clause-ok
 returns-clause-ok c =
     let p = c.in_ok-change_push.ensures in
-    let all = list_pushed c.self.inside.columns c.self.inside.count _ _ _ c.args.op c.args.indirect _ _ c.self.invariant c.self.view_is c.requires p.before p.after p.ok in
-    all.says ∙ ap (λ (v : ℕ × List Change). v.1 ++ change_of c.args.op c.args.indirect c.args.before.now c.args.after.now ∷ []) c.self.view_is
+    let all = list_pushed c.self.inside.columns c.self.inside.count _ _ _ c.args.op c.args.indirect _ _ c.self.invariant
+    c.self.view_is c.requires p.before p.after p.ok in
+    all.says ∙ ap (λ (v : ℕ × List Change). v.1
+    ++ change_of c.args.op c.args.indirect c.args.before.now c.args.after.now ∷ []) c.self.view_is

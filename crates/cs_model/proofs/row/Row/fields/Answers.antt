@@ -4,4 +4,5 @@ use Rattle.cs_model.proofs.RowLaws.{row_seen}
 use Rattle.cs_model.proofs.row.Row.fields.Goals as goal
 
 pub returns : goal.returns
-returns c = c.of.ensures ∙ (ap unpacked c.deref.ensures.value ∙ row_seen c.self.inside.bytes.items _ c.self.invariant c.self.view_is)
+returns c = c.of.ensures ∙ (ap unpacked c.deref.ensures.value
+    ∙ row_seen c.self.inside.bytes.items _ c.self.invariant c.self.view_is)

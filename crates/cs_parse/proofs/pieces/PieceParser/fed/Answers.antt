@@ -15,17 +15,23 @@ invariant_of-self-then-no_end c =
     let none = c.no_end.ensures c.if-no_end.true in
     let new_is = sym c.in_ok-append.ensures.ok in (
       omega (arith, c.self.invariant.0, c.if-piece-self.true),
-      subst (λ (t : List Section × List ℕ). KeepsSpot (last_flags t.0) t.1 old.spot) new_is (keeps_more (last_flags old.text.0) old.text.1 piece old.spot fits c.self.invariant.1),
-      subst (λ (t : List Section × List ℕ). IsPaused old.fault t.0 t.1 old.header (old.lacking - length piece)) new_is (paused_behind old.fault old.text.0 old.text.1 piece old.header old.lacking c.if-piece-self.true none c.self.invariant.2),
+      subst (λ (t : List Section × List ℕ). KeepsSpot (last_flags t.0) t.1 old.spot) new_is
+          (keeps_more (last_flags old.text.0) old.text.1 piece old.spot fits c.self.invariant.1),
+      subst (λ (t : List Section × List ℕ). IsPaused old.fault t.0 t.1 old.header (old.lacking - length piece)) new_is
+          (paused_behind old.fault old.text.0 old.text.1 piece old.header old.lacking c.if-piece-self.true none
+          c.self.invariant.2),
     )
 
 pub returns-then-no_end-clause-fed : goal.returns-then-no_end-clause-fed
 returns-then-no_end-clause-fed c =
     let old = c.self.inside in
     let piece = c.args.piece.now in
-    let seen : Progress = record { sections = old.text.0; pending = old.text.1; offset = old.offset; fault = old.fault } in
-    let put : List Section × List ℕ → Progress = λ t. record { sections = t.0; pending = t.1; offset = old.offset + length piece; fault = old.fault } in
+    let seen : Progress = record { sections = old.text.0; pending = old.text.1; offset = old.offset; fault = old.fault }
+    in
+    let put : List Section × List ℕ → Progress =
+    λ t. record { sections = t.0; pending = t.1; offset = old.offset + length piece; fault = old.fault } in
     let none = c.no_end.ensures c.if-no_end.true in
     let new = put c.append.new.self in
     subst (λ p. ((advanced p piece).fault ≡ None) × (new ≡ advanced p piece)) c.self.view_is
-    (paused_fed seen new piece old.header old.lacking c.self.invariant.0 c.if-piece-self.true none c.self.invariant.2 (ap put c.in_ok-append.ensures.ok))
+    (paused_fed seen new piece old.header old.lacking c.self.invariant.0 c.if-piece-self.true none c.self.invariant.2
+    (ap put c.in_ok-append.ensures.ok))

@@ -9,9 +9,12 @@ invariant_of-self-then-lacking-gt0 c =
     let text = c.extend.new.self in
     let w = c.still_waits-lacking in
     let header = w.result.1 in
-    let lacks = subst (λ b. WaitsFor text.0 b header w.result.0) c.waiting.ensures (w.ensures.lacks text.0 (sym c.sections.ensures.flags)) in
+    let lacks = subst (λ b. WaitsFor text.0 b header w.result.0) c.waiting.ensures
+    (w.ensures.lacks text.0 (sym c.sections.ensures.flags)) in
     let least = c.min-self-inside.result in (
       omega (arith, c.min-self-inside.ensures, c.requires.within, ap (λ p. p.offset) c.self.view_is),
-      keeps_as (last_flags c.sections.result.now) (last_flags text.0) c.waiting.result.now text.1 w.new.spot c.sections.ensures.flags c.waiting.ensures (w.ensures.spot c.if-lacking-gt0.true),
-      paused c.self.inside.fault text.0 text.1 header least (ap (λ p. p.fault) c.self.view_is ∙ c.requires.none) (waits_less text.0 text.1 header w.result.0 least (omega (arith, c.min-self-inside.ensures)) lacks),
+      keeps_as (last_flags c.sections.result.now) (last_flags text.0) c.waiting.result.now text.1 w.new.spot
+          c.sections.ensures.flags c.waiting.ensures (w.ensures.spot c.if-lacking-gt0.true),
+      paused c.self.inside.fault text.0 text.1 header least (ap (λ p. p.fault) c.self.view_is ∙ c.requires.none)
+          (waits_less text.0 text.1 header w.result.0 least (omega (arith, c.min-self-inside.ensures)) lacks),
     )

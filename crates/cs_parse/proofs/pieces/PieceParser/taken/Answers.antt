@@ -6,4 +6,5 @@ use Rattle.cs_parse.proofs.pieces.PieceParser.taken.Goals as goal
 pub into_changeset-requires : goal.into_changeset-requires
 into_changeset-requires c =
     let old = c.args.self.now in
-    ap (λ (p : Progress). p.pending) c.parser.view_is ∙ ap (λ (p : Progress). p.pending) c.replace-parser.ensures.value ∙ feed_none_left old old.fault c.requires
+    ap (λ (p : Progress). p.pending) c.parser.view_is ∙ ap (λ (p : Progress). p.pending) c.replace-parser.ensures.value
+    ∙ feed_none_left old old.fault c.requires

@@ -6,11 +6,15 @@ use Rattle.rb_core.proofs.parts.Parts.delivery.Goals as goal
 
 pub returns-in_err-place : goal.returns-in_err-place
 returns-in_err-place c =
-    rw c.from_residual.ensures (sym (none_below (λ (d : Delivery). d.number) 1 c.args.self.now.deliveries c.args.number c.requires (omega (arith, c.in_err-place.ensures))))
+    rw c.from_residual.ensures
+    (sym (none_below (λ (d : Delivery). d.number) 1 c.args.self.now.deliveries c.args.number c.requires
+    (omega (arith, c.in_err-place.ensures))))
 
 pub returns : goal.returns
 returns c =
-    let same : c.deref.result.now ≡ c.args.self.now.deliveries = c.deref.ensures.value ∙ ap (λ (w : State). w.deliveries) c.self.view_is in
+    let same : c.deref.result.now ≡ c.args.self.now.deliveries = c.deref.ensures.value
+    ∙ ap (λ (w : State). w.deliveries) c.self.view_is in
     let are = subst (AreNumbered (λ (d : Delivery). d.number) 1) (sym same) c.requires in
-    found_by_place (λ (d : Delivery). d.number) c.deref.result.now c.args.number c.in_ok-place.place c.get.result are c.in_ok-place.ensures.0 c.in_ok-place.ensures.1 c.get.ensures.lookup
+    found_by_place (λ (d : Delivery). d.number) c.deref.result.now c.args.number c.in_ok-place.place c.get.result are
+    c.in_ok-place.ensures.0 c.in_ok-place.ensures.1 c.get.ensures.lookup
     ∙ ap (find (λ (d : Delivery). d.number == c.args.number)) same

@@ -7,8 +7,11 @@ use Rattle.rb_core.proofs.world.World.entry.Goals as goal
 
 pub returns-in_err-place : goal.returns-in_err-place
 returns-in_err-place c =
-    let are = subst (λ (w : State). AreNumbered (λ (e : Entry). e.number) 1 w.sequence) c.self.view_is c.self.invariant.entries in
-    rw c.from_residual.ensures (sym (none_below (λ (e : Entry). e.number) 1 c.args.self.now.sequence c.args.number are (omega (arith, c.in_err-place.ensures))))
+    let are = subst (λ (w : State). AreNumbered (λ (e : Entry). e.number) 1 w.sequence) c.self.view_is
+    c.self.invariant.entries in
+    rw c.from_residual.ensures
+    (sym (none_below (λ (e : Entry). e.number) 1 c.args.self.now.sequence c.args.number are
+    (omega (arith, c.in_err-place.ensures))))
 
 pub returns : goal.returns
 returns c =
@@ -18,6 +21,8 @@ returns c =
     ∙ ap (λ (w : State). w.sequence) c.self.view_is in
     let are =
     subst (AreNumbered (λ (e : Entry). e.number) 1) (sym same)
-    (subst (λ (w : State). AreNumbered (λ (e : Entry). e.number) 1 w.sequence) c.self.view_is c.self.invariant.entries) in
-    found_by_place (λ (e : Entry). e.number) c.deref.result.now c.args.number c.in_ok-place.place c.get.result are c.in_ok-place.ensures.0 c.in_ok-place.ensures.1 c.get.ensures.lookup
+    (subst (λ (w : State). AreNumbered (λ (e : Entry). e.number) 1 w.sequence) c.self.view_is c.self.invariant.entries)
+    in
+    found_by_place (λ (e : Entry). e.number) c.deref.result.now c.args.number c.in_ok-place.place c.get.result are
+    c.in_ok-place.ensures.0 c.in_ok-place.ensures.1 c.get.ensures.lookup
     ∙ ap (find (λ (e : Entry). e.number == c.args.number)) same

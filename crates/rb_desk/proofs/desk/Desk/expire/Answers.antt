@@ -10,15 +10,36 @@ use Rattle.rb_desk.proofs.desk.Desk.expire.Goals as goal
 
 pub invariant_of-self : goal.invariant_of-self
 invariant_of-self c =
-    rw (c.expire_all.ensures, c.in_ok-turn.ensures) (c.self.invariant.0, belongs_turned_back c.self.inside.front c.self.inside.turn c.self.inside.next_delivery c.timeout-timeout.result c.max-clock.result c.self.inside.subs.items c.self.invariant.1)
+    rw (c.expire_all.ensures, c.in_ok-turn.ensures) (
+      c.self.invariant.0,
+      belongs_turned_back c.self.inside.front c.self.inside.turn c.self.inside.next_delivery
+          c.timeout-timeout.result c.max-clock.result c.self.inside.subs.items c.self.invariant.1,
+    )
 
 pub returns-clause-ok : goal.returns-clause-ok
 returns-clause-ok c =
     let clock : max c.self.inside.clock c.args.now ≡ c.max-clock.result = sym c.max-clock.ensures in
     let timeout : c.self.inside.config.timeout ≡ c.timeout-timeout.result = sym c.timeout-timeout.ensures in
-    let joined = subst (λ (subs : List Sub). AllByRecursion (λ sub. AreJoined sub.lane) subs) c.deref.ensures.value c.in_ok-many.ensures.joined in
-    let many : all_due c.timeout-timeout.result c.max-clock.result c.self.inside.subs.items ≡ c.in_ok-many.many = ap (λ subs. all_due c.timeout-timeout.result c.max-clock.result subs) (sym c.deref.ensures.value) ∙ sym c.in_ok-many.ensures.value in
-    let call = expire_is c.self.inside.config c.self.inside.front c.self.inside.turn c.self.inside.clock c.args.now c.self.inside.next_link c.self.inside.next_delivery c.self.inside.closing c.self.inside.subs.items c.self.invariant.0.0 c.self.invariant.1 joined in
+    let joined = subst (λ (subs : List Sub). AllByRecursion (λ sub. AreJoined sub.lane) subs) c.deref.ensures.value
+    c.in_ok-many.ensures.joined in
+    let many : all_due c.timeout-timeout.result c.max-clock.result c.self.inside.subs.items ≡ c.in_ok-many.many =
+    ap (λ subs. all_due c.timeout-timeout.result c.max-clock.result subs) (sym c.deref.ensures.value)
+    ∙ sym c.in_ok-many.ensures.value in
+    let call = expire_is c.self.inside.config c.self.inside.front c.self.inside.turn c.self.inside.clock c.args.now
+    c.self.inside.next_link c.self.inside.next_delivery c.self.inside.closing c.self.inside.subs.items
+    c.self.invariant.0.0 c.self.invariant.1 joined in
     rw (← c.self.view_is, c.expire_all.ensures)
-    (call ∙ (λ i. (all_due (timeout i) (clock i) c.self.inside.subs.items, shown c.self.inside.config c.self.inside.front c.self.inside.closing (clock i) c.self.inside.next_link c.self.inside.next_delivery (map (expired_sub (timeout i) (clock i) (by_number (turns_from c.self.inside.front c.self.inside.turn))) c.self.inside.subs.items)))
-    ∙ ap (λ n. (n, shown c.self.inside.config c.self.inside.front c.self.inside.closing c.max-clock.result c.self.inside.next_link c.self.inside.next_delivery (map (expired_sub c.timeout-timeout.result c.max-clock.result (by_number (turns_from c.self.inside.front c.self.inside.turn))) c.self.inside.subs.items))) many)
+    (call ∙ (λ i. (
+      all_due (timeout i) (clock i) c.self.inside.subs.items,
+      shown c.self.inside.config c.self.inside.front c.self.inside.closing (clock i) c.self.inside.next_link
+          c.self.inside.next_delivery
+          (map (expired_sub (timeout i) (clock i) (by_number (turns_from c.self.inside.front c.self.inside.turn)))
+          c.self.inside.subs.items),
+    ))
+    ∙ ap (λ n. (
+      n,
+      shown c.self.inside.config c.self.inside.front c.self.inside.closing c.max-clock.result
+          c.self.inside.next_link c.self.inside.next_delivery
+          (map (expired_sub c.timeout-timeout.result c.max-clock.result
+          (by_number (turns_from c.self.inside.front c.self.inside.turn))) c.self.inside.subs.items),
+    )) many)

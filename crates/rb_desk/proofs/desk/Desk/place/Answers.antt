@@ -7,7 +7,11 @@ pub invariant_of-self : goal.invariant_of-self
 invariant_of-self c =
     let next : c.self.inside.front + 1 ≡ suc c.self.inside.front = omega arith in
     let room = rw (← c.self.view_is) at (may_place c.args.self.now c.requires).1 in
-    rw next (omega (arith, c.self.invariant.0, room), belongs_placed c.self.inside.front c.self.inside.turn c.self.inside.next_delivery c.self.inside.subs.items c.self.invariant.1)
+    rw next (
+      omega (arith, c.self.invariant.0, room),
+      belongs_placed c.self.inside.front c.self.inside.turn
+          c.self.inside.next_delivery c.self.inside.subs.items c.self.invariant.1,
+    )
 
 pub returns-clause-number : goal.returns-clause-number
 returns-clause-number c =
@@ -17,4 +21,7 @@ returns-clause-number c =
 pub returns-clause-picture : goal.returns-clause-picture
 returns-clause-picture c =
     let next : c.self.inside.front + 1 ≡ suc c.self.inside.front = omega arith in
-    rw (← c.self.view_is, next) (placed_shown c.self.inside.config c.self.inside.front c.self.inside.turn c.self.inside.clock c.self.inside.next_link c.self.inside.next_delivery c.self.inside.closing c.self.inside.subs.items c.self.invariant.0.0 c.self.invariant.1)
+    rw (← c.self.view_is, next)
+    (placed_shown c.self.inside.config c.self.inside.front c.self.inside.turn c.self.inside.clock
+    c.self.inside.next_link c.self.inside.next_delivery c.self.inside.closing c.self.inside.subs.items
+    c.self.invariant.0.0 c.self.invariant.1)

@@ -7,16 +7,44 @@ use Rattle.rb_desk.proofs.desk.Desk.subscribe.Goals as goal
 
 pub invariant_of-self-2 : goal.invariant_of-self-2
 invariant_of-self-2 c =
-    let made : c.push_reserved.new.self.items ≡ c.self.inside.subs.items ++ new_sub c.args.start c.self.inside.next_link (record { front = c.self.inside.front; turn = suc c.self.inside.turn }) ∷ [] =
-    c.push_reserved.ensures.items ∙ (λ i. c.reserve.ensures.items i ++ (c.behind-made.ensures ∙ ap (λ turn. new_sub c.args.start c.self.inside.next_link (record { front = c.self.inside.front; turn = turn })) c.in_ok-turn.ensures) i ∷ []) in
-    rw (made, c.in_ok-turn.ensures) (c.self.invariant.0, belongs_subscribed c.self.inside.front c.self.inside.turn c.self.inside.next_link c.self.inside.next_delivery c.args.start c.self.inside.subs.items c.if-front-start.false c.self.invariant.1)
+    let made : c.push_reserved.new.self.items ≡ c.self.inside.subs.items
+    ++ new_sub c.args.start c.self.inside.next_link
+    (record { front = c.self.inside.front; turn = suc c.self.inside.turn }) ∷ [] =
+    c.push_reserved.ensures.items
+    ∙ (λ i. c.reserve.ensures.items i
+    ++ (c.behind-made.ensures
+    ∙ ap (λ turn. new_sub c.args.start c.self.inside.next_link
+    (record { front = c.self.inside.front; turn = turn })) c.in_ok-turn.ensures) i ∷ []) in
+    rw (made, c.in_ok-turn.ensures) (
+      c.self.invariant.0,
+      belongs_subscribed c.self.inside.front c.self.inside.turn c.self.inside.next_link
+          c.self.inside.next_delivery c.args.start c.self.inside.subs.items c.if-front-start.false c.self.invariant.1,
+    )
 
 pub returns : goal.returns
 returns c =
-    let made : c.push_reserved.new.self.items ≡ c.self.inside.subs.items ++ new_sub c.args.start c.self.inside.next_link (record { front = c.self.inside.front; turn = suc c.self.inside.turn }) ∷ [] =
-    c.push_reserved.ensures.items ∙ (λ i. c.reserve.ensures.items i ++ (c.behind-made.ensures ∙ ap (λ turn. new_sub c.args.start c.self.inside.next_link (record { front = c.self.inside.front; turn = turn })) c.in_ok-turn.ensures) i ∷ []) in
-    let shows = subscribed_shown c.self.inside.config c.self.inside.front c.self.inside.turn c.self.inside.clock c.self.inside.next_link c.self.inside.next_delivery c.args.start c.self.inside.closing c.self.inside.subs.items c.self.invariant.0.0 c.self.invariant.1 in
+    let made : c.push_reserved.new.self.items ≡ c.self.inside.subs.items
+    ++ new_sub c.args.start c.self.inside.next_link
+    (record { front = c.self.inside.front; turn = suc c.self.inside.turn }) ∷ [] =
+    c.push_reserved.ensures.items
+    ∙ (λ i. c.reserve.ensures.items i
+    ++ (c.behind-made.ensures
+    ∙ ap (λ turn. new_sub c.args.start c.self.inside.next_link
+    (record { front = c.self.inside.front; turn = turn })) c.in_ok-turn.ensures) i ∷ []) in
+    let shows = subscribed_shown c.self.inside.config c.self.inside.front c.self.inside.turn c.self.inside.clock
+    c.self.inside.next_link c.self.inside.next_delivery c.args.start c.self.inside.closing c.self.inside.subs.items
+    c.self.invariant.0.0 c.self.invariant.1 in
     let many = length-map c.self.inside.subs.items (shown_sub c.self.inside.config.batch c.self.inside.front) in
     let number : c.len-sub.result ≡ length c.self.inside.subs.items = c.len-sub.ensures ∙ c.self.inside.subs.ok.0 in
     rw (← c.self.view_is, made, c.in_ok-next_link.ensures, number, ← many)
-    (subscribe_kept (shown c.self.inside.config c.self.inside.front c.self.inside.closing c.self.inside.clock c.self.inside.next_link c.self.inside.next_delivery c.self.inside.subs.items) c.args.start c.if-front-start.false (omega (arith, many, c.if-len-ge1024.false, c.len.ensures, c.self.inside.subs.ok)) ∙ ap (λ p. (Ok (length (shown c.self.inside.config c.self.inside.front c.self.inside.closing c.self.inside.clock c.self.inside.next_link c.self.inside.next_delivery c.self.inside.subs.items).subscriptions, c.self.inside.next_link), p)) (sym shows))
+    (subscribe_kept (shown c.self.inside.config c.self.inside.front c.self.inside.closing c.self.inside.clock
+    c.self.inside.next_link c.self.inside.next_delivery c.self.inside.subs.items) c.args.start
+    c.if-front-start.false (omega (arith, many, c.if-len-ge1024.false, c.len.ensures, c.self.inside.subs.ok))
+    ∙ ap (λ p. (
+      Ok (
+        length (shown c.self.inside.config c.self.inside.front c.self.inside.closing c.self.inside.clock
+            c.self.inside.next_link c.self.inside.next_delivery c.self.inside.subs.items).subscriptions,
+        c.self.inside.next_link,
+      ),
+      p,
+    )) (sym shows))

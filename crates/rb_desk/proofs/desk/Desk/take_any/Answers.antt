@@ -14,14 +14,33 @@ use Rattle.rb_desk.proofs.desk.Desk.take_any.Goals as goal
 
 pub returns-in_default : goal.returns-in_default
 returns-in_default c =
-    let searched : option_map span_to_deliver (first_to_deliver c.self.inside.config.window c.self.inside.config.batch c.self.inside.front 0 c.self.inside.subs.items) ≡ None = sym (λ i. option_map span_to_deliver (first_to_deliver (c.window-window.ensures i) (c.batch.ensures.value i) c.self.inside.front 0 (c.deref.ensures.value i))) ∙ sym c.first_to_deliver.ensures.value ∙ c.in_default.is in
-    rw c.into.ensures (rw (← c.self.view_is) (none_taken c.self.inside.config c.self.inside.front c.self.inside.clock c.self.inside.next_link c.self.inside.next_delivery c.args.now c.self.inside.closing c.self.inside.subs.items searched), refl)
+    let searched : option_map span_to_deliver
+    (first_to_deliver c.self.inside.config.window c.self.inside.config.batch c.self.inside.front 0
+    c.self.inside.subs.items)
+    ≡ None = sym (λ i. option_map span_to_deliver
+    (first_to_deliver (c.window-window.ensures i) (c.batch.ensures.value i) c.self.inside.front 0
+    (c.deref.ensures.value i))) ∙ sym c.first_to_deliver.ensures.value ∙ c.in_default.is in
+    rw c.into.ensures (
+      rw (← c.self.view_is) (none_taken c.self.inside.config c.self.inside.front c.self.inside.clock
+          c.self.inside.next_link c.self.inside.next_delivery c.args.now c.self.inside.closing c.self.inside.subs.items
+          searched),
+      refl,
+    )
 
 pub deliver-requires : goal.deliver-requires
 deliver-requires c =
-    let searched : option_map span_to_deliver (first_to_deliver c.self.inside.config.window c.self.inside.config.batch c.self.inside.front 0 c.self.inside.subs.items) ≡ Some (c.in-Some.sub, c.in-Some.span) = sym (λ i. option_map span_to_deliver (first_to_deliver (c.window-window.ensures i) (c.batch.ensures.value i) c.self.inside.front 0 (c.deref.ensures.value i))) ∙ sym c.first_to_deliver.ensures.value ∙ c.in-Some.is in
-    let g = any_goes_first c.self.inside.config c.self.inside.front c.self.inside.turn c.self.inside.next_delivery c.self.inside.subs.items c.in-Some.sub c.in-Some.span c.self.invariant.0.0 c.self.invariant.1 searched (subst (λ (subs : List Sub). IsJoinedAt subs c.in-Some.sub) c.deref.ensures.value c.in-Some.ensures.joined) in
-    let next = (all_get (Belongs c.self.inside.front c.self.inside.turn c.self.inside.next_delivery) c.self.inside.subs.items
+    let searched : option_map span_to_deliver
+    (first_to_deliver c.self.inside.config.window c.self.inside.config.batch c.self.inside.front 0
+    c.self.inside.subs.items)
+    ≡ Some (c.in-Some.sub, c.in-Some.span) =
+    sym (λ i. option_map span_to_deliver
+    (first_to_deliver (c.window-window.ensures i) (c.batch.ensures.value i) c.self.inside.front 0
+    (c.deref.ensures.value i))) ∙ sym c.first_to_deliver.ensures.value ∙ c.in-Some.is in
+    let g = any_goes_first c.self.inside.config c.self.inside.front c.self.inside.turn c.self.inside.next_delivery
+    c.self.inside.subs.items c.in-Some.sub c.in-Some.span c.self.invariant.0.0 c.self.invariant.1 searched
+    (subst (λ (subs : List Sub). IsJoinedAt subs c.in-Some.sub) c.deref.ensures.value c.in-Some.ensures.joined) in
+    let next =
+    (all_get (Belongs c.self.inside.front c.self.inside.turn c.self.inside.next_delivery) c.self.inside.subs.items
     c.in-Some.sub g.sub g.opened.belong g.opened.found).is_next in
     let within : c.in-Some.sub < length c.self.inside.subs.items =
     slice_get_within c.self.inside.subs.items c.in-Some.sub g.sub g.opened.found in (
@@ -37,8 +56,16 @@ deliver-requires c =
 
 pub invariant_of-self : goal.invariant_of-self
 invariant_of-self c =
-    let searched : option_map span_to_deliver (first_to_deliver c.self.inside.config.window c.self.inside.config.batch c.self.inside.front 0 c.self.inside.subs.items) ≡ Some (c.in-Some.sub, c.in-Some.span) = sym (λ i. option_map span_to_deliver (first_to_deliver (c.window-window.ensures i) (c.batch.ensures.value i) c.self.inside.front 0 (c.deref.ensures.value i))) ∙ sym c.first_to_deliver.ensures.value ∙ c.in-Some.is in
-    let g = any_goes_first c.self.inside.config c.self.inside.front c.self.inside.turn c.self.inside.next_delivery c.self.inside.subs.items c.in-Some.sub c.in-Some.span c.self.invariant.0.0 c.self.invariant.1 searched (subst (λ (subs : List Sub). IsJoinedAt subs c.in-Some.sub) c.deref.ensures.value c.in-Some.ensures.joined) in (
+    let searched : option_map span_to_deliver
+    (first_to_deliver c.self.inside.config.window c.self.inside.config.batch c.self.inside.front 0
+    c.self.inside.subs.items)
+    ≡ Some (c.in-Some.sub, c.in-Some.span) =
+    sym (λ i. option_map span_to_deliver
+    (first_to_deliver (c.window-window.ensures i) (c.batch.ensures.value i) c.self.inside.front 0
+    (c.deref.ensures.value i))) ∙ sym c.first_to_deliver.ensures.value ∙ c.in-Some.is in
+    let g = any_goes_first c.self.inside.config c.self.inside.front c.self.inside.turn c.self.inside.next_delivery
+    c.self.inside.subs.items c.in-Some.sub c.in-Some.span c.self.invariant.0.0 c.self.invariant.1 searched
+    (subst (λ (subs : List Sub). IsJoinedAt subs c.in-Some.sub) c.deref.ensures.value c.in-Some.ensures.joined) in (
       c.self.invariant.0,
       delivered_belongs c.self.inside.config c.self.inside.front c.self.inside.turn
           c.self.inside.next_delivery c.self.inside.subs.items c.in-Some.sub g.sub g.opened c.in-Some.span
@@ -49,8 +76,16 @@ invariant_of-self c =
 
 pub returns : goal.returns
 returns c =
-    let searched : option_map span_to_deliver (first_to_deliver c.self.inside.config.window c.self.inside.config.batch c.self.inside.front 0 c.self.inside.subs.items) ≡ Some (c.in-Some.sub, c.in-Some.span) = sym (λ i. option_map span_to_deliver (first_to_deliver (c.window-window.ensures i) (c.batch.ensures.value i) c.self.inside.front 0 (c.deref.ensures.value i))) ∙ sym c.first_to_deliver.ensures.value ∙ c.in-Some.is in
-    let g = any_goes_first c.self.inside.config c.self.inside.front c.self.inside.turn c.self.inside.next_delivery c.self.inside.subs.items c.in-Some.sub c.in-Some.span c.self.invariant.0.0 c.self.invariant.1 searched (subst (λ (subs : List Sub). IsJoinedAt subs c.in-Some.sub) c.deref.ensures.value c.in-Some.ensures.joined) in
+    let searched : option_map span_to_deliver
+    (first_to_deliver c.self.inside.config.window c.self.inside.config.batch c.self.inside.front 0
+    c.self.inside.subs.items)
+    ≡ Some (c.in-Some.sub, c.in-Some.span) =
+    sym (λ i. option_map span_to_deliver
+    (first_to_deliver (c.window-window.ensures i) (c.batch.ensures.value i) c.self.inside.front 0
+    (c.deref.ensures.value i))) ∙ sym c.first_to_deliver.ensures.value ∙ c.in-Some.is in
+    let g = any_goes_first c.self.inside.config c.self.inside.front c.self.inside.turn c.self.inside.next_delivery
+    c.self.inside.subs.items c.in-Some.sub c.in-Some.span c.self.invariant.0.0 c.self.invariant.1 searched
+    (subst (λ (subs : List Sub). IsJoinedAt subs c.in-Some.sub) c.deref.ensures.value c.in-Some.ensures.joined) in
     let call = any_taken c.self.inside.config c.self.inside.front c.self.inside.turn c.self.inside.clock
     c.self.inside.next_link c.self.inside.next_delivery c.args.now c.self.inside.closing c.self.inside.subs.items
     c.in-Some.sub c.in-Some.span g in

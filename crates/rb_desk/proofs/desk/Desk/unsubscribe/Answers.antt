@@ -9,19 +9,36 @@ use Rattle.rb_desk.proofs.desk.Desk.unsubscribe.Goals as goal
 
 pub index_mut-requires : goal.index_mut-requires
 index_mut-requires c =
-    let here : slice_get c.self.inside.subs.items c.args.sub ≡ Some c.in-Some.found.now = sym (c.in-Some.ensures ∙ ap (λ subs. slice_get subs c.args.sub) c.deref.ensures.value) in
+    let here : slice_get c.self.inside.subs.items c.args.sub ≡ Some c.in-Some.found.now =
+    sym (c.in-Some.ensures ∙ ap (λ subs. slice_get subs c.args.sub) c.deref.ensures.value) in
     omega (arith, slice_get_within c.self.inside.subs.items c.args.sub c.in-Some.found.now here, c.self.inside.subs.ok)
 
 pub invariant_of-self : goal.invariant_of-self
 invariant_of-self c =
-    let here : slice_get c.self.inside.subs.items c.args.sub ≡ Some c.in-Some.found.now = sym (c.in-Some.ensures ∙ ap (λ subs. slice_get subs c.args.sub) c.deref.ensures.value) in
-    let same : c.index_mut.result.now ≡ c.in-Some.found.now = c.index_mut.ensures.value ∙ get_or_from_slice_get c.self.inside.subs.items c.args.sub c.in-Some.found.now c.index_mut.result.now here in
+    let here : slice_get c.self.inside.subs.items c.args.sub ≡ Some c.in-Some.found.now =
+    sym (c.in-Some.ensures ∙ ap (λ subs. slice_get subs c.args.sub) c.deref.ensures.value) in
+    let same : c.index_mut.result.now ≡ c.in-Some.found.now = c.index_mut.ensures.value
+    ∙ get_or_from_slice_get c.self.inside.subs.items c.args.sub c.in-Some.found.now c.index_mut.result.now here in
     let made : c.close.new.self ≡ closed_sub c.in-Some.found.now = c.close.ensures.sub ∙ ap closed_sub same in
-    rw made (c.self.invariant.0, belongs_unsubscribed c.self.inside.front c.self.inside.turn c.self.inside.next_delivery c.args.sub c.self.inside.subs.items c.in-Some.found.now c.self.invariant.1 here (subst (λ (sub : Sub). AreJoined sub.lane) same c.close.ensures.joined))
+    rw made (
+      c.self.invariant.0,
+      belongs_unsubscribed c.self.inside.front c.self.inside.turn c.self.inside.next_delivery
+          c.args.sub c.self.inside.subs.items c.in-Some.found.now c.self.invariant.1 here
+          (subst (λ (sub : Sub). AreJoined sub.lane) same c.close.ensures.joined),
+    )
 
 pub returns-clause-answer : goal.returns-clause-answer
 returns-clause-answer c =
-    let here : slice_get c.self.inside.subs.items c.args.sub ≡ Some c.in-Some.found.now = sym (c.in-Some.ensures ∙ ap (λ subs. slice_get subs c.args.sub) c.deref.ensures.value) in
-    let same : c.index_mut.result.now ≡ c.in-Some.found.now = c.index_mut.ensures.value ∙ get_or_from_slice_get c.self.inside.subs.items c.args.sub c.in-Some.found.now c.index_mut.result.now here in
+    let here : slice_get c.self.inside.subs.items c.args.sub ≡ Some c.in-Some.found.now =
+    sym (c.in-Some.ensures ∙ ap (λ subs. slice_get subs c.args.sub) c.deref.ensures.value) in
+    let same : c.index_mut.result.now ≡ c.in-Some.found.now = c.index_mut.ensures.value
+    ∙ get_or_from_slice_get c.self.inside.subs.items c.args.sub c.in-Some.found.now c.index_mut.result.now here in
     let made : c.close.new.self ≡ closed_sub c.in-Some.found.now = c.close.ensures.sub ∙ ap closed_sub same in
-    rw (← c.self.view_is, made) (unsubscribe_kept c.self.inside.config c.self.inside.front c.self.inside.closing c.self.inside.clock c.self.inside.next_link c.self.inside.next_delivery c.self.inside.subs.items c.args.sub c.in-Some.found.now here c.args.link c.if-found-link.false c.if-found.false ∙ ap (λ p. (Ok tt, p)) (sym (unsubscribed_shown c.self.inside.config c.self.inside.front c.self.inside.clock c.self.inside.next_link c.self.inside.next_delivery c.args.sub c.self.inside.closing c.self.inside.subs.items c.in-Some.found.now here)))
+    rw (← c.self.view_is, made)
+    (unsubscribe_kept c.self.inside.config c.self.inside.front c.self.inside.closing c.self.inside.clock
+    c.self.inside.next_link c.self.inside.next_delivery c.self.inside.subs.items c.args.sub c.in-Some.found.now here
+    c.args.link c.if-found-link.false c.if-found.false
+    ∙ ap (λ p. (Ok tt, p))
+    (sym (unsubscribed_shown c.self.inside.config c.self.inside.front c.self.inside.clock c.self.inside.next_link
+    c.self.inside.next_delivery c.args.sub c.self.inside.closing c.self.inside.subs.items c.in-Some.found.now
+    here)))

@@ -9,5 +9,6 @@ pub invariant_of-self : goal.invariant_of-self
 invariant_of-self c = (
   c.how_many_out-self-inside.ensures ∙ ap (λ held. how_many_out (spans_of held)) c.deref.ensures.value,
   c.first_in_line-self-inside.ensures ∙ ap least c.deref-2.ensures.value,
-  rw c.expire.ensures (joins_expired _ _ c.args.timeout c.args.clock (by_number (turns_from c.args.latest.front c.args.latest.turn)) _ c.self.invariant.2),
+  rw c.expire.ensures (joins_expired _ _ c.args.timeout c.args.clock
+      (by_number (turns_from c.args.latest.front c.args.latest.turn)) _ c.self.invariant.2),
 )

@@ -6,7 +6,11 @@ use Rattle.rb_desk.proofs.lane.Lane.first_in_line.Goals as goal
 
 pub returns-clause-value : goal.returns-clause-value
 returns-clause-value c =
-    let held : c.self.inside.first ≡ least c.args.self.now.held = c.self.invariant.1 ∙ ap (λ k. least k.held) c.self.view_is in
-    let fresh : c.given_to-fresh.result ≡ option_map (with_birth c.args.self.now.cutting) (slice_get (cut_spans c.args.batch c.args.self.now.next c.args.front) 0) =
+    let held : c.self.inside.first ≡ least c.args.self.now.held = c.self.invariant.1
+    ∙ ap (λ k. least k.held) c.self.view_is in
+    let fresh : c.given_to-fresh.result
+    ≡ option_map (with_birth c.args.self.now.cutting)
+    (slice_get (cut_spans c.args.batch c.args.self.now.next c.args.front) 0) =
     c.given_to-fresh.ensures ∙ (λ i. option_map (with_birth (c.self.view_is i).cutting) (c.first_fresh.ensures i)) in
-    c.sooner.ensures ∙ (λ i. better (held i) (fresh i)) ∙ sym (first_in_line_is c.args.batch c.args.front c.args.self.now c.requires.0)
+    c.sooner.ensures ∙ (λ i. better (held i) (fresh i))
+    ∙ sym (first_in_line_is c.args.batch c.args.front c.args.self.now c.requires.0)

@@ -8,5 +8,7 @@ pub invariant_of-self-2 : goal.invariant_of-self-2
 invariant_of-self-2 c = (
   c.how_many_out-self-inside.ensures ∙ ap (λ held. how_many_out (spans_of held)) c.deref.ensures.value,
   c.first_in_line-self-inside.ensures ∙ ap least c.deref-2.ensures.value,
-  rw c.in_ok-push.ensures.items (joins_pushed _ _ _ c.self.inside.held.items _ c.self.invariant.2 (c.requires.first ∙ sym (ap (λ k. k.next) c.self.view_is)) c.requires.span.0 (omega arith)),
+  rw c.in_ok-push.ensures.items
+      (joins_pushed _ _ _ c.self.inside.held.items _ c.self.invariant.2
+      (c.requires.first ∙ sym (ap (λ k. k.next) c.self.view_is)) c.requires.span.0 (omega arith)),
 )
