@@ -3,6 +3,7 @@
 use cs_parse::ParseFault;
 use rb_desk::{Delivery, DeskRefusal};
 use rb_subscriber::AcceptRefusal;
+use std::fmt;
 use thiserror::Error;
 
 /// The answer to an event.
@@ -87,4 +88,33 @@ pub enum BrokerRefusal {
     /// `Accept`: the subscription's end refuses it.
     #[error(transparent)]
     Accept(AcceptRefusal),
+}
+
+impl fmt::Display for Reply {
+    fn fmt<W: fmt::Write>(&self, f: &mut fmt::Formatter<W>) -> fmt::Result {
+        match self {
+            Reply::Publisher(number) => write!(f, "publisher {number}"),
+            Reply::Fed => f.write_str("the bytes are fed"),
+            Reply::Reset => f.write_str("the stream is empty"),
+            Reply::Staged => f.write_str("a changeset is staged"),
+            Reply::Sent(own) => write!(f, "sending {own}"),
+            Reply::Placed(number) => write!(f, "entry {number}"),
+            Reply::Idle => f.write_str("nothing waits to be placed"),
+            Reply::Closed(last) => write!(f, "the sequence is closed at {last}"),
+            Reply::Subscriber { subscription, link } => {
+                write!(f, "subscription {subscription} under link {link}")
+            }
+            Reply::Delivery(delivery) => delivery.fmt(f),
+            Reply::Accepted { subscription, cursor } => {
+                write!(f, "subscription {subscription} has accepted up to {cursor}")
+            }
+            Reply::Floor(floor) => write!(f, "settled up to {floor}"),
+            Reply::Returned => f.write_str("the delivery is returned"),
+            Reply::Expired(count) => write!(f, "{count} deliveries expired"),
+            Reply::Link(link) => write!(f, "a new link, {link}"),
+            Reply::Unsubscribed => f.write_str("the subscription is closed"),
+            Reply::Fault(fault) => fault.fmt(f),
+            Reply::Refused(why) => why.fmt(f),
+        }
+    }
 }

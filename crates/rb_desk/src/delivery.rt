@@ -3,6 +3,7 @@
 ghost use Rattle.std.specs.Prelude.{◌≡◌};
 
 use crate::span::Span;
+use std::fmt;
 
 /// The numbers `first` to `last` of the sequence, handed to a subscription. Only a desk makes one.
 #[derive(Clone, Copy, Debug, PartialEq, Eq)]
@@ -67,5 +68,15 @@ impl Delivery {
         ensures { result ≡ self.now.last }
     {
         self.last
+    }
+}
+
+impl fmt::Display for Delivery {
+    fn fmt<W: fmt::Write>(&self, f: &mut fmt::Formatter<W>) -> fmt::Result {
+        write!(
+            f,
+            "delivery {} to subscription {}: {} to {}",
+            self.number, self.sub, self.first, self.last
+        )
     }
 }

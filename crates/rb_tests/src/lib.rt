@@ -4,10 +4,6 @@
 #![tactic(auto)]
 
 #[cfg(test)]
-mod desk;
-#[cfg(test)]
-mod endpoint;
-#[cfg(test)]
 mod limits;
 #[cfg(test)]
 mod runs;

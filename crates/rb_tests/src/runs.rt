@@ -74,6 +74,20 @@ fn is_done(rt: &impl Abort, alloc: Global, world: &World, last: Reply) -> Result
     Ok(())
 }
 
+// A delivery's text has its numbers.
+fn says_its_numbers(rt: &impl Abort, alloc: Global, reply: Reply) -> Result<(), Fail> {
+    let Reply::Delivery(delivery) = reply else {
+        return Ok(());
+    };
+    let text = format!(in alloc; "{delivery}")?;
+    let first = delivery.first();
+    let last = delivery.last();
+    let number = delivery.number();
+    let want = format!(in alloc; "delivery {number} to subscription 0: {first} to {last}")?;
+    assert_eq!(rt; text.as_str(), want.as_str());
+    Ok(())
+}
+
 // A list of events is answered as one after another are.
 #[test]
 fn runs_as_it_steps(rt: HostRuntime) -> Result<(), Fail> {
@@ -86,6 +100,7 @@ fn runs_as_it_steps(rt: HostRuntime) -> Result<(), Fail> {
     for (event, answer) in events.into_iter().zip(given) {
         last = answer?;
         assert_eq!(rt; world.step(alloc, event)?, last);
+        says_its_numbers(&rt, alloc, last)?;
         count = count.saturating_add(1);
     }
     assert_eq!(rt; count, 9);

@@ -1,7 +1,7 @@
 //! What a user reads of limits, refusals and faults.
 
 use cs_apply::{Conflict, ConflictKind};
-use rb_core::BrokerRefusal;
+use rb_core::{BrokerRefusal, Reply};
 use rb_desk::{ConfigFault, DeskError, DeskRefusal};
 use rb_script::ScriptFault;
 use rb_subscriber::{AcceptError, AcceptRefusal};
@@ -145,4 +145,42 @@ fn brokers_say_why(rt: HostRuntime) -> Result<(), Fail> {
     ];
     says(&rt, rt.alloc(), &table)?;
     says(&rt, rt.alloc(), &[(ScriptFault::Memory, "out of memory")])
+}
+
+#[test]
+fn replies_say_what_was_done(rt: HostRuntime) -> Result<(), Fail> {
+    let table = [
+        (Reply::Publisher(3), "publisher 3"),
+        (Reply::Fed, "the bytes are fed"),
+        (Reply::Reset, "the stream is empty"),
+        (Reply::Staged, "a changeset is staged"),
+        (Reply::Sent(4), "sending 4"),
+        (Reply::Placed(5), "entry 5"),
+        (Reply::Idle, "nothing waits to be placed"),
+        (Reply::Closed(9), "the sequence is closed at 9"),
+        (
+            Reply::Subscriber {
+                subscription: 2,
+                link: 7,
+            },
+            "subscription 2 under link 7",
+        ),
+        (
+            Reply::Accepted {
+                subscription: 2,
+                cursor: 8,
+            },
+            "subscription 2 has accepted up to 8",
+        ),
+        (Reply::Floor(6), "settled up to 6"),
+        (Reply::Returned, "the delivery is returned"),
+        (Reply::Expired(12), "12 deliveries expired"),
+        (Reply::Link(7), "a new link, 7"),
+        (Reply::Unsubscribed, "the subscription is closed"),
+        (
+            Reply::Refused(BrokerRefusal::NoPublisher),
+            "there is no such publisher",
+        ),
+    ];
+    says(&rt, rt.alloc(), &table)
 }
