@@ -1,8 +1,10 @@
 -- Lists that pair with others: what stands at a place of one, and of the other; and lists seen through a function.
 use Rattle.std.proofs.Common.{◌≡◌, ℕ, zero, suc, inl, inr, Bool, true, false, cond, List, [], ◌∷◌, ◌++◌, map, Some}
-use Rattle.std.proofs.Common.{None, find, refl, sym, ap, subst}
+use Rattle.std.proofs.Common.{None, find, refl, sym, ap, subst, ◌∙◌}
 use Rattle.std.specs.Prelude.{slice_get, slice_set}
 use Rattle.std.specs.List.{AllByRecursion}
+use Rattle.std.specs.Option.{option_or}
+use Rattle.std.proofs.lemmas.List.Folds.{find-append}
 use Rattle.rb_core.specs.Moves.{IsIn}
 use Rattle.rb_core.specs.Told.{Paired}
 
@@ -69,6 +71,37 @@ paired_push R (z ∷ xs) [] x y all h = absurd all
 paired_push R (z ∷ xs) (v ∷ ys) x y all h = (all.0, paired_push R xs ys x y all.1 h)
 
 -- ---- things in a list
+
+-- what is found is in the list, and passes the test
+pub found_in : {A : Type 0} (test : A → Bool) (xs : List A) (x : A) → find test xs ≡ Some x → IsIn x xs
+found_in test [] x e = absurd (let none : None ≡ Some x = e in cc)
+found_in test (y ∷ xs) x e = by (test y) e (found_in test xs x)
+  where
+    by : (b : Bool) → cond b (Some y) (find test xs) ≡ Some x → (find test xs ≡ Some x → IsIn x xs) → IsIn x (y ∷ xs)
+    by true here rest = inl (sym (cc here))
+    by false later rest = inr (rest later)
+
+pub found_passes : {A : Type 0} (test : A → Bool) (xs : List A) (x : A) → find test xs ≡ Some x → test x ≡ true
+found_passes test [] x e = absurd (let none : None ≡ Some x = e in cc)
+found_passes test (y ∷ xs) x e = by (test y) refl e (found_passes test xs x)
+  where
+    by : (b : Bool) → test y ≡ b → cond b (Some y) (find test xs) ≡ Some x → (find test xs ≡ Some x → test x ≡ true)
+        → test x ≡ true
+    by true is here rest =
+        let same : y ≡ x = cc here in
+        subst (λ z. test z ≡ true) same is
+    by false is later rest = rest later
+
+-- it is found with more after it, and where nothing before it passes
+pub found_first : {A : Type 0} (test : A → Bool) (xs ys : List A) (x : A) → find test xs ≡ Some x
+    → find test (xs ++ ys) ≡ Some x
+found_first test xs ys x e = find-append test xs ys ∙ ap (λ f. option_or f (find test ys)) e
+
+pub found_last : {A : Type 0} (test : A → Bool) (xs : List A) (x : A) → AllByRecursion (λ y. test y ≡ false) xs
+    → test x ≡ true → find test (xs ++ x ∷ []) ≡ Some x
+found_last test [] x none is = ap (λ b. cond b (Some x) None) is
+found_last test (y ∷ xs) x none is =
+    ap (λ b. cond b (Some y) (find test (xs ++ x ∷ []))) none.0 ∙ found_last test xs x none.1 is
 
 pub in_front : {A : Type 0} (xs : List A) (x y : A) → IsIn x xs → IsIn x (xs ++ y ∷ [])
 in_front [] x y here = absurd here

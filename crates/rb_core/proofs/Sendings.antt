@@ -11,7 +11,7 @@ use Rattle.rb_sequence.specs.declared.item.Item.{Item}
 use Rattle.rb_sequence.specs.Entry.{Entry}
 use Rattle.rb_core.specs.World.{Sender, World, world_begun}
 use Rattle.rb_core.specs.Moves.{with_sender, AddsPublisher, Streams, Sends, Pulls, Places, Leads, items_of, own_of}
-use Rattle.rb_core.specs.Moves.{IsFront}
+use Rattle.rb_core.specs.Moves.{IsFront, IsIn, IsSending}
 use Rattle.rb_core.proofs.Moving.{MovingKeeps, kept_through}
 
 -- ---- numbers
@@ -270,3 +270,59 @@ once mids new i j a b leads at_i at_j publisher same =
     let front = numbered_front 1 (own_of p (items_of new.sequence)) (own_of p (sendings_waiting new))
     (subst (SendingsNumbered 1) (own_parts p new) all) in
     distinct 1 p new.sequence front i j a b at_i at_j publisher refl same
+
+-- ---- each entry is a sending
+
+numbered_at : (n : ℕ) (items : List Item) (x : Item) → SendingsNumbered n items → IsIn x items → (m : ℕ)
+    × (x.own ≡ n + m) × (slice_get items m ≡ Some x)
+numbered_at n [] x all here = absurd here
+numbered_at n (item ∷ items) x all here =
+    elim here as (λ w. (m : ℕ) × (x.own ≡ n + m) × (slice_get (item ∷ items) m ≡ Some x)) [
+      | inl same ↦ (0, omega (arith, ap (λ (i : Item). i.own) same, all.0), ap Some (sym same))
+      | inr rest ↦
+          let at = numbered_at (suc n) items x all.1 rest in
+          (suc at.0, omega (arith, at.1), at.2)
+    ]
+
+-- an entry's item is among those of its publisher that are placed
+placed_in : (p : ℕ) (entries : List Entry) (i : ℕ) (b : Entry) → slice_get entries i ≡ Some b → b.item.publisher ≡ p
+    → IsIn b.item (placed_of p entries)
+placed_in p [] i b found mine = absurd (cc found)
+placed_in p (x ∷ entries) zero b found mine =
+    elim (eqb_tells x.item.publisher p) as (λ w. IsIn b.item (placed_of p (x ∷ entries))) [
+      | inl is ↦
+          subst (λ t. IsIn b.item (with_first p x entries t)) (sym is.0)
+          (inl (ap (λ (e : Entry). e.item) (sym (entry_at x b found))))
+      | inr other ↦ absurd (other.1 (ap (λ (e : Entry). e.item.publisher) (entry_at x b found) ∙ mine))
+    ]
+placed_in p (x ∷ entries) (suc i) b found mine =
+    let rest = placed_in p entries i b found mine in
+    elim (eqb_tells x.item.publisher p) as (λ w. IsIn b.item (placed_of p (x ∷ entries))) [
+      | inl is ↦ subst (λ t. IsIn b.item (with_first p x entries t)) (sym is.0) (inr rest)
+      | inr other ↦ subst (λ t. IsIn b.item (with_first p x entries t)) (sym other.0) rest
+    ]
+
+in_append : {A : Type 0} (xs ys : List A) (x : A) → IsIn x xs → IsIn x (xs ++ ys)
+in_append [] ys x here = absurd here
+in_append (z ∷ xs) ys x here = elim here as (λ w. IsIn x ((z ∷ xs) ++ ys)) [
+  | inl same ↦ inl same
+  | inr rest ↦ inr (in_append xs ys x rest)
+]
+
+sending_by : (o : Option Sender) (own : List Item) (item : Item) → SendingsHolds o own → IsIn item own
+    → (sender : Sender) × (o ≡ Some sender) × IsSending sender item
+sending_by None own item h here = absurd (subst (IsIn item) h here)
+sending_by (Some q) own item h here =
+    let at = numbered_at 1 q.sent item h.1 (subst (IsIn item) h.0 here) in
+    (q, refl, (at.0, omega (arith, at.1), at.2))
+
+pub is_sending : (mids : List World) (new : World) (i : ℕ) (entry : Entry) → Leads world_begun mids new
+    → slice_get new.sequence i ≡ Some entry → (sender : Sender)
+    × (slice_get new.senders entry.item.publisher ≡ Some sender) × IsSending sender entry.item
+is_sending mids new i entry leads found =
+    let p = entry.item.publisher in
+    let placed = placed_in p new.sequence i entry found refl in
+    let here : IsIn entry.item (own_of p (flow new)) =
+    subst (IsIn entry.item) (sym (own_parts p new))
+    (in_append (own_of p (items_of new.sequence)) (own_of p (sendings_waiting new)) entry.item placed) in
+    sending_by (slice_get new.senders p) (own_of p (flow new)) entry.item (sent_through p mids new leads) here

@@ -1,8 +1,9 @@
 -- What is told of deliveries: which are offered, and what is accepted of them.
-use Rattle.std.proofs.Common.{◌≡◌, ℕ, suc, ◌+◌, ◌-◌, ◌<◌, ◌≤◌, inl, inr, List, ◌++◌, length, map, Option, Some, None}
+use Rattle.std.proofs.Common.{◌≡◌, ℕ, suc, ◌+◌, ◌-◌, ◌<◌, ◌≤◌, inl, inr, false, List, [], ◌∷◌, ◌++◌, length, map, Option, Some, None}
 use Rattle.std.proofs.Common.{Result, Ok, Err, refl, sym, ap, subst, ◌∙◌, arith}
 use Rattle.std.specs.Prelude.{⊤, slice_get, slice_set, ◌↔◌, ◌==◌}
 use Rattle.std.specs.List.{AllByRecursion}
+use Rattle.std.proofs.lemmas.Bool.{eqb-true, eq-eqb, ne_eqb}
 use Rattle.std.proofs.lemmas.List.{length-append}
 use Rattle.cs_model.proofs.CallerLemmas.{all_push}
 use Rattle.cs_model.specs.declared.shape.Shape.{Shape}
@@ -25,16 +26,16 @@ use Rattle.rb_core.specs.declared.event.Event.{Event}
 use Rattle.rb_core.specs.declared.event.Event.TheVariants as event
 use Rattle.rb_core.specs.declared.reply.Reply.TheVariants as reply
 use Rattle.rb_core.specs.declared.reply.BrokerRefusal.TheVariants as refusal
-use Rattle.rb_core.specs.Moves.{with_subscriber, IsIn, Delivers, Accepts}
+use Rattle.rb_core.specs.Moves.{with_subscriber, Delivers, Accepts}
 use Rattle.rb_core.specs.Outcome as out
 use Rattle.rb_core.specs.Outcome.{with_endpoint}
 use Rattle.rb_core.specs.State.{State, IsWorld, IsOf}
 use Rattle.rb_core.specs.Told as say
-use Rattle.rb_core.specs.Told.{told, IsDelivered, AreBelow, IsToldBy}
+use Rattle.rb_core.specs.Told.{told, delivery_told, entries_of, IsDelivered, AreBelow, IsToldBy}
 use Rattle.rb_core.specs.World.{Subscriber, World, cursor, endpoint_of}
-use Rattle.rb_core.proofs.Moving.{all_set, all_get}
+use Rattle.rb_core.proofs.Moving.{all_set, all_get, all_map}
 use Rattle.rb_core.proofs.Gapless.{part_length}
-use Rattle.rb_core.proofs.Pairs.{map_set, set_same, all_find, in_front, in_last}
+use Rattle.rb_core.proofs.Pairs.{map_set, set_same, all_find, found_in, found_passes, found_first, found_last}
 use Rattle.rb_core.proofs.Telling.{TellingGoes, nothing_told, move_told, all_unused, later_numbers, BeginsEmpty}
 use Rattle.rb_core.proofs.Telling.{changed_is, subscriber_of_end, subscriber_of_member, still_offered}
 use Rattle.rb_core.proofs.Telling.{telling_with_both, with_desk}
@@ -107,8 +108,16 @@ offered_tells schema old world delivery picture event is shown good h =
       placed = subst (λ n. delivery.last ≤ n) far shown.placed;
       kept = refl;
     } in
-    let here : IsDelivered new.subscribers delivery =
-    (r, get_set world.subscribers delivery.sub q r at.1, in_last q.offers delivery) in
+    let others : AllByRecursion (λ (x : Delivery). (x.number == delivery.number) ≡ false) q.offers =
+    all_map (λ (x : Delivery). x.number < delivery.number) (λ (x : Delivery). (x.number == delivery.number) ≡ false)
+    q.offers (λ x less. ne_eqb x.number delivery.number (λ same. omega (arith, less, same)))
+    (all_get (AreBelow delivery.number) world.subscribers delivery.sub q below at.1) in
+    let here : IsDelivered new.subscribers delivery = (
+      r,
+      get_set world.subscribers delivery.sub q r at.1,
+      found_last (λ (x : Delivery). x.number == delivery.number) q.offers
+          delivery others (eq-eqb delivery.number delivery.number refl),
+    ) in
     move_told schema world new event (reply.Delivery delivery) (out.delivered_by old (Ok delivery) picture).1
     (is ∙ changed_is world delivery.sub (say.delivered delivery) q at.1)
     (inr (inr (inr (inr (inr (inr (inr (inr (inl offers))))))))) (record {
@@ -121,7 +130,7 @@ offered_tells schema old world delivery picture event is shown good h =
       ends = offered_ends world.subscribers delivery.sub q delivery at.1 ∙ h.ends;
       offers = all_push (IsDelivered new.subscribers) old.deliveries delivery
           (still_offered world.subscribers delivery.sub q r old.deliveries at.1
-          (λ d there. in_front q.offers d delivery there) h.offers) here;
+          (λ d there. found_first (λ (x : Delivery). x.number == d.number) q.offers (delivery ∷ []) d there) h.offers) here;
       links = subst (λ n. AllByRecursion (λ (m : ℕ). m < n) world.links) (sym (ap (λ (o : Outline). o.next_link) kept))
           h.links;
       numbers = subst (λ n. AllByRecursion (AreBelow n) new.subscribers)
@@ -179,7 +188,7 @@ as_end q far rows = record { start = q.start; cursor = far; link = q.link; close
 -- what an end accepts: how far it is behind it, and with which tables
 end_behind : (sequence : List Entry) (q : Subscriber) (delivery : Delivery) (end : Endpoint) → delivery.last
     ≤ length sequence → AcceptsDelivery (endpoint_of q) sequence delivery end
-    → endpoint_of (say.accepted sequence delivery.last q) ≡ end
+    → endpoint_of (say.with_accepted (part sequence (cursor q) (delivery.last - cursor q)) q) ≡ end
 end_behind sequence q delivery end placed accepts =
     let entries = part sequence (cursor q) (delivery.last - cursor q) in
     let long = part_length sequence (cursor q) delivery.last placed (omega (arith, accepts.some)) in
@@ -193,11 +202,11 @@ end_behind sequence q delivery end placed accepts =
 accepted_tells : AcceptSteps → (schema : List Shape) (old : State) (world : World) (d : ℕ) (delivery : Delivery)
     (end : Endpoint) (answer : Result Endpoint AcceptRefusal) → accept end old.sequence delivery ≡ answer
     → slice_get old.endpoints delivery.sub ≡ Some end → IsOf old.endpoints old.sequence delivery
-    → IsDelivered world.subscribers delivery → IsToldBy schema old world
+    → IsDelivered world.subscribers delivery → delivery.number ≡ d → IsToldBy schema old world
     → TellingGoes schema world (event.Accept d) (out.accepted_by old delivery.sub answer)
-accepted_tells steps schema old world d delivery end (Err why) is found of offered h =
+accepted_tells steps schema old world d delivery end (Err why) is found of offered number h =
     nothing_told schema world (event.Accept d) (reply.Refused (refusal.Accept why)) old refl h
-accepted_tells steps schema old world d delivery end (Ok after) is found of offered h =
+accepted_tells steps schema old world d delivery end (Ok after) is found of offered number h =
     let s = delivery.sub in
     let at = subscriber_of_end schema old world s end h found in
     let q = at.0 in
@@ -210,23 +219,30 @@ accepted_tells steps schema old world d delivery end (Ok after) is found of offe
     subst (λ entries. AcceptsDelivery (endpoint_of q) entries delivery after) (sym h.sequence) from_q in
     let last : after.cursor ≡ delivery.last = ap (λ (e : Endpoint). e.cursor) accepts.kept in
     let entries = part world.sequence (cursor q) (delivery.last - cursor q) in
-    let r = say.accepted world.sequence delivery.last q in
+    let r = say.with_accepted entries q in
     let new = with_subscriber world s r in
     let rows : r.tables ≡ after.tables = ap (say.if_applied q.tables) accepts.tables in
     let same : offered.0 ≡ q = cc (sym offered.1 ∙ at.1) in
+    let here : delivery_told delivery.number q ≡ Some delivery =
+    subst (λ (x : Subscriber). delivery_told delivery.number x ≡ Some delivery) same offered.2 in
     let takes : Accepts world new = record {
       s = s;
       subscriber = q;
       delivery = delivery;
       end = after;
       found = at.1;
-      offered = subst (λ (x : Subscriber). IsIn delivery x.offers) same offered.2;
+      offered = found_in (λ (x : Delivery). x.number == delivery.number) q.offers delivery here;
       accepts = accepts;
       kept = ap (λ t. with_subscriber world s (record q { accepted = q.accepted ++ entries; tables = t })) rows;
     } in
-    let to_last = ap (λ n. say.subscriber_changed world s (say.accepted world.sequence n)) last in
+    let as_d : delivery_told d q ≡ Some delivery = subst (λ n. delivery_told n q ≡ Some delivery) number here in
+    let first : delivery.first - 1 ≡ cursor q = omega (arith, accepts.next) in
+    let many : suc delivery.last - delivery.first ≡ delivery.last - cursor q = omega (arith, accepts.next) in
+    let named : entries_of world.sequence delivery ≡ entries = λ i. part world.sequence (first i) (many i) in
     let is_new : told schema world (event.Accept d) (reply.Accepted s after.cursor) ≡ new =
-    to_last ∙ changed_is world s (say.accepted world.sequence delivery.last) q at.1 in
+    changed_is world s (say.accepted world.sequence d) q at.1
+    ∙ ap (λ f. with_subscriber world s (say.accepted_told world.sequence f q)) as_d
+    ∙ ap (λ es. with_subscriber world s (say.with_accepted es q)) named in
     move_told schema world new (event.Accept d) (reply.Accepted s after.cursor) (with_endpoint old s after) is_new
     (inr (inr (inr (inr (inr (inr (inr (inr (inr (inl takes))))))))))
     (telling_with_both schema old world s q r after at.1 refl refl
@@ -234,12 +250,12 @@ accepted_tells steps schema old world d delivery end (Ok after) is found of offe
 
 accepted_at_tells : AcceptSteps → (schema : List Shape) (old : State) (world : World) (d : ℕ) (delivery : Delivery)
     (found : Option Endpoint) → slice_get old.endpoints delivery.sub ≡ found → IsOf old.endpoints old.sequence delivery
-    → IsDelivered world.subscribers delivery → IsToldBy schema old world
+    → IsDelivered world.subscribers delivery → delivery.number ≡ d → IsToldBy schema old world
     → TellingGoes schema world (event.Accept d) (out.accepted_at old delivery found)
-accepted_at_tells steps schema old world d delivery None found of offered h =
+accepted_at_tells steps schema old world d delivery None found of offered number h =
     nothing_told schema world (event.Accept d) (reply.Refused refusal.NoDelivery) old refl h
-accepted_at_tells steps schema old world d delivery (Some end) found of offered h =
-    accepted_tells steps schema old world d delivery end (accept end old.sequence delivery) refl found of offered h
+accepted_at_tells steps schema old world d delivery (Some end) found of offered number h =
+    accepted_tells steps schema old world d delivery end (accept end old.sequence delivery) refl found of offered number h
 
 accepted_as_tells : AcceptSteps → (schema : List Shape) (old : State) (world : World) (d : ℕ) (found : Option Delivery)
     → out.delivery_of old d ≡ found → IsWorld old → IsToldBy schema old world
@@ -251,7 +267,9 @@ accepted_as_tells steps schema old world d (Some delivery) found good h =
     good.are_of found in
     let offered = all_find (IsDelivered world.subscribers) (λ (x : Delivery). x.number == d) old.deliveries delivery
     h.offers found in
-    accepted_at_tells steps schema old world d delivery (slice_get old.endpoints delivery.sub) refl of offered h
+    let number : delivery.number ≡ d = eqb-true delivery.number d
+    (found_passes (λ (x : Delivery). x.number == d) old.deliveries delivery found) in
+    accepted_at_tells steps schema old world d delivery (slice_get old.endpoints delivery.sub) refl of offered number h
 
 pub accept_tells : AcceptSteps → (schema : List Shape) (old : State) (world : World) (d : ℕ) → IsWorld old
     → IsToldBy schema old world → TellingGoes schema world (event.Accept d) (out.accepted old d)

@@ -1,7 +1,7 @@
 -- What an event and its answer tell: a course of moves, and what the broker has behind it. All that the events have in
 -- common.
 use Rattle.std.proofs.Common.{◌≡◌, ℕ, suc, ◌<◌, inl, inr, Bool, true, false, cond, List, [], ◌∷◌, ◌++◌, Some, refl, sym}
-use Rattle.std.proofs.Common.{ap, subst, ◌∙◌, arith}
+use Rattle.std.proofs.Common.{ap, subst, find, ◌==◌, ◌∙◌, arith}
 use Rattle.std.specs.Prelude.{slice_get, slice_set}
 use Rattle.std.specs.List.{AllByRecursion}
 use Rattle.std.proofs.lemmas.Bool.Decides.{eqb_tells}
@@ -16,7 +16,7 @@ use Rattle.rb_core.specs.declared.reply.Reply.{Reply}
 use Rattle.rb_core.specs.Moves.{with_subscriber, IsIn, IsNew, IsUnused, Moves, Leads}
 use Rattle.rb_core.specs.Outcome.{with_endpoint}
 use Rattle.rb_core.specs.State.{State, IsWorld, empty_tables, member_of_end}
-use Rattle.rb_core.specs.Told.{told, subscriber_set, subscriber_changed, IsDelivered, AreBelow, IsToldBy}
+use Rattle.rb_core.specs.Told.{told, subscriber_set, subscriber_changed, delivery_told, IsDelivered, AreBelow, IsToldBy}
 use Rattle.rb_core.specs.World.{Subscriber, World, endpoint_of}
 use Rattle.rb_core.proofs.Moving.{all_set, all_get, all_map}
 use Rattle.rb_core.proofs.Pairs.{get_of_map, map_set}
@@ -123,7 +123,7 @@ subscriber_of_member schema old world s member good h found =
 
 -- deliveries stay offered where the offers to one subscription only grow
 pub still_offered : (subs : List Subscriber) (s : ℕ) (q r : Subscriber) (deliveries : List Delivery) → slice_get subs s
-    ≡ Some q → ((d : Delivery) → IsIn d q.offers → IsIn d r.offers) → AllByRecursion (IsDelivered subs) deliveries
+    ≡ Some q → ((d : Delivery) → delivery_told d.number q ≡ Some d → delivery_told d.number r ≡ Some d) → AllByRecursion (IsDelivered subs) deliveries
     → AllByRecursion (IsDelivered (slice_set subs s r)) deliveries
 still_offered subs s q r deliveries found grows all =
     all_map (IsDelivered subs) (IsDelivered (slice_set subs s r)) deliveries stays all
@@ -135,7 +135,7 @@ still_offered subs s q r deliveries found grows all =
           let same : h.0 ≡ q = cc (sym h.1 ∙ here) in
           let new : slice_get (slice_set subs s r) d.sub ≡ Some r =
           subst (λ n. slice_get (slice_set subs s r) n ≡ Some r) is.1 (get_set subs s q r found) in
-          (r, new, grows d (subst (λ (x : Subscriber). IsIn d x.offers) same h.2))
+          (r, new, grows d (subst (λ (x : Subscriber). delivery_told d.number x ≡ Some d) same h.2))
       | inr other ↦ (h.0, get_set_other subs s d.sub r (λ e. other.1 (sym e)) ∙ h.1, h.2)
     ]
 
@@ -153,7 +153,7 @@ telling_with_both schema old world s q r end found base same is h = record {
   closing = h.closing;
   ends = map_set endpoint_of world.subscribers s r ∙ ap (λ ends. slice_set ends s (endpoint_of r)) h.ends
       ∙ ap (slice_set old.endpoints s) is;
-  offers = still_offered world.subscribers s q r old.deliveries found (λ d here. subst (IsIn d) (sym same) here)
+  offers = still_offered world.subscribers s q r old.deliveries found (λ d here. ap (find (λ (x : Delivery). x.number == d.number)) same ∙ here)
       h.offers;
   links = h.links;
   numbers = all_set (AreBelow old.desk.next_delivery) world.subscribers s r h.numbers

@@ -1,8 +1,8 @@
--- What events and their answers tell: what was fed, staged, sent, placed, offered and accepted,
+-- What events and their answers tell: what was fed, staged, sent, placed, delivered and accepted,
 -- without a look at the broker.
-use Rattle.std.specs.Prelude.{◌≡◌, ℕ, suc, ◌-◌, ◌<◌, true, false, map, List, [], ◌∷◌, ◌++◌, length}
+use Rattle.std.specs.Prelude.{◌≡◌, ◌==◌, ℕ, suc, ◌-◌, ◌<◌, true, false, map, List, [], ◌∷◌, ◌++◌, length}
 use Rattle.std.specs.Prelude.{Option, Some, None, Result, Ok, Err, slice_get}
-use Rattle.std.specs.List.{AllByRecursion}
+use Rattle.std.specs.List.{AllByRecursion, find}
 use Rattle.cs_model.specs.declared.origin.Origin.TheVariants.{Sent}
 use Rattle.cs_model.specs.declared.shape.Shape.{Shape}
 use Rattle.cs_model.specs.Section.{Section}
@@ -21,10 +21,10 @@ use Rattle.rb_core.specs.declared.event.Event.TheVariants as event
 use Rattle.rb_core.specs.declared.publisher.Publisher.{Publisher}
 use Rattle.rb_core.specs.declared.reply.Reply.{Reply}
 use Rattle.rb_core.specs.declared.reply.Reply.TheVariants as reply
-use Rattle.rb_core.specs.Moves.{with_sender, with_subscriber, IsIn}
+use Rattle.rb_core.specs.Moves.{with_sender, with_subscriber}
 use Rattle.rb_core.specs.Run.{Answer}
 use Rattle.rb_core.specs.State.{State, empty_tables}
-use Rattle.rb_core.specs.World.{Sender, Subscriber, World, world_begun, cursor, endpoint_of}
+use Rattle.rb_core.specs.World.{Sender, Subscriber, World, world_begun, endpoint_of}
 
 -- a publisher, or a subscription, changed so where there is one of this number
 abbrev pub sender_set : World → ℕ → (Sender → Sender) → Option Sender → World
@@ -126,8 +126,6 @@ subscribed schema old start link = record old {
 abbrev pub delivered : Delivery → Subscriber → Subscriber
 delivered delivery q = record q { offers = q.offers ++ delivery ∷ [] }
 
--- it has accepted up to this number: the entries from its cursor to there, which are applied to its
--- tables
 abbrev pub if_applied : tables.TableState → Result tables.TableState Conflict → tables.TableState
 if_applied old (Ok new) = new
 if_applied old (Err conflict) = old
@@ -140,8 +138,22 @@ with_accepted entries q =
       tables = if_applied q.tables (single q.tables (joined_bodies entries));
     }
 
+-- the delivery of this number among those that it was delivered
+abbrev pub delivery_told : ℕ → Subscriber → Option Delivery
+delivery_told d q = find (λ delivery. delivery.number == d) q.offers
+
+-- the entries that a delivery names: its first number to its last
+abbrev pub entries_of : List Entry → Delivery → List Entry
+entries_of sequence delivery = part sequence (delivery.first - 1) (suc delivery.last - delivery.first)
+
+-- It accepts the delivery of this number: the entries that the delivery names go to the end of what it accepted, and are
+-- applied to its tables.
+abbrev pub accepted_told : List Entry → Option Delivery → Subscriber → Subscriber
+accepted_told sequence None q = q
+accepted_told sequence (Some delivery) q = with_accepted (entries_of sequence delivery) q
+
 abbrev pub accepted : List Entry → ℕ → Subscriber → Subscriber
-accepted sequence last q = with_accepted (part sequence (cursor q) (last - cursor q)) q
+accepted sequence d q = accepted_told sequence (delivery_told d q) q
 
 abbrev pub reconnected : ℕ → Subscriber → Subscriber
 reconnected link q = record q { link = link }
@@ -167,8 +179,7 @@ told schema old (event.Take s now) (reply.Delivery delivery) =
     subscriber_changed old delivery.sub (delivered delivery)
 told schema old (event.TakeAny now) (reply.Delivery delivery) =
     subscriber_changed old delivery.sub (delivered delivery)
-told schema old (event.Accept d) (reply.Accepted s last) =
-    subscriber_changed old s (accepted old.sequence last)
+told schema old (event.Accept d) (reply.Accepted s last) = subscriber_changed old s (accepted old.sequence d)
 told schema old (event.Reconnect s cursor) (reply.Link link) =
     record (subscriber_changed old s (reconnected link)) { links = link ∷ old.links }
 told schema old (event.Unsubscribe s) reply.Unsubscribed = subscriber_changed old s unsubscribed
@@ -205,10 +216,10 @@ pub record IsSender (publisher : Publisher) (sender : Sender) : Type 0 where
   pub staged : sender.staged ≡ publisher.staged
   pub sent : publisher.sent ≡ length sender.sent
 
--- a delivery was offered to its subscription
+-- a delivery was delivered to its subscription, and no earlier one there has its number
 abbrev pub IsDelivered : List Subscriber → Delivery → Type 0
 IsDelivered subscribers delivery = (q : Subscriber) × (slice_get subscribers delivery.sub ≡ Some q)
-    × IsIn delivery q.offers
+    × (delivery_told delivery.number q ≡ Some delivery)
 
 -- the deliveries that were offered to a subscription have numbers below this one
 abbrev pub AreBelow : ℕ → Subscriber → Type 0

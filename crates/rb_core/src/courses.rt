@@ -3,7 +3,7 @@
 //! calls it.
 
 ghost use Rattle.std.specs.Prelude.{◌≡◌, ℕ, true, List, Some, slice_get};
-ghost use Rattle.rb_core.specs.Moves.{Leads, HasRun, StaysClosed, items_of, own_of, IsFront};
+ghost use Rattle.rb_core.specs.Moves.{Leads, HasRun, StaysClosed, items_of, own_of, IsFront, IsSending};
 ghost use Rattle.rb_core.specs.World.{Sender, Subscriber, World, world_begun};
 ghost use Rattle.rb_sequence.specs.Entry.{Entry};
 ghost use Rattle.rb_subscriber.specs.Accept.{AppliesSingly};
@@ -33,8 +33,8 @@ pub fn nothing_after_close()
 {}
 
 /// Whatever happens from the beginning on, what stands in the sequence of one publisher is the
-/// front of what it sent, in that order; and no two entries have the same publisher and the same
-/// own number, so that each sending is placed once.
+/// front of what it sent, in that order; no two entries have the same publisher and the same own
+/// number, so that each sending is placed once; and each entry is a sending of a publisher that came.
 pub fn sendings_come_once_in_order()
     ensures order { (mids : List World) (new : World) (p : ℕ) (sender : Sender)
         → Leads world_begun mids new → slice_get new.senders p ≡ Some sender
@@ -43,6 +43,10 @@ pub fn sendings_come_once_in_order()
         → Leads world_begun mids new → slice_get new.sequence i ≡ Some a
         → slice_get new.sequence j ≡ Some b → a.item.publisher ≡ b.item.publisher
         → a.item.own ≡ b.item.own → i ≡ j }
+    ensures sent { (mids : List World) (new : World) (i : ℕ) (entry : Entry)
+        → Leads world_begun mids new → slice_get new.sequence i ≡ Some entry
+        → (sender : Sender) × (slice_get new.senders entry.item.publisher ≡ Some sender)
+        × IsSending sender entry.item }
 {}
 
 /// Whatever happens from the beginning on, a subscription's tables are what one thread gets that

@@ -12,7 +12,7 @@ ghost use Rattle.rb_core.specs.declared.event.Event.{Event};
 ghost use Rattle.rb_core.specs.declared.event.Event.TheVariants as event;
 ghost use Rattle.rb_core.specs.declared.publisher.Publisher.{Publisher};
 ghost use Rattle.rb_core.specs.declared.reply.Reply.{Reply};
-ghost use Rattle.rb_core.specs.Moves.{Leads, HasRun, StaysClosed, items_of, own_of, IsFront};
+ghost use Rattle.rb_core.specs.Moves.{Leads, HasRun, StaysClosed, items_of, own_of, IsFront, IsSending};
 ghost use Rattle.rb_core.specs.Outcome.{outcome};
 ghost use Rattle.rb_core.specs.Run.{Answer, IsRunOf, RunsOn};
 ghost use Rattle.rb_core.specs.State.{State, IsWorld, empty_tables};
@@ -130,6 +130,11 @@ pub fn sendings_come_once_in_order()
         → IsRunOf limits schema events answers new
         → slice_get new.sequence i ≡ Some a → slice_get new.sequence j ≡ Some b
         → a.item.publisher ≡ b.item.publisher → a.item.own ≡ b.item.own → i ≡ j }
+    ensures sent { (limits : Limits) (schema : List Shape) (events : List Event)
+        (answers : List Answer) (new : State) (i : ℕ) (entry : Entry)
+        → IsRunOf limits schema events answers new → slice_get new.sequence i ≡ Some entry
+        → (sender : Sender) × (slice_get (world_told schema events answers).senders
+        entry.item.publisher ≡ Some sender) × IsSending sender entry.item }
 {
     runs_are_told();
     courses::sendings_come_once_in_order();

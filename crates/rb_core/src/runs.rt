@@ -3,7 +3,7 @@
 ghost use Rattle.std.specs.Prelude.{◌≡◌, ℕ, true, List, Some, IfOk, slice_get, take};
 ghost use Rattle.std.specs.List.{AllByRecursion};
 ghost use Rattle.cs_model.specs.Bytes.{AreBytes};
-ghost use Rattle.rb_core.specs.Moves.{HasRun, StaysClosed, items_of, own_of, IsFront};
+ghost use Rattle.rb_core.specs.Moves.{HasRun, StaysClosed, items_of, own_of, IsFront, IsSending};
 ghost use Rattle.rb_core.specs.Run.{Run, FeedsBytes};
 ghost use Rattle.rb_core.specs.State.{empty_tables, empty_world};
 ghost use Rattle.rb_core.specs.Told.{world_told};
@@ -51,6 +51,10 @@ pub fn run(
     ensures once { IfOk result (λ r. (i j : ℕ) (a b : Entry) → slice_get r.0.sequence i ≡ Some a
         → slice_get r.0.sequence j ≡ Some b → a.item.publisher ≡ b.item.publisher
         → a.item.own ≡ b.item.own → i ≡ j) }
+    // Each entry is what a publisher that came sent under the entry's own number.
+    ensures sent { IfOk result (λ r. (i : ℕ) (entry : Entry) → slice_get r.0.sequence i ≡ Some entry
+        → (sender : Sender) × (slice_get (world_told schema events.now r.1.items).senders
+        entry.item.publisher ≡ Some sender) × IsSending sender entry.item) }
     // Once the first n events have closed the sequence, it stays closed and nothing is placed.
     ensures closed { IfOk result (λ r. (n last : ℕ)
         → (world_told schema (take n events.now) (take n r.1.items)).closing ≡ Some last

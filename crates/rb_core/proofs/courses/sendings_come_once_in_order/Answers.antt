@@ -1,4 +1,4 @@
-use Rattle.rb_core.proofs.Sendings.{in_order, once}
+use Rattle.rb_core.proofs.Sendings.{in_order, once, is_sending}
 use Rattle.rb_core.proofs.courses.sendings_come_once_in_order.Goals as goal
 
 pub returns-clause-order : goal.returns-clause-order
@@ -6,3 +6,6 @@ returns-clause-order c = λ mids new p sender. in_order mids new p sender
 
 pub returns-clause-once : goal.returns-clause-once
 returns-clause-once c = λ mids new i j a b. once mids new i j a b
+
+pub returns-clause-sent : goal.returns-clause-sent
+returns-clause-sent c = λ mids new i entry. is_sending mids new i entry

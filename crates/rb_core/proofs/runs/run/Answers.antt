@@ -55,3 +55,10 @@ returns-clause-tables c =
     on_ok _ _ c.served.result
     (λ r both s subscriber found. c.tables_apply_singly.ensures c.args.config c.args.schema c.args.events.now
     r.1.items r.0 s subscriber (is_run c r both) found) c.served.ensures
+
+pub returns-clause-sent : goal.returns-clause-sent
+returns-clause-sent c =
+    on_ok _ _ c.served.result
+    (λ r both i entry. c.sendings_come_once_in_order.ensures.sent c.args.config c.args.schema c.args.events.now r.1.items
+    r.0 i entry (is_run c r both))
+    c.served.ensures
