@@ -1,3 +1,4 @@
 pub mod AcceptLaws
 pub mod ApplyLaws
 pub mod RunLaws
+pub mod ConflictLaws

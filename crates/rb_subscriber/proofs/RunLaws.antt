@@ -55,7 +55,7 @@ abbrev pub RunContinues : Type 0
 RunContinues = (old : tables.TableState) (some more : List Section) (new : tables.TableState)
     → (single old (some ++ more) ≡ Ok new) ↔ AppliesBoth old some more new
 
-nothing_applies : (old : tables.TableState) → single old [] ≡ Ok old
+pub nothing_applies : (old : tables.TableState) → single old [] ≡ Ok old
 unfolding single_from
 nothing_applies old = refl
 

@@ -1,5 +1,5 @@
 -- What accepting a delivery answers, and what it leaves.
-use Rattle.std.specs.Prelude.{◌≡◌, ℕ, suc, ◌-◌, ◌≤◌, Bool, false, not, List, [], ◌∷◌, take, drop}
+use Rattle.std.specs.Prelude.{◌≡◌, ◌⊎◌, ℕ, suc, ◌-◌, ◌≤◌, Bool, false, not, List, [], ◌∷◌, take, drop}
 use Rattle.std.specs.Prelude.{Option, Some, None, Result, Ok, Err, ◌==◌, nat_le, if◌then◌else◌}
 use Rattle.std.specs.List.{flat_map, AllByRecursion}
 use Rattle.cs_model.specs.declared.shape.Shape.{Shape}
@@ -115,3 +115,10 @@ abbrev pub AppliesSingly : tables.TableState → List Entry → tables.TableStat
 AppliesSingly old [] new = new ≡ old
 AppliesSingly old (entry ∷ entries) new = (mid : tables.TableState)
     × (single old entry.item.body ≡ Ok mid) × AppliesSingly mid entries new
+
+-- bodies applied one after another, of which one conflicts: those before it apply, and it doesn't
+abbrev pub ConflictsSingly : tables.TableState → List Entry → Type 0
+ConflictsSingly old [] = ⊥
+ConflictsSingly old (entry ∷ entries) =
+    ((conflict : Conflict) × (single old entry.item.body ≡ Err conflict))
+    ⊎ ((mid : tables.TableState) × (single old entry.item.body ≡ Ok mid) × ConflictsSingly mid entries)

@@ -1,12 +1,14 @@
 //! Laws: public functions that do nothing, whose contracts say what holds of every delivery. Who
 //! needs one calls it.
 
-ghost use Rattle.std.specs.Prelude.{◌≡◌, ◌≤◌, ◌↔◌, ◌++◌, List, Ok, length};
+ghost use Rattle.std.specs.Prelude.{◌≡◌, ◌≤◌, ◌↔◌, ◌++◌, List, Ok, Err, length};
+ghost use Rattle.cs_apply.specs.declared.conflict.Conflict.{Conflict};
 ghost use Rattle.rb_desk.specs.declared.delivery.Delivery.{Delivery};
 ghost use Rattle.rb_sequence.specs.Entry.{Entry};
 ghost use Rattle.rb_subscriber.specs.Endpoint.{Endpoint};
 ghost use Rattle.rb_subscriber.specs.Accept.{accept, AcceptsDelivery, brought, accepted_entries};
-ghost use Rattle.rb_subscriber.specs.Accept.{AppliesSingly};
+ghost use Rattle.rb_subscriber.specs.Accept.{AppliesSingly, ConflictsSingly};
+ghost use Rattle.rb_subscriber.specs.declared.refusal.AcceptRefusal.TheVariants as refusal;
 
 use cs_apply::laws::applying_goes_on;
 
@@ -37,6 +39,16 @@ pub fn accepted_apply_singly()
     ensures { (old : Endpoint) (sequence : List Entry) (delivery : Delivery) (new : Endpoint)
         → accept old sequence delivery ≡ Ok new
         → AppliesSingly old.tables (brought old sequence delivery) new.tables }
+{
+    applying_goes_on();
+}
+
+/// A delivery is refused for a conflict only where its changesets, applied one after another,
+/// conflict too: those before some changeset apply, and that one doesn't.
+pub fn conflicts_are_single()
+    ensures { (old : Endpoint) (sequence : List Entry) (delivery : Delivery) (conflict : Conflict)
+        → accept old sequence delivery ≡ Err (refusal.Conflict conflict)
+        → ConflictsSingly old.tables (brought old sequence delivery) }
 {
     applying_goes_on();
 }

@@ -1,0 +1,85 @@
+-- Where the joined bodies of a delivery conflict, so do the bodies applied one after another.
+use Rattle.std.proofs.Common.{◌≡◌, ◌==◌, ℕ, suc, inl, inr, Bool, true, false, not, cond, List, [], ◌∷◌, ◌++◌}
+use Rattle.std.proofs.Common.{Option, Some, None, Result, Ok, Err, refl, sym, ◌∙◌}
+use Rattle.std.specs.Prelude.{nat_le}
+use Rattle.cs_apply.specs.declared.conflict.Conflict.{Conflict}
+use Rattle.cs_apply.specs.Single.{single}
+use Rattle.cs_apply.specs.State as tables
+use Rattle.rb_desk.specs.declared.delivery.Delivery.{Delivery}
+use Rattle.rb_sequence.specs.Entry.{Entry}
+use Rattle.rb_subscriber.specs.declared.refusal.AcceptRefusal.{AcceptRefusal}
+use Rattle.rb_subscriber.specs.declared.refusal.AcceptRefusal.TheVariants as refusal
+use Rattle.rb_subscriber.specs.Accept.{brought, joined_bodies, applied, applied_if_admitted, accept, first_outside_entry}
+use Rattle.rb_subscriber.specs.Accept.{ConflictsSingly}
+use Rattle.rb_subscriber.specs.Endpoint.{Endpoint}
+use Rattle.rb_subscriber.proofs.RunLaws.{RunContinues, nothing_applies}
+
+-- ---- joined bodies
+
+rest_conflicts : RunContinues → (old mid : tables.TableState) (entry : Entry) (entries : List Entry)
+    (conflict : Conflict) → single old entry.item.body ≡ Ok mid
+    → single old (joined_bodies (entry ∷ entries)) ≡ Err conflict → (rest : Result tables.TableState Conflict)
+    → single mid (joined_bodies entries) ≡ rest → (later : Conflict)
+    × (single mid (joined_bodies entries) ≡ Err later)
+rest_conflicts goes old mid entry entries conflict first e (Ok new) is =
+    let whole = (goes old entry.item.body (joined_bodies entries) new).1 (mid, first, is) in
+    absurd (let both : Ok new ≡ Err conflict = sym whole ∙ e in cc)
+rest_conflicts goes old mid entry entries conflict first e (Err later) is = (later, is)
+
+joined_conflicts : RunContinues → (old : tables.TableState) (entries : List Entry) (conflict : Conflict)
+    → single old (joined_bodies entries) ≡ Err conflict → ConflictsSingly old entries
+joined_conflicts goes old [] conflict e =
+    absurd (let both : Ok old ≡ Err conflict = sym (nothing_applies old) ∙ e in cc)
+joined_conflicts goes old (entry ∷ entries) conflict e =
+    by (single old entry.item.body) refl (λ mid later. joined_conflicts goes mid entries later)
+  where
+    by : (r : Result tables.TableState Conflict) → single old entry.item.body ≡ r
+        → ((mid : tables.TableState) (later : Conflict) → single mid (joined_bodies entries) ≡ Err later
+        → ConflictsSingly mid entries)
+        → ConflictsSingly old (entry ∷ entries)
+    by (Err first) is rest = inl (first, is)
+    by (Ok mid) is rest =
+        let after = rest_conflicts goes old mid entry entries conflict is e (single mid (joined_bodies entries)) refl in
+        inr (mid, is, rest mid after.0 after.1)
+
+-- ---- the call
+
+-- what another refusal isn't goes on
+goes_past : (b : Bool) (why : AcceptRefusal) (rest : Result Endpoint AcceptRefusal) (conflict : Conflict)
+    → (why ≡ refusal.Conflict conflict → ⊥) → cond b (Err why) rest ≡ Err (refusal.Conflict conflict)
+    → rest ≡ Err (refusal.Conflict conflict)
+goes_past true why rest conflict other e = absurd (other cc)
+goes_past false why rest conflict other e = e
+
+applied_conflicts : (old : Endpoint) (last : ℕ) (r : Result tables.TableState Conflict) (conflict : Conflict)
+    → applied old last r ≡ Err (refusal.Conflict conflict) → (found : Conflict) × (r ≡ Err found)
+applied_conflicts old last (Ok tables) conflict e = absurd cc
+applied_conflicts old last (Err found) conflict e = (found, refl)
+
+admitted_conflicts : (old : Endpoint) (last : ℕ) (entries : List Entry) (o : Option Entry) (conflict : Conflict)
+    → applied_if_admitted old last entries o ≡ Err (refusal.Conflict conflict) → (found : Conflict)
+    × (single old.tables (joined_bodies entries) ≡ Err found)
+admitted_conflicts old last entries None conflict e =
+    applied_conflicts old last (single old.tables (joined_bodies entries)) conflict e
+admitted_conflicts old last entries (Some entry) conflict e = absurd cc
+
+accept_conflicts : (old : Endpoint) (sequence : List Entry) (delivery : Delivery) (conflict : Conflict)
+    → accept old sequence delivery ≡ Err (refusal.Conflict conflict) → (found : Conflict)
+    × (single old.tables (joined_bodies (brought old sequence delivery)) ≡ Err found)
+unfolding accept
+accept_conflicts old sequence delivery conflict e =
+    let entries = brought old sequence delivery in
+    let closed = goes_past old.closed refusal.Closed _ conflict (λ same. absurd cc) e in
+    let link = goes_past (not (delivery.link == old.link)) refusal.StaleLink _ conflict (λ same. absurd cc) closed in
+    let seen = goes_past (nat_le delivery.last old.cursor) refusal.Seen _ conflict (λ same. absurd cc) link in
+    let gap = goes_past (not (delivery.first == suc old.cursor)) (refusal.Gap (suc old.cursor))
+    (applied_if_admitted old delivery.last entries (first_outside_entry old.tables.schema entries)) conflict
+    (λ same. absurd cc) seen in
+    admitted_conflicts old delivery.last entries (first_outside_entry old.tables.schema entries) conflict gap
+
+pub conflict_singly : RunContinues → (old : Endpoint) (sequence : List Entry) (delivery : Delivery)
+    (conflict : Conflict) → accept old sequence delivery ≡ Err (refusal.Conflict conflict)
+    → ConflictsSingly old.tables (brought old sequence delivery)
+conflict_singly goes old sequence delivery conflict e =
+    let found = accept_conflicts old sequence delivery conflict e in
+    joined_conflicts goes old.tables (brought old sequence delivery) found.0 found.1
