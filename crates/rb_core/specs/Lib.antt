@@ -5,3 +5,4 @@ pub mod World
 pub mod Moves
 pub mod Told
 pub mod Texts
+pub mod Headline

@@ -12,6 +12,7 @@ ghost use Rattle.rb_core.specs.declared.event.Event.{Event};
 ghost use Rattle.rb_core.specs.declared.event.Event.TheVariants as event;
 ghost use Rattle.rb_core.specs.declared.publisher.Publisher.{Publisher};
 ghost use Rattle.rb_core.specs.declared.reply.Reply.{Reply};
+ghost use Rattle.rb_core.specs.Headline.{KeepsHeadline};
 ghost use Rattle.rb_core.specs.Moves.{Leads, HasRun, StaysClosed, items_of, own_of, IsFront, IsSending};
 ghost use Rattle.rb_core.specs.Outcome.{outcome};
 ghost use Rattle.rb_core.specs.Run.{Answer, IsRunOf, RunsOn};
@@ -172,4 +173,17 @@ pub fn tables_apply_singly()
 {
     runs_are_told();
     courses::tables_apply_singly();
+}
+
+/// Every run keeps the headline: these laws together, and what `run` says of its own events.
+pub fn runs_keep_the_headline()
+    ensures { (limits : Limits) (schema : List Shape) (events : List Event)
+        (answers : List Answer) (new : State) → IsRunOf limits schema events answers new
+        → KeepsHeadline schema events answers new }
+{
+    runs_are_told();
+    accepted_is_gapless();
+    sendings_come_once_in_order();
+    nothing_after_close();
+    tables_apply_singly();
 }

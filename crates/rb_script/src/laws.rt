@@ -5,6 +5,7 @@ ghost use Rattle.std.specs.List.{AllByRecursion};
 ghost use Rattle.cs_model.specs.declared.shape.Shape.{Shape};
 ghost use Rattle.rb_desk.specs.IsPicture.{AreInRange};
 ghost use Rattle.rb_desk.specs.Limits.{Limits};
+ghost use Rattle.rb_core.specs.Headline.{KeepsHeadline};
 ghost use Rattle.rb_core.specs.Moves.{HasRun};
 ghost use Rattle.rb_core.specs.Run.{FeedsBytes, Run};
 ghost use Rattle.rb_core.specs.State.{empty_world};
@@ -16,7 +17,7 @@ ghost use Rattle.rb_script.specs.Output.{answers};
 ghost use Rattle.rb_script.specs.Script.{IsLine, ended_lines, lines_answers, lines_events};
 ghost use Rattle.rb_script.specs.Script.{lines_replies, stage_after};
 
-use rb_core::laws::accepted_is_gapless;
+use rb_core::laws::{accepted_is_gapless, runs_keep_the_headline};
 
 /// What is written for a script is the answers to its lines, one after another, the last of which
 /// lacks its end.
@@ -55,4 +56,21 @@ pub fn accepted_lines_are_gapless()
     scripts_are_runs();
     scripts_feed_bytes();
     accepted_is_gapless();
+}
+
+/// The headline of a script, whatever its lines are and whether or not the last one has its end:
+/// what is written is the answers to its lines, and of what these tell every run's headline holds.
+pub fn scripts_keep_the_headline()
+    ensures { (config : Limits) (lines : List (List ℕ)) (last : List ℕ) → AreInRange config
+        → AllByRecursion IsLine lines → IsLine last
+        → (answers config (ended_lines lines ++ last)
+            ≡ lines_answers config (Tables []) (lines ++ last ∷ []))
+        × ((schema : List Shape) × KeepsHeadline schema (lines_events (lines ++ last ∷ []))
+            (lines_replies config (Tables []) (lines ++ last ∷ []))
+            (world_of config (stage_after config (Tables []) (lines ++ last ∷ [])))) }
+{
+    lines_are_answered();
+    scripts_are_runs();
+    scripts_feed_bytes();
+    runs_keep_the_headline();
 }
