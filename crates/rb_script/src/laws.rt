@@ -64,10 +64,10 @@ pub fn scripts_keep_the_headline()
     ensures { (config : Limits) (lines : List (List ℕ)) (last : List ℕ) → AreInRange config
         → AllByRecursion IsLine lines → IsLine last
         → (answers config (ended_lines lines ++ last)
-            ≡ lines_answers config (Tables []) (lines ++ last ∷ []))
+        ≡ lines_answers config (Tables []) (lines ++ last ∷ []))
         × ((schema : List Shape) × KeepsHeadline schema (lines_events (lines ++ last ∷ []))
-            (lines_replies config (Tables []) (lines ++ last ∷ []))
-            (world_of config (stage_after config (Tables []) (lines ++ last ∷ [])))) }
+        (lines_replies config (Tables []) (lines ++ last ∷ []))
+        (world_of config (stage_after config (Tables []) (lines ++ last ∷ [])))) }
 {
     lines_are_answered();
     scripts_are_runs();

@@ -9,8 +9,10 @@ returns c = λ config lines last ranges all one.
     let whole = lines ++ last ∷ [] in
     let run = c.scripts_are_runs.ensures config whole in (
       c.lines_are_answered.ensures config lines last all one,
-      run.0,
-      c.runs_keep_the_headline.ensures config run.0 (lines_events whole) (lines_replies config (Tables []) whole)
-      (world_of config (stage_after config (Tables []) whole))
-      (record { ranges = ranges; feeds = c.scripts_feed_bytes.ensures whole; run = run.1 }),
+      (
+        run.0,
+        c.runs_keep_the_headline.ensures config run.0 (lines_events whole) (lines_replies config (Tables []) whole)
+            (world_of config (stage_after config (Tables []) whole))
+            (record { ranges = ranges; feeds = c.scripts_feed_bytes.ensures whole; run = run.1 }),
+      ),
     )
