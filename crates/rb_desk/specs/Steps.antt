@@ -92,7 +92,7 @@ abbrev pub RisesAbove : ℕ → List ℕ → Type 0
 RisesAbove low [] = ⊤
 RisesAbove low (n ∷ rest) = (low ≤ n) × RisesAbove (suc n) rest
 
--- each subscription that stays has a floor as high as before, or higher
+-- each subscription is still there, with a floor as high as before, or higher
 abbrev pub FloorsRise : Picture → Picture → Type 0
-FloorsRise old new = (i : ℕ) (a b : Subscription) → slice_get old.subscriptions i ≡ Some a
-    → slice_get new.subscriptions i ≡ Some b → a.floor ≤ b.floor
+FloorsRise old new = (i : ℕ) (a : Subscription) → slice_get old.subscriptions i ≡ Some a
+    → (b : Subscription) × (slice_get new.subscriptions i ≡ Some b) × (a.floor ≤ b.floor)

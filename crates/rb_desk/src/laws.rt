@@ -35,7 +35,7 @@ pub fn numbers_are_given_once()
         → RisesAbove 1 (numbers_given (empty_picture limits) steps) }
 {}
 
-/// The front never falls, nor does the floor of a subscription, whatever calls come.
+/// The front never falls, no subscription goes, and no floor falls, whatever calls come.
 pub fn front_and_floors_rise()
     ensures front { (old : Picture) (steps : List Step) → old.front ≤ (replayed old steps).front }
     ensures floors { (old : Picture) (steps : List Step)

@@ -4,6 +4,7 @@ use Rattle.std.proofs.Common.{length, Option, Some, None, find, slice_get, slice
 use Rattle.std.proofs.Common.{ltb-true, refl, sym, ap, ◌∙◌, ◌⊎◌, inl, inr, arith}
 use Rattle.std.specs.List.{AllByRecursion}
 use Rattle.std.proofs.lemmas.Bool.{false≢true, cases_eq}
+use Rattle.rb_desk.proofs.pictures.PictureLaws.{NoFloorFalls}
 use Rattle.rb_desk.specs.declared.span.Span.{Span}
 use Rattle.rb_desk.specs.declared.span.Status.{Status}
 use Rattle.rb_desk.specs.declared.span.Status.TheVariants.{Ready, InFlight, Settled}
@@ -16,7 +17,6 @@ use Rattle.rb_desk.specs.Calls.{delivered_span, take_any, delivered_any_from, de
 use Rattle.rb_desk.specs.Calls.{may_deliver, refused_call}
 use Rattle.rb_desk.specs.IsPicture.{IsPicture, IsGoodSubscription, IsGoodSpan, Partition, how_often, one_if, span_there}
 use Rattle.rb_desk.specs.IsPicture.{out_in}
-use Rattle.rb_desk.specs.Steps.{FloorsRise}
 use Rattle.rb_desk.proofs.pictures.PictureLaws.{out_of, out_set, spans_later, floors_same, floors_set, changed_keeps}
 use Rattle.rb_desk.proofs.pictures.PictureLaws.{links_as_before, count_cons}
 use Rattle.rb_desk.proofs.pictures.StandLaws.{own_name, found_good, open_part, order_here, goes_others, goes_mine}
@@ -155,7 +155,7 @@ module _ (p : Picture) (s : ℕ) (q : Subscription) (span : Span) (clock : ℕ) 
 
 -- no floor falls
 pub floors_rise_handed : (p : Picture) (s : ℕ) (q : Subscription) (span : Span) (clock : ℕ)
-    → slice_get p.subscriptions s ≡ Some q → FloorsRise p (delivered_picture p s q span clock)
+    → slice_get p.subscriptions s ≡ Some q → NoFloorFalls p (delivered_picture p s q span clock)
 floors_rise_handed p s q span clock here =
     floors_set p (delivered_picture p s q span clock) s q
     (record q {
@@ -209,9 +209,9 @@ keep_hand_take_keeps p s link cursor now good = take_does IsPicture p s link cur
         (found_passes (λ x. is_ready x.status) q.spans span found) room
 
 -- floors stay, and so does the front
-pub floors_rise_take : (p : Picture) (s link cursor now : ℕ) → FloorsRise p (take p s link cursor now).1
+pub floors_rise_take : (p : Picture) (s link cursor now : ℕ) → NoFloorFalls p (take p s link cursor now).1
 floors_rise_take p s link cursor now =
-    take_does (FloorsRise p) p s link cursor now (floors_same p p refl)
+    take_does (NoFloorFalls p) p s link cursor now (floors_same p p refl)
     (λ q span here runs room found. floors_rise_handed p s q span (max p.clock now) here)
 
 pub front_take : (p : Picture) (s link cursor now : ℕ) → (take p s link cursor now).1.front ≡ p.front
@@ -287,9 +287,9 @@ keep_hand_take_any_keeps p now good = take_any_does IsPicture p now good goes
         (sym (may_go_room p at q here) ∙ stands.0)
 
 -- floors stay, and so does the front
-pub floors_rise_take_any : (p : Picture) (now : ℕ) → FloorsRise p (take_any p now).1
+pub floors_rise_take_any : (p : Picture) (now : ℕ) → NoFloorFalls p (take_any p now).1
 floors_rise_take_any p now =
-    take_any_does (FloorsRise p) p now (floors_same p p refl)
+    take_any_does (NoFloorFalls p) p now (floors_same p p refl)
     (λ at q span first here found. floors_rise_handed p at.0 q span (max p.clock now) here)
 
 pub front_take_any : (p : Picture) (now : ℕ) → (take_any p now).1.front ≡ p.front

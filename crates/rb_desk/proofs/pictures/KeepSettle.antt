@@ -5,6 +5,7 @@ use Rattle.std.proofs.Common.{arith}
 use Rattle.std.specs.List.{AllByRecursion}
 use Rattle.std.specs.Prelude.{⊤}
 use Rattle.std.proofs.lemmas.Bool.{false≢true, cases_eq}
+use Rattle.rb_desk.proofs.pictures.PictureLaws.{NoFloorFalls}
 use Rattle.rb_desk.specs.declared.span.Span.{Span}
 use Rattle.rb_desk.specs.declared.span.Status.{Status}
 use Rattle.rb_desk.specs.declared.span.Status.TheVariants.{Ready, InFlight, Settled}
@@ -16,7 +17,6 @@ use Rattle.rb_desk.specs.Calls.{without_span, nacked_picture, settled_span, nack
 use Rattle.rb_desk.specs.Calls.{acked_span, refused_call}
 use Rattle.rb_desk.specs.IsPicture.{IsPicture, IsGoodSubscription, IsGoodSpan, WasOffered, Partition, one_if}
 use Rattle.rb_desk.specs.IsPicture.{span_there, out_in}
-use Rattle.rb_desk.specs.Steps.{FloorsRise}
 use Rattle.rb_desk.proofs.pictures.PictureLaws.{out_of, out_set, floors_same, floors_set, changed_keeps}
 use Rattle.rb_desk.proofs.pictures.PictureLaws.{links_as_before}
 use Rattle.rb_desk.proofs.calls.OpenLaws.{out_not_ready}
@@ -190,7 +190,7 @@ module _ (p : Picture) (s : ℕ) (q : Subscription) (span : Span) (good : IsPict
       (goes_others p s q here is_out span Settled found p.in_flight)
 
   -- no floor falls
-  pub floors_rise_settled : FloorsRise p (settled_span p s q span.first rest).1
+  pub floors_rise_settled : NoFloorFalls p (settled_span p s q span.first rest).1
   floors_rise_settled = floors_set p (settled_span p s q span.first rest).1 s q with_one_settled here refl settled_up
 
 -- what is found as a delivery is out, and is the one that begins with its first number
@@ -238,9 +238,9 @@ keep_settle_nack_keeps p s link number good =
     gives_back_keeps p s q span good here found.0 found.1)
 
 -- floors stay, and so does the front
-pub floors_rise_nack : (p : Picture) (s link number : ℕ) → FloorsRise p (nack p s link number).1
+pub floors_rise_nack : (p : Picture) (s link number : ℕ) → NoFloorFalls p (nack p s link number).1
 floors_rise_nack p s link number =
-    nack_does (FloorsRise p) p s link number (floors_same p p refl)
+    nack_does (NoFloorFalls p) p s link number (floors_same p p refl)
     (λ q span here is. floors_set p (nacked_picture p s q span) s q
     (record q { spans = with_status span.first (Ready true) q.spans }) here refl (omega arith))
 
@@ -289,9 +289,9 @@ keep_settle_ack_keeps p s link number cursor good =
 
 -- no floor falls, and the front stays
 pub floors_rise_ack : (p : Picture) (s link number cursor : ℕ) → IsPicture p
-    → FloorsRise p (ack p s link number cursor).1
+    → NoFloorFalls p (ack p s link number cursor).1
 floors_rise_ack p s link number cursor good =
-    ack_does (FloorsRise p) p s link number cursor (floors_same p p refl)
+    ack_does (NoFloorFalls p) p s link number cursor (floors_same p p refl)
     (λ q span here is. let found = found_out p s number q span good here is in
     floors_rise_settled p s q span good here found.0 found.1)
 

@@ -11,7 +11,6 @@ use Rattle.rb_desk.specs.declared.span.Status.TheVariants.{Ready, InFlight, Sett
 use Rattle.rb_desk.specs.Spans.{is_ready, is_out, is_out_as, beginning}
 use Rattle.rb_desk.specs.Picture.{Picture, Subscription}
 use Rattle.rb_desk.specs.Calls.{is_span, without_span, without_subscription, named}
-use Rattle.rb_desk.specs.Steps.{FloorsRise}
 use Rattle.rb_desk.specs.IsPicture.{IsPicture, IsGoodSubscription, IsGoodSpan, WasOffered, how_often, one_if}
 use Rattle.rb_desk.specs.IsPicture.{span_there, stands_there, links_of, out_in}
 use Rattle.rb_desk.proofs.orders.Line.{all_then}
@@ -251,8 +250,13 @@ all_later p r subs lim front links number =
 
 -- ---- one subscription becomes another
 
+-- each subscription that stays has a floor as high as before, or higher
+abbrev pub NoFloorFalls : Picture → Picture → Type 0
+NoFloorFalls old new = (i : ℕ) (a b : Subscription) → slice_get old.subscriptions i ≡ Some a
+    → slice_get new.subscriptions i ≡ Some b → a.floor ≤ b.floor
+
 -- nothing changes in the subscriptions
-pub floors_same : (old new : Picture) → new.subscriptions ≡ old.subscriptions → FloorsRise old new
+pub floors_same : (old new : Picture) → new.subscriptions ≡ old.subscriptions → NoFloorFalls old new
 floors_same old new same i a b h k =
     let e : Some b ≡ Some a = sym k ∙ ap (λ subs. slice_get subs i) same ∙ h in
     let is : b ≡ a = cc in
@@ -260,7 +264,7 @@ floors_same old new same i a b h k =
 
 -- one subscription changes, and its floor doesn't fall
 pub floors_set : (old new : Picture) (s : ℕ) (q r : Subscription) → slice_get old.subscriptions s ≡ Some q
-    → new.subscriptions ≡ slice_set old.subscriptions s r → q.floor ≤ r.floor → FloorsRise old new
+    → new.subscriptions ≡ slice_set old.subscriptions s r → q.floor ≤ r.floor → NoFloorFalls old new
 floors_set old new s q r here is le i a b h k = by (cases_eq i s)
   where
     by : (i ≡ s) ⊎ (i ≡ s → ⊥) → a.floor ≤ b.floor

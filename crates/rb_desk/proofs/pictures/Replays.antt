@@ -6,7 +6,8 @@ use Rattle.std.proofs.Common.{nat_le, slice_get, slice_set, refl, sym, ap, ◌�
 use Rattle.std.specs.List.{cons_option}
 use Rattle.std.proofs.lemmas.Bool.{ltb-false, cases_lt}
 use Rattle.std.proofs.lemmas.List.{length-map, length-set}
-use Rattle.std.proofs.lemmas.Option.{slice_get-map, slice_get_within}
+use Rattle.std.proofs.lemmas.Option.{slice_get-map, slice_get_cases, slice_get_within}
+use Rattle.rb_desk.proofs.pictures.PictureLaws.{NoFloorFalls}
 use Rattle.rb_desk.specs.declared.delivery.Delivery.{Delivery}
 use Rattle.rb_desk.specs.declared.refusal.DeskRefusal.{DeskRefusal}
 use Rattle.rb_desk.specs.declared.span.Span.{Span}
@@ -338,7 +339,7 @@ get_front (z ∷ xs) ys (suc i) x h = get_front xs ys i x h
 
 -- a subscription more
 floors_appended : (old new : Picture) (more : List Subscription) → new.subscriptions ≡ old.subscriptions ++ more
-    → FloorsRise old new
+    → NoFloorFalls old new
 floors_appended old new more is i a b h k =
     let both : Some a ≡ Some b = sym (get_front old.subscriptions more i a h) ∙ ap (λ subs. slice_get subs i) (sym is)
     ∙ k in
@@ -347,7 +348,7 @@ floors_appended old new more is i a b h k =
 
 -- each becomes another with the same floor
 floors_mapped : (old new : Picture) (f : Subscription → Subscription) → new.subscriptions ≡ map f old.subscriptions
-    → ((q : Subscription) → (f q).floor ≡ q.floor) → FloorsRise old new
+    → ((q : Subscription) → (f q).floor ≡ q.floor) → NoFloorFalls old new
 floors_mapped old new f is keeps i a b h k =
     let both : Some (f a) ≡ Some b = sym (ap (option_map f) h) ∙ sym (slice_get-map f old.subscriptions i)
     ∙ ap (λ subs. slice_get subs i) (sym is) ∙ k in
@@ -355,25 +356,25 @@ floors_mapped old new f is keeps i a b h k =
     omega (arith, keeps a, ap (λ (q : Subscription). q.floor) same)
 
 -- a new one changes no floor
-pub subscribe_floors : (p : Picture) (start : ℕ) → FloorsRise p (subscribe p start).1
+pub subscribe_floors : (p : Picture) (start : ℕ) → NoFloorFalls p (subscribe p start).1
 unfolding subscribe
 subscribe_floors p start =
-    either_way (λ (x : Result (ℕ × ℕ) DeskRefusal × Picture). FloorsRise p x.1) (nat_lt p.front start) _ _
+    either_way (λ (x : Result (ℕ × ℕ) DeskRefusal × Picture). NoFloorFalls p x.1) (nat_lt p.front start) _ _
     (floors_same p p refl)
-    (either_way (λ (x : Result (ℕ × ℕ) DeskRefusal × Picture). FloorsRise p x.1) (nat_le 1024 (length p.subscriptions))
+    (either_way (λ (x : Result (ℕ × ℕ) DeskRefusal × Picture). NoFloorFalls p x.1) (nat_le 1024 (length p.subscriptions))
     _ _ (floors_same p p refl)
     (floors_appended p (subscribed_picture p start (cut_spans p.limits.batch (suc start) p.front)) _ refl))
 
 -- one goes on behind a cursor that isn't behind its floor
-pub reconnect_floors : (p : Picture) (s cursor : ℕ) → FloorsRise p (reconnect p s cursor).1
+pub reconnect_floors : (p : Picture) (s cursor : ℕ) → NoFloorFalls p (reconnect p s cursor).1
 unfolding reconnect
 reconnect_floors p s cursor = by (slice_get p.subscriptions s) refl
   where
-    by : (o : Option Subscription) → slice_get p.subscriptions s ≡ o → FloorsRise p (reconnected_by p s cursor o).1
+    by : (o : Option Subscription) → slice_get p.subscriptions s ≡ o → NoFloorFalls p (reconnected_by p s cursor o).1
     by None found = floors_same p p refl
     by (Some q) found =
-        either_way (λ (x : Result ℕ DeskRefusal × Picture). FloorsRise p x.1) q.closed _ _ (floors_same p p refl)
-        (keep_cut_either (λ (x : Result ℕ DeskRefusal × Picture). FloorsRise p x.1)
+        either_way (λ (x : Result ℕ DeskRefusal × Picture). NoFloorFalls p x.1) q.closed _ _ (floors_same p p refl)
+        (keep_cut_either (λ (x : Result ℕ DeskRefusal × Picture). NoFloorFalls p x.1)
         (nat_lt cursor q.floor || nat_lt q.offered cursor) _ _ (λ bad. floors_same p p refl)
         (λ fits. floors_set p (reconnected_picture p s q cursor (cut_spans p.limits.batch (suc cursor) p.front)) s q
         (record q { floor = cursor; link = p.next_link; spans = cut_spans p.limits.batch (suc cursor) p.front })
@@ -381,38 +382,38 @@ reconnect_floors p s cursor = by (slice_get p.subscriptions s) refl
         (ltb-false _ _ (either_false (nat_lt cursor q.floor) (nat_lt q.offered cursor) fits).0)))
 
 -- the other calls change no floor
-pub unsubscribe_floors : (p : Picture) (s link : ℕ) → FloorsRise p (unsubscribe p s link).1
+pub unsubscribe_floors : (p : Picture) (s link : ℕ) → NoFloorFalls p (unsubscribe p s link).1
 unfolding unsubscribe
 unsubscribe_floors p s link = by (slice_get p.subscriptions s) refl
   where
-    by : (o : Option Subscription) → slice_get p.subscriptions s ≡ o → FloorsRise p (unsubscribed_by p s link o).1
+    by : (o : Option Subscription) → slice_get p.subscriptions s ≡ o → NoFloorFalls p (unsubscribed_by p s link o).1
     by None found = floors_same p p refl
     by (Some q) found =
-        either_way (λ (x : Result Unit DeskRefusal × Picture). FloorsRise p x.1) (not (link == q.link)) _ _
+        either_way (λ (x : Result Unit DeskRefusal × Picture). NoFloorFalls p x.1) (not (link == q.link)) _ _
         (floors_same p p refl)
-        (either_way (λ (x : Result Unit DeskRefusal × Picture). FloorsRise p x.1) q.closed _ _ (floors_same p p refl)
+        (either_way (λ (x : Result Unit DeskRefusal × Picture). NoFloorFalls p x.1) q.closed _ _ (floors_same p p refl)
         (floors_set p (unsubscribed_picture p s q) s q (record q { closed = true; spans = [] }) found refl
         (omega arith)))
 
-pub place_floors : (p : Picture) → FloorsRise p (place p)
+pub place_floors : (p : Picture) → NoFloorFalls p (place p)
 unfolding place
 place_floors p =
     floors_mapped p (place p) (grown_subscription p.limits.batch (suc p.front)) refl
     (λ q. either_way (λ (x : Subscription). x.floor ≡ q.floor) q.closed q
     (record q { spans = grown_spans p.limits.batch (suc p.front) q.spans }) refl refl)
 
-pub close_floors : (p : Picture) → FloorsRise p (close p).1
+pub close_floors : (p : Picture) → NoFloorFalls p (close p).1
 unfolding close
 close_floors p = floors_same p (close p).1 refl
 
-pub expire_floors : (p : Picture) (now : ℕ) → FloorsRise p (expire p now).1
+pub expire_floors : (p : Picture) (now : ℕ) → NoFloorFalls p (expire p now).1
 unfolding expire
 expire_floors p now = floors_mapped p (expire p now).1 _ refl (λ q. refl)
 
 -- ---- floors of all steps
 
 -- a placement, whether it is made or not
-placed_if_floors : (p : Picture) (r : Result ℕ DeskRefusal) → FloorsRise p (placed_if p r)
+placed_if_floors : (p : Picture) (r : Result ℕ DeskRefusal) → NoFloorFalls p (placed_if p r)
 placed_if_floors p (Ok n) = place_floors p
 placed_if_floors p (Err why) = floors_same p p refl
 
@@ -423,8 +424,8 @@ within (x ∷ xs) zero less none = let not_none : Some x ≡ None = none in cc
 within (x ∷ xs) (suc i) less none = within xs i (omega (arith, less)) none
 
 -- what rises and rises again rises, where the subscriptions stay
-pub floors_then : (p m r : Picture) → length p.subscriptions ≤ length m.subscriptions → FloorsRise p m → FloorsRise m r
-    → FloorsRise p r
+pub floors_then : (p m r : Picture) → length p.subscriptions ≤ length m.subscriptions → NoFloorFalls p m → NoFloorFalls m r
+    → NoFloorFalls p r
 floors_then p m r stay h k i a c first last = by (slice_get m.subscriptions i) refl
   where
     by : (o : Option Subscription) → slice_get m.subscriptions i ≡ o → a.floor ≤ c.floor
@@ -437,7 +438,7 @@ floors_then p m r stay h k i a c first last = by (slice_get m.subscriptions i) r
     by (Some b) found = omega (arith, h i a b first found, k i b c found last)
 
 -- no floor falls at a step
-pub after_floors : (p : Picture) (step : Step) → IsPicture p → FloorsRise p (after_step p step)
+pub after_floors : (p : Picture) (step : Step) → IsPicture p → NoFloorFalls p (after_step p step)
 unfolding after_step
 after_floors p (Subscribe start) k = subscribe_floors p start
 after_floors p (Take s link cursor now) k = floors_rise_take p s link cursor now
@@ -451,9 +452,23 @@ after_floors p Place k = placed_if_floors p (prepare p)
 after_floors p Close k = close_floors p
 
 -- nor at a list of them
-pub replayed_floors : (p : Picture) (steps : List Step) → IsPicture p → FloorsRise p (replayed p steps)
+pub replayed_floors : (p : Picture) (steps : List Step) → IsPicture p → NoFloorFalls p (replayed p steps)
 replayed_floors p [] k = floors_same p p refl
 replayed_floors p (step ∷ steps) k =
     floors_then p (after_step p step) (replayed (after_step p step) steps) (subscriptions_stay p step)
     (after_floors p step k)
     (replayed_floors (after_step p step) steps (after_keeps p step k))
+
+-- no subscription goes, so each is still there
+replayed_stay : (p : Picture) (steps : List Step) → length p.subscriptions
+    ≤ length (replayed p steps).subscriptions
+replayed_stay p [] = omega arith
+replayed_stay p (step ∷ steps) = omega (arith, subscriptions_stay p step, replayed_stay (after_step p step) steps)
+
+pub replayed_rise : (p : Picture) (steps : List Step) → IsPicture p → FloorsRise p (replayed p steps)
+replayed_rise p steps k i a found =
+    elim (slice_get_cases (replayed p steps).subscriptions i).1 as (λ w. (b : Subscription)
+    × (slice_get (replayed p steps).subscriptions i ≡ Some b) × (a.floor ≤ b.floor)) [
+      | inl here ↦ (here.0, here.2, replayed_floors p steps k i a here.0 found here.2)
+      | inr past ↦ absurd (omega (arith, slice_get_within p.subscriptions i a found, replayed_stay p steps, past.0))
+    ]
