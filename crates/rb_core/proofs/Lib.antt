@@ -19,3 +19,4 @@ pub mod TellRuns
 pub mod ToldLaws
 pub mod ByText
 pub mod RunCuts
+pub mod Counting

@@ -145,6 +145,12 @@ run_good laws old (event ∷ events) (Ok given ∷ answers) new good run =
 run_good laws old (event ∷ events) (Err e ∷ answers) new good run =
     run_good laws run.0 events answers new (subst IsWorld (sym run.1) good) run.2
 
+pub run_is_world : TellRunsLaws → (limits : Limits) (schema : List Shape) (events : List Event)
+    (answers : List Answer) (new : State) → IsPicture (empty_picture limits)
+    → Run (empty_world limits schema) events answers new → IsWorld new
+run_is_world laws limits schema events answers new picture run =
+    run_good laws (empty_world limits schema) events answers new (empty_is_world limits schema picture) run
+
 -- what is told of events and of more behind them
 told_on : (schema : List Shape) (old : State) (world : World) (events more : List Event) (answers later : List Answer)
     (mid : State) → Run old events answers mid

@@ -4,7 +4,7 @@
 //! What a subscription accepted and what a publisher sent are told by the events and their answers
 //! (*world_told*), without a look at the broker.
 
-ghost use Rattle.std.specs.Prelude.{◌≡◌, ◌++◌, ℕ, true, List, Some, None, slice_get};
+ghost use Rattle.std.specs.Prelude.{◌≡◌, ◌++◌, ℕ, true, List, Some, None, length, slice_get};
 ghost use Rattle.cs_model.specs.Bytes.{AreBytes};
 ghost use Rattle.cs_model.specs.declared.shape.Shape.{Shape};
 ghost use Rattle.cs_parse.specs.Progress.{Took};
@@ -12,6 +12,7 @@ ghost use Rattle.rb_core.specs.declared.event.Event.{Event};
 ghost use Rattle.rb_core.specs.declared.event.Event.TheVariants as event;
 ghost use Rattle.rb_core.specs.declared.publisher.Publisher.{Publisher};
 ghost use Rattle.rb_core.specs.declared.reply.Reply.{Reply};
+ghost use Rattle.rb_core.specs.declared.reply.Reply.TheVariants as reply;
 ghost use Rattle.rb_core.specs.Headline.{KeepsHeadline};
 ghost use Rattle.rb_core.specs.Moves.{Leads, HasRun, StaysClosed, items_of, own_of, IsFront, IsSending};
 ghost use Rattle.rb_core.specs.Outcome.{outcome};
@@ -80,6 +81,8 @@ pub fn runs_are_told()
         → ((mids : List World) × Leads (world_told schema events answers) mids
         (world_told schema (events ++ more) (answers ++ later)))
         × IsToldBy schema new (world_told schema (events ++ more) (answers ++ later)) }
+    ensures world { (limits : Limits) (schema : List Shape) (events : List Event)
+        (answers : List Answer) (new : State) → IsRunOf limits schema events answers new → IsWorld new }
 {
     events_keep_worlds();
     replays_are_pictures();
@@ -186,4 +189,21 @@ pub fn runs_keep_the_headline()
     sendings_come_once_in_order();
     nothing_after_close();
     tables_apply_singly();
+}
+
+/// In every run the number of a new publisher, and that of a new subscription, is how many came
+/// before it.
+pub fn new_numbers_count_the_old()
+    ensures publisher { (limits : Limits) (schema : List Shape) (events : List Event)
+        (answers : List Answer) (mid new : State) (p : ℕ) → IsRunOf limits schema events answers mid
+        → outcome mid event.Publisher ≡ (reply.Publisher p, new)
+        → p ≡ length (world_told schema events answers).senders }
+    ensures subscription { (limits : Limits) (schema : List Shape) (events : List Event)
+        (answers : List Answer) (mid new : State) (start s link : ℕ)
+        → IsRunOf limits schema events answers mid
+        → outcome mid (event.Subscribe start) ≡ (reply.Subscriber s link, new)
+        → s ≡ length (world_told schema events answers).subscribers }
+{
+    runs_are_told();
+    calls_show_in_outline();
 }

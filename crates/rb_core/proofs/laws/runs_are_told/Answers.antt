@@ -1,5 +1,5 @@
 use Rattle.std.specs.Prelude.{[]}
-use Rattle.rb_core.proofs.TellRuns.{TellRunsLaws, tell_runs_are_told, tell_runs_go_on}
+use Rattle.rb_core.proofs.TellRuns.{TellRunsLaws, tell_runs_are_told, tell_runs_go_on, run_is_world}
 use Rattle.rb_core.proofs.laws.runs_are_told.Goals as goal
 
 -- all laws that are called
@@ -33,3 +33,8 @@ returns-clause-goes_on c = λ limits schema events more answers later mid new ru
     tell_runs_go_on (laws_of c) limits schema events more answers later mid new
     (c.replays_are_pictures.ensures limits [] run.ranges)
     run.feeds on.feeds run.run on.run
+
+pub returns-clause-world : goal.returns-clause-world
+returns-clause-world c = λ limits schema events answers new run.
+    run_is_world (laws_of c) limits schema events answers new (c.replays_are_pictures.ensures limits [] run.ranges)
+    run.run
