@@ -85,7 +85,10 @@ pub fn is_over(bytes: &[u8]) -> bool
 
 /// As many changes of a section as are whole: how many, the bytes behind them, whether their own are the canonical ones, and
 /// why the next one isn't read; nothing where the next header follows, or the end.
-pub fn whole_changes<'a>(flags: &[u8], bytes: &'a [u8]) -> (usize, &'a [u8], bool, Option<ParseRefusal>)
+pub fn whole_changes<'a>(
+    flags: &[u8],
+    bytes: &'a [u8],
+) -> (usize, &'a [u8], bool, Option<ParseRefusal>)
     ensures count { result.0 ≡ length (changes_front flags.now bytes.now).items }
     ensures rest { result.1.now ≡ (changes_front flags.now bytes.now).rest }
     ensures canonical { IsTrue result.2

@@ -20,7 +20,10 @@ use std::alloc::{AllocError, Global};
 
 // The whole changes at the front of bytes behind these sections, which are of the last one's table: how many, the bytes behind
 // them, whether their own are the canonical ones, and why the next one isn't read.
-fn head_of<'a>(sections: &[Section], bytes: &'a [u8]) -> (usize, &'a [u8], bool, Option<ParseRefusal>)
+fn head_of<'a>(
+    sections: &[Section],
+    bytes: &'a [u8],
+) -> (usize, &'a [u8], bool, Option<ParseRefusal>)
     ensures { Heads (last_flags sections.now) bytes.now result.0 result.1.now result.2 result.3 }
 {
     match sections.last() {

@@ -31,7 +31,12 @@ fn limited(
 
 // A varint from `least` to `most`. It is refused at the first byte after which no number within the limits can
 // come, so that a hostile number is never read to its end.
-fn number_of(bytes: &[u8], least: u64, most: u64, kind: FaultKind) -> Result<(u64, &[u8]), ParseRefusal>
+fn number_of(
+    bytes: &[u8],
+    least: u64,
+    most: u64,
+    kind: FaultKind,
+) -> Result<(u64, &[u8]), ParseRefusal>
     requires { most ≤ 16777216 }
     ensures { Reads (λ x. (x.0, x.1.now)) result (number_at least most kind 8 0 bytes.now) }
 {

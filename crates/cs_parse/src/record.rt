@@ -66,7 +66,11 @@ fn skip_new<'a>(flags: &[u8], old: &[u8], bytes: &'a [u8]) -> Result<(&'a [u8], 
 /// The bytes behind a change's records, of which an INSERT has no old one and a DELETE no new one, and whether their own are
 /// the canonical ones.
 #[tactic(auto, unfolding(crate::specs::Reading::records_at))]
-pub fn skip_records<'a>(flags: &[u8], op: Op, bytes: &'a [u8]) -> Result<(&'a [u8], bool), ParseRefusal>
+pub fn skip_records<'a>(
+    flags: &[u8],
+    op: Op,
+    bytes: &'a [u8],
+) -> Result<(&'a [u8], bool), ParseRefusal>
     ensures read { Reads (λ x. x.0.now) result (bytes_after (records_at flags.now op bytes.now)) }
     ensures canonical { IfOk result (λ x. IsTrue x.1
         → IsCanonical both_packed bytes.now (records_at flags.now op bytes.now)) }

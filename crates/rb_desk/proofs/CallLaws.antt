@@ -153,13 +153,13 @@ module _ (lim : Limits) (front : ℕ) (closing : Option ℕ) (clock next_link ne
   reconnect_bad cursor running (inl before) =
       reconnect_kept cursor running
       ∙ (λ i. cond (lt-ltb _ _ before i || nat_lt sub.offered cursor)
-          (refused_call old (refusal.BadCursor sub.lane.floor sub.offered))
-          (Ok next_link, reconnected_picture old s mine cursor (cut_spans lim.batch (suc cursor) front)))
+      (refused_call old (refusal.BadCursor sub.lane.floor sub.offered))
+      (Ok next_link, reconnected_picture old s mine cursor (cut_spans lim.batch (suc cursor) front)))
   reconnect_bad cursor running (inr past) =
       reconnect_kept cursor running
       ∙ (λ i. cond (le-ltb _ _ past.0 i || lt-ltb _ _ past.1 i)
-          (refused_call old (refusal.BadCursor sub.lane.floor sub.offered))
-          (Ok next_link, reconnected_picture old s mine cursor (cut_spans lim.batch (suc cursor) front)))
+      (refused_call old (refusal.BadCursor sub.lane.floor sub.offered))
+      (Ok next_link, reconnected_picture old s mine cursor (cut_spans lim.batch (suc cursor) front)))
 
   pub unsubscribe_kept : (link : ℕ) → sub.link ≡ link → sub.closed ≡ false → unsubscribe old s link ≡ (Ok tt, unsubscribed_picture old s mine)
   unsubscribe_kept link same running = unsubscribe_found old s link mine (sub_shown lim.batch front s subs sub here) (same_link _ _ same) running

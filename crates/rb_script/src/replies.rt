@@ -4,7 +4,7 @@ ghost use Rattle.std.specs.Prelude.{◌≡◌, ◌++◌, IfOk, string_bytes};
 ghost use Rattle.rb_script.specs.Replies.{kind_name, desk_refusal_text, end_refusal_text, refusal_text, delivery_text, reply_text};
 
 use cs_parse::FaultKind;
-use rb_core::{Delivery, BrokerRefusal, Reply};
+use rb_core::{BrokerRefusal, Delivery, Reply};
 use rb_desk::DeskRefusal;
 use rb_subscriber::AcceptRefusal;
 use std::alloc::{AllocError, Global};

@@ -5,7 +5,7 @@ use cs_model::{Octets, Origin, Schema, Seq, Shape};
 use cs_parse::parse;
 use rb_desk::{Config, Delivery, Desk};
 use rb_sequence::{Entry, Item};
-use rb_subscriber::{AcceptError, Endpoint, AcceptRefusal};
+use rb_subscriber::{AcceptError, AcceptRefusal, Endpoint};
 use std::alloc::{AllocError, Global};
 use std::sync::Arc;
 use std::test::Fail;

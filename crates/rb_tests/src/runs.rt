@@ -3,7 +3,7 @@
 ghost use Rattle.std.specs.Prelude.{◌<◌};
 
 use cs_model::{Octets, Schema, Seq, Shape};
-use rb_core::{Config, Event, BrokerRefusal, Reply, World, run};
+use rb_core::{BrokerRefusal, Config, Event, Reply, World, run};
 use rb_script::run_script;
 use rb_subscriber::AcceptRefusal;
 use std::alloc::{AllocError, Global};
@@ -65,7 +65,10 @@ fn some_events(alloc: Global) -> Result<Vec<Event>, AllocError> {
 fn is_done(rt: &impl Abort, alloc: Global, world: &World, last: Reply) -> Result<(), Fail> {
     let rows = world.rows(alloc, 0)?;
     assert_eq!(rt; rows.map(|rows| rows.len()), Some(1));
-    assert_eq!(rt; last, Reply::Refused(BrokerRefusal::Accept(AcceptRefusal::Seen)));
+    assert_eq!(rt;
+        last,
+        Reply::Refused(BrokerRefusal::Accept(AcceptRefusal::Seen))
+    );
     Ok(())
 }
 

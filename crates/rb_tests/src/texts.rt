@@ -126,7 +126,10 @@ fn brokers_say_why(rt: HostRuntime) -> Result<(), Fail> {
         (BrokerRefusal::NothingStaged, "nothing is staged"),
         (BrokerRefusal::Closed, "the sequence is closed"),
         (BrokerRefusal::Full, "as many changesets wait as may"),
-        (BrokerRefusal::UnknownTable(7), "section 7 is of an unknown table"),
+        (
+            BrokerRefusal::UnknownTable(7),
+            "section 7 is of an unknown table",
+        ),
         (
             BrokerRefusal::ShapeDiffers(8),
             "section 8 has another shape than its table",

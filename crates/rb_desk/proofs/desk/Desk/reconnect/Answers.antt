@@ -51,9 +51,9 @@ returns c =
 pub returns-then-cursor-floor : goal.returns-then-cursor-floor
 returns-then-cursor-floor c =
     let here : slice_get c.self.inside.subs.items c.args.sub ≡ Some c.in-Some.found.now =
-        sym (c.in-Some.ensures ∙ ap (λ subs. slice_get subs c.args.sub) c.deref.ensures.value) in
+    sym (c.in-Some.ensures ∙ ap (λ subs. slice_get subs c.args.sub) c.deref.ensures.value) in
     let floor : c.floor-floor.result ≡ c.in-Some.found.now.lane.floor = c.floor-floor.ensures.value in
     let bad = reconnect_bad c.self.inside.config c.self.inside.front c.self.inside.closing c.self.inside.clock
-        c.self.inside.next_link c.self.inside.next_delivery c.self.inside.subs.items c.args.sub c.in-Some.found.now here
-        c.args.cursor c.if-found.false (rw (← floor) c.then-cursor-floor.either) in
+    c.self.inside.next_link c.self.inside.next_delivery c.self.inside.subs.items c.args.sub c.in-Some.found.now here
+    c.args.cursor c.if-found.false (rw (← floor) c.then-cursor-floor.either) in
     rw c.into-then-cursor-floor.ensures (rw floor (rw (← c.self.view_is) bad, refl))
