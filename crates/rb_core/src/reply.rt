@@ -105,9 +105,10 @@ impl fmt::Display for Reply {
                 write!(f, "subscription {subscription} under link {link}")
             }
             Reply::Delivery(delivery) => delivery.fmt(f),
-            Reply::Accepted { subscription, cursor } => {
-                write!(f, "subscription {subscription} has accepted up to {cursor}")
-            }
+            Reply::Accepted {
+                subscription,
+                cursor,
+            } => { write!(f, "subscription {subscription} has accepted up to {cursor}") }
             Reply::Floor(floor) => write!(f, "settled up to {floor}"),
             Reply::Returned => f.write_str("the delivery is returned"),
             Reply::Expired(count) => write!(f, "{count} deliveries expired"),
