@@ -74,10 +74,10 @@ pub enum BrokerRefusal {
     /// `Send`: the intake has as many changesets as its limit.
     #[error("as many changesets wait as may")]
     Full,
-    /// `End`: the section at this index is of a table that isn't in the schema.
+    /// `End`: the first refused section, at this index, is of a table that isn't in the schema.
     #[error("section {0} is of an unknown table")]
     UnknownTable(u64),
-    /// `End`: the section at this index has another shape than its table.
+    /// `End`: the first refused section, at this index, has another shape than its table.
     #[error("section {0} has another shape than its table")]
     ShapeDiffers(u64),
     /// `Turn`, `Subscribe`, `Take`, `TakeAny`, `Ack`, `Nack`, `Reconnect`, `Unsubscribe`: the desk
