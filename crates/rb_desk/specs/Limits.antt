@@ -5,9 +5,13 @@ use Rattle.rb_desk.specs.declared.config.ConfigFault.{ConfigFault}
 use Rattle.rb_desk.specs.declared.config.ConfigFault.TheVariants.{Batch, Window, Timeout, Capacity}
 use Rattle.rb_desk.specs.declared.config.ConfigFault.TheVariants.{Intake, Appliers}
 
--- The limits, in this order: the most numbers in a delivery, the most deliveries in flight to a
--- subscription, and after how many ticks a delivery expires; the most entries of the sequence, the
--- most changesets that wait to be placed, and how many workers apply a changeset.
+-- The limits of a broker:
+-- - `batch`: the most numbers in a delivery
+-- - `window`: the most deliveries in flight to a subscription
+-- - `timeout`: after how many ticks a delivery expires
+-- - `capacity`: the most entries of the sequence
+-- - `intake`: the most changesets that wait to be placed
+-- - `appliers`: how many workers apply a changeset
 pub record Limits : Type 0 where
   pub batch : ℕ
   pub window : ℕ

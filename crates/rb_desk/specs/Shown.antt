@@ -64,7 +64,7 @@ IsGiven next (Ready taken) = Unit {0}
 IsGiven next (InFlight number moment) = number < next
 IsGiven next Settled = Unit {0}
 
--- the numbers of deliveries in flight were issued, and as many turns are left
+-- the numbers of deliveries in flight were issued, and a turn is left for each number issued
 abbrev pub AreGiven : ℕ → ℕ → List Held → Type 0
 AreGiven next turn held = AllByRecursion (λ h. IsGiven next h.span.status) held
     × (turn + next < 18446744073709551616)
