@@ -29,7 +29,7 @@ abbrev pub IsIn : {A : Type 0} → A → List A → Type 0
 IsIn x [] = ⊥
 IsIn x (y ∷ rest) = (x ≡ y) ⊎ IsIn x rest
 
--- no delivery with this number was delivered to the subscription
+-- no delivery with this number was made to the subscription
 abbrev pub IsUnused : ℕ → Subscriber → Type 0
 IsUnused number q = AllByRecursion (λ offer. offer.number ≡ number → ⊥) q.offers
 
@@ -134,7 +134,7 @@ pub record Delivers (old new : World) : Type 0 where
   pub kept : new ≡ with_subscriber old s
       (record subscriber { offers = subscriber.offers ++ delivery ∷ [] })
 
--- a subscription accepts a delivery that was delivered to it, as its endpoint does
+-- a subscription accepts a delivery that was made to it, as its endpoint does
 pub record Accepts (old new : World) : Type 0 where
   pub s : ℕ
   pub subscriber : Subscriber
@@ -188,7 +188,7 @@ Leads old (mid ∷ rest) new = Moves old mid × Leads mid rest new
 abbrev pub HasRun : List Entry → Subscriber → Type 0
 HasRun sequence q = q.accepted ≡ part sequence q.start (length q.accepted)
 
--- a subscription is closed; its accepted entries and its tables are those of `q`
+-- `r` is closed, with the accepted entries and the tables of `q`
 pub record StaysClosed (q r : Subscriber) : Type 0 where
   pub closed : r.closed ≡ true
   pub accepted : r.accepted ≡ q.accepted

@@ -20,10 +20,10 @@ use Rattle.rb_subscriber.specs.Endpoint.{Endpoint, endpoint_code}
 use Rattle.rb_core.specs.contracts.publisher.Publisher as publisher
 use Rattle.rb_core.specs.declared.publisher.Publisher.{Publisher}
 
--- A world. It has the schema and the publishers, the intake of sent items in order, and the item in
--- hand, which has left the intake and has no number yet. It has the sequence, the desk's picture
--- with the limits, the subscriptions' endpoints, and all deliveries in order. Publishers and
--- subscriptions are numbered from 0, entries and deliveries from 1.
+-- A world. It has the schema, the publishers, and the intake of sent items in order. The item in
+-- hand has left the intake and has no number yet. It has the sequence, the desk's picture with the
+-- limits, the subscriptions' endpoints, and all deliveries in order. Publishers and subscriptions
+-- are numbered from 0, entries and deliveries from 1.
 pub record State : Type 0 where
   pub schema : List Shape
   pub publishers : List Publisher

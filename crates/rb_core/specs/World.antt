@@ -14,9 +14,9 @@ pub record Sender : Type 0 where
   pub staged : Option (List Section)
   pub sent : List Item
 
--- A subscription: the number after which it began, its first tables, the accepted entries in order,
--- its tables, its current link, whether it is closed, and all deliveries that were ever delivered
--- to it.
+-- A subscription: the number after which it began, the tables that it began with, the accepted
+-- entries in order, and its tables. It has its current link, whether it is closed, and all
+-- deliveries ever made to it.
 pub record Subscriber : Type 0 where
   pub start : ℕ
   pub base : tables.TableState
@@ -26,10 +26,10 @@ pub record Subscriber : Type 0 where
   pub closed : Bool
   pub offers : List Delivery
 
--- The abstract world. It has the publishers, the intake of sent items in order, and the item in
--- hand, which has left the intake and has no number yet. It has the sequence, its closing number if
--- it is closed, all links ever issued, and the subscriptions. Publishers and subscriptions are
--- numbered from 0.
+-- The abstract world. It has the publishers and the intake of sent items in order. The item in hand
+-- has left the intake and has no number yet. It has the sequence, its closing number if it is
+-- closed, all links ever issued, and the subscriptions. Publishers and subscriptions are numbered
+-- from 0.
 pub record World : Type 0 where
   pub senders : List Sender
   pub intake : List Item

@@ -28,8 +28,8 @@ IsOverrun config r0 r w0 w =
     (input : List ℕ) × Consumes r0 r input × (16777216 < length input)
     × Appends w0 w (written config first_place (take 16777216 input))
 
--- A prefix of the answers is written: of those to the whole lines read within the limit or, at the
--- input's end, of all.
+-- A prefix of the answers is written. The answers are those to the whole lines that are read within
+-- the limit or, at the input's end, all of them.
 abbrev pub BreaksOff : Limits → List ℕ → Option (List ℕ) → Option (List ℕ) → Option (List ℕ)
     → Type 0
 BreaksOff config input r w0 w =
