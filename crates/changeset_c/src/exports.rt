@@ -1,5 +1,5 @@
 //! The functions that C calls, under the names of `include/changeset.h`. A slice is passed as its
-//! pointer and its length. The allocator is no C argument.
+//! pointer and its length. The allocator isn't an argument in C.
 
 ghost use Rattle.std.specs.Prelude.{◌≡◌, List, pos, negsuc, length};
 ghost use Rattle.cs_model.specs.Section.{Section};

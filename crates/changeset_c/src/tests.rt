@@ -24,8 +24,8 @@ const WITH_REAL: [u8; 26] = [
     0x01, 0x02, 0x3f, 0xe0, 0x00, 0x00, 0x00, 0x00, 0x00, 0x00,
 ];
 
-// two sections of one table with an empty section between them, an indirect byte of 5, and
-// encodings of 2 and 1 that aren't the shortest. Two bytes that begin nothing follow.
+// two sections of one table, an empty section between them, an indirect byte of 5, and encodings of
+// 2 and 1 that aren't the shortest. Two bytes that begin nothing follow.
 const LOOSE: [u8; 50] = [
     0x54, 0x80, 2, 1, 0, 0x74, 0, 0x12, 5, 1, 0, 0, 0, 0, 0, 0, 0, 1, 3, 0x80, 1, 0x78, 0x54, 2, 1,
     0, 0x75, 0, 0x54, 2, 1, 0, 0x74, 0, 0x12, 0, 1, 0, 0, 0, 0, 0, 0, 0, 2, 3, 1, 0x79, 0, 0,

@@ -205,7 +205,7 @@ pub record IsSender (publisher : Publisher) (sender : Sender) : Type 0 where
   pub staged : sender.staged ≡ publisher.staged
   pub sent : publisher.sent ≡ length sender.sent
 
--- the delivery was delivered to its subscription
+-- the delivery was made to its subscription
 abbrev pub IsDelivered : List Subscriber → Delivery → Type 0
 IsDelivered subscribers delivery = (q : Subscriber) × (slice_get subscribers delivery.sub ≡ Some q)
     × IsIn delivery q.offers
@@ -215,8 +215,8 @@ abbrev pub AreBelow : ℕ → Subscriber → Type 0
 AreBelow next q = AllByRecursion (λ offer. offer.number < next) q.offers
 
 -- A broker's state agrees with the reported world: publishers, intake, item in hand, sequence,
--- closing number and endpoints. All its deliveries were delivered. All links and numbers so far are
--- below the next ones. Each subscription began with empty tables.
+-- closing number and endpoints. Each of its deliveries was made to its subscription. All links and
+-- numbers so far are below the next ones. Each subscription began with empty tables.
 pub record IsToldBy (schema : List Shape) (state : State) (world : World) : Type 0 where
   pub served : state.schema ≡ schema
   pub senders : Paired IsSender state.publishers world.senders

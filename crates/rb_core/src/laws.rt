@@ -41,8 +41,8 @@ pub fn events_keep_worlds()
 }
 
 /// What `Feed` and `End` reply, for every text that the stream may have taken. `Feed` reports the
-/// permanent fault. `End` replies with what the text spells or with its fault, if nothing is
-/// staged. The bytes fed to the publisher are such a text (*IsToldBy*).
+/// permanent fault. `End` stages what the text spells or reports its fault, if nothing is staged
+/// yet. The bytes fed to the publisher are such a text (*IsToldBy*).
 pub fn streams_answer_by_text()
     ensures feed { (old : State) (p : ℕ) (bytes : List ℕ) (publisher : Publisher)
         (text : List ℕ) (given : Reply) (new : State)

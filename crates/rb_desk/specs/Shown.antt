@@ -113,7 +113,8 @@ abbrev pub closed_sub : Sub → Sub
 closed_sub sub = record sub { closed = true; lane = cut_lane sub.lane.floor sub.lane.cutting }
 
 -- The subscription `found`, with number s, is delivered a span, as delivery `number`, at tick
--- `taken`. These are the delivery and the new subscriptions, next delivery's number and clock.
+-- `taken`. The fields say what the delivery is, and what the subscriptions, the next delivery's
+-- number and the clock are then.
 pub record DeliveredTo (subs : List Sub) (s : ℕ) (found : Sub) (span : Span) (number taken : ℕ)
     (delivery : Delivery) (new : List Sub) (next clock : ℕ) : Type 0 where
   pub delivery_is : delivery

@@ -6,7 +6,7 @@ use Rattle.rb_desk.specs.declared.span.Span.{Span}
 use Rattle.rb_desk.specs.declared.span.Status.{Status}
 use Rattle.rb_desk.specs.declared.span.Status.TheVariants.{Ready, InFlight, Settled}
 
--- is ready; is ready and was never taken; is in flight as this delivery; is in flight; is settled
+-- whether a status is ready; ready and never taken; in flight as this delivery; in flight; settled
 abbrev pub is_ready : Status → Bool
 is_ready (Ready taken) = true
 is_ready (InFlight number moment) = false
@@ -32,7 +32,7 @@ is_settled (Ready taken) = false
 is_settled (InFlight number moment) = false
 is_settled Settled = true
 
--- is in flight, and was taken at least `timeout` ticks ago
+-- whether a status is in flight, taken at least `timeout` ticks ago
 abbrev pub is_due : ℕ → ℕ → Status → Bool
 is_due timeout clock (Ready taken) = false
 is_due timeout clock (InFlight number moment) = nat_le timeout (clock - moment)

@@ -123,8 +123,8 @@ pub(crate) fn how_many_due(lane: &[Held], timeout: u64, clock: u64) -> u64
     count
 }
 
-/// Makes the spans that are due ready again. Each gets a ticket with a turn after `latest`, by its
-/// delivery's number. Those numbers are below `next`.
+/// Makes the spans that are due ready again. Their tickets have turns after `latest`, in the order
+/// of their deliveries' numbers, which are below `next`.
 pub(crate) fn expire(lane: &mut Vec<Held>, timeout: u64, clock: u64, latest: Ticket, next: u64)
     requires { AreGiven next latest.turn lane.old.items }
     ensures { lane.new.items ≡ map (expired_by timeout clock latest) lane.old.items }

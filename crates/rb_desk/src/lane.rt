@@ -166,7 +166,7 @@ impl Lane {
         self.raise();
     }
 
-    // stores the first span that was never taken, as one that was
+    // stores the first span that was never taken, now with this status
     fn push(&mut self, span: Span, status: Status) -> Result<(), AllocError>
         requires span { HasNumbers span }
         requires first { span.first ≡ self.old.next }
@@ -212,8 +212,8 @@ impl Lane {
         held::how_many_due(&self.held, timeout, clock)
     }
 
-    /// Makes the spans that are due ready again. Each gets a ticket after `latest`, by its
-    /// delivery's number, which is below `next`.
+    /// Makes the spans that are due ready again. Their tickets come after `latest`, in the order of
+    /// their deliveries' numbers, which are below `next`.
     pub(crate) fn expire(&mut self, timeout: u64, clock: u64, latest: Ticket, next: u64)
         requires { AreGiven next latest.turn self.old.held }
         ensures { self.new ≡ expired_lane timeout clock latest self.old }

@@ -25,8 +25,8 @@ impl Desk {
     }
 
     /// Places the next number and returns it: every open subscription has it from now on. Does not
-    /// allocate. Requires that `prepare` would be Ok, as it is after an Ok `prepare` and no call
-    /// since.
+    /// allocate. Requires that `prepare` would return Ok, as it does right after a `prepare` that
+    /// returned Ok.
     pub fn place(&mut self) -> u64
         requires { IsOk (prepare self.old) }
         ensures number { prepare self.old ≡ Ok result }

@@ -79,8 +79,7 @@ impl Sub {
         self.lane.out_as(delivery)
     }
 
-    /// The span to deliver before its others, with the subscription's number, if the window has
-    /// room.
+    /// The span that is first in line, with the subscription's number, if the window has room.
     pub(crate) fn next_to_deliver(
         &self,
         sub: u64,
@@ -112,8 +111,8 @@ impl Sub {
         many
     }
 
-    /// Makes the spans that are due ready again. Each gets a ticket after `latest`, by its
-    /// delivery's number, which is below `next`.
+    /// Makes the spans that are due ready again. Their tickets come after `latest`, in the order of
+    /// their deliveries' numbers, which are below `next`.
     pub(crate) fn expire(&mut self, timeout: u64, clock: u64, latest: Ticket, next: u64)
         requires { AreGiven next latest.turn self.old.lane.held }
         ensures { self.new ≡ expired_sub timeout clock

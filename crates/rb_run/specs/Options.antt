@@ -31,7 +31,7 @@ limits_of batch window timeout capacity intake =
       appliers = 1;
     })
 
--- the limits from the options' words, or the first option whose word is no number in its range
+-- the limits from the options' words, or the first option whose word isn't a number in its range
 abbrev pub config_of : List ℕ → List ℕ → List ℕ → List ℕ → List ℕ → Result Limits ConfigFault
 config_of batch window timeout capacity intake =
     limits_of (value_of batch) (value_of window) (value_of timeout) (value_of capacity)

@@ -10,7 +10,7 @@ use rb_script::ScriptFault;
 pub enum Ending {
     /// The request is done: a script is answered to its end, refusals included, or help is printed.
     Done,
-    /// The script, or the text to print, stopped.
+    /// The script or the printing stopped.
     Stopped(ScriptFault),
     /// The command line is faulty.
     Misused,

@@ -8,7 +8,7 @@ use clap::ArgMatches;
 use rb_core::{Config, ConfigFault};
 use rb_script::number;
 
-/// The limits from the options of a command line, or the first option whose word is no number in
+/// The limits from the options of a command line, or the first option whose word isn't a number in
 /// its range.
 pub fn config(found: &ArgMatches) -> Result<Config, ConfigFault>
     ensures { result ≡ config_of
@@ -63,7 +63,7 @@ fn value(word: &str) -> u64
     }
 }
 
-/// The message about an option whose word is no number in its range.
+/// The message about an option whose word isn't a number in its range.
 pub fn range(fault: ConfigFault) -> &'static str
     ensures { result.now ≡ range_text fault }
 {
