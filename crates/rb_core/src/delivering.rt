@@ -1,4 +1,4 @@
-//! Events of deliveries: accept, acknowledge, return, expire.
+//! Events of deliveries: accept, acknowledge, negatively acknowledge, expire.
 
 ghost use Rattle.std.specs.Prelude.{◌≡◌, IfOk, IfSome, OnErr};
 ghost use Rattle.std.specs.Option.{option_copied};
@@ -74,7 +74,7 @@ impl Parts {
         }
     }
 
-    /// Returns a delivery: its entries are ready again.
+    /// Negatively acknowledges a delivery: its entries are ready again.
     pub(crate) fn nack(&mut self, delivery: u64) -> Result<Reply, AllocError>
         requires { IsWorld self.old }
         ensures ok { IfOk result (λ reply. outcome.nacked self.old delivery ≡ (reply, self.new)) }
@@ -93,7 +93,7 @@ impl Parts {
         }
     }
 
-    /// Returns every delivery that has been out for the timeout or longer.
+    /// Expires every delivery that has been out for the timeout or longer.
     pub(crate) fn expire(&mut self, now: u64) -> Result<Reply, AllocError>
         ensures ok { IfOk result (λ reply. outcome.expired self.old now ≡ (reply, self.new)) }
         ensures err { OnErr result (self.new ≡ self.old) }

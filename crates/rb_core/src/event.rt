@@ -32,9 +32,9 @@ pub enum Event {
     Accept { delivery: u64 },
     /// Acknowledges a delivery: its entries are settled.
     Ack { delivery: u64 },
-    /// Returns a delivery: its entries are ready again.
+    /// Negatively acknowledges a delivery: its entries are ready again.
     Nack { delivery: u64 },
-    /// Returns the deliveries that have expired at tick `now`.
+    /// Expires every delivery that has been out for the timeout or longer, at tick `now`.
     Expire { now: u64 },
     /// Continues a subscription after number `cursor`, under a new link.
     Reconnect { subscription: u64, cursor: u64 },

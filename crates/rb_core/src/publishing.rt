@@ -120,7 +120,7 @@ impl Parts {
         self.queue(publisher)
     }
 
-    // whether the intake has as many changesets as its limit
+    // whether the intake is full
     fn is_full(&self) -> bool
         ensures { result ≡ nat_le self.now.desk.limits.intake (length self.now.intake) }
     {
@@ -161,7 +161,7 @@ fn end_of(alloc: Global, stream: &mut PieceParser, schema: &Schema) -> Result<Ch
     stream.end(alloc, schema)
 }
 
-// the reply of `end` to this error of the stream
+// the reply of `end` to this error
 fn reply_for(error: EndError) -> Reply
     ensures { result ≡ end_reply error }
 {

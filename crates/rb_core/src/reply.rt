@@ -71,7 +71,7 @@ pub enum BrokerRefusal {
     /// `Send`: the sequence is closed.
     #[error("the sequence is closed")]
     Closed,
-    /// `Send`: the intake has as many changesets as its limit.
+    /// `Send`: the intake is full.
     #[error("as many changesets wait as may")]
     Full,
     /// `End`: the first refused section, at this index, is of a table that isn't in the schema.

@@ -172,7 +172,7 @@ acked_by old s link number cursor (Some q) =
 unfoldable pub ack : Picture → ℕ → ℕ → ℕ → ℕ → Result ℕ DeskRefusal × Picture
 ack old s link number cursor = acked_by old s link number cursor (slice_get old.subscriptions s)
 
--- Nack: returns the span that is in flight as this delivery. It is ready, at the end of the ready
+-- Nack: makes the span that is in flight as this delivery ready again, at the end of the ready
 -- order.
 abbrev pub nacked_picture : Picture → ℕ → Subscription → Span → Picture
 nacked_picture old s q span =
@@ -195,7 +195,7 @@ nacked_by old s link number (Some q) =
 unfoldable pub nack : Picture → ℕ → ℕ → ℕ → Result ⊤ DeskRefusal × Picture
 nack old s link number = nacked_by old s link number (slice_get old.subscriptions s)
 
--- Expire: returns each span in flight that was taken `timeout` ticks ago or earlier, in the
+-- Expire: each span in flight that was taken `timeout` ticks ago or earlier is ready again, in the
 -- in-flight order.
 abbrev pub span_is_due : ℕ → ℕ → Option Span → Bool
 span_is_due timeout clock None = false

@@ -151,7 +151,7 @@ impl Lane {
         Ok(())
     }
 
-    /// Returns a span: it is ready, and stands in line with this ticket.
+    /// Makes a span ready again, in line with this ticket.
     pub(crate) fn give_back(&mut self, first: u64, ticket: Ticket)
         ensures { self.new ≡ returned_lane self.old first ticket }
     {

@@ -9,8 +9,8 @@ use crate::refusal::DeskRefusal;
 impl Desk {
     /// The number that `place` would place now. Does not change the desk.
     ///
-    /// Refuses `Closed` if the sequence is closed, and `SequenceFull` if it has as many entries as
-    /// its capacity.
+    /// Refuses `Closed` if the sequence is closed, and `SequenceFull` if it has reached its
+    /// capacity.
     #[tactic(auto, unfolding(crate::specs::Calls::prepare))]
     pub fn prepare(&self) -> Result<u64, DeskRefusal>
         ensures { result ≡ prepare self.now }

@@ -44,7 +44,7 @@ pub enum DeskRefusal {
     /// `subscribe`: 1,024 subscriptions were made.
     #[error("there are 1,024 subscriptions")]
     TooMany,
-    /// `prepare`: the sequence has as many entries as its capacity.
+    /// `prepare`: the sequence has reached its capacity.
     #[error("the sequence is full")]
     SequenceFull,
 }

@@ -1,4 +1,4 @@
-//! Calls that end a delivery: acknowledge, return, expire.
+//! Calls that end a delivery: acknowledge, negatively acknowledge, expire.
 
 ghost use Rattle.std.specs.Prelude.{◌≡◌, ◌+◌, suc, map, IfOk, OnOk, OnErr};
 ghost use Rattle.std.specs.List.{AllByRecursion};
@@ -47,7 +47,7 @@ impl Desk {
         Ok(self.subs[s].settle(span.first))
     }
 
-    /// Returns a delivery: its numbers are ready again, after all that are ready.
+    /// Negatively acknowledges a delivery: its numbers are ready again, after all that are ready.
     ///
     /// Refuses `NoSuch`, `StaleLink`, `NotInFlight`.
     #[tactic(auto, unfolding(crate::specs::Calls::nack))]
@@ -71,9 +71,9 @@ impl Desk {
         Ok(())
     }
 
-    /// Returns every delivery that has been out for `timeout` ticks or longer, in the order they
-    /// were taken. `now` is a tick of the caller's clock; the desk's clock is the greatest tick so
-    /// far. The result is how many deliveries were returned.
+    /// Expires every delivery that has been out for `timeout` ticks or longer, in the order they
+    /// were taken: its numbers are ready again. `now` is a tick of the caller's clock; the desk's
+    /// clock is the greatest tick so far. Returns how many deliveries expired.
     ///
     /// Refuses nothing. Returns `AllocError` if there are no numbers left to issue, and does not
     /// change the desk then.

@@ -52,7 +52,7 @@ impl Sub {
         Ok(())
     }
 
-    /// Returns a span: it is ready, and stands in line with this ticket.
+    /// Makes a span ready again, in line with this ticket.
     pub(crate) fn give_back(&mut self, first: u64, ticket: Ticket)
         ensures { self.new ≡ returned_sub self.old first ticket }
     {
