@@ -4,7 +4,7 @@ ghost use Rattle.std.specs.Prelude.{◌<◌};
 
 use std::alloc::{AllocError, Global};
 
-/// The most bytes of a line that is read as one.
+/// The most bytes of a line; a longer one isn't cut.
 const LONGEST: usize = 65_536;
 
 /// The lines of a text. The text after the last line end is a line too, even if it is empty.
@@ -44,7 +44,7 @@ pub fn count(line: &[u8], most: usize) -> usize {
     }
 }
 
-// The digits of this many bytes, but of at least one.
+// How many hexadecimal digits this many bytes have, at least 2.
 fn digits_of(bytes: usize) -> usize
     ensures { 0 < result }
 {

@@ -64,9 +64,9 @@ subscribe old start =
       subscribed_picture old start (cut_spans old.limits.batch (suc start) old.front),
     )
 
--- Delivers a span: it is in flight as the next delivery, taken at the current clock. It leaves the
--- ready order and goes to the end of the in-flight order. The greatest number delivered is at least
--- the span's last.
+-- Delivers a span: it is in flight as the next delivery, taken at tick `clock`, to which the clock
+-- is set. It leaves the ready order and goes to the end of the in-flight order. The greatest number
+-- delivered is at least the span's last.
 abbrev pub delivery_from : Picture → ℕ → Subscription → Span → Delivery
 delivery_from old s q span =
     record {

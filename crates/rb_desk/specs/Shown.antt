@@ -114,7 +114,7 @@ closed_sub sub = record sub { closed = true; lane = cut_lane sub.lane.floor sub.
 
 -- The subscription `found`, with number s, is delivered a span, as delivery `number`, at tick
 -- `taken`. The fields say what the delivery is, and what the subscriptions, the next delivery's
--- number and the clock are then.
+-- number and the clock are after it.
 pub record DeliveredTo (subs : List Sub) (s : ℕ) (found : Sub) (span : Span) (number taken : ℕ)
     (delivery : Delivery) (new : List Sub) (next clock : ℕ) : Type 0 where
   pub delivery_is : delivery

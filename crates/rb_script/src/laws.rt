@@ -44,8 +44,8 @@ pub fn scripts_feed_bytes()
 {}
 
 /// According to a script's events and replies, a subscription has accepted one contiguous run of
-/// the sequence after its start. No number is skipped, and none comes twice. In this way, every law
-/// of runs is one of scripts.
+/// the sequence after its start. No number is skipped, and none comes twice. In the same way, every
+/// law of runs holds for scripts.
 pub fn accepted_lines_are_gapless()
     ensures { (config : Limits) (lines : List (List ℕ)) → AreInRange config
         → (schema : List Shape) × ((s : ℕ) (subscriber : Subscriber)

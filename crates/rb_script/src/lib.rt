@@ -1,6 +1,6 @@
 //! Scripts: lines of text that change a world, each with its answer. Theorem: `run_script` writes
 //! *answers* of what it reads; if it stops, it writes as much of it as *Ends* says. The events in
-//! its lines and the replies to them are a run of the world, so each law of runs is one of scripts.
+//! its lines and the replies to them are a run of the world, so each law of runs holds for scripts.
 #![tactic(auto)]
 
 mod fault;

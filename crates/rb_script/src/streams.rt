@@ -59,7 +59,8 @@ pub fn flush<W: Write>(writer: &mut W) -> io::Result<()>
     writer.flush()
 }
 
-// Writes a prefix of the bytes, and returns its length. A writer that accepts no byte is an error.
+// Writes a prefix of the bytes, and returns its length. It is an error if the writer accepts no
+// byte.
 #[tactic(auto, using(crate::proofs::StreamLaws::known_bytes))]
 fn write_some<W: Write>(writer: &mut W, bytes: &[u8]) -> io::Result<usize>
     requires { 0 < length bytes.now }
