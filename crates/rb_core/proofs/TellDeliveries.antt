@@ -1,4 +1,4 @@
--- What is told of deliveries: which are offered, and what is accepted of them.
+-- What is reported of deliveries: which are made, and what is accepted of them.
 use Rattle.std.proofs.Common.{◌≡◌, ℕ, suc, ◌+◌, ◌-◌, ◌<◌, ◌≤◌, inl, inr, List, ◌++◌, length, map, Option, Some, None}
 use Rattle.std.proofs.Common.{Result, Ok, Err, refl, sym, ap, subst, ◌∙◌, arith}
 use Rattle.std.specs.Prelude.{⊤, slice_get, slice_set, ◌↔◌, ◌==◌}

@@ -1,5 +1,5 @@
--- What an event and its answer tell: a course of moves, and what the broker has behind it. All that the events have in
--- common.
+-- What an event and its reply report: a course of moves, and what the broker has after it. This is the common part of
+-- all events.
 use Rattle.std.proofs.Common.{◌≡◌, ℕ, suc, ◌<◌, inl, inr, Bool, true, false, cond, List, [], ◌∷◌, ◌++◌, Some, refl, sym}
 use Rattle.std.proofs.Common.{ap, subst, ◌∙◌, arith}
 use Rattle.std.specs.Prelude.{slice_get, slice_set}

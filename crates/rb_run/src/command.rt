@@ -1,12 +1,12 @@
-//! The command line.
+//! The command line: its options and its help.
 
 use clap::{Arg, ArgAction, ArgMatches, Command, Error};
 use std::alloc::Global;
 
-// the version that `--version` tells
+// the version that `--version` prints
 const VERSION: &str = "0.1.0";
 
-// what stands below the options of `script --help`
+// the text after the options of `script --help`
 const LINES: &str = "\
 Call it with a file:
   rb_run script < FILE
@@ -42,8 +42,8 @@ Statuses:
      more than 16777216 bytes, or want of memory
   2  the command line is faulty";
 
-/// Reads a command line, of which the first word is the program's name. An error is a text to
-/// print: help, the version, or how to call the program.
+/// Parses a command line, whose first word is the program's name. An error is a text to print:
+/// help, the version, or how to call the program.
 pub fn matches<'a>(alloc: Global, words: &'a [String]) -> Result<ArgMatches<'a>, Error> {
     let script = Command::new(alloc, "script")
         .about("Answers the lines of a script on standard input, one after another")

@@ -1,5 +1,5 @@
--- What holds of calls one after another: each leaves a picture, links and deliveries' numbers rise strictly, the front
--- and the floors don't fall.
+-- Calls one after another: each preserves the invariant of a picture, links and deliveries' numbers rise strictly, and
+-- the front and the floors do not fall.
 use Rattle.std.proofs.Common.{◌≡◌, ℕ, zero, suc, max, ◌<◌, ◌≤◌, true, false, not, ◌||◌, ◌==◌, ◌⊎◌, inl, inr, List, []}
 use Rattle.std.proofs.Common.{◌∷◌, ◌++◌, length, map, Option, Some, None, option_map, Result, Ok, Err, find, nat_lt}
 use Rattle.std.proofs.Common.{nat_le, slice_get, slice_set, refl, sym, ap, ◌∙◌, subst, arith, length-append}
