@@ -108,7 +108,8 @@ impl PieceParser {
         // If no fault is reported, the text can be continued to a changeset.
         ensures going { (text : List ℕ) → Took self.old text
             → OnOk result (IsFaultless (text ++ piece.now)) }
-        // The piece is taken, also when a fault is reported. It is not taken when memory runs out.
+        // After the call the parser may have taken the text with the piece (`Took`), also if a
+        // fault is reported. If memory runs out, it may have taken the text alone.
         ensures taken { (text : List ℕ) → Took self.old text
             → TakesPiece result text piece.now self.new }
         // Each later call reports the same fault again.

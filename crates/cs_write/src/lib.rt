@@ -3,8 +3,8 @@
 //! puts that text into a buffer if it fits. `write_pieces` puts it into a sink piece by piece,
 //! until the sink fails.
 //!
-//! A text within the limit encodes the canonical form. The text of a parsed changeset always is,
-//! because it is no longer than the parsed one.
+//! A text within the limit encodes the canonical form. The text of a parsed changeset is within the
+//! limit, because it is no longer than the parsed one.
 #![tactic(auto)]
 
 mod form;
