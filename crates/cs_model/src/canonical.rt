@@ -16,7 +16,7 @@ use crate::varint::{varint_first, varint_strip};
 use std::alloc::AllocError;
 
 /// Appends the changes that `bytes` encodes to `out` in canonical form, and returns their number.
-/// Copies canonical bytes at once, and re-encodes others. An `Err` does not change `out`.
+/// Makes one copy of canonical bytes, and re-encodes others. An `Err` does not change `out`.
 pub fn text_push(out: &mut Vec<u8>, columns: usize, bytes: &[u8]) -> Result<usize, AllocError>
     ensures ok { AddsBytes result out.old out.new
         (changes_bytes (unpacked_changes columns bytes.now)) }

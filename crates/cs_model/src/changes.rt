@@ -102,8 +102,9 @@ impl Changes {
         Ok(())
     }
 
-    /// Appends the changes that `text` encodes, which are whole, as `laws::spelled_is_said` says.
-    /// Copies canonical bytes at once, and re-encodes others. An `Err` does not change the list.
+    /// Appends the changes that `text` encodes, which are complete, as `laws::spelled_is_said`
+    /// says. Makes one copy of canonical bytes, and re-encodes others. An `Err` does not change the
+    /// list.
     pub fn append_text(&mut self, text: &[u8]) -> Result<(), AllocError>
         requires { AllByRecursion (Fit self.old.0) (unpacked_changes self.old.0 text.now) }
         ensures columns { self.new.0 ≡ self.old.0 }

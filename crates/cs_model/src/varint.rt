@@ -49,7 +49,7 @@ pub fn varint_push(out: &mut Vec<u8>, value: u64) -> Result<(), AllocError>
         out.push(value as u8)?;
         return Ok(());
     }
-    // appended at once, so that an `Err` appends none of it
+    // appended in one call, so that an `Err` appends none of it
     let (text, start) = varint_of(value);
     out.extend_from_slice(&text[start..])
 }

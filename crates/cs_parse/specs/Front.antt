@@ -1,4 +1,4 @@
--- What is whole at the front of some bytes: changes, sections, and a growing changeset with its
+-- What is complete at the front of some bytes: changes, sections, and a growing changeset with its
 -- pending bytes.
 use Rattle.std.specs.Prelude.{◌≡◌, ℕ, zero, suc, ◌+◌, ◌-◌, ◌<◌, ◌≤◌, Bool, List, [], ◌∷◌, ◌++◌}
 use Rattle.std.specs.Prelude.{length, take, drop, Option, Some, None, Result, Ok, Err, IsTrue}
@@ -20,7 +20,7 @@ use Rattle.cs_parse.specs.Reading.{change_at, ends_section}
 use Rattle.cs_parse.specs.Spot.{IsSpot, IsHeaderSpot}
 use Rattle.cs_parse.specs.declared.spot.Spot.{Spot}
 
--- The whole items, the bytes after them, and why the next item isn't read. `why` is `None` if no
+-- The complete items, the bytes after them, and why the next item isn't read. `why` is `None` if no
 -- item follows.
 pub record Front (A : Type 0) : Type 0 where
   pub items : List A
@@ -45,7 +45,7 @@ front_at over read (suc fuel) bytes =
     if over bytes then record { items = []; rest = bytes; why = None }
     else after_item (front_at over read fuel) bytes (read bytes)
 
--- the whole changes of a section
+-- the complete changes of a section
 abbrev pub changes_front : List ℕ → List ℕ → Front Change
 changes_front flags bytes = front_at ends_section (change_at flags) (length bytes) bytes
 
@@ -62,7 +62,7 @@ sections_reached sections rest None = prefixed sections (read_on [] rest)
 sections_reached sections rest (Some why) =
     record { sections = sections; rest = rest; why = Some why }
 
--- A list of sections grew by the next section of some bytes, as far as it is whole.
+-- A list of sections grew by the next section of some bytes, as far as it is complete.
 pub record NextSection (old new : List Section) (bytes rest : List ℕ) (why : Option ParseRefusal) :
     Type 0 where
   pub sections : List Section
@@ -84,7 +84,7 @@ abbrev pub JoinsSection : Option (List ℕ) → List ℕ → ℕ → Bool → Ty
 JoinsSection None text count canonical = (text ≡ []) × (count ≡ 0)
 JoinsSection (Some flags) text count canonical = JoinsTable flags text count canonical
 
--- What is whole at the front of the bytes after sections, the last of whose tables has these key
+-- What is complete at the front of the bytes after sections, the last of whose tables has these key
 -- flags. It is the number of changes, the bytes after them, whether they are canonical, and why the
 -- next change isn't read.
 pub record HeadsTable (flags bytes : List ℕ) (count : ℕ) (rest : List ℕ) (canonical : Bool)
@@ -99,8 +99,8 @@ abbrev pub Heads : Option (List ℕ) → List ℕ → ℕ → List ℕ → Bool 
 Heads None bytes count rest canonical why = (rest ≡ bytes) × (why ≡ None) × (count ≡ 0)
 Heads (Some flags) bytes count rest canonical why = HeadsTable flags bytes count rest canonical why
 
--- What is whole after these changes: sections, the bytes after them, and why no more is read. There
--- are no sections if a change wasn't read.
+-- What is complete after these changes: sections, the bytes after them, and why no more is read.
+-- There are no sections if a change wasn't read.
 abbrev pub Tails : Option ParseRefusal → List ℕ → List Section → List ℕ → Option ParseRefusal
     → Type 0
 Tails None bytes sections rest why = read_on [] bytes

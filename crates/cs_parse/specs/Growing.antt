@@ -30,7 +30,7 @@ Keeps None text count = (text ≡ []) × (count ≡ 0)
 Keeps (Some flags) text count = AreCanonical (length flags) text
     × (count ≡ length (unpacked_changes (length flags) text))
 
--- The first `kept` bytes are `count` whole changes, which the last section is missing. It is
+-- The first `kept` bytes are `count` complete changes, which the last section is missing. It is
 -- missing none if no bytes follow them.
 pub record IsGrowing (sections : List Section) (bytes : List ℕ) (kept count : ℕ) : Type 0 where
   pub inside : kept ≤ length bytes

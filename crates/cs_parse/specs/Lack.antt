@@ -64,7 +64,7 @@ LacksInHeader bytes least = (more : List ℕ) → length more < least → HasNoZ
 -- ---- after sections
 
 -- At least `least` bytes are missing from the item that these bytes after sections begin. In a
--- header the bound counts nonzero bytes only. With fewer bytes appended, nothing is whole and no
+-- header the bound counts nonzero bytes only. With fewer bytes appended, no item is complete and no
 -- byte is wrong.
 abbrev pub WaitsFor : List Section → List ℕ → Bool → ℕ → Type 0
 WaitsFor sections bytes header least =

@@ -10,7 +10,7 @@ use Rattle.cs_parse.specs.declared.fault.FaultKind.TheVariants.{UndefinedField, 
 use Rattle.cs_parse.specs.declared.fault.FaultKind.TheVariants.{KeyChanged, OneSided, ValueTooLong}
 
 -- The places where a byte can be wrong. Start: at the beginning of the text. Between: after a
--- header or a whole change. InColumns: in the number of columns. Its first number says how many
+-- header or a complete change. InColumns: in the number of columns. Its first number says how many
 -- bytes may still have the high bit; the second is the value of the bytes before. LastKey: on the
 -- last key flag, if all before it are zero. FirstLetter: where the name begins. PastName: after
 -- 1,024 bytes of name. AtType: where a field begins, in a column with this rule. InLength: in the

@@ -1,5 +1,5 @@
 -- The progress of a parser that reads a text in pieces. A text is a list of parts: headers, each
--- followed by the changes of its table. Whole parts are read, and the bytes of an incomplete one
+-- followed by the changes of its table. Complete parts are read, and the bytes of an incomplete one
 -- are kept.
 use Rattle.std.specs.Prelude.{◌≡◌, ℕ, zero, suc, ◌+◌, ◌-◌, List, [], ◌∷◌, ◌++◌, length, take}
 use Rattle.std.specs.Prelude.{Option, Some, None, Result, Ok, Err, nat_lt, if◌then◌else◌, refl}
@@ -78,7 +78,7 @@ with_part sections (Some flags) bytes =
 unfoldable pub part_at : List Section → List ℕ → Result (List Section × List ℕ) ParseRefusal
 part_at sections bytes = with_part sections (last_flags sections) bytes
 
--- ---- all whole parts
+-- ---- all complete parts
 
 -- What is read: the sections, the bytes after them, and why the next part isn't read. `why` is
 -- `None` if no part follows.
@@ -146,7 +146,7 @@ advanced old piece = advance old.fault old piece
 abbrev pub progress_of : List ℕ → Progress
 progress_of text = advanced nothing text
 
--- The result for the bytes so far: their sections, if they end after a whole part.
+-- The result for the bytes so far: their sections, if they end after a complete part.
 abbrev pub answer_at_end_by : Option ParseFault → Progress → Result (List Section) ParseFault
 answer_at_end_by (Some fault) progress = Err fault
 answer_at_end_by None progress =

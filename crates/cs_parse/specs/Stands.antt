@@ -84,7 +84,7 @@ pub record InValue (rule : Rule) (front : List ℕ) (place : BytePlace) : Type 0
 abbrev pub InField : Rule → List ℕ → BytePlace → Type 0
 InField rule front place = ((front ≡ []) × (place ≡ AtType rule)) ⊎ InValue rule front place
 
--- in one of the fields of a record, after the whole fields before it
+-- in one of the fields of a record, after the complete fields before it
 abbrev pub InRecord : List Rule → List ℕ → BytePlace → Type 0
 InRecord [] front place = ⊥
 InRecord (rule ∷ rules) front place =

@@ -87,9 +87,9 @@ pub fn is_over(bytes: &[u8]) -> bool
     }
 }
 
-/// Scans the whole changes of a section. Returns their number, the bytes after them, whether they
-/// are in canonical form, and why the next change isn't read. The last is `None` at the next header
-/// and at the end.
+/// Scans the complete changes of a section. Returns their number, the bytes after them, whether
+/// they are in canonical form, and why the next change isn't read. The last is `None` at the next
+/// header and at the end.
 pub fn whole_changes<'a>(
     flags: &[u8],
     bytes: &'a [u8],
@@ -131,8 +131,8 @@ pub fn changes_counted<'a>(flags: &[u8], bytes: &'a [u8]) -> Result<(usize, &'a 
     }
 }
 
-// Adds the changes that `text` encodes. Copies them at once if `text` is known to be canonical, and
-// re-encodes them otherwise.
+// Adds the changes that `text` encodes. Copies `text` as one piece if it is known to be canonical,
+// and re-encodes it otherwise.
 fn copy_changes(
     changes: &mut Changes,
     text: &[u8],
@@ -153,8 +153,8 @@ fn copy_changes(
     }
 }
 
-/// Copies the whole changes of a section. Returns them, the bytes after them, and why the next
-/// change isn't read. Scans their bytes first, so that it copies them at once and allocates once.
+/// Copies the complete changes of a section. Returns them, the bytes after them, and why the next
+/// change isn't read. Scans their bytes first, so that one allocation and one copy suffice.
 pub fn changes_of<'a>(
     alloc: Global,
     flags: &[u8],

@@ -70,7 +70,8 @@ pub struct ParseFault {
     pub kind: FaultKind,
 }
 
-/// The error of `parse`. The call takes the text by reference and changes nothing.
+/// The error of `parse` and of `PieceParser::feed`. `parse` takes the text by reference and changes
+/// nothing. `feed` changes nothing if it returns `Memory`.
 #[derive(Clone, Copy, Debug, PartialEq, Eq, Error)]
 pub enum ParseError {
     /// The text encodes no changeset.

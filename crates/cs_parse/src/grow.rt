@@ -1,4 +1,4 @@
-//! Reads the pending bytes after the sections of a growing changeset, and moves what is whole to
+//! Reads the pending bytes after the sections of a growing changeset, and moves what is complete to
 //! them.
 
 ghost use Rattle.std.specs.Prelude.{◌≡◌, ◌<◌, IfOk, IfErr, Option, List, Some};
@@ -20,7 +20,7 @@ use cs_model::Section;
 use cs_model::laws::{changes_fit, spelled_is_said};
 use std::alloc::{AllocError, Global};
 
-// Scans the whole changes that `bytes` begins with, which belong to the last section's table.
+// Scans the complete changes that `bytes` begins with, which belong to the last section's table.
 // Returns their number, the bytes after them, whether they are canonical, and why the next change
 // isn't read.
 fn head_of<'a>(
@@ -35,8 +35,8 @@ fn head_of<'a>(
     }
 }
 
-// Reads the whole sections after these changes. Returns them, the bytes after them, and why no more
-// is read. Reads no section if a change wasn't read.
+// Reads the complete sections after these changes. Returns them, the bytes after them, and why no
+// more is read. Reads no section if a change wasn't read.
 fn tail_of(
     alloc: Global,
     stopped: Option<ParseRefusal>,
@@ -69,7 +69,7 @@ fn wrong_in(taken: usize, why: Option<ParseRefusal>) -> Option<ParseFault>
 /// result holds after all sections whose last table has the same key flags.
 ///
 /// Advances the spot, so that the next call doesn't scan these bytes again. A bound of 0 means that
-/// an item is whole or a byte is wrong; the spot is then unspecified.
+/// an item is complete or a byte is wrong; the spot is then unspecified.
 pub fn still_waits(sections: &[Section], bytes: &[u8], spot: &mut Spot) -> (usize, bool)
     requires { Waits (last_flags sections.now) bytes.now spot.old }
     ensures waits { 0 < result.0 → (others : List Section)
@@ -117,7 +117,7 @@ fn brought<'a>(
     Ok((len, count, canonical, more, rest))
 }
 
-/// Reads the pending bytes as far as they are whole, and adds what they encode to the sections.
+/// Reads the pending bytes as far as they are complete, and adds what they encode to the sections.
 /// `taken` is the number of bytes of the text up to the end of these; it places a fault. An `Err`
 /// changes nothing.
 pub fn grow(alloc: Global, text: &mut Growing, taken: usize) -> Result<(), ParseError>

@@ -15,13 +15,13 @@ use std::mem;
 
 /// Sections, the last of which may still grow, and the pending bytes of an incomplete header or
 /// change. Contracts see both lists. While bytes are pending, the last section's changes precede
-/// them in one buffer. So a change that becomes whole is already in its place.
+/// them in one buffer. So a change that becomes complete is already in its place.
 #[derive(Debug, Drop)]
 pub struct Growing {
     // the last section is missing the changes in `bytes`
     changeset: Changeset,
     bytes: Vec<u8>,
-    // the number of bytes that hold whole changes, in canonical form
+    // the number of bytes that hold complete changes, in canonical form
     kept: usize,
     // the number of these changes
     count: usize,

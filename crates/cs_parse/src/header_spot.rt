@@ -73,8 +73,8 @@ fn name_room(spot: Spot) -> usize
 /// is valid for any table before the header.
 ///
 /// Until all key flags are present the call reads only the number of columns. In the name it scans
-/// only the new bytes. A result of 0 means that the header is whole or a byte is wrong; the spot is
-/// then unspecified.
+/// only the new bytes. A result of 0 means that the header is complete or a byte is wrong; the spot
+/// is then unspecified.
 pub fn header_short(bytes: &[u8], spot: &mut Spot) -> usize
     requires { IsHeaderSpot bytes.now spot.old }
     ensures short { LacksInHeader bytes.now result }

@@ -69,7 +69,7 @@ impl Model for PieceParser {
         × IsPaused p.fault p.text.0 p.text.1 p.header p.lacking };
 }
 
-// Whether no name ends in these bytes, if the incomplete item is a header.
+// Returns `true` unless a header's name ends in these bytes.
 #[inline(always)]
 fn no_end(header: bool, bytes: &[u8]) -> bool
     ensures { IsTrue result → IsTrue header → HasNoZero bytes.now }
@@ -112,10 +112,10 @@ impl PieceParser {
         // fault is reported. If memory runs out, it may have taken the text alone.
         ensures taken { (text : List ℕ) → Took self.old text
             → TakesPiece result text piece.now self.new }
-        // Each later call reports the same fault again.
+        // If the text has a permanent fault, the call reports it again.
         ensures again { (text : List ℕ) (fault : ParseFault) → Took self.old text
             → IsLasting text fault → result ≡ Err (ParseError.Fault fault) }
-        // So does a parser whose progress has a fault, whatever its text is.
+        // So it does with the fault of the progress, whatever the text is.
         ensures lasts { (fault : ParseFault) → self.old.fault ≡ Some fault
             → result ≡ Err (ParseError.Fault fault) }
     {
@@ -240,7 +240,7 @@ impl PieceParser {
         }
     }
 
-    /// Moves out the changeset that `finish` returns, and resets the parser.
+    /// Moves out the changeset that `finish` returns, which must be `Ok`, and resets the parser.
     pub fn take(&mut self, alloc: Global) -> Changeset
         requires { IsOk (answer_at_end self.old) }
         ensures changeset { answer_at_end self.old ≡ Ok result }

@@ -38,8 +38,8 @@ fn shape_in(bytes: &[u8]) -> Result<(ShapeRef, &[u8]), ParseRefusal>
     })
 }
 
-// Appends the next section if its header is whole, with its whole changes. Returns the bytes after
-// it, and why it isn't read to its end.
+// Appends the next section if its header is complete, with its complete changes. Returns the bytes
+// after it, and why it isn't read to its end.
 fn next_section<'a>(
     alloc: Global,
     sections: &mut Vec<Section>,
@@ -58,8 +58,8 @@ fn next_section<'a>(
     Ok((rest, why))
 }
 
-/// Reads the sections of a text, the last one as far as it is whole. Returns them, the bytes after
-/// them, and why no more is read.
+/// Reads the sections of a text, the last one as far as it is complete. Returns them, the bytes
+/// after them, and why no more is read.
 pub fn whole_sections(
     alloc: Global,
     bytes: &[u8],

@@ -58,8 +58,8 @@ impl Spot {
     }
 }
 
-// Scans the whole fields of a record. Returns their number and the bytes after them, or `None` if
-// the next field has a wrong byte. `outside` is the rule of the columns outside the key.
+// Scans the complete fields of a record. Returns their number and the bytes after them, or `None`
+// if the next field has a wrong byte. `outside` is the rule of the columns outside the key.
 fn pass_fields<'a>(outside: FieldRule, flags: &[u8], bytes: &'a [u8]) -> Option<(usize, &'a [u8])>
     ensures { IfSome result (λ x.
         Halts (column_rule (rule_of outside)) flags.now bytes.now x.0 x.1.now) }
@@ -75,7 +75,7 @@ fn pass_fields<'a>(outside: FieldRule, flags: &[u8], bytes: &'a [u8]) -> Option<
     Some((flags.len(), rest))
 }
 
-// The same for an UPDATE's new record; `None` also if all its fields are whole. The old record
+// The same for an UPDATE's new record; `None` also if all its fields are complete. The old record
 // gives its rules and is read again from `old` on, field by field. The second result is the old
 // record's bytes from the next column on.
 fn pass_new<'a>(flags: &[u8], old: &'a [u8], bytes: &'a [u8]) -> Option<(usize, &'a [u8], &'a [u8])>
@@ -101,8 +101,8 @@ fn pass_new<'a>(flags: &[u8], old: &'a [u8], bytes: &'a [u8]) -> Option<(usize, 
     None
 }
 
-// Continues in the first record of a change. Returns the number of its whole fields, and where the
-// next one begins.
+// Continues in the first record of a change. Returns the number of its complete fields, and where
+// the next one begins.
 fn pass_first(
     outside: FieldRule,
     flags: &[u8],
@@ -208,8 +208,8 @@ fn spot_lacks(bytes: &[u8], spot: Spot) -> usize
 
 /// Returns a lower bound on the bytes missing from an incomplete change that begins with `bytes`,
 /// which may be empty. Moves the spot to the first incomplete field; it stays valid when more bytes
-/// follow. Takes time linear in the fields passed. A result of 0 means that the change is whole or
-/// a byte is wrong; the spot is then unspecified.
+/// follow. Takes time linear in the fields passed. A result of 0 means that the change is complete
+/// or a byte is wrong; the spot is then unspecified.
 pub fn still_short(flags: &[u8], bytes: &[u8], spot: &mut Spot) -> usize
     requires { IsSpot flags.now bytes.now spot.old }
     ensures short { (more : List ℕ) → length more < result

@@ -5,7 +5,7 @@ use crate::fault::FaultKind;
 /// Why the bytes don't begin with what a reader expects.
 #[derive(Clone, Copy, Debug, PartialEq, Eq)]
 pub enum ParseRefusal {
-    /// The bytes end before the item is whole.
+    /// The bytes end before the item is complete.
     Short,
     /// A byte is wrong. `left` is the number of bytes from it to the end. So no reader needs the
     /// offset of its bytes in the text.

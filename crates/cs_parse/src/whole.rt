@@ -87,11 +87,11 @@ fn read(alloc: Global, text: &[u8]) -> Result<Seq<Section>, ParseError>
 }
 
 /// Returns the changeset that `text` encodes, or the text's one fault. The fault is at the first
-/// byte after which no text can encode a changeset.
+/// byte after which no continuation encodes a changeset, or at the end of a truncated text.
 ///
 /// `Memory` comes only if the text encodes a changeset, because finding a fault does not allocate.
-/// Neither error changes anything. Of a text of more than 16,777,216 bytes the call reads only that
-/// number. Such a text is `TooLong`, unless its fault is among those bytes.
+/// Neither error changes anything. The call reads at most 16,777,216 bytes. A longer text is
+/// `TooLong`, unless its fault is among those bytes.
 pub fn parse(alloc: Global, text: &[u8]) -> Result<Changeset, ParseError>
     // A changeset that is returned is the one that the text encodes.
     ensures found { IfOk result (λ changeset. Spells text.now changeset) }
