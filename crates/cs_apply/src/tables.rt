@@ -45,8 +45,8 @@ impl Model for Tables {
 }
 
 impl Tables {
-    /// Makes empty tables of a schema. All tables made with it share it. `kept` has one flag per
-    /// table: whether its changes are applied.
+    /// Makes empty tables of a schema. All tables made with this `Arc` share the schema. `kept` has
+    /// one flag per table: whether its changes are applied.
     pub fn new(alloc: Global, schema: Arc<Schema>, kept: Vec<bool>) -> Tables
         requires { length kept.items ≡ length (arc_value schema) }
         ensures { result ≡ record {
