@@ -1,4 +1,4 @@
--- What bytes bring that stand behind sections: changes of the last one, sections behind it, and what is left.
+-- What the bytes after sections give: changes of the last one, sections after it, and the remaining bytes.
 use Rattle.std.proofs.Common.{◌≡◌, ℕ, ◌-◌, ◌<◌, ◌≤◌, Bool, List, [], ◌∷◌, ◌++◌, length, take, drop, Option, Some, None}
 use Rattle.std.proofs.Common.{refl, sym, ap, subst, ◌∙◌, arith}
 use Rattle.std.proofs.lemmas.List.{append-nil, length-append, take-append-drop}
