@@ -37,7 +37,7 @@ abbrev pub BringsAll : List Section → List ℕ → List ℕ → List Section �
 BringsAll sections bytes text more rest why = read_on sections bytes
     ≡ record { sections = with_changes sections (said_by (last_flags sections) text) ++ more; rest = rest; why = why }
 
--- the same by the last section's key bytes
+-- the same by the last section's key flags
 abbrev BringsBy : Option (List ℕ) → List Section → List ℕ → List ℕ → List Section → List ℕ → Option ParseRefusal
     → Type 0
 BringsBy o sections bytes text more rest why = read_on sections bytes

@@ -30,7 +30,7 @@ use Rattle.cs_parse.proofs.joining.PartLaws.{part_refused}
 abbrev name_shaped : List ℕ → List ℕ × List ℕ → Result (Shape × List ℕ) ParseRefusal
 name_shaped flags name = Ok (record { name = name.0; flags = flags }, name.1)
 
--- what stands behind the key bytes
+-- what stands after the key flags
 abbrev name_named_by : List ℕ × List ℕ → Result (Shape × List ℕ) ParseRefusal
 name_named_by flags = name_at flags.1 >>= name_shaped flags.0
 

@@ -22,7 +22,7 @@ use Rattle.cs_parse.proofs.reading.Steps.{Takes, back_fits, bind_ok, done, ok_is
 use Rattle.cs_parse.proofs.reading.FieldLaws.{record_takes, record_again}
 use Rattle.cs_parse.proofs.reading.ManyLaws.{IsReader, TakesEach, many_takes, many_again}
 
--- a change of a table with these key bytes
+-- a change of a table with these key flags
 abbrev pub IsChangeBy : List ℕ → Change → Type 0
 IsChangeBy flags change = AreRecords flags change.op change.before change.after
 
