@@ -1,18 +1,18 @@
-/* Whole jobs on the bytes of an SQLite changeset.
+/* Functions on the bytes of an SQLite changeset.
  *
- * A text is the bytes of a changeset, as SQLite's session extension writes it. Any bytes may be given: each call
- * returns, reads the text within its length alone, and keeps no pointer. Lengths, places and rooms are in bytes.
+ * A text is the bytes of a changeset, as SQLite's session extension writes it. Any bytes may be passed: each call
+ * returns, reads nothing outside the text, and keeps no pointer. Lengths, places and rooms are in bytes.
  *
- * Who owns what: the caller owns every buffer before, during and after a call. changeset_check takes no memory.
- * changeset_canonical takes it by malloc and realloc, and has freed all of it when it returns.
+ * Ownership: the caller owns every buffer before, during and after a call. changeset_check does not allocate.
+ * changeset_canonical allocates with malloc and realloc, and frees all of it before it returns.
  *
- * What a caller owes, and nothing checks:
- * - No pointer is NULL, also where its length is 0: any address serves there. `len` and `room` are below 2^63.
+ * The caller must ensure all of this, and nothing checks it:
+ * - No pointer is NULL, even if its length is 0; any other address serves then. `len` and `room` are below 2^63.
  * - `text` has `len` bytes that nobody changes during the call.
- * - `out` has `room` bytes that nobody else reads or changes during the call, and shares none with `text`.
- * - `fault_at` and `fault_kind` are places of their own, aligned, outside `text`.
- * - No call is made in a signal handler, nor in the forked child of a process with threads.
- * Two threads may make calls at once, each with buffers of its own for what is written. */
+ * - `out` has `room` bytes that nobody else reads or changes during the call. It does not overlap `text`.
+ * - `fault_at` and `fault_kind` are separate places, aligned, and outside `text`.
+ * - No call is made in a signal handler, or in the forked child of a process with threads.
+ * Two threads may make calls at once if each has its own output buffers. */
 #ifndef CHANGESET_H
 #define CHANGESET_H
 
@@ -28,15 +28,15 @@ extern "C" {
 /* Memory ran out. The text spells a changeset. */
 #define CHANGESET_NO_MEMORY (-2)
 
-/* What is wrong at a fault's place. */
+/* The kind of a fault. */
 enum changeset_fault_kind {
-    /* The first byte begins no changeset. */
+    /* The first byte does not begin a changeset. */
     CHANGESET_BAD_MARKER = 1,
-    /* A patchset begins here, which isn't read. */
+    /* A patchset begins here. Patchsets aren't read. */
     CHANGESET_PATCHSET = 2,
-    /* A table has no column, or more than 2,000. */
+    /* A table has no columns, or more than 2,000. */
     CHANGESET_COLUMNS = 3,
-    /* No column of a table is in its key. */
+    /* A table has no key column. */
     CHANGESET_NO_KEY = 4,
     /* A table's name is empty. */
     CHANGESET_EMPTY_NAME = 5,
@@ -46,7 +46,7 @@ enum changeset_fault_kind {
     CHANGESET_BAD_OPERATION = 7,
     /* No field has this type. */
     CHANGESET_BAD_TYPE = 8,
-    /* A REAL value, which isn't read. */
+    /* A REAL value. REAL values aren't read. */
     CHANGESET_REAL = 9,
     /* A field of an INSERT or a DELETE has no value. */
     CHANGESET_UNDEFINED_FIELD = 10,
@@ -54,7 +54,7 @@ enum changeset_fault_kind {
     CHANGESET_KEY_MISSING = 11,
     /* An UPDATE gives a key column a new value. */
     CHANGESET_KEY_CHANGED = 12,
-    /* A column of an UPDATE has a value in one of its records only. */
+    /* A column of an UPDATE has a value in only one of its two records. */
     CHANGESET_ONE_SIDED = 13,
     /* A value is longer than 16,777,216 bytes. */
     CHANGESET_VALUE_TOO_LONG = 14,
@@ -64,22 +64,23 @@ enum changeset_fault_kind {
     CHANGESET_TRUNCATED = 16
 };
 
-/* Checks a text of `len` bytes. The answer is one of these:
- * - 0 or more: the text spells a changeset, of so many changes. An empty text spells the changeset of no change.
- * - CHANGESET_NONE: it spells none. Then `*fault_at` is the place of its one fault, 0 to `len`, which is the first
- *   byte after which no text can be that of a changeset, or the end; and `*fault_kind` is the fault's kind, as the
- *   enum above numbers it.
- * It takes no memory, so these are all answers. Unless the answer is CHANGESET_NONE, `*fault_at` and `*fault_kind` stay as they were. */
+/* Checks a text of `len` bytes. Returns one of these:
+ * - 0 or more: the text spells a changeset with this number of changes. An empty text spells the changeset with none.
+ * - CHANGESET_NONE: the text spells no changeset. `*fault_at` is set to the place of its one fault, 0 to `len`: the
+ *   first byte after which no text can be that of a changeset, or the end. `*fault_kind` is set to the fault's kind,
+ *   as numbered in the enum above.
+ * It does not allocate, so there are no other results. Unless it returns CHANGESET_NONE, it does not change `*fault_at`
+ * and `*fault_kind`. */
 int64_t changeset_check(const unsigned char *text, size_t len, size_t *fault_at, uint32_t *fault_kind);
 
-/* Writes the canonical text of the changeset that a text of `len` bytes spells: one section for each table's shape,
- * none without a change, shortest lengths, and indirect bytes of 0 or 1. The answer is one of these:
- * - 0 or more: the length of the canonical text. Where `room` is at least that, `out` begins with the canonical text,
- *   and its bytes behind that stay as they were; where `room` is less, all of `out` stays as it was. So a first call
- *   with a room of 0 tells how much is needed.
- * - CHANGESET_NONE: the text spells no changeset. `changeset_check` tells why.
- * - CHANGESET_NO_MEMORY: it spells one, and memory ran out.
- * Unless the answer is 0 or more, `out` stays as it was. */
+/* Writes the canonical text of the changeset that a text of `len` bytes spells: one section for each
+ * table's shape, none without a change, shortest lengths, and indirect bytes of 0 or 1. Returns one of these:
+ * - 0 or more: the length of the canonical text. If `room` is at least that, the canonical text is at the start of
+ *   `out`, and the bytes after it do not change. If `room` is less, `out` does not change. So a first call with a room
+ *   of 0 returns the room needed.
+ * - CHANGESET_NONE: the text spells no changeset. `changeset_check` reports why.
+ * - CHANGESET_NO_MEMORY: the text spells a changeset, and memory ran out.
+ * Unless it returns 0 or more, it does not change `out`. */
 int64_t changeset_canonical(const unsigned char *text, size_t len, unsigned char *out, size_t room);
 
 #ifdef __cplusplus

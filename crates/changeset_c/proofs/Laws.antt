@@ -1,4 +1,4 @@
--- What the answers say leaves no other answer, since a text spells one changeset or has one fault.
+-- The exports' results allow no other result, because a text either spells one changeset or has one fault.
 use Rattle.std.proofs.Common.{◌≡◌, ℕ, suc, zero, ◌⊎◌, inl, inr, ℤ, pos, negsuc, List, length, refl, sym, ap, ◌∙◌, arith}
 use Rattle.cs_model.specs.Section.{Section}
 use Rattle.cs_model.specs.Text.{Spells}

@@ -1,4 +1,4 @@
--- Kinds of faults as numbers.
+-- The numbers of the kinds of faults.
 use Rattle.std.specs.Prelude.{ℕ}
 use Rattle.cs_parse.specs.declared.fault.FaultKind.{FaultKind}
 use Rattle.cs_parse.specs.declared.fault.FaultKind.TheVariants.{BadMarker, Patchset, Columns, NoKey}

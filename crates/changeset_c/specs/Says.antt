@@ -1,5 +1,5 @@
--- What the numbers that the exports answer say of a text: 0 or more, -1 (`negsuc 0`) or -2 (`negsuc
--- 1`).
+-- What the results of the exports say of a text. A result is 0 or more, -1 (`negsuc 0`) or -2
+-- (`negsuc 1`).
 use Rattle.std.specs.Prelude.{◌≡◌, ℕ, suc, zero, ℤ, pos, negsuc, List, length}
 use Rattle.cs_model.specs.Section.{Section}
 use Rattle.cs_model.specs.Text.{Spells}
@@ -11,52 +11,53 @@ use Rattle.cs_parse.specs.Count.{HasChangeCount}
 use Rattle.cs_write.specs.Buffer.{given}
 use Rattle.changeset_c.specs.Kinds.{kind_number}
 
--- the text has a fault, at this place and of the kind with this number
+-- the text has a fault at this place, of the kind with this number
 pub record HasFaultAt (text : List ℕ) (at kind : ℕ) : Type 0 where
   pub fault : ParseFault
   pub is_fault : IsFault text fault
   pub is_place : at ≡ fault.at
   pub is_kind : kind ≡ kind_number fault.kind
 
--- what `changeset_check` says of a text, where it tells `at` and `kind` besides
+-- what the result of `changeset_check` says of a text, with the outputs `at` and `kind`
 abbrev pub CheckSays : ℤ → ℕ → ℕ → List ℕ → Type 0
 CheckSays (pos n) at kind text = HasChangeCount text n
 CheckSays (negsuc zero) at kind text = HasFaultAt text at kind
 CheckSays (negsuc (suc n)) at kind text = ⊥
 
--- the text spells a changeset with a canonical text so long, which the buffer was given
+-- the text spells a changeset whose canonical text has length n; the buffer holds it if there was
+-- room (*given*)
 pub record IsWritten (text : List ℕ) (n : ℕ) (before after : List ℕ) : Type 0 where
   pub changeset : List Section
   pub spelled : Spells text changeset
   pub is_length : n ≡ length (text_of changeset)
   pub is_given : after ≡ given (text_of changeset) before
 
--- the text has a fault, and the buffer is as it was
+-- the text has a fault, and the buffer does not change
 pub record IsRefused (text before after : List ℕ) : Type 0 where
   pub fault : ParseFault
   pub is_fault : IsFault text fault
   pub same : after ≡ before
 
--- what `changeset_canonical` says of a text, where the buffer was `before` and is `after`
+-- what the result of `changeset_canonical` says of a text, with the buffer `before` and `after`
 abbrev pub CanonicalSays : ℤ → List ℕ → List ℕ → List ℕ → Type 0
 CanonicalSays (pos n) before after text = IsWritten text n before after
 CanonicalSays (negsuc zero) before after text = IsRefused text before after
 CanonicalSays (negsuc (suc zero)) before after text = IsSpelled text × (after ≡ before)
 CanonicalSays (negsuc (suc (suc n))) before after text = ⊥
 
--- the number, or that memory ran out
+-- the result is this number, or says that memory ran out
 abbrev pub IsNumber : ℤ → ℕ → Type 0
 IsNumber (pos found) n = found ≡ n
 IsNumber (negsuc zero) n = ⊥
 IsNumber (negsuc (suc m)) n = m ≡ 0
 
--- a value that is kept, unless the answer is -1
+-- a value that does not change unless the result is -1
 abbrev pub KeptBut : ℤ → ℕ → ℕ → Type 0
 KeptBut (negsuc zero) before after = Unit {0}
 KeptBut (negsuc (suc n)) before after = after ≡ before
 KeptBut (pos n) before after = after ≡ before
 
--- the refusal of a text with this fault
+-- the result for a text with this fault
 abbrev pub IsFaultAt : ℤ → ℕ → ℕ → ParseFault → Type 0
 IsFaultAt answer at kind fault = (answer ≡ negsuc 0) × (at ≡ fault.at)
     × (kind ≡ kind_number fault.kind)

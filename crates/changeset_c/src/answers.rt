@@ -1,4 +1,4 @@
-//! The jobs' answers as C gets them.
+//! The results of the exports, as numbers for C.
 
 ghost use Rattle.changeset_c.specs.Says.{CheckSays, CanonicalSays, KeptBut};
 
@@ -13,7 +13,7 @@ const NO_CHANGESET: i64 = -1;
 // memory ran out
 const NO_MEMORY: i64 = -2;
 
-/// How many changes the text spells; or -1 with the place and the kind's number of its fault.
+/// How many changes the text spells; or -1, with the place and the kind's number of its fault.
 pub fn check(text: &[u8], fault_at: &mut usize, fault_kind: &mut u32) -> i64
     ensures says { CheckSays result fault_at.new fault_kind.new text.now }
     ensures same_place { KeptBut result fault_at.old fault_at.new }
@@ -29,8 +29,8 @@ pub fn check(text: &[u8], fault_at: &mut usize, fault_kind: &mut u32) -> i64
     }
 }
 
-/// The length of the canonical text, which is written where `out` has room for it; -1; or -2. A
-/// canonical text is never longer than the text that was read, so that an `i64` holds its length.
+/// The length of the canonical text, which is written if `out` has room for it; -1; or -2. A
+/// canonical text is never longer than the text that was read, so an `i64` holds its length.
 pub fn canonical(alloc: Global, text: &[u8], out: &mut [u8]) -> i64
     ensures { CanonicalSays result out.old out.new text.now }
 {

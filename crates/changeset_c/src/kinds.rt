@@ -1,4 +1,4 @@
-//! Kinds of faults as C gets them.
+//! Numbers the kinds of faults for C.
 
 ghost use Rattle.std.specs.Prelude.{◌≡◌};
 ghost use Rattle.changeset_c.specs.Kinds.{kind_number};

@@ -1,6 +1,5 @@
-//! Whole jobs on the bytes of a changeset, for C. A job reads a text, and gives something of the
-//! changeset that it spells. Theorem: what each export answers is so of the text, whatever its
-//! bytes are.
+//! Functions on the bytes of a changeset, for C. Each reads a text, and works on the changeset that
+//! it spells. Theorem: what each export returns is true of the text, whatever its bytes are.
 #![tactic(auto)]
 
 mod answers;

@@ -1,4 +1,4 @@
-//! The exports, on what SQLite recorded.
+//! Tests of the exports, on changesets that SQLite recorded.
 
 ghost use Rattle.std.specs.Prelude.{◌<◌};
 
@@ -7,8 +7,8 @@ use std::alloc::Global;
 use std::process::Abort;
 use std::test::*;
 
-// Recorded by SQLite 3.40.1: in `t(a, b)` row 1 deleted, row 2 updated and row 3 inserted, in `u(k,
-// n, m)` one row updated.
+// Recorded by SQLite 3.40.1. In `t(a, b)`, row 1 is deleted, row 2 updated and row 3 inserted; in
+// `u(k, n, m)`, one row is updated.
 const RECORDED: [u8; 89] = [
     0x54, 0x02, 0x01, 0x00, 0x74, 0x00, 0x09, 0x00, 0x01, 0x00, 0x00, 0x00, 0x00, 0x00, 0x00, 0x00,
     0x01, 0x03, 0x03, 0x6f, 0x6e, 0x65, 0x17, 0x00, 0x01, 0x00, 0x00, 0x00, 0x00, 0x00, 0x00, 0x00,
@@ -18,14 +18,14 @@ const RECORDED: [u8; 89] = [
     0x01, 0x00, 0x00, 0x00, 0x00, 0x00, 0x00, 0x00, 0x07,
 ];
 
-// recorded too: a row of an integer and 0.5 inserted, whose REAL stands at place 17
+// recorded too: a row of an integer and 0.5 is inserted; its REAL is at byte 17
 const WITH_REAL: [u8; 26] = [
     0x54, 0x02, 0x01, 0x00, 0x72, 0x00, 0x12, 0x00, 0x01, 0x00, 0x00, 0x00, 0x00, 0x00, 0x00, 0x00,
     0x01, 0x02, 0x3f, 0xe0, 0x00, 0x00, 0x00, 0x00, 0x00, 0x00,
 ];
 
-// two sections of one table, with longer spellings of 2 and 1 than the shortest, an indirect byte
-// of 5 and an empty section between them; and two bytes behind them that begin nothing
+// two sections of one table, an empty section between them, an indirect byte of 5, and encodings of
+// 2 and 1 that aren't the shortest. Two bytes that begin nothing follow.
 const LOOSE: [u8; 50] = [
     0x54, 0x80, 2, 1, 0, 0x74, 0, 0x12, 5, 1, 0, 0, 0, 0, 0, 0, 0, 1, 3, 0x80, 1, 0x78, 0x54, 2, 1,
     0, 0x75, 0, 0x54, 2, 1, 0, 0x74, 0, 0x12, 0, 1, 0, 0, 0, 0, 0, 0, 0, 2, 3, 1, 0x79, 0, 0,
@@ -37,7 +37,7 @@ const TIGHT: [u8; 34] = [
     0, 0, 0, 2, 3, 1, 0x79,
 ];
 
-// Checks a text, which must give this answer and leave these in the places, where 77 stood.
+// Checks a text. Expects this answer, and these values in the places, which held 77 before.
 fn checks(rt: &impl Abort, text: &[u8], want: i64, at: usize, kind: u32) {
     let mut fault_at: usize = 77;
     let mut fault_kind: u32 = 77;
@@ -59,12 +59,12 @@ fn faults_are_told(rt: HostRuntime) {
     checks(&rt, &WITH_REAL, -1, 17, 9);
     checks(&rt, &[0x50, 2, 1, 0], -1, 0, 2);
     checks(&rt, &RECORDED[..88], -1, 88, 16);
-    // a zero byte where a change or a header has to begin
+    // a zero byte where a change or a header must begin
     checks(&rt, &LOOSE, -1, 48, 7);
 }
 
-// Asks for the canonical text with a buffer of 60 bytes of 9, of which `room` are given, and
-// compares all of them. Where memory runs out all are as before, and a second try goes on.
+// Requests the canonical text in a buffer of 60 bytes of 9, of which `room` are passed, and
+// compares all 60. If memory runs out, all are as before, and a second try follows.
 fn writes(
     rt: &impl Abort,
     alloc: Global,

@@ -1,4 +1,4 @@
--- The rows of the places: what a look-up finds there, and what an edit of a place makes of them.
+-- The rows of the places: what a look-up finds, and what an edit of a place does.
 use Rattle.std.proofs.Common.{◌≡◌, ℕ, zero, suc, ◌+◌, Bool, true, false, cond, not, List, [], ◌∷◌, Option, Some, None}
 use Rattle.std.proofs.Common.{slice_get, position, nat_lt, length, map as list_map, is_some, ◌++◌, filter, Ok, Err}
 use Rattle.std.proofs.Common.{refl, sym, ap, ◌∙◌, arith}

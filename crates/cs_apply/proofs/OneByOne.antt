@@ -1,4 +1,4 @@
--- Sections in two parts apply as one behind the other.
+-- Applying sections in two parts is the same as applying one part after the other.
 use Rattle.std.proofs.Common.{◌≡◌, ◌↔◌, ℕ, suc, Bool, List, [], ◌∷◌, ◌++◌, map, Option, Result, Ok, Err, refl, sym, ap}
 use Rattle.std.proofs.Common.{subst, ◌∙◌, append_assoc}
 use Rattle.std.specs.List.{flat_map}

@@ -1,4 +1,4 @@
--- Changes one more at a time, and sections one more at a time.
+-- Lists of changes and lists of sections, extended by one at a time.
 use Rattle.std.proofs.Common.{◌≡◌, ℕ, suc, ◌+◌, Bool, List, [], ◌∷◌, ◌++◌, length, map, Option, Some, None, Result, Ok}
 use Rattle.std.proofs.Common.{Err, refl, sym, ap, ◌∙◌, arith}
 use Rattle.cs_model.specs.declared.shape.Shape.{Shape}

@@ -1,4 +1,4 @@
--- Conflicts as SQLite numbers them.
+-- The numbers of the kinds of conflict, as in SQLite.
 use Rattle.std.specs.Prelude.{ℕ}
 use Rattle.cs_apply.specs.declared.conflict.ConflictKind.{ConflictKind}
 use Rattle.cs_apply.specs.declared.conflict.ConflictKind.TheVariants.{Data, NotFound, Conflict}

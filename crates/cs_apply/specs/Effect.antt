@@ -1,4 +1,4 @@
--- What one change does to the rows.
+-- The effect of one change on the rows, or the kind of its conflict.
 use Rattle.std.specs.Prelude.{ℕ, Bool, true, false, ◌&&◌, ◌==◌, if◌then◌else◌, List, [], ◌∷◌}
 use Rattle.std.specs.Prelude.{Option, Some, None, Result, Ok, Err}
 use Rattle.std.specs.Ordering.{int_eq}
@@ -18,7 +18,7 @@ use Rattle.cs_apply.specs.declared.conflict.ConflictKind.{ConflictKind}
 use Rattle.cs_apply.specs.declared.conflict.ConflictKind.TheVariants.{Data, NotFound, Conflict}
 use Rattle.cs_apply.specs.State.{Rows}
 
--- values are equal when type and bytes are equal
+-- values are equal if their types and bytes are
 abbrev pub same_value : Value → Value → Bool
 same_value (Integer a) (Integer b) = int_eq a b
 same_value (Integer a) (Text b) = false
@@ -37,18 +37,18 @@ same_value Null (Text b) = false
 same_value Null (Blob b) = false
 same_value Null Null = true
 
--- whether a field that says something says what the row has
+-- whether a field is undefined or equals the row's value
 abbrev pub agrees : Field → Value → Bool
 agrees Undefined value = true
 agrees (Is old) value = same_value old value
 
--- whether each field says what the row has, or nothing
+-- whether each field is undefined or equals the row's value
 abbrev pub all_agree : List Field → List Value → Bool
 all_agree [] row = true
 all_agree (field ∷ fields) [] = false
 all_agree (field ∷ fields) (value ∷ row) = agrees field value && all_agree fields row
 
--- the same, key columns set aside
+-- the same, without the key columns
 abbrev pub rest_agrees : List ℕ → List Field → List Value → Bool
 rest_agrees [] fields row = true
 rest_agrees (flag ∷ flags) [] row = true
@@ -57,7 +57,7 @@ rest_agrees (flag ∷ flags) (field ∷ fields) (value ∷ row) =
     if flag == 0 then agrees field value && rest_agrees flags fields row else rest_agrees flags
     fields row
 
--- the row with the values that the new record says in the place of its own
+-- the row with the new record's values in place of its own
 abbrev pub updated_field : Field → Value → Value
 updated_field Undefined value = value
 updated_field (Is new) value = new
@@ -67,25 +67,25 @@ updated [] row = row
 updated (field ∷ fields) [] = []
 updated (field ∷ fields) (value ∷ row) = updated_field field value ∷ updated fields row
 
--- INSERT: the row must not be there.
+-- INSERT: the row must not exist.
 abbrev pub inserted : Rows → RowKey → List Value → Option (List Value) → Result Rows ConflictKind
 inserted rows key new None = Ok (map.insert rows key new)
 inserted rows key new (Some row) = Err Conflict
 
--- DELETE: the row must be there, and be what the old record says.
+-- DELETE: the row must exist and equal the old record.
 abbrev pub deleted : Rows → RowKey → List Field → Option (List Value) → Result Rows ConflictKind
 deleted rows key before None = Err NotFound
 deleted rows key before (Some row) =
     if all_agree before row then Ok (map.remove rows key) else Err Data
 
--- UPDATE: the row must be there, and be what the old record says outside the key.
+-- UPDATE: the row must exist and agree with the old record outside the key.
 abbrev pub changed : Rows → RowKey → List ℕ → List Field → List Field → Option (List Value)
     → Result Rows ConflictKind
 changed rows key flags before after None = Err NotFound
 changed rows key flags before after (Some row) =
     if rest_agrees flags before row then Ok (map.insert rows key (updated after row)) else Err Data
 
--- A change of the table at this place with these key bytes: the rows after it, or the kind of its
+-- A change of the table with this index and these key flags: the rows after it, or the kind of its
 -- conflict.
 abbrev pub effect_by : Op → Rows → RowKey → List ℕ → List Field → List Field
     → Result Rows ConflictKind

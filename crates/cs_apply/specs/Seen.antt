@@ -1,4 +1,4 @@
--- Keys and rows where they stand, seen as keys and rows.
+-- Borrowed keys and rows, seen as keys and rows.
 use Rattle.std.specs.Prelude.{List, map}
 use Rattle.std.specs.Borrow.{Bor}
 use Rattle.cs_model.specs.declared.value.Value.{Value}

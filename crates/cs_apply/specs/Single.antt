@@ -1,4 +1,4 @@
--- Changes applied one after another.
+-- The changes of a changeset applied one at a time: the definition that `apply` meets.
 use Rattle.std.specs.Prelude.{ℕ, suc, Bool, List, [], ◌∷◌, map, Option, Some, None, Result, Ok, Err}
 use Rattle.std.specs.List.{flat_map}
 use Rattle.cs_model.specs.declared.shape.Shape.{Shape}
@@ -14,7 +14,7 @@ abbrev pub changes_of : List Section → List (Shape × Change)
 changes_of sections = flat_map (λ section. map (λ change. (section.shape, change)) section.changes)
     sections
 
--- A change: its effect where its table is compatible, and none where it isn't.
+-- The effect of a change if its table is compatible, and no effect otherwise.
 abbrev pub effect_at : Option ℕ → Rows → Shape → Change → Result Rows ConflictKind
 effect_at None rows shape change = Ok rows
 effect_at (Some table) rows shape change = effect table shape.flags rows change

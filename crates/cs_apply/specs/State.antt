@@ -1,4 +1,4 @@
--- Tables as values.
+-- Tables as values: a schema, its kept tables and their rows.
 use Rattle.std.specs.Prelude.{ℕ, Bool, false, List, Option, Some, None, slice_get, unwrap_or}
 use Rattle.std.specs.Prelude.{if◌then◌else◌, refl}
 use Rattle.std.specs.Coded.{Coded, code_by, coded×, coded_list, coded_bool}
@@ -14,13 +14,13 @@ use Rattle.cs_model.specs.Schema.{table_index}
 abbrev pub Rows : Type 0
 Rows = map.FinMap row_key_cmp (List Value)
 
--- Tables: the schema, which of its tables are kept, one truth value for each, and the rows.
+-- Tables: the schema, one flag for each table that says whether it is kept, and the rows.
 pub record TableState : Type 0 where
   pub schema : List Shape
   pub kept : List Bool
   pub rows : Rows
 
--- whether the table at this place is kept
+-- whether the table at this index is kept
 abbrev pub is_kept : List Bool → ℕ → Bool
 is_kept kept table = unwrap_or (slice_get kept table) false
 
@@ -28,8 +28,8 @@ abbrev pub only_kept : List Bool → Option ℕ → Option ℕ
 only_kept kept None = None
 only_kept kept (Some table) = if is_kept kept table then Some table else None
 
--- The place of the compatible table: the one in the schema with this name and these key bytes,
--- where it is kept.
+-- The index of the compatible table: the one in the schema with this name and these key flags, if
+-- it is kept.
 abbrev pub compatible : List Shape → List Bool → Shape → Option ℕ
 compatible schema kept shape = only_kept kept (table_index schema shape)
 

@@ -1,4 +1,4 @@
--- What the steps of `apply` give: one edit of a place, one change, and the changes of one section.
+-- The steps of `apply`: one edit of a place, one change, and the changes of one section.
 use Rattle.std.specs.Prelude.{◌≡◌, ℕ, zero, suc, ◌≤◌, Bool, true, false, ◌&&◌, ◌==◌, if◌then◌else◌}
 use Rattle.std.specs.Prelude.{List, [], ◌∷◌, length, take, Option, None, Some, Result, Ok, Err}
 use Rattle.std.specs.FinMap as map
@@ -14,7 +14,7 @@ use Rattle.cs_apply.specs.State.{Rows}
 use Rattle.cs_apply.specs.Effect.{effect, same_value}
 use Rattle.cs_apply.specs.Single.{next_or_conflict}
 
--- places as they are kept: keys, and the row of each or none
+-- places as they are stored: keys, and the row of each or none
 abbrev pub Entries : Type 0
 Entries = List (RowKey × Option (List Value))
 
@@ -38,23 +38,23 @@ rows_of es = map.from_entries (filled es)
 abbrev pub rows_in : Places → Rows
 rows_in places = rows_of places.rows.entries
 
--- the rows with this row at a key, or without one there
+-- the rows with this row at a key, or with none there
 abbrev pub put : Rows → RowKey → Option (List Value) → Rows
 put rows key None = map.remove rows key
 put rows key (Some row) = map.insert rows key row
 
--- the places with this row, or none, at one of them, where there is one at this index
+-- the places with the row at this index replaced or cleared, if there is one
 abbrev pub set_at : ℕ → Option (List Value) → Entries → Entries
 set_at place row [] = []
 set_at zero row (e ∷ es) = (e.0, row) ∷ es
 set_at (suc place) row (e ∷ es) = e ∷ set_at place row es
 
--- the places once steps are taken back, the last of them first
+-- the places after the steps are undone, the last of them first
 abbrev pub undone : List Step → Entries → Entries
 undone [] es = es
 undone (step ∷ log) es = set_at step.place step.back (undone log es)
 
--- whether a field says the same as another, or nothing
+-- whether a field is undefined or equals another
 abbrev pub field_agrees : Field → Field → Bool
 field_agrees Undefined value = true
 field_agrees (Is old) Undefined = false
@@ -69,19 +69,19 @@ fields_agree (flag ∷ flags) (field ∷ fields) (value ∷ values) =
     if flag == 0 then field_agrees field value
     && fields_agree flags fields values else fields_agree flags fields values
 
--- the field of a record that says something, or else the row's own
+-- a record's field if it has a value, or the row's
 abbrev pub chosen : Option Field → Field → Field
 chosen None value = value
 chosen (Some Undefined) value = value
 chosen (Some (Is new)) value = Is new
 
--- a row's record with the fields that say something in the place of its own
+-- a row's record with the record's values in place of its own
 abbrev pub merged : List Field → List Field → List Field
 merged fields [] = []
 merged [] (value ∷ values) = chosen None value ∷ merged [] values
 merged (field ∷ fields) (value ∷ values) = chosen (Some field) value ∷ merged fields values
 
--- What the log takes back gives the places that were there before, in front of those that are new.
+-- Undoing the log restores the old places, which precede the new ones.
 pub record Back (old new : Places) : Type 0 where
   pub grows : length old.rows.entries ≤ length new.rows.entries
   pub back : (n : ℕ) → n ≤ length old.rows.entries → take n (undone new.log.items new.rows.entries)
@@ -94,7 +94,7 @@ section_from table flags (change ∷ changes) at rows =
     next_or_conflict (λ next after. section_from table flags changes next after) at
     (effect table flags rows change)
 
--- what follows a section's changes, where none of them conflicts
+-- what follows a section's changes, if none of them conflicts
 abbrev pub carry : (Rows → Result Rows Conflicts) → Result Rows Conflicts → Result Rows Conflicts
 carry rest (Ok rows) = rest rows
 carry rest (Err conflict) = Err conflict

@@ -1,4 +1,4 @@
-//! Errors of one change.
+//! The error of applying one change, and its conversion to an `ApplyError`.
 
 ghost use Rattle.std.specs.Prelude.{◌≡◌};
 ghost use Rattle.cs_apply.specs.declared.change_error.ChangeError.TheVariants.{Memory};
@@ -9,9 +9,9 @@ use std::alloc::{AllocError, AllocFailed};
 /// Why one change isn't applied.
 #[derive(Clone, Copy, Debug, PartialEq, Eq)]
 pub(crate) enum ChangeError {
-    /// It conflicts.
+    /// The change conflicts with the rows.
     Conflict(ConflictKind),
-    /// Memory ran out.
+    /// Out of memory.
     Memory,
 }
 
@@ -34,7 +34,7 @@ impl<T: Drop> From<AllocFailed<T>> for ChangeError {
 impl ChangeError {
     ghost use Rattle.cs_apply.specs.Errors.{conflict_at};
 
-    /// The same, of the change at this place.
+    /// The same error, for the change at this position.
     pub(crate) fn at(self, position: usize) -> ApplyError
         ensures { result ≡ conflict_at position self }
     {

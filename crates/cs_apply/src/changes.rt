@@ -1,5 +1,5 @@
-//! Changes: one, those of a section, and all. What is done before a conflict is logged by `Places`,
-//! which takes it back.
+//! Applies one change, a section's changes, or all changes. `Places` logs what is done before a
+//! conflict, and undoes it.
 
 ghost use Rattle.std.specs.Prelude.{◌≡◌, ◌+◌, ◌<◌, ◌^◌, Ok, OnOk, IfErr, length, true};
 ghost use Rattle.std.specs.FinMap as map;
@@ -21,8 +21,8 @@ use crate::row::{all_agree, rest_agrees, updated};
 use cs_model::{ChangeRef, Changeset, Op, RecordRef, Row, RowKey, Schema, SectionRef, Shape};
 use std::alloc::Global;
 
-// INSERT: the key has no row, and gets the one that the new record says. An `Err` of this and the
-// next two leaves the rows as they were.
+// INSERT: the key must have no row, and gets the row in the new record. An `Err` of this and of the
+// next two does not change the rows.
 fn insert(
     places: &mut Places,
     alloc: Global,
@@ -41,7 +41,7 @@ fn insert(
     places.insert(key, row)
 }
 
-// DELETE: the row is there, is what the old record says, and goes.
+// DELETE: the row must exist and equal the old record, and is removed.
 fn delete(places: &mut Places, key: &RowKey, before: &RecordRef) -> Result<(), ChangeError>
     requires { list_all is_defined before.now ≡ true }
     ensures ok { OnOk result (deleted (rows_in places.old) key.now before.now
@@ -59,8 +59,8 @@ fn delete(places: &mut Places, key: &RowKey, before: &RecordRef) -> Result<(), C
     Ok(places.set(place, None)?)
 }
 
-// UPDATE: the row is there, is what the old record says outside the key, and gets what the new one
-// says.
+// UPDATE: the row must exist and agree with the old record outside the key. It gets the new
+// record's values.
 fn update(
     places: &mut Places,
     alloc: Global,
@@ -86,7 +86,7 @@ fn update(
     Ok(places.set(place, Some(new))?)
 }
 
-// Applies one change of a table that is kept. An `Err` leaves the rows as they were.
+// Applies one change of a kept table. An `Err` does not change the rows.
 fn change_row(
     places: &mut Places,
     alloc: Global,
@@ -116,8 +116,8 @@ fn change_row(
     }
 }
 
-// Applies the changes of one section of a table that is kept, the first of them at position
-// `start`. An `Err` leaves what those before it did.
+// Applies the changes of one section of a kept table, the first of them at position `start`. An
+// `Err` keeps what the changes before it did.
 fn change_section(
     places: &mut Places,
     alloc: Global,
@@ -145,7 +145,7 @@ fn change_section(
     Ok(())
 }
 
-// The place of the table with this name and these key bytes, where it is kept.
+// The index of the table with this name and these key flags, if it is kept.
 fn kept_table(schema: &Schema, kept: &[bool], shape: &Shape) -> Option<usize>
     ensures { result ≡ compatible schema.now kept.now shape.now }
 {
@@ -157,8 +157,8 @@ fn kept_table(schema: &Schema, kept: &[bool], shape: &Shape) -> Option<usize>
     }
 }
 
-/// Applies the changes of all sections, those of tables that aren't kept passed over. An `Err`
-/// leaves what the changes before the first conflict did, for `Places::take_back`.
+/// Applies the changes of all sections, and skips those of tables that aren't kept. An `Err` keeps
+/// what the changes before the first conflict did; `Places::take_back` undoes it.
 pub(crate) fn change_all(
     places: &mut Places,
     alloc: Global,

@@ -1,4 +1,4 @@
-//! Why a changeset isn't applied.
+//! The errors of applying a changeset: its first conflict, or out of memory.
 
 ghost use Rattle.std.specs.Prelude.{◌≡◌};
 ghost use Rattle.cs_apply.specs.Conflict.{code_of};
@@ -8,19 +8,19 @@ use thiserror::Error;
 /// How a change conflicts with the rows.
 #[derive(Clone, Copy, Debug, PartialEq, Eq, Error)]
 pub enum ConflictKind {
-    /// The row that an UPDATE or a DELETE is about has other values (`SQLITE_CHANGESET_DATA`).
+    /// The row of an UPDATE or a DELETE has other values (`SQLITE_CHANGESET_DATA`).
     #[error("the row has other values")]
     Data,
-    /// There is no such row (`SQLITE_CHANGESET_NOTFOUND`).
+    /// The row of an UPDATE or a DELETE doesn't exist (`SQLITE_CHANGESET_NOTFOUND`).
     #[error("there is no such row")]
     NotFound,
-    /// The row that an INSERT makes is there already (`SQLITE_CHANGESET_CONFLICT`).
+    /// The row of an INSERT already exists (`SQLITE_CHANGESET_CONFLICT`).
     #[error("the row is there already")]
     Conflict,
 }
 
 impl ConflictKind {
-    /// The number that SQLite's conflict handlers know it by: 1 DATA, 2 NOTFOUND, 3 CONFLICT.
+    /// The number that SQLite passes to a conflict handler: 1 DATA, 2 NOTFOUND, 3 CONFLICT.
     pub fn code(self) -> u8
         ensures { result ≡ code_of self }
     {
@@ -32,8 +32,8 @@ impl ConflictKind {
     }
 }
 
-/// The first conflict of a changeset: the change's place among all its changes, from 0, and its
-/// kind.
+/// The first conflict of a changeset: the index of the change among all its changes, from 0, and
+/// the kind.
 #[derive(Clone, Copy, Debug, PartialEq, Eq, Error)]
 #[error("change {position}: {kind}")]
 pub struct Conflict {
@@ -41,13 +41,13 @@ pub struct Conflict {
     pub kind: ConflictKind,
 }
 
-/// Why `Tables::apply` applied nothing. The tables are as before.
+/// The error of `Tables::apply`. The call did not change the tables.
 #[derive(Clone, Copy, Debug, PartialEq, Eq, Error)]
 pub enum ApplyError {
     /// A change conflicts.
     #[error(transparent)]
     Conflict(Conflict),
-    /// Memory ran out.
+    /// Out of memory.
     #[error("out of memory")]
     Memory,
 }

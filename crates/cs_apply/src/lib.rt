@@ -1,5 +1,5 @@
-//! Tables and one-thread application: `Tables` is a finite map from row keys to rows, and `apply`
-//! gives the tables that a changeset's changes give one at a time, or its first conflict. Theorem:
+//! Tables, and the application of changesets to them by one thread. `Tables` maps row keys to rows.
+//! `apply` applies a changeset's changes one at a time, or returns its first conflict. Theorem:
 //! `apply` is `single`.
 #![tactic(auto)]
 

@@ -1,8 +1,8 @@
-//! Places for rows, and a log by which what was done to them is taken back without memory.
+//! The rows of all tables, and a log that undoes changes without allocating.
 //!
-//! A key that had a row once keeps its place, which may be empty. So while a changeset is applied
-//! each place keeps its index: a change moves the old row out of its place into the log, and to
-//! move it back needs no room.
+//! A key that once had a row keeps its place, which may be empty. So each place keeps its index
+//! while a changeset is applied. A change moves the old row from its place into the log, and moving
+//! it back needs no room.
 
 ghost use Rattle.std.specs.Prelude.{◌≡◌, [], length, take, Option, List, Some, Ok, slice_get};
 ghost use Rattle.std.specs.Prelude.{IfSome, IfOk, IfErr, OnOk};
@@ -23,21 +23,20 @@ use indexmap::map::Entry;
 use std::alloc::{AllocError, Global};
 use std::mem::replace;
 
-/// A step that was taken: the index of its place, and the row that was there before, if there was
-/// one.
+/// A logged step: the index of its place, and the row that was there before, if any.
 #[derive(Debug, Drop)]
 pub(crate) struct Step {
     place: usize,
     back: Option<Row>,
 }
 
-/// Places, and the steps of the changeset that is being applied.
+/// The places, and the steps of the changeset being applied.
 #[derive(Debug, Drop)]
 pub(crate) struct Places {
     rows: IndexMap<RowKey, Option<Row>>,
-    // Empty between two changesets, and keeps its memory for the next.
+    // Empty between two changesets; keeps its capacity for the next.
     log: Vec<Step>,
-    // About how many places are empty. It only says when they are worth a sweep.
+    // The approximate number of empty places. It only decides when to sweep them.
     empty: usize,
 }
 
@@ -54,14 +53,14 @@ impl Places {
         }
     }
 
-    /// How many places there are.
+    /// The number of places.
     pub(crate) fn len(&self) -> usize
         ensures { result ≡ length self.now.rows.entries }
     {
         self.rows.len()
     }
 
-    /// The row with this key and the index of its place, where there is one.
+    /// The row with this key and the index of its place, if there is one.
     pub(crate) fn find(&self, key: &RowKey) -> Option<(usize, &Row)>
         ensures row { option_map (λ p. p.1.now) result ≡ map.get (rows_in self.now) key.now }
         ensures place { IfSome result (λ p. slice_get self.now.rows.entries p.0
@@ -72,8 +71,8 @@ impl Places {
         Some((place, row.as_ref()?))
     }
 
-    /// All rows with their keys, by table, then by the key's bytes. `AllocError` where memory runs
-    /// out.
+    /// All rows with their keys, by table, then by the key's bytes. Returns `AllocError` if memory
+    /// runs out.
     pub(crate) fn in_order(&self, alloc: Global) -> Result<Vec<(&RowKey, &Row)>, AllocError>
         ensures { IfOk result (λ pairs. listed pairs.items ≡ map.entries (rows_in self.now)) }
     {
@@ -98,8 +97,7 @@ impl Places {
         Ok(pairs)
     }
 
-    /// Puts a row at a place, or none, and logs the one that was there. An `Err` leaves the rows as
-    /// they were.
+    /// Sets or clears the row at a place, and logs the old one. An `Err` does not change the rows.
     pub(crate) fn set(&mut self, place: usize, row: Option<Row>) -> Result<(), AllocError>
         ensures ok { OnOk result ((key : RowKey) (old : Option (List Value))
             → slice_get self.old.rows.entries place ≡ Some (key, old)
@@ -114,7 +112,7 @@ impl Places {
         Ok(())
     }
 
-    /// Puts a row under a key that has none. An `Err` leaves the rows as they were.
+    /// Inserts a row under a key that has none. An `Err` does not change the rows.
     pub(crate) fn insert(&mut self, key: RowKey, row: Row) -> Result<(), ChangeError>
         ensures ok { OnOk result (inserted (rows_in self.old) key row
             (map.get (rows_in self.old) key) ≡ Ok (rows_in self.new)) }
@@ -124,7 +122,7 @@ impl Places {
     {
         let place = match self.rows.entry(key)? {
             Entry::Vacant(end) => {
-                // a new place is cut when the changes are taken back, so it needs no step
+                // `take_back` truncates new places, so this needs no step
                 end.insert(Some(row));
                 return Ok(());
             }
@@ -138,7 +136,7 @@ impl Places {
         Ok(self.set(place, Some(row))?)
     }
 
-    /// Takes back all that was logged, and cuts the places to this many. It needs no memory.
+    /// Undoes all logged steps, and truncates the places to this number. Does not allocate.
     pub(crate) fn take_back(&mut self, places: usize)
         ensures rows { self.new.rows.entries
             ≡ take places (undone self.old.log.items self.old.rows.entries) }
@@ -150,7 +148,7 @@ impl Places {
         self.rows.truncate(places);
     }
 
-    // Takes one step back.
+    // Undoes one step.
     fn step_back(&mut self, step: Step)
         ensures rows { self.new.rows.entries ≡ set_at step.place step.back self.old.rows.entries }
         ensures log { self.new.log.items ≡ self.old.log.items }
@@ -161,8 +159,8 @@ impl Places {
         }
     }
 
-    /// Keeps all that was done: forgets the log, and drops the empty places once they are the most.
-    /// So the deletes since the last sweep pay for the next.
+    /// Commits all that was done: clears the log, and drops the empty places once they are the
+    /// majority. So the deletes since the last sweep pay for the next.
     pub(crate) fn keep(&mut self)
         ensures rows { rows_in self.new ≡ rows_in self.old }
         ensures log { self.new.log.items ≡ [] }
@@ -176,7 +174,7 @@ impl Places {
     }
 }
 
-// How many places are empty after these steps.
+// The number of empty places after these steps.
 fn counted(mut empty: usize, log: &[Step]) -> usize {
     for step in log {
         match &step.back {

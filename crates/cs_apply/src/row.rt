@@ -1,5 +1,5 @@
-//! Rows and records: what a record says of a row, and what an UPDATE makes of it. Both are gone
-//! over by their cursors, so that nothing is copied but the new row.
+//! Compares a record with a row, and computes a row after an UPDATE. Iterates over both, and copies
+//! only the new row.
 
 ghost use Rattle.std.specs.Prelude.{◌≡◌, IfOk, true};
 ghost use Rattle.std.specs.List.{list_all};
@@ -13,8 +13,8 @@ use cs_model::laws::fields_first;
 use cs_model::{FieldRef, RecordRef, Row};
 use std::alloc::{AllocError, Global};
 
-/// Whether each field of a record, all of which have a value, says the row's: then the row's bytes
-/// begin with the record's.
+/// Whether each field of a record, all of which have a value, equals the row's. Then the row's
+/// bytes begin with the record's.
 pub(crate) fn all_agree(from: &RecordRef, row: &Row) -> bool
     requires { list_all is_defined from.now ≡ true }
     ensures { result ≡ all_agree from.now row.now }
@@ -23,14 +23,14 @@ pub(crate) fn all_agree(from: &RecordRef, row: &Row) -> bool
     row.bytes().starts_with(from.bytes())
 }
 
-// whether a field says the same as one that has a value, or nothing
+// whether a field is undefined or equals the value
 fn agrees(field: FieldRef, value: FieldRef) -> bool
     ensures { result ≡ field_agrees (field_seen field.entry) (field_seen value.entry) }
 {
     !field.has_value() || field == value
 }
 
-/// Whether each field outside the key says the row's value, or nothing.
+/// Whether each field outside the key is undefined or equals the row's value.
 pub(crate) fn rest_agrees(flags: &[u8], from: &RecordRef, row: &Row) -> bool
     ensures { result ≡ rest_agrees flags.now from.now row.now }
 {
@@ -50,7 +50,7 @@ pub(crate) fn rest_agrees(flags: &[u8], from: &RecordRef, row: &Row) -> bool
     true
 }
 
-// the field of a record that says something, or else the row's own
+// the record's field if it has a value, or the row's
 fn chosen<'a>(field: Option<FieldRef<'a>>, value: FieldRef<'a>) -> FieldRef<'a>
     ensures { field_seen result
         ≡ chosen (option_map field_seen field.entry) (field_seen value.entry) }
@@ -61,8 +61,7 @@ fn chosen<'a>(field: Option<FieldRef<'a>>, value: FieldRef<'a>) -> FieldRef<'a>
     }
 }
 
-/// The row with the values that the record says in the place of its own. `AllocError` where memory
-/// runs out.
+/// The row with the record's values in place of its own. Returns `AllocError` if memory runs out.
 pub(crate) fn updated(alloc: Global, from: &RecordRef, row: &Row) -> Result<Row, AllocError>
     ensures { IfOk result (λ new. new ≡ updated from.now row.now) }
 {

@@ -1,4 +1,4 @@
-//! Tables.
+//! The tables of one replica, and `apply`, which applies a changeset to them.
 
 ghost use Rattle.std.specs.Prelude.{◌≡◌, length, IfOk, IfErr, OnOk, OnErr, Ok};
 ghost use Rattle.std.specs.Option.{option_copied};
@@ -16,7 +16,7 @@ use std::alloc::{AllocError, Global};
 use std::marker::Model;
 use std::sync::Arc;
 
-/// The tables of one replica: a schema, which of its tables are kept, and the rows of those.
+/// The tables of one replica: a schema, which of its tables are kept, and their rows.
 #[derive(Debug, Drop)]
 pub struct Tables {
     schema: Arc<Schema>,
@@ -45,8 +45,8 @@ impl Model for Tables {
 }
 
 impl Tables {
-    /// Empty tables of a schema, which all that are made with it share. `kept` says of each of its
-    /// tables whether changes of it are applied.
+    /// Makes empty tables of a schema. All tables made with this `Arc` share the schema. `kept` has
+    /// one flag per table: whether its changes are applied.
     pub fn new(alloc: Global, schema: Arc<Schema>, kept: Vec<bool>) -> Tables
         requires { length kept.items ≡ length (arc_value schema) }
         ensures { result ≡ record {
@@ -62,14 +62,14 @@ impl Tables {
         }
     }
 
-    /// The schema whose tables these are.
+    /// The schema of these tables.
     pub fn schema(&self) -> &Schema
         ensures { result.now ≡ self.now.schema }
     {
         &self.schema
     }
 
-    /// The row with this key, where there is one.
+    /// The row with this key, if there is one.
     pub fn row(&self, key: &RowKey) -> Option<&Row>
         ensures { option_copied result ≡ map.get self.now.rows key.now }
     {
@@ -77,18 +77,20 @@ impl Tables {
         Some(row)
     }
 
-    /// All rows with their keys, by table, then by the key's bytes. `AllocError` where memory runs
-    /// out.
+    /// All rows with their keys, by table, then by the key's bytes. Returns `AllocError` if memory
+    /// runs out.
     pub fn rows_in_order(&self, alloc: Global) -> Result<Vec<(&RowKey, &Row)>, AllocError>
         ensures { IfOk result (λ rows. listed rows.items ≡ map.entries self.now.rows) }
     {
         self.places.in_order(alloc)
     }
 
-    /// Applies all changes of a changeset, in order, as `sqlite3changeset_apply` does whose
-    /// conflict handler answers `SQLITE_CHANGESET_ABORT`. Changes of a table that isn't in the
-    /// schema, has another shape or isn't kept are passed over, and count for the position. An
-    /// `Err` is the first conflict, or want of memory, and leaves the tables as they were.
+    /// Applies all changes of a changeset in order. Works as `sqlite3changeset_apply` with a
+    /// conflict handler that returns `SQLITE_CHANGESET_ABORT`. Skips the changes of a table that
+    /// isn't in the schema, has another shape or isn't kept. They still count for the position.
+    ///
+    /// Returns the first conflict, or `Memory` if memory runs out. An `Err` does not change the
+    /// tables.
     pub fn apply(&mut self, alloc: Global, changeset: &Changeset) -> Result<(), ApplyError>
         ensures ok { OnOk result (single self.old changeset.now ≡ Ok self.new) }
         ensures refused { IfErr result (λ e. ReportsConflict e (single self.old changeset.now)) }

@@ -1,4 +1,4 @@
--- What is read of a record doesn't depend on the bytes behind it: its own bytes say the same fields.
+-- What is read of a record does not depend on the bytes after it: its own bytes decode to the same fields.
 use Rattle.std.proofs.Common.{◌≡◌, ℕ, zero, suc, ◌+◌, ◌-◌, ◌≤◌, Bool, true, false, cond, eqb, ltb, Option, Some, None}
 use Rattle.std.proofs.Common.{List, [], ◌∷◌, ◌++◌, length, take, drop, refl, sym, ap, ◌∙◌, inl, inr, arith}
 use Rattle.std.specs.Int.{w64, from_be_bytes, cast_signed}

@@ -1,4 +1,4 @@
--- The key's part of a record, where no column or no field is left.
+-- The primary key fields of a record, if no column or no field is left.
 use Rattle.std.proofs.Common.{◌≡◌, ℕ, ◌≤◌, List, [], ◌∷◌, ◌++◌, length, drop, refl, sym, ap, ◌∙◌}
 use Rattle.std.proofs.lemmas.List.{append-nil, drop_all}
 use Rattle.cs_model.specs.declared.value.Field.{Field}

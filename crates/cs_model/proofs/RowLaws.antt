@@ -1,4 +1,4 @@
--- Rows as bytes: what a row's bytes say is the row.
+-- Rows as bytes: the bytes of a row decode to the row.
 use Rattle.std.proofs.Common.{◌≡◌, ◌↔◌, Bool, true, List, [], ◌∷◌, ◌++◌, ℕ, refl, sym, ap, subst, ◌∙◌}
 use Rattle.std.specs.List.{AllByRecursion, list_all}
 use Rattle.std.proofs.lemmas.List.{map-append}

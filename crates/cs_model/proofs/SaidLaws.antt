@@ -1,4 +1,4 @@
--- Adding the canonical bytes of what bytes say, one field and one change at a time.
+-- Appending the canonical bytes of what bytes decode to, one field and one change at a time.
 use Rattle.std.proofs.Common.{◌≡◌, ℕ, zero, suc, ◌+◌, ◌-◌, ◌<◌, ◌≤◌, List, [], ◌∷◌, ◌++◌, length, take, drop, refl, sym}
 use Rattle.std.proofs.Common.{ap, ◌∙◌, arith}
 use Rattle.std.proofs.Math.Seq.{take-append_seam}

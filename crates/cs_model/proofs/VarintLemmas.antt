@@ -1,4 +1,4 @@
--- Varints: reading them by recursion, filling them from the back, and the two laws of the spelling.
+-- Varints: reading them by recursion, filling them from the back, and the two laws of their encoding.
 use Rattle.std.proofs.Common.{◌≡◌, ℕ, zero, suc, ◌+◌, ◌-◌, ◌*◌, ◌/◌, ◌%◌, ◌^◌, ◌<◌, ◌≤◌, ◌⊎◌, inl, inr, Bool, true}
 use Rattle.std.proofs.Common.{false, cond, leb, Option, Some, None, IfSome, MatchOption, Bor, nat_eq, List, [], ◌∷◌}
 use Rattle.std.proofs.Common.{◌++◌, length, take, drop, get_or, refl, sym, ap, subst, ◌∙◌, arith}

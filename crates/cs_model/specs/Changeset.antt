@@ -1,4 +1,4 @@
--- Which shapes, changes and changesets there are.
+-- The shapes, changes and changesets that are valid.
 use Rattle.std.specs.Prelude.{◌≡◌, ℕ, ◌<◌, ◌≤◌, true, List, [], ◌∷◌, length, map, nat_lt}
 use Rattle.std.specs.Prelude.{FitsSigned}
 use Rattle.std.specs.List.{list_any, list_all, flat_map, AllByRecursion}
@@ -14,7 +14,7 @@ use Rattle.cs_model.specs.declared.change.Change.{Change}
 use Rattle.cs_model.specs.Section.{Section}
 use Rattle.cs_model.specs.Rule.{Rule, meets, row_rule, old_rule, new_rules}
 
--- the most bytes of a value, and of a whole text
+-- the maximum length of a value and of a whole text, in bytes
 abbrev pub most_bytes : ℕ
 most_bytes = 16777216
 
@@ -29,7 +29,7 @@ abbrev pub IsField : Field → Type 0
 IsField Undefined = Unit {0}
 IsField (Is value) = IsValue value
 
--- 1 to 2,000 columns, one of them in the key, and a name of 1 to 1,024 bytes without a zero byte
+-- 1 to 2,000 columns, at least one in the key, and a name of 1 to 1,024 bytes without a zero byte
 pub record IsShape (shape : Shape) : Type 0 where
   pub columns : 0 < length shape.flags
   pub not_more_columns : length shape.flags ≤ 2000
@@ -38,7 +38,7 @@ pub record IsShape (shape : Shape) : Type 0 where
   pub not_longer : length shape.name ≤ 1024
   pub no_zero : list_all (λ byte. nat_lt 0 byte) shape.name ≡ true
 
--- a record that follows these rules: a field for each
+-- a record with one field per rule, each of which follows its rule
 abbrev pub Obeys : List Rule → List Field → Type 0
 Obeys [] [] = Unit {0}
 Obeys [] (field ∷ fields) = ⊥
@@ -46,7 +46,7 @@ Obeys (rule ∷ rules) [] = ⊥
 Obeys (rule ∷ rules) (field ∷ fields) = IsField field × (meets rule field ≡ true)
     × Obeys rules fields
 
--- the records of a change with this operation, of a table with these key bytes
+-- the records of a change with this operation, for a table with these key flags
 abbrev pub AreRecords : List ℕ → Op → List Field → List Field → Type 0
 AreRecords flags Insert before after = (before ≡ []) × Obeys (map row_rule flags) after
 AreRecords flags Update before after = Obeys (map old_rule flags) before

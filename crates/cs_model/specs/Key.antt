@@ -1,4 +1,4 @@
--- The key of a row.
+-- The key of a row: the one that a change is about, and the order of keys.
 use Rattle.std.specs.Prelude.{ℕ, List, refl}
 use Rattle.std.specs.declared.cmp.Ordering.{Ordering}
 use Rattle.std.specs.Ordering.{nat_cmp, ordering_then}
@@ -8,7 +8,7 @@ use Rattle.cs_model.specs.declared.change.Change.{Change}
 use Rattle.cs_model.specs.declared.row_key.RowKey.{RowKey}
 use Rattle.cs_model.specs.KeyBytes.{key_bytes, key_record}
 
--- the key of the row that a change of a table with these key bytes is about
+-- the key of the row that a change is about; its table has this index and these key flags
 abbrev pub key_of : ℕ → List ℕ → Change → RowKey
 key_of table flags change =
     record {

@@ -1,4 +1,4 @@
--- The key's part of a record.
+-- The primary key fields of a record, and their bytes.
 use Rattle.std.specs.Prelude.{ℕ, ◌==◌, if◌then◌else◌, List, [], ◌∷◌}
 use Rattle.std.specs.List.{flat_map}
 use Rattle.cs_model.specs.declared.value.Field.{Field}
@@ -17,7 +17,7 @@ key_fields (flag ∷ flags) (field ∷ fields) = if flag == 0 then key_fields fl
 abbrev pub key_bytes : List ℕ → List Field → List ℕ
 key_bytes flags fields = flat_map field_bytes (key_fields flags fields)
 
--- the record that a change finds its row by: the old one, or the new one of an INSERT
+-- the record that identifies a change's row: the old one, or the new one of an INSERT
 abbrev pub key_record : Op → List Field → List Field → List Field
 key_record Insert before after = after
 key_record Update before after = before

@@ -1,5 +1,5 @@
--- Changes as bytes: which bytes are those of changes of a table with so many columns, and what any
--- bytes say.
+-- Changes as bytes: the canonical bytes of changes of a table, and the changes that any bytes
+-- decode to.
 use Rattle.std.specs.Prelude.{◌≡◌, ℕ, zero, suc, Bool, true, false, not, List, [], ◌∷◌, ◌++◌}
 use Rattle.std.specs.Prelude.{length, ◌==◌, if◌then◌else◌}
 use Rattle.std.specs.List.{flat_map, AllByRecursion}
@@ -11,12 +11,12 @@ use Rattle.cs_model.specs.Section.{Section}
 use Rattle.cs_model.specs.Text.{op_byte}
 use Rattle.cs_model.specs.Packed.{packed, Fits, typed_in}
 
--- the byte of a change that is direct or indirect
+-- the indirect byte of a change
 abbrev pub mark : Bool → ℕ
 mark true = 1
 mark false = 0
 
--- a change's bytes: its operation, whether it is indirect, and its records
+-- a change's bytes: its operation, its indirect byte, and its records
 abbrev pub change_bytes : Change → List ℕ
 change_bytes c = op_byte c.op ∷ mark c.indirect ∷ (packed c.before ++ packed c.after)
 
@@ -24,13 +24,13 @@ change_bytes c = op_byte c.op ∷ mark c.indirect ∷ (packed c.before ++ packed
 abbrev pub changes_bytes : List Change → List ℕ
 changes_bytes changes = flat_map change_bytes changes
 
--- so many fields in the records that a change with this operation has
+-- the records that this operation has have n fields each, and the other has none
 abbrev pub Long : ℕ → Op → List Field → List Field → Type 0
 Long n Insert before after = (before ≡ []) × (length after ≡ n)
 Long n Update before after = (length before ≡ n) × (length after ≡ n)
 Long n Delete before after = (length before ≡ n) × (after ≡ [])
 
--- a change of a table with so many columns that has canonical bytes
+-- a change of a table with n columns that has canonical bytes
 pub record Fit (n : ℕ) (c : Change) : Type 0 where
   pub long : Long n c.op c.before c.after
   pub before : AllByRecursion Fits c.before
@@ -46,16 +46,16 @@ pub record PacksAll (n : ℕ) (bytes : List ℕ) (changes : List Change) : Type 
   pub parts : bytes ≡ changes_bytes changes
   pub fit : AllByRecursion (Fit n) changes
 
--- what tells changes apart: how many columns their table has, and their bytes
+-- what distinguishes lists of changes: the number of columns, and their bytes
 abbrev pub changes_parts : ℕ × List Change → List (List ℕ)
 changes_parts c = (c.0 ∷ []) ∷ changes_bytes c.1 ∷ []
 
--- what tells sections apart: the name and the key bytes of their tables, and the bytes of their
+-- what distinguishes sections: the name and key flags of their tables, and the bytes of their
 -- changes
 abbrev pub section_parts : Section → List (List ℕ)
 section_parts s = s.shape.name ∷ s.shape.flags ∷ changes_bytes s.changes ∷ []
 
--- the bytes begin with those of so many fields
+-- the bytes begin with those of n fields
 pub record BeginsFields (n : ℕ) (bytes : List ℕ) : Type 0 where
   pub fields : List Field
   pub rest : List ℕ
@@ -73,10 +73,10 @@ pub record BeginsChange (n : ℕ) (op : Op) (bytes : List ℕ) : Type 0 where
   pub after_fit : AllByRecursion Fits after
   pub parts : bytes ≡ (packed before ++ packed after) ++ rest
 
--- ---- what bytes say: every list of bytes says some changes, and which ones matters only
--- of changes' bytes
+-- ---- decoding: every list of bytes decodes to some changes; the result matters only for the
+-- bytes of changes
 
--- so many fields, or as many as there are, and what is behind them
+-- up to n fields, fewer if there are fewer, and the bytes after them
 unfoldable pub some_in : ℕ → List ℕ → List Field × List ℕ
 some_in zero bytes = ([], bytes)
 some_in (suc n) [] = ([], [])
@@ -85,11 +85,11 @@ some_in (suc n) (byte ∷ rest) = (
   (some_in n (typed_in byte rest).1).1,
 )
 
--- the operation that a byte says
+-- the operation that a byte decodes to
 abbrev pub op_in : ℕ → Op
 op_in byte = if byte == 18 then Insert else if byte == 23 then Update else Delete
 
--- the change with this operation whose records stand in bytes, and what is behind it
+-- the change with this operation and these records, and the bytes after it
 abbrev pub records_by : ℕ → Op → Bool → List ℕ → Change × List ℕ
 records_by n Insert indirect bytes =
     (change_of Insert indirect [] (some_in n bytes).0, (some_in n bytes).1)
@@ -100,7 +100,7 @@ records_by n Update indirect bytes = (
 records_by n Delete indirect bytes =
     (change_of Delete indirect (some_in n bytes).0 [], (some_in n bytes).1)
 
--- The changes, as many as stand in bytes, of so many columns. Each turn takes one from `fuel`.
+-- The changes of n columns that the bytes hold. Each turn takes one from `fuel`.
 unfoldable pub changes_said : ℕ → ℕ → List ℕ → List Change
 changes_said n zero bytes = []
 changes_said n (suc fuel) [] = []
@@ -109,10 +109,10 @@ changes_said n (suc fuel) (op ∷ (byte ∷ rest)) =
     (records_by n (op_in op) (not (byte == 0)) rest).0
     ∷ changes_said n fuel (records_by n (op_in op) (not (byte == 0)) rest).1
 
--- the changes that bytes say
+-- the changes that bytes decode to
 unfoldable pub unpacked_changes : ℕ → List ℕ → List Change
 unpacked_changes n bytes = changes_said n (length bytes) bytes
 
--- the bytes are the canonical ones of the changes that they say
+-- the bytes are the canonical encoding of the changes that they decode to
 abbrev pub AreCanonical : ℕ → List ℕ → Type 0
 AreCanonical n bytes = PacksAll n bytes (unpacked_changes n bytes)

@@ -1,11 +1,11 @@
--- What a record may say of a column.
+-- The rules for a field, by its column and its record.
 use Rattle.std.specs.Prelude.{ℕ, Bool, true, false, not, List, [], ◌∷◌, ◌==◌, if◌then◌else◌}
 use Rattle.cs_model.specs.declared.value.Value.TheVariants.{Integer, Text, Blob, Null}
 use Rattle.cs_model.specs.declared.value.Field.{Field}
 use Rattle.cs_model.specs.declared.value.Field.TheVariants.{Undefined, Is}
 
--- Key: a value that isn't NULL. Given: a value, NULL or not. Open: anything. Blank: nothing.
--- PairedWith: a value where the old record has one, and nothing where it has none.
+-- Key: a value that isn't NULL. Given: any value, NULL included. Open: any value or none. Blank: no
+-- value. PairedWith: a value if the old record has one, and none otherwise.
 pub data Rule : Type 0 where
   Key : Rule
   Given : Rule
@@ -13,7 +13,7 @@ pub data Rule : Type 0 where
   Blank : Rule
   PairedWith : Field → Rule
 
--- whether a field says something
+-- whether a field has a value
 abbrev pub is_defined : Field → Bool
 is_defined Undefined = false
 is_defined (Is value) = true
@@ -33,7 +33,7 @@ meets Open field = true
 meets Blank field = not (is_defined field)
 meets (PairedWith old) field = if is_defined old then is_defined field else not (is_defined field)
 
--- A column's rule in the one record of an INSERT or a DELETE, by its key byte.
+-- A column's rule in the one record of an INSERT or a DELETE, by its key flag.
 abbrev pub row_rule : ℕ → Rule
 row_rule flag = if flag == 0 then Given else Key
 
@@ -41,7 +41,7 @@ row_rule flag = if flag == 0 then Given else Key
 abbrev pub old_rule : ℕ → Rule
 old_rule flag = if flag == 0 then Open else Key
 
--- a column's rule in the new record of an UPDATE, by its key byte and the old record's field
+-- a column's rule in the new record of an UPDATE, by its key flag and the old record's field
 abbrev pub new_rule : ℕ → Field → Rule
 new_rule flag old = if flag == 0 then PairedWith old else Blank
 

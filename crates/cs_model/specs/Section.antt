@@ -1,4 +1,4 @@
--- The changes of one table that stand together.
+-- A section: a table's shape and consecutive changes of that table.
 use Rattle.std.specs.Prelude.{List, refl}
 use Rattle.std.specs.Coded.{Coded, code_by, coded×, coded_list}
 use Rattle.cs_model.specs.contracts.change.Change as change

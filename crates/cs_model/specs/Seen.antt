@@ -1,4 +1,4 @@
--- What is read where it stands in bytes, seen as what it says.
+-- Borrowed fields and changes, seen as the values that they encode.
 use Rattle.cs_model.specs.declared.value.Value.TheVariants as value
 use Rattle.cs_model.specs.declared.value.Field.{Field}
 use Rattle.cs_model.specs.declared.value.Field.TheVariants.{Is}
@@ -9,7 +9,7 @@ use Rattle.cs_model.specs.declared.field_ref.FieldRef.{FieldRef}
 use Rattle.cs_model.specs.declared.field_ref.FieldRef.TheVariants.{Undefined, Integer, Text, Blob}
 use Rattle.cs_model.specs.declared.field_ref.FieldRef.TheVariants.{Null}
 
--- the field that stands there
+-- the field that is borrowed
 abbrev pub field_seen : FieldRef → Field
 field_seen Undefined = field.Undefined
 field_seen (Integer n) = Is (value.Integer n)
@@ -17,6 +17,6 @@ field_seen (Text bytes) = Is (value.Text bytes.now)
 field_seen (Blob bytes) = Is (value.Blob bytes.now)
 field_seen Null = Is value.Null
 
--- the change that stands there
+-- the change that is borrowed
 abbrev pub change_seen : ChangeRef → Change
 change_seen c = record { op = c.op; indirect = c.indirect; before = c.before; after = c.after }

@@ -1,4 +1,4 @@
--- Which texts spell a changeset.
+-- The changeset format: which texts encode a changeset.
 use Rattle.std.specs.Prelude.{◌≡◌, ℕ, ◌≤◌, Bool, true, false, List, [], ◌∷◌, ◌++◌, length, ◌≢◌}
 use Rattle.std.specs.Int.{w64, to_be_bytes, cast_unsigned}
 use Rattle.cs_model.specs.declared.value.Value.TheVariants.{Integer, Text, Blob, Null}
@@ -12,13 +12,13 @@ use Rattle.cs_model.specs.Section.{Section}
 use Rattle.cs_model.specs.Changeset.{IsChangeset, most_bytes}
 use Rattle.cs_model.specs.Varint.{IsVarint}
 
--- a length, in any of its spellings, and that many bytes
+-- a length, in any encoding, and that number of bytes
 pub record SpellsBytes (text bytes : List ℕ) : Type 0 where
   pub count : List ℕ
   pub parts : text ≡ count ++ bytes
   pub is_count : IsVarint count (length bytes)
 
--- a field: a type byte, and the value behind it
+-- a field: a type byte, and the value after it
 abbrev pub SpellsField : List ℕ → Field → Type 0
 SpellsField text Undefined = text ≡ 0 ∷ []
 SpellsField text (Is (Integer number)) = text ≡ 1 ∷ to_be_bytes w64 (cast_unsigned w64 number)
@@ -26,7 +26,7 @@ SpellsField text (Is (Text bytes)) = (rest : List ℕ) × (text ≡ 3 ∷ rest) 
 SpellsField text (Is (Blob bytes)) = (rest : List ℕ) × (text ≡ 4 ∷ rest) × SpellsBytes rest bytes
 SpellsField text (Is Null) = text ≡ 5 ∷ []
 
--- one text after another, each a spelling of its item
+-- one text after another, each an encoding of its item
 abbrev pub SpellsEach : {A : Type 0} → (List ℕ → A → Type 0) → List ℕ → List A → Type 0
 SpellsEach Spelling text [] = text ≡ []
 SpellsEach Spelling text (item ∷ items) =
@@ -44,8 +44,7 @@ abbrev pub SpellsIndirect : ℕ → Bool → Type 0
 SpellsIndirect byte true = byte ≢ 0
 SpellsIndirect byte false = byte ≡ 0
 
--- a change: its operation, the indirect byte, then the old record and the new one, where it has
--- them
+-- a change: its operation, its indirect byte, then its old record and its new one, if it has them
 pub record SpellsChange (text : List ℕ) (change : Change) : Type 0 where
   pub byte : ℕ
   pub old : List ℕ
@@ -55,7 +54,7 @@ pub record SpellsChange (text : List ℕ) (change : Change) : Type 0 where
   pub is_old : SpellsEach SpellsField old change.before
   pub is_new : SpellsEach SpellsField new change.after
 
--- a header: `T`, the number of columns, their key bytes, the name and a zero byte
+-- a header: `T`, the number of columns, their key flags, the name and a zero byte
 pub record SpellsHeader (text : List ℕ) (shape : Shape) : Type 0 where
   pub count : List ℕ
   pub parts : text ≡ 84 ∷ (count ++ shape.flags ++ shape.name ++ 0 ∷ [])
@@ -69,8 +68,8 @@ pub record SpellsSection (text : List ℕ) (section : Section) : Type 0 where
   pub is_header : SpellsHeader header section.shape
   pub is_body : SpellsEach SpellsChange body section.changes
 
--- The text spells the changeset: it is at most 16,777,216 bytes, and the sections' texts one after
--- another.
+-- The text encodes the changeset: it has at most 16,777,216 bytes, and is the sections' texts one
+-- after another.
 pub record Spells (text : List ℕ) (changeset : List Section) : Type 0 where
   pub is_changeset : IsChangeset changeset
   pub within_limit : length text ≤ most_bytes

@@ -1,5 +1,5 @@
-//! Whether the bytes of changes are canonical, and how they are made so. A text may spell a length
-//! with zeros in front, and an indirect change with any byte but zero.
+//! Checks whether the bytes of changes are canonical, and re-encodes those that aren't. A text may
+//! encode a length with leading zeros, and an indirect change with any nonzero byte.
 
 ghost use Rattle.std.specs.Prelude.{◌≡◌, IfOk, IfSome, OnErr, length, take, drop};
 ghost use Rattle.cs_model.specs.Bytes.{AddsBytes};
@@ -15,9 +15,8 @@ use crate::fields::typed_of;
 use crate::varint::{varint_first, varint_strip};
 use std::alloc::AllocError;
 
-/// Adds the canonical bytes of the changes that bytes say to the end of `out`, and tells how many
-/// they are: in one copy where the bytes are canonical, and else respelled. An `Err` leaves `out`
-/// as it was.
+/// Appends the changes that `bytes` encodes to `out` in canonical form, and returns their number.
+/// Makes one copy of canonical bytes, and re-encodes others. An `Err` does not change `out`.
 pub fn text_push(out: &mut Vec<u8>, columns: usize, bytes: &[u8]) -> Result<usize, AllocError>
     ensures ok { AddsBytes result out.old out.new
         (changes_bytes (unpacked_changes columns bytes.now)) }
@@ -31,14 +30,14 @@ pub fn text_push(out: &mut Vec<u8>, columns: usize, bytes: &[u8]) -> Result<usiz
     Ok(count)
 }
 
-/// How many changes bytes say, where they are the canonical ones of these changes, and else `None`.
+/// The number of changes that `bytes` encodes, or `None` if the encoding isn't canonical.
 pub(crate) fn canonical_count(columns: usize, bytes: &[u8]) -> Option<usize>
     ensures packs { IfSome result (λ n. AreCanonical columns bytes.now) }
     ensures count { IfSome result (λ n. n ≡ length (unpacked_changes columns bytes.now)) }
 {
     let mut count: usize = 0;
     let mut rest = bytes;
-    // each turn takes two bytes at least
+    // each turn takes at least two bytes
     for _ in 0..bytes.len() {
         if rest.is_empty() {
             break;
@@ -64,7 +63,7 @@ fn push_said(out: &mut Vec<u8>, columns: usize, bytes: &[u8]) -> Result<usize, A
     added
 }
 
-// the bytes behind the first change, where its own are canonical
+// the bytes after the first change, if it is canonical
 fn behind_change(columns: usize, bytes: &[u8]) -> Option<&[u8]>
     ensures { IfSome result (λ rest. StartsChange columns bytes.now rest.now) }
 {
@@ -80,7 +79,7 @@ fn behind_change(columns: usize, bytes: &[u8]) -> Option<&[u8]>
     }
 }
 
-// the bytes behind so many fields, where their own are canonical
+// the bytes after `columns` fields, if these are canonical
 fn behind_record(columns: usize, bytes: &[u8]) -> Option<&[u8]>
     ensures { IfSome result (λ rest. StartsRecord columns bytes.now rest.now) }
 {
@@ -91,7 +90,7 @@ fn behind_record(columns: usize, bytes: &[u8]) -> Option<&[u8]>
     Some(rest)
 }
 
-// the bytes behind the first field, where its own are canonical
+// the bytes after the first field, if it is canonical
 #[inline(always)]
 fn behind_field(bytes: &[u8]) -> Option<&[u8]>
     ensures { IfSome result (λ rest. StartsField bytes.now rest.now) }
@@ -105,7 +104,7 @@ fn behind_field(bytes: &[u8]) -> Option<&[u8]>
     }
 }
 
-// the bytes behind a length and so many bytes, where the length is the shortest varint
+// the bytes after a length and that number of bytes, if the length is the shortest varint
 #[inline(always)]
 fn behind_counted(bytes: &[u8]) -> Option<&[u8]>
     ensures { IfSome result (λ rest. StartsCounted bytes.now rest.now) }
@@ -120,7 +119,7 @@ fn behind_counted(bytes: &[u8]) -> Option<&[u8]>
     behind_so_many(len, behind)
 }
 
-// the bytes behind so many
+// the bytes after the first `len`
 #[inline(always)]
 fn behind_so_many(len: u64, bytes: &[u8]) -> Option<&[u8]>
     ensures { IfSome result (λ rest. (length (take len bytes.now) ≡ len)
@@ -132,7 +131,7 @@ fn behind_so_many(len: u64, bytes: &[u8]) -> Option<&[u8]>
     Some(&bytes[len as usize..])
 }
 
-// The same as `push_said`, which may stop in between.
+// The same as `push_said`; an `Err` may have appended some.
 fn add_said(out: &mut Vec<u8>, columns: usize, bytes: &[u8]) -> Result<usize, AllocError>
     ensures ok { AddsBytes result out.old out.new
         (changes_bytes (unpacked_changes columns bytes.now)) }
@@ -142,7 +141,7 @@ fn add_said(out: &mut Vec<u8>, columns: usize, bytes: &[u8]) -> Result<usize, Al
     out.reserve(bytes.len())?;
     let mut count: usize = 0;
     let mut rest = bytes;
-    // each turn takes two bytes at least
+    // each turn takes at least two bytes
     for _ in 0..bytes.len() {
         let Some((&op, behind)) = rest.split_first() else {
             break;
@@ -156,8 +155,8 @@ fn add_said(out: &mut Vec<u8>, columns: usize, bytes: &[u8]) -> Result<usize, Al
     Ok(count)
 }
 
-// Adds the canonical bytes of the change with this operation whose records stand in bytes, and
-// gives the bytes behind it.
+// Appends the change with this operation and these records in canonical form. Returns the bytes
+// after it.
 fn add_change<'a>(
     out: &mut Vec<u8>,
     columns: usize,
@@ -179,8 +178,8 @@ fn add_change<'a>(
     }
 }
 
-// Adds the canonical bytes of so many fields, or of as many as there are, and gives the bytes
-// behind them.
+// Appends up to `columns` fields in canonical form, fewer if there are fewer. Returns the bytes
+// after them.
 fn add_fields<'a>(
     out: &mut Vec<u8>,
     columns: usize,

@@ -1,4 +1,4 @@
-//! Changes.
+//! A change of one row, and its operation, as values of their own.
 
 ghost use Rattle.std.specs.Prelude.{◌≡◌};
 ghost use Rattle.cs_model.specs.Text.{op_byte};
@@ -6,7 +6,7 @@ ghost use Rattle.cs_model.specs.Text.{op_byte};
 use crate::seq::Seq;
 use crate::value::Field;
 
-/// What a change does to its row: the operation that `sqlite3changeset_op` tells.
+/// What a change does to its row: the operation that `sqlite3changeset_op` reports.
 #[derive(Clone, Copy, Debug, PartialEq, Eq)]
 pub enum Op {
     Insert,
@@ -15,7 +15,7 @@ pub enum Op {
 }
 
 impl Op {
-    /// The byte that a change with this operation begins with: `SQLITE_INSERT`, `SQLITE_UPDATE` or
+    /// The first byte of a change with this operation: `SQLITE_INSERT`, `SQLITE_UPDATE` or
     /// `SQLITE_DELETE`.
     pub fn byte(self) -> u8
         ensures { result ≡ op_byte self }
@@ -28,12 +28,12 @@ impl Op {
     }
 }
 
-/// One change of one row, as an iterator of `sqlite3changeset_next` gives it.
+/// A change of one row, as `sqlite3changeset_next` iterates over them.
 #[derive(Debug, Drop, PartialEq, Eq)]
 pub struct Change {
-    /// What it does.
+    /// The operation.
     pub op: Op,
-    /// Whether a trigger or a foreign key action made it, and not the application itself
+    /// Whether a trigger or a foreign key action made the change, and not the application itself
     /// (`sqlite3session_indirect`).
     pub indirect: bool,
     /// The old record: one field per column in an UPDATE or a DELETE, empty in an INSERT.

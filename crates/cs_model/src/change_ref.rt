@@ -1,6 +1,5 @@
-//! The changes that stand in bytes, one after another, for a table with a known number of columns.
-//! The bytes are the canonical ones, and so are those of each record, which can be copied without a
-//! look at its fields.
+//! Borrowed changes and records, and an iterator over the changes of a table. Their bytes are
+//! canonical, so a record is copied without reading its fields.
 
 ghost use Rattle.std.specs.Prelude.{◌≡◌, ◌∷◌, [], IfSome, MatchOption};
 ghost use Rattle.std.specs.List.{AllByRecursion};
@@ -14,7 +13,7 @@ use crate::fields::{Fields, typed_of};
 use std::iter::Iterator;
 use std::marker::Model;
 
-/// A record where it stands. Contracts see the list of its fields.
+/// A record, borrowed. Contracts see the list of its fields.
 #[derive(Drop)]
 pub struct RecordRef<'a> {
     bytes: &'a [u8],
@@ -33,7 +32,7 @@ impl<'a> Model for RecordRef<'a> {
 }
 
 impl<'a> RecordRef<'a> {
-    /// Its fields, in column order.
+    /// Returns its fields, in column order.
     #[inline(always)]
     pub fn fields(&self) -> Fields<'a>
         ensures { result ≡ self.now }
@@ -41,7 +40,7 @@ impl<'a> RecordRef<'a> {
         Fields::of(self.bytes)
     }
 
-    /// Its canonical bytes.
+    /// Returns its canonical bytes.
     #[inline(always)]
     pub fn bytes(&self) -> &'a [u8]
         ensures bytes { result.now ≡ packed self.now }
@@ -51,21 +50,20 @@ impl<'a> RecordRef<'a> {
     }
 }
 
-/// A change where it stands.
+/// A change, borrowed.
 #[derive(Drop)]
 pub struct ChangeRef<'a> {
-    /// What it does.
+    /// The operation.
     pub op: Op,
-    /// Whether a trigger or a foreign key action made it, and not the application itself.
+    /// Whether a trigger or a foreign key action made the change, and not the application itself.
     pub indirect: bool,
-    /// The old record, without fields in an INSERT.
+    /// The old record; it has no fields in an INSERT.
     pub before: RecordRef<'a>,
-    /// The new record, without fields in a DELETE.
+    /// The new record; it has no fields in a DELETE.
     pub after: RecordRef<'a>,
 }
 
-/// What is left of changes' bytes, for whoever goes over the changes of a table. Contracts see the
-/// list of changes.
+/// An iterator over the changes of a table. Contracts see the list of remaining changes.
 #[derive(Drop)]
 pub struct ChangeRefs<'a> {
     columns: usize,
@@ -85,7 +83,7 @@ impl<'a> Model for ChangeRefs<'a> {
 }
 
 impl<'a> ChangeRefs<'a> {
-    /// The changes from the first byte on, of a table with so many columns.
+    /// The changes of a table with this number of columns, from the first byte on.
     #[inline(always)]
     pub(crate) fn of(columns: usize, bytes: &'a [u8]) -> ChangeRefs<'a>
         requires { AreCanonical columns bytes.now }
@@ -115,7 +113,7 @@ impl<'a> Iterator for ChangeRefs<'a> {
     }
 }
 
-// what is behind so many fields, or as many as there are
+// the bytes after the first `columns` fields, or after all if there are fewer
 fn behind(columns: usize, bytes: &[u8]) -> &[u8]
     ensures { result.now ≡ (some_in columns bytes.now).1 }
 {
@@ -130,7 +128,7 @@ fn behind(columns: usize, bytes: &[u8]) -> &[u8]
     rest
 }
 
-// a record of so many fields, and the bytes behind it
+// a record of `columns` fields, and the bytes after it
 fn record_of(columns: usize, bytes: &[u8]) -> (RecordRef, &[u8])
     requires { BeginsFields columns bytes.now }
     ensures record { result.0 ≡ (some_in columns bytes.now).0 }
@@ -148,7 +146,7 @@ fn no_record<'a>() -> RecordRef<'a>
     RecordRef { bytes: &[] }
 }
 
-/// The operation that a byte says.
+/// The operation that a byte encodes.
 pub(crate) fn op_of(byte: u8) -> Op
     ensures { result ≡ op_in byte }
 {
@@ -159,7 +157,7 @@ pub(crate) fn op_of(byte: u8) -> Op
     }
 }
 
-// the change with this operation whose records stand in bytes, and the bytes behind it
+// the change with this operation and these records, and the bytes after it
 fn records_of(columns: usize, op: Op, indirect: bool, bytes: &[u8]) -> (ChangeRef, &[u8])
     requires { BeginsChange columns op bytes.now }
     ensures change { change_seen result.0 ≡ (records_by columns op indirect bytes.now).0 }
@@ -191,7 +189,7 @@ fn records_of(columns: usize, op: Op, indirect: bool, bytes: &[u8]) -> (ChangeRe
     )
 }
 
-// the first of the changes that bytes say, and the bytes behind it
+// the first change that `bytes` encodes, and the bytes after it
 fn first_of(columns: usize, bytes: &[u8]) -> Option<(ChangeRef, &[u8])>
     requires { AreCanonical columns bytes.now }
     ensures rest { IfSome result (λ x. AreCanonical columns x.1.now) }

@@ -1,4 +1,4 @@
-//! Changes in one piece of memory.
+//! The changes of a section, in canonical form in one buffer.
 
 ghost use Rattle.std.specs.Prelude.{◌≡◌, ◌==◌, [], ◌∷◌, ◌++◌, OnOk, OnErr, ◌↔◌, IsTrue, length};
 ghost use Rattle.std.specs.Prelude.{take};
@@ -22,12 +22,12 @@ use std::alloc::{AllocError, Global};
 use std::marker::Model;
 use std::mem;
 
-/// Changes of a table with so many columns, in order. Contracts see the number of columns and the
-/// list of changes.
+/// A list of changes of a table, in order. Contracts see the number of columns and the list of
+/// changes.
 #[derive(Debug, Drop)]
 pub struct Changes {
     columns: usize,
-    // how many changes there are
+    // the number of changes
     count: usize,
     bytes: Vec<u8>,
 }
@@ -46,7 +46,7 @@ impl Model for Changes {
 }
 
 impl Changes {
-    /// No changes, and no memory yet.
+    /// An empty list for a table with `columns` columns. Does not allocate.
     pub fn new(alloc: Global, columns: usize) -> Changes
         ensures columns { result.0 ≡ columns }
         ensures none { result.1 ≡ [] }
@@ -58,7 +58,7 @@ impl Changes {
         }
     }
 
-    /// One change more, behind the others. An `Err` leaves the changes as they were.
+    /// Appends a change. An `Err` does not change the list.
     pub fn push(
         &mut self,
         op: Op,
@@ -77,7 +77,7 @@ impl Changes {
         Ok(())
     }
 
-    /// The same, of a change in memory of its own.
+    /// The same for a `Change`.
     pub fn push_change(&mut self, alloc: Global, change: &Change) -> Result<(), AllocError>
         requires { Long self.old.0 change.now.op change.now.before change.now.after }
         ensures columns { self.new.0 ≡ self.old.0 }
@@ -89,8 +89,8 @@ impl Changes {
         self.push(change.op, change.indirect, &before, &after)
     }
 
-    /// The changes of another list, of as many columns, behind these, in one copy. An `Err` leaves
-    /// the changes as they were.
+    /// Appends another list's changes, of the same number of columns, in one copy. An `Err` does
+    /// not change the list.
     pub fn append(&mut self, others: &Changes) -> Result<(), AllocError>
         requires { others.now.0 ≡ self.old.0 }
         ensures columns { self.new.0 ≡ self.old.0 }
@@ -102,9 +102,9 @@ impl Changes {
         Ok(())
     }
 
-    /// The changes that a text says, behind these: in one copy where the text is canonical, and
-    /// else respelled. The text is of whole changes, as `laws::spelled_is_said` says. An `Err`
-    /// leaves the changes as they were.
+    /// Appends the changes that `text` encodes, which are complete, as `laws::spelled_is_said`
+    /// says. Makes one copy of canonical bytes, and re-encodes others. An `Err` does not change the
+    /// list.
     pub fn append_text(&mut self, text: &[u8]) -> Result<(), AllocError>
         requires { AllByRecursion (Fit self.old.0) (unpacked_changes self.old.0 text.now) }
         ensures columns { self.new.0 ≡ self.old.0 }
@@ -116,8 +116,8 @@ impl Changes {
         Ok(())
     }
 
-    /// The same, of a text that is known to be canonical and to have so many changes: one copy,
-    /// without a look at its bytes.
+    /// The same for a text known to be canonical and to have `changes` changes. Makes one copy,
+    /// without reading the bytes.
     pub fn append_canonical(&mut self, text: &[u8], changes: usize) -> Result<(), AllocError>
         requires canonical { AreCanonical self.old.0 text.now }
         requires count { changes ≡ length (unpacked_changes self.old.0 text.now) }
@@ -130,8 +130,8 @@ impl Changes {
         Ok(())
     }
 
-    /// Takes the changes out, as their canonical bytes and how many they are, in one move: nothing
-    /// is copied. The list is left with none.
+    /// Moves the changes out, as canonical bytes, and returns them with their number. Leaves the
+    /// list empty and copies nothing.
     pub fn take_bytes(&mut self, alloc: Global) -> (Vec<u8>, usize)
         ensures columns { self.new.0 ≡ self.old.0 }
         ensures left { self.new.1 ≡ [] }
@@ -143,8 +143,8 @@ impl Changes {
         (mem::replace(&mut self.bytes, Vec::new(alloc)), count)
     }
 
-    /// Gives canonical bytes of so many changes to a list that has none, in one move: nothing is
-    /// copied, nor looked at.
+    /// Moves canonical bytes of `changes` changes into an empty list. Neither copies nor reads
+    /// them.
     pub fn put_bytes(&mut self, bytes: Vec<u8>, changes: usize)
         requires none { self.old.1 ≡ [] }
         requires canonical { AreCanonical self.old.0 bytes.items }
@@ -156,28 +156,28 @@ impl Changes {
         self.count = changes;
     }
 
-    /// How many columns the table has.
+    /// The number of columns of the table.
     pub fn columns(&self) -> usize
         ensures { result ≡ self.now.0 }
     {
         self.columns
     }
 
-    /// How many changes there are.
+    /// The number of changes.
     pub fn len(&self) -> usize
         ensures { result ≡ length self.now.1 }
     {
         self.count
     }
 
-    /// Whether there are none.
+    /// Returns `true` if there are no changes.
     pub fn is_empty(&self) -> bool
         ensures { result ≡ (length self.now.1 == 0) }
     {
         self.count == 0
     }
 
-    /// The changes, in order.
+    /// Returns an iterator over the changes, in order.
     #[inline(always)]
     pub fn iter(&self) -> ChangeRefs<'_>
         ensures changes { result ≡ self.now.1 }
@@ -186,7 +186,7 @@ impl Changes {
         ChangeRefs::of(self.columns, &self.bytes)
     }
 
-    /// Their canonical bytes, those of one change after another.
+    /// The canonical bytes of the changes, one after another.
     pub fn bytes(&self) -> &[u8]
         ensures { result.now ≡ changes_bytes self.now.1 }
     {
@@ -204,8 +204,8 @@ impl CopyIn for Changes {
     }
 }
 
-/// Two lists are equal when they are of as many columns and their bytes are the same, and so when
-/// their changes are.
+/// Two lists are equal if they have the same number of columns and the same bytes. Then they have
+/// the same changes, too.
 impl PartialEq for Changes {
     ghost eq = { λ a b. pointwise same_bytes (changes_parts a) (changes_parts b) };
 
@@ -220,15 +220,15 @@ impl Eq for Changes {
     ghost laws = { on_equiv changes_parts (lists_equiv nat_list_eq_equiv) };
 }
 
-/// Whether two lists are of as many columns and have the same changes. This is what `==` answers,
-/// with a contract that says so of the changes.
+/// Whether two lists have the same number of columns and the same changes. Returns what `==` does;
+/// the contract speaks of the changes.
 pub fn same_changes(first: &Changes, second: &Changes) -> bool
     ensures { IsTrue result ↔ (first.now ≡ second.now) }
 {
     first.columns == second.columns && first.bytes == second.bytes
 }
 
-/// Adds a change's bytes to the end of `out`, and nothing else. An `Err` leaves `out` as it was.
+/// Appends a change's bytes to `out`. An `Err` does not change `out`.
 pub fn change_push(
     out: &mut Vec<u8>,
     op: Op,
@@ -250,7 +250,7 @@ pub fn change_push(
     pushed
 }
 
-// The same, which may stop in between.
+// The same; an `Err` may have appended some.
 fn add_change(
     out: &mut Vec<u8>,
     op: Op,

@@ -1,4 +1,4 @@
-//! Whole changesets.
+//! A whole changeset: a list of sections, each with the changes of one table.
 
 ghost use Rattle.std.specs.Prelude.{◌≡◌, ◌++◌, ◌==◌, [], OnOk, OnErr, length};
 ghost use Rattle.cs_model.specs.Changeset.{IsChangeset};
@@ -39,21 +39,21 @@ impl Changeset {
         }
     }
 
-    /// How many sections it has.
+    /// The number of sections.
     pub fn len(&self) -> usize
         ensures { result ≡ length self.now }
     {
         self.sections.len()
     }
 
-    /// Whether it has no sections.
+    /// Returns `true` if there are no sections.
     pub fn is_empty(&self) -> bool
         ensures { result ≡ (length self.now == 0) }
     {
         self.sections.is_empty()
     }
 
-    /// Its sections, in order.
+    /// Returns an iterator over the sections, in order.
     pub fn iter(&self) -> SectionRefs<'_>
         ensures same { result ≡ self.now }
         ensures valid { IsChangeset self.now }
@@ -61,7 +61,7 @@ impl Changeset {
         SectionRefs::of(&self.sections)
     }
 
-    /// The changeset of these sections, without a copy. cs_parse and cs_write use it.
+    /// Makes a changeset of these sections, without a copy. cs_parse and cs_write use it.
     pub fn from_seq(sections: Seq<Section>) -> Changeset
         requires { IsChangeset sections }
         ensures { result ≡ sections }
@@ -69,7 +69,7 @@ impl Changeset {
         Changeset { sections }
     }
 
-    /// Its sections, in order. cs_parse and cs_write use it; others read by `iter`.
+    /// The sections, in order. cs_parse and cs_write use it; other crates read by `iter`.
     pub fn sections(&self) -> &[Section]
         ensures same { result.now ≡ self.now }
         ensures valid { IsChangeset self.now }
@@ -77,8 +77,7 @@ impl Changeset {
         &self.sections
     }
 
-    /// Adds copies of another changeset's sections, behind its own. An `Err` leaves the changeset
-    /// as it was.
+    /// Appends copies of another changeset's sections. An `Err` does not change this changeset.
     pub fn append(&mut self, alloc: Global, other: &Changeset) -> Result<(), AllocError>
         ensures ok { OnOk result (self.new ≡ self.old ++ other.now) }
         ensures err { OnErr result (self.new ≡ self.old) }
@@ -87,7 +86,8 @@ impl Changeset {
         self.sections.append(more)
     }
 
-    /// Its sections, without a copy. cs_parse and cs_write use it; others read by `iter`.
+    /// Returns the sections, without a copy. cs_parse and cs_write use it; other crates read by
+    /// `iter`.
     pub fn into_seq(self) -> Seq<Section>
         ensures same { result ≡ self }
         ensures valid { IsChangeset self }

@@ -1,4 +1,4 @@
-//! Exact copies.
+//! `CopyIn`: exact copies that report when memory runs out.
 
 ghost use Rattle.std.specs.Prelude.{◌≡◌, IfOk};
 
@@ -8,11 +8,11 @@ use std::alloc::{AllocError, Global};
 
 /// A copy that is the same value, which generic code may rely on (`Clone` promises less).
 pub trait CopyIn: Drop + Sized {
-    /// The same value in new memory. `AllocError` where memory runs out.
+    /// Copies the value into new memory. Returns `AllocError` if memory runs out.
     fn copy_in(&self, alloc: Global) -> Result<Self, AllocError>
         ensures { IfOk result (λ copy. copy ≡ self.now) };
 
-    /// The same values in one new list, each copied. `AllocError` where memory runs out.
+    /// Copies the values into a new list. Returns `AllocError` if memory runs out.
     fn copy_all(alloc: Global, items: &[Self]) -> Result<Vec<Self>, AllocError>
         ensures { IfOk result (λ copies. copies.items ≡ items.now) }
     {
@@ -29,7 +29,7 @@ impl CopyIn for u8 {
         Ok(*self)
     }
 
-    // bytes go over in bulk
+    // bytes are copied in bulk
     fn copy_all(alloc: Global, items: &[u8]) -> Result<Vec<u8>, AllocError> {
         Vec::from_slice(alloc, items)
     }

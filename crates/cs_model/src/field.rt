@@ -1,4 +1,4 @@
-//! Fields as canonical bytes.
+//! Encodes fields in canonical form.
 
 ghost use Rattle.std.specs.Prelude.{◌≡◌, ◌++◌, ◌∷◌, OnErr, length, take};
 ghost use Rattle.cs_model.specs.Bytes.{AddsBytes};
@@ -11,8 +11,8 @@ use crate::field_ref::FieldRef;
 use crate::varint::varint_push;
 use std::alloc::AllocError;
 
-/// Adds a field's canonical bytes to the end of `out`, and nothing else: its type, then a number in
-/// eight bytes, or the shortest length and the bytes. An `Err` leaves `out` as it was.
+/// Appends a field to `out` in canonical form: its type byte, then an INTEGER's eight bytes, or the
+/// shortest length and the bytes. An `Err` does not change `out`.
 pub fn field_push(out: &mut Vec<u8>, field: FieldRef) -> Result<(), AllocError>
     ensures ok { AddsBytes result out.old out.new (field_bytes (field_seen field.entry)) }
     ensures err { OnErr result (out.new.items ≡ out.old.items) }
@@ -26,7 +26,7 @@ pub fn field_push(out: &mut Vec<u8>, field: FieldRef) -> Result<(), AllocError>
     pushed
 }
 
-// The same, which may stop in between.
+// The same; an `Err` may have appended some.
 fn add_field(out: &mut Vec<u8>, field: FieldRef) -> Result<(), AllocError>
     ensures ok { AddsBytes result out.old out.new (field_bytes (field_seen field.entry)) }
     ensures adds { take (length out.old.items) out.new.items ≡ out.old.items }
@@ -51,7 +51,7 @@ fn add_field(out: &mut Vec<u8>, field: FieldRef) -> Result<(), AllocError>
     Ok(())
 }
 
-// Adds a type byte, a length and the bytes. It may stop in between.
+// Appends a type byte, a length and the bytes. An `Err` may have appended some.
 fn add_counted(out: &mut Vec<u8>, kind: u8, bytes: &[u8]) -> Result<(), AllocError>
     ensures ok { AddsBytes result out.old out.new
         (kind ∷ (varint (length bytes.now) ++ bytes.now)) }

@@ -1,4 +1,4 @@
-//! Fields that stand in bytes.
+//! Borrowed fields, to read a record without copying its texts and blobs.
 
 ghost use Rattle.std.specs.Prelude.{◌≡◌};
 ghost use Rattle.cs_model.specs.Rule.{is_defined};
@@ -6,7 +6,7 @@ ghost use Rattle.cs_model.specs.Seen.{field_seen};
 
 use crate::value::{Field, Value};
 
-/// A field where it stands, for whoever reads a record without a copy of its texts.
+/// A field of a record, borrowed.
 #[derive(Clone, Copy, Debug, PartialEq, Eq)]
 pub enum FieldRef<'a> {
     /// No value.
@@ -31,7 +31,7 @@ impl FieldRef<'_> {
 }
 
 impl Field {
-    /// The field where it stands.
+    /// Borrows the field.
     pub fn as_ref(&self) -> FieldRef<'_>
         ensures { field_seen result ≡ self.now }
     {

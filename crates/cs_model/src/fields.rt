@@ -1,5 +1,5 @@
-//! The fields that bytes say, one after another. They are read inline: there is one for each column
-//! of each change, and a call costs more than most fields.
+//! An iterator over the fields that bytes encode. Its functions are inlined, because a call costs
+//! more than most fields and each column of each change has one.
 
 ghost use Rattle.std.specs.Prelude.{◌≡◌, ◌∷◌, [], take, drop, MatchOption};
 ghost use Rattle.cs_model.specs.Packed.{counted_in, typed_in, unpacked};
@@ -10,8 +10,8 @@ use crate::varint::varint_first;
 use std::iter::Iterator;
 use std::marker::Model;
 
-/// What is left of bytes, for whoever goes over a record's fields. Contracts see the list of fields
-/// that the bytes say, and any bytes say some.
+/// An iterator over a record's fields. Contracts see the list of remaining fields; any bytes decode
+/// to some list.
 #[derive(Drop)]
 pub struct Fields<'a> {
     rest: &'a [u8],
@@ -55,7 +55,7 @@ impl<'a> Iterator for Fields<'a> {
     }
 }
 
-// a length and that many bytes, and the bytes behind them
+// a length's number of bytes, and the bytes after them
 #[inline(always)]
 fn counted_of(bytes: &[u8]) -> (&[u8], &[u8])
     ensures bytes { result.0.now ≡ (counted_in bytes.now).0 }
@@ -70,7 +70,7 @@ fn counted_of(bytes: &[u8]) -> (&[u8], &[u8])
     long_counted_of(bytes)
 }
 
-// the same, for a length of any number of bytes
+// the same for a length of any number of bytes
 #[tactic(auto, unfolding(crate::specs::Packed::counted_in))]
 fn long_counted_of(bytes: &[u8]) -> (&[u8], &[u8])
     ensures bytes { result.0.now ≡ (counted_in bytes.now).0 }
@@ -82,7 +82,7 @@ fn long_counted_of(bytes: &[u8]) -> (&[u8], &[u8])
     so_many(len, &bytes[read..])
 }
 
-// so many bytes, or as many as there are, and the bytes behind them
+// the first `len` bytes, or all if there are fewer, and the bytes after them
 #[inline(always)]
 fn so_many(len: u64, bytes: &[u8]) -> (&[u8], &[u8])
     ensures front { result.0.now ≡ take len bytes.now }
@@ -94,7 +94,7 @@ fn so_many(len: u64, bytes: &[u8]) -> (&[u8], &[u8])
     bytes.split_at(len as usize)
 }
 
-// a number in eight bytes, or NULL where there are fewer, and the bytes behind it
+// an eight-byte number, or NULL if there are fewer bytes, and the bytes after it
 #[tactic(auto, unfolding(crate::specs::Packed::typed_in))]
 #[inline(always)]
 fn integer_of(rest: &[u8]) -> (FieldRef, &[u8])
@@ -111,7 +111,7 @@ fn integer_of(rest: &[u8]) -> (FieldRef, &[u8])
     (FieldRef::Integer(number), after)
 }
 
-/// The field behind its type byte, and the bytes behind it.
+/// The field after its type byte, and the bytes after it.
 #[tactic(auto, unfolding(crate::specs::Packed::typed_in))]
 #[inline(always)]
 pub fn typed_of(byte: u8, rest: &[u8]) -> (FieldRef, &[u8])
@@ -133,7 +133,7 @@ pub fn typed_of(byte: u8, rest: &[u8]) -> (FieldRef, &[u8])
     }
 }
 
-// the first of the fields that bytes say, and the bytes behind it
+// the first field that `bytes` encodes, and the bytes after it
 #[inline(always)]
 fn first_of(bytes: &[u8]) -> Option<(FieldRef, &[u8])>
     ensures { MatchOption result (unpacked bytes.now ≡ [])

@@ -1,5 +1,5 @@
-//! Laws: public functions whose contracts say what holds of the definitions. Who needs one calls
-//! it. Those without operands do nothing.
+//! Laws: public functions whose contracts state what holds of the definitions; a caller that needs
+//! one calls it. Those without parameters do nothing.
 
 ghost use Rattle.std.specs.Prelude.{◌≡◌, ℕ, ◌^◌, ◌<◌, ◌≤◌, List, length, ◌++◌};
 ghost use Rattle.std.specs.List.{AllByRecursion};
@@ -17,50 +17,49 @@ ghost use Rattle.cs_model.specs.Varint.{IsVarint, varint};
 use crate::row_key::RowKey;
 use std::cmp::Ordering;
 
-/// What `varint_push` writes spells its number.
+/// `varint_push` encodes its number.
 pub fn varint_spelled()
     ensures { (n : ℕ) → n < 2 ^ 64 → IsVarint (varint n) n }
 {}
 
-/// No spelling of a number is shorter than the one that `varint_push` writes.
+/// No encoding of a number is shorter than the one that `varint_push` writes.
 pub fn varint_shortest()
     ensures { (bytes : List ℕ) (n : ℕ) → AreBytes bytes → IsVarint bytes n
         → length (varint n) ≤ length bytes }
 {}
 
-/// Which of two keys comes first, as `cmp` says: by the table, then by the bytes, which are
-/// unsigned.
+/// Compares two keys as `cmp` does: by the table, then by the bytes, as unsigned.
 pub fn order_of_keys(first: &RowKey, second: &RowKey) -> Ordering
     ensures { result ≡ row_key_cmp first.now second.now }
 {
     first.cmp(second)
 }
 
-/// The bytes of fields that fit say these fields.
+/// Decoding the bytes of fields that fit returns these fields.
 pub fn fields_again()
     ensures { (fields : List Field) → AllByRecursion Fits fields
         → unpacked (packed fields) ≡ fields }
 {}
 
-/// Bytes that begin with those of fields that fit say these fields first.
+/// Decoding bytes that begin with those of fields that fit returns these fields first.
 pub fn fields_first()
     ensures { (fields : List Field) (rest : List ℕ) → AllByRecursion Fits fields
         → unpacked (packed fields ++ rest) ≡ fields ++ unpacked rest }
 {}
 
-/// The bytes of changes that fit say these changes.
+/// Decoding the bytes of changes that fit returns these changes.
 pub fn packed_again()
     ensures { (n : ℕ) (changes : List Change) → AllByRecursion (Fit n) changes
         → unpacked_changes n (changes_bytes changes) ≡ changes }
 {}
 
-/// A text of changes says the changes that it spells, whichever way their lengths are spelled.
+/// Decoding a text returns the changes that it encodes, however it encodes their lengths.
 pub fn spelled_is_said()
     ensures { (n : ℕ) (text : List ℕ) (changes : List Change) → SpellsEach SpellsChange text changes
         → AllByRecursion (Fit n) changes → unpacked_changes n text ≡ changes }
 {}
 
-/// A change of a table has as many columns as the table, and canonical bytes.
+/// A change that fits a table has one field per column, and canonical bytes.
 pub fn changes_fit()
     ensures { (shape : Shape) (change : Change) → IsChange shape change
         → Fit (length shape.flags) change }

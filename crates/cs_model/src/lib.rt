@@ -1,6 +1,6 @@
-//! Changesets as values: shapes, records, changes, keys and the schema they are held against, and
-//! the small spellings that they are made of. The definitions that every other crate cites stand
-//! here: which changesets there are, and which texts spell one.
+//! The data model of changesets: shapes, records, changes, row keys, the schema that admits them,
+//! and the varints and fields that they are encoded with. Its definitions say which changesets
+//! exist and which texts encode one; every other crate cites them.
 #![tactic(auto)]
 
 mod canonical;

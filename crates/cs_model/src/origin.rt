@@ -1,4 +1,4 @@
-//! Where an entry of the sequence comes from.
+//! The origin of a sequence entry: what a publisher was fed, or the withdrawal of an entry.
 
 /// Why an entry was sent.
 #[derive(Clone, Copy, Debug, PartialEq, Eq)]

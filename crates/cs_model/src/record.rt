@@ -1,4 +1,4 @@
-//! Records in memory of their own.
+//! An owned record, in canonical form in one buffer.
 
 ghost use Rattle.std.specs.Prelude.{◌≡◌, ◌++◌, ◌∷◌, [], IfOk, OnOk, OnErr, ◌↔◌, IsTrue};
 ghost use Rattle.std.specs.List.{AllByRecursion};
@@ -18,8 +18,7 @@ use crate::value::Field;
 use std::alloc::{AllocError, Global};
 use std::marker::Model;
 
-/// A record: one field per column, as canonical bytes in one piece of memory. Contracts see the
-/// list of fields.
+/// A record: one field per column. Contracts see the list of fields.
 #[derive(Debug, Drop)]
 pub struct Record {
     bytes: Vec<u8>,
@@ -38,7 +37,7 @@ impl Model for Record {
 }
 
 impl Record {
-    /// No fields, and no memory yet.
+    /// A record without fields. Does not allocate.
     pub fn new(alloc: Global) -> Record
         ensures { result ≡ [] }
     {
@@ -47,7 +46,7 @@ impl Record {
         }
     }
 
-    /// The fields of a record that stands in bytes, in one new piece of memory.
+    /// Copies a borrowed record into a new buffer.
     pub fn copy_of(alloc: Global, from: &RecordRef) -> Result<Record, AllocError>
         ensures { IfOk result (λ copy. copy ≡ from.now) }
     {
@@ -67,7 +66,7 @@ impl Record {
         Ok(record)
     }
 
-    /// One field more, behind the others. An `Err` leaves the record as it was.
+    /// Appends a field. An `Err` does not change the record.
     pub fn push(&mut self, field: FieldRef) -> Result<(), AllocError>
         ensures ok { OnOk result (self.new ≡ self.old ++ field_seen field.entry ∷ []) }
         ensures err { OnErr result (self.new ≡ self.old) }
@@ -76,7 +75,7 @@ impl Record {
         Ok(())
     }
 
-    /// Its fields, in column order.
+    /// Returns its fields, in column order.
     #[inline(always)]
     pub fn fields(&self) -> Fields<'_>
         ensures { result ≡ self.now }
@@ -84,7 +83,7 @@ impl Record {
         Fields::of(&self.bytes)
     }
 
-    /// Its canonical bytes.
+    /// Returns its canonical bytes.
     pub fn bytes(&self) -> &[u8]
         ensures bytes { result.now ≡ packed self.now }
         ensures fit { AllByRecursion Fits self.now }
@@ -101,7 +100,7 @@ impl CopyIn for Record {
     }
 }
 
-/// Two records are equal when their bytes are, and so when their fields are.
+/// Two records are equal if their bytes are. Then their fields are equal, too.
 impl PartialEq for Record {
     ghost eq = { λ a b. same_bytes (packed a) (packed b) };
 
@@ -116,8 +115,8 @@ impl Eq for Record {
     ghost laws = { on_equiv packed nat_list_eq_equiv };
 }
 
-/// Whether two records have the same fields. This is what `==` answers, with a contract that says
-/// so of the fields.
+/// Whether two records have the same fields. Returns what `==` does; the contract speaks of the
+/// fields.
 pub fn same_fields(first: &Record, second: &Record) -> bool
     ensures { IsTrue result ↔ (first.now ≡ second.now) }
 {

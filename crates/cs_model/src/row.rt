@@ -1,4 +1,4 @@
-//! Rows in memory of their own.
+//! An owned row of a table, in canonical form in one buffer.
 
 ghost use Rattle.std.specs.Prelude.{◌≡◌, ◌++◌, ◌∷◌, [], IfOk, OnOk, OnErr, ◌↔◌, IsTrue, true};
 ghost use Rattle.std.specs.List.{AllByRecursion, list_all};
@@ -19,8 +19,7 @@ use crate::fields::Fields;
 use std::alloc::{AllocError, Global};
 use std::marker::Model;
 
-/// A row: one value per column, as canonical bytes in one piece of memory. Contracts see the list
-/// of values.
+/// A row: one value per column. Contracts see the list of values.
 #[derive(Debug, Drop)]
 pub struct Row {
     bytes: Vec<u8>,
@@ -39,7 +38,7 @@ impl Model for Row {
 }
 
 impl Row {
-    /// A row without values, with room for so many bytes.
+    /// A row without values, with room for `bytes` bytes.
     pub fn with_capacity(alloc: Global, bytes: usize) -> Result<Row, AllocError>
         ensures { IfOk result (λ row. row ≡ []) }
     {
@@ -48,7 +47,7 @@ impl Row {
         })
     }
 
-    /// The row that a record says whose fields all have a value, in one copy.
+    /// Copies a record into a row, in one copy. Each of its fields has a value.
     pub fn copy_of(alloc: Global, from: &RecordRef) -> Result<Row, AllocError>
         requires { list_all is_defined from.now ≡ true }
         ensures { IfOk result (λ row. row ≡ values_of from.now) }
@@ -58,8 +57,7 @@ impl Row {
         })
     }
 
-    /// The field's value behind the others, or nothing where it has none. An `Err` leaves the row
-    /// as it was.
+    /// Appends the field's value, or nothing if it has none. An `Err` does not change the row.
     pub fn push(&mut self, field: FieldRef) -> Result<(), AllocError>
         ensures ok { OnOk result (self.new ≡ self.old ++ values_of (field_seen field.entry ∷ [])) }
         ensures err { OnErr result (self.new ≡ self.old) }
@@ -71,14 +69,14 @@ impl Row {
         Ok(())
     }
 
-    /// Gives memory back that it has beyond its bytes.
+    /// Shrinks the buffer to the row's bytes.
     pub fn shrink_to_fit(&mut self)
         ensures { self.new ≡ self.old }
     {
         self.bytes.shrink_to_fit();
     }
 
-    /// Its values, in column order.
+    /// Returns its values, in column order.
     #[inline(always)]
     pub fn fields(&self) -> Fields<'_>
         ensures { result ≡ row_fields self.now }
@@ -86,7 +84,7 @@ impl Row {
         Fields::of(&self.bytes)
     }
 
-    /// Its canonical bytes, those of one value after another.
+    /// Returns its canonical bytes, one value after another.
     #[inline(always)]
     pub fn bytes(&self) -> &[u8]
         ensures bytes { result.now ≡ packed (row_fields self.now) }
@@ -104,7 +102,7 @@ impl CopyIn for Row {
     }
 }
 
-/// Two rows are equal when their bytes are, and so when their values are.
+/// Two rows are equal if their bytes are. Then their values are equal, too.
 impl PartialEq for Row {
     ghost eq = { λ a b. same_bytes (packed (row_fields a)) (packed (row_fields b)) };
 
@@ -120,8 +118,8 @@ impl Eq for Row {
     ghost laws = { on_equiv (λ row. packed (row_fields row)) nat_list_eq_equiv };
 }
 
-/// Whether two rows have the same values. This is what `==` answers, with a contract that says so
-/// of the values.
+/// Whether two rows have the same values. Returns what `==` does; the contract speaks of the
+/// values.
 pub fn same_values(first: &Row, second: &Row) -> bool
     ensures { IsTrue result ↔ (first.now ≡ second.now) }
 {

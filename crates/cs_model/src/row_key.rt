@@ -1,4 +1,4 @@
-//! The key of a row.
+//! The key that identifies a row: its table and its primary key values.
 
 ghost use Rattle.std.specs.Prelude.{◌≡◌, IfOk};
 ghost use Rattle.cs_model.specs.KeyBytes.{key_bytes, key_record};
@@ -10,12 +10,12 @@ use crate::seq::{Octets, Seq};
 use crate::shape::Shape;
 use std::alloc::{AllocError, Global};
 
-/// Which row of which table. Keys go by the table, then by their bytes as unsigned bytes.
+/// The table and the primary key of a row. Keys compare by table, then by bytes, as unsigned.
 #[derive(Debug, Drop, PartialEq, Eq, PartialOrd, Ord, Hash)]
 pub struct RowKey {
-    /// The table's place in the schema, from 0.
+    /// The table's index in the schema, from 0.
     pub table: usize,
-    /// The key columns' values as canonical bytes, in column order.
+    /// The key columns' values in canonical form, in column order.
     pub bytes: Octets,
 }
 
@@ -23,8 +23,8 @@ impl RowKey {
     ghost use Rattle.cs_model.specs.Key.{key_of};
     ghost use Rattle.cs_model.specs.Seen.{change_seen};
 
-    /// The key of the row that a change is about: the old record's, or the new one's of an INSERT.
-    /// `table` is the table's place in the schema, and `shape` its shape.
+    /// The key of the row that a change is about. It comes from the old record, or from the new one
+    /// of an INSERT. `table` is the table's index in the schema, and `shape` is its shape.
     pub fn of(
         alloc: Global,
         table: usize,
@@ -38,7 +38,7 @@ impl RowKey {
     }
 }
 
-// the record that a change finds its row by
+// the record that identifies a change's row
 fn record_of<'a>(change: &'a ChangeRef) -> &'a RecordRef<'a>
     ensures { result.now ≡ key_record change.now.op change.now.before change.now.after }
 {

@@ -1,4 +1,4 @@
-//! The tables that a broker serves.
+//! The schema: the tables that a broker serves, and the check of a changeset against them.
 
 ghost use Rattle.std.specs.Prelude.{◌≡◌, ◌++◌, ◌∷◌, [], ◌<◌, IfSome, Some, None, IfOk, IfErr, OnOk};
 ghost use Rattle.std.specs.Prelude.{OnErr, IsOk, length, MatchResult, nat_lt};
@@ -16,45 +16,44 @@ use std::alloc::{AllocError, AllocFailed, Global};
 use std::marker::Model;
 use thiserror::Error;
 
-/// Why `Schema::new` and `Schema::add` take no table, which leaves all as it was. The place is
-/// counted from 0.
+/// The error of `Schema::new`, and of `Schema::add` in `SchemaError`. The call did not change the
+/// tables. The number is the table's index, from 0.
 #[derive(Clone, Copy, Debug, PartialEq, Eq, Error)]
 pub enum TableFault {
-    /// An earlier table has the name of the table at this place.
+    /// An earlier table has the same name.
     #[error("table {0} has the name of an earlier one")]
     DuplicateTable(usize),
-    /// The table at this place has no column, more than 2,000, no key column or a bad name, or
-    /// 1,024 tables stand before it.
+    /// The table has no column, more than 2,000, no key column or an invalid name. Or 1,024 tables
+    /// precede it.
     #[error("table {0} has a shape that no table may have, or is one too many")]
     BadShape(usize),
 }
 
-/// Why `Schema::admits` refuses a changeset, which it leaves as it is. The place is counted from 0.
+/// The error of `Schema::admits`, which changes nothing. The number is the section's index, from 0.
 #[derive(Clone, Copy, Debug, PartialEq, Eq, Error)]
 pub enum SectionFault {
-    /// No table has the name of the section at this place.
+    /// No table has the section's name.
     #[error("section {0} is of an unknown table")]
     UnknownTable(usize),
-    /// The table of that name has another column count or other key bytes than the section at this
-    /// place.
+    /// The table of that name has another number of columns or other key flags than the section.
     #[error("section {0} has another shape than its table")]
     ShapeDiffers(usize),
 }
 
-/// Tables that are no schema, with the first fault.
+/// The error of `Schema::new`: the first fault, and the tables.
 #[derive(Debug, Drop)]
 pub struct RefusedTables {
     pub fault: TableFault,
     pub tables: Vec<Shape>,
 }
 
-/// Why `Schema::add` adds nothing, which leaves the schema as it was.
+/// The error of `Schema::add`. The call did not change the schema.
 #[derive(Debug, Drop, Error)]
 pub enum SchemaError {
     /// The table is refused.
     #[error(transparent)]
     Fault(TableFault),
-    /// Memory ran out.
+    /// Out of memory.
     #[error("out of memory")]
     Memory,
 }
@@ -67,8 +66,8 @@ impl<T: Drop> From<AllocFailed<T>> for SchemaError {
     }
 }
 
-/// The tables that a broker serves, at most 1,024, in order and with different names. A table is
-/// named by its place, from 0.
+/// The tables that a broker serves: at most 1,024, in order, with distinct names. A table is
+/// identified by its index, from 0.
 #[derive(Debug, Drop)]
 pub struct Schema {
     tables: Vec<Shape>,
@@ -96,9 +95,9 @@ impl Schema {
         }
     }
 
-    /// The schema of these tables, without a copy. Refuses the first table whose name an earlier
-    /// one has (`DuplicateTable`) or whose shape no table may have (`BadShape`), and hands all of
-    /// them back.
+    /// Makes a schema of these tables, without a copy. Refuses the first table whose name an
+    /// earlier one has (`DuplicateTable`), or whose shape is invalid (`BadShape`). Returns all
+    /// tables with the error.
     pub fn new(tables: Vec<Shape>) -> Result<Schema, RefusedTables>
         ensures ok { IfOk result (λ schema. (schema ≡ tables.items)
             × (tables_refusal [] tables.items ≡ None)) }
@@ -111,7 +110,8 @@ impl Schema {
         }
     }
 
-    /// Adds a table at the end. Refuses as `new` does; an `Err` leaves the schema as it was.
+    /// Appends a table. Refuses it as `new` does, or returns `Memory`. An `Err` does not change the
+    /// schema.
     pub fn add(&mut self, table: Shape) -> Result<(), SchemaError>
         ensures ok { OnOk result ((self.new ≡ self.old ++ table ∷ [])
             × (table_refusal self.old table ≡ None)) }
@@ -131,15 +131,15 @@ impl Schema {
         &self.tables
     }
 
-    /// The place of the table with this name and these key bytes, where there is one.
+    /// The index of the table with this name and these key flags, if there is one.
     pub fn table(&self, shape: &Shape) -> Option<usize>
         ensures { result ≡ table_index self.now shape.now }
     {
         self.tables.iter().position(|table| table == shape)
     }
 
-    /// Whether each section of a changeset has the shape of a table. Refuses the first that hasn't,
-    /// as `UnknownTable` or `ShapeDiffers`.
+    /// Checks that each section of a changeset has the shape of a table. Otherwise refuses the
+    /// first section that doesn't, as `UnknownTable` or `ShapeDiffers`.
     pub fn admits(&self, changeset: &Changeset) -> Result<(), SectionFault>
         ensures ok { OnOk result (refusal_of self.now changeset.now ≡ None) }
         ensures refused { IfErr result (λ fault. refusal_of self.now changeset.now ≡ Some fault) }
@@ -214,7 +214,7 @@ fn name_stands(name: &[u8]) -> bool
     !name.is_empty() && name.len() <= 1024 && all_nonzero(name)
 }
 
-// why a table can't stand behind these
+// why a table can't follow these
 fn refusal(earlier: &[Shape], table: &Shape) -> Option<TableFault>
     ensures { result ≡ table_refusal earlier.now table.now }
 {

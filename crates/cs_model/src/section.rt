@@ -1,4 +1,4 @@
-//! Sections.
+//! A section of a changeset: a table header and the changes of that table.
 
 ghost use Rattle.std.specs.Prelude.{◌≡◌, [], ◌↔◌, IsTrue, length};
 ghost use Rattle.std.specs.Cmp.{on_per, on_equiv, partial_equiv_from_equiv};
@@ -12,8 +12,8 @@ use crate::shape::Shape;
 use std::alloc::{AllocError, Global};
 use std::marker::Model;
 
-/// The changes of one table that stand together in a changeset, behind one header (the format of
-/// changesets in `sqlite3session.c`). Contracts see the shape and the list of changes.
+/// Consecutive changes of one table in a changeset, after one header (the changeset format in
+/// `sqlite3session.c`). Contracts see the shape and the list of changes.
 #[derive(Debug, Drop)]
 pub struct Section {
     shape: Shape,
@@ -34,8 +34,8 @@ impl Model for Section {
 }
 
 impl Section {
-    /// The section of this table with these changes, which have so many columns as the table.
-    /// Nothing is copied.
+    /// Makes a section of a table and its changes, which have the table's number of columns. Copies
+    /// nothing.
     pub fn new(shape: Shape, changes: Changes) -> Section
         requires { changes.0 ≡ length shape.flags }
         ensures { result ≡ record { shape = shape; changes = changes.1 } }
@@ -50,15 +50,15 @@ impl Section {
         &self.shape
     }
 
-    /// Its changes, in order.
+    /// The changes, in order.
     pub fn changes(&self) -> &Changes
         ensures { result.now ≡ (length self.now.shape.flags, self.now.changes) }
     {
         &self.changes
     }
 
-    /// Takes the changes out, as their canonical bytes and how many they are, in one move: nothing
-    /// is copied. The section is left with none.
+    /// Moves the changes out, as canonical bytes, and returns them with their number. Leaves the
+    /// section without changes and copies nothing.
     pub fn take_bytes(&mut self, alloc: Global) -> (Vec<u8>, usize)
         ensures left { self.new ≡ record self.old { changes = [] } }
         ensures canonical { AreCanonical (length self.old.shape.flags) result.0.items }
@@ -69,8 +69,8 @@ impl Section {
         self.changes.take_bytes(alloc)
     }
 
-    /// Gives canonical bytes of so many changes to a section that has none, in one move: nothing is
-    /// copied, nor looked at.
+    /// Moves canonical bytes of `changes` changes into a section that has none. Neither copies nor
+    /// reads them.
     pub fn put_bytes(&mut self, bytes: Vec<u8>, changes: usize)
         requires none { self.old.changes ≡ [] }
         requires canonical { AreCanonical (length self.old.shape.flags) bytes.items }
@@ -83,7 +83,7 @@ impl Section {
         self.changes.put_bytes(bytes, changes);
     }
 
-    /// The table and its changes, without a copy.
+    /// Returns the table and the changes, without a copy.
     pub fn into_parts(self) -> (Shape, Changes)
         ensures { result ≡ (self.shape, (length self.shape.flags, self.changes)) }
     {
@@ -100,8 +100,8 @@ impl CopyIn for Section {
     }
 }
 
-/// Two sections are equal when their tables are and the bytes of their changes are, and so when the
-/// changes are.
+/// Two sections are equal if their tables and the bytes of their changes are. Then the changes are
+/// equal, too.
 impl PartialEq for Section {
     ghost eq = { λ a b. pointwise same_bytes (section_parts a) (section_parts b) };
 
@@ -116,8 +116,8 @@ impl Eq for Section {
     ghost laws = { on_equiv section_parts (lists_equiv nat_list_eq_equiv) };
 }
 
-/// Whether two sections are of the same table and have the same changes. This is what `==` answers,
-/// with a contract that says so of the changes.
+/// Whether two sections have the same table and the same changes. Returns what `==` does; the
+/// contract speaks of the changes.
 pub fn same_sections(first: &Section, second: &Section) -> bool
     ensures { IsTrue result ↔ (first.now ≡ second.now) }
 {

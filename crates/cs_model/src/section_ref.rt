@@ -1,4 +1,4 @@
-//! Sections where they stand in a changeset, for whoever reads one.
+//! Borrowed sections, and an iterator over the sections of a changeset.
 
 ghost use Rattle.std.specs.Prelude.{◌≡◌, length, ◌==◌};
 
@@ -8,7 +8,7 @@ use crate::shape::Shape;
 use std::iter::Iterator;
 use std::marker::Model;
 
-/// A section where it stands in a changeset. Contracts see the section.
+/// A section of a changeset, borrowed. Contracts see the section.
 #[derive(Drop)]
 pub struct SectionRef<'a> {
     section: &'a Section,
@@ -25,42 +25,42 @@ impl<'a> Model for SectionRef<'a> {
 }
 
 impl<'a> SectionRef<'a> {
-    /// The name of its table.
+    /// The name of the table.
     pub fn name(&self) -> &'a [u8]
         ensures { result.now ≡ self.now.shape.name }
     {
         &self.section.shape().name
     }
 
-    /// The key bytes of its table, one for each column.
+    /// The key flags of the table, one byte a column.
     pub fn flags(&self) -> &'a [u8]
         ensures { result.now ≡ self.now.shape.flags }
     {
         &self.section.shape().flags
     }
 
-    /// Its table.
+    /// The table.
     pub fn shape(&self) -> &'a Shape
         ensures { result.now ≡ self.now.shape }
     {
         self.section.shape()
     }
 
-    /// Its changes, in order.
+    /// Returns an iterator over the changes, in order.
     pub fn changes(&self) -> ChangeRefs<'a>
         ensures { result ≡ self.now.changes }
     {
         self.section.changes().iter()
     }
 
-    /// How many changes it has.
+    /// The number of changes.
     pub fn len(&self) -> usize
         ensures { result ≡ length self.now.changes }
     {
         self.section.changes().len()
     }
 
-    /// Whether it has no changes.
+    /// Returns `true` if there are no changes.
     pub fn is_empty(&self) -> bool
         ensures { result ≡ (length self.now.changes == 0) }
     {
@@ -68,7 +68,7 @@ impl<'a> SectionRef<'a> {
     }
 }
 
-/// The sections of a changeset that are left to read. Contracts see the list of sections.
+/// An iterator over the sections of a changeset. Contracts see the list of remaining sections.
 #[derive(Drop)]
 pub struct SectionRefs<'a> {
     rest: &'a [Section],
@@ -84,7 +84,7 @@ impl<'a> Model for SectionRefs<'a> {
 }
 
 impl<'a> SectionRefs<'a> {
-    /// These sections, from the first on.
+    /// An iterator over these sections.
     pub(crate) fn of(sections: &'a [Section]) -> SectionRefs<'a>
         ensures { result ≡ sections.now }
     {

@@ -1,4 +1,4 @@
-//! A list that contracts see as a list.
+//! `Seq`: a `Vec` that contracts see as a plain list.
 
 ghost use Rattle.std.specs.Prelude.{◌≡◌, ◌++◌, IfOk, OnOk, OnErr, length, ◌==◌};
 ghost use Rattle.std.specs.Cmp.{on_equiv, on_total, on_po, on_per};
@@ -14,13 +14,13 @@ use std::hash::{Hash, Hasher};
 use std::marker::Model;
 use std::ops::DerefSlice;
 
-/// A list of values, made from a `Vec` and given back as one, both without taking memory.
+/// A list of values. Conversions from and to a `Vec` do not allocate.
 #[derive(Debug, Drop)]
 pub struct Seq<T> {
     items: Vec<T>,
 }
 
-/// A text or blob as its bytes.
+/// The bytes of a text or a blob.
 pub type Octets = Seq<u8>;
 
 impl<T> Model for Seq<T> {
@@ -32,14 +32,14 @@ impl<T> Model for Seq<T> {
 }
 
 impl<T> Seq<T> {
-    /// The same list, without a copy.
+    /// Makes a list of a `Vec`, without a copy.
     pub fn from_vec(items: Vec<T>) -> Seq<T>
         ensures { result ≡ items.items }
     {
         Seq { items }
     }
 
-    /// The same list, without a copy.
+    /// Returns the list as a `Vec`, without a copy.
     pub fn into_vec(self) -> Vec<T>
         ensures { result.items ≡ self }
     {
@@ -47,14 +47,14 @@ impl<T> Seq<T> {
         items
     }
 
-    /// How many values it has.
+    /// The number of values.
     pub fn len(&self) -> usize
         ensures { result ≡ length self.now }
     {
         self.items.as_slice().len()
     }
 
-    /// Whether it has none.
+    /// Returns `true` if there are no values.
     pub fn is_empty(&self) -> bool
         ensures { result ≡ (length self.now == 0) }
     {
@@ -63,8 +63,7 @@ impl<T> Seq<T> {
 }
 
 impl<T: Drop> Seq<T> {
-    /// Adds the values of another list at the end, without a copy of them. An `Err` leaves the list
-    /// as it was.
+    /// Moves the values of another list to the end. An `Err` does not change this list.
     pub fn append(&mut self, others: Seq<T>) -> Result<(), AllocError>
         ensures ok { OnOk result (self.new ≡ self.old ++ others) }
         ensures err { OnErr result (self.new ≡ self.old) }
@@ -82,7 +81,7 @@ impl<T: Copy> Seq<T> {
         Ok(Seq::from_vec(Vec::from_slice(alloc, values)?))
     }
 
-    /// Adds copies of values at the end. An `Err` leaves the list as it was.
+    /// Appends copies of these values. An `Err` does not change the list.
     pub fn extend_from_slice(&mut self, values: &[T]) -> Result<(), AllocError>
         ensures ok { OnOk result (self.new ≡ self.old ++ values.now) }
         ensures err { OnErr result (self.new ≡ self.old) }

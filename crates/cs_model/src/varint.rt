@@ -1,4 +1,4 @@
-//! Varints: the spelling of counts and lengths, one to nine bytes.
+//! Varints: reads and writes counts and lengths of one to nine bytes.
 
 ghost use Rattle.std.specs.Prelude.{◌≡◌, ℕ, ◌≤◌, ◌++◌, length, take, drop, OnErr, IfSome, Some};
 ghost use Rattle.cs_model.specs.Bytes.{AddsBytes};
@@ -7,8 +7,8 @@ ghost use Rattle.cs_model.specs.Packed.{read_from};
 
 use std::alloc::AllocError;
 
-/// Reads the varint that begins `bytes`: its value, and the number of bytes that it takes. Longer
-/// spellings than the shortest are read too. `None` where the bytes end before a varint does.
+/// Reads the varint that `bytes` begins with. Returns its value and its length in bytes. Accepts
+/// encodings longer than the shortest. Returns `None` if the bytes end inside the varint.
 pub fn varint_read(bytes: &[u8]) -> Option<(u64, usize)>
     ensures found { IfSome result (λ found. (found.1 ≤ length bytes.now)
         × IsVarint (take found.1 bytes.now) found.0) }
@@ -18,7 +18,7 @@ pub fn varint_read(bytes: &[u8]) -> Option<(u64, usize)>
     varint_first(bytes)
 }
 
-/// The same, said by what it reads.
+/// The same, with a contract about the definition's result.
 pub fn varint_first(bytes: &[u8]) -> Option<(u64, usize)>
     ensures reads { result ≡ read_from 8 0 0 bytes.now }
     ensures within { IfSome result (λ found. found.1 ≤ length bytes.now) }
@@ -27,7 +27,7 @@ pub fn varint_first(bytes: &[u8]) -> Option<(u64, usize)>
     let mut read: usize = 0;
     for &byte in bytes {
         if read == 8 {
-            // the ninth byte is the last, whatever it says, and has eight bits of the value
+            // the ninth byte is the last, whatever its value, and holds eight bits of the number
             return Some((256 * value + u64::from(byte), 9));
         }
         if byte < 128 {
@@ -39,7 +39,7 @@ pub fn varint_first(bytes: &[u8]) -> Option<(u64, usize)>
     None
 }
 
-/// Adds the shortest varint of `value` to the end of `out`. An `Err` leaves `out` as it was.
+/// Appends the shortest varint of `value` to `out`. An `Err` does not change `out`.
 pub fn varint_push(out: &mut Vec<u8>, value: u64) -> Result<(), AllocError>
     ensures ok { AddsBytes result out.old out.new (varint value) }
     ensures err { OnErr result (out.new.items ≡ out.old.items) }
@@ -49,12 +49,13 @@ pub fn varint_push(out: &mut Vec<u8>, value: u64) -> Result<(), AllocError>
         out.push(value as u8)?;
         return Ok(());
     }
-    // added in one piece: where memory runs out nothing of it is added
+    // appended in one call, so that an `Err` appends none of it
     let (text, start) = varint_of(value);
     out.extend_from_slice(&text[start..])
 }
 
-/// The bytes behind the shortest varint of `value`, where `bytes` begin with it.
+/// Returns the bytes after the shortest encoding of `value`, or `None` if `bytes` doesn't begin
+/// with it.
 pub fn varint_strip(bytes: &[u8], value: u64) -> Option<&[u8]>
     ensures { IfSome result (λ rest. bytes.now ≡ varint value ++ rest.now) }
 {
@@ -62,12 +63,12 @@ pub fn varint_strip(bytes: &[u8], value: u64) -> Option<&[u8]>
     bytes.strip_prefix(&text[start..])
 }
 
-/// The shortest varint of a number: the bytes from this place on.
+/// Returns a buffer and an index. The bytes from the index on are the shortest varint of `value`.
 pub fn varint_of(value: u64) -> ([u8; 9], usize)
     ensures place { result.1 ≤ 9 }
     ensures text { drop result.1 result.0 ≡ varint value }
 {
-    // from 2^56 on all nine bytes are taken, and the last of them has eight bits of the value
+    // from 2^56 on all nine bytes are used, and the last one holds eight bits of the number
     let whole = value >= 1 << 56;
     let (mut rest, last) = if whole {
         (value / 256, value % 256)

@@ -1,10 +1,10 @@
--- Reading is spelling: what is read was spelled so, and what is spelled so is read.
+-- Reading is exact: it returns what the text encodes, and reads every text that encodes a changeset.
 pub mod reading
--- What reading refuses is the text's fault.
+-- The error of reading is the text's fault.
 pub mod refusing
--- However a text is cut into pieces, the answer is the same.
+-- The way a text is cut into pieces does not change the result.
 pub mod joining
--- What the parser that is fed keeps, and how far it scanned the incomplete item.
+-- What the streaming parser keeps, and how far it scanned the incomplete item.
 pub mod feeding
--- Changes counted, skipped and made canonical where they stand.
+-- Counting changes, scanning them in place, and making them canonical in place.
 pub mod counting

@@ -1,4 +1,4 @@
--- Changes counted, skipped and made canonical where they stand.
+-- Counting changes, scanning them in place, and making them canonical in place.
 pub mod Skims
 pub mod Counts
 pub mod CanonicalLaws

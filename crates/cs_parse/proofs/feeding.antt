@@ -1,4 +1,4 @@
--- What the parser that is fed keeps, and how far it scanned the incomplete item.
+-- What the streaming parser keeps, and how far it scanned the incomplete item.
 pub mod FrontLaws
 pub mod WholeLaws
 pub mod FrontParts

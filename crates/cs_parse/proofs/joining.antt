@@ -1,4 +1,4 @@
--- However a text is cut into pieces, the answer is the same.
+-- The way a text is cut into pieces does not change the result.
 pub mod SectionLists
 pub mod PartLaws
 pub mod PartMore

@@ -1,4 +1,4 @@
--- Reading is spelling: what is read was spelled so, and what is spelled so is read.
+-- Reading is exact: it returns what the text encodes, and reads every text that encodes a changeset.
 pub mod Steps
 pub mod Loops
 pub mod Letters

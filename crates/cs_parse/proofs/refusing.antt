@@ -1,4 +1,4 @@
--- What reading refuses is the text's fault.
+-- The error of reading is the text's fault.
 pub mod Exact
 pub mod ExactNumbers
 pub mod ExactValues

@@ -1,4 +1,4 @@
--- What `parse` answers, against what a text spells or what reading it gives.
+-- The result of `parse`, compared with what a text encodes and with what reading it gives.
 use Rattle.std.specs.Prelude.{◌≡◌, ℕ, List, Result, Ok, Err, IsOk}
 use Rattle.std.specs.Borrow.{Bor}
 use Rattle.cs_model.specs.Section.{Section}
@@ -8,43 +8,43 @@ use Rattle.cs_parse.specs.declared.fault.ParseError.{ParseError}
 use Rattle.cs_parse.specs.declared.fault.ParseError.TheVariants.{Fault, Memory}
 use Rattle.cs_parse.specs.Fault.{IsFault}
 
--- the answer is this changeset, unless memory ran out
+-- the result is this changeset, or memory ran out
 abbrev pub IsRead : Result (List Section) ParseError → List Section → Type 0
 IsRead (Ok found) changeset = found ≡ changeset
 IsRead (Err (Fault fault)) changeset = ⊥
 IsRead (Err Memory) changeset = Unit {0}
 
--- The answer is this one. Memory runs out only where this one is a changeset.
+-- The result is this one, or memory ran out. Memory runs out only if this one is a changeset.
 abbrev pub ParseAnswers : Result (List Section) ParseError → Result (List Section) ParseFault
     → Type 0
 ParseAnswers (Ok found) answer = answer ≡ Ok found
 ParseAnswers (Err (Fault fault)) answer = answer ≡ Err fault
 ParseAnswers (Err Memory) answer = IsOk answer
 
--- the text spells a changeset
+-- the text encodes a changeset
 abbrev pub IsSpelled : List ℕ → Type 0
 IsSpelled text = (changeset : List Section) × Spells text changeset
 
--- the error tells the text's fault, or that memory ran out for the changeset that it spells
+-- the error reports the text's fault, or that memory ran out and the text encodes a changeset
 abbrev pub ReportsFault : ParseError → List ℕ → Type 0
 ReportsFault (Fault fault) text = IsFault text fault
 ReportsFault Memory text = IsSpelled text
 
--- the text spells one changeset, and has no fault
+-- the text encodes one changeset, and has no fault
 pub record HasChangeset (text : List ℕ) : Type 0 where
   pub sections : List Section
   pub spelled : Spells text sections
   pub only : (others : List Section) → Spells text others → others ≡ sections
   pub no_fault : (fault : ParseFault) → IsFault text fault → ⊥
 
--- the text has one fault, and spells no changeset
+-- the text has one fault, and encodes no changeset
 pub record HasFault (text : List ℕ) : Type 0 where
   pub fault : ParseFault
   pub is_fault : IsFault text fault
   pub only : (others : ParseFault) → IsFault text others → others ≡ fault
   pub spells_none : (sections : List Section) → Spells text sections → ⊥
 
--- the answer is this one, and shows the changeset where it stands
+-- the result is this one, and borrows the changeset
 abbrev pub Shows : Result (Bor (List Section)) ParseFault → Result (List Section) ParseFault
     → Type 0
 Shows (Ok found) answer = answer ≡ Ok found.now

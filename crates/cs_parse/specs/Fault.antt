@@ -1,4 +1,4 @@
--- The fault of a text.
+-- The fault of a text: its place and its kind.
 use Rattle.std.specs.Prelude.{◌≡◌, ℕ, suc, ◌<◌, ◌≤◌, ◌⊎◌, List, ◌++◌, length, take, slice_get, Some}
 use Rattle.cs_model.specs.Bytes.{AreBytes}
 use Rattle.cs_model.specs.Section.{Section}
@@ -9,7 +9,7 @@ use Rattle.cs_parse.specs.declared.fault.ParseFault.{ParseFault}
 use Rattle.cs_parse.specs.Place.{BytePlace, wrong}
 use Rattle.cs_parse.specs.Stands.{Stands}
 
--- Some text that begins so is that of a changeset, the limit on the whole set aside.
+-- The text can be continued to a changeset, if the limit on the whole text is ignored.
 pub record Viable (text : List ℕ) : Type 0 where
   pub more : List ℕ
   pub bytes : AreBytes more
@@ -17,14 +17,14 @@ pub record Viable (text : List ℕ) : Type 0 where
   pub is_changeset : IsChangeset sections
   pub spelled : SpellsEach SpellsSection (text ++ more) sections
 
--- n is the least number such that the first n + 1 bytes aren't viable
+-- n is the least number for which the first n + 1 bytes aren't viable
 pub record IsFirst (text : List ℕ) (n : ℕ) : Type 0 where
   pub inside : n < length text
   pub dead : Viable (take (suc n) text) → ⊥
   pub alive : (m : ℕ) → m < n → Viable (take (suc m) text)
 
--- A byte within the limit is the first after which the text isn't viable, and what is wrong with it
--- follows from where it stands.
+-- A byte within the limit is the first after which the text isn't viable. What is wrong with it
+-- follows from its place.
 pub record AtByte (text : List ℕ) (fault : ParseFault) : Type 0 where
   pub first : IsFirst text fault.at
   pub within_limit : fault.at < most_bytes
@@ -34,13 +34,13 @@ pub record AtByte (text : List ℕ) (fault : ParseFault) : Type 0 where
   pub stands : Stands (take fault.at text) place
   pub is_wrong : wrong place byte ≡ Some fault.kind
 
--- The text goes on behind 16,777,216 bytes without a fault.
+-- The text is longer than 16,777,216 bytes, and has no fault within them.
 pub record IsTooLong (text : List ℕ) (fault : ParseFault) : Type 0 where
   pub same : fault ≡ record { at = most_bytes; kind = TooLong }
   pub long : most_bytes < length text
   pub so_far : Viable (take most_bytes text)
 
--- The text ends before it is whole.
+-- The text ends inside a header or a change.
 pub record IsTruncated (text : List ℕ) (fault : ParseFault) : Type 0 where
   pub same : fault ≡ record { at = length text; kind = Truncated }
   pub within_limit : length text ≤ most_bytes

@@ -1,4 +1,5 @@
--- As much as is whole.
+-- What is complete at the front of some bytes: changes, sections, and a growing changeset with its
+-- pending bytes.
 use Rattle.std.specs.Prelude.{◌≡◌, ℕ, zero, suc, ◌+◌, ◌-◌, ◌<◌, ◌≤◌, Bool, List, [], ◌∷◌, ◌++◌}
 use Rattle.std.specs.Prelude.{length, take, drop, Option, Some, None, Result, Ok, Err, IsTrue}
 use Rattle.std.specs.Prelude.{if◌then◌else◌}
@@ -19,8 +20,8 @@ use Rattle.cs_parse.specs.Reading.{change_at, ends_section}
 use Rattle.cs_parse.specs.Spot.{IsSpot, IsHeaderSpot}
 use Rattle.cs_parse.specs.declared.spot.Spot.{Spot}
 
--- The items that are whole, the bytes behind them, and why the one that begins there isn't read;
--- none where they are over.
+-- The complete items, the bytes after them, and why the next item isn't read. `why` is `None` if no
+-- item follows.
 pub record Front (A : Type 0) : Type 0 where
   pub items : List A
   pub rest : List ℕ
@@ -36,8 +37,7 @@ after_item go_on bytes (Ok item) =
     }
 after_item go_on bytes (Err why) = record { items = []; rest = bytes; why = Some why }
 
--- Each item takes one from `fuel`, and where it is at least the number of bytes, it doesn't run
--- out.
+-- Each item takes one from `fuel`. It doesn't run out if it is at least the number of bytes.
 unfoldable pub front_at : {A : Type 0} → (List ℕ → Bool)
     → (List ℕ → Result (A × List ℕ) ParseRefusal) → ℕ → List ℕ → Front A
 front_at over read zero bytes = record { items = []; rest = bytes; why = None }
@@ -45,24 +45,24 @@ front_at over read (suc fuel) bytes =
     if over bytes then record { items = []; rest = bytes; why = None }
     else after_item (front_at over read fuel) bytes (read bytes)
 
--- the changes of a section, as many as are whole
+-- the complete changes of a section
 abbrev pub changes_front : List ℕ → List ℕ → Front Change
 changes_front flags bytes = front_at ends_section (change_at flags) (length bytes) bytes
 
 -- ---- sections
 
--- what is read behind these sections is found behind others as well
+-- the same result after these sections
 abbrev pub prefixed : List Section → Reached → Reached
 prefixed sections reached =
     record { sections = sections ++ reached.sections; rest = reached.rest; why = reached.why }
 
--- Sections that were read, and either why no more is, or what the bytes behind them give.
+-- The sections read, and either why no more is read, or what the bytes after them give.
 abbrev pub sections_reached : List Section → List ℕ → Option ParseRefusal → Reached
 sections_reached sections rest None = prefixed sections (read_on [] rest)
 sections_reached sections rest (Some why) =
     record { sections = sections; rest = rest; why = Some why }
 
--- A list of sections grew by the next one of some bytes, as far as it is whole.
+-- A list of sections grew by the next section of some bytes, as far as it is complete.
 pub record NextSection (old new : List Section) (bytes rest : List ℕ) (why : Option ParseRefusal) :
     Type 0 where
   pub sections : List Section
@@ -71,10 +71,10 @@ pub record NextSection (old new : List Section) (bytes rest : List ℕ) (why : O
   pub shorter : why ≡ None → length rest < length bytes
   pub fits : AreBytes rest
 
--- ---- a changeset that grows
+-- ---- a growing changeset
 
--- The text is of so many changes that a table with these key bytes can have, and canonical where
--- that is said.
+-- The text encodes `count` changes of a table with these key flags. It is in canonical form if
+-- `canonical` is true.
 pub record JoinsTable (flags text : List ℕ) (count : ℕ) (canonical : Bool) : Type 0 where
   pub fit : AllByRecursion (Fit (length flags)) (unpacked_changes (length flags) text)
   pub many : count ≡ length (unpacked_changes (length flags) text)
@@ -84,9 +84,9 @@ abbrev pub JoinsSection : Option (List ℕ) → List ℕ → ℕ → Bool → Ty
 JoinsSection None text count canonical = (text ≡ []) × (count ≡ 0)
 JoinsSection (Some flags) text count canonical = JoinsTable flags text count canonical
 
--- What is whole at the front of bytes behind sections, of which the last one's table has these key
--- bytes: so many changes, whether their bytes are the canonical ones, the bytes behind them, and
--- why the next change isn't read.
+-- What is complete at the front of the bytes after sections, the last of whose tables has these key
+-- flags. It is the number of changes, the bytes after them, whether they are canonical, and why the
+-- next change isn't read.
 pub record HeadsTable (flags bytes : List ℕ) (count : ℕ) (rest : List ℕ) (canonical : Bool)
     (why : Option ParseRefusal) : Type 0 where
   pub many : count ≡ length (changes_front flags bytes).items
@@ -99,8 +99,8 @@ abbrev pub Heads : Option (List ℕ) → List ℕ → ℕ → List ℕ → Bool 
 Heads None bytes count rest canonical why = (rest ≡ bytes) × (why ≡ None) × (count ≡ 0)
 Heads (Some flags) bytes count rest canonical why = HeadsTable flags bytes count rest canonical why
 
--- What is whole behind these changes: sections, the bytes behind them, and why no more is read;
--- none where a change isn't read.
+-- What is complete after these changes: sections, the bytes after them, and why no more is read.
+-- There are no sections if a change wasn't read.
 abbrev pub Tails : Option ParseRefusal → List ℕ → List Section → List ℕ → Option ParseRefusal
     → Type 0
 Tails None bytes sections rest why = read_on [] bytes
@@ -108,21 +108,20 @@ Tails None bytes sections rest why = read_on [] bytes
 Tails (Some stopped) bytes sections rest why = (sections ≡ []) × (rest ≡ bytes)
     × (why ≡ Some stopped)
 
--- the changes that a text says, of the table with these key bytes
+-- the changes that a text encodes, for a table with these key flags
 abbrev pub said_by : Option (List ℕ) → List ℕ → List Change
 said_by None text = []
 said_by (Some flags) text = unpacked_changes (length flags) text
 
--- the fault of a text of which so many bytes are taken, where reading them is stopped by a byte
--- that is wrong
+-- the fault of a text of which `taken` bytes are taken, if a wrong byte stopped the reader
 abbrev pub fault_by : ℕ → Option ParseRefusal → Option ParseFault
 fault_by taken None = None
 fault_by taken (Some Short) = None
 fault_by taken (Some (Bad left kind)) = Some (record { at = taken - left; kind = kind })
 
--- What bytes behind sections bring, none of which is wrong where `taken` bytes of the text are
--- taken with them: the first `len` are changes of the last section, these sections stand behind
--- them, and the rest is left.
+-- What the bytes after sections give, if none of them is wrong. `taken` is the number of bytes of
+-- the text up to their end. The first `len` bytes are changes of the last section, `more` are the
+-- sections after it, and `rest` remains.
 pub record Brings (taken len count : ℕ) (canonical : Bool) (more : List Section) (rest : List ℕ)
     (old : List Section) (bytes : List ℕ) : Type 0 where
   pub inside : len ≤ length bytes
@@ -137,27 +136,27 @@ pub record Brings (taken len count : ℕ) (canonical : Bool) (more : List Sectio
       × IsChangeset more
   pub no_fault : (n : ℕ) → arrived n taken (read_on old bytes) ≡ so_far n taken (read_on old bytes)
 
--- Sections, and bytes behind them, grew by what these spell. None of them is wrong, where `taken`
--- bytes of the text are taken with them.
+-- Sections and the bytes after them grew by what these encode. None of the bytes is wrong; `taken`
+-- is the number of bytes of the text up to their end.
 pub record Grown (taken : ℕ) (old new : List Section × List ℕ) : Type 0 where
   pub sections : new.0 ≡ (read_on old.0 old.1).sections
   pub rest : new.1 ≡ (read_on old.0 old.1).rest
   pub no_fault : (n : ℕ) → arrived n taken (read_on old.0 old.1)
       ≡ so_far n taken (read_on old.0 old.1)
 
--- the fault of bytes behind sections
+-- the fault of the bytes after sections
 abbrev pub IsBroken : ParseError → ℕ → List Section → List ℕ → Type 0
 IsBroken (Fault fault) taken old bytes = (n : ℕ) → arrived n taken (read_on old bytes)
     ≡ broken fault
 IsBroken Memory taken old bytes = Unit {0}
 
--- Sections and bytes that grew, or the fault; where there is one, or no memory, nothing changes.
+-- Sections and bytes that grew, or the fault. An `Err` changes nothing.
 abbrev pub Grows : {A : Type 0} → Result A ParseError → ℕ → List Section × List ℕ → List Section
     × List ℕ → Type 0
 Grows (Ok done) taken old new = Grown taken old new
 Grows (Err error) taken old new = (new ≡ old) × IsBroken error taken old.0 old.1
 
--- bytes within the limit were taken in, none of which is wrong
+-- bytes within the limit were taken, none of which is wrong
 pub record TookIn (old : Progress) (bytes : List ℕ) (new : Progress) (reached : Reached) : Type 0
   where
     pub sections : new.sections ≡ reached.sections
@@ -167,7 +166,7 @@ pub record TookIn (old : Progress) (bytes : List ℕ) (new : Progress) (reached 
     pub no_fault : (len : ℕ) → arrived len (old.offset + length bytes) reached
         ≡ so_far len (old.offset + length bytes) reached
 
--- the same, or the fault; without memory nothing changes
+-- the same, or the fault; `Memory` changes nothing
 abbrev pub TakesIn : {A : Type 0} → Result A ParseError → Progress → List ℕ → Progress → Type 0
 TakesIn (Ok done) old bytes new = TookIn old bytes new (read_on old.sections (old.pending ++ bytes))
 TakesIn (Err (Fault fault)) old bytes new =
@@ -175,12 +174,12 @@ TakesIn (Err (Fault fault)) old bytes new =
     (read_on old.sections (old.pending ++ bytes)) ≡ broken fault
 TakesIn (Err Memory) old bytes new = new ≡ old
 
--- Bytes behind sections, of which the last one's table has these key bytes, are of a change or a
--- header that was gone over to this spot. Where there is no section only a header can begin.
+-- The bytes after sections belong to a change or a header that was scanned to this spot. The last
+-- section's table has these key flags. If there is no section, only a header can begin.
 abbrev pub Waits : Option (List ℕ) → List ℕ → Spot → Type 0
 Waits None bytes spot = IsHeaderSpot bytes spot
 Waits (Some flags) bytes spot = IsSpot flags bytes spot
 
--- the same whatever comes behind them
+-- the same with any bytes after these
 abbrev pub KeepsSpot : Option (List ℕ) → List ℕ → Spot → Type 0
 KeepsSpot flags bytes spot = (more : List ℕ) → AreBytes more → Waits flags (bytes ++ more) spot

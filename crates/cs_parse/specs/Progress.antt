@@ -1,6 +1,6 @@
--- How far a text is read that comes in pieces. A text is a list of parts: headers, and behind each
--- the changes of its table. What is whole is read, and the bytes of a part that isn't are kept
--- until the rest of it comes.
+-- The progress of a parser that reads a text in pieces. A text is a list of parts: headers, each
+-- followed by the changes of its table. Complete parts are read, and the bytes of an incomplete one
+-- are kept.
 use Rattle.std.specs.Prelude.{◌≡◌, ℕ, zero, suc, ◌+◌, ◌-◌, List, [], ◌∷◌, ◌++◌, length, take}
 use Rattle.std.specs.Prelude.{Option, Some, None, Result, Ok, Err, nat_lt, if◌then◌else◌, refl}
 use Rattle.std.specs.Coded.{Coded, code_by, coded×, coded_list, coded_ℕ, coded_option}
@@ -17,10 +17,9 @@ use Rattle.cs_parse.specs.declared.stop.ParseRefusal.{ParseRefusal}
 use Rattle.cs_parse.specs.declared.stop.ParseRefusal.TheVariants.{Short, Bad}
 use Rattle.cs_parse.specs.Reading.{◌>>=◌, shape_at, change_at, ends_section, is_empty}
 
--- What was read of a text: the sections, of which the last one may go on; the bytes behind them, of
--- a header or a change that isn't whole; how many bytes were taken; and the fault that no more
--- bytes mend. Where there is one nothing else is kept, and its place stands for the number of
--- bytes.
+-- What was read of a text. `sections`: the last one may still grow. `pending`: the bytes of an
+-- incomplete header or change. `offset`: the number of bytes taken. `fault`: the permanent fault.
+-- If there is one, nothing else is kept, and `offset` is its place.
 pub record Progress : Type 0 where
   pub sections : List Section
   pub pending : List ℕ
@@ -41,33 +40,33 @@ progress_code =
 abbrev pub nothing : Progress
 nothing = record { sections = []; pending = []; offset = 0; fault = None }
 
--- behind a fault
+-- after a fault
 abbrev pub broken : ParseFault → Progress
 broken fault = record { sections = []; pending = []; offset = fault.at; fault = Some fault }
 
 -- ---- parts
 
--- the key bytes of the last section's table
+-- the key flags of the last section's table
 abbrev pub last_flags : List Section → Option (List ℕ)
 last_flags [] = None
 last_flags (section ∷ []) = Some section.shape.flags
 last_flags (section ∷ next ∷ sections) = last_flags (next ∷ sections)
 
--- changes more at the end of the last section
+-- more changes at the end of the last section
 abbrev pub with_changes : List Section → List Change → List Section
 with_changes [] changes = []
 with_changes (section ∷ []) changes =
     record { shape = section.shape; changes = section.changes ++ changes } ∷ []
 with_changes (section ∷ next ∷ sections) changes = section ∷ with_changes (next ∷ sections) changes
 
--- a section more, which has no changes yet, where a header is read
+-- one more section, without changes, if a header is read
 abbrev pub with_header : List Section → List ℕ → Result (List Section × List ℕ) ParseRefusal
 with_header sections bytes = do
   shape ← shape_at bytes
   Ok (sections ++ record { shape = shape.0; changes = [] } ∷ [], shape.1)
 
--- the next part behind these sections, where the last one's key bytes are known: a header where one
--- begins, else a change
+-- the next part after these sections, the last of which has these key flags: a header if one
+-- begins, or else a change
 abbrev pub with_part : List Section → Option (List ℕ) → List ℕ
     → Result (List Section × List ℕ) ParseRefusal
 with_part sections None bytes = with_header sections bytes
@@ -79,10 +78,10 @@ with_part sections (Some flags) bytes =
 unfoldable pub part_at : List Section → List ℕ → Result (List Section × List ℕ) ParseRefusal
 part_at sections bytes = with_part sections (last_flags sections) bytes
 
--- ---- all parts that are whole
+-- ---- all complete parts
 
--- What is read: the sections, the bytes behind them, and why the part that begins there isn't read;
--- none where none begins.
+-- What is read: the sections, the bytes after them, and why the next part isn't read. `why` is
+-- `None` if no part follows.
 pub record Reached : Type 0 where
   pub sections : List Section
   pub rest : List ℕ
@@ -94,21 +93,21 @@ after_part go_on sections bytes (Ok part) = go_on part.0 part.1
 after_part go_on sections bytes (Err why) =
     record { sections = sections; rest = bytes; why = Some why }
 
--- One part after another. Each takes one from `fuel`, and where it is at least the number of bytes,
--- it doesn't run out.
+-- One part after another. Each part takes one from `fuel`. It doesn't run out if it is at least the
+-- number of bytes.
 unfoldable pub parts_at : ℕ → List Section → List ℕ → Reached
 parts_at zero sections bytes = record { sections = sections; rest = bytes; why = None }
 parts_at (suc fuel) sections bytes =
     if is_empty bytes then record { sections = sections; rest = bytes; why = None }
     else after_part (parts_at fuel) sections bytes (part_at sections bytes)
 
--- all parts behind these sections
+-- all parts after these sections
 abbrev pub read_on : List Section → List ℕ → Reached
 read_on sections bytes = parts_at (length bytes) sections bytes
 
 -- ---- pieces
 
--- behind a text of so many bytes, of which `taken` are within the limit and read without a fault
+-- after a text of `len` bytes, of which `taken` are within the limit and read without a fault
 abbrev pub so_far : ℕ → ℕ → Reached → Progress
 so_far len taken reached =
     if nat_lt most_bytes len then broken (record { at = most_bytes; kind = TooLong })
@@ -119,8 +118,7 @@ so_far len taken reached =
       fault = None;
     }
 
--- The same, by why reading went no further: a byte that can't stand in its place is found before
--- the text is found too long.
+-- The same, by why reading stopped. A wrong byte is found before the text is found too long.
 abbrev pub stopped : ℕ → ℕ → Reached → Option ParseRefusal → Progress
 stopped len taken reached None = so_far len taken reached
 stopped len taken reached (Some Short) = so_far len taken reached
@@ -140,7 +138,7 @@ advance None old piece =
     arrived (old.offset + length piece) (old.offset + length (piece_within old piece))
     (read_on old.sections (old.pending ++ piece_within old piece))
 
--- the progress once a piece has come
+-- the progress after a piece
 unfoldable pub advanced : Progress → List ℕ → Progress
 advanced old piece = advance old.fault old piece
 
@@ -148,7 +146,7 @@ advanced old piece = advance old.fault old piece
 abbrev pub progress_of : List ℕ → Progress
 progress_of text = advanced nothing text
 
--- What the bytes so far are answered: their sections where they end behind a whole part.
+-- The result for the bytes so far: their sections, if they end after a complete part.
 abbrev pub answer_at_end_by : Option ParseFault → Progress → Result (List Section) ParseFault
 answer_at_end_by (Some fault) progress = Err fault
 answer_at_end_by None progress =
@@ -158,8 +156,8 @@ answer_at_end_by None progress =
 abbrev pub answer_at_end : Progress → Result (List Section) ParseFault
 answer_at_end progress = answer_at_end_by progress.fault progress
 
--- What `feed` answers, and the progress behind it: the fault of the text with the piece, or none;
--- without memory nothing is taken.
+-- The result of `feed`, and the progress after it: the fault of the text with the piece, or none.
+-- If memory runs out, nothing is taken.
 abbrev pub FeedAnswers : {A : Type 0} → Result A ParseError → Progress → List ℕ → Progress → Type 0
 FeedAnswers (Ok done) old piece new = ((advanced old piece).fault ≡ None)
     × (new ≡ advanced old piece)
@@ -167,14 +165,12 @@ FeedAnswers (Err (Fault fault)) old piece new = ((advanced old piece).fault ≡ 
     × (new ≡ advanced old piece)
 FeedAnswers (Err Memory) old piece new = new ≡ old
 
--- A text that a parser with this progress may have taken. All that it answers is said of each of
--- these.
+-- A text that a parser with this progress may have taken. All results hold for each of these.
 pub record Took (progress : Progress) (text : List ℕ) : Type 0 where
   pub bytes : AreBytes text
   pub read : progress ≡ progress_of text
 
--- What was taken once a piece has come behind this text: the text with the piece; the text alone
--- where memory ran out.
+-- What was taken after a piece: the text with the piece, or the text alone if memory ran out.
 abbrev pub TakesPiece : {A : Type 0} → Result A ParseError → List ℕ → List ℕ → Progress → Type 0
 TakesPiece (Ok done) text piece new = Took new (text ++ piece)
 TakesPiece (Err (Fault fault)) text piece new = Took new (text ++ piece)

@@ -1,5 +1,5 @@
--- Reading a text from its front. A reader takes the bytes from its place on, and gives a value and
--- the bytes behind it, or why there is none.
+-- Reading a text from its front. A reader takes the bytes from its place on. It returns a value and
+-- the bytes after it, or why there is none.
 use Rattle.std.specs.Prelude.{ℕ, ℤ, zero, suc, ◌+◌, ◌-◌, ◌*◌, Bool, true, not, ◌||◌, List, [], ◌∷◌}
 use Rattle.std.specs.Prelude.{length, take, drop, map, Option, Some, None, Result, Ok, Err, nat_lt}
 use Rattle.std.specs.Prelude.{◌==◌, if◌then◌else◌, ◌≡◌}
@@ -31,17 +31,17 @@ abbrev pub ◌>>=◌ : {A B : Type 0} → Result A ParseRefusal → (A → Resul
 (Ok x) >>= f = f x
 (Err e) >>= f = Err e
 
--- What a function returned, seen by view, is what reading gives.
+-- The value that a function returned, mapped by `view`, is what reading gives.
 abbrev pub Reads : {X Y : Type 0} → (X → Y) → Result X ParseRefusal → Result Y ParseRefusal → Type 0
 Reads view (Ok x) read = read ≡ Ok (view x)
 Reads view (Err refusal) read = read ≡ Err refusal
 
--- refused at a byte, behind which `rest` stands
+-- refused at the byte that precedes `rest`
 abbrev pub refuse : {A : Type 0} → FaultKind → List ℕ → Result A ParseRefusal
 refuse kind rest = Err (Bad (suc (length rest)) kind)
 
--- One item after another, until the bytes are over for them. Each turn takes one from `fuel`, and
--- where it is at least the number of bytes, it doesn't run out.
+-- One item after another, until `over` is true. Each turn takes one from `fuel`. It doesn't run out
+-- if it is at least the number of bytes.
 unfoldable pub many_at : {A : Type 0} → (List ℕ → Bool)
     → (List ℕ → Result (A × List ℕ) ParseRefusal) → ℕ → List ℕ
     → Result (List A × List ℕ) ParseRefusal
@@ -53,13 +53,13 @@ many_at over read (suc fuel) bytes = if over bytes then Ok ([], bytes) else (do
 
 -- ---- numbers
 
--- a number whose last byte stands before `rest`
+-- a number whose last byte precedes `rest`
 abbrev pub number_within : ℕ → ℕ → FaultKind → ℕ → List ℕ → Result (ℕ × List ℕ) ParseRefusal
 number_within least most kind n rest = if nat_lt n least
     || nat_lt most n then refuse kind rest else Ok (n, rest)
 
--- The rest of a varint, where `high` stands for the bits read before it, and `left` bytes may still
--- have the high bit. It is refused at the first byte after which every number is out of its limits.
+-- The rest of a varint: `high` is the value of the bits before it, and `left` bytes may still have
+-- the high bit. It is refused at the first byte after which every number is out of its limits.
 unfoldable pub number_at : ℕ → ℕ → FaultKind → ℕ → ℕ → List ℕ → Result (ℕ × List ℕ) ParseRefusal
 number_at least most kind left high [] = Err Short
 number_at least most kind zero high (byte ∷ rest) =
@@ -69,11 +69,11 @@ number_at least most kind (suc left) high (byte ∷ rest) =
     else if nat_lt most (factor left * (128 * high + (byte - 128))) then refuse kind rest
     else number_at least most kind left (128 * high + (byte - 128)) rest
 
--- how many columns a table has
+-- the number of columns of a table
 unfoldable pub columns_at : List ℕ → Result (ℕ × List ℕ) ParseRefusal
 columns_at bytes = number_at 1 2000 Columns 8 0 bytes
 
--- how many bytes a value has
+-- the length of a value, in bytes
 unfoldable pub length_at : List ℕ → Result (ℕ × List ℕ) ParseRefusal
 length_at bytes = number_at 0 16777216 ValueTooLong 8 0 bytes
 
@@ -84,13 +84,13 @@ unfoldable pub integer_at : List ℕ → Result (ℤ × List ℕ) ParseRefusal
 integer_at bytes = if nat_lt (length bytes) 8 then Err Short else Ok
     (cast_signed w64 (from_be_bytes w64 (take 8 bytes)), drop 8 bytes)
 
--- a length, and that many bytes
+-- a length, and that number of bytes
 unfoldable pub counted_at : List ℕ → Result (List ℕ × List ℕ) ParseRefusal
 counted_at bytes = do
   n ← length_at bytes
   if nat_lt (length n.1) n.0 then Err Short else Ok (take n.0 n.1, drop n.0 n.1)
 
--- a field behind its type byte, which isn't refused
+-- a field after its type byte, which is a valid one
 unfoldable pub typed_at : ℕ → List ℕ → Result (Field × List ℕ) ParseRefusal
 typed_at byte rest =
     if byte == 0 then Ok (Undefined, rest)
@@ -124,7 +124,7 @@ record_at (rule ∷ rules) bytes = do
   fields ← record_at rules field.1
   Ok (field.0 ∷ fields.0, fields.1)
 
--- the old record and the new one of a change with this operation, of a table with these key bytes
+-- the old and the new record of a change with this operation, for a table with these key flags
 unfoldable pub records_at : List ℕ → Op → List ℕ
     → Result ((List Field × List Field) × List ℕ) ParseRefusal
 records_at flags Insert bytes = do
@@ -138,7 +138,7 @@ records_at flags Delete bytes = do
   row ← record_at (map row_rule flags) bytes
   Ok ((row.0, []), row.1)
 
--- a change behind its operation byte
+-- a change after its operation byte
 unfoldable pub marked_at : List ℕ → Op → List ℕ → Result (Change × List ℕ) ParseRefusal
 marked_at flags op [] = Err Short
 marked_at flags op (mark ∷ rest) = do
@@ -148,7 +148,7 @@ marked_at flags op (mark ∷ rest) = do
     records.1,
   )
 
--- the operation of a byte
+-- the operation that a byte encodes
 abbrev pub op_of : ℕ → Option Op
 op_of byte =
     if byte == 18 then Some Insert
@@ -156,17 +156,17 @@ op_of byte =
     else if byte == 9 then Some Delete
     else None
 
--- a change behind its first byte, which is that of this operation, or of none
+-- a change after its first byte, which encodes this operation or none
 abbrev pub operated : List ℕ → Option Op → ℕ → List ℕ → Result (Change × List ℕ) ParseRefusal
 operated flags (Some op) byte rest = marked_at flags op rest
 operated flags None byte rest = refuse (if byte == 80 then Patchset else BadOperation) rest
 
--- a change of a table with these key bytes
+-- a change of a table with these key flags
 unfoldable pub change_at : List ℕ → List ℕ → Result (Change × List ℕ) ParseRefusal
 change_at flags [] = Err Short
 change_at flags (byte ∷ rest) = operated flags (op_of byte) byte rest
 
--- a section's changes are over at the end, and where the next header begins
+-- a section's changes end at the end of the text, and where the next header begins
 abbrev pub ends_section : List ℕ → Bool
 ends_section [] = true
 ends_section (byte ∷ rest) = byte == 84
@@ -176,7 +176,7 @@ changes_at flags bytes = many_at ends_section (change_at flags) (length bytes) b
 
 -- ---- headers
 
--- key bytes, at least one, of which the last is refused where all are zero
+-- one or more key flags; the last is refused if all are zero
 unfoldable pub flags_at : ℕ → List ℕ → Result (List ℕ × List ℕ) ParseRefusal
 flags_at count bytes =
     if nat_lt (length bytes) count then Err Short
@@ -184,7 +184,7 @@ flags_at count bytes =
     (take count bytes, drop count bytes)
     else refuse NoKey (drop count bytes)
 
--- the bytes up to a zero byte, at most so many
+-- the bytes up to a zero byte, at most `most`
 unfoldable pub letters_at : ℕ → List ℕ → Result (List ℕ × List ℕ) ParseRefusal
 letters_at most [] = Err Short
 letters_at zero (byte ∷ rest) = if byte == 0 then Ok ([], rest) else refuse NameTooLong rest
@@ -192,19 +192,19 @@ letters_at (suc most) (byte ∷ rest) = if byte == 0 then Ok ([], rest) else (do
   letters ← letters_at most rest
   Ok (byte ∷ letters.0, letters.1))
 
--- A name, and the zero byte behind it, which is refused where no byte stands before it.
+-- A name and its zero byte, which is refused if the name is empty.
 unfoldable pub name_at : List ℕ → Result (List ℕ × List ℕ) ParseRefusal
 name_at bytes = do
   name ← letters_at 1024 bytes
   if length name.0 == 0 then refuse EmptyName name.1 else Ok name
 
--- a header behind its `T`, as far as its name: the key bytes
+-- a header after its `T`, up to its name: the key flags
 unfoldable pub before_name_at : List ℕ → Result (List ℕ × List ℕ) ParseRefusal
 before_name_at bytes = do
   count ← columns_at bytes
   flags_at count.0 count.1
 
--- a header behind its `T`
+-- a header after its `T`
 unfoldable pub header_at : List ℕ → Result (Shape × List ℕ) ParseRefusal
 header_at bytes = do
   count ← columns_at bytes
@@ -214,8 +214,8 @@ header_at bytes = do
 
 -- ---- whole texts
 
--- A section's shape. The changes before it end where it begins with `T`, so that another first byte
--- is the text's.
+-- A section's shape. The changes before it end only at a `T`. So another first byte is the first
+-- byte of the text.
 unfoldable pub shape_at : List ℕ → Result (Shape × List ℕ) ParseRefusal
 shape_at [] = Err Short
 shape_at (byte ∷ rest) = if byte == 84 then header_at rest else refuse
@@ -234,20 +234,19 @@ is_empty bytes = length bytes == 0
 unfoldable pub sections_at : List ℕ → Result (List Section × List ℕ) ParseRefusal
 sections_at bytes = many_at is_empty section_at (length bytes) bytes
 
--- The fault of a text of which the first `len` bytes are read, and what it is when they end too
--- early.
+-- The fault of a text whose first `len` bytes are read. Its kind is `ended` if they end too early.
 abbrev pub fault_of : ℕ → FaultKind → ParseRefusal → ParseFault
 fault_of len ended Short = record { at = len; kind = ended }
 fault_of len ended (Bad left kind) = record { at = len - left; kind = kind }
 
--- the answer for a text of so many bytes, which is read whole
+-- the result for a text of `len` bytes, which is read whole
 abbrev pub whole_answer : ℕ → Result (List Section × List ℕ) ParseRefusal
     → Result (List Section) ParseFault
 whole_answer len (Ok read) = Ok read.0
 whole_answer len (Err refusal) = Err (fault_of len Truncated refusal)
 
--- The answer for a longer text, of which so many bytes are read: a byte that can't stand in its
--- place is found before the text is found too long.
+-- The result for a longer text, of which `len` bytes are read. A wrong byte is found before the
+-- text is found too long.
 abbrev pub overlong_answer : ℕ → Result (List Section × List ℕ) ParseRefusal
     → Result (List Section) ParseFault
 overlong_answer len (Ok read) = Err (fault_of len TooLong Short)

@@ -1,4 +1,4 @@
--- What is read where it stands in the text, seen as what it says.
+-- Borrowed shapes, seen as the shapes that they encode.
 use Rattle.cs_model.specs.declared.shape.Shape.{Shape}
 use Rattle.cs_parse.specs.declared.header.ShapeRef.{ShapeRef}
 

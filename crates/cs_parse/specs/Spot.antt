@@ -1,4 +1,4 @@
--- How far a change or a header that isn't whole was gone over.
+-- Spots: how far an incomplete change or header was scanned.
 use Rattle.std.specs.Prelude.{◌≡◌, ◌==◌, ℕ, ◌+◌, ◌≤◌, ◌<◌, List, ◌∷◌, ◌++◌, length, take, drop, map}
 use Rattle.std.specs.Prelude.{position, Option, Some, None, Ok, Err}
 use Rattle.cs_model.specs.declared.value.Field.{Field}
@@ -13,9 +13,9 @@ use Rattle.cs_parse.specs.Reading.{◌>>=◌, op_of, record_at, change_at, name_
 
 -- ---- records
 
--- A front of a record was read, and of its rules these are left, and these bytes. Whatever bytes
--- stand behind that front, the record begins with its fields, and goes on with what the rules that
--- are left read from those bytes.
+-- The front of a record was read; the rules `others` and the bytes `rest` remain. Whatever bytes
+-- follow that front, the record begins with its fields. It continues with what the remaining rules
+-- read from those bytes.
 pub record Passes (rules others : List Rule) (bytes rest : List ℕ) : Type 0 where
   pub fields : List Field
   pub text : List ℕ
@@ -23,15 +23,15 @@ pub record Passes (rules others : List Rule) (bytes rest : List ℕ) : Type 0 wh
   pub reads : (back : List ℕ) → record_at rules (text ++ back)
       ≡ (record_at others back >>= λ x. Ok (fields ++ x.0, x.1))
 
--- so many fields of a record with these columns were read, and where that isn't all of them the
--- next one ends too early
+-- `count` fields of a record with these columns were read. If that isn't all of them, the next one
+-- is incomplete.
 pub record Halts (rule : ℕ → Rule) (flags bytes : List ℕ) (count : ℕ) (rest : List ℕ) : Type 0 where
   pub columns : count ≤ length flags
   pub passes : Passes (map rule flags) (map rule (drop count flags)) bytes rest
   pub short : count < length flags → record_at (map rule (drop count flags)) rest ≡ Err Short
 
--- The same of an UPDATE's new record, of which the next field ends too early. The old record's
--- fields of the columns from that field's on are read from `old_rest`.
+-- The same for an UPDATE's new record, the next field of which is incomplete. The old record's
+-- fields from the same column on are read from `old_rest`.
 pub record HaltsNew (flags : List ℕ) (before : List Field) (left bytes : List ℕ) (count : ℕ)
     (old_rest rest : List ℕ) : Type 0 where
   pub columns : count ≤ length flags
@@ -40,21 +40,20 @@ pub record HaltsNew (flags : List ℕ) (before : List Field) (left bytes : List 
       bytes rest
   pub short : record_at (new_rules (drop count flags) (drop count before)) rest ≡ Err Short
 
--- bytes end with these
+-- the bytes end with these
 abbrev pub IsBack : List ℕ → List ℕ → Type 0
 IsBack bytes rest = (front : List ℕ) × (bytes ≡ front ++ rest)
 
 -- ---- changes
 
--- a change begins with this operation's byte and a mark, and these bytes stand behind them
+-- a change begins with this operation's byte and an indirect byte, and `rest` follows
 pub record BeginsChangeOf (op : Op) (bytes rest : List ℕ) : Type 0 where
   pub byte : ℕ
   pub mark : ℕ
   pub parts : bytes ≡ byte ∷ mark ∷ rest
   pub is_op : op_of byte ≡ Some op
 
--- In the first record of a change so many fields were passed, and the next one begins at this
--- place.
+-- `fields` fields of the first record of a change were passed, and the next one begins at `place`.
 pub record InFirst (op : Op) (rule : ℕ → Rule) (flags bytes : List ℕ) (fields place : ℕ) : Type 0
   where
     pub records : List ℕ
@@ -63,15 +62,14 @@ pub record InFirst (op : Op) (rule : ℕ → Rule) (flags bytes : List ℕ) (fie
     pub within : place ≤ length bytes
     pub passes : Passes (map rule flags) (map rule (drop fields flags)) records (drop place bytes)
 
--- the same, and where not all fields were passed the next one ends too early
+-- the same, and if not all fields were passed, the next one is incomplete
 pub record PassedFirst (op : Op) (rule : ℕ → Rule) (flags bytes : List ℕ) (fields place : ℕ) : Type
     0 where
   pub reached : InFirst op rule flags bytes fields place
   pub short : fields < length flags → record_at (map rule (drop fields flags)) (drop place bytes)
       ≡ Err Short
 
--- The same of an UPDATE's new record, where the old record's field of the next column begins at
--- `old`.
+-- The same for an UPDATE's new record. The old record's field of the next column begins at `old`.
 pub record SpotInNew (flags bytes : List ℕ) (fields place old : ℕ) : Type 0 where
   pub records : List ℕ
   pub begins : BeginsChangeOf Update bytes records
@@ -86,7 +84,7 @@ pub record SpotInNew (flags bytes : List ℕ) (fields place old : ℕ) : Type 0 
   pub passes : Passes (new_rules flags before) (new_rules (drop fields flags) (drop fields before))
       left (drop place bytes)
 
--- whether a change with this operation has one record
+-- a change with this operation has one record
 abbrev pub HasOne : Op → Type 0
 HasOne Insert = Unit {0}
 HasOne Update = ⊥
@@ -94,9 +92,8 @@ HasOne Delete = Unit {0}
 
 -- ---- headers
 
--- A header's bytes were passed up to its name, and of the name so many bytes are there, none of
--- which is zero. Whatever bytes stand behind those that were passed, the header goes on with its
--- name there.
+-- A header was scanned up to its name, of which `letters` nonzero bytes are there. Whatever bytes
+-- follow those before the name, the header continues with its name there.
 pub record InName (bytes : List ℕ) (place letters : ℕ) : Type 0 where
   pub flags : List ℕ
   pub within : place + letters ≤ length bytes
@@ -106,8 +103,8 @@ pub record InName (bytes : List ℕ) (place letters : ℕ) : Type 0 where
 
 -- ---- spots
 
--- A change of a table with these key bytes, or a header behind its changes, of which these bytes
--- are there, was gone over to this spot.
+-- These bytes begin a change of a table with these key flags, or a header after its changes. They
+-- were scanned to this spot.
 abbrev pub IsSpot : List ℕ → List ℕ → Spot → Type 0
 IsSpot flags bytes Start = Unit {0}
 IsSpot flags bytes (Row fields place) = (op : Op) × HasOne op
@@ -116,7 +113,7 @@ IsSpot flags bytes (Old fields place) = InFirst Update old_rule flags bytes fiel
 IsSpot flags bytes (New fields place old) = SpotInNew flags bytes fields place old
 IsSpot flags bytes (Name place letters) = InName bytes place letters
 
--- the same of a header, whatever table stands before it; of a spot in a change nothing is said
+-- the same for a header after any table; a spot in a change says nothing of it
 abbrev pub IsHeaderSpot : List ℕ → Spot → Type 0
 IsHeaderSpot bytes Start = Unit {0}
 IsHeaderSpot bytes (Row fields place) = Unit {0}
@@ -124,16 +121,16 @@ IsHeaderSpot bytes (Old fields place) = Unit {0}
 IsHeaderSpot bytes (New fields place old) = Unit {0}
 IsHeaderSpot bytes (Name place letters) = InName bytes place letters
 
--- The change still ends too early, and was gone over to this spot. With more bytes behind it does
--- so where what stands at the spot does.
+-- The change is still incomplete, and was scanned to this spot. It stays incomplete with more bytes
+-- if the item at the spot does.
 abbrev pub StaysShort : List ℕ → List ℕ → Option Spot → Type 0
 StaysShort flags bytes None = Unit {0}
 StaysShort flags bytes (Some spot) =
     (change_at flags bytes ≡ Err Short) × IsSpot flags bytes spot
     × ((more : List ℕ) → StaysAt bytes spot more → change_at flags (bytes ++ more) ≡ Err Short)
 
--- The header still ends too early, and was gone over to this spot, which is right whatever table
--- stands before it. It does so up to where its name would be too long.
+-- The header is still incomplete, and was scanned to this spot, which is valid after any table. It
+-- stays incomplete until its name would be too long.
 abbrev pub StaysHeader : List ℕ → Option Spot → Type 0
 StaysHeader bytes None = Unit {0}
 StaysHeader bytes (Some spot) = (shape_at bytes ≡ Err Short)

@@ -1,4 +1,4 @@
--- Where the byte behind the beginning of a text stands.
+-- The place of the byte after the beginning of a text.
 use Rattle.std.specs.Prelude.{◌≡◌, ℕ, zero, suc, ◌+◌, ◌-◌, ◌*◌, ◌≤◌, ◌⊎◌, true, false, List, []}
 use Rattle.std.specs.Prelude.{◌∷◌, ◌++◌, length, map, None, nat_lt}
 use Rattle.std.specs.List.{list_any, list_all, AllByRecursion}
@@ -16,8 +16,8 @@ use Rattle.cs_model.specs.Text.{SpellsSection}
 use Rattle.cs_parse.specs.Place.{BytePlace, Start, Between, InColumns, LastKey, FirstLetter}
 use Rattle.cs_parse.specs.Place.{PastName, AtType, InLength, factor, type_refusal}
 
--- A number that isn't whole: bytes with the high bit, behind each of which a number up to `most`
--- can come. They stand for `high`, and `left` more may have the high bit.
+-- An incomplete number: bytes with the high bit, after each of which a number up to `most` is
+-- possible. Their value is `high`, and `left` more may have the high bit.
 abbrev pub Unfinished : ℕ → ℕ → ℕ → List ℕ → ℕ → ℕ → Type 0
 Unfinished most more so_far [] left high = (left ≡ more) × (high ≡ so_far)
 Unfinished most zero so_far (byte ∷ bytes) left high = ⊥
@@ -25,7 +25,7 @@ Unfinished most (suc more) so_far (byte ∷ bytes) left high =
     (128 ≤ byte) × (factor more * (128 * so_far + (byte - 128)) ≤ most)
     × Unfinished most more (128 * so_far + (byte - 128)) bytes left high
 
--- ---- in a header, behind its `T`
+-- ---- in a header, after its `T`
 
 pub record InNumber (front : List ℕ) (place : BytePlace) : Type 0 where
   pub left : ℕ
@@ -69,7 +69,7 @@ InHeader front place = InNumber front place ⊎ OnLastKey front place ⊎ OnName
 
 -- ---- in a record
 
--- behind the type byte of a TEXT or a BLOB, in its length
+-- in the length of a TEXT or a BLOB, after its type byte
 pub record InValue (rule : Rule) (front : List ℕ) (place : BytePlace) : Type 0 where
   pub kind : ℕ
   pub digits : List ℕ
@@ -84,7 +84,7 @@ pub record InValue (rule : Rule) (front : List ℕ) (place : BytePlace) : Type 0
 abbrev pub InField : Rule → List ℕ → BytePlace → Type 0
 InField rule front place = ((front ≡ []) × (place ≡ AtType rule)) ⊎ InValue rule front place
 
--- a field under each rule, as far as they are there: in one of them, behind those before it
+-- in one of the fields of a record, after the complete fields before it
 abbrev pub InRecord : List Rule → List ℕ → BytePlace → Type 0
 InRecord [] front place = ⊥
 InRecord (rule ∷ rules) front place =
@@ -95,7 +95,7 @@ InRecord (rule ∷ rules) front place =
 
 -- ---- in a change
 
--- in the new record of an UPDATE, behind its old one
+-- in the new record of an UPDATE, after its old one
 pub record InNewRecord (flags front : List ℕ) (place : BytePlace) : Type 0 where
   pub old : List ℕ
   pub before : List Field
@@ -111,7 +111,7 @@ InRecords flags Update front place = InRecord (map old_rule flags) front place
     ⊎ InNewRecord flags front place
 InRecords flags Delete front place = InRecord (map row_rule flags) front place
 
--- behind the operation and the indirect byte
+-- after the operation and the indirect byte
 pub record InChange (flags front : List ℕ) (place : BytePlace) : Type 0 where
   pub op : Op
   pub mark : ℕ
@@ -144,7 +144,7 @@ InSection front place = ((rest : List ℕ) × (front ≡ 84 ∷ rest) × InHeade
 
 -- ---- in a text
 
--- in a section, behind those before it
+-- in a section, after those before it
 pub record AfterSections (front : List ℕ) (place : BytePlace) : Type 0 where
   pub whole : List ℕ
   pub sections : List Section
@@ -154,6 +154,6 @@ pub record AfterSections (front : List ℕ) (place : BytePlace) : Type 0 where
   pub is_changeset : IsChangeset sections
   pub stands : InSection part place
 
--- The byte behind these stands there.
+-- The byte after these is at that place.
 abbrev pub Stands : List ℕ → BytePlace → Type 0
 Stands front place = ((front ≡ []) × (place ≡ Start)) ⊎ AfterSections front place

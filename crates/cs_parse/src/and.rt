@@ -1,10 +1,10 @@
-//! Whether bytes that were read are the canonical ones of what they spell. Each reader tells it
-//! beside what it read.
+//! A conjunction for loops: each reader reports whether the bytes that it read are in canonical
+//! form.
 
 ghost use Rattle.std.specs.Prelude.{◌≡◌, ◌&&◌, IsTrue};
 
-/// Whether both of two parts are. A call has one path where `&&` has two, so that a loop may ask it
-/// in each turn.
+/// Returns `first && second`. A call has one path where `&&` has two, so a loop may call it in each
+/// turn.
 #[inline(always)]
 pub fn both(first: bool, second: bool) -> bool
     ensures value { result ≡ (first && second) }

@@ -1,4 +1,4 @@
-//! Changes.
+//! Reads the changes of a section: counts, checks or copies them, up to the next header or the end.
 
 ghost use Rattle.std.specs.Prelude.{◌≡◌, ◌==◌, ◌∷◌, ◌++◌, length, if◌then◌else◌, IfOk, OnOk};
 ghost use Rattle.std.specs.Prelude.{IsTrue};
@@ -22,7 +22,7 @@ use cs_model::laws::{changes_fit, spelled_is_said};
 use cs_model::{Changes, Op};
 use std::alloc::{AllocError, Global};
 
-// the operation of a byte
+// the operation that a byte encodes
 fn op_by_byte(byte: u8) -> Option<Op>
     ensures { result ≡ op_of byte }
 {
@@ -34,8 +34,8 @@ fn op_by_byte(byte: u8) -> Option<Op>
     }
 }
 
-// The bytes behind a change whose operation byte was read, and whether its own are the canonical
-// ones.
+// Returns the bytes after a change whose operation byte was read, and whether the change is in
+// canonical form.
 #[tactic(auto, unfolding(crate::specs::Reading::marked_at))]
 fn skip_marked<'a>(flags: &[u8], op: Op, bytes: &'a [u8]) -> Result<(&'a [u8], bool), ParseRefusal>
     ensures read { Reads (λ x. x.0.now) result (bytes_after (marked_at flags.now op bytes.now)) }
@@ -49,7 +49,7 @@ fn skip_marked<'a>(flags: &[u8], op: Op, bytes: &'a [u8]) -> Result<(&'a [u8], b
     Ok((rest, both(mark <= 1, canonical)))
 }
 
-// why no change begins with this byte, which is the first of `left` bytes
+// why no change begins with this byte, the first of `left` bytes
 fn no_change(byte: u8, left: usize) -> ParseRefusal
     ensures { result ≡ Bad left (if byte == 80 then Patchset else BadOperation) }
 {
@@ -61,7 +61,7 @@ fn no_change(byte: u8, left: usize) -> ParseRefusal
     ParseRefusal::Bad { left, kind }
 }
 
-// the bytes behind a change, and whether its own are the canonical ones
+// the bytes after a change, and whether the change is in canonical form
 #[tactic(auto, unfolding(crate::specs::Reading::change_at))]
 fn skip_change<'a>(flags: &[u8], bytes: &'a [u8]) -> Result<(&'a [u8], bool), ParseRefusal>
     ensures read { Reads (λ x. x.0.now) result (bytes_after (change_at flags.now bytes.now)) }
@@ -77,7 +77,7 @@ fn skip_change<'a>(flags: &[u8], bytes: &'a [u8]) -> Result<(&'a [u8], bool), Pa
     }
 }
 
-/// Whether no change of a section follows.
+/// Returns whether the section has no further change.
 pub fn is_over(bytes: &[u8]) -> bool
     ensures { result ≡ ends_section bytes.now }
 {
@@ -87,9 +87,9 @@ pub fn is_over(bytes: &[u8]) -> bool
     }
 }
 
-/// As many changes of a section as are whole: how many, the bytes behind them, whether their own
-/// are the canonical ones, and why the next one isn't read; nothing where the next header follows,
-/// or the end.
+/// Scans the complete changes of a section. Returns their number, the bytes after them, whether
+/// they are in canonical form, and why the next change isn't read. The last is `None` at the next
+/// header and at the end.
 pub fn whole_changes<'a>(
     flags: &[u8],
     bytes: &'a [u8],
@@ -104,7 +104,7 @@ pub fn whole_changes<'a>(
     let mut count: usize = 0;
     let mut rest = bytes;
     let mut canonical = true;
-    // each turn takes a byte at least
+    // each turn takes at least one byte
     for _ in 0..bytes.len() {
         if is_over(rest) {
             break;
@@ -120,7 +120,7 @@ pub fn whole_changes<'a>(
     (count, rest, canonical, None)
 }
 
-/// How many changes a section has, up to the next header or the end, and the bytes behind them.
+/// Returns the number of changes up to the next header or the end, and the bytes after them.
 pub fn changes_counted<'a>(flags: &[u8], bytes: &'a [u8]) -> Result<(usize, &'a [u8]), ParseRefusal>
     ensures { Reads (λ x. (x.0, x.1.now)) result (counted length (changes_at flags.now bytes.now)) }
 {
@@ -131,8 +131,8 @@ pub fn changes_counted<'a>(flags: &[u8], bytes: &'a [u8]) -> Result<(usize, &'a 
     }
 }
 
-// Adds the changes that a text says: in one copy where it is known to be canonical, and else
-// respelled.
+// Adds the changes that `text` encodes. Copies `text` as one piece if it is known to be canonical,
+// and re-encodes it otherwise.
 fn copy_changes(
     changes: &mut Changes,
     text: &[u8],
@@ -153,9 +153,8 @@ fn copy_changes(
     }
 }
 
-/// As many changes of a section as are whole, the bytes behind them, and why the next one isn't
-/// read. Their bytes are gone over first, so that they are copied as a whole, and memory is taken
-/// once.
+/// Copies the complete changes of a section. Returns them, the bytes after them, and why the next
+/// change isn't read. Scans their bytes first, so that one allocation and one copy suffice.
 pub fn changes_of<'a>(
     alloc: Global,
     flags: &[u8],

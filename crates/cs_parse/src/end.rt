@@ -1,4 +1,4 @@
-//! The end of a text.
+//! `PieceParser::end`: ends a text that came in pieces and checks its changeset against a schema.
 
 ghost use Rattle.std.specs.Prelude.{◌≡◌, ℕ, List};
 ghost use Rattle.cs_parse.specs.Answer.{Shows};
@@ -13,23 +13,23 @@ use cs_model::{Changeset, Schema, SectionFault};
 use std::alloc::Global;
 use thiserror::Error;
 
-/// Why `PieceParser::end` has no changeset to answer. The parser is as it was before the call.
+/// The error of `PieceParser::end`. The call did not change the parser.
 #[derive(Clone, Copy, Debug, PartialEq, Eq, Error)]
 pub enum EndError {
-    /// The bytes taken so far are no changeset's.
+    /// The bytes so far encode no changeset.
     #[error(transparent)]
     Fault(ParseFault),
-    /// A section of the changeset that they spell is of no table of the schema.
+    /// The schema refuses a section of the changeset.
     #[error(transparent)]
     Refused(SectionFault),
 }
 
 impl PieceParser {
-    /// Ends the text: gives the changeset that the bytes taken so far spell, without a copy, where
-    /// the schema admits it, and is left as a new parser. It takes no memory.
+    /// Ends the text. If the bytes so far encode a changeset that the schema admits, moves the
+    /// changeset out and resets the parser. Does not allocate.
     ///
-    /// Refuses `Fault`, as `finish` does, and then `Refused` with the first section that the schema
-    /// refuses; both leave the parser as it was, so that feeding may go on.
+    /// Returns `Fault` if `finish` returns a fault. Otherwise returns `Refused` with the first
+    /// section that the schema refuses. Neither error changes the parser, so feeding may continue.
     pub fn end(&mut self, alloc: Global, schema: &Schema) -> Result<Changeset, EndError>
         ensures answer { result ≡ admitted_answer schema.now (answer_at_end self.old) }
         ensures left { self.new ≡ left_by result self.old }
@@ -40,7 +40,7 @@ impl PieceParser {
         self.end_by(alloc, schema)
     }
 
-    // the same, as the answer is determined by the progress
+    // the same, because the progress determines the result
     fn end_by(&mut self, alloc: Global, schema: &Schema) -> Result<Changeset, EndError>
         ensures answer { result ≡ admitted_answer schema.now (answer_at_end self.old) }
         ensures left { self.new ≡ left_by result self.old }
@@ -56,7 +56,7 @@ impl PieceParser {
     }
 }
 
-// the changeset that the bytes so far spell, or their fault
+// the changeset that the bytes so far encode, or their fault
 fn spelled(parser: &PieceParser) -> Result<&Changeset, ParseFault>
     ensures { Shows result (answer_at_end parser.now) }
 {

@@ -1,5 +1,5 @@
-//! Why a text is no changeset. SQLite's format of changesets is described with its session
-//! extension, in `sqlite3session.c`; which byte is a fault's is this project's rule
+//! The errors of parsing: each fault that a text can have, and its place. The comments of SQLite's
+//! `sqlite3session.c` describe the changeset format. This project defines which byte has the fault
 //! (docs/DEFINITIONS.md, Faults).
 
 ghost use Rattle.std.specs.Prelude.{◌≡◌};
@@ -8,19 +8,19 @@ ghost use Rattle.cs_parse.specs.declared.fault.ParseError.TheVariants as error;
 use std::alloc::AllocError;
 use thiserror::Error;
 
-/// What is wrong at a fault's place.
+/// What is wrong at the place of a fault.
 #[derive(Clone, Copy, Debug, PartialEq, Eq, Error)]
 pub enum FaultKind {
-    /// The first byte begins no changeset.
+    /// The first byte doesn't begin a changeset.
     #[error("the first byte begins no changeset")]
     BadMarker,
-    /// A patchset begins here, which isn't read.
+    /// A patchset begins here. Patchsets aren't supported.
     #[error("a patchset begins here, which isn't read")]
     Patchset,
-    /// A table has no column, or more than 2,000.
+    /// A table has no columns, or more than 2,000.
     #[error("a table has no column, or more than 2,000")]
     Columns,
-    /// No column of a table is in its key.
+    /// A table has no key column.
     #[error("no column of a table is in its key")]
     NoKey,
     /// A table's name is empty.
@@ -32,22 +32,22 @@ pub enum FaultKind {
     /// Neither a change nor a header begins here.
     #[error("neither a change nor a header begins here")]
     BadOperation,
-    /// No field has this type.
+    /// The type byte of a field is unknown.
     #[error("no field has this type")]
     BadType,
-    /// A REAL value, which isn't read.
+    /// A REAL value. REAL values aren't supported.
     #[error("a REAL value, which isn't read")]
     Real,
-    /// A field of an INSERT or a DELETE has no value.
+    /// A field of an INSERT or a DELETE is undefined.
     #[error("a field of an INSERT or a DELETE has no value")]
     UndefinedField,
-    /// A key column has no value, or is NULL.
+    /// A key column is undefined or NULL.
     #[error("a key column has no value, or is NULL")]
     KeyMissing,
     /// An UPDATE gives a key column a new value.
     #[error("an UPDATE gives a key column a new value")]
     KeyChanged,
-    /// A column of an UPDATE has a value in one of its records only.
+    /// An UPDATE defines a column in only one of its records.
     #[error("a column of an UPDATE has a value in one of its records only")]
     OneSided,
     /// A value is longer than 16,777,216 bytes.
@@ -61,8 +61,8 @@ pub enum FaultKind {
     Truncated,
 }
 
-/// The first fault of a text: where it stands, in bytes from the text's beginning, and what is
-/// wrong there.
+/// The first fault of a text. `at` is the byte offset from the beginning of the text, `kind` is
+/// what is wrong there.
 #[derive(Clone, Copy, Debug, PartialEq, Eq, Error)]
 #[error("{kind}, at byte {at}")]
 pub struct ParseFault {
@@ -70,13 +70,14 @@ pub struct ParseFault {
     pub kind: FaultKind,
 }
 
-/// Why `parse` has no changeset to answer. It takes a text by reference, so nothing is changed.
+/// The error of `parse` and of `PieceParser::feed`. `parse` takes the text by reference and changes
+/// nothing. `feed` changes nothing if it returns `Memory`.
 #[derive(Clone, Copy, Debug, PartialEq, Eq, Error)]
 pub enum ParseError {
-    /// The text is no changeset.
+    /// The text encodes no changeset.
     #[error(transparent)]
     Fault(ParseFault),
-    /// Memory ran out.
+    /// Out of memory.
     #[error("out of memory")]
     Memory,
 }

@@ -1,5 +1,5 @@
-//! Fields. Their readers are inlined: there is one for each column of each change, and a call costs
-//! more than most fields.
+//! Reads fields. The functions are inlined, because a call costs more than most fields and each
+//! column of each change has one.
 
 ghost use Rattle.std.specs.Prelude.{◌≡◌, ◌++◌, length, IfOk, IsTrue};
 ghost use Rattle.cs_model.specs.FieldBytes.{field_bytes};
@@ -14,8 +14,8 @@ use crate::rule::{FieldRule, type_fault};
 use crate::stop::ParseRefusal;
 use cs_model::FieldRef;
 
-// A length, and that many bytes, and whether these are the canonical ones, as those before them
-// are.
+// Reads a length and that number of bytes. The last result is whether these and the bytes before
+// them are canonical.
 #[tactic(auto, unfolding(crate::specs::Reading::counted_at))]
 #[inline(always)]
 fn counted_of(bytes: &[u8], canonical: bool) -> Result<(&[u8], &[u8], bool), ParseRefusal>
@@ -31,8 +31,8 @@ fn counted_of(bytes: &[u8], canonical: bool) -> Result<(&[u8], &[u8], bool), Par
     Ok((value, after, both(canonical, shortest)))
 }
 
-// A field behind its type byte, which isn't refused. Only what has a length can be spelled in
-// several ways.
+// Reads a field after its type byte, which is a valid one. Only a field with a length has more than
+// one encoding.
 #[tactic(auto, unfolding(crate::specs::Reading::typed_at))]
 #[inline(always)]
 fn typed_of(byte: u8, rest: &[u8], canonical: bool) -> Result<(FieldRef, &[u8], bool), ParseRefusal>
@@ -58,8 +58,8 @@ fn typed_of(byte: u8, rest: &[u8], canonical: bool) -> Result<(FieldRef, &[u8], 
     }
 }
 
-/// A field under a rule, where it stands, and whether its bytes are the canonical ones, as those
-/// before it are.
+/// Reads a field under `rule`, in place. The last result is whether its bytes and those before it
+/// are canonical.
 #[tactic(auto, unfolding(crate::specs::Reading::field_at))]
 #[inline(always)]
 pub fn field_in(

@@ -1,4 +1,5 @@
-//! What bytes behind sections bring.
+//! Reads the pending bytes after the sections of a growing changeset, and moves what is complete to
+//! them.
 
 ghost use Rattle.std.specs.Prelude.{◌≡◌, ◌<◌, IfOk, IfErr, Option, List, Some};
 ghost use Rattle.cs_model.specs.Section.{Section};
@@ -19,8 +20,8 @@ use cs_model::Section;
 use cs_model::laws::{changes_fit, spelled_is_said};
 use std::alloc::{AllocError, Global};
 
-// The whole changes at the front of bytes behind these sections, which are of the last one's table:
-// how many, the bytes behind them, whether their own are the canonical ones, and why the next one
+// Scans the complete changes that `bytes` begins with, which belong to the last section's table.
+// Returns their number, the bytes after them, whether they are canonical, and why the next change
 // isn't read.
 fn head_of<'a>(
     sections: &[Section],
@@ -34,8 +35,8 @@ fn head_of<'a>(
     }
 }
 
-// The sections behind these changes, as far as they are whole, the bytes behind them, and why no
-// more is read. There are none where a change isn't read.
+// Reads the complete sections after these changes. Returns them, the bytes after them, and why no
+// more is read. Reads no section if a change wasn't read.
 fn tail_of(
     alloc: Global,
     stopped: Option<ParseRefusal>,
@@ -49,8 +50,7 @@ fn tail_of(
     }
 }
 
-// The fault of a text of which so many bytes are taken, where reading them is stopped by a byte
-// that is wrong.
+// The fault of a text of which `taken` bytes are taken, if a wrong byte stopped the reader.
 fn wrong_in(taken: usize, why: Option<ParseRefusal>) -> Option<ParseFault>
     ensures { result ≡ fault_by taken why }
 {
@@ -64,11 +64,12 @@ fn wrong_in(taken: usize, why: Option<ParseRefusal>) -> Option<ParseFault>
     }
 }
 
-/// How many bytes at least are lacking of the header or the change of the last section's table that
-/// begins behind these sections, where it ends too early, and whether it is a header, of which none
-/// of them is zero. So it is behind any sections of which the last one's table has the same key
-/// bytes. The spot is moved on, so that these bytes aren't gone over again when more come. Where it
-/// is 0, something is whole or wrong, and nothing is known of the spot.
+/// Returns a lower bound on the bytes missing from the header or change that begins after these
+/// sections. Also returns whether it is a header; the bound then counts nonzero bytes only. The
+/// result holds after all sections whose last table has the same key flags.
+///
+/// Advances the spot, so that the next call doesn't scan these bytes again. A bound of 0 means that
+/// an item is complete or a byte is wrong; the spot is then unspecified.
 pub fn still_waits(sections: &[Section], bytes: &[u8], spot: &mut Spot) -> (usize, bool)
     requires { Waits (last_flags sections.now) bytes.now spot.old }
     ensures waits { 0 < result.0 → (others : List Section)
@@ -90,9 +91,9 @@ pub fn still_waits(sections: &[Section], bytes: &[u8], spot: &mut Spot) -> (usiz
     (still_short(&section.shape().flags, bytes, spot), false)
 }
 
-// What these bytes bring, read aside: how many of them are changes of the last section, how many
-// changes these are, whether their bytes are the canonical ones, the sections behind them, and the
-// bytes that are left. It is the same behind all sections of which the last one's table is this.
+// Reads the pending bytes without changing the sections. Returns the length and number of the last
+// section's changes, whether they are canonical, the sections after them, and the remaining bytes.
+// The result is the same after all sections whose last table is this one.
 fn brought<'a>(
     alloc: Global,
     sections: &[Section],
@@ -116,9 +117,9 @@ fn brought<'a>(
     Ok((len, count, canonical, more, rest))
 }
 
-/// Reads the bytes that wait, as far as they are whole, and adds what they spell to the sections.
-/// `taken` is how many bytes of the text are taken with these, so that a fault's place can be told.
-/// An `Err` leaves all as it was.
+/// Reads the pending bytes as far as they are complete, and adds what they encode to the sections.
+/// `taken` is the number of bytes of the text up to the end of these; it places a fault. An `Err`
+/// changes nothing.
 pub fn grow(alloc: Global, text: &mut Growing, taken: usize) -> Result<(), ParseError>
     ensures { Grows result taken text.old text.new }
 {

@@ -1,4 +1,4 @@
-//! Sections that grow by the bytes behind them.
+//! A changeset under construction: its sections and the pending bytes after them.
 
 ghost use Rattle.std.specs.Prelude.{◌≡◌, ◌≤◌, ◌<◌, ◌+◌, [], ◌++◌, take, drop, length, IfOk, OnOk};
 ghost use Rattle.std.specs.Prelude.{OnErr, MatchOption};
@@ -13,17 +13,17 @@ use std::alloc::{AllocError, Global};
 use std::marker::Model;
 use std::mem;
 
-/// Sections, of which the last one may go on, and the bytes of a header or a change that isn't
-/// whole yet. Contracts see both lists. While bytes wait, the last section's changes stand in front
-/// of them, in one piece of memory, so that a change that becomes whole is where it stays.
+/// Sections, the last of which may still grow, and the pending bytes of an incomplete header or
+/// change. Contracts see both lists. While bytes are pending, the last section's changes precede
+/// them in one buffer. So a change that becomes complete is already in its place.
 #[derive(Debug, Drop)]
 pub struct Growing {
-    // the last section lacks the changes that stand in `bytes`
+    // the last section is missing the changes in `bytes`
     changeset: Changeset,
     bytes: Vec<u8>,
-    // so many of the bytes are those of whole changes, in their canonical form
+    // the number of bytes that hold complete changes, in canonical form
     kept: usize,
-    // and so many changes they are
+    // the number of these changes
     count: usize,
 }
 
@@ -45,7 +45,7 @@ impl Model for Growing {
     ghost invariant = { λ g. IsGrowing g.changeset g.bytes.items g.kept g.count };
 }
 
-// takes the sections out, and leaves none
+// takes all sections out
 fn take_sections(alloc: Global, changeset: &mut Changeset) -> Vec<Section>
     ensures sections { result.items ≡ changeset.old }
     ensures valid { IsChangeset changeset.old }
@@ -55,7 +55,7 @@ fn take_sections(alloc: Global, changeset: &mut Changeset) -> Vec<Section>
         .into_vec()
 }
 
-// Takes the last section's changes out, as their bytes, in one move.
+// Moves the last section's changes out, as bytes, and returns them with their number.
 fn take_last(alloc: Global, changeset: &mut Changeset) -> (Vec<u8>, usize)
     ensures { OpenedSection changeset.old changeset.new result.0.items result.1 }
 {
@@ -65,7 +65,7 @@ fn take_last(alloc: Global, changeset: &mut Changeset) -> (Vec<u8>, usize)
     taken
 }
 
-// the same of a list of sections
+// the same for a list of sections
 fn take_from(alloc: Global, sections: &mut Vec<Section>) -> (Vec<u8>, usize)
     requires { IsChangeset sections.old.items }
     ensures opened { OpenedSection sections.old.items sections.new.items result.0.items result.1 }
@@ -78,8 +78,8 @@ fn take_from(alloc: Global, sections: &mut Vec<Section>) -> (Vec<u8>, usize)
     sections[len - 1].take_bytes(alloc)
 }
 
-// Gives the last one of the first `len` sections, which has no changes, those of these bytes, in
-// one move.
+// Moves these bytes into the last of the first `len` sections, as its changes. That section has
+// none before.
 fn put_at(alloc: Global, changeset: &mut Changeset, len: usize, bytes: Vec<u8>, count: usize)
     requires inside { len ≤ length changeset.old }
     requires lacks { last_changes (take len changeset.old) ≡ [] }
@@ -94,7 +94,7 @@ fn put_at(alloc: Global, changeset: &mut Changeset, len: usize, bytes: Vec<u8>, 
     *changeset = Changeset::from_seq(Seq::from_vec(sections));
 }
 
-// the same of a list of sections
+// the same for a list of sections
 fn put_into(sections: &mut Vec<Section>, len: usize, bytes: Vec<u8>, count: usize)
     requires inside { len ≤ length sections.old.items }
     requires lacks { last_changes (take len sections.old.items) ≡ [] }
@@ -108,7 +108,7 @@ fn put_into(sections: &mut Vec<Section>, len: usize, bytes: Vec<u8>, count: usiz
     sections[len - 1].put_bytes(bytes, count);
 }
 
-// Gives the last section the changes that it lacks, in one move.
+// Moves the missing changes into the last section.
 fn put_last(alloc: Global, changeset: &mut Changeset, bytes: Vec<u8>, count: usize)
     requires lacks { last_changes changeset.old ≡ [] }
     requires keeps { Keeps (last_flags changeset.old) bytes.items count }
@@ -132,7 +132,7 @@ fn append(alloc: Global, changeset: &mut Changeset, more: Changeset) -> Result<(
     added
 }
 
-// leaves the first `len` sections
+// keeps the first `len` sections
 fn cut(alloc: Global, changeset: &mut Changeset, len: usize)
     ensures { changeset.new ≡ take len changeset.old }
 {
@@ -142,14 +142,14 @@ fn cut(alloc: Global, changeset: &mut Changeset, len: usize)
 }
 
 impl Growing {
-    /// No sections, and no memory yet.
+    /// No sections. Does not allocate.
     pub fn new(alloc: Global) -> Growing
         ensures { result ≡ ([], []) }
     {
         Growing::whole_of(alloc, Changeset::new(alloc))
     }
 
-    // these sections, where nothing waits
+    // these sections, with no pending bytes
     fn whole_of(alloc: Global, changeset: Changeset) -> Growing
         requires { IsChangeset changeset }
         ensures { result ≡ (changeset, []) }
@@ -162,7 +162,7 @@ impl Growing {
         }
     }
 
-    /// These sections, and bytes behind them.
+    /// These sections, followed by pending bytes.
     pub fn of(alloc: Global, sections: Vec<Section>, bytes: &[u8]) -> Result<Growing, AllocError>
         requires { IsChangeset sections.items }
         ensures { IfOk result (λ text. text ≡ (sections.items, bytes.now)) }
@@ -172,7 +172,7 @@ impl Growing {
         Ok(text)
     }
 
-    /// The bytes that wait.
+    /// The pending bytes.
     pub fn waiting(&self) -> &[u8]
         ensures { result.now ≡ self.now.1 }
     {
@@ -180,7 +180,7 @@ impl Growing {
         waiting
     }
 
-    /// The sections, of which the last one may lack changes.
+    /// The sections, the last of which may be missing changes.
     pub fn sections(&self) -> &[Section]
         ensures flags { last_flags result.now ≡ last_flags self.now.0 }
         ensures valid { IsChangeset self.now.0 }
@@ -188,7 +188,7 @@ impl Growing {
         self.changeset.sections()
     }
 
-    /// The sections, where nothing waits.
+    /// The sections, if no bytes are pending.
     pub fn whole(&self) -> Option<&Changeset>
         ensures { MatchOption result (0 < length self.now.1)
             (λ changeset. (changeset.now ≡ self.now.0) × (self.now.1 ≡ [])) }
@@ -209,8 +209,8 @@ impl Growing {
         changeset
     }
 
-    /// Adds bytes behind those that wait. Where none did, the last section's changes are moved in
-    /// front of them. An `Err` leaves all as it was.
+    /// Appends to the pending bytes. If there were none, first moves the last section's changes
+    /// before them. An `Err` changes nothing.
     pub fn extend(&mut self, alloc: Global, piece: &[u8]) -> Result<(), AllocError>
         ensures ok { OnOk result (self.new ≡ (self.old.0, self.old.1 ++ piece.now)) }
         ensures err { OnErr result (self.new ≡ self.old) }
@@ -224,7 +224,7 @@ impl Growing {
         self.append(piece)
     }
 
-    /// Adds bytes behind those that wait, of which there are some. An `Err` leaves all as it was.
+    /// Appends to the pending bytes, of which there is at least one. An `Err` changes nothing.
     #[inline(always)]
     pub fn append(&mut self, piece: &[u8]) -> Result<(), AllocError>
         requires { 0 < length self.old.1 }
@@ -238,7 +238,7 @@ impl Growing {
         self.bytes.extend_from_slice(piece)
     }
 
-    // the first bytes that wait
+    // the first pending bytes
     fn begin(&mut self, alloc: Global, piece: &[u8]) -> Result<(), AllocError>
         requires none { self.old.1 ≡ [] }
         requires some { 0 < length piece.now }
@@ -260,7 +260,7 @@ impl Growing {
         Ok(())
     }
 
-    /// Leaves the first `len` of the bytes that wait.
+    /// Truncates the pending bytes to the first `len`.
     pub fn shorten(&mut self, alloc: Global, len: usize)
         requires { len ≤ length self.old.1 }
         ensures { self.new ≡ (self.old.0, take len self.old.1) }
@@ -279,8 +279,8 @@ impl Growing {
         self.count = 0;
     }
 
-    /// The first `len` of the bytes that wait become changes of the last section. Where they are
-    /// canonical nothing is copied. An `Err` leaves all as it was.
+    /// Turns the first `len` pending bytes into `count` changes of the last section. Copies nothing
+    /// if they are canonical. An `Err` changes nothing.
     pub fn keep(
         &mut self,
         alloc: Global,
@@ -321,8 +321,8 @@ impl Growing {
         Ok(())
     }
 
-    /// As `keep`, where other sections stand behind these changes, and other bytes wait behind
-    /// those. An `Err` leaves all as it was.
+    /// As `keep`, but then appends the sections of `others` and makes its pending bytes the new
+    /// ones. An `Err` changes nothing.
     pub fn join(
         &mut self,
         alloc: Global,

@@ -1,4 +1,4 @@
-//! Headers.
+//! Reads table headers: the number of columns, the key flags and the name.
 
 ghost use Rattle.std.specs.Prelude.{◌≡◌, ◌==◌, ◌<◌, length, nat_lt, position, IfOk, IfSome};
 ghost use Rattle.std.specs.List.{list_any};
@@ -13,12 +13,12 @@ use cs_model::{Seq, Shape};
 use memchr::memchr;
 use std::alloc::{AllocError, Global};
 
-/// A table's shape whose bytes stand in the text.
+/// A table's shape that borrows its bytes from the text.
 #[derive(Clone, Copy)]
 pub struct ShapeRef<'a> {
     /// The table's name.
     pub name: &'a [u8],
-    /// Its columns' key bytes.
+    /// The key flags, one byte a column. Nonzero means that the column is in the key.
     pub flags: &'a [u8],
 }
 
@@ -28,7 +28,7 @@ fn any_nonzero(bytes: &[u8]) -> bool
     bytes.iter().any(|byte| 0 < *byte)
 }
 
-// the key bytes of a table with `count` columns
+// the key flags of a table with `count` columns
 #[tactic(auto, unfolding(crate::specs::Reading::flags_at))]
 fn flags_of(count: usize, bytes: &[u8]) -> Result<(&[u8], &[u8]), ParseRefusal>
     ensures { Reads (λ x. (x.0.now, x.1.now)) result (flags_at count bytes.now) }
@@ -46,7 +46,7 @@ fn flags_of(count: usize, bytes: &[u8]) -> Result<(&[u8], &[u8]), ParseRefusal>
     Ok((flags, rest))
 }
 
-/// The place of the first zero byte.
+/// The index of the first zero byte.
 pub fn first_zero(bytes: &[u8]) -> Option<usize>
     ensures place { result ≡ position (λ byte. byte == 0) bytes.now }
     ensures bound { IfSome result (λ end. end < length bytes.now) }
@@ -54,8 +54,8 @@ pub fn first_zero(bytes: &[u8]) -> Option<usize>
     memchr(0, bytes)
 }
 
-// The bytes before the first zero byte, and those behind it. No more than the 1,025 that a name and
-// its end can take are looked at.
+// The bytes before the first zero byte, and those after it. Scans at most 1,025 bytes, the longest
+// name and its zero byte.
 fn letters_of(bytes: &[u8]) -> Result<(&[u8], &[u8]), ParseRefusal>
     ensures { Reads (λ x. (x.0.now, x.1.now)) result (letters_at 1024 bytes.now) }
 {
@@ -70,7 +70,7 @@ fn letters_of(bytes: &[u8]) -> Result<(&[u8], &[u8]), ParseRefusal>
     }
 }
 
-// a table's name, and the bytes behind the zero byte that ends it
+// a table's name, and the bytes after its zero byte
 #[tactic(auto, unfolding(crate::specs::Reading::name_at))]
 fn name_of(bytes: &[u8]) -> Result<(&[u8], &[u8]), ParseRefusal>
     ensures { Reads (λ x. (x.0.now, x.1.now)) result (name_at bytes.now) }
@@ -85,8 +85,8 @@ fn name_of(bytes: &[u8]) -> Result<(&[u8], &[u8]), ParseRefusal>
     Ok((name, rest))
 }
 
-/// A header's key bytes, which stand behind its `T` and the number of columns, and the bytes from
-/// its name on.
+/// Reads a header from after its `T` up to its name. Returns the key flags, and the bytes from the
+/// name on.
 #[tactic(auto, unfolding(crate::specs::Reading::before_name_at))]
 pub fn before_name(bytes: &[u8]) -> Result<(&[u8], &[u8]), ParseRefusal>
     ensures { Reads (λ x. (x.0.now, x.1.now)) result (before_name_at bytes.now) }
@@ -96,7 +96,7 @@ pub fn before_name(bytes: &[u8]) -> Result<(&[u8], &[u8]), ParseRefusal>
     Ok((flags, rest))
 }
 
-/// A header behind its `T`, where it stands.
+/// Reads a header after its `T`, in place.
 #[tactic(auto, unfolding(crate::specs::Reading::header_at, crate::specs::Reading::before_name_at))]
 pub fn header_of(bytes: &[u8]) -> Result<(ShapeRef, &[u8]), ParseRefusal>
     ensures { Reads (λ x. (shape_seen x.0, x.1.now)) result (header_at bytes.now) }
@@ -106,7 +106,7 @@ pub fn header_of(bytes: &[u8]) -> Result<(ShapeRef, &[u8]), ParseRefusal>
     Ok((ShapeRef { name, flags }, rest))
 }
 
-/// The shape with bytes of its own.
+/// Copies the shape into buffers of its own.
 pub fn shape_of(alloc: Global, shape: ShapeRef) -> Result<Shape, AllocError>
     ensures { IfOk result (λ copy. copy ≡ shape_seen shape.entry) }
 {

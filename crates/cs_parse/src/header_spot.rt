@@ -1,5 +1,4 @@
-//! How far the name of a header that isn't whole was gone over, so that more bytes behind it are
-//! looked at from there on.
+//! Resumable scanning of an incomplete header: remembers how much of its name was scanned.
 
 ghost use Rattle.std.specs.Prelude.{◌≡◌, ◌<◌, ◌++◌, ℕ, List};
 ghost use Rattle.cs_model.specs.Bytes.{AreBytes};
@@ -10,13 +9,13 @@ use crate::header::{before_name, first_zero};
 use crate::spot::Spot;
 use crate::stop::ParseRefusal;
 
-// Goes on in a header's name, of which so many bytes were looked at.
+// Continues in a header's name, of which `letters` bytes were scanned.
 fn name_spot(bytes: &[u8], at: usize, letters: usize) -> Option<Spot>
     requires { InName bytes.now at letters }
     ensures { StaysHeader bytes.now result }
 {
     let (_, name) = bytes.split_at(at);
-    // a name has no more than 1,024 bytes
+    // a name has at most 1,024 bytes
     if name.len() > 1024 {
         return None;
     }
@@ -30,7 +29,7 @@ fn name_spot(bytes: &[u8], at: usize, letters: usize) -> Option<Spot>
     })
 }
 
-// goes over a header from its first byte on
+// scans a header from its first byte
 fn first_name(bytes: &[u8]) -> Option<Spot>
     ensures { StaysHeader bytes.now result }
 {
@@ -47,8 +46,8 @@ fn first_name(bytes: &[u8]) -> Option<Spot>
     }
 }
 
-// The spot that is reached from here, where the header still ends too early. One in a change tells
-// nothing of a header.
+// The spot reached from `spot`, if the header is still incomplete. A spot in a change says nothing
+// of a header.
 fn next_name(bytes: &[u8], spot: Spot) -> Option<Spot>
     requires { IsHeaderSpot bytes.now spot }
     ensures { StaysHeader bytes.now result }
@@ -59,7 +58,7 @@ fn next_name(bytes: &[u8], spot: Spot) -> Option<Spot>
     }
 }
 
-// how many bytes, none of which is zero, make the name at a spot too long
+// the number of nonzero bytes that make the name at a spot too long
 fn name_room(spot: Spot) -> usize
     ensures { result ≡ room_at spot }
 {
@@ -69,12 +68,13 @@ fn name_room(spot: Spot) -> usize
     }
 }
 
-/// How many bytes at least, none of which is zero, are lacking of a header that still ends too
-/// early, of which these bytes are there, none or more. The spot is moved behind the bytes of its
-/// name that are there, and stays right with any bytes behind these, whatever table stands before
-/// them. Until all key bytes are there it looks at the number of columns only, and in the name at
-/// the bytes that came. Where it is 0, the header is whole or a byte is wrong, and nothing is known
-/// of the spot.
+/// Returns a lower bound on the nonzero bytes missing from an incomplete header that begins with
+/// `bytes`. Moves the spot past the name's bytes so far; it stays valid when more bytes follow. It
+/// is valid for any table before the header.
+///
+/// Until all key flags are present the call reads only the number of columns. In the name it scans
+/// only the new bytes. A result of 0 means that the header is complete or a byte is wrong; the spot
+/// is then unspecified.
 pub fn header_short(bytes: &[u8], spot: &mut Spot) -> usize
     requires { IsHeaderSpot bytes.now spot.old }
     ensures short { LacksInHeader bytes.now result }

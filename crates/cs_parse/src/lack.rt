@@ -1,11 +1,11 @@
-//! How many bytes are lacking of a field that isn't whole.
+//! Lower bounds on the number of bytes missing from an incomplete field.
 
 ghost use Rattle.std.specs.Prelude.{◌≡◌, ◌+◌, ◌<◌, length, IfSome};
 ghost use Rattle.cs_parse.specs.Lack.{LacksValue, LacksIn};
 
 use crate::number::length_of;
 
-// how many bytes are lacking of so many, where some are
+// the number of bytes missing from `len`, if any are
 fn missing(len: usize, bytes: &[u8]) -> Option<usize>
     ensures { IfSome result (λ least. (0 < least) × (least + length bytes.now ≡ len)) }
 {
@@ -16,8 +16,7 @@ fn missing(len: usize, bytes: &[u8]) -> Option<usize>
     }
 }
 
-// How many bytes are lacking of a value behind its type byte, where some are and its length is
-// known.
+// The number of bytes missing from a value after its type byte, if any are and its length is known.
 fn value_lacks(byte: u8, bytes: &[u8]) -> Option<usize>
     ensures { IfSome result (λ least. (0 < least) × LacksValue byte bytes.now least) }
 {
@@ -33,8 +32,8 @@ fn value_lacks(byte: u8, bytes: &[u8]) -> Option<usize>
     }
 }
 
-/// How many bytes at least are lacking of a field that isn't whole, of which these are there, none
-/// or more. Where its length isn't known that is one.
+/// Returns a lower bound on the bytes missing from an incomplete field that begins with `bytes`,
+/// which may be empty. The bound is 1 if the field's length isn't known.
 pub fn field_lacks(bytes: &[u8]) -> usize
     ensures some { 0 < result }
     ensures lacks { LacksIn bytes.now result }

@@ -1,7 +1,9 @@
-//! The reader of changesets, whole by `parse` or in pieces by `PieceParser`. Theorems: the answer
-//! is Ok exactly on the texts that spell a changeset, as `Spells` says; else it is the text's one
-//! fault, its place and kind as `IsFault` says; and how a text was cut into pieces makes no
-//! difference.
+//! The changeset parser: `parse` reads a whole text, `PieceParser` reads one in pieces. A text is
+//! the bytes of a serialized changeset.
+//!
+//! The theorems: a call returns `Ok` exactly on the texts that encode a changeset, as `Spells`
+//! says. On any other text it returns the text's one fault, whose place and kind `IsFault` defines.
+//! The way a text is cut into pieces makes no difference.
 #![tactic(auto)]
 
 mod and;

@@ -1,4 +1,4 @@
-//! Numbers: varints within limits, and INTEGER values.
+//! Reads numbers: varints within limits, and INTEGER values.
 
 ghost use Rattle.std.specs.Prelude.{◌≡◌, ◌≤◌, ◌*◌, ◌++◌, length, nat_eq, IfOk, IsTrue};
 ghost use Rattle.cs_model.specs.Varint.{varint};
@@ -11,7 +11,7 @@ use crate::stop::ParseRefusal;
 use cs_model::laws::varint_spelled;
 use cs_model::varint_strip;
 
-// a number whose last byte stands before `rest`
+// a number whose last byte precedes `rest`
 fn limited(
     value: u64,
     rest: &[u8],
@@ -30,8 +30,8 @@ fn limited(
     Ok((value, rest))
 }
 
-// A varint from `least` to `most`. It is refused at the first byte after which no number within the
-// limits can come, so that a hostile number is never read to its end.
+// Reads a varint from `least` to `most`. Refuses it at the first byte after which no number within
+// the limits is possible. So a hostile number is never read to its end.
 fn number_of(
     bytes: &[u8],
     least: u64,
@@ -63,11 +63,11 @@ fn number_of(
     let Some((&byte, after)) = rest.split_first() else {
         return Err(ParseRefusal::Short);
     };
-    // the ninth byte is the last, whatever it says
+    // the ninth byte is the last, whatever its value
     limited(256 * high + u64::from(byte), after, least, most, kind)
 }
 
-/// How many columns a table has, 1 to 2,000.
+/// Reads the number of columns of a table, 1 to 2,000.
 #[tactic(auto, unfolding(crate::specs::Reading::columns_at))]
 pub fn columns_of(bytes: &[u8]) -> Result<(usize, &[u8]), ParseRefusal>
     ensures { Reads (λ x. (x.0, x.1.now)) result (columns_at bytes.now) }
@@ -76,7 +76,8 @@ pub fn columns_of(bytes: &[u8]) -> Result<(usize, &[u8]), ParseRefusal>
     Ok((count as usize, rest))
 }
 
-/// How many bytes a value has, at most 16,777,216, and whether this is spelled in the fewest bytes.
+/// Reads the length of a value in bytes, at most 16,777,216. The last result is whether its
+/// encoding is the shortest.
 #[inline(always)]
 pub fn length_of(bytes: &[u8]) -> Result<(usize, &[u8], bool), ParseRefusal>
     ensures read { Reads (λ x. (x.0, x.1.now)) result (length_at bytes.now) }
@@ -91,7 +92,7 @@ pub fn length_of(bytes: &[u8]) -> Result<(usize, &[u8], bool), ParseRefusal>
     long_length_of(bytes)
 }
 
-// the same, for a length of any number of bytes
+// the same for a length of any number of bytes
 #[tactic(auto, unfolding(crate::specs::Reading::length_at))]
 fn long_length_of(bytes: &[u8]) -> Result<(usize, &[u8], bool), ParseRefusal>
     ensures read { Reads (λ x. (x.0, x.1.now)) result (length_at bytes.now) }
@@ -103,7 +104,7 @@ fn long_length_of(bytes: &[u8]) -> Result<(usize, &[u8], bool), ParseRefusal>
     Ok((len as usize, rest, shortest.is_some()))
 }
 
-/// An INTEGER's eight bytes.
+/// Reads the eight bytes of an INTEGER.
 #[tactic(auto, unfolding(crate::specs::Reading::integer_at))]
 pub fn integer_of(bytes: &[u8]) -> Result<(i64, &[u8]), ParseRefusal>
     ensures { Reads (λ x. (x.0, x.1.now)) result (integer_at bytes.now) }

@@ -1,4 +1,4 @@
-//! A text that comes in pieces.
+//! The streaming parser: reads a text that comes in pieces of any size.
 
 ghost use Rattle.std.specs.Prelude.{◌≡◌, ◌≤◌, ◌+◌, [], ◌++◌, length, IfOk, IfErr, IsOk, IsTrue};
 ghost use Rattle.std.specs.Prelude.{OnOk, OnErr, ℕ, List, None, Some, Ok, Err};
@@ -26,21 +26,22 @@ use std::alloc::Global;
 use std::marker::Model;
 use std::mem;
 
-/// Reads a text that comes in pieces of any size, and keeps no more of it than what is read and the
-/// bytes of the header or the change that isn't whole yet. Contracts see how far the text is read
-/// (`Progress`). What is answered is said of every text that a parser with this progress may have
-/// taken (`Took`), so it doesn't depend on how the text was cut.
+/// Reads a text that comes in pieces of any size. Keeps only what it has parsed and the bytes of
+/// the incomplete header or change.
+///
+/// Contracts see how far the text is read (`Progress`). They hold for every text that a parser with
+/// this progress may have taken (`Took`). So no result depends on how the text was cut.
 #[derive(Debug, Drop)]
 pub struct PieceParser {
     text: Growing,
     offset: usize,
     fault: Option<ParseFault>,
-    // how far the change or the header that waits was gone over
+    // how far the parser scanned the incomplete change or header
     spot: Spot,
-    // so many bytes at least are lacking of it, so that fewer are taken without reading them; 0
-    // where nothing is known
+    // A lower bound on the bytes missing from it; a shorter piece is appended without being read. 0
+    // if nothing is known.
     lacking: usize,
-    // whether that is said of bytes other than zero only, since the header's name waits for one
+    // whether the bound counts nonzero bytes only, because the header's name is incomplete
     header: bool,
 }
 
@@ -68,7 +69,7 @@ impl Model for PieceParser {
         × IsPaused p.fault p.text.0 p.text.1 p.header p.lacking };
 }
 
-// Whether no name ends in these bytes, where a header waits.
+// Returns `true` unless a header's name ends in these bytes.
 #[inline(always)]
 fn no_end(header: bool, bytes: &[u8]) -> bool
     ensures { IsTrue result → IsTrue header → HasNoZero bytes.now }
@@ -77,7 +78,7 @@ fn no_end(header: bool, bytes: &[u8]) -> bool
 }
 
 impl PieceParser {
-    /// A parser that has taken nothing. It takes no memory.
+    /// A parser that has taken nothing. Does not allocate.
     pub fn new(alloc: Global) -> PieceParser
         ensures progress { result ≡ nothing }
         ensures text { Took result [] }
@@ -92,36 +93,37 @@ impl PieceParser {
         }
     }
 
-    /// Takes the next piece. It is a fault from the piece on that holds the fault's byte, and then
-    /// at every call, which takes nothing more; that the text isn't whole yet is none. `Memory`
-    /// leaves the parser as it was, and doesn't come behind a fault.
+    /// Takes the next piece. An incomplete text is not an error.
+    ///
+    /// `Fault` comes with the piece that contains the fault's byte. Every later call returns the
+    /// same fault and takes nothing. `Memory` does not change the parser, and never comes after a
+    /// fault.
     pub fn feed(&mut self, alloc: Global, piece: &[u8]) -> Result<(), ParseError>
-        // The piece is read behind what was read before, unless the text has a fault that lasts or
+        // The call reads the piece after the text so far, unless the text has a permanent fault or
         // memory runs out.
         ensures fed { FeedAnswers result self.old piece.now self.new }
-        // What is told is the fault of the text, and no more bytes mend it.
+        // A reported fault is the text's, and it is permanent.
         ensures told { (text : List ℕ) → Took self.old text
             → IfErr result (λ error. ReportsLasting error (text ++ piece.now)) }
-        // Where none is told, the text goes on.
+        // If no fault is reported, the text can be continued to a changeset.
         ensures going { (text : List ℕ) → Took self.old text
             → OnOk result (IsFaultless (text ++ piece.now)) }
-        // The text is taken with the piece, behind a fault too; where memory runs out it is taken
-        // alone.
+        // After the call the parser may have taken the text with the piece (`Took`), also if a
+        // fault is reported. If memory runs out, it may have taken the text alone.
         ensures taken { (text : List ℕ) → Took self.old text
             → TakesPiece result text piece.now self.new }
-        // A fault that was told before is told again.
+        // If the text has a permanent fault, the call reports it again.
         ensures again { (text : List ℕ) (fault : ParseFault) → Took self.old text
             → IsLasting text fault → result ≡ Err (ParseError.Fault fault) }
-        // And so is that of the progress, whatever text it is of.
+        // So it does with the fault of the progress, whatever the text is.
         ensures lasts { (fault : ParseFault) → self.old.fault ≡ Some fault
             → result ≡ Err (ParseError.Fault fault) }
     {
         self.fed(alloc, piece)
     }
 
-    // The same, as the answer is determined by the progress. Bytes of a value whose length is known
-    // are only put behind those that wait, and so are those of a name; that is all that most calls
-    // do where pieces are short.
+    // The same, because the progress determines the result. Bytes of a value of known length, or of
+    // a name, are only appended to the pending ones. If pieces are short, most calls do no more.
     #[inline(always)]
     fn fed(&mut self, alloc: Global, piece: &[u8]) -> Result<(), ParseError>
         ensures fed { FeedAnswers result self.old piece.now self.new }
@@ -137,7 +139,7 @@ impl PieceParser {
         self.read_in(alloc, piece)
     }
 
-    // the same, where the bytes are looked at
+    // the same, for a piece that has to be read
     #[tactic(auto, unfolding(crate::specs::Progress::advanced))]
     fn read_in(&mut self, alloc: Global, piece: &[u8]) -> Result<(), ParseError>
         ensures fed { FeedAnswers result self.old piece.now self.new }
@@ -196,7 +198,7 @@ impl PieceParser {
         }
     }
 
-    // Nothing is kept behind a fault.
+    // Drops everything but the fault.
     fn break_off(&mut self, alloc: Global, fault: ParseFault) -> ParseError
         requires { fault.at ≤ most_bytes }
         ensures broken { self.new ≡ broken fault }
@@ -210,8 +212,8 @@ impl PieceParser {
         ParseError::Fault(fault)
     }
 
-    /// The changeset that the bytes taken so far spell, or their fault. It changes nothing and
-    /// takes no memory, so that feeding may go on.
+    /// Returns the changeset that the bytes so far encode, or their fault. Changes nothing and does
+    /// not allocate, so feeding may continue.
     pub fn finish(&self) -> Result<&Changeset, ParseFault>
         ensures found { (text : List ℕ) → Took self.now text
             → IfOk result (λ changeset. Spells text changeset.now) }
@@ -222,7 +224,7 @@ impl PieceParser {
         self.finished()
     }
 
-    // the same, as the answer is determined by the progress
+    // the same, because the progress determines the result
     fn finished(&self) -> Result<&Changeset, ParseFault>
         ensures { Shows result (answer_at_end self.now) }
     {
@@ -238,7 +240,7 @@ impl PieceParser {
         }
     }
 
-    /// The changeset that `finish` shows, without a copy. The parser is left as a new one.
+    /// Moves out the changeset that `finish` returns, which must be `Ok`, and resets the parser.
     pub fn take(&mut self, alloc: Global) -> Changeset
         requires { IsOk (answer_at_end self.old) }
         ensures changeset { answer_at_end self.old ≡ Ok result }
@@ -248,7 +250,7 @@ impl PieceParser {
         self.taken(alloc)
     }
 
-    // the same, as the answer is determined by the progress
+    // the same, because the progress determines the result
     fn taken(&mut self, alloc: Global) -> Changeset
         requires { IsOk (answer_at_end self.old) }
         ensures changeset { answer_at_end self.old ≡ Ok result }
@@ -259,7 +261,7 @@ impl PieceParser {
         text.into_changeset()
     }
 
-    /// What `finish` shows, as the parser's end: the changeset without a copy.
+    /// Consumes the parser. Returns what `finish` returns, with the changeset moved out.
     pub fn into_changeset(self) -> Result<Changeset, ParseFault>
         ensures changeset { result ≡ answer_at_end self }
         ensures text { (text : List ℕ) → Took self text → result ≡ answer_of text }
@@ -267,7 +269,7 @@ impl PieceParser {
         self.into_ended()
     }
 
-    // the same, as the answer is determined by the progress
+    // the same, because the progress determines the result
     fn into_ended(self) -> Result<Changeset, ParseFault>
         ensures { result ≡ answer_at_end self }
     {
@@ -278,7 +280,7 @@ impl PieceParser {
         Ok(text.into_changeset())
     }
 
-    /// How many bytes were taken so far; after a fault its place.
+    /// The number of bytes taken so far, or the place of the fault.
     pub fn offset(&self) -> usize
         ensures value { result ≡ self.now.offset }
         ensures text { (text : List ℕ) → Took self.now text → result ≡ offset_of text }

@@ -1,5 +1,5 @@
-//! Records. They are read where they stand: whoever keeps them copies their bytes behind it. Their
-//! readers are inlined, since a call costs as much as two fields.
+//! Scans records in place; a caller that keeps them copies their bytes later. The functions are
+//! inlined, because a call costs as much as two fields.
 
 ghost use Rattle.std.specs.Prelude.{◌≡◌, ℕ, List, Ok, map, IfOk, IsTrue};
 ghost use Rattle.cs_model.specs.Packed.{packed};
@@ -16,8 +16,8 @@ use crate::rule::{FieldRule, rule_by_flag, rule_by_old};
 use crate::stop::ParseRefusal;
 use cs_model::Op;
 
-// The bytes behind a record, where the columns outside the key have this rule, and whether its own
-// are the canonical ones.
+// Returns the bytes after a record, and whether the record is canonical. `outside` is the rule of
+// the columns outside the key.
 #[inline(always)]
 fn skip_record<'a>(
     outside: FieldRule,
@@ -39,8 +39,8 @@ fn skip_record<'a>(
     Ok((rest, canonical))
 }
 
-// The same of an UPDATE's new record. Its rules come from the old one, which begins at `old` and is
-// read again, field by field beside the new one.
+// The same for an UPDATE's new record. The old record, which begins at `old`, gives its rules and
+// is read again beside it.
 fn skip_new<'a>(flags: &[u8], old: &[u8], bytes: &'a [u8]) -> Result<(&'a [u8], bool), ParseRefusal>
     ensures read { (before : List Field) (left : List ℕ)
         → record_at (map old_rule flags.now) old.now ≡ Ok (before, left)
@@ -64,8 +64,8 @@ fn skip_new<'a>(flags: &[u8], old: &[u8], bytes: &'a [u8]) -> Result<(&'a [u8], 
     Ok((rest, canonical))
 }
 
-/// The bytes behind a change's records, of which an INSERT has no old one and a DELETE no new one,
-/// and whether their own are the canonical ones.
+/// Returns the bytes after a change's records, and whether the records are canonical. An INSERT has
+/// no old record and a DELETE has no new one.
 #[tactic(auto, unfolding(crate::specs::Reading::records_at))]
 pub fn skip_records<'a>(
     flags: &[u8],

@@ -1,4 +1,4 @@
-//! Changes that get their canonical form where they stand.
+//! Re-encodes changes in canonical form, in the buffer that holds them.
 
 ghost use Rattle.std.specs.Prelude.{◌≡◌, ◌≤◌, ◌+◌, ◌++◌, take, drop, length, IfOk, OnOk, OnErr};
 ghost use Rattle.std.specs.List.{AllByRecursion};
@@ -10,8 +10,7 @@ ghost use Rattle.cs_parse.specs.Progress.{last_flags};
 use cs_model::{Changes, Section};
 use std::alloc::{AllocError, Global};
 
-// Adds bytes, and behind them those that stand from `from` on once more. Where memory runs out it
-// may have added some.
+// Appends `by`, and after it a copy of the bytes from `from` on. An `Err` may have appended some.
 fn add_behind(bytes: &mut Vec<u8>, by: &[u8], from: usize) -> Result<(), AllocError>
     requires { from ≤ length bytes.old.items }
     ensures ok { OnOk result (bytes.new.items
@@ -23,8 +22,7 @@ fn add_behind(bytes: &mut Vec<u8>, by: &[u8], from: usize) -> Result<(), AllocEr
     bytes.extend_from_within(from..all)
 }
 
-// Puts other bytes in the place of the `len` from `start` on. What stands behind them is moved with
-// them, once.
+// Replaces the `len` bytes from `start` on. Moves the bytes after them once.
 fn replace_part(bytes: &mut Vec<u8>, start: usize, len: usize, by: &[u8]) -> Result<(), AllocError>
     requires { start + len ≤ length bytes.old.items }
     ensures ok { OnOk result (bytes.new.items
@@ -43,8 +41,8 @@ fn replace_part(bytes: &mut Vec<u8>, start: usize, len: usize, by: &[u8]) -> Res
     Ok(())
 }
 
-// Gives the `len` bytes from `start` on, which say changes, their canonical form, and answers how
-// many they are then.
+// Re-encodes the changes in the `len` bytes from `start` on in canonical form, and returns their
+// new length.
 fn respell(
     alloc: Global,
     bytes: &mut Vec<u8>,
@@ -71,9 +69,8 @@ fn respell(
     Ok(changes.bytes().len())
 }
 
-/// Sees to it that the `len` bytes from `kept` on, the changes of the last one of these sections,
-/// have their canonical form, and answers how many they are then. Where they have it nothing is
-/// copied. An `Err` leaves them as they were.
+/// Brings the `len` bytes from `kept` on, changes of the last section, into canonical form. Returns
+/// their new length. Copies nothing if they are canonical. An `Err` changes nothing.
 pub fn settle(
     alloc: Global,
     sections: &[Section],

@@ -1,4 +1,5 @@
-//! What a field may be, and what is wrong with its type byte.
+//! The rules for a field's type byte, by column and record, and the faults of a byte that breaks
+//! them.
 
 ghost use Rattle.std.specs.Prelude.{◌≡◌, ℕ};
 ghost use Rattle.cs_model.specs.Rule.{new_rule};
@@ -9,32 +10,32 @@ ghost use Rattle.cs_parse.specs.Place.{type_refusal};
 
 use crate::fault::FaultKind;
 
-/// What a field may be, by its column and the record that it stands in.
+/// What a field may be, by its column and its record.
 #[derive(Clone, Copy)]
 pub enum FieldRule {
     /// A value that isn't NULL: a key column.
     Key,
-    /// A value, NULL or not: the one record of an INSERT or a DELETE.
+    /// Any value, NULL included: the one record of an INSERT or a DELETE.
     Given,
-    /// Anything: the old record of an UPDATE.
+    /// Any value or undefined: the old record of an UPDATE.
     Open,
-    /// Nothing: a key column in an UPDATE's new record.
+    /// Undefined: a key column in an UPDATE's new record.
     Blank,
-    /// A value, since the UPDATE's old record has one.
+    /// A value, because the UPDATE's old record has one.
     Both,
-    /// Nothing, since the UPDATE's old record has none.
+    /// Undefined, because the UPDATE's old record has no value.
     Neither,
 }
 
-/// A column's rule by its key byte, where a column outside the key has the rule `outside`.
+/// The rule of a column by its key flag; `outside` is the rule of a column outside the key.
 pub fn rule_by_flag(flag: u8, outside: FieldRule) -> FieldRule
     ensures { rule_of result ≡ column_rule (rule_of outside) flag }
 {
     if flag == 0 { outside } else { FieldRule::Key }
 }
 
-/// A column's rule in an UPDATE's new record, by its key byte and whether its field in the old
-/// record has a value.
+/// The rule of a column in an UPDATE's new record, by its key flag and whether the old record has a
+/// value.
 pub fn rule_by_old(flag: u8, has_value: bool) -> FieldRule
     ensures { (byte : ℕ) (old : Field) → is_defined old ≡ has_value
         → type_refusal (rule_of result) byte ≡ type_refusal (new_rule flag old) byte }
@@ -49,7 +50,7 @@ pub fn rule_by_old(flag: u8, has_value: bool) -> FieldRule
     }
 }
 
-/// What is wrong with a type byte under a rule.
+/// The fault of a type byte under a rule, if it has one.
 pub fn type_fault(rule: FieldRule, byte: u8) -> Option<FaultKind>
     ensures { result ≡ type_refusal (rule_of rule) byte }
 {

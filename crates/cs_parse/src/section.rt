@@ -1,4 +1,4 @@
-//! Sections.
+//! Reads the sections of a text, a header and its changes each, and counts their changes.
 
 ghost use Rattle.std.specs.Prelude.{◌≡◌, ◌<◌, [], IfOk, length};
 ghost use Rattle.cs_parse.specs.Count.{counted, changes_in};
@@ -15,8 +15,8 @@ use crate::stop::ParseRefusal;
 use cs_model::Section;
 use std::alloc::{AllocError, Global};
 
-// A section's shape, where it stands. The section before it ends only where a `T` follows, so
-// another first byte is the text's.
+// Reads a section's shape, in place. Only a `T` ends the section before it. So another first byte
+// is the first byte of the text.
 #[tactic(auto, unfolding(crate::specs::Reading::shape_at))]
 fn shape_in(bytes: &[u8]) -> Result<(ShapeRef, &[u8]), ParseRefusal>
     ensures { Reads (λ x. (shape_seen x.0, x.1.now)) result (shape_at bytes.now) }
@@ -38,8 +38,8 @@ fn shape_in(bytes: &[u8]) -> Result<(ShapeRef, &[u8]), ParseRefusal>
     })
 }
 
-// Adds the next section, as far as it is whole: where its header is, with as many of its changes as
-// are. The bytes behind it, and why it isn't read to its end.
+// Appends the next section if its header is complete, with its complete changes. Returns the bytes
+// after it, and why it isn't read to its end.
 fn next_section<'a>(
     alloc: Global,
     sections: &mut Vec<Section>,
@@ -58,8 +58,8 @@ fn next_section<'a>(
     Ok((rest, why))
 }
 
-/// The sections of a text, the last one as far as it is whole, the bytes behind them, and why no
-/// more is read.
+/// Reads the sections of a text, the last one as far as it is complete. Returns them, the bytes
+/// after them, and why no more is read.
 pub fn whole_sections(
     alloc: Global,
     bytes: &[u8],
@@ -69,7 +69,7 @@ pub fn whole_sections(
 {
     let mut sections = Vec::new(alloc);
     let mut rest = bytes;
-    // each turn takes a byte at least
+    // each turn takes at least one byte
     for _ in 0..bytes.len() {
         if rest.is_empty() {
             break;
@@ -83,7 +83,7 @@ pub fn whole_sections(
     Ok((sections, rest, None))
 }
 
-// how many changes the next section has, and the bytes behind it
+// the number of changes of the next section, and the bytes after it
 #[tactic(auto, unfolding(crate::specs::Reading::section_at))]
 fn section_counted(bytes: &[u8]) -> Result<(usize, &[u8]), ParseRefusal>
     ensures { Reads (λ x. (x.0, x.1.now)) result
@@ -94,13 +94,13 @@ fn section_counted(bytes: &[u8]) -> Result<(usize, &[u8]), ParseRefusal>
     Ok((count, rest))
 }
 
-/// How many changes a text has, and the bytes behind it, of which there are none.
+/// Returns the number of changes of a text, and the bytes after it, which are empty.
 pub fn sections_counted(bytes: &[u8]) -> Result<(usize, &[u8]), ParseRefusal>
     ensures { Reads (λ x. (x.0, x.1.now)) result (counted changes_in (sections_at bytes.now)) }
 {
     let mut count: usize = 0;
     let mut rest = bytes;
-    // each turn takes a byte at least
+    // each turn takes at least one byte
     for _ in 0..bytes.len() {
         if rest.is_empty() {
             break;

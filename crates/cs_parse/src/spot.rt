@@ -1,5 +1,5 @@
-//! How far a change that isn't whole was gone over, so that more bytes behind it are read from
-//! there on and not from its front. `name` does the same for headers.
+//! Resumable scanning of an incomplete change: the next call continues where the last one stopped.
+//! `header_spot` does the same for headers.
 
 ghost use Rattle.std.specs.Prelude.{◌≡◌, ◌≤◌, ◌<◌, ◌++◌, ℕ, List, length, Ok, Err, map, IfSome};
 ghost use Rattle.cs_model.specs.Bytes.{AreBytes};
@@ -19,12 +19,11 @@ use crate::lack::field_lacks;
 use crate::rule::{FieldRule, rule_by_flag, rule_by_old};
 use crate::stop::ParseRefusal;
 
-/// The first field of a change that isn't whole: `fields` of its record stand before it, and it
-/// begins at `at`. Of a header it is the name. Places are counted from the first byte of the change
-/// or the header.
+/// The first incomplete field of a change: `fields` fields of its record precede it, and it begins
+/// at `at`. In a header it is the name. Offsets count from the first byte of the change or header.
 #[derive(Clone, Copy, Debug)]
 pub enum Spot {
-    /// Nothing was gone over.
+    /// Nothing was scanned.
     Start,
     /// In the one record of an INSERT or a DELETE.
     Row {
@@ -36,14 +35,14 @@ pub enum Spot {
         fields: usize,
         at: usize,
     },
-    /// In the new one. The old record's field of the same column begins at `old`.
+    /// In the new record of an UPDATE. The old record's field of the same column begins at `old`.
     New {
         fields: usize,
         at: usize,
         old: usize,
     },
-    /// In a header's name, which begins at `at`; so many bytes of it are there, none of which ends
-    /// it.
+    /// In a header's name, which begins at `at`. Its first `letters` bytes are there, and none of
+    /// them is zero.
     Name {
         at: usize,
         letters: usize,
@@ -51,7 +50,7 @@ pub enum Spot {
 }
 
 impl Spot {
-    /// The spot where nothing was gone over.
+    /// The spot at which nothing was scanned.
     pub fn start() -> Spot
         ensures { result ≡ Start }
     {
@@ -59,8 +58,8 @@ impl Spot {
     }
 }
 
-// The fields of a record that are whole, where the columns outside the key have this rule: how
-// many, and the bytes behind them. Nothing where a byte of the next one is wrong.
+// Scans the complete fields of a record. Returns their number and the bytes after them, or `None`
+// if the next field has a wrong byte. `outside` is the rule of the columns outside the key.
 fn pass_fields<'a>(outside: FieldRule, flags: &[u8], bytes: &'a [u8]) -> Option<(usize, &'a [u8])>
     ensures { IfSome result (λ x.
         Halts (column_rule (rule_of outside)) flags.now bytes.now x.0 x.1.now) }
@@ -76,9 +75,9 @@ fn pass_fields<'a>(outside: FieldRule, flags: &[u8], bytes: &'a [u8]) -> Option<
     Some((flags.len(), rest))
 }
 
-// The same of an UPDATE's new record, and nothing where all its fields are whole. Its rules come
-// from the old one, which is read again from `old` on, field by field beside it. The old record's
-// bytes from the next column on stand before the new one's.
+// The same for an UPDATE's new record; `None` also if all its fields are complete. The old record
+// gives its rules and is read again from `old` on, field by field. The second result is the old
+// record's bytes from the next column on.
 fn pass_new<'a>(flags: &[u8], old: &'a [u8], bytes: &'a [u8]) -> Option<(usize, &'a [u8], &'a [u8])>
     ensures back { IfSome result (λ x. IsBack old.now x.1.now) }
     ensures halts { (before : List Field) (left : List ℕ)
@@ -102,8 +101,8 @@ fn pass_new<'a>(flags: &[u8], old: &'a [u8], bytes: &'a [u8]) -> Option<(usize, 
     None
 }
 
-// Goes on in the first record of a change: how many of its fields are whole, and where the next one
-// begins.
+// Continues in the first record of a change. Returns the number of its complete fields, and where
+// the next one begins.
 fn pass_first(
     outside: FieldRule,
     flags: &[u8],
@@ -123,7 +122,7 @@ fn pass_first(
     Some((fields + passed, bytes.len() - rest.len()))
 }
 
-// goes on in the one record of an INSERT or a DELETE
+// continues in the one record of an INSERT or a DELETE
 fn row_spot(flags: &[u8], bytes: &[u8], fields: usize, at: usize) -> Option<Spot>
     requires { IsSpot flags.now bytes.now (Row fields at) }
     ensures { StaysShort flags.now bytes.now result }
@@ -136,7 +135,7 @@ fn row_spot(flags: &[u8], bytes: &[u8], fields: usize, at: usize) -> Option<Spot
     }
 }
 
-// goes on in the new record of an UPDATE
+// continues in the new record of an UPDATE
 fn new_spot(flags: &[u8], bytes: &[u8], fields: usize, at: usize, old: usize) -> Option<Spot>
     requires { SpotInNew flags.now bytes.now fields at old }
     ensures { StaysShort flags.now bytes.now result }
@@ -152,7 +151,7 @@ fn new_spot(flags: &[u8], bytes: &[u8], fields: usize, at: usize, old: usize) ->
     })
 }
 
-// goes on in the old record of an UPDATE, and then in the new one
+// continues in the old record of an UPDATE, and then in the new one
 fn old_spot(flags: &[u8], bytes: &[u8], fields: usize, at: usize) -> Option<Spot>
     requires { IsSpot flags.now bytes.now (Old fields at) }
     ensures { StaysShort flags.now bytes.now result }
@@ -164,7 +163,7 @@ fn old_spot(flags: &[u8], bytes: &[u8], fields: usize, at: usize) -> Option<Spot
     new_spot(flags, bytes, 0, at, 2)
 }
 
-// goes over a change from its first byte on
+// scans a change from its first byte
 fn first_spot(flags: &[u8], bytes: &[u8]) -> Option<Spot>
     ensures { StaysShort flags.now bytes.now result }
 {
@@ -179,7 +178,7 @@ fn first_spot(flags: &[u8], bytes: &[u8]) -> Option<Spot>
     }
 }
 
-// The spot that is reached from here, where the change still ends too early.
+// The spot reached from `spot`, if the change is still incomplete.
 fn next_spot(flags: &[u8], bytes: &[u8], spot: Spot) -> Option<Spot>
     requires { IsSpot flags.now bytes.now spot }
     ensures { StaysShort flags.now bytes.now result }
@@ -192,8 +191,7 @@ fn next_spot(flags: &[u8], bytes: &[u8], spot: Spot) -> Option<Spot>
     }
 }
 
-// How many bytes at least are lacking of the field at a spot. Where the spot is at no field that is
-// one.
+// A lower bound on the bytes missing from the field at a spot. It is 1 if the spot is at no field.
 fn spot_lacks(bytes: &[u8], spot: Spot) -> usize
     requires { place_of spot ≤ length bytes.now }
     ensures some { 0 < result }
@@ -208,10 +206,10 @@ fn spot_lacks(bytes: &[u8], spot: Spot) -> usize
     }
 }
 
-/// How many bytes at least are lacking of a change that still ends too early, of which these are
-/// there, none or more. The spot is moved to the first field that isn't whole, and stays right with
-/// any bytes behind these. It takes time in line with the fields that are passed. Where it is 0,
-/// the change is whole or a byte is wrong, and nothing is known of the spot.
+/// Returns a lower bound on the bytes missing from an incomplete change that begins with `bytes`,
+/// which may be empty. Moves the spot to the first incomplete field; it stays valid when more bytes
+/// follow. Takes time linear in the fields passed. A result of 0 means that the change is complete
+/// or a byte is wrong; the spot is then unspecified.
 pub fn still_short(flags: &[u8], bytes: &[u8], spot: &mut Spot) -> usize
     requires { IsSpot flags.now bytes.now spot.old }
     ensures short { (more : List ℕ) → length more < result

@@ -1,13 +1,13 @@
-//! Why a reader stops.
+//! Why a reader stops: the bytes are too few, or one of them is wrong.
 
 use crate::fault::FaultKind;
 
-/// Why bytes don't begin with what a reader looks for.
+/// Why the bytes don't begin with what a reader expects.
 #[derive(Clone, Copy, Debug, PartialEq, Eq)]
 pub enum ParseRefusal {
-    /// The bytes end before the value is whole.
+    /// The bytes end before the item is complete.
     Short,
-    /// A byte can't stand in its place. The place is kept as the number of bytes from that byte to
-    /// the end, so that no reader needs to know where its bytes stand in the text.
+    /// A byte is wrong. `left` is the number of bytes from it to the end. So no reader needs the
+    /// offset of its bytes in the text.
     Bad { left: usize, kind: FaultKind },
 }

@@ -1,4 +1,5 @@
-//! Whole texts.
+//! Parses a whole text (`parse`), or counts its changes without building a changeset
+//! (`count_changes`).
 
 ghost use Rattle.std.specs.Prelude.{◌≡◌, ◌≤◌, List, IfOk, IfErr, Ok, Err, length};
 ghost use Rattle.cs_parse.specs.declared.fault.ParseFault.{ParseFault};
@@ -17,11 +18,10 @@ use crate::stop::ParseRefusal;
 use cs_model::{Changeset, Section, Seq};
 use std::alloc::Global;
 
-/// The most bytes of a text.
+/// The maximum length of a text, in bytes.
 pub const MOST_BYTES: usize = 16_777_216;
 
-// The fault of a text of which the first `len` bytes are read, and what it is when they end too
-// early.
+// The fault of a text whose first `len` bytes are read. Its kind is `ended` if they end too early.
 fn fault_from(refusal: ParseRefusal, len: usize, ended: FaultKind) -> ParseFault
     ensures { result ≡ fault_of len ended refusal }
 {
@@ -30,7 +30,7 @@ fn fault_from(refusal: ParseRefusal, len: usize, ended: FaultKind) -> ParseFault
             at: len,
             kind: ended,
         },
-        // the byte stands in the text, so that no more bytes are left than it has
+        // the byte is in the text, so `left` is at most `len`
         ParseRefusal::Bad { left, kind } => ParseFault {
             at: len.saturating_sub(left),
             kind,
@@ -38,7 +38,7 @@ fn fault_from(refusal: ParseRefusal, len: usize, ended: FaultKind) -> ParseFault
     }
 }
 
-// the sections of a text that isn't too long
+// the sections of a text within the limit
 fn whole_of(alloc: Global, text: &[u8]) -> Result<Seq<Section>, ParseError>
     ensures { ParseAnswers result (whole_answer (length text.now) (sections_at text.now)) }
 {
@@ -53,7 +53,8 @@ fn whole_of(alloc: Global, text: &[u8]) -> Result<Seq<Section>, ParseError>
     }
 }
 
-// What is told where memory runs out: a fault is found without any.
+// The error when memory runs out. It is the text's fault if it has one, because finding a fault
+// does not allocate.
 fn unbuilt(text: &[u8]) -> ParseError
     ensures { ParseAnswers (Err result) (whole_answer (length text.now) (sections_at text.now)) }
 {
@@ -63,7 +64,7 @@ fn unbuilt(text: &[u8]) -> ParseError
     }
 }
 
-// what is wrong with a text that is too long and begins so
+// the fault of a text over the limit that begins with `front`
 fn cut_of(front: &[u8]) -> ParseFault
     ensures { overlong_answer (length front.now) (sections_at front.now) ≡ Err result }
 {
@@ -85,30 +86,31 @@ fn read(alloc: Global, text: &[u8]) -> Result<Seq<Section>, ParseError>
     whole_of(alloc, text)
 }
 
-/// The changeset that `text` spells; else the text's one fault. `Memory` comes only where the text
-/// spells a changeset, since a fault is found without memory. Whatever the answer, nothing is
-/// changed. The fault is the first byte after which no text can be that of a changeset, and what is
-/// wrong with it there. Of a text of more than 16,777,216 bytes only so many are read: it is
-/// `TooLong`, unless its fault stands among them.
+/// Returns the changeset that `text` encodes, or the text's one fault. The fault is at the first
+/// byte after which no continuation encodes a changeset, or at the end of a truncated text.
+///
+/// `Memory` comes only if the text encodes a changeset, because finding a fault does not allocate.
+/// Neither error changes anything. The call reads at most 16,777,216 bytes. A longer text is
+/// `TooLong`, unless its fault is among those bytes.
 pub fn parse(alloc: Global, text: &[u8]) -> Result<Changeset, ParseError>
-    // What is read is spelled so.
+    // A changeset that is returned is the one that the text encodes.
     ensures found { IfOk result (λ changeset. Spells text.now changeset) }
-    // What is spelled so is read, unless memory runs out.
+    // If the text encodes a changeset, that changeset is returned, unless memory runs out.
     ensures only { (changeset : List Section) → Spells text.now changeset
         → IsRead result changeset }
-    // What is told is the text's fault; or memory ran out, and the text spells a changeset.
+    // An error is the text's fault, or memory ran out and the text encodes a changeset.
     ensures faulty { IfErr result (λ error. ReportsFault error text.now) }
-    // The text's fault is told, whether there is memory or not.
+    // If the text has a fault, the fault is returned, even without memory.
     ensures the_fault { (fault : ParseFault) → IsFault text.now fault
         → result ≡ Err (ParseError.Fault fault) }
-    // And the answer is determined by the text.
+    // The text determines the result.
     ensures exact { ParseAnswers result (answer_of text.now) }
 {
     let sections = read(alloc, text)?;
     Ok(Changeset::from_seq(sections))
 }
 
-// the number of changes that a text spells, by what reading it gives
+// the number of changes in a text, from the result of reading it
 #[tactic(auto, unfolding(crate::specs::Reading::answer_of))]
 fn counted(text: &[u8]) -> Result<usize, ParseFault>
     ensures { result ≡ counted_answer (answer_of text.now) }
@@ -122,20 +124,20 @@ fn counted(text: &[u8]) -> Result<usize, ParseFault>
     }
 }
 
-/// How many changes `text` spells; else the text's one fault, as `parse` tells it. It takes no
-/// memory, since each value is read where it stands and left behind: the way to check a text of
-/// which nothing is kept.
+/// Returns the number of changes that `text` encodes, or its one fault, as `parse` does. Does not
+/// allocate, because it keeps no value that it reads. Use it to check a text without keeping
+/// anything.
 pub fn count_changes(text: &[u8]) -> Result<usize, ParseFault>
-    // What is counted is spelled so.
+    // The text encodes a changeset with the number of changes returned.
     ensures found { IfOk result (λ count. HasChangeCount text.now count) }
-    // What is spelled so is counted.
+    // If the text encodes a changeset, its number of changes is returned.
     ensures only { (changeset : List Section) → Spells text.now changeset
         → result ≡ Ok (changes_in changeset) }
-    // What is told is the text's fault.
+    // A fault that is returned is the text's.
     ensures faulty { IfErr result (λ fault. IsFault text.now fault) }
-    // The text's fault is told.
+    // If the text has a fault, the fault is returned.
     ensures the_fault { (fault : ParseFault) → IsFault text.now fault → result ≡ Err fault }
-    // There are no more changes than bytes.
+    // The number of changes is at most the limit on bytes.
     ensures bounded { IfOk result (λ count. count ≤ most_bytes) }
 {
     counted(text)

@@ -1,5 +1,5 @@
-//! Tables, and what changesets make of them. Each table has two columns: its key, which is a
-//! number, and a text of a byte.
+//! Tests `Tables::apply`. Each table has two columns: its key, which is a number, and a text of one
+//! byte.
 
 use crate::fixture::{HEADER, counts, read, same, shape};
 use cs_apply::ConflictKind::{Data, NotFound};
@@ -10,8 +10,8 @@ use std::process::Abort;
 use std::sync::Arc;
 use std::test::Fail;
 
-// The changes of row 1, and of others, that stand in texts by themselves. UPDATED leaves row 5 as
-// it is, and OTHER is a DELETE of a row 1 with another text.
+// Changes of row 1 and of row 5. UPDATED does not change row 5, and OTHER is a DELETE of row 1 with
+// another text.
 const FIRST: &[u8] = b"\x12\0\x01\0\0\0\0\0\0\0\x01\x03\x01x";
 
 const FIFTH: &[u8] = b"\x12\0\x01\0\0\0\0\0\0\0\x05\x03\x01x";
@@ -22,8 +22,8 @@ const OTHER: &[u8] = b"\x09\0\x01\0\0\0\0\0\0\0\x01\x03\x01y";
 
 const DELETED: &[u8] = b"\x09\0\x01\0\0\0\0\0\0\0\x01\x03\x01x";
 
-// Changes of a table that isn't there, of `o`, which has another shape, and of `n`, which isn't
-// kept: four, which are passed over.
+// Changes of a table that doesn't exist, of `o`, which has another shape, and of `n`, which isn't
+// kept. With the FIFTH after SHAPED these are four changes, which are skipped.
 const UNKNOWN: &[u8] = b"T\x02\x01\0u\0\x09\0\x01\0\0\0\0\0\0\0\x07\x03\x01x";
 
 const SHAPED: &[u8] = b"T\x02\x01\0o\0\x12\0\x01\0\0\0\0\0\0\0\x08\x03\x01x";
@@ -49,7 +49,7 @@ fn tables(alloc: Global) -> Result<Tables, Fail> {
     Ok(Tables::new(alloc, schema, kept))
 }
 
-// The tables have the rows of these numbers, each with an `x`, and no other.
+// The tables have exactly the rows with these numbers, each with an `x`.
 fn has(rt: &impl Abort, alloc: Global, tables: &Tables, numbers: &[u8]) -> Result<(), AllocError> {
     let rows = tables.rows_in_order(alloc)?;
     counts(rt, rows.len(), numbers.len());
@@ -61,7 +61,7 @@ fn has(rt: &impl Abort, alloc: Global, tables: &Tables, numbers: &[u8]) -> Resul
     Ok(())
 }
 
-// Applies a text in parts, which conflicts so where it does. The tables have these rows after it.
+// Applies a text in parts, and expects this conflict or none. The tables have these rows after it.
 fn goes(
     rt: &impl Abort,
     alloc: Global,
@@ -103,7 +103,7 @@ fn skipped(rt: HostRuntime) -> Result<(), Fail> {
     Ok(())
 }
 
-// 32 rows, or as many deletes but of every eighth, so that the empty places are swept.
+// 32 INSERTs, or DELETEs of all rows but every eighth, so that the empty places are swept.
 fn many(alloc: Global, op: u8) -> Result<Vec<u8>, AllocError> {
     let mut changes = Vec::new(alloc);
     for number in 0..32u8 {
@@ -123,7 +123,7 @@ fn found(rt: &impl Abort, alloc: Global, tables: &Tables) -> Result<(), AllocErr
     Ok(())
 }
 
-// The places are made anew where rows come back.
+// After the sweep, rows that come back get new places.
 #[test]
 fn swept(rt: HostRuntime) -> Result<(), Fail> {
     let alloc = rt.alloc();

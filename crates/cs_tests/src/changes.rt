@@ -1,4 +1,4 @@
-//! Lists of changes, sections and changesets, and the keys of rows.
+//! Tests lists of changes, sections and changesets, and the keys of rows.
 
 ghost use Rattle.std.specs.Prelude.{◌≡◌, ◌∷◌, [], IfOk};
 ghost use Rattle.cs_model.specs.PackedChanges.{Long};
@@ -12,8 +12,8 @@ use std::cmp::Ordering;
 use std::process::Abort;
 use std::test::Fail;
 
-// INSERT of (7, 'w'), UPDATE of it to (7, 'x') by a trigger, and DELETE of (7, 'w'), in the table
-// of HEADER
+// an INSERT of (7, 'w'), its UPDATE to (7, 'x') by a trigger, and a DELETE of (7, 'w'), in the
+// table of HEADER
 const INSERTED: &[u8] = b"\x12\0\x01\0\0\0\0\0\0\0\x07\x03\x01w";
 
 const UPDATED: &[u8] = b"\x17\x01\x01\0\0\0\0\0\0\0\x07\x03\x01w\0\x03\x01x";
@@ -31,7 +31,7 @@ fn pair(alloc: Global, first: FieldRef, second: FieldRef) -> Result<Record, Allo
     Ok(record)
 }
 
-// so many INSERTs of (NULL, 'w')
+// `count` INSERTs of (NULL, 'w')
 fn inserts(alloc: Global, count: usize) -> Result<Changes, AllocError>
     ensures { IfOk result (λ changes. changes.0 ≡ 2) }
 {
@@ -44,7 +44,7 @@ fn inserts(alloc: Global, count: usize) -> Result<Changes, AllocError>
     Ok(changes)
 }
 
-// the UPDATE above, in memory of its own
+// the UPDATE above, as an owned `Change`
 fn update(alloc: Global) -> Result<Change, AllocError>
     ensures { IfOk result (λ c. Long 2 c.op c.before c.after) }
 {
@@ -59,7 +59,7 @@ fn update(alloc: Global) -> Result<Change, AllocError>
     })
 }
 
-// an INSERT, the UPDATE above and two INSERTs more
+// an INSERT, the UPDATE above and two more INSERTs
 fn lists(alloc: Global) -> Result<Changes, AllocError> {
     let mut changes = inserts(alloc, 1)?;
     let change = update(alloc)?;
@@ -74,7 +74,7 @@ fn again(changeset: Changeset) -> Changeset {
     Changeset::from_seq(changeset.into_seq())
 }
 
-// A changeset, and its copy after it.
+// A changeset followed by its copy.
 fn twice(rt: &impl Abort, alloc: Global, mut all: Changeset) -> Result<Changeset, Fail> {
     let copy = all.copy_in(alloc)?;
     all.append(alloc, &copy)?;
@@ -110,7 +110,7 @@ fn changes(rt: HostRuntime) -> Result<(), Fail> {
     parts(&rt, alloc, twice(&rt, alloc, changeset)?)
 }
 
-// in ascending order: by the table first, then by the bytes as unsigned ones
+// ascending order: by the table first, then by the bytes, as unsigned
 fn ordered(rt: &impl Abort, alloc: Global) -> Result<(), Fail> {
     let bytes = Seq::from_slice(alloc, b"")?;
     let mut last = RowKey { table: 0, bytes };
@@ -154,7 +154,7 @@ fn keys(rt: HostRuntime) -> Result<(), Fail> {
     for change in [INSERTED, UPDATED, DELETED] {
         has_key(&rt, alloc, HEADER, change, b"\x01\0\0\0\0\0\0\0\x07")?;
     }
-    // a DELETE of (-2, NULL, 'x') in a table of which the first and the last column are the key
+    // a DELETE of (-2, NULL, 'x') in a table whose first and last columns are the key
     let header = b"T\x03\x02\0\x01u\0";
     let delete = b"\x09\0\x01\xff\xff\xff\xff\xff\xff\xff\xfe\x05\x03\x01x";
     let key = b"\x01\xff\xff\xff\xff\xff\xff\xff\xfe\x03\x01x";

@@ -1,4 +1,4 @@
-//! Numbers, fields, and records and rows of fields.
+//! Tests numbers, fields, records and rows.
 
 use crate::fixture::{gives, same};
 use cs_model::FieldRef::{Blob, Integer, Null, Text, Undefined};
@@ -37,7 +37,7 @@ fn numbers(rt: &impl Abort, alloc: Global) -> Result<(), Fail> {
     Ok(())
 }
 
-// A field's bytes are these two parts, and say the field.
+// A field's bytes are these two parts, and decode to the field.
 fn pushes(
     rt: &impl Abort,
     alloc: Global,
@@ -108,7 +108,7 @@ fn fields(rt: HostRuntime) -> Result<(), Fail> {
         pushes(&rt, alloc, Text(&value), text, &value)?;
         pushes(&rt, alloc, Blob(&value), blob, &value)?;
     }
-    // what is no record's bytes says something too, and is read to its end
+    // bytes that are no record's decode to something too, and are read to their end
     gives(&rt, Fields::of(b""), &[]);
     gives(&rt, Fields::of(b"\x03\x05ab"), &[Text(b"ab")]);
     gives(&rt, Fields::of(b"\x04\x80"), &[Blob(b"\x80")]);

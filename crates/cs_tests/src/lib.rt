@@ -1,6 +1,6 @@
-//! The tests of cs_model, cs_parse, cs_write and cs_apply, which have none: a crate with tests is
-//! proved twice. Here stands what no clause says and no script shows: values from outside, each
-//! call that takes memory, sizes at a limit, and the texts of errors.
+//! The tests of cs_model, cs_parse, cs_write and cs_apply, which contain none, because a crate with
+//! tests is proved twice. They test what no clause states and no script shows: external values,
+//! each call that allocates, sizes at a limit, and error messages.
 #![tactic(auto)]
 
 #[cfg(test)]

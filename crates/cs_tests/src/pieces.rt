@@ -1,4 +1,4 @@
-//! Texts in pieces, and the limits of texts.
+//! Tests texts in pieces, and the limits of texts.
 
 ghost use Rattle.std.specs.Prelude.{◌<◌};
 
@@ -10,12 +10,11 @@ use std::alloc::{AllocError, Global};
 use std::process::Abort;
 use std::test::Fail;
 
-// an INSERT of (1, 'x'), marked as indirect by a 5, and with a longer spelling of 1 than the
-// shortest
+// an INSERT of (1, 'x'), with the indirect byte 5 and a longer encoding of 1 than the shortest
 const LOOSE: &[u8] = b"\x12\x05\x01\0\0\0\0\0\0\0\x01\x03\x80\x01x";
 
-// Feeds a piece, which must be answered so. Where memory runs out the parser is as before, and a
-// second try goes on from there.
+// Feeds a piece, which must return this. If memory runs out, the parser has not changed, and a
+// second call continues.
 fn feeds(
     rt: &impl Abort,
     alloc: Global,
@@ -36,7 +35,7 @@ fn are(rt: &impl Abort, sections: &[Section], want: &[Section]) {
     assert_eq!(rt; sections, want);
 }
 
-// What a text spells, where it is one.
+// The result of parsing a text; an error if memory runs out.
 fn whole(alloc: Global, text: &[u8]) -> Result<Result<Changeset, ParseFault>, Fail> {
     match parse(alloc, text) {
         Ok(read) => Ok(Ok(read)),
@@ -45,7 +44,7 @@ fn whole(alloc: Global, text: &[u8]) -> Result<Result<Changeset, ParseFault>, Fa
     }
 }
 
-// The bytes taken are answered as the whole text is: by the same sections, or by the same fault.
+// The bytes taken give the same as the whole text: the same sections, or the same fault.
 fn as_whole(rt: &impl Abort, alloc: Global, parser: &PieceParser, text: &[u8]) -> Result<(), Fail> {
     match (whole(alloc, text)?, parser.finish()) {
         (Ok(whole), Ok(found)) => are(rt, found.sections(), whole.sections()),
@@ -58,8 +57,8 @@ fn repeated(alloc: Global, byte: u8, count: usize) -> Result<Vec<u8>, AllocError
     vec![in alloc; byte; count]
 }
 
-// A text of so many bytes: an INSERT of 1 and a BLOB of zeros, and more zeros where any are left.
-// The lowest seven bits of the BLOB's length are given, and with 0x6a its end is at 16,777,216.
+// A text of `len` bytes: an INSERT of 1 and a BLOB of zeros, and more zeros if any bytes are left.
+// `low` is the lowest seven bits of the BLOB's length. With 0x6a the BLOB ends at 16,777,216.
 fn with_blob(alloc: Global, low: u8, len: usize) -> Result<Vec<u8>, AllocError> {
     let mut text = joined(alloc, &[HEADER, BEGUN, b"\x04\x87\xff\xff"])?;
     text.push(low)?;
@@ -73,10 +72,10 @@ fn longest_texts(rt: HostRuntime) -> Result<(), Fail> {
     let too_long = Err((16_777_216, TooLong));
     for (low, len, want) in [
         (0x6a, 16_777_216, Ok(1)),
-        // whatever stands after the limit, and also where the limit is in a value
+        // whatever follows the limit, and also if the limit is in a value
         (0x6a, 16_777_217, too_long),
         (0x6b, 16_777_217, too_long),
-        // but what is wrong before the limit comes first, as a zero after the last change
+        // but a fault before the limit comes first, such as a zero after the last change
         (0x69, 16_777_217, Err((16_777_215, BadOperation))),
     ] {
         let want = want.map_err(|(at, kind)| ParseFault { at, kind });
@@ -113,9 +112,9 @@ fn longest_in_pieces(rt: HostRuntime) {
     }
 }
 
-// An INSERT of (1, 'x'), and the header of a table with 2,000 columns, of which the last is its
-// key, and an INSERT of 1 in the key and NULL in all other columns. The number of columns is
-// spelled so, and the name has so many letters.
+// An INSERT of (1, 'x'), and a table of 2,000 columns, the last of which is its key. Its INSERT has
+// 1 in the key and NULL in all other columns. `count` encodes the number of columns, and the name
+// has `letters` letters.
 fn wide(alloc: Global, count: &[u8], letters: usize) -> Result<Vec<u8>, AllocError> {
     let mut text = joined(alloc, &[HEADER, INSERT, b"T"])?;
     text.extend_from_slice(count)?;
@@ -128,7 +127,7 @@ fn wide(alloc: Global, count: &[u8], letters: usize) -> Result<Vec<u8>, AllocErr
     Ok(text)
 }
 
-// A text comes in pieces of this length: its fault is told at its byte and from then on.
+// Feeds a text in pieces of this length. Its fault is reported at its byte, and from then on.
 fn comes(
     rt: &impl Abort,
     alloc: Global,
@@ -147,8 +146,7 @@ fn comes(
     as_whole(rt, alloc, &parser, text)
 }
 
-// An end that is refused, by the schema or for a fault, leaves the text. One that isn't leaves a
-// new parser.
+// `end` does not change the parser if it returns an error. If it succeeds, it resets the parser.
 fn ends(
     rt: &impl Abort,
     alloc: Global,
@@ -181,7 +179,7 @@ fn ended(rt: &impl Abort, alloc: Global) -> Result<(), Fail> {
     Ok(())
 }
 
-// Taken out, the changeset is the one that was shown, and the parser is left as a new one.
+// `take` returns the changeset that `finish` showed, and resets the parser.
 fn taken(rt: &impl Abort, alloc: Global, mut parser: PieceParser) -> Result<(), Fail> {
     if parser.finish().is_err() {
         return Err("a fault")?;

@@ -1,4 +1,4 @@
-//! The texts of errors.
+//! Tests the messages of errors.
 
 use cs_apply::*;
 use cs_model::SectionFault::{ShapeDiffers, UnknownTable};
@@ -18,7 +18,7 @@ fn says<T: Display>(rt: &impl Abort, alloc: Global, error: &T, text: &str) -> Re
     Ok(())
 }
 
-// what is wrong with texts
+// the faults of texts
 fn kinds(rt: &impl Abort, alloc: Global) -> Result<(), Fail> {
     for (kind, text) in [
         (BadMarker, "the first byte begins no changeset"),
@@ -54,7 +54,7 @@ fn kinds(rt: &impl Abort, alloc: Global) -> Result<(), Fail> {
     says(rt, alloc, &ParseError::Memory, "out of memory")
 }
 
-// what is wrong with tables and sections
+// the refusals of tables and sections
 fn refusals(rt: &impl Abort, alloc: Global) -> Result<(), Fail> {
     let twice = "table 2 has the name of an earlier one";
     says(rt, alloc, &DuplicateTable(2), twice)?;

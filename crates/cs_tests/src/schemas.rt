@@ -1,4 +1,4 @@
-//! Schemas, and which changesets they admit.
+//! Tests schemas, and which changesets they admit.
 
 use crate::fixture::{read, shape};
 use cs_model::SectionFault::{ShapeDiffers, UnknownTable};
@@ -12,7 +12,7 @@ fn are(rt: &impl Abort, tables: &[Shape], want: &[Shape]) {
     assert_eq!(rt; tables, want);
 }
 
-// Whether a schema is made of tables. Refused tables come back.
+// `Schema::new` accepts these tables, or returns this fault with the tables.
 fn makes(
     rt: &impl Abort,
     alloc: Global,
@@ -33,7 +33,7 @@ fn makes(
     Ok(())
 }
 
-// Whether a table may be added to a schema.
+// `Schema::add` accepts this table, or returns this fault.
 fn adds(
     rt: &impl Abort,
     mut schema: Schema,
@@ -50,7 +50,7 @@ fn adds(
     Ok(())
 }
 
-// Both, of so many tables and one more.
+// The same for both calls, with `count` tables and one more.
 fn counted(
     rt: &impl Abort,
     alloc: Global,
@@ -71,7 +71,7 @@ fn counted(
     makes(rt, alloc, tables, want)
 }
 
-// texts of headers alone, and tables that are there or not
+// texts of headers only, of known and unknown tables
 fn admits(rt: &impl Abort, alloc: Global, schema: &Schema) -> Result<(), Fail> {
     let (t, u, x) = (b"T\x02\x01\0t\0", b"T\x02\x01\x01u\0", b"T\x02\x01\0x\0");
     let (other_t, other_u) = (b"T\x02\x01\x01t\0", b"T\x02\x01\x02u\0");

@@ -1,4 +1,4 @@
-//! The canonical form of texts, and the canonical text in buffers and in pieces.
+//! Tests the canonical form of texts, and the canonical text in buffers and in pieces.
 
 ghost use Rattle.std.specs.Prelude.{◌<◌, map};
 
@@ -12,7 +12,7 @@ use std::test::Fail;
 // HEADER and INSERT
 const TEXT: [u8; 20] = *b"T\x02\x01\0t\0\x12\0\x01\0\0\0\0\0\0\0\x01\x03\x01x";
 
-// the header of a table of two columns, of which the second is its key
+// the header of a table of two columns, the second of which is its key
 const SECOND: &[u8] = b"T\x02\0\x01t\0";
 
 fn writes(rt: &impl Abort, alloc: Global, changeset: &Changeset, want: &[u8]) -> Result<(), Fail> {
@@ -21,7 +21,7 @@ fn writes(rt: &impl Abort, alloc: Global, changeset: &Changeset, want: &[u8]) ->
     Ok(())
 }
 
-// The changeset has this canonical text, and so has its canonical form, which has so many sections.
+// The changeset has this canonical text, and so has its canonical form, which has `count` sections.
 fn forms(
     rt: &impl Abort,
     alloc: Global,
@@ -35,7 +35,7 @@ fn forms(
     writes(rt, alloc, &form, want)
 }
 
-// Writes the changeset to a buffer of sevens as long as this one, which it must give. Its text
+// Writes the changeset to a buffer of sevens as long as `want`, which must become `want`. Its text
 // has 20 bytes.
 fn fills(rt: &impl Abort, alloc: Global, changeset: &Changeset, want: &[u8]) -> Result<(), Fail> {
     let mut out = vec![in alloc; 7u8; want.len()]?;
@@ -45,8 +45,8 @@ fn fills(rt: &impl Abort, alloc: Global, changeset: &Changeset, want: &[u8]) -> 
     Ok(())
 }
 
-// A sink that takes so many pieces and fails after them. It keeps all that it was handed, so it
-// stops the test where memory runs out.
+// A sink that takes `room` pieces and then fails. It keeps all pieces that it gets, and stops the
+// test if memory runs out.
 #[derive(Drop)]
 struct Kept<'a, R> {
     rt: &'a R,
@@ -79,7 +79,7 @@ fn are(rt: &impl Abort, pieces: &[Vec<u8>], want: &[&[u8]]) {
     }
 }
 
-// A sink with room for so many pieces takes these, and fails to take those.
+// A sink with room for `room` pieces takes these, and fails to take those.
 fn puts(
     rt: &impl Abort,
     alloc: Global,
@@ -108,8 +108,8 @@ fn puts(
     Ok(())
 }
 
-// A buffer of the text's length is the text, and in a longer one the bytes after it stay. A
-// shorter one stays whole.
+// A buffer as long as the text becomes the text. In a longer one the bytes after it are unchanged,
+// and a shorter one is unchanged.
 fn buffers(rt: &impl Abort, alloc: Global, changeset: &Changeset) -> Result<(), Fail> {
     let longer = joined(alloc, &[&TEXT, b"\x07\x07"])?;
     for want in [&TEXT[..], &longer, &[7; 19], b""] {
@@ -127,8 +127,8 @@ fn sinks(rt: &impl Abort, alloc: Global, changeset: &Changeset) -> Result<(), Fa
     puts(rt, alloc, changeset, 1 << 63, 1, &[&TEXT], &[])
 }
 
-// Sections of one table are joined where the first of them stands, an empty one too, and none is
-// left without changes.
+// Sections of one table are joined at the place of the first, even if that is empty. None without
+// changes remains.
 fn sections(rt: &impl Abort, alloc: Global) -> Result<(), Fail> {
     let (t, u, n) = (HEADER, b"T\x02\x01\0u\0", b"T\x02\x01\0n\0");
     let update = b"\x17\0\x01\0\0\0\0\0\0\0\x01\x03\x01x\0\x03\x01z";
@@ -138,7 +138,7 @@ fn sections(rt: &impl Abort, alloc: Global) -> Result<(), Fail> {
     forms(rt, alloc, &changeset, &want, 2)
 }
 
-// An INSERT of a BLOB of this length is canonical so. The key column is the second.
+// The canonical text of an INSERT of a BLOB of this length. The key column is the second.
 fn shortens(
     rt: &impl Abort,
     alloc: Global,
@@ -152,14 +152,14 @@ fn shortens(
     forms(rt, alloc, &changeset, &want, 1)
 }
 
-// A changeset of no change is the empty text, in no piece.
+// A changeset without changes is the empty text, in no piece.
 fn nothing(rt: &impl Abort, alloc: Global) -> Result<(), Fail> {
     let none = read(alloc, &[HEADER])?;
     forms(rt, alloc, &none, b"", 0)?;
     puts(rt, alloc, &none, 7, 0, &[], &[])
 }
 
-// Lengths are the shortest, and indirect changes are marked by 1.
+// Lengths become the shortest, and indirect bytes become 1.
 fn lengths(rt: &impl Abort, alloc: Global) -> Result<(), Fail> {
     for (loose, len, canonical) in [
         (

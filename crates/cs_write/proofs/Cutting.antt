@@ -1,4 +1,4 @@
--- A text is cut one piece after another.
+-- Cutting a text into one piece after another.
 use Rattle.std.proofs.Common.{◌≡◌, ℕ, zero, suc, ◌<◌, ◌≤◌, min, List, [], ◌∷◌, ◌++◌, length, take, drop, refl, sym, ap}
 use Rattle.std.proofs.Common.{◌∙◌, subst, append_assoc, arith, length-append, length-take, length-drop}
 use Rattle.std.proofs.Common.{take-append-drop}

@@ -1,4 +1,4 @@
--- The canonical form of a changeset is one.
+-- The canonical form of a changeset is a changeset.
 use Rattle.std.proofs.Common.{◌≡◌, Bool, true, false, cond, inl, inr, List, [], ◌∷◌, ◌++◌, length, map, refl, sym, ap}
 use Rattle.std.proofs.Common.{subst}
 use Rattle.std.specs.Prelude.{filter}

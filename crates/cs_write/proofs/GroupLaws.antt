@@ -1,4 +1,4 @@
--- One section more among groups.
+-- Groups with one more section.
 use Rattle.std.proofs.Common.{◌≡◌, ℕ, zero, suc, ◌<◌, Bool, true, false, cond, inl, inr, List, [], ◌∷◌, ◌++◌, length}
 use Rattle.std.proofs.Common.{get_or, Option, Some, None, slice_get, is_some, refl, sym, ap, subst, ◌∙◌, arith, Bor}
 use Rattle.std.specs.Global.{Vec}

@@ -1,4 +1,4 @@
--- Sums of lengths, where a `usize` holds them.
+-- Sums of lengths, if a `usize` can hold them.
 use Rattle.std.proofs.Common.{◌≡◌, ℕ, ◌+◌, ◌^◌, ◌<◌, ◌≤◌, ◌⊎◌, cond, ltb, Option, Some, None, SomeIff, inl, inr, refl}
 use Rattle.std.proofs.Common.{sym, ap, ◌∙◌, arith}
 use Rattle.std.proofs.lemmas.Bool.{le-ltb, lt-ltb}

@@ -1,4 +1,4 @@
--- How long a shortest varint is.
+-- The length of a shortest varint.
 use Rattle.std.proofs.Common.{◌≡◌, ℕ, zero, suc, ◌+◌, ◌-◌, ◌/◌, ◌%◌, ◌^◌, ◌<◌, ◌≤◌, inl, inr, cond, [], ◌∷◌, ◌++◌}
 use Rattle.std.proofs.Common.{length, refl, sym, ap, subst, ◌∙◌, arith}
 use Rattle.std.proofs.lemmas.List.{length-append}

@@ -1,4 +1,4 @@
--- What the steps of grouping and writing give.
+-- The groups after each section is added, and the text of a group.
 use Rattle.std.specs.Prelude.{ℕ, List, [], ◌∷◌, ◌++◌, length, ◌≡◌, if◌then◌else◌}
 use Rattle.std.specs.List.{AllByRecursion, flat_map}
 use Rattle.cs_model.specs.Section.{Section}
@@ -6,14 +6,14 @@ use Rattle.cs_model.specs.Schema.{same_shape}
 use Rattle.cs_write.specs.Canon.{Group, joined_section, has_changes}
 use Rattle.cs_write.specs.Text.{section_text}
 
--- the groups with one section more: it joins that of its shape, or begins the last one
+-- the groups with one more section: it joins the group of its shape, or begins a new last one
 abbrev pub added : List Group → Section → List Group
 added [] section = (section.shape, section ∷ []) ∷ []
 added (group ∷ groups) section =
     if same_shape section.shape group.0 then (group.0, group.1 ++ section ∷ []) ∷ groups else group
     ∷ added groups section
 
--- a group's text: nothing where it has no change
+-- a group's text, empty if it has no change
 abbrev pub group_text : Group → List ℕ
 group_text group = if has_changes (joined_section group) then section_text (joined_section group)
     else []
@@ -21,10 +21,10 @@ group_text group = if has_changes (joined_section group) then section_text (join
 abbrev pub groups_text : List Group → List ℕ
 groups_text groups = flat_map group_text groups
 
--- a section of a table with so many columns
+-- a section of a table with this number of columns
 abbrev pub HasColumns : ℕ → Section → Type 0
 HasColumns columns section = length section.shape.flags ≡ columns
 
--- the sections of a group have as many columns as its shape
+-- the sections of a group have the number of columns of its shape
 abbrev pub IsAlike : Group → Type 0
 IsAlike group = AllByRecursion (HasColumns (length group.0.flags)) group.1

@@ -1,4 +1,4 @@
--- Groups as they are kept, seen as groups.
+-- Groups of borrowed sections, seen as groups of sections.
 use Rattle.std.specs.Prelude.{ℕ, List, map}
 use Rattle.std.specs.Borrow.{Bor}
 use Rattle.std.specs.Global.{Vec}

@@ -7,7 +7,7 @@ use Rattle.cs_model.specs.Section.{Section}
 use Rattle.cs_model.specs.Varint.{varint}
 use Rattle.cs_write.specs.Canon.{canon}
 
--- `T`, the number of columns as a shortest varint, their key bytes, the name and a zero byte
+-- `T`, the number of columns as a shortest varint, their key flags, the name and a zero byte
 abbrev pub header_text : Shape → List ℕ
 header_text shape = 84 ∷ (varint (length shape.flags) ++ (shape.flags ++ (shape.name ++ 0 ∷ [])))
 

@@ -1,4 +1,4 @@
-//! The canonical form.
+//! The canonical form of a changeset: one section per shape, and none without changes.
 
 ghost use Rattle.std.specs.Prelude.{◌≡◌, IfOk};
 ghost use Rattle.std.specs.List.{AllByRecursion};
@@ -40,9 +40,9 @@ fn form_of(alloc: Global, groups: &Groups) -> Result<Vec<Section>, AllocError>
     Ok(form)
 }
 
-/// The canonical form of a changeset, a copy: one section for each shape, at the place of the first
-/// with that shape, with the changes of all of them in order, and none without changes.
-/// `AllocError` where memory runs out.
+/// Returns a copy of a changeset in canonical form. Sections of the same shape become one, at the
+/// place of the first, with all their changes in order. Sections without changes are dropped.
+/// Returns `AllocError` if memory runs out.
 pub fn canonical(alloc: Global, changeset: &Changeset) -> Result<Changeset, AllocError>
     ensures { IfOk result (λ form. form ≡ canon changeset.now) }
 {

@@ -1,4 +1,4 @@
-//! Sections by their shapes.
+//! Groups the sections of a changeset by their shapes.
 
 ghost use Rattle.std.specs.Prelude.{◌≡◌, [], IfOk, OnOk, length, nat_lt};
 ghost use Rattle.cs_model.specs.Changeset.{all_changes};
@@ -10,10 +10,10 @@ use cs_model::{CopyIn, Section, Shape};
 use indexmap::IndexMap;
 use std::alloc::{AllocError, Global};
 
-/// The sections of each shape, the shapes in the order of their first sections.
+/// The sections of each shape. The shapes are in the order of their first sections.
 pub type Groups<'a> = IndexMap<Shape, Vec<&'a Section>>;
 
-// Adds a section to the group of its shape, or as the first of a new one.
+// Adds a section to the group of its shape, which it creates if there is none.
 fn add<'a>(alloc: Global, groups: &mut Groups<'a>, section: &'a Section) -> Result<(), AllocError>
     ensures ok { OnOk result (seen groups.new.entries
         ≡ added (seen groups.old.entries) section.now) }
@@ -32,7 +32,7 @@ fn add<'a>(alloc: Global, groups: &mut Groups<'a>, section: &'a Section) -> Resu
     Ok(())
 }
 
-/// The groups of a changeset's sections.
+/// Groups the sections of a changeset.
 pub fn groups_of<'a>(alloc: Global, sections: &'a [Section]) -> Result<Groups<'a>, AllocError>
     ensures { IfOk result (λ groups. seen groups.entries ≡ by_shape [] sections.now) }
 {

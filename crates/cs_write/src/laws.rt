@@ -1,6 +1,6 @@
-//! Laws of the canonical text: public functions that do nothing, whose contracts say what holds.
-//! The two on a text that was read ask that it is of bytes: a list with larger numbers can spell a
-//! length in fewer of them than its shortest varint has.
+//! Laws: public functions that do nothing. Their contracts state what holds of the canonical text.
+//! Those on a parsed text require a list of bytes: larger numbers could encode a length more
+//! shortly than its shortest varint.
 
 ghost use Rattle.std.specs.Prelude.{ℕ, ◌≤◌, List, length};
 ghost use Rattle.cs_model.specs.Bytes.{AreBytes};
@@ -12,7 +12,7 @@ ghost use Rattle.cs_write.specs.Text.{text_of};
 
 use cs_model::laws::{varint_shortest, varint_spelled};
 
-/// What `write` gives spells what `canonical` gives, where it is within the limit of a text.
+/// If the text of `write` is within the limit, it encodes the result of `canonical`.
 pub fn text_spells_form()
     ensures { (sections : List Section) → IsChangeset sections
         → length (text_of sections) ≤ most_bytes → Spells (text_of sections) (canon sections) }
@@ -20,7 +20,7 @@ pub fn text_spells_form()
     varint_spelled();
 }
 
-/// The canonical text of what a text spells is no longer than that text.
+/// The canonical text is no longer than the text that was parsed.
 pub fn text_is_no_longer()
     ensures { (text : List ℕ) (sections : List Section) → AreBytes text → Spells text sections
         → length (text_of sections) ≤ length text }
@@ -28,7 +28,7 @@ pub fn text_is_no_longer()
     varint_shortest();
 }
 
-/// So what `write` gives of a changeset that was read spells its canonical form.
+/// So the text of `write` for a parsed changeset encodes its canonical form.
 pub fn read_is_spelled_again()
     ensures { (text : List ℕ) (sections : List Section) → AreBytes text → Spells text sections
         → Spells (text_of sections) (canon sections) }

@@ -1,5 +1,5 @@
-//! How long a canonical text is, counted before it is written. `None` exactly where a `usize`
-//! doesn't hold it, which no changeset in memory reaches.
+//! The length of a canonical text, computed before it is written. `None` means that a `usize` can't
+//! hold it, which no changeset in memory reaches.
 
 ghost use Rattle.std.specs.Prelude.{◌≡◌, ℕ, ◌+◌, ◌≤◌, length};
 ghost use Rattle.cs_model.specs.Varint.{varint};
@@ -9,7 +9,7 @@ ghost use Rattle.cs_write.specs.Text.{header_text};
 
 use cs_model::{Changes, Shape};
 
-/// Two lengths together.
+/// Adds two lengths.
 #[tactic(auto, using(crate::proofs::Held::holding))]
 pub fn plus(one: Option<usize>, other: Option<usize>) -> Option<usize>
     ensures { (m n : ℕ) → one ≡ held m → other ≡ held n → result ≡ held (m + n) }
@@ -17,7 +17,7 @@ pub fn plus(one: Option<usize>, other: Option<usize>) -> Option<usize>
     one?.checked_add(other?)
 }
 
-// how many bytes the shortest varint of a number has
+// the length of a number's shortest varint, in bytes
 fn varint_len(n: u64) -> usize
     ensures bounded { result ≤ 9 }
     ensures same { result ≡ length (varint n) }
@@ -34,7 +34,7 @@ fn varint_len(n: u64) -> usize
     len
 }
 
-/// How many bytes these changes have.
+/// The length of these changes, in bytes.
 #[tactic(auto, using(crate::proofs::Held::holding))]
 pub fn changes_len(changes: &Changes) -> Option<usize>
     ensures { result ≡ held (length (changes_bytes changes.now.1)) }
@@ -42,7 +42,7 @@ pub fn changes_len(changes: &Changes) -> Option<usize>
     Some(changes.bytes().len())
 }
 
-/// How many bytes this header has.
+/// The length of this header, in bytes.
 pub fn header_len(shape: &Shape) -> Option<usize>
     ensures { result ≡ held (length (header_text shape.now)) }
 {

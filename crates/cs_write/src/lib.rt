@@ -1,8 +1,10 @@
-//! The canonical writer: one form and one text for every spelling of a changeset. Theorems:
-//! `canonical` is `canon`, `write` is `text_of`, `write_to` gives a buffer that text where there is
-//! room for it, `write_pieces` puts it into a sink piece by piece, up to one that the sink fails to
-//! take, and where the text is within the limit it spells the canonical form. The text of a
-//! changeset that was read always is: it is no longer than what was read.
+//! The canonical writer: each changeset has one canonical form and one canonical text, however it
+//! was encoded. Theorems: `canonical` returns `canon` and `write` returns `text_of`. `write_to`
+//! puts that text into a buffer if it fits. `write_pieces` puts it into a sink piece by piece,
+//! until the sink fails.
+//!
+//! A text within the limit encodes the canonical form. The text of a parsed changeset is within the
+//! limit, because it is no longer than the parsed one.
 #![tactic(auto)]
 
 mod form;

@@ -1,4 +1,4 @@
-//! The canonical text in pieces.
+//! Writes the canonical text in pieces, to a sink that doesn't take it whole.
 
 ghost use Rattle.std.specs.Prelude.{◌≡◌, ◌<◌};
 ghost use Rattle.cs_write.specs.Pieces.{Puts};
@@ -11,13 +11,13 @@ use cs_model::Changeset;
 use std::alloc::{AllocError, Global};
 use thiserror::Error;
 
-/// Why `write_pieces` stopped.
+/// The error of `write_pieces`. It does not change the changeset.
 #[derive(Clone, Copy, Debug, PartialEq, Eq, Error)]
 pub enum WriteError {
-    /// The sink failed to take a piece: those before it are taken.
+    /// The sink failed to take a piece. It took all pieces before that one.
     #[error("the sink failed to take a piece")]
     Sink,
-    /// Memory ran out, and no piece was handed to the sink.
+    /// Out of memory. The sink got no piece.
     #[error("out of memory")]
     Memory,
 }
@@ -38,11 +38,12 @@ impl From<AllocError> for WriteError {
     }
 }
 
-/// Puts the canonical text of a changeset into a sink, for one that doesn't take it whole: in
-/// pieces of `max` bytes, the last one with the rest. An empty text is no piece. The pieces are
-/// parts of one text, which is made before the first of them goes out, and none is copied. `Sink`
-/// where the sink fails to take a piece: those in front of it are taken, and none behind it is
-/// handed over. `Memory` where memory runs out, before any of them is handed over.
+/// Writes the canonical text of a changeset to a sink in pieces of `max` bytes, at least 1. The
+/// last piece has the rest. An empty text has no pieces. The whole text is built before the first
+/// piece is passed on, and no piece is a copy.
+///
+/// Returns `Sink` if the sink fails to take a piece. The sink took the pieces before it and gets
+/// none after it. Returns `Memory` if memory runs out, before the sink gets any piece.
 pub fn write_pieces<S: Sink>(
     alloc: Global,
     changeset: &Changeset,

@@ -1,6 +1,6 @@
-//! Writing at a place of a buffer that has room. Each of these lays its bytes there, and tells the
-//! place behind them. The other bytes of the buffer stay, and no memory is taken, so that nothing
-//! can fail once the first byte is written.
+//! Writes the canonical text into a buffer that has room. Each function writes its bytes at `at`
+//! and returns the index after them. It does not change the other bytes and does not allocate, so
+//! nothing fails after the first byte.
 
 ghost use Rattle.std.specs.Prelude.{◌≡◌, ◌+◌, ◌≤◌, length};
 ghost use Rattle.cs_write.specs.Buffer.{laid};
@@ -51,7 +51,7 @@ fn put_sections(out: &mut [u8], at: usize, sections: &[&Section]) -> usize
     end
 }
 
-// a group, where it has a change
+// a group, if it has a change
 fn put_group(out: &mut [u8], at: usize, shape: &Shape, sections: &[&Section]) -> usize
     requires { at + length (group_text (shape.now, sections_of sections.now)) ≤ length out.old }
     ensures end { result ≡ at + length (group_text (shape.now, sections_of sections.now)) }
@@ -64,7 +64,7 @@ fn put_group(out: &mut [u8], at: usize, shape: &Shape, sections: &[&Section]) ->
     put_sections(out, end, sections)
 }
 
-/// All groups, one after another.
+/// Writes all groups, one after another.
 pub fn put_groups(out: &mut [u8], at: usize, groups: &Groups) -> usize
     requires { at + length (groups_text (seen groups.now.entries)) ≤ length out.old }
     ensures end { result ≡ at + length (groups_text (seen groups.now.entries)) }

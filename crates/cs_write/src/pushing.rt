@@ -1,5 +1,4 @@
-//! Headers and changes as canonical bytes. Each of these adds to the end of `out`; an `Err` may
-//! leave part of it there.
+//! Appends headers and changes to a `Vec` in canonical form. An `Err` may have appended some.
 
 ghost use Rattle.std.specs.Prelude.{◌<◌};
 ghost use Rattle.cs_model.specs.Bytes.{AddsBytes};
@@ -9,7 +8,7 @@ ghost use Rattle.cs_write.specs.Text.{header_text};
 use cs_model::{Changes, Shape, varint_push};
 use std::alloc::AllocError;
 
-/// A header.
+/// Appends a header.
 pub fn push_header(out: &mut Vec<u8>, shape: &Shape) -> Result<(), AllocError>
     ensures ok { AddsBytes result out.old out.new (header_text shape.now) }
 {
@@ -22,7 +21,7 @@ pub fn push_header(out: &mut Vec<u8>, shape: &Shape) -> Result<(), AllocError>
     Ok(())
 }
 
-/// Changes, one after another, in one copy.
+/// Appends changes, in one copy.
 pub fn push_changes(out: &mut Vec<u8>, changes: &Changes) -> Result<(), AllocError>
     ensures ok { AddsBytes result out.old out.new (changes_bytes changes.now.1) }
 {

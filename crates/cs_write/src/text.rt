@@ -1,4 +1,5 @@
-//! The canonical text.
+//! The canonical text of a changeset: computes its length and writes it, to a new buffer or a given
+//! one.
 
 ghost use Rattle.std.specs.Prelude.{◌≡◌, ◌≤◌, ◌^◌, length, IfOk, OnErr, OnOk};
 ghost use Rattle.cs_model.specs.Bytes.{AddsBytes};
@@ -16,7 +17,7 @@ use bytes::Bytes;
 use cs_model::{Changeset, Section, Shape};
 use std::alloc::{AllocError, Global};
 
-// how many bytes the changes of these sections have
+// the length of the changes of these sections, in bytes
 fn sections_len(sections: &[&Section]) -> Option<usize>
     ensures { result ≡ held (length (bodies sections.now)) }
 {
@@ -27,7 +28,7 @@ fn sections_len(sections: &[&Section]) -> Option<usize>
     len
 }
 
-// how many bytes a group has: none where it has no change
+// the length of a group in bytes, 0 if it has no change
 fn group_len(shape: &Shape, sections: &[&Section]) -> Option<usize>
     ensures { result ≡ held (length (group_text (shape.now, sections_of sections.now))) }
 {
@@ -37,7 +38,7 @@ fn group_len(shape: &Shape, sections: &[&Section]) -> Option<usize>
     plus(header_len(shape), sections_len(sections))
 }
 
-// how many bytes the canonical text has
+// the length of the canonical text, in bytes
 fn groups_len(groups: &Groups) -> Option<usize>
     ensures { result ≡ held (length (groups_text (seen groups.now.entries))) }
 {
@@ -58,7 +59,7 @@ fn push_sections(out: &mut Vec<u8>, sections: &[&Section]) -> Result<(), AllocEr
     Ok(())
 }
 
-// a group, where it has a change
+// a group, if it has a change
 fn push_group(out: &mut Vec<u8>, shape: &Shape, sections: &[&Section]) -> Result<(), AllocError>
     ensures ok { AddsBytes result out.old out.new
         (group_text (shape.now, sections_of sections.now)) }
@@ -70,14 +71,14 @@ fn push_group(out: &mut Vec<u8>, shape: &Shape, sections: &[&Section]) -> Result
     push_sections(out, sections)
 }
 
-// the groups of a changeset, which give its canonical text
+// the groups of a changeset, which determine its canonical text
 fn groups_in<'a>(alloc: Global, changeset: &'a Changeset) -> Result<Groups<'a>, AllocError>
     ensures { IfOk result (λ groups. groups_text (seen groups.entries) ≡ text_of changeset.now) }
 {
     groups_of(alloc, changeset.sections())
 }
 
-// How many bytes to write. Memory has no room for more than a `usize` holds.
+// The number of bytes to write. No memory holds more than a `usize` counts.
 #[tactic(auto, using(crate::proofs::Held::holding))]
 fn needed(groups: &Groups) -> Result<usize, AllocError>
     ensures ok { IfOk result (λ n. n ≡ length (groups_text (seen groups.now.entries))) }
@@ -86,7 +87,7 @@ fn needed(groups: &Groups) -> Result<usize, AllocError>
     groups_len(groups).ok_or(AllocError)
 }
 
-// all groups, in a buffer that is taken at the length they have
+// all groups, in a buffer allocated at their length
 fn bytes_of(alloc: Global, groups: &Groups, len: usize) -> Result<Vec<u8>, AllocError>
     ensures { IfOk result (λ text. text.items ≡ groups_text (seen groups.now.entries)) }
 {
@@ -97,8 +98,9 @@ fn bytes_of(alloc: Global, groups: &Groups, len: usize) -> Result<Vec<u8>, Alloc
     Ok(out)
 }
 
-/// The canonical text of a changeset: that of `canonical`, with shortest varints and indirect bytes
-/// 0 and 1. Nothing of the changeset is copied besides. `AllocError` where memory runs out.
+/// Returns the canonical text of a changeset: that of `canonical`, with shortest varints and
+/// indirect bytes 0 and 1. Copies the changes only into that text. Returns `AllocError` if memory
+/// runs out.
 pub fn write(alloc: Global, changeset: &Changeset) -> Result<Bytes, AllocError>
     ensures { IfOk result (λ text. text ≡ text_of changeset.now) }
 {
@@ -107,10 +109,10 @@ pub fn write(alloc: Global, changeset: &Changeset) -> Result<Bytes, AllocError>
     Ok(Bytes::from_vec(bytes_of(alloc, &groups, len)?)?)
 }
 
-/// Writes the canonical text of a changeset to the front of `out`, where there is room for it, and
-/// answers its length, in bytes. Where there is less room nothing is written, so that a call with
-/// an empty buffer tells how much is needed. The text is made in `out` itself, in no other buffer.
-/// `AllocError` where memory runs out, which leaves `out` as it was.
+/// Writes the canonical text of a changeset to the front of `out`, and returns its length in bytes.
+/// If `out` is shorter, writes nothing; so a call with an empty buffer returns the size needed.
+/// Builds the text in `out` itself. Returns `AllocError` if memory runs out, which does not change
+/// `out`.
 #[tactic(auto, using(crate::proofs::Laying::laid_first))]
 pub fn write_to(alloc: Global, changeset: &Changeset, out: &mut [u8]) -> Result<usize, AllocError>
     ensures length { IfOk result (λ n. n ≡ length (text_of changeset.now)) }
@@ -123,6 +125,6 @@ pub fn write_to(alloc: Global, changeset: &Changeset, out: &mut [u8]) -> Result<
     if room < len {
         return Ok(len);
     }
-    // from here on no memory is taken, so that no error leaves part of the text in `out`
+    // nothing allocates from here on, so no error leaves part of the text in `out`
     Ok(put_groups(out, 0, &groups))
 }

@@ -1,4 +1,4 @@
-//! A case, from its files to its answers.
+//! `Case`: a script with its expected answers, read from files and compared.
 
 use crate::joining::joined;
 use crate::pieces::{cut, lines};
@@ -7,7 +7,7 @@ use rb_script::{number, run_script};
 use std::alloc::{AllocError, Global};
 use std::{fs, io};
 
-/// A script, the limits that it runs under, and the answers that it must have.
+/// A script, the limits that it runs under, and its expected answers.
 #[derive(Debug, Drop)]
 pub struct Case {
     script: Vec<u8>,
@@ -16,7 +16,7 @@ pub struct Case {
 }
 
 impl Case {
-    /// Reads `NAME.script`, `NAME.answers` and, where it is there, `NAME.args`, such as `--batch 1
+    /// Reads `NAME.script`, `NAME.answers` and, if it exists, `NAME.args`, such as `--batch 1
     /// --window 2`.
     pub fn read(rt: &HostRuntime, alloc: Global, name: &str) -> io::Result<Case> {
         let script = fs::read(rt, format!(in alloc; "{name}.script")?)?;
@@ -34,7 +34,7 @@ impl Case {
     }
 
     /// Runs the script with its changesets cut into pieces of `most` bytes, and compares the
-    /// answers. How many they are, or the first one that isn't as it must be.
+    /// answers. Returns how many there are, or a text with the first one that differs.
     pub fn run(&self, alloc: Global, most: usize) -> Result<Result<usize, String>, AllocError> {
         let Some(config) = limits(&self.options) else {
             return Ok(Err(String::from_str(alloc, "no such options")?));
@@ -52,7 +52,7 @@ impl Case {
     }
 }
 
-// The number of answers, or where the first one differs.
+// The number of answers, or the first one that differs.
 fn difference(
     alloc: Global,
     given: &[&[u8]],
@@ -72,7 +72,7 @@ fn difference(
     Ok(Err(format!(in alloc; "answer {line} is '{one}', and not '{other}'")?))
 }
 
-// A line as it is printed, the empty text where there is none.
+// A line as it is printed; the empty text if there is none.
 fn shown<'a>(lines: &[&'a [u8]], place: usize) -> &'a str {
     match lines.get(place) {
         None => "",
@@ -80,7 +80,7 @@ fn shown<'a>(lines: &[&'a [u8]], place: usize) -> &'a str {
     }
 }
 
-// The limits that options say, those of a program without options where there are none.
+// The limits from the options; the program's defaults if there are none.
 fn limits(options: &[u8]) -> Option<Config> {
     let mut numbers = [16, 4, 10, 65_536, 64];
     let mut option = None;
@@ -103,7 +103,7 @@ fn limits(options: &[u8]) -> Option<Config> {
     }
 }
 
-// Which limit an option names.
+// The limit that an option names.
 fn place(option: &[u8]) -> Option<usize> {
     match option {
         b"--batch" => Some(0),

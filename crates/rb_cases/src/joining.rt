@@ -1,11 +1,11 @@
-//! Answers to pieces, as answers to whole changesets.
+//! Joins the answers to pieces into the answers to whole changesets.
 
 use crate::pieces::count;
 use rb_script::number;
 use std::alloc::{AllocError, Global};
 
-/// Of the answers to a script in pieces those to the script itself: of all pieces of a changeset
-/// the last one's answer, where the others are `ok` or the same.
+/// Turns the answers to a script in pieces into the answers to the script itself. The last piece's
+/// answer counts for its changeset, if the others are `ok` or the same.
 pub fn joined<'a>(
     alloc: Global,
     script: &[u8],
@@ -29,12 +29,12 @@ pub fn joined<'a>(
     Ok(all)
 }
 
-// What stands after so many lines.
+// The lines after the first `count`.
 fn after<'a, 'b>(lines: &'b [&'a [u8]], count: usize) -> &'b [&'a [u8]] {
     &lines[count.min(lines.len())..]
 }
 
-// The last answer, or the first one that is neither it nor `ok`.
+// The last answer, or the first that is neither the same nor `ok`.
 fn one_of<'a>(answers: &[&'a [u8]]) -> &'a [u8] {
     let Some((last, others)) = answers.split_last() else {
         return b"";
@@ -47,7 +47,7 @@ fn one_of<'a>(answers: &[&'a [u8]]) -> &'a [u8] {
     last
 }
 
-// How many lines follow this one of an answer.
+// How many lines of an answer follow this one.
 fn rows_of(answer: &[u8]) -> usize {
     match answer.strip_prefix(b"rows ") {
         None => 0,

@@ -1,6 +1,6 @@
-//! Runs each case of a folder: a script, the options beside it, and the answers that it must have.
-//! A case is files and no code. Theorem: none. It prints each answer that differs, with its line,
-//! and how many answers it compared.
+//! Runs each case of a folder: a script, its options, and its expected answers. A case is files and
+//! no code. Prints each answer that differs, with its line, and how many answers it compared.
+//! Theorem: none.
 #![tactic(auto)]
 
 mod case;
@@ -12,7 +12,7 @@ use std::alloc::Global;
 use std::process::ExitCode;
 use std::{fs, io};
 
-/// How many bytes of a changeset a line of `feed` holds: all that it has, one, and seven.
+/// The most bytes of a changeset in a line of `feed`: all, one, and seven.
 const PIECES: [usize; 3] = [65_536, 1, 7];
 
 fn main(rt: HostRuntime) -> io::Result<ExitCode> {
@@ -49,8 +49,8 @@ fn names(rt: &HostRuntime, alloc: Global) -> io::Result<Vec<String>> {
     Ok(names)
 }
 
-// Runs a case in such pieces. The number of its answers, or nothing where they aren't those that
-// it must have: what differs is printed then.
+// Runs a case in pieces of this size. Returns the number of its answers; if one differs, prints it
+// and returns nothing.
 fn compared(rt: &HostRuntime, alloc: Global, name: &str, most: usize) -> io::Result<Option<usize>> {
     let case = Case::read(rt, alloc, name)?;
     match case.run(alloc, most)? {

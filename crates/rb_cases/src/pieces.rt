@@ -1,19 +1,19 @@
-//! Scripts whose changesets come in pieces.
+//! Cuts the changesets of a script into pieces.
 
 ghost use Rattle.std.specs.Prelude.{◌<◌};
 
 use std::alloc::{AllocError, Global};
 
-/// The most bytes of a line that is read as one.
+/// The most bytes of a line; a longer one isn't cut.
 const LONGEST: usize = 65_536;
 
-/// The lines of a text. What stands after its last line end is one too, also where it is empty.
+/// The lines of a text. The text after the last line end is a line too, even if it is empty.
 pub fn lines(alloc: Global, text: &[u8]) -> Result<Vec<&[u8]>, AllocError> {
     text.split(|byte| *byte == b'\n').collect(alloc)
 }
 
-/// The script with a line of `feed` for each `most` bytes of a changeset. A line that isn't fed
-/// bytes stays as it is.
+/// The script with a line of `feed` for each `most` bytes of a changeset. A line that feeds no
+/// bytes does not change.
 pub fn cut(alloc: Global, script: &[u8], most: usize) -> Result<Vec<u8>, AllocError> {
     let mut all = Vec::with_capacity(alloc, script.len())?;
     for line in script.split(|byte| *byte == b'\n') {
@@ -31,7 +31,7 @@ pub fn cut(alloc: Global, script: &[u8], most: usize) -> Result<Vec<u8>, AllocEr
             }
         }
     }
-    // the last line has no end of its own
+    // the last line has no line end
     all.pop();
     Ok(all)
 }
@@ -44,14 +44,14 @@ pub fn count(line: &[u8], most: usize) -> usize {
     }
 }
 
-// The digits of so many bytes, and of one at least.
+// How many hexadecimal digits this many bytes have, at least 2.
 fn digits_of(bytes: usize) -> usize
     ensures { 0 < result }
 {
     bytes.saturating_mul(2).max(2)
 }
 
-// The line as far as its bytes, and their digits, where it feeds any.
+// The part of a line before its bytes, and their digits, if it feeds any.
 fn feed(line: &[u8]) -> Option<(&[u8], &[u8])> {
     let rest = line.strip_prefix(b"feed ")?;
     let space = rest.iter().position(|byte| *byte == b' ')?;

@@ -1,4 +1,4 @@
--- Feeding and ending answer by the text that a publisher's stream has taken.
+-- `Feed` and `End` reply by the text that a publisher's stream has taken.
 use Rattle.std.proofs.Common.{◌≡◌, ℕ, List, ◌++◌, Option, Some, None, Result, Ok, Err, refl, sym, ap, subst, ◌∙◌}
 use Rattle.std.specs.Prelude.{◌↔◌, slice_get}
 use Rattle.cs_model.specs.Bytes.{AreBytes}

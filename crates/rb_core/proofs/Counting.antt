@@ -1,5 +1,6 @@
 -- The number of a new publisher or subscription: how many are told to have come before it.
-use Rattle.std.proofs.Common.{◌≡◌, ℕ, Bool, true, false, cond, List, [], ◌∷◌, length, map, Option, None, Result, Ok, Err}
+use Rattle.std.proofs.Common.{◌≡◌, ℕ, Bool, true, false, cond, List, [], ◌∷◌, length, map, Option, None, Result, Ok}
+use Rattle.std.proofs.Common.{Err}
 use Rattle.std.proofs.Common.{refl, sym, ap, ◌∙◌, arith}
 use Rattle.std.specs.Prelude.{nat_le}
 use Rattle.std.proofs.lemmas.List.{length-map}
@@ -68,5 +69,6 @@ subscriber_counts shows schema old world start s link new good h e =
         let same : made.0 ≡ s = cc in
         let last : made.0 ≡ length (outline_of old.desk).members =
         (shows old.desk start made.0 made.1 picture is).last in
-        sym same ∙ last ∙ ap (λ (ms : List Member). length ms) (sym good.members) ∙ length-map old.endpoints member_of_end
+        sym same ∙ last ∙ ap (λ (ms : List Member). length ms) (sym good.members)
+        ∙ length-map old.endpoints member_of_end
         ∙ ap (λ (es : List Endpoint). length es) (sym h.ends) ∙ length-map world.subscribers endpoint_of

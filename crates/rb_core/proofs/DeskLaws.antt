@@ -1,5 +1,4 @@
--- What the desk's laws say of its calls, as the lemmas here take it: what a call keeps, and what it shows in the
--- outline.
+-- The desk's laws in the form that the lemmas here use: what a call preserves, and what it changes in the outline.
 use Rattle.std.proofs.Common.{◌≡◌, ℕ, Result, Ok, refl, subst}
 use Rattle.rb_desk.specs.declared.delivery.Delivery.{Delivery}
 use Rattle.rb_desk.specs.declared.refusal.DeskRefusal.{DeskRefusal}

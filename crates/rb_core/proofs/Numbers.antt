@@ -1,4 +1,4 @@
--- Things that are numbered from some number on: how they grow, and how one is found by its number.
+-- Items numbered from some number on: how they grow, and how one is found by its number.
 use Rattle.std.proofs.Common.{◌≡◌, ◌==◌, ℕ, zero, suc, ◌+◌, ◌-◌, ◌<◌, ◌≤◌, cond, List, [], ◌∷◌, ◌++◌, length, Option}
 use Rattle.std.proofs.Common.{Some, None, Bor, find, slice_get, inl, inr, refl, sym, ap, ◌∙◌, arith}
 use Rattle.std.specs.Option.{option_copied}

@@ -1,4 +1,4 @@
--- Lists that pair with others: what stands at a place of one, and of the other; and lists seen through a function.
+-- Lists whose items pair: the items at one index of both. Lists mapped by a function.
 use Rattle.std.proofs.Common.{◌≡◌, ℕ, zero, suc, inl, inr, Bool, true, false, cond, List, [], ◌∷◌, ◌++◌, map, Some}
 use Rattle.std.proofs.Common.{None, find, refl, sym, ap, subst, ◌∙◌}
 use Rattle.std.specs.Prelude.{slice_get, slice_set}

@@ -1,4 +1,4 @@
--- Runs cut in two, and what the laws say of a run that was answered.
+-- Runs cut in two, and what the laws say of a finished run.
 use Rattle.std.proofs.Common.{◌≡◌, ℕ, zero, suc, true, List, [], ◌∷◌, ◌++◌, take, drop, Result, Ok, Err, Some, refl}
 use Rattle.std.proofs.Common.{sym, ap, ◌∙◌}
 use Rattle.std.specs.Prelude.{IfOk, slice_get}

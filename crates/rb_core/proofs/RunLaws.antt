@@ -1,4 +1,5 @@
--- Steps and runs: what an answer says of a step, that a step keeps what a world keeps, and that runs grow at their end.
+-- Steps and runs: what a reply says of a step, that a step preserves the invariant of a world, and that runs grow at
+-- their end.
 use Rattle.std.proofs.Common.{◌≡◌, List, [], ◌∷◌, ◌++◌, Ok, Err, refl, sym, subst}
 use Rattle.std.specs.Prelude.{IfOk, OnErr}
 use Rattle.rb_core.specs.declared.event.Event.{Event}

@@ -1,4 +1,4 @@
--- Each publisher's sendings stand in the sequence in the order in which it sent them, and each once.
+-- Each publisher's sendings are in the sequence in the order in which it sent them, each once.
 use Rattle.std.proofs.Common.{◌≡◌, ◌==◌, ℕ, zero, suc, ◌+◌, ◌≤◌, inl, inr, Bool, true, false, cond, List, [], ◌∷◌, ◌++◌}
 use Rattle.std.proofs.Common.{length, map, Option, Some, None, refl, sym, ap, subst, ◌∙◌, append_assoc, arith}
 use Rattle.std.specs.Prelude.{slice_get, slice_set}

@@ -1,4 +1,4 @@
--- A subscription's tables are what its accepted changesets give, applied one after another.
+-- A subscription's tables are the result of its accepted changesets, applied one after another.
 use Rattle.std.proofs.Common.{◌≡◌, ℕ, false, List, [], ◌∷◌, ◌++◌, Some, Ok, refl, sym, subst}
 use Rattle.std.specs.Prelude.{slice_get}
 use Rattle.std.specs.List.{AllByRecursion}

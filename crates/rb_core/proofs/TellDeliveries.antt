@@ -1,5 +1,11 @@
+<<<<<<< HEAD
 -- What is told of deliveries: which are offered, and what is accepted of them.
-use Rattle.std.proofs.Common.{◌≡◌, ℕ, suc, ◌+◌, ◌-◌, ◌<◌, ◌≤◌, inl, inr, false, List, [], ◌∷◌, ◌++◌, length, map, Option, Some, None}
+use Rattle.std.proofs.Common.{◌≡◌, ℕ, suc, ◌+◌, ◌-◌, ◌<◌, ◌≤◌, inl, inr, false, List, [], ◌∷◌, ◌++◌, length, map}
+use Rattle.std.proofs.Common.{Option, Some, None}
+=======
+-- What is reported of deliveries: which are made, and what is accepted of them.
+use Rattle.std.proofs.Common.{◌≡◌, ℕ, suc, ◌+◌, ◌-◌, ◌<◌, ◌≤◌, inl, inr, List, ◌++◌, length, map, Option, Some, None}
+>>>>>>> passages
 use Rattle.std.proofs.Common.{Result, Ok, Err, refl, sym, ap, subst, ◌∙◌, arith}
 use Rattle.std.specs.Prelude.{⊤, slice_get, slice_set, ◌↔◌, ◌==◌}
 use Rattle.std.specs.List.{AllByRecursion}
@@ -130,7 +136,8 @@ offered_tells schema old world delivery picture event is shown good h =
       ends = offered_ends world.subscribers delivery.sub q delivery at.1 ∙ h.ends;
       offers = all_push (IsDelivered new.subscribers) old.deliveries delivery
           (still_offered world.subscribers delivery.sub q r old.deliveries at.1
-          (λ d there. found_first (λ (x : Delivery). x.number == d.number) q.offers (delivery ∷ []) d there) h.offers) here;
+          (λ d there. found_first (λ (x : Delivery). x.number == d.number) q.offers (delivery ∷ []) d there) h.offers)
+              here;
       links = subst (λ n. AllByRecursion (λ (m : ℕ). m < n) world.links) (sym (ap (λ (o : Outline). o.next_link) kept))
           h.links;
       numbers = subst (λ n. AllByRecursion (AreBelow n) new.subscribers)
@@ -255,7 +262,8 @@ accepted_at_tells : AcceptSteps → (schema : List Shape) (old : State) (world :
 accepted_at_tells steps schema old world d delivery None found of offered number h =
     nothing_told schema world (event.Accept d) (reply.Refused refusal.NoDelivery) old refl h
 accepted_at_tells steps schema old world d delivery (Some end) found of offered number h =
-    accepted_tells steps schema old world d delivery end (accept end old.sequence delivery) refl found of offered number h
+    accepted_tells steps schema old world d delivery end (accept end old.sequence delivery) refl found of offered number
+        h
 
 accepted_as_tells : AcceptSteps → (schema : List Shape) (old : State) (world : World) (d : ℕ) (found : Option Delivery)
     → out.delivery_of old d ≡ found → IsWorld old → IsToldBy schema old world

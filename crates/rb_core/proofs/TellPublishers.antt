@@ -1,4 +1,4 @@
--- What the events of publishers tell.
+-- What the events of publishers report.
 use Rattle.std.proofs.Common.{◌≡◌, ℕ, zero, suc, ◌+◌, inl, inr, List, [], ◌∷◌, ◌++◌, length, Option, Some, None, Result}
 use Rattle.std.proofs.Common.{Ok, Err, refl, sym, ap, ◌∙◌, arith}
 use Rattle.std.specs.Prelude.{slice_get, nat_le}

@@ -1,5 +1,5 @@
--- What an event and its answer tell: a course of moves, and what the broker has behind it. All that the events have in
--- common.
+-- What an event and its reply report: a course of moves, and what the broker has after it. This is the common part of
+-- all events.
 use Rattle.std.proofs.Common.{◌≡◌, ℕ, suc, ◌<◌, inl, inr, Bool, true, false, cond, List, [], ◌∷◌, ◌++◌, Some, refl, sym}
 use Rattle.std.proofs.Common.{ap, subst, find, ◌==◌, ◌∙◌, arith}
 use Rattle.std.specs.Prelude.{slice_get, slice_set}
@@ -123,7 +123,8 @@ subscriber_of_member schema old world s member good h found =
 
 -- deliveries stay offered where the offers to one subscription only grow
 pub still_offered : (subs : List Subscriber) (s : ℕ) (q r : Subscriber) (deliveries : List Delivery) → slice_get subs s
-    ≡ Some q → ((d : Delivery) → delivery_told d.number q ≡ Some d → delivery_told d.number r ≡ Some d) → AllByRecursion (IsDelivered subs) deliveries
+    ≡ Some q → ((d : Delivery) → delivery_told d.number q ≡ Some d → delivery_told d.number r ≡ Some d)
+    → AllByRecursion (IsDelivered subs) deliveries
     → AllByRecursion (IsDelivered (slice_set subs s r)) deliveries
 still_offered subs s q r deliveries found grows all =
     all_map (IsDelivered subs) (IsDelivered (slice_set subs s r)) deliveries stays all
@@ -153,7 +154,8 @@ telling_with_both schema old world s q r end found base same is h = record {
   closing = h.closing;
   ends = map_set endpoint_of world.subscribers s r ∙ ap (λ ends. slice_set ends s (endpoint_of r)) h.ends
       ∙ ap (slice_set old.endpoints s) is;
-  offers = still_offered world.subscribers s q r old.deliveries found (λ d here. ap (find (λ (x : Delivery). x.number == d.number)) same ∙ here)
+  offers = still_offered world.subscribers s q r old.deliveries found
+      (λ d here. ap (find (λ (x : Delivery). x.number == d.number)) same ∙ here)
       h.offers;
   links = h.links;
   numbers = all_set (AreBelow old.desk.next_delivery) world.subscribers s r h.numbers

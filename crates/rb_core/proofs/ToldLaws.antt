@@ -1,4 +1,4 @@
--- What holds of runs by what holds of the courses that they tell.
+-- Laws of runs, from the laws of the courses that they report.
 use Rattle.std.proofs.Common.{◌≡◌, ℕ, zero, suc, true, List, [], ◌∷◌, Some, sym, ap, subst, ◌∙◌}
 use Rattle.std.specs.Prelude.{slice_get, map}
 use Rattle.cs_model.specs.declared.shape.Shape.{Shape}

@@ -10,11 +10,13 @@ use Rattle.rb_core.specs.State.{State, empty_tables}
 use Rattle.rb_core.specs.Told.{world_told}
 use Rattle.rb_core.specs.World.{Sender, Subscriber}
 
--- What a subscription accepted is a gapless run of the sequence. Each publisher's entries are the front of what it sent,
--- in that order; each sending is placed once; each entry is a sending. Nothing is placed once the first n events have
--- closed the sequence, and nothing accepted once they have closed a subscription. A subscription's tables are what one
--- thread gets that applies what it accepted to empty tables, one changeset after another.
-pub record KeepsHeadline (schema : List Shape) (events : List Event) (answers : List Answer) (new : State)
+-- What a subscription accepted is a gapless run of the sequence. Each publisher's entries are the
+-- front of what it sent, in that order; each sending is placed once; each entry is a sending.
+-- Nothing is placed once the first n events have closed the sequence, and nothing accepted once
+-- they have closed a subscription. A subscription's tables are what one thread gets that applies
+-- what it accepted to empty tables, one changeset after another.
+pub record KeepsHeadline (schema : List Shape) (events : List Event) (answers : List Answer)
+    (new : State)
     : Type 0 where
   pub gapless : (s : ℕ) (subscriber : Subscriber)
       → slice_get (world_told schema events answers).subscribers s ≡ Some subscriber
@@ -33,7 +35,8 @@ pub record KeepsHeadline (schema : List Shape) (events : List Event) (answers : 
       → (new.desk.closing ≡ Some last)
       × (new.sequence ≡ (world_told schema (take n events) (take n answers)).sequence)
   pub left : (n s : ℕ) (subscriber : Subscriber)
-      → slice_get (world_told schema (take n events) (take n answers)).subscribers s ≡ Some subscriber
+      → slice_get (world_told schema (take n events) (take n answers)).subscribers s
+      ≡ Some subscriber
       → subscriber.closed ≡ true → (after : Subscriber)
       × (slice_get (world_told schema events answers).subscribers s ≡ Some after)
       × StaysClosed subscriber after

@@ -1,5 +1,5 @@
--- What may happen to the world at once. A refused call, an acknowledgement, one that is taken back
--- and an expiry change nothing here.
+-- Moves of the abstract world: what may happen at once. Refusals, acknowledgements, returned
+-- deliveries and expiries change nothing here.
 use Rattle.std.specs.Prelude.{◌≡◌, ◌==◌, ℕ, suc, ◌-◌, ◌<◌, ◌≤◌, ◌⊎◌, true, false, map, List, []}
 use Rattle.std.specs.Prelude.{◌∷◌, ◌++◌, length, Option, Some, None, slice_get, slice_set}
 use Rattle.std.specs.List.{AllByRecursion, filter}
@@ -20,27 +20,27 @@ abbrev pub with_subscriber : World → ℕ → Subscriber → World
 with_subscriber old s subscriber =
     record old { subscribers = slice_set old.subscribers s subscriber }
 
--- a number isn't one of these
+-- the number isn't in the list
 abbrev pub IsNew : List ℕ → ℕ → Type 0
 IsNew numbers n = AllByRecursion (λ m. m ≡ n → ⊥) numbers
 
--- a thing is one of these
+-- the item is in the list
 abbrev pub IsIn : {A : Type 0} → A → List A → Type 0
 IsIn x [] = ⊥
 IsIn x (y ∷ rest) = (x ≡ y) ⊎ IsIn x rest
 
--- nobody was offered a delivery of this number
+-- no delivery with this number was made to the subscription
 abbrev pub IsUnused : ℕ → Subscriber → Type 0
 IsUnused number q = AllByRecursion (λ offer. offer.number ≡ number → ⊥) q.offers
 
 -- ---- publishers
 
--- a publisher comes
+-- adds a publisher
 abbrev pub AddsPublisher : World → World → Type 0
 AddsPublisher old new = new
     ≡ record old { senders = old.senders ++ record { text = []; staged = None; sent = [] } ∷ [] }
 
--- a publisher's text and what it staged change, and nothing else
+-- a publisher's text and staged changeset change, and nothing else
 pub record Streams (old new : World) : Type 0 where
   pub p : ℕ
   pub before : Sender
@@ -49,7 +49,7 @@ pub record Streams (old new : World) : Type 0 where
   pub sent : after.sent ≡ before.sent
   pub kept : new ≡ with_sender old p after
 
--- what a publisher staged is its next sending, and the last one that waits
+-- what a publisher staged becomes its next sending, at the end of the intake
 pub record Sends (old new : World) : Type 0 where
   pub p : ℕ
   pub sender : Sender
@@ -71,7 +71,7 @@ pub record Sends (old new : World) : Type 0 where
 
 -- ---- the sequence
 
--- the first item that waits goes into the empty hand
+-- the first item of the intake goes into the empty hand
 pub record Pulls (old new : World) : Type 0 where
   pub item : Item
   pub rest : List Item
@@ -79,7 +79,7 @@ pub record Pulls (old new : World) : Type 0 where
   pub first : old.intake ≡ item ∷ rest
   pub kept : new ≡ record old { hand = Some item; intake = rest }
 
--- the item in hand becomes the last entry, under the next number, while the sequence isn't closed
+-- the item in hand becomes the last entry, under the next number; the sequence isn't closed
 pub record Places (old new : World) : Type 0 where
   pub item : Item
   pub held : old.hand ≡ Some item
@@ -90,14 +90,14 @@ pub record Places (old new : World) : Type 0 where
         ++ record { number = suc (length old.sequence); item = item } ∷ [];
   }
 
--- the sequence is closed: its last number is the closing number
+-- closes the sequence: its last number is the closing number
 pub record Closes (old new : World) : Type 0 where
   pub not_closed : old.closing ≡ None
   pub kept : new ≡ record old { closing = Some (length old.sequence) }
 
 -- ---- subscriptions
 
--- one begins behind a number that is placed, under a link that was never drawn before, with some
+-- a subscription begins after a number that is placed, under a link never issued before, with some
 -- tables
 pub record Subscribes (old new : World) : Type 0 where
   pub start : ℕ
@@ -119,8 +119,8 @@ pub record Subscribes (old new : World) : Type 0 where
         } ∷ [];
   }
 
--- one is offered numbers that are placed, under its present link, as a delivery whose number was
--- never used
+-- numbers that are placed are delivered to a subscription, under its current link, as a delivery
+-- with an unused number
 pub record Delivers (old new : World) : Type 0 where
   pub s : ℕ
   pub subscriber : Subscriber
@@ -134,7 +134,7 @@ pub record Delivers (old new : World) : Type 0 where
   pub kept : new ≡ with_subscriber old s
       (record subscriber { offers = subscriber.offers ++ delivery ∷ [] })
 
--- one accepts a delivery that it was offered, as its end does
+-- a subscription accepts a delivery that was made to it, as its endpoint does
 pub record Accepts (old new : World) : Type 0 where
   pub s : ℕ
   pub subscriber : Subscriber
@@ -150,7 +150,7 @@ pub record Accepts (old new : World) : Type 0 where
         tables = end.tables;
       })
 
--- one goes on under a link that was never drawn before
+-- a subscription continues under a link never issued before
 pub record Reconnects (old new : World) : Type 0 where
   pub s : ℕ
   pub subscriber : Subscriber
@@ -160,7 +160,7 @@ pub record Reconnects (old new : World) : Type 0 where
   pub kept : new ≡ record (with_subscriber old s (record subscriber { link = link }))
       { links = link ∷ old.links }
 
--- one is closed
+-- closes a subscription
 pub record Unsubscribes (old new : World) : Type 0 where
   pub s : ℕ
   pub subscriber : Subscriber
@@ -177,18 +177,18 @@ Moves old new =
     ⊎ (Delivers old new
     ⊎ (Accepts old new ⊎ (Reconnects old new ⊎ Unsubscribes old new))))))))))
 
--- one move after another, through these worlds
+-- a sequence of moves, through these worlds
 abbrev pub Leads : World → List World → World → Type 0
 Leads old [] new = new ≡ old
 Leads old (mid ∷ rest) new = Moves old mid × Leads mid rest new
 
--- ---- what holds behind all moves
+-- ---- what holds after all moves
 
--- a subscription has accepted one run of the sequence from its start on
+-- a subscription has accepted one contiguous run of the sequence after its start
 abbrev pub HasRun : List Entry → Subscriber → Type 0
 HasRun sequence q = q.accepted ≡ part sequence q.start (length q.accepted)
 
--- a subscription is closed, and is left with what this one accepted, and with its tables
+-- `r` is closed, with the accepted entries and the tables of `q`
 pub record StaysClosed (q r : Subscriber) : Type 0 where
   pub closed : r.closed ≡ true
   pub accepted : r.accepted ≡ q.accepted
@@ -201,10 +201,14 @@ items_of entries = map (λ entry. entry.item) entries
 abbrev pub own_of : ℕ → List Item → List Item
 own_of p items = filter (λ item. item.publisher == p) items
 
+<<<<<<< HEAD
 -- an item is a publisher's sending: what it sent under the item's own number, which counts from 1
 abbrev pub IsSending : Sender → Item → Type 0
 IsSending sender item = (n : ℕ) × (item.own ≡ suc n) × (slice_get sender.sent n ≡ Some item)
 
 -- a list is the front of another
+=======
+-- a list is a prefix of another
+>>>>>>> passages
 abbrev pub IsFront : {A : Type 0} → List A → List A → Type 0
 IsFront {A} front all = (rest : List A) × (front ++ rest ≡ all)

@@ -1,5 +1,5 @@
--- What an event does: the reply, and the world after it. A refused event leaves the world as it
--- was, but that a refused turn has pulled.
+-- What an event does: the reply, and the world after it. A refused event does not change the world,
+-- except that a refused turn pulls the next item into the hand.
 use Rattle.std.specs.Prelude.{ℕ, suc, ◌+◌, ⊤, Bool, true, List, [], ◌∷◌, ◌++◌, length, Option, Some}
 use Rattle.std.specs.Prelude.{None, Result, Ok, Err, ◌==◌, slice_get, slice_set, nat_le}
 use Rattle.std.specs.Prelude.{if◌then◌else◌}
@@ -37,14 +37,14 @@ use Rattle.rb_core.specs.State.{State, empty_tables}
 abbrev pub refused : State → BrokerRefusal → Reply × State
 refused old why = (reply.Refused why, old)
 
--- a publisher, or an end, becomes this one
+-- replaces the publisher, or the endpoint, with this number
 abbrev pub with_publisher : State → ℕ → Publisher → State
 with_publisher old p publisher = record old { publishers = slice_set old.publishers p publisher }
 
 abbrev pub with_endpoint : State → ℕ → Endpoint → State
 with_endpoint old s endpoint = record old { endpoints = slice_set old.endpoints s endpoint }
 
--- the entry, and the delivery, of this number
+-- the entry, and the delivery, with this number
 abbrev pub entry_of : State → ℕ → Option Entry
 entry_of w n = find (λ entry. entry.number == n) w.sequence
 
@@ -53,7 +53,7 @@ delivery_of w d = find (λ delivery. delivery.number == d) w.deliveries
 
 -- ---- publishers
 
--- Publisher: a new one, all of whose parts are empty; there are 64 at most.
+-- Publisher: adds one whose parts are all empty. There are at most 64.
 abbrev pub publisher_added : State → Reply × State
 publisher_added old =
     if nat_le 64 (length old.publishers) then refused old refusal.TooMany
@@ -65,8 +65,7 @@ publisher_added old =
       },
     )
 
--- Feed: the stream is read on by the bytes, where it has no fault yet; a fault that no more bytes
--- mend is told at once.
+-- Feed: the stream reads the bytes, unless it has a fault. A permanent fault is reported at once.
 abbrev pub fed_reply : Option ParseFault → Reply
 fed_reply None = reply.Fed
 fed_reply (Some fault) = reply.Fault fault
@@ -83,7 +82,7 @@ fed_by old p bytes (Some publisher) =
 abbrev pub fed : State → ℕ → List ℕ → Reply × State
 fed old p bytes = fed_by old p bytes (slice_get old.publishers p)
 
--- Reset: nothing of the stream is kept; what is staged stays.
+-- Reset: the stream becomes empty; what is staged stays.
 abbrev pub reset_by : State → ℕ → Option Publisher → Reply × State
 reset_by old p None = refused old refusal.NoPublisher
 reset_by old p (Some publisher) =
@@ -92,8 +91,8 @@ reset_by old p (Some publisher) =
 abbrev pub reset : State → ℕ → Reply × State
 reset old p = reset_by old p (slice_get old.publishers p)
 
--- End: what the stream spells is staged where the schema admits it, and a new stream begins; else
--- it stays.
+-- End: if the schema admits what the stream spells, it is staged and a new stream begins. Else the
+-- stream stays.
 abbrev pub fault_refusal : SectionFault → BrokerRefusal
 fault_refusal (Unknown i) = refusal.UnknownTable i
 fault_refusal (Differs i) = refusal.ShapeDiffers i
@@ -122,8 +121,8 @@ ended_for old p (Some publisher) = ended_by old p publisher publisher.staged
 abbrev pub ended : State → ℕ → Reply × State
 ended old p = ended_for old p (slice_get old.publishers p)
 
--- Send: what is staged goes to the end of the intake, as the publisher's next sending, unless the
--- sequence is closed or the intake full.
+-- Send: what is staged goes to the end of the intake, as the publisher's next sending. It is
+-- refused if the sequence is closed or the intake full.
 abbrev pub sent_item : State → ℕ → Publisher → List Section → Reply × State
 sent_item old p publisher changeset = (
   reply.Sent (publisher.sent + 1),
@@ -156,8 +155,8 @@ sent old p = sent_for old p (slice_get old.publishers p)
 
 -- ---- the sequence
 
--- Turn: an empty hand pulls the intake's first item. What is in hand becomes the last entry of the
--- sequence, under the next number; where the desk refuses the number it stays in hand.
+-- Turn: an empty hand pulls the intake's first item. The item in hand becomes the last entry of the
+-- sequence, under the next number. If the desk refuses the number, it stays in hand.
 abbrev pub hand_of : Option Item → List Item → Option Item
 hand_of (Some item) intake = Some item
 hand_of None [] = None
@@ -190,7 +189,7 @@ turned_with mid (Some item) = placed mid item (desk.prepare mid.desk)
 abbrev pub turned : State → Reply × State
 turned old = turned_with (pulled old) (pulled old).hand
 
--- Close: nothing is placed any more.
+-- Close: nothing more is placed.
 abbrev pub closed_by : State → ℕ × Picture → Reply × State
 closed_by old call = (reply.Closed call.0, record old { desk = call.1 })
 
@@ -199,7 +198,7 @@ closed old = closed_by old (desk.close old.desk)
 
 -- ---- subscriptions
 
--- Subscribe: the desk's, with an end that has empty tables of the schema
+-- Subscribe: as the desk does, with an endpoint that has empty tables of the schema.
 abbrev pub subscribed_by : State → ℕ → Result (ℕ × ℕ) DeskRefusal → Picture → Reply × State
 subscribed_by old start (Ok made) picture = (
   reply.Subscriber made.0 made.1,
@@ -215,7 +214,7 @@ abbrev pub subscribed : State → ℕ → Reply × State
 subscribed old start = subscribed_by old start (desk.subscribe old.desk start).0
     (desk.subscribe old.desk start).1
 
--- Take: the desk's, with the end's link and cursor
+-- Take: as the desk does, with the endpoint's link and cursor.
 abbrev pub delivered_by : State → Result Delivery DeskRefusal → Picture → Reply × State
 delivered_by old (Ok delivery) picture = (
   reply.Delivery delivery,
@@ -232,12 +231,12 @@ delivered_for old s now (Some end) =
 abbrev pub delivered : State → ℕ → ℕ → Reply × State
 delivered old s now = delivered_for old s now (slice_get old.endpoints s)
 
--- TakeAny: the desk's
+-- TakeAny: as the desk does.
 abbrev pub delivered_any : State → ℕ → Reply × State
 delivered_any old now = delivered_by old (desk.take_any old.desk now).0
     (desk.take_any old.desk now).1
 
--- Accept: that of the delivery's end, whether or not it is in flight
+-- Accept: as the delivery's endpoint does, whether or not the delivery is in flight.
 abbrev pub accepted_by : State → ℕ → Result Endpoint AcceptRefusal → Reply × State
 accepted_by old s (Ok end) = (reply.Accepted s end.cursor, with_endpoint old s end)
 accepted_by old s (Err why) = refused old (refusal.Accept why)
@@ -254,7 +253,7 @@ accepted_as old (Some delivery) = accepted_at old delivery (slice_get old.endpoi
 abbrev pub accepted : State → ℕ → Reply × State
 accepted old d = accepted_as old (delivery_of old d)
 
--- Ack: the desk's, with the delivery's link and the cursor of its end
+-- Ack: as the desk does, with the delivery's link and its endpoint's cursor.
 abbrev pub acked_by_desk : State → Result ℕ DeskRefusal → Picture → Reply × State
 acked_by_desk old (Ok floor) picture = (reply.Floor floor, record old { desk = picture })
 acked_by_desk old (Err why) picture = refused old (refusal.Desk why)
@@ -272,7 +271,7 @@ acked_for old (Some delivery) = acked_at old delivery (slice_get old.endpoints d
 abbrev pub acked : State → ℕ → Reply × State
 acked old d = acked_for old (delivery_of old d)
 
--- Nack: the desk's, with the delivery's link
+-- Nack: as the desk does, with the delivery's link.
 abbrev pub nacked_by_desk : State → Result ⊤ DeskRefusal → Picture → Reply × State
 nacked_by_desk old (Ok done) picture = (reply.Returned, record old { desk = picture })
 nacked_by_desk old (Err why) picture = refused old (refusal.Desk why)
@@ -286,14 +285,14 @@ nacked_for old (Some delivery) =
 abbrev pub nacked : State → ℕ → Reply × State
 nacked old d = nacked_for old (delivery_of old d)
 
--- Expire: the desk's
+-- Expire: as the desk does.
 abbrev pub expired_by_desk : State → ℕ × Picture → Reply × State
 expired_by_desk old call = (reply.Expired call.0, record old { desk = call.1 })
 
 abbrev pub expired : State → ℕ → Reply × State
 expired old now = expired_by_desk old (desk.expire old.desk now)
 
--- Reconnect: the desk's; the end goes on under the new link.
+-- Reconnect: as the desk does; the endpoint continues under the new link.
 abbrev pub reconnected_with : State → ℕ → Endpoint → Result ℕ DeskRefusal → Picture → Reply × State
 reconnected_with old s end (Ok link) picture =
     (reply.Link link, record (with_endpoint old s (record end { link = link })) { desk = picture })
@@ -308,7 +307,7 @@ reconnected_for old s cursor (Some end) =
 abbrev pub reconnected : State → ℕ → ℕ → Reply × State
 reconnected old s cursor = reconnected_for old s cursor (slice_get old.endpoints s)
 
--- Unsubscribe: the desk's, with the end's link; the end is closed.
+-- Unsubscribe: as the desk does, with the endpoint's link; the endpoint is closed.
 abbrev pub unsubscribed_with : State → ℕ → Endpoint → Result ⊤ DeskRefusal → Picture → Reply × State
 unsubscribed_with old s end (Ok done) picture = (
   reply.Unsubscribed,

@@ -1,4 +1,4 @@
--- Events one after another, with what was answered.
+-- Runs: events one after another, with their replies.
 use Rattle.std.specs.Prelude.{◌≡◌, ℕ, List, [], ◌∷◌, Result, Ok, Err}
 use Rattle.std.specs.declared.alloc.AllocError.{AllocError}
 use Rattle.cs_model.specs.Bytes.{AreBytes}
@@ -12,16 +12,16 @@ use Rattle.rb_desk.specs.IsPicture.{AreInRange}
 use Rattle.rb_desk.specs.Limits.{Limits}
 use Rattle.rb_core.specs.State.{State, empty_world}
 
--- what an event is answered: a reply, or that memory ran out
+-- what an event returns: a reply, or that memory ran out
 abbrev pub Answer : Type 0
 Answer = Result Reply AllocError
 
--- from old, the event is answered so and leaves new: want of memory changes nothing
+-- from `old`, the event returns this and leaves `new`; out of memory changes nothing
 abbrev pub Stepped : State → Event → Answer → State → Type 0
 Stepped old event (Ok given) new = outcome old event ≡ (given, new)
 Stepped old event (Err e) new = new ≡ old
 
--- from old, these events are answered so, one after another, and leave new
+-- from `old`, these events return these answers, one after another, and leave `new`
 abbrev pub Run : State → List Event → List Answer → State → Type 0
 Run old [] [] new = new ≡ old
 Run old [] (answer ∷ answers) new = ⊥
@@ -29,13 +29,13 @@ Run old (event ∷ events) [] new = ⊥
 Run old (event ∷ events) (answer ∷ answers) new = (mid : State) × Stepped old event answer mid
     × Run mid events answers new
 
--- what an event feeds are bytes, if it feeds any
+-- an event feeds bytes, if it feeds anything
 abbrev pub FeedsBytes : Event → Type 0
 FeedsBytes (event.Feed p bytes) = AreBytes bytes
 FeedsBytes other = Unit {0}
 
--- A run from the start: from the empty world of this schema, under limits in their ranges, these
--- events are answered so and leave new. What they feed are bytes.
+-- A run from the start: from the empty world of this schema, these events return these answers and
+-- leave `new`. The limits are in their ranges, and the events feed bytes.
 pub record IsRunOf (limits : Limits) (schema : List Shape) (events : List Event)
     (answers : List Answer)
     (new : State) : Type 0 where
@@ -43,7 +43,7 @@ pub record IsRunOf (limits : Limits) (schema : List Shape) (events : List Event)
   pub feeds : AllByRecursion FeedsBytes events
   pub run : Run (empty_world limits schema) events answers new
 
--- A run goes on: from mid, more events are answered so and leave new. What they feed are bytes.
+-- A run continues: from `mid`, more events return later answers and leave `new`. They feed bytes.
 pub record RunsOn (mid : State) (more : List Event) (later : List Answer) (new : State) : Type 0
   where
     pub feeds : AllByRecursion FeedsBytes more

@@ -1,4 +1,4 @@
--- The world as a value.
+-- The broker's state as a value, and its invariant.
 use Rattle.std.specs.Prelude.{◌≡◌, ℕ, suc, ◌+◌, ◌<◌, ◌≤◌, Bool, true, List, [], ◌∷◌, length, map}
 use Rattle.std.specs.Prelude.{replicate, Option, Some, None, refl}
 use Rattle.std.specs.Coded.{Coded, code_by, coded×, coded_list, coded_option}
@@ -20,10 +20,10 @@ use Rattle.rb_subscriber.specs.Endpoint.{Endpoint, endpoint_code}
 use Rattle.rb_core.specs.contracts.publisher.Publisher as publisher
 use Rattle.rb_core.specs.declared.publisher.Publisher.{Publisher}
 
--- A world: the schema that it serves; the publishers; what was sent and waits, in order; the item
--- in hand, which waits no more and has no number yet; the sequence; what the desk knows, the limits
--- among it; the subscriptions' ends; all deliveries, in order. Publishers and subscriptions are
--- named by their places from 0, entries and deliveries by their numbers from 1.
+-- A world. It has the schema, the publishers, and the intake of sent items in order. The item in
+-- hand has left the intake and has no number yet. It has the sequence, the desk's picture with the
+-- limits, the subscriptions' endpoints, and all deliveries in order. Publishers and subscriptions
+-- are numbered from 0, entries and deliveries from 1.
 pub record State : Type 0 where
   pub schema : List Shape
   pub publishers : List Publisher
@@ -47,7 +47,7 @@ empty_world limits schema = record {
   deliveries = [];
 }
 
--- tables without rows, every one of them kept
+-- tables without rows, all of them kept
 abbrev pub empty_tables : List Shape → tables.TableState
 empty_tables schema = record {
   schema = schema;
@@ -55,22 +55,22 @@ empty_tables schema = record {
   rows = map.empty;
 }
 
--- an end as the desk knows its subscription
+-- an endpoint as the desk sees its subscription
 abbrev pub member_of_end : Endpoint → Member
 member_of_end e = record { start = e.start; link = e.link; closed = e.closed }
 
--- things are numbered from n on
+-- the items are numbered from n
 abbrev pub AreNumbered : {A : Type 0} → (A → ℕ) → ℕ → List A → Type 0
 AreNumbered number n [] = Unit {0}
 AreNumbered number n (x ∷ rest) = (number x ≡ n) × AreNumbered number (suc n) rest
 
--- a delivery is of a subscription, and its numbers are placed
+-- the delivery's subscription exists, and its numbers are placed
 abbrev pub IsOf : List Endpoint → List Entry → Delivery → Type 0
 IsOf endpoints sequence d = (d.sub < length endpoints) × (d.last ≤ length sequence)
 
--- What a world keeps: its desk shows a picture, whose front is the sequence's last number; the
--- desk's subscriptions are those of the ends; entries and deliveries are numbered from 1; each
--- delivery is of a subscription, and its numbers are placed.
+-- The invariant of a world. Its desk shows a picture, whose front is the sequence's last number.
+-- The desk's subscriptions are those of the endpoints. Entries and deliveries are numbered from 1.
+-- The subscription of each delivery exists, and its numbers are placed.
 pub record IsWorld (w : State) : Type 0 where
   pub picture : IsPicture w.desk
   pub front : w.desk.front ≡ length w.sequence
@@ -80,7 +80,7 @@ pub record IsWorld (w : State) : Type 0 where
   pub next : w.desk.next_delivery ≡ suc (length w.deliveries)
   pub are_of : AllByRecursion (IsOf w.endpoints w.sequence) w.deliveries
 
--- what was sent and has no number: what waits, and the item in hand
+-- how many items are sent and have no number: the intake and the item in hand
 abbrev pub how_many_held : Option Item → ℕ
 how_many_held None = 0
 how_many_held (Some item) = 1

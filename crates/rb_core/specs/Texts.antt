@@ -1,4 +1,4 @@
--- What feeding and ending answer, by the text that a publisher's stream has taken.
+-- What `Feed` and `End` reply, in terms of the text that a publisher's stream has taken.
 use Rattle.std.specs.Prelude.{◌≡◌, ℕ, List, ◌++◌, Some, None}
 use Rattle.cs_model.specs.declared.schema.SectionFault.{SectionFault}
 use Rattle.cs_model.specs.Schema.{refusal_of}
@@ -14,9 +14,9 @@ use Rattle.rb_core.specs.declared.reply.Reply.TheVariants as reply
 use Rattle.rb_core.specs.Outcome.{with_publisher, fault_refusal}
 use Rattle.rb_core.specs.State.{State}
 
--- Bytes come behind a text that the stream has taken: it has taken the text with the bytes, and
--- nothing else changes. The fault of these that no more bytes mend is told, and where there is
--- none, that they were fed. Behind such a fault of the text it is told again, and nothing changes.
+-- `Feed` after a text that the stream has taken. The stream then has taken the text and the bytes,
+-- and nothing else changes. The reply is the permanent fault of the two together, or `Fed` if there
+-- is none. After a permanent fault of the text, the reply is that fault, and nothing changes.
 pub record FeedsByText (old : State) (p : ℕ) (publisher : Publisher) (text bytes : List ℕ)
     (given : Reply) (new : State) : Type 0 where
   pub stream : Progress
@@ -27,10 +27,10 @@ pub record FeedsByText (old : State) (p : ℕ) (publisher : Publisher) (text byt
   pub stays : (fault : ParseFault) → IsLasting text fault → (given ≡ reply.Fault fault)
       × (new ≡ old)
 
--- A stream ends behind a text that it has taken, where nothing is staged. What the text spells is
--- staged where the schema admits it, a new stream begins, and nothing else changes; else it is
--- refused, with the first section that isn't admitted. Where the text has a fault this is told. A
--- refusal and a fault change nothing.
+-- `End` after a text that the stream has taken, with nothing staged. If the schema admits what the
+-- text spells, that is staged, a new stream begins, and nothing else changes. Else the reply
+-- refuses the first section that isn't admitted. If the text has a fault, the reply is that fault.
+-- A refusal and a fault change nothing.
 pub record EndsByText (old : State) (p : ℕ) (publisher : Publisher) (text : List ℕ) (given : Reply)
     (new : State) : Type 0 where
   pub stages : (changeset : List Section) → Spells text changeset → refusal_of old.schema changeset

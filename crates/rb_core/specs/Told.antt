@@ -1,6 +1,13 @@
+<<<<<<< HEAD
 -- What events and their answers tell: what was fed, staged, sent, placed, delivered and accepted,
 -- without a look at the broker.
-use Rattle.std.specs.Prelude.{◌≡◌, ◌==◌, ℕ, suc, ◌-◌, ◌<◌, true, false, map, List, [], ◌∷◌, ◌++◌, length}
+use Rattle.std.specs.Prelude.{◌≡◌, ◌==◌, ℕ, suc, ◌-◌, ◌<◌, true, false, map, List, [], ◌∷◌, ◌++◌}
+use Rattle.std.specs.Prelude.{length}
+=======
+-- The world that events and replies report: what was fed, staged, sent, placed, delivered and
+-- accepted, without a look at the broker.
+use Rattle.std.specs.Prelude.{◌≡◌, ℕ, suc, ◌-◌, ◌<◌, true, false, map, List, [], ◌∷◌, ◌++◌, length}
+>>>>>>> passages
 use Rattle.std.specs.Prelude.{Option, Some, None, Result, Ok, Err, slice_get}
 use Rattle.std.specs.List.{AllByRecursion, find}
 use Rattle.cs_model.specs.declared.origin.Origin.TheVariants.{Sent}
@@ -26,7 +33,7 @@ use Rattle.rb_core.specs.Run.{Answer}
 use Rattle.rb_core.specs.State.{State, empty_tables}
 use Rattle.rb_core.specs.World.{Sender, Subscriber, World, world_begun, endpoint_of}
 
--- a publisher, or a subscription, changed so where there is one of this number
+-- changes the publisher, or the subscription, with this number, if there is one
 abbrev pub sender_set : World → ℕ → (Sender → Sender) → Option Sender → World
 sender_set old p change None = old
 sender_set old p change (Some sender) = with_sender old p (change sender)
@@ -43,19 +50,19 @@ subscriber_changed old s change = subscriber_set old s change (slice_get old.sub
 
 -- ---- publishers
 
--- one comes: nothing of it is fed, staged or sent
+-- adds a publisher with nothing fed, staged or sent
 abbrev pub publisher_added : World → World
 publisher_added old = record old
     { senders = old.senders ++ record { text = []; staged = None; sent = [] } ∷ [] }
 
--- bytes stand behind its text, also where they bring a fault; its text is empty again
+-- appends the bytes to its text, even if they bring a fault; empties the text
 abbrev pub fed : List ℕ → Sender → Sender
 fed bytes sender = record sender { text = sender.text ++ bytes }
 
 abbrev pub reset : Sender → Sender
 reset sender = record sender { text = [] }
 
--- what its text spells is staged, and the text is empty again
+-- stages what the text spells, and empties the text
 abbrev pub staged_by_text : Result (List Section) ParseFault → Option (List Section)
 staged_by_text (Ok changeset) = Some changeset
 staged_by_text (Err fault) = None
@@ -63,7 +70,7 @@ staged_by_text (Err fault) = None
 abbrev pub ended : Sender → Sender
 ended sender = record sender { text = []; staged = staged_by_text (answer_of sender.text) }
 
--- what it staged is sent, as its sending of this number, and waits behind all others
+-- sends what is staged, as its sending with this number, to the end of the intake
 abbrev pub with_sent : World → ℕ → Sender → Item → World
 with_sent old p sender item =
     record (with_sender old p (record sender { staged = None; sent = sender.sent ++ item ∷ [] }))
@@ -83,7 +90,7 @@ sent old p own = sent_of old p own (slice_get old.senders p)
 
 -- ---- the sequence
 
--- an empty hand takes the first item that waits
+-- an empty hand takes the first item of the intake
 abbrev pub pulled_by : World → Option Item → List Item → World
 pulled_by old (Some item) intake = old
 pulled_by old None [] = old
@@ -92,7 +99,7 @@ pulled_by old None (item ∷ rest) = record old { hand = Some item; intake = res
 abbrev pub pulled : World → World
 pulled old = pulled_by old old.hand old.intake
 
--- the item in hand is placed under this number
+-- places the item in hand under this number
 abbrev pub placed_from : World → ℕ → Option Item → World
 placed_from old number None = old
 placed_from old number (Some item) =
@@ -107,7 +114,7 @@ placed old number = placed_from old number old.hand
 
 -- ---- subscriptions
 
--- one begins behind this number, under this link, with empty tables
+-- adds a subscription after this number, under this link, with empty tables
 abbrev pub subscribed : List Shape → World → ℕ → ℕ → World
 subscribed schema old start link = record old {
   links = link ∷ old.links;
@@ -126,6 +133,11 @@ subscribed schema old start link = record old {
 abbrev pub delivered : Delivery → Subscriber → Subscriber
 delivered delivery q = record q { offers = q.offers ++ delivery ∷ [] }
 
+<<<<<<< HEAD
+=======
+-- the subscription has accepted up to this number: the entries after its cursor are applied to its
+-- tables
+>>>>>>> passages
 abbrev pub if_applied : tables.TableState → Result tables.TableState Conflict → tables.TableState
 if_applied old (Ok new) = new
 if_applied old (Err conflict) = old
@@ -144,10 +156,11 @@ delivery_told d q = find (λ delivery. delivery.number == d) q.offers
 
 -- the entries that a delivery names: its first number to its last
 abbrev pub entries_of : List Entry → Delivery → List Entry
-entries_of sequence delivery = part sequence (delivery.first - 1) (suc delivery.last - delivery.first)
+entries_of sequence delivery =
+    part sequence (delivery.first - 1) (suc delivery.last - delivery.first)
 
--- It accepts the delivery of this number: the entries that the delivery names go to the end of what it accepted, and are
--- applied to its tables.
+-- It accepts the delivery of this number: the entries that the delivery names go to the end of what
+-- it accepted, and are applied to its tables.
 abbrev pub accepted_told : List Entry → Option Delivery → Subscriber → Subscriber
 accepted_told sequence None q = q
 accepted_told sequence (Some delivery) q = with_accepted (entries_of sequence delivery) q
@@ -163,7 +176,7 @@ unsubscribed q = record q { closed = true }
 
 -- ---- all of these
 
--- the world once an event is answered so; any other answer tells nothing
+-- the world after an event with this reply; any other reply changes nothing
 abbrev pub told : List Shape → World → Event → Reply → World
 told schema old event.Publisher (reply.Publisher p) = publisher_added old
 told schema old (event.Feed p bytes) reply.Fed = sender_changed old p (fed bytes)
@@ -179,54 +192,59 @@ told schema old (event.Take s now) (reply.Delivery delivery) =
     subscriber_changed old delivery.sub (delivered delivery)
 told schema old (event.TakeAny now) (reply.Delivery delivery) =
     subscriber_changed old delivery.sub (delivered delivery)
-told schema old (event.Accept d) (reply.Accepted s last) = subscriber_changed old s (accepted old.sequence d)
+told schema old (event.Accept d) (reply.Accepted s last) =
+    subscriber_changed old s (accepted old.sequence d)
 told schema old (event.Reconnect s cursor) (reply.Link link) =
     record (subscriber_changed old s (reconnected link)) { links = link ∷ old.links }
 told schema old (event.Unsubscribe s) reply.Unsubscribed = subscriber_changed old s unsubscribed
 told schema old event given = old
 
--- want of memory tells nothing
+-- out of memory changes nothing
 abbrev pub told_by : List Shape → World → Event → Answer → World
 told_by schema old event (Ok given) = told schema old event given
 told_by schema old event (Err e) = old
 
--- the world behind these events, from this one on
+-- the world after these events, from this one on
 abbrev pub told_from : List Shape → World → List Event → List Answer → World
 told_from schema old [] answers = old
 told_from schema old (event ∷ events) [] = old
 told_from schema old (event ∷ events) (answer ∷ answers) =
     told_from schema (told_by schema old event answer) events answers
 
--- the world that these events and answers tell, from the first one on
+-- the world that these events and answers report, from the start
 abbrev pub world_told : List Shape → List Event → List Answer → World
 world_told schema events answers = told_from schema world_begun events answers
 
--- ---- the broker's own knowledge
+-- ---- what the broker has
 
--- things pair with others, one by one
+-- the items of two lists pair, one by one
 abbrev pub Paired : {A B : Type 0} → (A → B → Type 0) → List A → List B → Type 0
 Paired R [] [] = Unit {0}
 Paired R [] (y ∷ ys) = ⊥
 Paired R (x ∷ xs) [] = ⊥
 Paired R (x ∷ xs) (y ∷ ys) = R x y × Paired R xs ys
 
--- a publisher's stream has taken the text, it has staged the same, and sent as often
+-- the publisher's stream has taken the text; staged changeset and number of sendings agree
 pub record IsSender (publisher : Publisher) (sender : Sender) : Type 0 where
   pub stream : Took publisher.stream sender.text
   pub staged : sender.staged ≡ publisher.staged
   pub sent : publisher.sent ≡ length sender.sent
 
+<<<<<<< HEAD
 -- a delivery was delivered to its subscription, and no earlier one there has its number
+=======
+-- the delivery was made to its subscription
+>>>>>>> passages
 abbrev pub IsDelivered : List Subscriber → Delivery → Type 0
 IsDelivered subscribers delivery = (q : Subscriber) × (slice_get subscribers delivery.sub ≡ Some q)
     × (delivery_told delivery.number q ≡ Some delivery)
 
--- the deliveries that were offered to a subscription have numbers below this one
+-- all deliveries to the subscription have numbers below `next`
 abbrev pub AreBelow : ℕ → Subscriber → Type 0
 AreBelow next q = AllByRecursion (λ offer. offer.number < next) q.offers
 
--- A broker's state is what was told: publisher by publisher, what waits, the item in hand, the
--- sequence and its closing number, end by end. All its deliveries were offered, and all links and
+-- A broker's state agrees with the reported world: publishers, intake, item in hand, sequence,
+-- closing number and endpoints. Each of its deliveries was made to its subscription. All links and
 -- numbers so far are below the next ones. Each subscription began with empty tables.
 pub record IsToldBy (schema : List Shape) (state : State) (world : World) : Type 0 where
   pub served : state.schema ≡ schema

@@ -1,5 +1,5 @@
--- The world as what was sent, placed and accepted tells it. It knows no window, no clock, no spans
--- and no order of deliveries.
+-- The abstract world: what was sent, placed and accepted. It has no window, no clock, no spans and
+-- no order of deliveries.
 use Rattle.std.specs.Prelude.{ℕ, ◌+◌, Bool, List, [], length, Option, None}
 use Rattle.cs_model.specs.Section.{Section}
 use Rattle.cs_apply.specs.State as tables
@@ -8,15 +8,15 @@ use Rattle.rb_sequence.specs.declared.item.Item.{Item}
 use Rattle.rb_sequence.specs.Entry.{Entry}
 use Rattle.rb_subscriber.specs.Endpoint.{Endpoint}
 
--- A publisher: the text of its stream, what is staged, and all that it sent, in order.
+-- A publisher: the text of its stream, its staged changeset, and all that it sent, in order.
 pub record Sender : Type 0 where
   pub text : List ℕ
   pub staged : Option (List Section)
   pub sent : List Item
 
--- A subscription: the number behind which it began, the tables that it began with, the entries that
--- it accepted, in order, its tables, its present link, whether it is closed, and all deliveries
--- that it was ever offered.
+-- A subscription: the number after which it began, the tables that it began with, the accepted
+-- entries in order, and its tables. It has its current link, whether it is closed, and all
+-- deliveries ever made to it.
 pub record Subscriber : Type 0 where
   pub start : ℕ
   pub base : tables.TableState
@@ -26,10 +26,10 @@ pub record Subscriber : Type 0 where
   pub closed : Bool
   pub offers : List Delivery
 
--- The publishers; what was sent and waits, in order; the item in hand, which waits no more and has
--- no number yet; the sequence; the closing number, where the sequence is closed; all links that
--- were ever drawn; the subscriptions. Publishers and subscriptions are named by their places, from
--- 0.
+-- The abstract world. It has the publishers and the intake of sent items in order. The item in hand
+-- has left the intake and has no number yet. It has the sequence, its closing number if it is
+-- closed, all links ever issued, and the subscriptions. Publishers and subscriptions are numbered
+-- from 0.
 pub record World : Type 0 where
   pub senders : List Sender
   pub intake : List Item
@@ -39,7 +39,7 @@ pub record World : Type 0 where
   pub links : List ℕ
   pub subscribers : List Subscriber
 
--- the world before anything happened
+-- the world before any move
 abbrev pub world_begun : World
 world_begun = record {
   senders = [];
@@ -51,11 +51,11 @@ world_begun = record {
   subscribers = [];
 }
 
--- how far a subscription has accepted
+-- the last number that a subscription has accepted
 abbrev pub cursor : Subscriber → ℕ
 cursor q = q.start + length q.accepted
 
--- its end, as the one that accepts knows it
+-- the subscription's endpoint
 abbrev pub endpoint_of : Subscriber → Endpoint
 endpoint_of q = record {
   start = q.start;

@@ -1,26 +1,27 @@
-//! Laws over the abstract world: what holds behind every course of moves, whoever makes them. They
-//! know no desk. Public functions that do nothing, whose contracts are the laws; who needs one
-//! calls it.
+//! Laws of the abstract world: what holds after any moves, whoever makes them. They do not mention
+//! the desk. Each law is a public function that does nothing; its contract is the law. Call the
+//! function to use the law.
 
 ghost use Rattle.std.specs.Prelude.{◌≡◌, ℕ, true, List, Some, slice_get};
-ghost use Rattle.rb_core.specs.Moves.{Leads, HasRun, StaysClosed, items_of, own_of, IsFront, IsSending};
+ghost use Rattle.rb_core.specs.Moves.{Leads, HasRun, StaysClosed, items_of, own_of, IsFront};
+ghost use Rattle.rb_core.specs.Moves.{IsSending};
 ghost use Rattle.rb_core.specs.World.{Sender, Subscriber, World, world_begun};
 ghost use Rattle.rb_sequence.specs.Entry.{Entry};
 ghost use Rattle.rb_subscriber.specs.Accept.{AppliesSingly};
 
 use cs_apply::laws::applying_goes_on;
 
-/// Whatever happens from the beginning on, a subscription has accepted one run of the sequence
-/// behind its start: no number is left out, and each one comes once. So it is at every time, since
-/// each time is the end of what happened before.
+/// After any moves from the start, a subscription has accepted one contiguous run of the sequence
+/// after its start. No number is skipped, and none comes twice. This holds at any time, because any
+/// time is the end of the moves before it.
 pub fn accepted_is_gapless()
     ensures { (mids : List World) (new : World) (s : ℕ) (subscriber : Subscriber)
         → Leads world_begun mids new → slice_get new.subscribers s ≡ Some subscriber
         → HasRun new.sequence subscriber }
 {}
 
-/// Whatever happens once the sequence is closed, it stays closed and nothing is placed; and once a
-/// subscription is closed, it stays so and accepts nothing more.
+/// Once the sequence is closed, it stays closed and nothing more is placed. Once a subscription is
+/// closed, it stays closed and accepts nothing more.
 pub fn nothing_after_close()
     ensures sequence { (old : World) (mids : List World) (new : World) (last : ℕ)
         → old.closing ≡ Some last → Leads old mids new
@@ -32,9 +33,16 @@ pub fn nothing_after_close()
         × StaysClosed subscriber after }
 {}
 
+<<<<<<< HEAD
 /// Whatever happens from the beginning on, what stands in the sequence of one publisher is the
 /// front of what it sent, in that order; no two entries have the same publisher and the same own
-/// number, so that each sending is placed once; and each entry is a sending of a publisher that came.
+/// number, so that each sending is placed once; and each entry is a sending of a publisher that
+/// came.
+=======
+/// After any moves from the start, a publisher's entries in the sequence are a prefix of what it
+/// sent, in that order. No two entries have the same publisher and own number, so each sending is
+/// placed once.
+>>>>>>> passages
 pub fn sendings_come_once_in_order()
     ensures order { (mids : List World) (new : World) (p : ℕ) (sender : Sender)
         → Leads world_begun mids new → slice_get new.senders p ≡ Some sender
@@ -49,8 +57,9 @@ pub fn sendings_come_once_in_order()
         × IsSending sender entry.item }
 {}
 
-/// Whatever happens from the beginning on, a subscription's tables are what one thread gets that
-/// applies the changesets that it accepted to the tables that it began with, one after another.
+/// After any moves from the start, a subscription's tables equal those of a single thread. That
+/// thread applies the accepted changesets one after another to the tables the subscription began
+/// with.
 pub fn tables_apply_singly()
     ensures { (mids : List World) (new : World) (s : ℕ) (subscriber : Subscriber)
         → Leads world_begun mids new → slice_get new.subscribers s ≡ Some subscriber

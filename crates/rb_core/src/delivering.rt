@@ -1,4 +1,4 @@
-//! Deliveries: accepted, acknowledged, given back, expired.
+//! Events of deliveries: accept, acknowledge, negatively acknowledge, expire.
 
 ghost use Rattle.std.specs.Prelude.{◌≡◌, IfOk, IfSome, OnErr};
 ghost use Rattle.std.specs.Option.{option_copied};
@@ -14,7 +14,7 @@ use rb_subscriber::AcceptError;
 use std::alloc::{AllocError, Global};
 
 impl Parts {
-    // the delivery of this number
+    // the delivery with this number
     fn delivery(&self, number: u64) -> Option<&Delivery>
         requires { AreNumbered (λ d. d.number) 1 self.now.deliveries }
         ensures { option_copied result ≡ delivery_of self.now number }
@@ -23,7 +23,7 @@ impl Parts {
         self.deliveries.get(place as usize)
     }
 
-    // the same, with what holds of each delivery
+    // the same by value; its subscription exists, and its numbers are placed
     fn known(&self, number: u64) -> Option<Delivery>
         requires { IsWorld self.now }
         ensures value { result ≡ delivery_of self.now number }
@@ -54,7 +54,7 @@ impl Parts {
         })
     }
 
-    /// Settles a delivery's entries, all of which its subscription has accepted.
+    /// Settles a delivery's entries. Its subscription must have accepted all of them.
     pub(crate) fn ack(&mut self, delivery: u64) -> Result<Reply, AllocError>
         requires { IsWorld self.old }
         ensures ok { IfOk result (λ reply. outcome.acked self.old delivery ≡ (reply, self.new)) }
@@ -74,7 +74,7 @@ impl Parts {
         }
     }
 
-    /// Gives a delivery's entries back.
+    /// Negatively acknowledges a delivery: its entries are ready again.
     pub(crate) fn nack(&mut self, delivery: u64) -> Result<Reply, AllocError>
         requires { IsWorld self.old }
         ensures ok { IfOk result (λ reply. outcome.nacked self.old delivery ≡ (reply, self.new)) }
@@ -93,7 +93,7 @@ impl Parts {
         }
     }
 
-    /// Gives all deliveries back that are out too long.
+    /// Expires every delivery that has been out for the timeout or longer.
     pub(crate) fn expire(&mut self, now: u64) -> Result<Reply, AllocError>
         ensures ok { IfOk result (λ reply. outcome.expired self.old now ≡ (reply, self.new)) }
         ensures err { OnErr result (self.new ≡ self.old) }

@@ -1,42 +1,43 @@
-//! What happens to a world.
+//! Events: everything that can happen to a world, as values.
 
 use cs_model::Octets;
 
-/// An event, with its operands. Publishers and subscriptions are named by their numbers from 0,
-/// entries and deliveries by theirs from 1; a moment is any number, and the clock is the greatest
+/// An event with its operands. Publishers and subscriptions are numbered from 0, entries and
+/// deliveries from 1. `now` is any tick of the caller's clock; the world's clock is the greatest
 /// one so far.
 #[derive(Debug, Drop)]
 pub enum Event {
-    /// A publisher comes.
+    /// Adds a publisher.
     Publisher,
-    /// A publisher is fed the next bytes of its stream.
+    /// Feeds a publisher the next bytes of its stream.
     Feed { publisher: u64, bytes: Octets },
-    /// A publisher's stream is dropped, and a new one begins.
+    /// Drops a publisher's stream and begins a new one.
     Reset { publisher: u64 },
-    /// A publisher's stream ends: what it spells is staged.
+    /// Ends a publisher's stream and stages the changeset that it spells.
     End { publisher: u64 },
-    /// A publisher sends what it has staged.
+    /// Sends what a publisher has staged.
     Send { publisher: u64 },
-    /// The sequencer takes a turn: what was sent first gets the next number.
+    /// Places the changeset that was sent first: it gets the next number.
     Turn,
-    /// The sequence is closed: nothing is sent or placed any more.
+    /// Closes the sequence: nothing more is sent or placed.
     Close,
-    /// A subscription begins behind this number.
+    /// Adds a subscription that begins after number `start`.
     Subscribe { start: u64 },
-    /// A subscription asks for its next entries, at this moment.
+    /// Delivers a subscription's next entries, at tick `now`.
     Take { subscription: u64, now: u64 },
-    /// Whoever has room is handed the entries that wait longest, at this moment.
+    /// Delivers the entries that have been ready the longest, of any subscription with room, at
+    /// tick `now`.
     TakeAny { now: u64 },
-    /// A delivery is accepted by its subscription.
+    /// Accepts a delivery: its subscription applies the entries.
     Accept { delivery: u64 },
-    /// A delivery is acknowledged: its entries are settled.
+    /// Acknowledges a delivery: its entries are settled.
     Ack { delivery: u64 },
-    /// A delivery is given back: its entries wait again.
+    /// Negatively acknowledges a delivery: its entries are ready again.
     Nack { delivery: u64 },
-    /// It is this moment: deliveries that are out too long are given back.
+    /// Expires every delivery that has been out for the timeout or longer, at tick `now`.
     Expire { now: u64 },
-    /// A subscription goes on behind this number, under a new link.
+    /// Continues a subscription after number `cursor`, under a new link.
     Reconnect { subscription: u64, cursor: u64 },
-    /// A subscription ends.
+    /// Closes a subscription.
     Unsubscribe { subscription: u64 },
 }

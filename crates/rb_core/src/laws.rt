@@ -1,8 +1,8 @@
-//! Laws: public functions that do nothing, whose contracts say what holds of every run. Who needs
-//! one calls it.
+//! Laws of runs: what holds of every run of events. Each law is a public function that does
+//! nothing; its contract is the law. Call the function to use the law.
 //!
-//! What a subscription accepted and what a publisher sent are told by the events and their answers
-//! (*world_told*), without a look at the broker.
+//! The events and their replies determine what was sent and accepted (*world_told*), without a look
+//! at the broker.
 
 ghost use Rattle.std.specs.Prelude.{◌≡◌, ◌++◌, ℕ, true, List, Some, None, length, slice_get};
 ghost use Rattle.cs_model.specs.Bytes.{AreBytes};
@@ -14,7 +14,8 @@ ghost use Rattle.rb_core.specs.declared.publisher.Publisher.{Publisher};
 ghost use Rattle.rb_core.specs.declared.reply.Reply.{Reply};
 ghost use Rattle.rb_core.specs.declared.reply.Reply.TheVariants as reply;
 ghost use Rattle.rb_core.specs.Headline.{KeepsHeadline};
-ghost use Rattle.rb_core.specs.Moves.{Leads, HasRun, StaysClosed, items_of, own_of, IsFront, IsSending};
+ghost use Rattle.rb_core.specs.Moves.{Leads, HasRun, StaysClosed, items_of, own_of, IsFront};
+ghost use Rattle.rb_core.specs.Moves.{IsSending};
 ghost use Rattle.rb_core.specs.Outcome.{outcome};
 ghost use Rattle.rb_core.specs.Run.{Answer, IsRunOf, RunsOn};
 ghost use Rattle.rb_core.specs.State.{State, IsWorld, empty_tables};
@@ -32,7 +33,7 @@ use cs_parse::laws::{
 use rb_desk::laws::{calls_keep_pictures, calls_show_in_outline, replays_are_pictures};
 use rb_subscriber::laws::accepting_is_step;
 
-/// Every event keeps what a world keeps.
+/// Every event preserves the invariant of a world (*IsWorld*).
 pub fn events_keep_worlds()
     ensures { (old : State) (event : Event) (given : Reply) (new : State)
         → IsWorld old → outcome old event ≡ (given, new) → IsWorld new }
@@ -42,10 +43,9 @@ pub fn events_keep_worlds()
     calls_show_in_outline();
 }
 
-/// What feeding a publisher answers, and what the end of its stream answers where nothing is
-/// staged, is said of every text that the stream may have taken: the fault that no more bytes mend,
-/// what the text spells, and its fault. What its publisher was told to be fed is such a text
-/// (*Tells*).
+/// What `Feed` and `End` reply, for every text that the stream may have taken. `Feed` reports the
+/// permanent fault. `End` stages what the text spells or reports its fault, if nothing is staged
+/// yet. The bytes fed to the publisher are such a text (*IsToldBy*).
 pub fn streams_answer_by_text()
     ensures feed { (old : State) (p : ℕ) (bytes : List ℕ) (publisher : Publisher)
         (text : List ℕ) (given : Reply) (new : State)
@@ -65,10 +65,9 @@ pub fn streams_answer_by_text()
     progress_tells();
 }
 
-/// In every run of events from an empty world, what they and their answers tell is what the broker
-/// has, and it is a course of moves from the beginning on: those of a world that knows no window,
-/// no clock, no spans and no order of deliveries. Where the run goes on, the course goes on from
-/// there.
+/// In every run from an empty world, the events and replies report what the broker has. What they
+/// report is a course of moves from the start. These are moves of a world without window, clock,
+/// spans and order of deliveries. If the run continues, so does the course.
 pub fn runs_are_told()
     ensures told { (limits : Limits) (schema : List Shape) (events : List Event)
         (answers : List Answer) (new : State)
@@ -82,7 +81,8 @@ pub fn runs_are_told()
         (world_told schema (events ++ more) (answers ++ later)))
         × IsToldBy schema new (world_told schema (events ++ more) (answers ++ later)) }
     ensures world { (limits : Limits) (schema : List Shape) (events : List Event)
-        (answers : List Answer) (new : State) → IsRunOf limits schema events answers new → IsWorld new }
+        (answers : List Answer) (new : State) → IsRunOf limits schema events answers new
+        → IsWorld new }
 {
     events_keep_worlds();
     replays_are_pictures();
@@ -92,9 +92,8 @@ pub fn runs_are_told()
     progress_tells();
 }
 
-/// In every run each publisher's stream has taken what the publisher was fed since the stream
-/// began, as the events and their answers tell it. So `streams_answer_by_text` says of that text
-/// what it is answered.
+/// In every run, each publisher's stream has taken the bytes fed since the stream began, as events
+/// and replies report them. So `streams_answer_by_text` holds for that text.
 pub fn streams_take_what_is_fed()
     ensures { (limits : Limits) (schema : List Shape) (events : List Event)
         (answers : List Answer) (new : State) (p : ℕ) (publisher : Publisher)
@@ -106,8 +105,8 @@ pub fn streams_take_what_is_fed()
     runs_are_told();
 }
 
-/// In every run and at every time, what a subscription has accepted is one run of the sequence
-/// behind its start: no number is left out, and each one comes once. Its end has come as far.
+/// At any time of any run, a subscription has accepted one contiguous run of the sequence after its
+/// start. No number is skipped, and none comes twice. Its endpoint is in the same state.
 pub fn accepted_is_gapless()
     ensures { (limits : Limits) (schema : List Shape) (events : List Event)
         (answers : List Answer) (new : State) (s : ℕ) (subscriber : Subscriber)
@@ -120,9 +119,9 @@ pub fn accepted_is_gapless()
     courses::accepted_is_gapless();
 }
 
-/// In every run and at every time, what stands in the sequence of one publisher is the front of
-/// what it sent, in that order; and no two entries have the same publisher and the same own number,
-/// so that each sending is placed once.
+/// At any time of any run, a publisher's entries in the sequence are a prefix of what it sent, in
+/// that order. No two entries have the same publisher and own number, so each sending is placed
+/// once.
 pub fn sendings_come_once_in_order()
     ensures order { (limits : Limits) (schema : List Shape) (events : List Event)
         (answers : List Answer) (new : State) (p : ℕ) (sender : Sender)
@@ -144,8 +143,8 @@ pub fn sendings_come_once_in_order()
     courses::sendings_come_once_in_order();
 }
 
-/// In every run that goes on once the sequence is closed, it stays closed and nothing is placed;
-/// and once a subscription is closed, it stays so and accepts nothing more.
+/// If a run continues after the sequence is closed, it stays closed and nothing more is placed.
+/// Once a subscription is closed, it stays closed and accepts nothing more.
 pub fn nothing_after_close()
     ensures sequence { (limits : Limits) (schema : List Shape) (events more : List Event)
         (answers later : List Answer) (mid new : State) (last : ℕ)
@@ -165,8 +164,8 @@ pub fn nothing_after_close()
     courses::nothing_after_close();
 }
 
-/// In every run and at every time, a subscription's tables are what one thread gets that applies
-/// the changesets that it accepted to empty tables, one after another.
+/// At any time of any run, a subscription's tables equal those of a single thread. That thread
+/// applies the accepted changesets one after another to empty tables.
 pub fn tables_apply_singly()
     ensures { (limits : Limits) (schema : List Shape) (events : List Event)
         (answers : List Answer) (new : State) (s : ℕ) (subscriber : Subscriber)

@@ -1,7 +1,7 @@
-//! The pure world: publishers, the sequence and subscriptions as one value, moved by events.
-//! Theorem: whatever the events, the world and its answers are a run of the steps in
-//! `specs/Outcome.antt`, and in every run what a subscription accepted is a gapless run of the
-//! sequence, each sending once and in order, none after a close.
+//! The broker as one pure value: publishers, the sequence and subscriptions, changed by events.
+//! Theorem: for any events, the world and its replies are a run of the steps in
+//! `specs/Outcome.antt`. In every run, a subscription accepts a gapless run of the sequence. Each
+//! sending is placed once and in order, and none after a close.
 #![tactic(auto)]
 
 pub mod courses;

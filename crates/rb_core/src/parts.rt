@@ -1,4 +1,4 @@
-//! The parts of a world.
+//! The parts of a world: schema, publishers, intake, sequence, desk, endpoints, deliveries.
 
 ghost use Rattle.std.specs.Prelude.{◌≡◌};
 ghost use Rattle.std.specs.Arc.{arc_value};
@@ -14,8 +14,8 @@ use std::collections::VecDeque;
 use std::marker::Model;
 use std::sync::Arc;
 
-/// The parts of a world, which the events change. What holds of them together (*IsWorld*) is asked
-/// of them where it is needed, and the world keeps it.
+/// The parts of a world, which events change. Functions require their common invariant (*IsWorld*)
+/// where they need it, and `World` keeps it.
 #[derive(Debug, Drop)]
 pub(crate) struct Parts {
     pub(crate) schema: Arc<Schema>,
@@ -49,7 +49,7 @@ impl Model for Parts {
 }
 
 impl Parts {
-    /// No publishers, entries and subscriptions.
+    /// A world without publishers, entries and subscriptions.
     pub(crate) fn new(alloc: Global, config: Config, schema: Arc<Schema>) -> Parts
         ensures { result ≡ empty_world config (arc_value schema) }
     {

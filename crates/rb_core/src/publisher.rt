@@ -1,15 +1,15 @@
-//! Publishers.
+//! One publisher's state: its stream, what it staged, and how often it sent.
 
 use cs_model::Changeset;
 use cs_parse::PieceParser;
 
-/// A publisher.
+/// A publisher of a world.
 #[derive(Debug, Drop)]
 pub struct Publisher {
-    /// What was read of the bytes fed since its last end or reset.
+    /// The parser of the bytes fed since the last end or reset.
     pub stream: PieceParser,
-    /// What is staged and not sent.
+    /// The changeset that is staged and not sent.
     pub staged: Option<Changeset>,
-    /// How often it has sent.
+    /// How many changesets it has sent.
     pub sent: u64,
 }

@@ -1,4 +1,4 @@
-//! Publishers.
+//! Events of publishers: add, feed, reset, end, send.
 
 ghost use Rattle.std.specs.Prelude.{◌≡◌, List, Some, length, slice_get, nat_le, IfOk, OnErr};
 ghost use Rattle.std.specs.Prelude.{IsSome, IsSomeAnd};
@@ -18,11 +18,11 @@ use cs_parse::{EndError, ParseError, PieceParser};
 use rb_sequence::Item;
 use std::alloc::{AllocError, Global};
 
-/// The most publishers.
+/// The most publishers of a world.
 const MOST_PUBLISHERS: usize = 64;
 
 impl Parts {
-    /// One publisher more, with an empty stream. It is answered with its number, from 0.
+    /// Adds a publisher with an empty stream, and returns its number, from 0.
     pub(crate) fn publisher(&mut self, alloc: Global) -> Result<Reply, AllocError>
         ensures ok { IfOk result (λ reply. outcome.publisher_added self.old ≡ (reply, self.new)) }
         ensures err { OnErr result (self.new ≡ self.old) }
@@ -39,8 +39,8 @@ impl Parts {
         Ok(Reply::Publisher(number))
     }
 
-    /// The next piece of a publisher's stream. A piece with a fault is answered with it, and so is
-    /// each one behind it until the stream is reset.
+    /// Feeds the next piece of a publisher's stream. A piece with a fault returns that fault, and
+    /// so does each later one until the stream is reset.
     pub(crate) fn feed(
         &mut self,
         alloc: Global,
@@ -77,8 +77,8 @@ impl Parts {
         Ok(Reply::Reset)
     }
 
-    /// Ends a publisher's stream: the changeset that it spells is staged, where the schema admits
-    /// it, and a new stream begins.
+    /// Ends a publisher's stream. If the schema admits the changeset that it spells, stages it and
+    /// begins a new stream.
     pub(crate) fn end(&mut self, alloc: Global, publisher: u64) -> Result<Reply, AllocError>
         ensures ok { IfOk result (λ reply. outcome.ended self.old publisher ≡ (reply, self.new)) }
         ensures err { OnErr result (self.new ≡ self.old) }
@@ -99,8 +99,7 @@ impl Parts {
         Ok(Reply::Staged)
     }
 
-    /// Puts what a publisher staged at the end of the intake, with its number among that
-    /// publisher's.
+    /// Moves what a publisher staged to the end of the intake, under that publisher's next number.
     pub(crate) fn send(&mut self, publisher: u64) -> Result<Reply, AllocError>
         ensures ok { IfOk result (λ reply. outcome.sent self.old publisher ≡ (reply, self.new)) }
         ensures err { OnErr result (self.new ≡ self.old) }
@@ -121,7 +120,7 @@ impl Parts {
         self.queue(publisher)
     }
 
-    // whether as many changesets wait as may
+    // whether the intake is full
     fn is_full(&self) -> bool
         ensures { result ≡ nat_le self.now.desk.limits.intake (length self.now.intake) }
     {
@@ -138,7 +137,7 @@ impl Parts {
         ensures err { OnErr result (self.new ≡ self.old) }
     {
         let p = publisher as usize;
-        // 2^64 sendings can't come
+        // 2^64 sendings never happen
         let own = self.publishers[p].sent.checked_add(1).ok_or(AllocError)?;
         self.intake.reserve(1)?;
         let found = &mut self.publishers[p];
@@ -154,7 +153,7 @@ impl Parts {
     }
 }
 
-// the changeset that a stream ends with, where the schema admits it
+// the changeset that a stream ends with, if the schema admits it
 fn end_of(alloc: Global, stream: &mut PieceParser, schema: &Schema) -> Result<Changeset, EndError>
     ensures answer { result ≡ admitted_answer schema.now (answer_at_end stream.old) }
     ensures left { stream.new ≡ left_by result stream.old }
@@ -162,7 +161,7 @@ fn end_of(alloc: Global, stream: &mut PieceParser, schema: &Schema) -> Result<Ch
     stream.end(alloc, schema)
 }
 
-// what `end` answers where nothing is staged
+// the reply of `end` to this error
 fn reply_for(error: EndError) -> Reply
     ensures { result ≡ end_reply error }
 {

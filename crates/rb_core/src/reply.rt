@@ -1,4 +1,4 @@
-//! What a world answers.
+//! Replies: what a world returns for an event, and why it refuses one.
 
 use cs_parse::ParseFault;
 use rb_desk::{Delivery, DeskRefusal};
@@ -6,52 +6,51 @@ use rb_subscriber::AcceptRefusal;
 use std::fmt;
 use thiserror::Error;
 
-/// The answer to an event.
+/// The reply to an event, returned by `World::step` and `World::serve`.
 #[derive(Clone, Copy, Debug, PartialEq, Eq)]
 pub enum Reply {
     /// The new publisher's number.
     Publisher(u64),
-    /// The bytes are at the end of the stream.
+    /// The bytes are appended to the stream.
     Fed,
     /// The stream is empty again.
     Reset,
     /// A changeset is staged, and the stream is empty.
     Staged,
-    /// The changeset is sent: its place among the sendings of its publisher, from 1.
+    /// The changeset is sent: its number among its publisher's sendings, from 1.
     Sent(u64),
-    /// A changeset has this number in the sequence.
+    /// A changeset is placed in the sequence under this number.
     Placed(u64),
-    /// Nothing waits to be placed.
+    /// Nothing waits to be placed. Nothing changes.
     Idle,
-    /// The sequence is closed, and this is its last number.
+    /// The sequence is closed; this is its last number.
     Closed(u64),
     /// The new subscription's number and link.
     Subscriber { subscription: u64, link: u64 },
-    /// Entries are handed to a subscription.
+    /// Entries are delivered to a subscription.
     Delivery(Delivery),
-    /// The entries of a delivery are applied; its subscription has accepted up to `cursor`.
+    /// The delivery's entries are applied. Its subscription has accepted up to `cursor`.
     Accepted { subscription: u64, cursor: u64 },
-    /// The delivery is settled, as all entries of its subscription up to this number are.
+    /// The delivery is settled. Its subscription has settled all entries up to this number.
     Floor(u64),
-    /// The delivery is given back.
+    /// The delivery is returned.
     Returned,
-    /// So many deliveries are given back.
+    /// How many deliveries expired and were returned.
     Expired(u64),
     /// The subscription's new link.
     Link(u64),
     /// The subscription is closed.
     Unsubscribed,
-    /// The stream isn't that of a changeset: its first fault. A `Feed` that meets it keeps the
-    /// bytes, and every later one answers the same and takes nothing; an `End` leaves the stream as
-    /// it is.
+    /// The stream isn't a changeset: its first fault. The `Feed` that finds it keeps the bytes.
+    /// Every later `Feed` returns it again and keeps nothing. An `End` does not change the stream.
     Fault(ParseFault),
     /// The event is refused.
     Refused(BrokerRefusal),
 }
 
-/// Why `World::step` refuses an event. The world is as it was before, but that a turn which the
-/// desk refuses has pulled the item that it keeps in hand. Where several hold, the first in the
-/// event's documentation is told.
+/// Why `World::step` and `World::serve` refuse an event. A refused event does not change the world.
+/// One exception: a `Turn` that the desk refuses moves the next item from the intake into the hand.
+/// If several apply, the reply is the first in this order.
 #[derive(Clone, Copy, Debug, PartialEq, Eq, Error)]
 pub enum BrokerRefusal {
     /// `Feed`, `Reset`, `End`, `Send`: no publisher has this number.
@@ -60,7 +59,7 @@ pub enum BrokerRefusal {
     /// `Accept`, `Ack`, `Nack`: no delivery has this number.
     #[error("there is no such delivery")]
     NoDelivery,
-    /// `Publisher`: there are 64.
+    /// `Publisher`: there are 64 publishers.
     #[error("there are 64 publishers")]
     TooMany,
     /// `End`: the publisher has a changeset staged already.
@@ -72,20 +71,20 @@ pub enum BrokerRefusal {
     /// `Send`: the sequence is closed.
     #[error("the sequence is closed")]
     Closed,
-    /// `Send`: as many changesets wait as may.
+    /// `Send`: the intake is full.
     #[error("as many changesets wait as may")]
     Full,
-    /// `End`: the section at this place is of a table that isn't in the schema.
+    /// `End`: the first refused section, at this index, is of a table that isn't in the schema.
     #[error("section {0} is of an unknown table")]
     UnknownTable(u64),
-    /// `End`: the section at this place has another shape than its table.
+    /// `End`: the first refused section, at this index, has another shape than its table.
     #[error("section {0} has another shape than its table")]
     ShapeDiffers(u64),
     /// `Turn`, `Subscribe`, `Take`, `TakeAny`, `Ack`, `Nack`, `Reconnect`, `Unsubscribe`: the desk
-    /// refuses it.
+    /// refuses the call.
     #[error(transparent)]
     Desk(DeskRefusal),
-    /// `Accept`: the subscription's end refuses it.
+    /// `Accept`: the subscription's endpoint refuses the delivery.
     #[error(transparent)]
     Accept(AcceptRefusal),
 }

@@ -1,4 +1,4 @@
-//! Whole runs.
+//! Whole runs: a list of events, served from an empty world.
 
 ghost use Rattle.std.specs.Prelude.{◌≡◌, ℕ, true, List, Some, IfOk, slice_get, take};
 ghost use Rattle.std.specs.List.{AllByRecursion};
@@ -22,53 +22,57 @@ use cs_model::Schema;
 use rb_desk::Config;
 use std::alloc::{AllocError, Global};
 
-/// Serves events one after another from an empty world, and gives the world and what each was
-/// answered: a reply, or that memory ran out for it. `AllocError` where memory runs out for the
-/// answers themselves.
+/// Serves events one after another from an empty world. Returns the world and, for each event, its
+/// reply or that memory ran out for it. Returns `AllocError` if memory runs out for the empty world
+/// or for the list of replies.
 ///
-/// The clauses behind the first one are the laws, said of this run: of publishers and subscriptions
-/// as the events and their answers tell them (*world_told*), without a look at the world. What the
-/// laws ask is so of every call: the limits are in their ranges, and what events feed are bytes.
+/// The clauses after the first are the laws, stated for this run. They speak of publishers and
+/// subscriptions as events and replies report them (*world_told*), without a look at the world.
+/// Every call meets the conditions of the laws: limits are in their ranges, and events feed bytes.
 pub fn run(
     alloc: Global,
     config: Config,
     schema: Schema,
     events: &[Event],
 ) -> Result<(World, Vec<Result<Reply, AllocError>>), AllocError>
-    // The answers and the world are those of a run of the events.
+    // The replies and the world are those of a run of the events.
     ensures run { IfOk result (λ r. Run (empty_world config schema) events.now r.1.items r.0) }
-    // What a subscription accepted is one run of the sequence behind its start, and its end is what
-    // it accepted.
+    // A subscription has accepted one contiguous run of the sequence after its start, and its
+    // endpoint is in the same state.
     ensures gapless { IfOk result (λ r. (s : ℕ) (subscriber : Subscriber)
         → slice_get (world_told schema events.now r.1.items).subscribers s ≡ Some subscriber
         → HasRun r.0.sequence subscriber
         × (slice_get r.0.endpoints s ≡ Some (endpoint_of subscriber))) }
-    // What stands in the sequence of a publisher is the front of what it sent, in that order.
+    // A publisher's entries in the sequence are a prefix of what it sent, in that order.
     ensures in_order { IfOk result (λ r. (p : ℕ) (sender : Sender)
         → slice_get (world_told schema events.now r.1.items).senders p ≡ Some sender
         → IsFront (own_of p (items_of r.0.sequence)) sender.sent) }
-    // No sending stands there twice.
+    // No sending is in the sequence twice.
     ensures once { IfOk result (λ r. (i j : ℕ) (a b : Entry) → slice_get r.0.sequence i ≡ Some a
         → slice_get r.0.sequence j ≡ Some b → a.item.publisher ≡ b.item.publisher
         → a.item.own ≡ b.item.own → i ≡ j) }
+<<<<<<< HEAD
     // Each entry is what a publisher that came sent under the entry's own number.
     ensures sent { IfOk result (λ r. (i : ℕ) (entry : Entry) → slice_get r.0.sequence i ≡ Some entry
         → (sender : Sender) × (slice_get (world_told schema events.now r.1.items).senders
         entry.item.publisher ≡ Some sender) × IsSending sender entry.item) }
     // Once the first n events have closed the sequence, it stays closed and nothing is placed.
+=======
+    // If the first n events close the sequence, it stays closed and nothing more is placed.
+>>>>>>> passages
     ensures closed { IfOk result (λ r. (n last : ℕ)
         → (world_told schema (take n events.now) (take n r.1.items)).closing ≡ Some last
         → (r.0.desk.closing ≡ Some last)
         × (r.0.sequence ≡ (world_told schema (take n events.now) (take n r.1.items)).sequence)) }
-    // Once they have closed a subscription, it stays so and accepts nothing more.
+    // If they close a subscription, it stays closed and accepts nothing more.
     ensures left { IfOk result (λ r. (n s : ℕ) (subscriber : Subscriber)
         → slice_get (world_told schema (take n events.now) (take n r.1.items)).subscribers s
         ≡ Some subscriber
         → subscriber.closed ≡ true
         → (after : Subscriber) × (slice_get (world_told schema events.now r.1.items).subscribers s
         ≡ Some after) × StaysClosed subscriber after) }
-    // A subscription's tables are what one thread gets that applies what it accepted to empty
-    // tables, one changeset after another.
+    // A subscription's tables equal those of a single thread that applies the accepted changesets
+    // one after another to empty tables.
     ensures tables { IfOk result (λ r. (s : ℕ) (subscriber : Subscriber)
         → slice_get (world_told schema events.now r.1.items).subscribers s ≡ Some subscriber
         → AppliesSingly (empty_tables schema) subscriber.accepted subscriber.tables) }
@@ -81,8 +85,8 @@ pub fn run(
     served(alloc, config, schema, events)
 }
 
-// The events served, with the one clause from which the others follow: it is a run, and what the
-// events feed are bytes.
+// Serves the events, with the clauses from which all others follow: it is a run, and the events
+// feed bytes.
 fn served(
     alloc: Global,
     config: Config,
@@ -103,7 +107,7 @@ fn served(
     Ok((world, answers))
 }
 
-// These are bytes, and an event feeds bytes: their types say so, and these functions only look.
+// The types say that these are bytes and that an event feeds bytes. These functions only read.
 fn are_bytes(bytes: &[u8])
     ensures { AreBytes bytes.now }
 {}

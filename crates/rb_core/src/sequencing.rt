@@ -1,4 +1,4 @@
-//! The sequence: items that get a number, and its end.
+//! Events of the sequence: place the next item, close.
 
 ghost use Rattle.std.specs.Prelude.{◌≡◌, None, IfOk, OnErr};
 ghost use Rattle.std.specs.Option.{option_copied};
@@ -13,9 +13,9 @@ use std::alloc::{AllocError, Global};
 use std::collections::VecDeque;
 
 impl Parts {
-    /// Moves the item in hand, or where there is none the first that waits, to the end of the
-    /// sequence, and answers its number, from
-    /// 1. Where the desk refuses the number the item stays in hand.
+    /// Places the next item at the end of the sequence, and returns its number, from 1. The next
+    /// item is the one in hand or, if there is none, the first of the intake. If the desk refuses
+    /// the number, the item stays in hand.
     pub(crate) fn turn(&mut self, alloc: Global) -> Result<Reply, AllocError>
         ensures ok { IfOk result (λ reply. outcome.turned self.old ≡ (reply, self.new)) }
         ensures err { OnErr result (self.new ≡ self.old) }
@@ -45,7 +45,7 @@ impl Parts {
         }
     }
 
-    // fills an empty hand
+    // fills an empty hand from the intake
     fn pull(&mut self)
         ensures { self.new ≡ outcome.pulled self.old }
     {
@@ -54,7 +54,7 @@ impl Parts {
         }
     }
 
-    /// Closes the sequence, and answers its last number.
+    /// Closes the sequence, and returns its last number.
     pub(crate) fn close(&mut self) -> Result<Reply, AllocError>
         ensures ok { IfOk result (λ reply. outcome.closed self.old ≡ (reply, self.new)) }
         ensures err { OnErr result (self.new ≡ self.old) }
@@ -63,7 +63,7 @@ impl Parts {
     }
 }
 
-// the item that a turn places next, out of the hand or out of those that wait
+// takes the item that a turn places next, from the hand or from the intake
 fn take_next(hand: &mut Option<Item>, intake: &mut VecDeque<Item>) -> Option<Item>
     ensures item { result ≡ hand_of hand.old intake.old.items }
     ensures hand { hand.new ≡ None }

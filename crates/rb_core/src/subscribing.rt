@@ -1,4 +1,4 @@
-//! Subscriptions: made, served, gone on with, ended.
+//! Events of subscriptions: subscribe, take, reconnect, unsubscribe.
 
 ghost use Rattle.std.specs.Prelude.{◌≡◌, IfOk, OnErr};
 ghost use Rattle.std.specs.Arc.{arc_value};
@@ -16,7 +16,7 @@ use std::alloc::{AllocError, Global};
 use std::sync::Arc;
 
 impl Parts {
-    /// One subscription more, of the entries behind number `start`, with empty tables.
+    /// Adds a subscription to the entries after number `start`, with empty tables.
     pub(crate) fn subscribe(&mut self, alloc: Global, start: u64) -> Result<Reply, AllocError>
         ensures ok { IfOk result (λ reply. outcome.subscribed self.old start ≡ (reply, self.new)) }
         ensures err { OnErr result (self.new ≡ self.old) }
@@ -34,7 +34,7 @@ impl Parts {
         }
     }
 
-    /// Hands a subscription the first of its entries that are ready, as a delivery.
+    /// Delivers the first of a subscription's entries that are ready.
     pub(crate) fn take(&mut self, subscription: u64, now: u64) -> Result<Reply, AllocError>
         ensures ok { IfOk result (λ reply. outcome.delivered self.old subscription now
             ≡ (reply, self.new)) }
@@ -54,8 +54,7 @@ impl Parts {
         }
     }
 
-    /// Hands over the entries that are ready longest, among those of subscriptions with room, as a
-    /// delivery.
+    /// Delivers the entries that have been ready the longest, of any subscription with room.
     pub(crate) fn take_any(&mut self, now: u64) -> Result<Reply, AllocError>
         ensures ok { IfOk result (λ reply. outcome.delivered_any self.old now ≡ (reply, self.new)) }
         ensures err { OnErr result (self.new ≡ self.old) }
@@ -71,7 +70,7 @@ impl Parts {
         }
     }
 
-    /// Lets a subscription go on behind `cursor`, under a new link.
+    /// Continues a subscription after `cursor`, under a new link.
     pub(crate) fn reconnect(
         &mut self,
         alloc: Global,
@@ -117,7 +116,7 @@ impl Parts {
     }
 }
 
-// tables without rows, every one of them kept
+// tables without rows, all of them kept
 fn tables_of(alloc: Global, schema: &Arc<Schema>) -> Result<Tables, AllocError>
     ensures { IfOk result (λ tables. tables ≡ empty_tables (arc_value schema.now)) }
 {

@@ -1,4 +1,4 @@
-//! The world.
+//! `World`, the public interface of the crate: events go in, replies come out.
 
 ghost use Rattle.std.specs.Prelude.{◌≡◌, ◌+◌, length, IfOk, OnErr, MatchOption, slice_get, Option};
 ghost use Rattle.std.specs.Option.{option_map, option_copied};
@@ -18,7 +18,7 @@ use std::alloc::{AllocError, Global};
 use std::marker::Model;
 use std::sync::Arc;
 
-/// Publishers, a sequence and subscriptions of one schema, in one value.
+/// The publishers, the sequence and the subscriptions of one schema, as one value.
 #[derive(Debug, Drop)]
 pub struct World {
     parts: Parts,
@@ -37,7 +37,8 @@ impl Model for World {
 }
 
 impl World {
-    /// A world without publishers, entries and subscriptions. `AllocError` where memory runs out.
+    /// A world without publishers, entries and subscriptions. Returns `AllocError` if memory runs
+    /// out.
     pub fn new(alloc: Global, config: Config, schema: Schema) -> Result<World, AllocError>
         ensures { IfOk result (λ world. world ≡ empty_world config schema) }
     {
@@ -47,8 +48,8 @@ impl World {
         })
     }
 
-    /// Moves the world by one event and answers it. `AllocError` where memory runs out, with the
-    /// world as it was; a refusal is a reply.
+    /// Applies one event to the world and returns the reply; a refusal is a reply. Returns
+    /// `AllocError` if memory runs out, and does not change the world then.
     pub fn step(&mut self, alloc: Global, event: Event) -> Result<Reply, AllocError>
         ensures ok { IfOk result (λ reply. outcome self.old event ≡ (reply, self.new)) }
         ensures err { OnErr result (self.new ≡ self.old) }
@@ -56,7 +57,7 @@ impl World {
         self.serve(alloc, &event)
     }
 
-    /// The same for an event that stays with the caller.
+    /// The same as `step`, for an event that the caller keeps.
     pub fn serve(&mut self, alloc: Global, event: &Event) -> Result<Reply, AllocError>
         ensures ok { IfOk result (λ reply. outcome self.old event.now ≡ (reply, self.new)) }
         ensures err { OnErr result (self.new ≡ self.old) }
@@ -65,7 +66,7 @@ impl World {
         self.parts.moved_by(alloc, event)
     }
 
-    /// The entry with this number, where it is placed.
+    /// The entry with this number, if it is placed.
     pub fn entry(&self, number: u64) -> Option<&Entry>
         ensures { option_copied result ≡ entry_of self.now number }
     {
@@ -74,8 +75,8 @@ impl World {
         entries.get(place as usize)
     }
 
-    /// The rows of a subscription with their keys, by table, then by the key's bytes; `None` where
-    /// there is no such subscription. `AllocError` where memory runs out.
+    /// The rows of a subscription with their keys, sorted by table, then by the key's bytes.
+    /// Returns `None` if there is no such subscription. Returns `AllocError` if memory runs out.
     pub fn rows(
         &self,
         alloc: Global,
@@ -91,7 +92,7 @@ impl World {
         }
     }
 
-    /// How many changesets are sent and not placed: the item in hand, and those that wait.
+    /// How many changesets are sent and not placed: the item in hand and the intake.
     pub fn left(&self) -> u64
         ensures { result ≡ how_many_wait self.now }
     {

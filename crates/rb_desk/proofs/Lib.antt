@@ -1,10 +1,10 @@
 -- The spans of one subscription: how numbers are cut, and what a call changes.
 pub mod spans
--- The ready order and the in-flight order, as tickets make them.
+-- The ready order and the in-flight order, computed from tickets.
 pub mod orders
--- Each call answers what its definition says, and the desk shows the picture after it.
+-- Each call returns what its definition says, and the desk shows the picture after it.
 pub mod calls
--- Every call leaves a picture; numbers are given once; the front and the floors rise.
+-- Every call preserves the invariant of a picture; no number is issued twice; the front and the floors rise.
 pub mod pictures
 -- What each call changes in the outline.
 pub mod outlines

@@ -1,4 +1,4 @@
--- Each call answers what its definition says, and the desk shows the picture after it.
+-- Each call returns what its definition says, and the desk shows the picture after it.
 pub mod CallLaws
 pub mod KnownLaws
 pub mod OpenLaws

@@ -1,4 +1,4 @@
--- The ready order and the in-flight order, as tickets make them.
+-- The ready order and the in-flight order, computed from tickets.
 pub mod Line
 pub mod OrderLaws
 pub mod ExpireOrder

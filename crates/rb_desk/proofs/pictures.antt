@@ -1,4 +1,4 @@
--- Every call leaves a picture; numbers are given once; the front and the floors rise.
+-- Every call preserves the invariant of a picture; no number is issued twice; the front and the floors rise.
 pub mod PictureLaws
 pub mod PartLaws
 pub mod StandLaws

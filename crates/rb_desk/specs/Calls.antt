@@ -1,4 +1,4 @@
--- What each call answers, and the picture after it. A refused call leaves the picture as it was.
+-- What each call returns, and the picture after it. A refused call does not change the picture.
 use Rattle.std.specs.Prelude.{ℕ, suc, max, ⊤, Bool, true, false, not, ◌&&◌, ◌||◌, List, [], ◌∷◌}
 use Rattle.std.specs.Prelude.{◌++◌, length, map, Option, Some, None, Result, Ok, Err, slice_get}
 use Rattle.std.specs.Prelude.{slice_set, ◌==◌, nat_lt, nat_le, if◌then◌else◌}
@@ -16,12 +16,12 @@ use Rattle.rb_desk.specs.Picture.{Picture, Subscription}
 abbrev pub refused_call : {A : Type 0} → Picture → DeskRefusal → Result A DeskRefusal × Picture
 refused_call old why = (Err why, old)
 
--- a subscription becomes this one
+-- replaces the subscription with this number
 abbrev pub with_subscription : Picture → ℕ → Subscription → Picture
 with_subscription old s q = record old { subscriptions = slice_set old.subscriptions s q }
 
--- an order without one span, and without all spans of a subscription; and the spans of a
--- subscription by their names
+-- an order without one span, and without all spans of a subscription; then the names of a
+-- subscription's spans
 abbrev pub is_span : ℕ → ℕ → ℕ × ℕ → Bool
 is_span s first at = (at.0 == s) && (at.1 == first)
 
@@ -34,11 +34,11 @@ without_subscription s = filter (λ at. not (at.0 == s))
 abbrev pub named : ℕ → List Span → List (ℕ × ℕ)
 named s = map (λ p. (s, p.first))
 
--- whether fewer deliveries are in flight to it than the window holds
+-- whether the window has room for another delivery in flight
 abbrev pub has_room : ℕ → Subscription → Bool
 has_room window q = nat_lt (how_many_out q.spans) window
 
--- Subscribe: a new subscription behind a number that is placed. The numbers from there to the front
+-- Subscribe: adds a subscription after a number that is placed. The numbers from there to the front
 -- are cut.
 abbrev pub subscribed_picture : Picture → ℕ → List Span → Picture
 subscribed_picture old start spans = record old {
@@ -64,9 +64,9 @@ subscribe old start =
       subscribed_picture old start (cut_spans old.limits.batch (suc start) old.front),
     )
 
--- A span is handed over: it is in flight as the next delivery, from this moment on, which is the
--- clock now; it stands at the end of the in-flight order and no longer in the ready order; at least
--- its last number is offered.
+-- Delivers a span: it is in flight as the next delivery, taken at tick `clock`, to which the clock
+-- is set. It leaves the ready order and goes to the end of the in-flight order. The greatest number
+-- delivered is at least the span's last.
 abbrev pub delivery_from : Picture → ℕ → Subscription → Span → Delivery
 delivery_from old s q span =
     record {
@@ -89,9 +89,9 @@ delivered_picture old s q span clock = record (with_subscription old s
       in_flight = old.in_flight ++ (s, span.first) ∷ [];
     }
 
--- Take: the subscription's ready span with the least numbers. Where there is none, it is drained if
--- the sequence is closed, no span is left and the cursor is the closing number; else nothing is
--- ready.
+-- Take: delivers the subscription's ready span with the lowest numbers. If none is ready, it
+-- refuses `Drained` or `Empty`. `Drained` means that the sequence is closed, no span is left, and
+-- the cursor is the closing number.
 abbrev pub is_drained : List Span → ℕ → ℕ → Bool
 is_drained [] cursor last = cursor == last
 is_drained (p ∷ rest) cursor last = false
@@ -119,7 +119,7 @@ delivered_from old s link cursor now (Some q) =
 unfoldable pub take : Picture → ℕ → ℕ → ℕ → ℕ → Result Delivery DeskRefusal × Picture
 take old s link cursor now = delivered_from old s link cursor now (slice_get old.subscriptions s)
 
--- Take any: the first span in the ready order whose subscription has room in its window
+-- Take any: delivers the first span in the ready order whose subscription has room in its window.
 abbrev pub may_deliver : Picture → ℕ × ℕ → Bool
 may_deliver old at = has_room_at old.limits.window (slice_get old.subscriptions at.0)
   where
@@ -146,8 +146,8 @@ delivered_any_from old now (Some at) =
 unfoldable pub take_any : Picture → ℕ → Result Delivery DeskRefusal × Picture
 take_any old now = delivered_any_from old now (find (may_deliver old) old.ready)
 
--- Ack: the span that is out as this delivery, all of which is accepted, is settled, and the floor
--- rises over what is settled in front.
+-- Ack: settles the span that is in flight as this delivery, all of which must be accepted. The
+-- floor rises over the settled spans at the front.
 abbrev pub settled_span : Picture → ℕ → Subscription → ℕ → ℕ × List Span → Result ℕ DeskRefusal
     × Picture
 settled_span old s q first rest = (
@@ -172,7 +172,7 @@ acked_by old s link number cursor (Some q) =
 unfoldable pub ack : Picture → ℕ → ℕ → ℕ → ℕ → Result ℕ DeskRefusal × Picture
 ack old s link number cursor = acked_by old s link number cursor (slice_get old.subscriptions s)
 
--- Nack: the span that is out as this delivery goes back: it is ready, at the end of the ready
+-- Nack: makes the span that is in flight as this delivery ready again, at the end of the ready
 -- order.
 abbrev pub nacked_picture : Picture → ℕ → Subscription → Span → Picture
 nacked_picture old s q span =
@@ -195,8 +195,8 @@ nacked_by old s link number (Some q) =
 unfoldable pub nack : Picture → ℕ → ℕ → ℕ → Result ⊤ DeskRefusal × Picture
 nack old s link number = nacked_by old s link number (slice_get old.subscriptions s)
 
--- Expire: each span in flight that was taken as many moments ago as the timeout, or more, goes
--- back, in the in-flight order.
+-- Expire: each span in flight that was taken `timeout` ticks ago or earlier is ready again, in the
+-- in-flight order.
 abbrev pub span_is_due : ℕ → ℕ → Option Span → Bool
 span_is_due timeout clock None = false
 span_is_due timeout clock (Some p) = is_due timeout clock p.status
@@ -225,8 +225,8 @@ expired_at old clock = (
 unfoldable pub expire : Picture → ℕ → ℕ × Picture
 expire old now = expired_at old (max old.clock now)
 
--- Reconnect: the subscription goes on behind the cursor, under a new link: all its spans go, and
--- the numbers from there to the front are cut.
+-- Reconnect: continues the subscription after the cursor, under a new link. All its spans are
+-- removed, and the numbers from there to the front are cut.
 abbrev pub reconnected_picture : Picture → ℕ → Subscription → ℕ → List Span → Picture
 reconnected_picture old s q cursor spans =
     record (with_subscription old s
@@ -251,7 +251,7 @@ reconnected_by old s cursor (Some q) =
 unfoldable pub reconnect : Picture → ℕ → ℕ → Result ℕ DeskRefusal × Picture
 reconnect old s cursor = reconnected_by old s cursor (slice_get old.subscriptions s)
 
--- Unsubscribe: all its spans go, and it is closed.
+-- Unsubscribe: removes all its spans, and closes it.
 abbrev pub unsubscribed_picture : Picture → ℕ → Subscription → Picture
 unsubscribed_picture old s q =
     record (with_subscription old s (record q { closed = true; spans = [] })) {
@@ -269,7 +269,7 @@ unsubscribed_by old s link (Some q) =
 unfoldable pub unsubscribe : Picture → ℕ → ℕ → Result ⊤ DeskRefusal × Picture
 unsubscribe old s link = unsubscribed_by old s link (slice_get old.subscriptions s)
 
--- Prepare: the number that a placement would give now. It changes nothing.
+-- Prepare: the number that `place` would place now. It changes nothing.
 abbrev pub next_place : Picture → Option ℕ → Result ℕ DeskRefusal
 next_place old (Some last) = Err refusal.Closed
 next_place old None = if nat_lt old.front old.limits.capacity then Ok (suc old.front) else Err
@@ -278,9 +278,8 @@ next_place old None = if nat_lt old.front old.limits.capacity then Ok (suc old.f
 unfoldable pub prepare : Picture → Result ℕ DeskRefusal
 prepare old = next_place old old.closing
 
--- Place: the next number is placed. In each subscription that isn't closed the last span takes it,
--- or it begins a new one, which stands at the end of the ready order, the subscriptions by rising
--- number.
+-- Place: places the next number. In each open subscription the last span takes the number, or a new
+-- span begins with it. New spans go to the end of the ready order, by rising subscription number.
 abbrev pub grown_subscription : ℕ → ℕ → Subscription → Subscription
 grown_subscription batch n q =
     if q.closed then q else record q { spans = grown_spans batch n q.spans }

@@ -1,5 +1,5 @@
--- What expiring makes of the spans that a desk keeps: each that is due stands in line by its
--- delivery's number, so that those that go back do so in the in-flight order.
+-- Expiry of the spans that a desk stores. Each span that is due gets a ticket by its delivery's
+-- number, so expired spans keep the in-flight order.
 use Rattle.std.specs.Prelude.{ℕ, suc, ◌+◌, List, [], ◌∷◌, length, map, if◌then◌else◌, true}
 use Rattle.std.specs.List.{filter}
 use Rattle.rb_desk.specs.declared.ticket.Ticket.{Ticket}
@@ -10,11 +10,11 @@ use Rattle.rb_desk.specs.declared.sub.Sub.{Sub}
 use Rattle.rb_desk.specs.Spans.{is_due}
 use Rattle.rb_desk.specs.Lanes.{Lane}
 
--- the turns behind this one
+-- the tickets of the turns after this one
 abbrev pub turns_from : ℕ → ℕ → ℕ → Ticket
 turns_from front turn n = record { front = front; turn = suc turn + n }
 
--- the ticket of a span that goes back, by the number of its delivery
+-- the ticket of a returned span, by its delivery's number
 abbrev pub ticket_of : (ℕ → Ticket) → Status → Ticket
 ticket_of tk (Ready taken) = tk 0
 ticket_of tk (InFlight number moment) = tk number
@@ -23,7 +23,7 @@ ticket_of tk Settled = tk 0
 abbrev pub by_number : (ℕ → Ticket) → Held → Ticket
 by_number tk h = ticket_of tk h.span.status
 
--- a span that is due is ready again, with a ticket by what it was
+-- makes a span that is due ready again, with a ticket that depends on what it was
 abbrev pub expired_held : ℕ → ℕ → (Held → Ticket) → Held → Held
 expired_held timeout clock ticket h =
     if is_due timeout clock h.span.status then
@@ -44,7 +44,7 @@ expired_sub timeout clock ticket sub =
           { held = map (expired_held timeout clock ticket) sub.lane.held };
     }
 
--- how many are due: those of the open subscriptions that were taken before
+-- how many stored spans of open subscriptions are due
 abbrev pub due_held : ℕ → ℕ → List Held → ℕ
 due_held timeout clock held = length (filter (λ h. is_due timeout clock h.span.status) held)
 

@@ -1,4 +1,4 @@
--- What a picture keeps.
+-- The invariant of a picture (*IsPicture*), which every call preserves.
 use Rattle.std.specs.Prelude.{◌≡◌, ℕ, suc, ◌+◌, ◌<◌, ◌≤◌, Bool, true, false, List, [], ◌∷◌, length}
 use Rattle.std.specs.Prelude.{IfSome, Option, Some, None, slice_get, ◌==◌}
 use Rattle.std.specs.List.{filter, AllByRecursion}
@@ -22,8 +22,8 @@ Partition low [] high = suc high ≡ low
 Partition low (p ∷ rest) high = (p.first ≡ low) × (p.first ≤ p.last)
     × Partition (suc p.last) rest high
 
--- a span has no more than batch numbers; where it was taken, its numbers were offered; where it is
--- out, its delivery's number was given
+-- A span has at most `batch` numbers. If it was taken, its numbers were delivered. If it is in
+-- flight, its delivery's number was issued.
 abbrev pub WasOffered : ℕ → ℕ → Span → Type 0
 WasOffered offered next p = (is_fresh p.status ≡ false → p.last ≤ offered)
     × IsNumbered next p.status
@@ -42,10 +42,10 @@ abbrev pub StartsUnsettled : List Span → Type 0
 StartsUnsettled [] = Unit {0}
 StartsUnsettled (p ∷ rest) = is_settled p.status ≡ false
 
--- a subscription: the start isn't behind the floor, nor the floor behind what was offered, nor this
--- behind the front; its link was given; a closed one has no spans, and those of another one
--- partition the numbers from its floor to the front, the first of them isn't settled, and no more
--- are out than the window holds
+-- A good subscription. The start is at most the floor, the floor at most the greatest number
+-- delivered, and that at most the front. Its link was issued. If it is closed, it has no spans.
+-- Else its spans partition the numbers from the floor to the front. The first span isn't settled,
+-- and no more are in flight than the window holds.
 pub record IsGoodSubscription (p : Picture) (q : Subscription) : Type 0 where
   pub begins : q.start ≤ q.floor
   pub reaches : q.floor ≤ q.offered
@@ -57,11 +57,11 @@ pub record IsGoodSubscription (p : Picture) (q : Subscription) : Type 0 where
   pub good : AllByRecursion (IsGoodSpan p.limits.batch q.offered p.next_delivery) q.spans
   pub few : how_many_out q.spans ≤ p.limits.window
 
--- how often a span stands in an order
+-- how often a span is in an order
 abbrev pub how_often : ℕ → ℕ → List (ℕ × ℕ) → ℕ
 how_often s first order = length (filter (is_span s first) order)
 
--- 1 where the subscription has a span of that status that begins with this number, else 0
+-- 1 if the subscription has a span that begins with this number and passes the test, else 0
 abbrev pub one_if : Bool → ℕ
 one_if true = 1
 one_if false = 0
@@ -74,7 +74,7 @@ abbrev pub stands_there : (Status → Bool) → ℕ → Option Subscription → 
 stands_there test first None = 0
 stands_there test first (Some q) = span_there test (beginning first q.spans)
 
--- how many subscriptions have this link, and how many spans are out as this delivery
+-- how many subscriptions have this link, and how many spans are in flight as this delivery
 abbrev pub links_of : ℕ → List Subscription → ℕ
 links_of link subs = length (filter (λ q. q.link == link) subs)
 
@@ -82,10 +82,10 @@ abbrev pub out_in : ℕ → List Subscription → ℕ
 out_in d [] = 0
 out_in d (q ∷ rest) = length (filter (λ p. is_out_as d p.status) q.spans) + out_in d rest
 
--- A picture: its limits are in their ranges and the front within the capacity; the closing number
--- is the front; each subscription is good; no two have one link, and no two spans are out as one
--- delivery; a ready span stands once in the ready order and nothing else does, and a span that is
--- out once in the in-flight order and nothing else does.
+-- A picture. Its limits are in their ranges, the front is within the capacity, and the closing
+-- number, if there is one, is the front. Each subscription is good. No two have the same link, and
+-- no two spans are in flight as the same delivery. The ready order has each ready span once and
+-- nothing else; the in-flight order has each span in flight once and nothing else.
 pub record IsPicture (p : Picture) : Type 0 where
   pub in_range : AreInRange p.limits
   pub within : p.front ≤ p.limits.capacity

@@ -5,9 +5,13 @@ use Rattle.rb_desk.specs.declared.config.ConfigFault.{ConfigFault}
 use Rattle.rb_desk.specs.declared.config.ConfigFault.TheVariants.{Batch, Window, Timeout, Capacity}
 use Rattle.rb_desk.specs.declared.config.ConfigFault.TheVariants.{Intake, Appliers}
 
--- The limits: the most numbers in a delivery, the most deliveries in flight to a subscription,
--- after how many moments a delivery expires, the most entries of the sequence, the most changesets
--- that wait to be placed, how many workers apply a changeset.
+-- The limits of a broker:
+-- - `batch`: the most numbers in a delivery
+-- - `window`: the most deliveries in flight to a subscription
+-- - `timeout`: after how many ticks a delivery expires
+-- - `capacity`: the most entries of the sequence
+-- - `intake`: the most changesets that wait to be placed
+-- - `appliers`: how many workers apply a changeset
 pub record Limits : Type 0 where
   pub batch : ℕ
   pub window : ℕ
@@ -32,7 +36,7 @@ limits_code =
     })
     (λ _. refl)
 
--- whether a number is at least 1 and at most this
+-- whether a number is from 1 to `most`
 abbrev pub is_in_range : ℕ → ℕ → Bool
 is_in_range most n = nat_le 1 n && nat_le n most
 

@@ -1,5 +1,5 @@
--- The ready order and the in-flight order, as what a desk keeps makes them: the spans that are in
--- it, sorted by their tickets.
+-- The ready order and the in-flight order, computed from what a desk stores: the spans in each,
+-- sorted by their tickets.
 use Rattle.std.specs.Prelude.{ℕ, suc, List, [], ◌∷◌, ◌++◌, map, Option, Some, None, if◌then◌else◌}
 use Rattle.std.specs.List.{filter_map}
 use Rattle.rb_desk.specs.declared.ticket.Ticket.{Ticket}
@@ -9,8 +9,7 @@ use Rattle.rb_desk.specs.declared.span.Status.TheVariants.{Ready, InFlight, Sett
 use Rattle.rb_desk.specs.Spans.{is_ready}
 use Rattle.rb_desk.specs.Lanes.{earlier}
 
--- a thing at its place among those before it, and all things so: where two have the same ticket, in
--- the order that they come in
+-- inserts an item by its ticket, and sorts a list so; items with the same ticket keep their order
 abbrev pub placed_in : {X : Type 0} → Ticket × X → List (Ticket × X) → List (Ticket × X)
 placed_in e [] = e ∷ []
 placed_in e (f ∷ rest) = if earlier f.0 e.0 then f ∷ placed_in e rest else e ∷ f ∷ rest
@@ -19,7 +18,8 @@ abbrev pub in_line : {X : Type 0} → List (Ticket × X) → List (Ticket × X)
 in_line [] = []
 in_line (e ∷ rest) = placed_in e (in_line rest)
 
--- where a span of subscription s stands in the ready order, and in the in-flight order, if it does
+-- the place of a span of subscription s in the ready order, and in the in-flight order, if it is
+-- there
 abbrev pub ready_at : ℕ → Held → Option (Ticket × (ℕ × ℕ))
 ready_at s h = if is_ready h.span.status then Some (h.ticket, (s, h.span.first)) else None
 
@@ -38,6 +38,6 @@ abbrev pub all_at : (ℕ → Held → Option (Ticket × (ℕ × ℕ))) → ℕ �
 all_at at s [] = []
 all_at at s (held ∷ rest) = filter_map (at s) held ++ all_at at (suc s) rest
 
--- the order that they stand in
+-- the order of these spans
 abbrev pub order : (ℕ → Held → Option (Ticket × (ℕ × ℕ))) → List (List Held) → List (ℕ × ℕ)
 order at lanes = map (λ e. e.1) (in_line (all_at at 0 lanes))

@@ -1,11 +1,12 @@
--- What calls change for those who know no spans and no clock: the front, the closing number, the
--- numbers that were given, and of each subscription its start, its link and whether it is closed.
+-- The outline of a picture, without spans and clock, and what calls change in it. It has the front,
+-- the closing number and the next numbers. Of each subscription, it has the start, the link and
+-- whether it is closed.
 use Rattle.std.specs.Prelude.{◌≡◌, ℕ, suc, ◌<◌, ◌≤◌, Bool, true, false, List, [], ◌∷◌, ◌++◌, length}
 use Rattle.std.specs.Prelude.{map, Option, Some, None, slice_get, slice_set}
 use Rattle.rb_desk.specs.declared.delivery.Delivery.{Delivery}
 use Rattle.rb_desk.specs.Picture.{Picture, Subscription}
 
--- a subscription without its floor, what was offered to it and its spans
+-- a subscription without its floor, its greatest number delivered and its spans
 pub record Member : Type 0 where
   pub start : ℕ
   pub link : ℕ
@@ -31,7 +32,7 @@ outline_of p = record {
   members = map member_of p.subscriptions;
 }
 
--- one subscription more, behind a number that is placed, under a link that was never given
+-- adds a subscription after a number that is placed, under a link never issued before
 pub record Subscribes (old new : Outline) (start s link : ℕ) : Type 0 where
   pub placed : start ≤ old.front
   pub last : s ≡ length old.members
@@ -42,8 +43,8 @@ pub record Subscribes (old new : Outline) (start s link : ℕ) : Type 0 where
         ++ record { start = start; link = link; closed = false } ∷ [];
   }
 
--- a delivery, whose number was never given, of numbers that are placed, to a subscription that
--- isn't closed and began before them, under its present link
+-- makes a delivery, with a number never issued before, of numbers that are placed; its subscription
+-- is open, began before them, and has this link
 pub record Delivers (old new : Outline) (delivery : Delivery) : Type 0 where
   pub member : Member
   pub found : slice_get old.members delivery.sub ≡ Some member
@@ -55,7 +56,7 @@ pub record Delivers (old new : Outline) (delivery : Delivery) : Type 0 where
   pub placed : delivery.last ≤ old.front
   pub kept : new ≡ record old { next_delivery = suc delivery.number }
 
--- a subscription that isn't closed goes on under a link that was never given
+-- continues an open subscription under a link never issued before
 pub record Reconnects (old new : Outline) (s link : ℕ) : Type 0 where
   pub member : Member
   pub found : slice_get old.members s ≡ Some member
@@ -64,7 +65,7 @@ pub record Reconnects (old new : Outline) (s link : ℕ) : Type 0 where
   pub kept : new ≡ record old
       { next_link = suc link; members = slice_set old.members s (record member { link = link }) }
 
--- a subscription that isn't closed is closed
+-- closes an open subscription
 pub record Unsubscribes (old new : Outline) (s : ℕ) : Type 0 where
   pub member : Member
   pub found : slice_get old.members s ≡ Some member
@@ -72,13 +73,13 @@ pub record Unsubscribes (old new : Outline) (s : ℕ) : Type 0 where
   pub kept : new ≡ record old
       { members = slice_set old.members s (record member { closed = true }) }
 
--- the next number is placed, while the sequence isn't closed
+-- places the next number; the sequence isn't closed
 pub record Places (old new : Outline) (number : ℕ) : Type 0 where
   pub not_closed : old.closing ≡ None
   pub next : number ≡ suc old.front
   pub kept : new ≡ record old { front = number }
 
--- the sequence is closed with its last number, or was before
+-- closes the sequence at its last number, or finds it closed there
 pub record Closes (old new : Outline) (last : ℕ) : Type 0 where
   pub front : last ≡ old.front
   pub kept : new ≡ record old { closing = Some last }

@@ -1,13 +1,12 @@
--- What a desk knows, as a value.
+-- The desk's state as a value: a picture, with its subscriptions and orders.
 use Rattle.std.specs.Prelude.{ℕ, Bool, List, [], Option, None, refl}
 use Rattle.std.specs.Coded.{Coded, code_by, coded×, coded_list, coded_ℕ, coded_bool, coded_option}
 use Rattle.rb_desk.specs.contracts.span.Span as span
 use Rattle.rb_desk.specs.declared.span.Span.{Span}
 use Rattle.rb_desk.specs.Limits.{Limits, limits_code}
 
--- A subscription: the number behind which it began; the floor, up to which everything is settled;
--- the greatest number that was offered to it; its present link; whether it is closed; its spans in
--- order.
+-- A subscription: the number after which it began, the floor, the greatest number delivered, the
+-- current link, whether it is closed, its spans in order. Everything up to the floor is settled.
 pub record Subscription : Type 0 where
   pub start : ℕ
   pub floor : ℕ
@@ -16,10 +15,10 @@ pub record Subscription : Type 0 where
   pub closed : Bool
   pub spans : List Span
 
--- A picture: the limits; the front, which is the last number placed, 0 before the first; the
--- closing number, if the sequence is closed; the clock; the next link and the next delivery's
--- number; the subscriptions, named by their places from 0; the ready order and the in-flight order,
--- which name spans by subscription and first number.
+-- A picture. It has the limits, the front (the last number placed; at first 0), the closing number
+-- if the sequence is closed, and the clock. It has the next link, the next delivery's number, the
+-- subscriptions, numbered from 0, the ready order and the in-flight order. The orders name a span
+-- by its subscription and its first number.
 pub record Picture : Type 0 where
   pub limits : Limits
   pub front : ℕ

@@ -1,4 +1,4 @@
--- Worked rows, read off the definitions: what calls answer one after another.
+-- Worked examples: what calls return one after another, by the definitions.
 use Rattle.std.specs.Prelude.{◌≡◌, [], ◌∷◌, Ok, Err, refl}
 use Rattle.rb_desk.specs.declared.refusal.DeskRefusal.TheVariants as refusal
 use Rattle.rb_desk.specs.declared.step.Step.TheVariants.{Subscribe, Take, Ack, Nack, Reconnect}
@@ -10,7 +10,7 @@ use Rattle.rb_desk.specs.Calls.{subscribe, take, take_any, ack, nack, expire, re
 use Rattle.rb_desk.specs.Calls.{place, close}
 use Rattle.rb_desk.specs.Steps.{after_step, replay}
 
--- batches of one number and two deliveries in flight; batches of up to 256
+-- batches of one number with two deliveries in flight; batches of up to 256
 abbrev two_in_flight : Limits
 two_in_flight = record {
   batch = 1;
@@ -36,8 +36,8 @@ abbrev two_taken : Picture
 two_taken = replay two_in_flight
     (Subscribe 0 ∷ Place ∷ Place ∷ Place ∷ Take 0 1 0 0 ∷ Take 0 1 0 0 ∷ [])
 
--- the window is full; an ack asks that all is accepted, and one of the second delivery doesn't
--- raise the floor past the first
+-- The window is full. An ack requires that all is accepted, and an ack of the second delivery does
+-- not raise the floor over the first.
 pub window : (take two_taken 0 1 0 0).0 ≡ Err refusal.WindowFull
 unfolding subscribe take prepare place after_step cut_spans
 window = refl
@@ -54,13 +54,13 @@ pub floor_rises : (ack (after_step two_taken (Ack 0 1 2 2)) 0 1 1 2).0 ≡ Ok 2
 unfolding subscribe take ack prepare place after_step cut_spans
 floor_rises = refl
 
--- what went back waits behind the rest
+-- a returned delivery is ready after all others
 pub behind_the_rest : (take_any (after_step two_taken (Nack 0 1 2)) 0).0
     ≡ Ok (record { number = 3; sub = 0; link = 1; first = 3; last = 3 })
 unfolding subscribe take take_any nack prepare place after_step cut_spans
 behind_the_rest = refl
 
--- a delivery expires at its moment, and not before
+-- a delivery expires at its tick, and not before
 abbrev one_taken : Picture
 one_taken = replay large_batches (Subscribe 0 ∷ Place ∷ Take 0 1 0 5 ∷ [])
 
@@ -72,7 +72,7 @@ pub due : (expire one_taken 15).0 ≡ 1
 unfolding subscribe take expire prepare place after_step cut_spans
 due = refl
 
--- a span that was taken isn't lengthened, and a reconnect cuts anew
+-- a span that was taken does not grow, and a reconnect cuts anew
 abbrev taken_and_placed : Picture
 taken_and_placed = replay large_batches (Subscribe 0 ∷ Place ∷ Take 0 1 0 0 ∷ Place ∷ Place ∷ [])
 
@@ -90,7 +90,7 @@ pub stale : (take (after_step taken_and_placed (Reconnect 0 0)) 0 1 0 0).0 ≡ E
 unfolding subscribe take reconnect prepare place after_step cut_spans
 stale = refl
 
--- after a close what is placed can still be taken; then the subscription is drained
+-- after a close, placed numbers can still be taken; then the subscription is drained
 pub delivers_after_close :
     (take (replay large_batches (Subscribe 0 ∷ Place ∷ Close ∷ [])) 0 1 0 0).0
     ≡ Ok (record { number = 1; sub = 0; link = 1; first = 1; last = 1 })

@@ -1,4 +1,4 @@
--- The picture that a desk shows, and what its fields keep.
+-- The picture that a desk shows, and the invariants of its fields.
 use Rattle.std.specs.Prelude.{◌≡◌, ℕ, suc, ◌+◌, ◌<◌, ◌≤◌, max, Bool, true, false, not, ◌&&◌, ◌==◌}
 use Rattle.std.specs.Prelude.{nat_lt, None, List, [], ◌∷◌, ◌++◌, map, ◌⊎◌, Option, Some, Result, Ok}
 use Rattle.std.specs.Prelude.{Err, slice_get, slice_set, if◌then◌else◌}
@@ -54,34 +54,34 @@ abbrev pub IsWithin : Limits → ℕ → Type 0
 IsWithin limits front = (1 ≤ limits.batch) × (limits.batch ≤ 256) × (limits.capacity ≤ 1048576)
     × (front ≤ limits.capacity)
 
--- a ticket was drawn by now: no later front, no later turn
+-- a ticket was drawn by now: its front and its turn are not later
 abbrev pub IsDrawn : ℕ → ℕ → Ticket → Type 0
 IsDrawn front turn ticket = (ticket.front ≤ front) × (ticket.turn ≤ turn)
 
--- a delivery's number was given
+-- a delivery's number was issued
 abbrev pub IsGiven : ℕ → Status → Type 0
 IsGiven next (Ready taken) = Unit {0}
 IsGiven next (InFlight number moment) = number < next
 IsGiven next Settled = Unit {0}
 
--- the numbers of those that are out were given, and there are turns for as many numbers
+-- the numbers of deliveries in flight were issued, and a turn is left for each number issued
 abbrev pub AreGiven : ℕ → ℕ → List Held → Type 0
 AreGiven next turn held = AllByRecursion (λ h. IsGiven next h.span.status) held
     × (turn + next < 18446744073709551616)
 
--- a span that is kept was taken before; its ticket was drawn, and its delivery's number given
+-- a stored span was taken before, its ticket was drawn, and its delivery's number was issued
 abbrev pub IsKnown : ℕ → ℕ → ℕ → Held → Type 0
 IsKnown front turn next h = (is_fresh h.span.status ≡ false) × IsDrawn front turn h.ticket
     × IsGiven next h.span.status
 
--- what a desk keeps of a subscription belongs to its front, its turns and its deliveries
+-- what a desk stores of a subscription agrees with its front, its turns and its deliveries
 pub record Belongs (front turn number : ℕ) (sub : Sub) : Type 0 where
   pub is_offered : sub.offered ≤ front
   pub is_next : sub.lane.next ≤ suc front
   pub is_drawn : IsDrawn front turn sub.lane.cutting
   pub are_known : AllByRecursion (IsKnown front turn number) sub.lane.held
 
--- ---- what a call makes of a subscription
+-- ---- what a call does to a subscription
 
 abbrev pub delivered_sub : Sub → Span → ℕ → ℕ → Sub
 delivered_sub sub span number clock =
@@ -113,8 +113,8 @@ abbrev pub closed_sub : Sub → Sub
 closed_sub sub = record sub { closed = true; lane = cut_lane sub.lane.floor sub.lane.cutting }
 
 -- The subscription `found`, with number s, is delivered a span, as delivery `number`, at tick
--- `taken`: the delivery and what becomes of the subscriptions, of the next delivery's number and of
--- the clock.
+-- `taken`. The fields say what the delivery is, and what the subscriptions, the next delivery's
+-- number and the clock are after it.
 pub record DeliveredTo (subs : List Sub) (s : ℕ) (found : Sub) (span : Span) (number taken : ℕ)
     (delivery : Delivery) (new : List Sub) (next clock : ℕ) : Type 0 where
   pub delivery_is : delivery
@@ -123,7 +123,7 @@ pub record DeliveredTo (subs : List Sub) (s : ℕ) (found : Sub) (span : Span) (
   pub next_is : next ≡ suc number
   pub clock_is : clock ≡ taken
 
--- What `deliver` answers and leaves: where memory runs out, nothing changes.
+-- What `deliver` returns and leaves. If memory runs out, nothing changes.
 abbrev pub WhenDelivered : Result Delivery DeskError → List Sub → ℕ → Span → ℕ → ℕ → ℕ
     → List Sub → ℕ → ℕ → Type 0
 WhenDelivered (Ok delivery) subs s span number clock now new next tick = (found : Sub)
@@ -132,7 +132,7 @@ WhenDelivered (Ok delivery) subs s span number clock now new next tick = (found 
 WhenDelivered (Err why) subs s span number clock now new next tick =
     (why ≡ Memory) × (new ≡ subs) × (next ≡ number) × (tick ≡ clock)
 
--- the span is one that was taken before, and is ready; or the first one that wasn't
+-- the span was taken before and is ready, or it is the first one never taken
 abbrev pub IsHeld : Lane → Span → Type 0
 IsHeld kept span = (front : List Held) × (h : Held) × (back : List Held)
     × (kept.held ≡ front ++ h ∷ back) × (h.span ≡ span)
@@ -141,18 +141,18 @@ abbrev pub IsDeliverable : ℕ → ℕ → Lane → Span → Type 0
 IsDeliverable batch front kept span = (IsHeld kept span × (is_ready span.status ≡ true))
     ⊎ (slice_get (cut_spans batch kept.next front) 0 ≡ Some span)
 
--- why nothing is handed over, by whether a span is left
+-- why nothing is delivered, by whether a span is left
 abbrev pub why_none : ℕ → Bool → ℕ → Option ℕ → DeskRefusal
 why_none front none_left cursor None = Empty front
 why_none front none_left cursor (Some last) =
     if none_left && (cursor == last) then Drained last else Empty front
 
--- the span that is out as this delivery
+-- the span that is in flight as this delivery
 abbrev pub sub_out_as : ℕ → Sub → Option Span
 sub_out_as d sub = if sub.closed then None else out_as d (spans_of sub.lane.held)
 
--- the span of a subscription that may be handed over before its others, and the first of all, with
--- its subscription's number
+-- the span of a subscription to deliver before its others, and the first of all, with its
+-- subscription's number
 abbrev pub next_to_deliver : ℕ → ℕ → ℕ → Sub → Option Held
 next_to_deliver window batch front sub =
     if not sub.closed && nat_lt (how_many_out (spans_of sub.lane.held)) window then least

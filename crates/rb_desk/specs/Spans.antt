@@ -1,4 +1,4 @@
--- The spans of one subscription: how numbers are cut into spans, and what becomes of them.
+-- The spans of one subscription: how numbers are cut into spans, and how their statuses change.
 use Rattle.std.specs.Prelude.{ℕ, zero, suc, ◌+◌, ◌-◌, min, Bool, true, false, not, ◌&&◌, List, []}
 use Rattle.std.specs.Prelude.{◌∷◌, ◌++◌, length, Option, ◌==◌, nat_lt, nat_le, if◌then◌else◌}
 use Rattle.std.specs.List.{filter, find}
@@ -6,8 +6,7 @@ use Rattle.rb_desk.specs.declared.span.Span.{Span}
 use Rattle.rb_desk.specs.declared.span.Status.{Status}
 use Rattle.rb_desk.specs.declared.span.Status.TheVariants.{Ready, InFlight, Settled}
 
--- it waits to be taken; it does, and never was; it is out as the delivery of this number; it is
--- out; it is settled
+-- whether a status is ready; ready and never taken; in flight as this delivery; in flight; settled
 abbrev pub is_ready : Status → Bool
 is_ready (Ready taken) = true
 is_ready (InFlight number moment) = false
@@ -33,7 +32,7 @@ is_settled (Ready taken) = false
 is_settled (InFlight number moment) = false
 is_settled Settled = true
 
--- it is out, and was taken so many moments ago or more
+-- whether a status is in flight, taken at least `timeout` ticks ago
 abbrev pub is_due : ℕ → ℕ → Status → Bool
 is_due timeout clock (Ready taken) = false
 is_due timeout clock (InFlight number moment) = nat_le timeout (clock - moment)
@@ -43,8 +42,8 @@ is_due timeout clock Settled = false
 abbrev pub fresh : ℕ → ℕ → Span
 fresh first last = record { first = first; last = last; status = Ready false }
 
--- The numbers from a to b, cut by batch: the first batch numbers, or as many as there are, then the
--- rest. There are no more spans than numbers.
+-- Cuts the numbers from a to b into spans: the first `batch` numbers, or as many as there are, then
+-- the rest. There are at most as many spans as numbers.
 abbrev pub cut_into : ℕ → ℕ → ℕ → ℕ → List Span
 cut_into zero batch a b = []
 cut_into (suc most) batch a b = if nat_lt b a then [] else fresh a (min (a + batch - 1) b)
@@ -53,7 +52,7 @@ cut_into (suc most) batch a b = if nat_lt b a then [] else fresh a (min (a + bat
 unfoldable pub cut_spans : ℕ → ℕ → ℕ → List Span
 cut_spans batch a b = cut_into (suc b - a) batch a b
 
--- the first one that is ready, and the one that is out as this delivery, and the one that begins
+-- the first span that is ready, the one that is in flight as this delivery, and the one that begins
 -- with this number
 abbrev pub first_ready : List Span → Option Span
 first_ready = find (λ p. is_ready p.status)
@@ -64,29 +63,29 @@ out_as d = find (λ p. is_out_as d p.status)
 abbrev pub beginning : ℕ → List Span → Option Span
 beginning first = find (λ p. p.first == first)
 
--- how many are out
+-- how many are in flight
 abbrev pub how_many_out : List Span → ℕ
 how_many_out spans = length (filter (λ p. is_out p.status) spans)
 
--- the one that begins with this number gets this status
+-- sets the status of the span that begins with this number
 abbrev pub with_status : ℕ → Status → List Span → List Span
 with_status first status [] = []
 with_status first status (p ∷ rest) = (if p.first == first then record p { status = status } else p)
     ∷ with_status first status rest
 
--- those that are due are ready again
+-- makes the spans that are due ready again
 abbrev pub gone_back : ℕ → ℕ → List Span → List Span
 gone_back timeout clock [] = []
 gone_back timeout clock (p ∷ rest) =
     (if is_due timeout clock p.status then record p { status = Ready true } else p)
     ∷ gone_back timeout clock rest
 
--- while the first span is settled, the floor rises to its last number and it goes
+-- while the first span is settled, the floor rises to its last number and the span is removed
 abbrev pub raised : ℕ → List Span → ℕ × List Span
 raised floor [] = (floor, [])
 raised floor (p ∷ rest) = if is_settled p.status then raised p.last rest else (floor, p ∷ rest)
 
--- the last span takes one number more: where it is ready, was never taken and has less than batch
+-- the last span takes one number more if it is ready, was never taken and has fewer than `batch`
 -- numbers
 abbrev pub takes_one_more : ℕ → Span → Bool
 takes_one_more batch p = is_fresh p.status && nat_lt (suc p.last - p.first) batch
@@ -101,7 +100,7 @@ last_with n [] = []
 last_with n (p ∷ []) = record p { last = n } ∷ []
 last_with n (p ∷ q ∷ rest) = p ∷ last_with n (q ∷ rest)
 
--- the spans once number n is placed: the last one takes it, or it begins a new one
+-- the spans after number n is placed: the last one takes it, or a new one begins with it
 abbrev pub grown_spans : ℕ → ℕ → List Span → List Span
 grown_spans batch n spans = if last_takes batch spans then last_with n spans else spans ++ fresh n n
     ∷ []

@@ -1,4 +1,4 @@
--- Calls one after another.
+-- Calls as steps, lists of them, and the numbers that they issue.
 use Rattle.std.specs.List.{cons_option}
 use Rattle.std.specs.Prelude.{◌≡◌, ◌≤◌, suc, slice_get, ⊤, ℕ, List, [], ◌∷◌, Option, Some, None}
 use Rattle.std.specs.Prelude.{Result, Ok, Err}
@@ -39,7 +39,7 @@ replayed p (step ∷ steps) = replayed (after_step p step) steps
 abbrev pub replay : Limits → List Step → Picture
 replay limits steps = replayed (empty_picture limits) steps
 
--- the link and the delivery's number that a step gives, where it gives one
+-- the link, and the delivery's number, that a step issues, if it issues one
 abbrev pub second_of : Result (ℕ × ℕ) DeskRefusal → Option ℕ
 second_of (Ok pair) = Some pair.1
 second_of (Err why) = None
@@ -76,7 +76,7 @@ number_given old (Unsubscribe s link) = None
 number_given old Place = None
 number_given old Close = None
 
--- the links, and the deliveries' numbers, of those steps that give one
+-- the links, and the deliveries' numbers, that these steps issue
 abbrev pub links_given : Picture → List Step → List ℕ
 links_given p [] = []
 links_given p (step ∷ steps) =
@@ -87,12 +87,16 @@ numbers_given p [] = []
 numbers_given p (step ∷ steps) =
     cons_option (number_given p step) (numbers_given (after_step p step) steps)
 
--- each number is at least so high, and those behind it are above it
+-- each number is at least `low`, and all after it are above it
 abbrev pub RisesAbove : ℕ → List ℕ → Type 0
 RisesAbove low [] = ⊤
 RisesAbove low (n ∷ rest) = (low ≤ n) × RisesAbove (suc n) rest
 
+<<<<<<< HEAD
 -- each subscription is still there, with a floor as high as before, or higher
+=======
+-- no subscription's floor falls
+>>>>>>> passages
 abbrev pub FloorsRise : Picture → Picture → Type 0
 FloorsRise old new = (i : ℕ) (a : Subscription) → slice_get old.subscriptions i ≡ Some a
     → (b : Subscription) × (slice_get new.subscriptions i ≡ Some b) × (a.floor ≤ b.floor)

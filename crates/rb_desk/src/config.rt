@@ -1,4 +1,4 @@
-//! The limits of a broker.
+//! `Config`: the limits of a broker, checked against their ranges.
 
 ghost use Rattle.std.specs.Prelude.{◌≡◌, ◌≤◌, IfOk, IfErr, Ok, Err, None, Some};
 ghost use Rattle.rb_desk.specs.Limits.{is_in_range, first_out_of_range};
@@ -6,7 +6,7 @@ ghost use Rattle.rb_desk.specs.Limits.{is_in_range, first_out_of_range};
 use std::marker::Model;
 use thiserror::Error;
 
-/// The limits that a broker keeps, each in its range. Contracts see the six of them.
+/// The limits of a broker, each in its range. Contracts see all six.
 #[derive(Clone, Copy, Debug, PartialEq, Eq)]
 pub struct Config {
     batch: u64,
@@ -17,8 +17,7 @@ pub struct Config {
     appliers: u64,
 }
 
-/// Which operand `Config::new` refuses: the first that is out of its range. There is no
-/// configuration then.
+/// Which operand `Config::new` refuses: the first that is out of its range. No `Config` is made.
 #[derive(Clone, Copy, Debug, PartialEq, Eq, Error)]
 pub enum ConfigFault {
     #[error("batch is 1 to 256")]
@@ -66,10 +65,15 @@ impl Model for Config {
 }
 
 impl Config {
-    /// These limits: the most numbers in a delivery, the most deliveries in flight to a
-    /// subscription, after how many moments a delivery expires, the most entries of the sequence,
-    /// the most changesets that wait to be placed, and how many workers apply a changeset. Refuses
-    /// the first that is out of its range.
+    /// Makes a configuration from these limits:
+    /// - `batch`: the most numbers in a delivery
+    /// - `window`: the most deliveries in flight to a subscription
+    /// - `timeout`: after how many ticks a delivery expires
+    /// - `capacity`: the most entries of the sequence
+    /// - `intake`: the most changesets that wait to be placed
+    /// - `appliers`: how many workers apply a changeset
+    ///
+    /// Refuses the first that is out of its range.
     pub fn new(
         batch: u64,
         window: u64,
@@ -104,8 +108,8 @@ impl Config {
         }
     }
 
-    /// The limits where none are asked for: batch 16, window 4, timeout 10, capacity 65,536, intake
-    /// 64 and one applier.
+    /// The default limits: batch 16, window 4, timeout 10, capacity 65,536, intake 64 and one
+    /// applier.
     pub fn standard() -> Config
         ensures { result ≡ record {
           batch = 16;
@@ -141,7 +145,7 @@ impl Config {
         self.window
     }
 
-    /// After how many moments a delivery expires, 1 to 1,000,000,000.
+    /// After how many ticks a delivery expires, 1 to 1,000,000,000.
     pub fn timeout(&self) -> u64
         ensures { result ≡ self.now.timeout }
     {

@@ -1,11 +1,12 @@
-//! Deliveries.
+//! `Delivery`: numbers of the sequence on their way to a subscription.
 
 ghost use Rattle.std.specs.Prelude.{◌≡◌};
 
 use crate::span::Span;
 use std::fmt;
 
-/// The numbers `first` to `last` of the sequence, handed to a subscription. Only a desk makes one.
+/// The numbers `first` to `last` of the sequence, delivered to a subscription. Only a desk makes
+/// one.
 #[derive(Clone, Copy, Debug, PartialEq, Eq)]
 pub struct Delivery {
     pub(crate) number: u64,
@@ -34,36 +35,36 @@ impl Delivery {
         }
     }
 
-    /// Its own number: no other delivery of the desk has it.
+    /// Its own number, unique among the desk's deliveries.
     pub fn number(&self) -> u64
         ensures { result ≡ self.now.number }
     {
         self.number
     }
 
-    /// The subscription.
+    /// The number of its subscription.
     pub fn sub(&self) -> u64
         ensures { result ≡ self.now.sub }
     {
         self.sub
     }
 
-    /// The subscription's link at that time. Once the subscription has another one, this delivery
-    /// is stale.
+    /// The subscription's link when this was delivered. Once the subscription has another link,
+    /// this delivery is stale.
     pub fn link(&self) -> u64
         ensures { result ≡ self.now.link }
     {
         self.link
     }
 
-    /// The first number of the sequence that it hands over.
+    /// The first number of the sequence that it delivers.
     pub fn first(&self) -> u64
         ensures { result ≡ self.now.first }
     {
         self.first
     }
 
-    /// The last one.
+    /// The last number of the sequence that it delivers.
     pub fn last(&self) -> u64
         ensures { result ≡ self.now.last }
     {

@@ -1,4 +1,4 @@
-//! The desk.
+//! `Desk`: the state that all calls of the desk read and change.
 
 ghost use Rattle.std.specs.Prelude.{◌≡◌};
 ghost use Rattle.rb_desk.specs.Picture.{empty_picture};
@@ -8,7 +8,7 @@ use crate::sub::Sub;
 use std::alloc::Global;
 use std::marker::Model;
 
-/// A desk: which numbers wait for which subscriptions, and which are out. Contracts see its
+/// A desk: which numbers wait for which subscriptions, and which are in flight. Contracts see its
 /// picture.
 #[derive(Debug, Drop)]
 pub struct Desk {
@@ -18,7 +18,7 @@ pub struct Desk {
     pub(crate) clock: u64,
     pub(crate) next_link: u64,
     pub(crate) next_delivery: u64,
-    // how many tickets were drawn besides those of placements
+    // how many tickets were drawn, placements not counted
     pub(crate) turn: u64,
     pub(crate) subs: Vec<Sub>,
 }
@@ -40,7 +40,7 @@ impl Model for Desk {
 }
 
 impl Desk {
-    /// A desk before any call.
+    /// A new desk, before any call.
     pub fn new(alloc: Global, config: Config) -> Desk
         ensures { result ≡ empty_picture config }
     {

@@ -1,4 +1,4 @@
-//! What is said of the spans that a lane holds.
+//! Searches and updates on the spans that a lane stores.
 
 ghost use Rattle.std.specs.Prelude.{◌≡◌, ◌≤◌, ◌<◌, ◌+◌, suc, map, length, drop};
 ghost use Rattle.rb_desk.specs.Lanes as spec;
@@ -22,7 +22,7 @@ pub(crate) fn first_ready(lane: &[Held]) -> Option<Span>
     None
 }
 
-/// The span that is out as this delivery.
+/// The span that is in flight as this delivery.
 pub(crate) fn out_as(lane: &[Held], delivery: u64) -> Option<Span>
     ensures { result ≡ spans.out_as delivery (spans_of lane.now) }
 {
@@ -34,7 +34,7 @@ pub(crate) fn out_as(lane: &[Held], delivery: u64) -> Option<Span>
     None
 }
 
-/// How many spans are out.
+/// How many spans are in flight.
 pub(crate) fn how_many_out(lane: &[Held]) -> u64
     ensures { result ≡ spans.how_many_out (spans_of lane.now) }
 {
@@ -60,7 +60,7 @@ pub(crate) fn first_in_line(lane: &[Held]) -> Option<Held>
     first
 }
 
-/// The spans that begin with this number have this status and this ticket.
+/// Sets the status and the ticket of the spans that begin with this number.
 pub(crate) fn restate(lane: &mut Vec<Held>, first: u64, status: Status, ticket: Ticket)
     ensures { lane.new.items ≡ restated first status ticket lane.old.items }
 {
@@ -85,7 +85,7 @@ fn stated(held: Held, first: u64, status: Status, ticket: Ticket) -> Held
     held
 }
 
-/// The first spans go, so many.
+/// Removes the first `gone` spans.
 pub(crate) fn drop_front(lane: &mut Vec<Held>, gone: usize)
     requires { gone ≤ length lane.old.items }
     ensures { lane.new.items ≡ drop gone lane.old.items }
@@ -95,7 +95,7 @@ pub(crate) fn drop_front(lane: &mut Vec<Held>, gone: usize)
     lane.truncate(left);
 }
 
-/// How far the floor rises over settled spans in front, and how many they are.
+/// The floor after the settled spans at the front, and how many of these there are.
 pub(crate) fn risen(floor: u64, lane: &[Held]) -> (u64, usize)
     ensures gone { spec.risen floor lane.now ≡ (result.0, drop result.1 lane.now) }
     ensures many { result.1 ≤ length lane.now }
@@ -123,8 +123,8 @@ pub(crate) fn how_many_due(lane: &[Held], timeout: u64, clock: u64) -> u64
     count
 }
 
-/// The spans that are due are ready again. Each has a ticket of a turn behind `latest`, by its
-/// delivery's number, which is below `next`.
+/// Makes the spans that are due ready again. Their tickets have turns after `latest`, in the order
+/// of their deliveries' numbers, which are below `next`.
 pub(crate) fn expire(lane: &mut Vec<Held>, timeout: u64, clock: u64, latest: Ticket, next: u64)
     requires { AreGiven next latest.turn lane.old.items }
     ensures { lane.new.items ≡ map (expired_by timeout clock latest) lane.old.items }

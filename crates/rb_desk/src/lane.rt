@@ -1,5 +1,5 @@
-//! The spans of one subscription. Only those that were taken before are kept; the others follow
-//! from where they begin.
+//! The spans of one subscription. Only those that were taken before are stored; the others follow
+//! from the number where they begin.
 
 ghost use Rattle.std.specs.Prelude.{◌≡◌, ◌<◌, ◌≤◌, slice_get, OnOk, OnErr};
 ghost use Rattle.rb_desk.specs.declared.span.Status.TheVariants.{InFlight};
@@ -15,15 +15,15 @@ use crate::ticket::{Held, Ticket, sooner};
 use std::alloc::{AllocError, Global};
 use std::marker::Model;
 
-/// What a desk keeps of a subscription's spans. Contracts see the floor, the spans that were taken
-/// before, where the others begin, and the ticket of the cutting that they are left of.
+/// What a desk stores of a subscription's spans. Contracts see the floor, the spans that were taken
+/// before, where the others begin, and the ticket of their cutting.
 #[derive(Debug, Drop)]
 pub(crate) struct Lane {
     floor: u64,
     held: Vec<Held>,
     next: u64,
     cutting: Ticket,
-    // how many are out, and the first in line of those that are held: both follow from what is held
+    // how many are in flight, and the first in line of `held`: both follow from `held`
     out: u64,
     first: Option<Held>,
 }
@@ -52,7 +52,7 @@ impl Lane {
     ghost use Rattle.rb_desk.specs.Shown.{AreGiven};
     ghost use Rattle.rb_desk.specs.Expiry.{due_held, expired_lane};
 
-    /// The lane of a subscription that begins, or goes on, behind this number.
+    /// The lane of a subscription that begins, or continues, after this number.
     pub(crate) fn behind(alloc: Global, cursor: u64, cutting: Ticket) -> Lane
         requires { cursor < 18446744073709551615 }
         ensures { result ≡ cut_lane cursor cutting }
@@ -67,7 +67,7 @@ impl Lane {
         }
     }
 
-    /// Up to which number all is settled.
+    /// The number up to which everything is settled.
     pub(crate) fn floor(&self) -> u64
         ensures value { result ≡ self.now.floor }
         ensures joined { AreJoined self.now }
@@ -75,21 +75,21 @@ impl Lane {
         self.floor
     }
 
-    /// How many spans are out.
+    /// How many spans are in flight.
     pub(crate) fn out(&self) -> u64
         ensures { result ≡ how_many_out (spans_of self.now.held) }
     {
         self.out
     }
 
-    /// Whether there is no span.
+    /// Whether it has no span.
     pub(crate) fn is_empty(&self, front: u64) -> bool
         ensures { result ≡ is_none_left self.now front }
     {
         self.held.is_empty() && front < self.next
     }
 
-    /// The ready span with the least numbers.
+    /// The ready span with the lowest numbers.
     pub(crate) fn first_ready(&self, batch: u64, front: u64) -> Option<Span>
         requires { AreLimited batch front }
         ensures value { result ≡ first_ready (lane_spans batch front self.now) }
@@ -126,7 +126,7 @@ impl Lane {
         sooner(self.first, fresh)
     }
 
-    /// The span that is out as this delivery.
+    /// The span that is in flight as this delivery.
     pub(crate) fn out_as(&self, number: u64) -> Option<Span>
         ensures value { result ≡ out_as number (spans_of self.now.held) }
         ensures joined { AreJoined self.now }
@@ -151,14 +151,14 @@ impl Lane {
         Ok(())
     }
 
-    /// Takes a span back: it is ready, and stands in line with this ticket.
+    /// Makes a span ready again, in line with this ticket.
     pub(crate) fn give_back(&mut self, first: u64, ticket: Ticket)
         ensures { self.new ≡ returned_lane self.old first ticket }
     {
         self.restate(first, Status::Ready { taken: true }, ticket);
     }
 
-    /// Settles a span, and raises the floor over what is settled in front.
+    /// Settles a span, and raises the floor over the settled spans at the front.
     pub(crate) fn settle(&mut self, first: u64)
         ensures { self.new ≡ settled_lane self.old first }
     {
@@ -166,7 +166,7 @@ impl Lane {
         self.raise();
     }
 
-    // the first span that was never taken becomes one that was
+    // stores the first span that was never taken, now with this status
     fn push(&mut self, span: Span, status: Status) -> Result<(), AllocError>
         requires span { HasNumbers span }
         requires first { span.first ≡ self.old.next }
@@ -184,7 +184,7 @@ impl Lane {
         Ok(())
     }
 
-    // the span that begins with this number has this status, and this ticket
+    // sets the status and the ticket of the span that begins with this number
     fn restate(&mut self, first: u64, status: Status, ticket: Ticket)
         ensures { self.new ≡ restated_lane self.old first status ticket }
     {
@@ -193,7 +193,7 @@ impl Lane {
         self.first = held::first_in_line(&self.held);
     }
 
-    // the floor rises over what is settled in front
+    // raises the floor over the settled spans at the front
     fn raise(&mut self)
         ensures { self.new ≡ raised_lane self.old (risen self.old.floor self.old.held) }
     {
@@ -212,8 +212,8 @@ impl Lane {
         held::how_many_due(&self.held, timeout, clock)
     }
 
-    /// The spans that are due are ready again, each with a ticket behind `latest`, by its
-    /// delivery's number, which is below `next`.
+    /// Makes the spans that are due ready again. Their tickets come after `latest`, in the order of
+    /// their deliveries' numbers, which are below `next`.
     pub(crate) fn expire(&mut self, timeout: u64, clock: u64, latest: Ticket, next: u64)
         requires { AreGiven next latest.turn self.old.held }
         ensures { self.new ≡ expired_lane timeout clock latest self.old }
@@ -223,7 +223,7 @@ impl Lane {
         self.first = held::first_in_line(&self.held);
     }
 
-    /// Lets all spans go; the floor stays.
+    /// Removes all spans; the floor stays.
     pub(crate) fn clear(&mut self)
         ensures lane { self.new ≡ cut_lane self.old.floor self.old.cutting }
         ensures joined { AreJoined self.old }

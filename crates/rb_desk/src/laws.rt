@@ -1,5 +1,5 @@
-//! Laws: public functions that do nothing, whose contracts say what holds of every picture and of
-//! every list of calls. Who needs one calls it.
+//! Laws of the desk: what holds of every picture and of every list of calls. Each law is a public
+//! function that does nothing; its contract is the law. Call the function to use the law.
 
 ghost use Rattle.std.specs.Prelude.{◌≡◌, ℕ, ◌≤◌, List, Ok, Err};
 ghost use Rattle.rb_desk.specs.declared.delivery.Delivery.{Delivery};
@@ -15,19 +15,18 @@ ghost use Rattle.rb_desk.specs.Outline.{outline_of};
 ghost use Rattle.rb_desk.specs.Outline as outline;
 ghost use Rattle.rb_desk.specs.IsPicture.{AreInRange, IsPicture};
 
-/// Every call keeps what a picture keeps, whatever its operands are.
+/// Every call preserves the invariant of a picture (*IsPicture*), whatever its operands are.
 pub fn calls_keep_pictures()
     ensures { (old : Picture) (step : Step) → IsPicture old → IsPicture (after_step old step) }
 {}
 
-/// So every list of calls does, from the opening on.
+/// So does every list of calls on a new desk.
 pub fn replays_are_pictures()
     ensures { (limits : Limits) (steps : List Step) → AreInRange limits
         → IsPicture (replay limits steps) }
 {}
 
-/// No link is given twice, nor any delivery's number: those that a list of calls gives rise from 1
-/// on.
+/// No link and no delivery's number is issued twice: those that a list of calls issues rise from 1.
 pub fn numbers_are_given_once()
     ensures links { (limits : Limits) (steps : List Step)
         → RisesAbove 1 (links_given (empty_picture limits) steps) }
@@ -35,15 +34,19 @@ pub fn numbers_are_given_once()
         → RisesAbove 1 (numbers_given (empty_picture limits) steps) }
 {}
 
+<<<<<<< HEAD
 /// The front never falls, no subscription goes, and no floor falls, whatever calls come.
+=======
+/// No call lowers the front, nor the floor of a subscription.
+>>>>>>> passages
 pub fn front_and_floors_rise()
     ensures front { (old : Picture) (steps : List Step) → old.front ≤ (replayed old steps).front }
     ensures floors { (old : Picture) (steps : List Step)
         → IsPicture old → FloorsRise old (replayed old steps) }
 {}
 
-/// What a call that isn't refused changes in the outline, for those who know no spans and no clock;
-/// `ack`, `nack` and `expire` change nothing there.
+/// What a call that isn't refused changes in the outline, which has no spans and no clock. `ack`,
+/// `nack` and `expire` do not change it.
 pub fn calls_show_in_outline()
     ensures subscribe { (old : Picture) (start s link : ℕ) (new : Picture)
         → subscribe old start ≡ (Ok (s, link), new)
@@ -72,7 +75,7 @@ pub fn calls_show_in_outline()
         → close old ≡ (last, new) → outline.Closes (outline_of old) (outline_of new) last }
 {}
 
-/// A call that is refused leaves the picture as it was.
+/// A refused call does not change the picture.
 pub fn refused_calls_change_nothing()
     ensures subscribe { (old : Picture) (start : ℕ) (why : DeskRefusal) (new : Picture)
         → subscribe old start ≡ (Err why, new) → new ≡ old }

@@ -1,5 +1,6 @@
-//! The desk: who is handed which numbers of a sequence, and when a number is done with. Theorem:
-//! each call answers, and leaves, what `specs/Calls.antt` says of the picture that the desk shows.
+//! The desk: which numbers of a sequence go to which subscription, and when a number is settled.
+//! Theorem: each call returns, and leaves, what `specs/Calls.antt` says of the picture that the
+//! desk shows.
 #![tactic(auto)]
 
 mod config;

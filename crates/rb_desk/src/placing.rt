@@ -1,4 +1,4 @@
-//! The front of the sequence: numbers placed, and the end.
+//! The front of the sequence: placing numbers, and closing.
 
 ghost use Rattle.std.specs.Prelude.{◌≡◌, length, Ok, IsOk};
 ghost use Rattle.rb_desk.specs.Calls.{prepare, place, close};
@@ -7,10 +7,10 @@ use crate::desk::Desk;
 use crate::refusal::DeskRefusal;
 
 impl Desk {
-    /// The number that `place` would give now. It changes nothing.
+    /// The number that `place` would place now. Does not change the desk.
     ///
-    /// Refuses `Closed` where the sequence is closed, `SequenceFull` where it has as many entries
-    /// as it may have.
+    /// Refuses `Closed` if the sequence is closed, and `SequenceFull` if it has reached its
+    /// capacity.
     #[tactic(auto, unfolding(crate::specs::Calls::prepare))]
     pub fn prepare(&self) -> Result<u64, DeskRefusal>
         ensures { result ≡ prepare self.now }
@@ -24,9 +24,9 @@ impl Desk {
         Ok(self.front + 1)
     }
 
-    /// Places the next number, which it answers: every open subscription has it from now on. It
-    /// takes no memory, and asks that `prepare` would be Ok, as it is after a `prepare` that was
-    /// and no call since.
+    /// Places the next number and returns it: every open subscription has it from now on. Does not
+    /// allocate. Requires that `prepare` would return Ok, as it does right after a `prepare` that
+    /// returned Ok.
     pub fn place(&mut self) -> u64
         requires { IsOk (prepare self.old) }
         ensures number { prepare self.old ≡ Ok result }
@@ -36,8 +36,8 @@ impl Desk {
         self.front
     }
 
-    /// Ends placing. Answers the last number placed, now or by an earlier call. All other calls go
-    /// on.
+    /// Closes the sequence and returns its last number. A second call returns the same number. All
+    /// calls but placing go on.
     #[tactic(auto, unfolding(crate::specs::Calls::close))]
     pub fn close(&mut self) -> u64
         ensures { close self.old ≡ (result, self.new) }
@@ -56,14 +56,14 @@ impl Desk {
         self.front
     }
 
-    /// The closing number, where the sequence is closed: the last number that is placed.
+    /// The closing number, if the sequence is closed: the last number placed.
     pub fn closing(&self) -> Option<u64>
         ensures { result ≡ self.now.closing }
     {
         self.closing
     }
 
-    /// How many subscriptions were made.
+    /// How many subscriptions were made, closed ones included.
     pub fn made(&self) -> u64
         ensures { result ≡ length self.now.subscriptions }
     {

@@ -1,61 +1,63 @@
-//! Why a call is refused.
+//! Why the desk refuses a call, and what else stops one.
 
 ghost use Rattle.std.specs.Prelude.{◌≡◌};
 
 use std::alloc::AllocError;
 use thiserror::Error;
 
-/// Why a desk refuses a call. The desk is as it was before the call. Where several hold, the call
-/// answers the first one in its own documentation.
+/// Why a call of `Desk` is refused. Each variant names the calls that return it. The refused call
+/// does not change the desk. If several apply, the call returns the first in its own documentation.
 #[derive(Clone, Copy, Debug, PartialEq, Eq, Error)]
 pub enum DeskRefusal {
     /// `take`, `ack`, `nack`, `reconnect`, `unsubscribe`: no subscription has this number.
     #[error("there is no such subscription")]
     NoSuch,
-    /// `take`, `ack`, `nack`, `unsubscribe`: the link isn't the subscription's present one.
+    /// `take`, `ack`, `nack`, `unsubscribe`: the link isn't the subscription's current one.
     #[error("the subscription has another link now")]
     StaleLink,
-    /// `take`, `reconnect`, `unsubscribe`: the subscription is closed. `prepare`: the sequence is.
+    /// `take`, `reconnect`, `unsubscribe`: the subscription is closed. `prepare`: the sequence is
+    /// closed.
     #[error("it is closed")]
     Closed,
-    /// `take`: as many deliveries are in flight to the subscription as its window holds.
+    /// `take`: the subscription has as many deliveries in flight as its window holds.
     #[error("the window is full")]
     WindowFull,
     /// `take`: the sequence is closed, and the subscription has settled everything up to its last
     /// number.
     #[error("everything up to the last number, {last}, is settled")]
     Drained { last: u64 },
-    /// `take`, `take_any`: nothing waits that could be handed over now. The last number placed is
-    /// `front`.
+    /// `take`, `take_any`: nothing can be delivered now. The last number placed is `front`.
     #[error("nothing is ready; the last number placed is {front}")]
     Empty { front: u64 },
-    /// `ack`, `nack`: no delivery of this number is in flight to the subscription.
+    /// `ack`, `nack`: no delivery with this number is in flight to the subscription.
     #[error("no such delivery is in flight")]
     NotInFlight,
-    /// `ack`: the delivery's last number is behind the cursor, so not all of it is accepted.
+    /// `ack`: the delivery's last number is after the cursor, so not all of it is accepted.
     #[error("the delivery is accepted up to {cursor} only")]
     NotAccepted { cursor: u64 },
-    /// `reconnect`: the cursor isn't between the floor and the last number offered.
+    /// `reconnect`: the cursor isn't between the floor and the last number delivered.
     #[error("the cursor is not between the floor, {floor}, and what was offered, {offered}")]
     BadCursor { floor: u64, offered: u64 },
-    /// `subscribe`: the start is behind the last number placed, `front`.
+    /// `subscribe`: the start is after the last number placed, `front`.
     #[error("the last number placed is {front}")]
     StartAhead { front: u64 },
     /// `subscribe`: 1,024 subscriptions were made.
     #[error("there are 1,024 subscriptions")]
     TooMany,
-    /// `prepare`: the sequence has as many entries as it may have.
+    /// `prepare`: the sequence has reached its capacity.
     #[error("the sequence is full")]
     SequenceFull,
 }
 
-/// What stopped a call that takes memory. The desk is as it was before the call.
+/// What stops `subscribe`, `take`, `take_any`, `nack` or `reconnect`. The stopped call does not
+/// change the desk.
 #[derive(Clone, Copy, Debug, PartialEq, Eq, Error)]
 pub enum DeskError {
     /// The call is refused.
     #[error("{0}")]
     Refused(DeskRefusal),
-    /// There was no memory, or no number left to give; the call wasn't to be refused.
+    /// Memory ran out, or there is no number left to issue. It comes only if the call isn't
+    /// refused.
     #[error("out of memory")]
     Memory,
 }

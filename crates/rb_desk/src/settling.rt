@@ -1,4 +1,4 @@
-//! Deliveries that come to an end: acknowledged, given back, expired.
+//! Calls that end a delivery: acknowledge, negatively acknowledge, expire.
 
 ghost use Rattle.std.specs.Prelude.{◌≡◌, ◌+◌, suc, map, IfOk, OnOk, OnErr};
 ghost use Rattle.std.specs.List.{AllByRecursion};
@@ -16,8 +16,8 @@ use crate::ticket::Ticket;
 use std::alloc::AllocError;
 
 impl Desk {
-    /// Settles a delivery's numbers, all of which the subscriber has accepted: `cursor` is how far.
-    /// Answers the floor, up to which everything is settled now.
+    /// Settles a delivery's numbers. The subscriber must have accepted all of them; `cursor` is the
+    /// last number that it accepted. Returns the floor, up to which everything is settled now.
     ///
     /// Refuses `NoSuch`, `StaleLink`, `NotInFlight`, `NotAccepted`.
     #[tactic(auto, unfolding(crate::specs::Calls::ack))]
@@ -47,7 +47,7 @@ impl Desk {
         Ok(self.subs[s].settle(span.first))
     }
 
-    /// Gives a delivery's numbers back: they are ready again, behind all that is.
+    /// Negatively acknowledges a delivery: its numbers are ready again, after all that are ready.
     ///
     /// Refuses `NoSuch`, `StaleLink`, `NotInFlight`.
     #[tactic(auto, unfolding(crate::specs::Calls::nack))]
@@ -71,12 +71,12 @@ impl Desk {
         Ok(())
     }
 
-    /// Gives all deliveries back that were taken `timeout` moments ago or more, in the order that
-    /// they were taken in. `now` is a moment; the clock is the greatest one handed in so far.
-    /// Answers how many.
+    /// Expires every delivery that has been out for `timeout` ticks or longer, in the order they
+    /// were taken: its numbers are ready again. `now` is a tick of the caller's clock; the desk's
+    /// clock is the greatest tick so far. Returns how many deliveries expired.
     ///
-    /// Refuses nothing. `AllocError` where there are no numbers left to give, with the desk as it
-    /// was.
+    /// Refuses nothing. Returns `AllocError` if there are no numbers left to issue, and does not
+    /// change the desk then.
     #[tactic(auto, unfolding(crate::specs::Calls::expire))]
     pub fn expire(&mut self, now: u64) -> Result<u64, AllocError>
         ensures ok { IfOk result (λ many. expire self.old now ≡ (many, self.new)) }
@@ -98,7 +98,7 @@ impl Desk {
     }
 }
 
-// the turn of the last one of those that the deliveries below a number may take
+// the last turn that deliveries with numbers below `next` may take
 fn turn_behind(turn: u64, next: u64) -> Result<u64, AllocError>
     ensures { IfOk result (λ t. t ≡ turn + next) }
 {
@@ -123,7 +123,7 @@ fn how_many_due(subs: &[Sub], timeout: u64, clock: u64) -> Result<u64, AllocErro
     Ok(many)
 }
 
-// those that are due are ready again
+// makes the spans that are due ready again
 fn expire_all(subs: &mut Vec<Sub>, timeout: u64, clock: u64, latest: Ticket, next: u64)
     requires { AllByRecursion (λ sub. AreGiven next latest.turn sub.lane.held) subs.old.items }
     ensures { subs.new.items

@@ -1,26 +1,25 @@
-//! Spans: numbers of the sequence that are handed to a subscription together.
+//! Spans: numbers of the sequence that are delivered to a subscription together.
 
 ghost use Rattle.std.specs.Prelude.{◌≡◌};
 ghost use Rattle.rb_desk.specs.Spans.{is_ready, is_out, is_out_as, is_settled, is_due};
 
-/// The numbers from `first` to `last`, and how it stands with them.
+/// The numbers from `first` to `last`, and their status.
 #[derive(Clone, Copy, Debug, PartialEq, Eq)]
 pub struct Span {
     /// The first number.
     pub first: u64,
-    /// The last number, at least the first.
+    /// The last number, at least `first`.
     pub last: u64,
-    /// How it stands with them.
+    /// Their status.
     pub status: Status,
 }
 
-/// How it stands with the numbers of a span.
+/// The status of a span's numbers.
 #[derive(Clone, Copy, Debug, PartialEq, Eq)]
 pub enum Status {
-    /// They wait to be taken. `taken` tells whether they were taken before: such a span is never
-    /// lengthened.
+    /// They wait to be taken. `taken` says whether they were taken before; such a span never grows.
     Ready { taken: bool },
-    /// They are out as the delivery of this number, taken at this moment.
+    /// They are in flight as delivery `number`, taken at tick `moment`.
     InFlight { number: u64, moment: u64 },
     /// They are acknowledged.
     Settled,
@@ -41,7 +40,7 @@ impl Status {
         }
     }
 
-    /// Whether they are out as a delivery.
+    /// Whether they are in flight.
     pub fn is_out(self) -> bool
         ensures { result ≡ is_out self }
     {
@@ -55,7 +54,7 @@ impl Status {
         }
     }
 
-    /// Whether they are out as the delivery of this number.
+    /// Whether they are in flight as this delivery.
     pub fn is_out_as(self, delivery: u64) -> bool
         ensures { result ≡ is_out_as delivery self }
     {
@@ -80,7 +79,7 @@ impl Status {
         }
     }
 
-    /// Whether they are out and were taken `timeout` moments or more before this moment.
+    /// Whether they are in flight and were taken `timeout` ticks or more before `clock`.
     pub fn is_due(self, timeout: u64, clock: u64) -> bool
         ensures { result ≡ is_due timeout clock self }
     {

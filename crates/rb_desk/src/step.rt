@@ -1,8 +1,8 @@
-//! Calls as values.
+//! Calls as values, so that a list of them can be replayed.
 
-/// A call of a desk, with its operands: what the call of this name in [`Desk`](crate::Desk) takes.
-/// From a list of them and the limits the desk's picture follows (*replay*). `prepare` changes
-/// nothing and is none of them.
+/// A call of a desk with its operands: those of the call of this name in [`Desk`](crate::Desk). The
+/// limits and a list of calls determine the desk's picture (*replay*). `prepare` has no variant
+/// because it changes nothing.
 #[derive(Clone, Copy, Debug, PartialEq, Eq)]
 pub enum Step {
     Subscribe {

@@ -1,4 +1,4 @@
-//! Subscriptions of a desk.
+//! One subscription of a desk: its numbers, its link and its lane.
 
 ghost use Rattle.std.specs.Prelude.{◌≡◌, ◌≤◌, slice_get, OnSome, OnOk, OnErr};
 ghost use Rattle.std.specs.Option.{option_copied, option_map};
@@ -9,8 +9,8 @@ use crate::span::Span;
 use crate::ticket::{Held, Ticket};
 use std::alloc::{AllocError, Global};
 
-/// A subscription: the number behind which it began, the greatest number offered, its present link,
-/// whether it is closed, and its spans.
+/// A subscription: the number after which it began, the greatest number delivered, its current
+/// link, whether it is closed, and its spans.
 #[derive(Debug, Drop)]
 pub(crate) struct Sub {
     pub(crate) start: u64,
@@ -26,8 +26,8 @@ impl Sub {
     ghost use Rattle.rb_desk.specs.Shown.{delivered_sub, returned_sub, settled_sub};
     ghost use Rattle.rb_desk.specs.Shown.{reconnected_sub, closed_sub};
 
-    /// A subscription behind this number, under this link. What is placed behind it is cut with
-    /// this ticket.
+    /// A subscription after this number, under this link. The numbers after it are cut with this
+    /// ticket.
     pub(crate) fn behind(alloc: Global, start: u64, link: u64, ticket: Ticket) -> Sub
         requires { start ≤ 1048576 }
         ensures { result ≡ new_sub start link ticket }
@@ -52,14 +52,14 @@ impl Sub {
         Ok(())
     }
 
-    /// Takes a span back: it is ready, and stands in line with this ticket.
+    /// Makes a span ready again, in line with this ticket.
     pub(crate) fn give_back(&mut self, first: u64, ticket: Ticket)
         ensures { self.new ≡ returned_sub self.old first ticket }
     {
         self.lane.give_back(first, ticket);
     }
 
-    /// Settles a span. Answers the floor, up to which all is settled now.
+    /// Settles a span. Returns the floor, up to which everything is settled now.
     pub(crate) fn settle(&mut self, first: u64) -> u64
         ensures sub { self.new ≡ settled_sub self.old first }
         ensures floor { result ≡ (settled_lane self.old.lane first).floor }
@@ -68,7 +68,7 @@ impl Sub {
         self.lane.floor()
     }
 
-    /// The span that is out as this delivery.
+    /// The span that is in flight as this delivery.
     pub(crate) fn out_as(&self, delivery: u64) -> Option<Span>
         ensures value { result ≡ sub_out_as delivery self.now }
         ensures joined { OnSome result (AreJoined self.now.lane) }
@@ -79,8 +79,7 @@ impl Sub {
         self.lane.out_as(delivery)
     }
 
-    /// The span that may be handed over before its others, where fewer are out than the window
-    /// holds, and the subscription's number.
+    /// The span that is first in line, with the subscription's number, if the window has room.
     pub(crate) fn next_to_deliver(
         &self,
         sub: u64,
@@ -112,8 +111,8 @@ impl Sub {
         many
     }
 
-    /// The spans that are due are ready again, each with a ticket behind `latest`, by its
-    /// delivery's number, which is below `next`.
+    /// Makes the spans that are due ready again. Their tickets come after `latest`, in the order of
+    /// their deliveries' numbers, which are below `next`.
     pub(crate) fn expire(&mut self, timeout: u64, clock: u64, latest: Ticket, next: u64)
         requires { AreGiven next latest.turn self.old.lane.held }
         ensures { self.new ≡ expired_sub timeout clock
@@ -122,8 +121,7 @@ impl Sub {
         self.lane.expire(timeout, clock, latest, next);
     }
 
-    /// Goes on behind this number, under this link. What is placed behind it is cut with this
-    /// ticket.
+    /// Continues after this number, under this link. The numbers after it are cut with this ticket.
     pub(crate) fn reconnect(&mut self, alloc: Global, cursor: u64, link: u64, ticket: Ticket)
         requires { cursor ≤ 1048576 }
         ensures { self.new ≡ reconnected_sub self.old cursor link ticket }
@@ -132,7 +130,7 @@ impl Sub {
         self.lane = Lane::behind(alloc, cursor, ticket);
     }
 
-    /// Closes it: all its spans go.
+    /// Closes it and removes all its spans.
     pub(crate) fn close(&mut self)
         ensures sub { self.new ≡ closed_sub self.old }
         ensures joined { AreJoined self.old.lane }

@@ -1,4 +1,4 @@
-//! Subscriptions: made, gone on with, closed.
+//! Calls that make, continue and close subscriptions.
 
 ghost use Rattle.std.specs.Prelude.{◌≡◌, suc, OnErr};
 ghost use Rattle.rb_desk.specs.Calls.{subscribe, reconnect, unsubscribe};
@@ -11,11 +11,10 @@ use crate::ticket::Ticket;
 use std::alloc::Global;
 
 impl Desk {
-    /// One subscription more, of the numbers behind `start`. Answers its number, counted from 0,
-    /// and its link.
+    /// Adds a subscription to the numbers after `start`. Returns its number, from 0, and its link.
     ///
-    /// Refuses `StartAhead` where `start` isn't placed yet, `TooMany` where 1,024 subscriptions
-    /// were made.
+    /// Refuses `StartAhead` if `start` isn't placed yet, and `TooMany` if 1,024 subscriptions were
+    /// made.
     #[tactic(auto, unfolding(crate::specs::Calls::subscribe))]
     pub fn subscribe(&mut self, alloc: Global, start: u64) -> Result<(u64, u64), DeskError>
         ensures { DeskAnswers result (subscribe self.old start) self.old self.new }
@@ -39,11 +38,12 @@ impl Desk {
         Ok((sub, link))
     }
 
-    /// Lets a subscription go on behind `cursor`, up to which it has accepted: what was in flight
-    /// or waited is cut anew. Answers its new link; deliveries under the old one are stale.
+    /// Continues a subscription after `cursor`, the last number that it has accepted. The numbers
+    /// that were in flight or waited are cut anew. Returns its new link; deliveries under the old
+    /// one are stale.
     ///
-    /// Refuses `NoSuch`, `Closed`, and `BadCursor` where the cursor isn't between the floor and
-    /// what was offered.
+    /// Refuses `NoSuch`, `Closed`, and `BadCursor` if the cursor isn't between the floor and the
+    /// last number delivered.
     #[tactic(auto, unfolding(crate::specs::Calls::reconnect))]
     pub fn reconnect(&mut self, alloc: Global, sub: u64, cursor: u64) -> Result<u64, DeskError>
         ensures { DeskAnswers result (reconnect self.old sub cursor) self.old self.new }
@@ -70,7 +70,7 @@ impl Desk {
         Ok(link)
     }
 
-    /// Closes a subscription: its spans go, and no call hands it anything more.
+    /// Closes a subscription: removes its spans, and no call delivers to it again.
     ///
     /// Refuses `NoSuch`, `StaleLink`, `Closed`.
     #[tactic(auto, unfolding(crate::specs::Calls::unsubscribe))]
@@ -93,7 +93,7 @@ impl Desk {
     }
 }
 
-/// The number after this one; want of memory where there is none.
+/// The number after this one, or out of memory if there is none.
 pub(crate) fn after(n: u64) -> Result<u64, DeskError>
     ensures { OnlyMemory result (λ next. next ≡ suc n) }
 {

@@ -1,4 +1,4 @@
-//! Numbers handed to subscriptions.
+//! Calls that deliver numbers to subscriptions.
 
 ghost use Rattle.std.specs.Prelude.{◌≡◌, ◌<◌, length, IfSome};
 ghost use Rattle.rb_desk.specs.Calls.{take, take_any};
@@ -17,12 +17,12 @@ use crate::subscribing::after;
 use crate::ticket::Held;
 
 impl Desk {
-    /// Hands a subscription its ready span with the least numbers, as a delivery that is in flight
-    /// from now on. `cursor` is how far the subscriber has accepted, `now` a moment; the clock is
-    /// the greatest moment handed in so far.
+    /// Delivers a subscription's ready span with the lowest numbers; it is in flight from now on.
+    /// `cursor` is the last number that the subscriber has accepted. `now` is a tick of the
+    /// caller's clock; the desk's clock is the greatest tick so far.
     ///
-    /// Refuses `NoSuch`, `StaleLink`, `Closed`, `WindowFull`; where nothing is ready `Drained`, if
-    /// the sequence is closed and all of it is settled, else `Empty`.
+    /// Refuses `NoSuch`, `StaleLink`, `Closed`, `WindowFull`. If nothing is ready, refuses
+    /// `Drained` if the sequence is closed and all of it is settled, else `Empty`.
     #[tactic(auto, unfolding(crate::specs::Calls::take))]
     pub fn take(
         &mut self,
@@ -60,10 +60,10 @@ impl Desk {
         )
     }
 
-    /// Hands over the span that is first in the ready order among those of subscriptions with room
-    /// in their window.
+    /// Delivers the first span in the ready order whose subscription has room in its window. `now`
+    /// is as in `take`.
     ///
-    /// Refuses `Empty` where there is none.
+    /// Refuses `Empty` if there is none.
     #[tactic(auto, unfolding(crate::specs::Calls::take_any))]
     pub fn take_any(&mut self, now: u64) -> Result<Delivery, DeskError>
         ensures { DeskAnswers result (take_any self.old now) self.old self.new }
@@ -109,7 +109,7 @@ fn deliver(
     Ok(Delivery::of(number, sub, link, span))
 }
 
-// the span that may be delivered before all others, and its subscription's number
+// the span to deliver before all others, and its subscription's number
 fn first_to_deliver(subs: &[Sub], window: u64, batch: u64, front: u64) -> Option<(u64, Span)>
     requires { AreLimited batch front }
     ensures value { result ≡ option_map span_to_deliver
@@ -127,7 +127,7 @@ fn first_to_deliver(subs: &[Sub], window: u64, batch: u64, front: u64) -> Option
     Some((sub, held.span))
 }
 
-// the one that stands in line before the other; the first one where both have the same ticket
+// the one that is first in line; `first` if both have the same ticket
 fn goes_first(first: Option<(u64, Held)>, second: Option<(u64, Held)>) -> Option<(u64, Held)>
     ensures { result ≡ goes_first first second }
 {
@@ -137,7 +137,7 @@ fn goes_first(first: Option<(u64, Held)>, second: Option<(u64, Held)>) -> Option
     }
 }
 
-// why nothing is handed over
+// why nothing is delivered
 fn none_ready(closing: Option<u64>, front: u64, is_empty: bool, cursor: u64) -> DeskRefusal
     ensures { result ≡ why_none front is_empty cursor closing }
 {

@@ -1,4 +1,4 @@
-//! Tickets, by which ready spans stand in line.
+//! Tickets: they order the ready spans.
 
 ghost use Rattle.std.specs.Prelude.{◌≡◌};
 ghost use Rattle.std.specs.Option.{option_map};
@@ -6,15 +6,15 @@ ghost use Rattle.rb_desk.specs.Lanes.{goes_before, earlier, birth, with_birth, b
 
 use crate::span::Span;
 
-/// A place in the ready order: drawn when the front was `front`, in this turn. A placement's
-/// tickets have turn 0.
+/// A place in the ready order: the front and the turn in which it was drawn. A placement's tickets
+/// have turn 0.
 #[derive(Clone, Copy, Debug, PartialEq, Eq)]
 pub(crate) struct Ticket {
     pub(crate) front: u64,
     pub(crate) turn: u64,
 }
 
-/// A span that was taken before, with the ticket that it has while it is ready.
+/// A span that was taken before, with its ticket for the time that it is ready.
 #[derive(Clone, Copy, Debug, PartialEq, Eq)]
 pub(crate) struct Held {
     pub(crate) span: Span,
@@ -22,15 +22,15 @@ pub(crate) struct Held {
 }
 
 impl Ticket {
-    /// Whether it comes before another.
+    /// Whether it comes before the other.
     pub(crate) fn is_before(self, other: Ticket) -> bool
         ensures { result ≡ earlier self other }
     {
         self.front < other.front || (self.front == other.front && self.turn < other.turn)
     }
 
-    /// The ticket of a span never taken that begins with this number, where this is the ticket of
-    /// its cutting: a number placed after it has its placement's.
+    /// The ticket of a span that was never taken and begins with this number. `self` is the ticket
+    /// of its cutting; a number placed later has its placement's ticket.
     pub(crate) fn of_span(self, first: u64) -> Ticket
         ensures { result ≡ birth self first }
     {
@@ -45,7 +45,7 @@ impl Ticket {
 }
 
 impl Ticket {
-    /// A span never taken with its ticket, where this is the ticket of its cutting.
+    /// A span that was never taken, with its ticket. `self` is the ticket of its cutting.
     pub(crate) fn given_to(self, span: Option<Span>) -> Option<Held>
         ensures { result ≡ option_map (with_birth self) span }
     {
@@ -58,7 +58,7 @@ impl Ticket {
 }
 
 impl Held {
-    /// Whether it stands in line before another, or there is no other.
+    /// Whether it comes before the other, or there is no other.
     pub(crate) fn is_before(&self, other: Option<Held>) -> bool
         ensures { result ≡ goes_before self.now other }
     {
@@ -69,7 +69,7 @@ impl Held {
     }
 }
 
-/// The one that stands in line before the other; the first one where both have the same ticket.
+/// The one that is first in line; `first` if both have the same ticket.
 pub(crate) fn sooner(first: Option<Held>, second: Option<Held>) -> Option<Held>
     ensures { result ≡ better first second }
 {

@@ -1,15 +1,15 @@
--- The statuses of the program.
+-- How the program ends, and its exit statuses.
 use Rattle.std.specs.Prelude.{ℕ, Result, Ok, Err}
 use Rattle.rb_script.specs.declared.fault.ScriptFault.{ScriptFault}
 use Rattle.rb_run.specs.declared.ending.Ending.{Ending}
 use Rattle.rb_run.specs.declared.ending.Ending.TheVariants.{Done, Stopped, Misused}
 
--- how the program ends by how its script ended
+-- the ending for this result of a script
 abbrev pub ending_of : {A : Type 0} → Result A ScriptFault → Ending
 ending_of (Ok done) = Done
 ending_of (Err fault) = Stopped fault
 
--- the status: 0, 1 or 2
+-- the exit status: 0, 1 or 2
 abbrev pub status_of : Ending → ℕ
 status_of Done = 0
 status_of (Stopped fault) = 1

@@ -1,4 +1,4 @@
--- The limits that a command line asks for.
+-- The limits from the options of a command line.
 use Rattle.std.specs.Prelude.{ℕ, List, [], Option, Some, None, Result, Ok, Err, codes}
 use Rattle.rb_desk.specs.Limits.{Limits, first_out_of_range}
 use Rattle.rb_desk.specs.declared.config.ConfigFault.{ConfigFault}
@@ -6,7 +6,7 @@ use Rattle.rb_desk.specs.declared.config.ConfigFault.TheVariants.{Batch, Window,
 use Rattle.rb_desk.specs.declared.config.ConfigFault.TheVariants.{Intake, Appliers}
 use Rattle.rb_script.specs.Words.{number_in_word}
 
--- the number that an option's word says; where it says none, 0, which is in no range
+-- the number that an option's word spells, or 0, which is in no range
 abbrev pub number_or_zero : Option ℕ → ℕ
 number_or_zero None = 0
 number_or_zero (Some n) = n
@@ -14,7 +14,7 @@ number_or_zero (Some n) = n
 abbrev pub value_of : List ℕ → ℕ
 value_of word = number_or_zero (number_in_word word)
 
--- the limits with these numbers, each of them in its range; or the first that isn't
+-- the limits with these numbers, or the first number that is out of its range
 abbrev pub limits_or : Option ConfigFault → Limits → Result Limits ConfigFault
 limits_or None limits = Ok limits
 limits_or (Some fault) limits = Err fault
@@ -31,14 +31,13 @@ limits_of batch window timeout capacity intake =
       appliers = 1;
     })
 
--- the limits that the words of the options say, or the first option whose word says no number in
--- its range
+-- the limits from the options' words, or the first option whose word isn't a number in its range
 abbrev pub config_of : List ℕ → List ℕ → List ℕ → List ℕ → List ℕ → Result Limits ConfigFault
 config_of batch window timeout capacity intake =
     limits_of (value_of batch) (value_of window) (value_of timeout) (value_of capacity)
     (value_of intake)
 
--- an option with its range
+-- the message about an option, with its range
 abbrev pub range_text : ConfigFault → List ℕ
 range_text Batch = codes "--batch takes a number from 1 to 256"
 range_text Window = codes "--window takes a number from 1 to 64"
@@ -47,7 +46,7 @@ range_text Capacity = codes "--capacity takes a number from 1 to 1048576"
 range_text Intake = codes "--intake takes a number from 1 to 4096"
 range_text Appliers = codes "--appliers takes a number from 1 to 16"
 
--- the word that was found for an option, the empty one where there is none
+-- the word of an option; the empty word if there is none
 abbrev pub word_of : Option (List ℕ) → List ℕ
 word_of None = []
 word_of (Some word) = word

@@ -1,12 +1,12 @@
-//! The command line.
+//! The command line: its options and its help.
 
 use clap::{Arg, ArgAction, ArgMatches, Command, Error};
 use std::alloc::Global;
 
-// the version that `--version` tells
+// the version that `--version` prints
 const VERSION: &str = "0.1.0";
 
-// what stands below the options of `script --help`
+// the text after the options of `script --help`
 const LINES: &str = "\
 Call it with a file:
   rb_run script < FILE
@@ -20,14 +20,14 @@ Lines, each with its answer when it is done:
   send P              sent OWN            what is staged goes to the intake
   turn                placed N, or idle   the next changeset gets its number
   close               closed LAST         nothing is sent or placed any more
-  subscribe START     subscriber S link L a new subscription, behind number START
-  take S NOW          delivery D S N M    its next entries, N to M, at the moment NOW
-  takeany NOW         delivery D S N M    the entries that wait longest, whosever they are
+  subscribe START     subscriber S link L a new subscription, after number START
+  take S NOW          delivery D S N M    its next entries, N to M, at tick NOW
+  takeany NOW         delivery D S N M    the entries that wait longest, of any one
   accept D            accepted CURSOR     the changes of a delivery are applied
-  ack D               floor F             it is settled, and so is all up to F
-  nack D              ok                  it is given back
-  expire NOW          expired COUNT       what is out too long at the moment NOW is given back
-  reconnect S CURSOR  link L              a subscription goes on behind CURSOR
+  ack D               floor F             settled; so is everything up to F
+  nack D              ok                  it is returned
+  expire NOW          expired COUNT       what is out too long at tick NOW is returned
+  reconnect S CURSOR  link L              a subscription goes on after CURSOR
   unsubscribe S       ok                  a subscription ends
   entry N             entry N P OWN O HEX an entry with its canonical text
   rows S              rows N, N rows      the rows of a subscription
@@ -39,11 +39,11 @@ refused is answered `refused NAME` with its values, or `fault AT KIND`, and chan
 Statuses:
   0  all lines are answered
   1  the script stopped, with one line on standard error: a read fault, a write fault, a script of
-     more than 16777216 bytes, or want of memory
+     more than 16777216 bytes, or out of memory
   2  the command line is faulty";
 
-/// Reads a command line, of which the first word is the program's name. An error is a text to
-/// print: help, the version, or how to call the program.
+/// Parses a command line, whose first word is the program's name. An error is a text to print:
+/// help, the version, or how to call the program.
 pub fn matches<'a>(alloc: Global, words: &'a [String]) -> Result<ArgMatches<'a>, Error> {
     let script = Command::new(alloc, "script")
         .about("Answers the lines of a script on standard input, one after another")
@@ -64,7 +64,7 @@ pub fn matches<'a>(alloc: Global, words: &'a [String]) -> Result<ArgMatches<'a>,
             alloc,
             "timeout",
             "10",
-            "After how many moments a delivery expires, 1 to 1000000000",
+            "After how many ticks a delivery expires, 1 to 1000000000",
         ))?
         .arg(limit(
             alloc,

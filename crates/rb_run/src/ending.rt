@@ -1,24 +1,23 @@
-//! How the program ends.
+//! The ways the program ends, and their exit statuses.
 
 ghost use Rattle.std.specs.Prelude.{◌≡◌};
 ghost use Rattle.rb_run.specs.Endings.{ending_of, status_of};
 
 use rb_script::ScriptFault;
 
-/// How the program ends, which decides its status.
+/// How the program ends, which determines its exit status.
 #[derive(Clone, Copy, Debug)]
 pub enum Ending {
-    /// What was asked for is done: a script is answered to its end, refusals among the answers, or
-    /// help is printed.
+    /// The request is done: a script is answered to its end, refusals included, or help is printed.
     Done,
-    /// The script, or what was to be printed, stopped.
+    /// The script or the printing stopped.
     Stopped(ScriptFault),
-    /// The command line asks for nothing that there is.
+    /// The command line is faulty.
     Misused,
 }
 
 impl Ending {
-    /// How it ends behind a script that ended so.
+    /// The ending for this result of a script.
     pub fn of(script: Result<(), ScriptFault>) -> Ending
         ensures { result ≡ ending_of script }
     {
@@ -28,7 +27,7 @@ impl Ending {
         }
     }
 
-    /// The status: 0, 1 or 2.
+    /// The exit status: 0, 1 or 2.
     pub fn status(&self) -> u8
         ensures { result ≡ status_of self.now }
     {

@@ -1,6 +1,6 @@
-//! The program: a command line, and a script from standard input to standard output. Theorem: the
-//! limits are those that the options say, or the first option at fault is told, and the status says
-//! how the script ended.
+//! The program: parses a command line, and runs a script from standard input to standard output.
+//! Theorem: the limits are those of the options, or the first faulty option is reported. The exit
+//! status says how the script ended.
 #![tactic(auto)]
 
 mod command;
@@ -21,7 +21,7 @@ use std::{env, io};
 fn main(rt: HostRuntime) -> ExitCode {
     let ending = run(&rt);
     if let Ending::Stopped(fault) = &ending {
-        // nothing is left to do where even this can't be said
+        // if even this fails, nothing is left to do
         let _ = eprintln!(rt; "rb_run: {fault}");
     }
     ExitCode::from(ending.status())
@@ -47,7 +47,7 @@ fn words_of(rt: &HostRuntime) -> io::Result<Vec<String>> {
     Ok(words)
 }
 
-// Does what these words ask for, of which the first is the program's name.
+// Does what these words ask for. The first is the program's name.
 fn called(rt: &HostRuntime, words: &[String]) -> Ending {
     match matches(rt.alloc(), words) {
         Ok(found) => match found.subcommand() {
@@ -58,7 +58,7 @@ fn called(rt: &HostRuntime, words: &[String]) -> Ending {
     }
 }
 
-// Answers a script under the limits that its options say, or tells which of them is no limit.
+// Answers a script under the limits of its options, or reports the first that is out of range.
 fn limited(rt: &HostRuntime, found: &ArgMatches) -> Ending {
     match options::config(found) {
         Ok(config) => scripted(rt, rt.alloc(), config),
@@ -84,7 +84,7 @@ fn told(rt: &HostRuntime, shown: &Error) -> Ending {
     }
 }
 
-// Answers the script on standard input, on standard output.
+// Answers the script from standard input on standard output.
 fn scripted(rt: &HostRuntime, alloc: Global, config: Config) -> Ending {
     let mut reader = rt.stdin();
     let Ok(mut writer) = BufWriter::with_capacity(alloc, 65_536, rt.stdout()) else {

@@ -1,4 +1,4 @@
-//! The limits that a command line asks for.
+//! Reads the limits from the options of a command line.
 
 ghost use Rattle.std.specs.Prelude.{◌≡◌, codes};
 ghost use Rattle.clap.specs.Words.{first_value, found_of};
@@ -8,8 +8,8 @@ use clap::ArgMatches;
 use rb_core::{Config, ConfigFault};
 use rb_script::number;
 
-/// The limits that the options of a command line say, or the first option whose word is no number
-/// in its range.
+/// The limits from the options of a command line, or the first option whose word isn't a number in
+/// its range.
 pub fn config(found: &ArgMatches) -> Result<Config, ConfigFault>
     ensures { result ≡ config_of
         (word_of (first_value (found_of found.now) (codes "batch")))
@@ -35,7 +35,7 @@ fn word<'a>(found: &ArgMatches<'a>, name: &str) -> &'a str
     }
 }
 
-// the limits that these words say
+// the limits that these words spell
 fn config_from(
     batch: &str,
     window: &str,
@@ -53,7 +53,7 @@ fn config_from(
     Config::new(batch, window, timeout, capacity, intake, 1)
 }
 
-// the number that a word says, and 0 where it says none
+// the number that a word spells, or 0
 fn value(word: &str) -> u64
     ensures { result ≡ value_of word.now }
 {
@@ -63,7 +63,7 @@ fn value(word: &str) -> u64
     }
 }
 
-/// What is said of an option whose word is no number in its range.
+/// The message about an option whose word isn't a number in its range.
 pub fn range(fault: ConfigFault) -> &'static str
     ensures { result.now ≡ range_text fault }
 {

@@ -1,3 +1,3 @@
-//! The program, from its words to its ending.
+//! Tests of the program, from its words to its ending.
 
 mod program;

@@ -1,4 +1,4 @@
--- What the lines of a script feed are bytes.
+-- The lines of a script feed bytes.
 use Rattle.std.proofs.Common.{◌≡◌, ℕ, Bool, true, false, cond, ltb, List, [], ◌∷◌, length, Option, Some, None, Result}
 use Rattle.std.proofs.Common.{Ok, Err, refl, ap, subst, codes, option_map, arith}
 use Rattle.std.specs.List.{AllByRecursion}

@@ -1,4 +1,4 @@
--- A script is answered line by line.
+-- The answers to a script are those to its lines, one after another.
 use Rattle.std.proofs.Common.{◌≡◌, ℕ, ◌<◌, Bool, true, false, cond, ltb, List, [], ◌∷◌, ◌++◌, length, refl, sym, ap}
 use Rattle.std.proofs.Common.{subst, ◌∙◌, append_assoc, arith, length-append, ◌⊎◌, inl, inr, codes}
 use Rattle.std.specs.List.{AllByRecursion}

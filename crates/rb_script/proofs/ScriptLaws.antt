@@ -1,4 +1,4 @@
--- A script that goes on: what is written for more bytes.
+-- A script that continues: the output for more bytes.
 use Rattle.std.proofs.Common.{◌≡◌, ℕ, ◌+◌, ◌<◌, Bool, List, [], ◌∷◌, ◌++◌, length, take, drop, Option, refl, sym, ap}
 use Rattle.std.proofs.Common.{subst, ◌∙◌, append_assoc, take-append-drop, ◌≢◌, cond, inl, inr, suc, get_or, drop-cons}
 use Rattle.std.proofs.lemmas.Bool.Decides.{eqb_tells}

@@ -7,14 +7,14 @@ use Rattle.rb_script.specs.declared.fault.ScriptFault.TheVariants.{Read, Write, 
 use Rattle.rb_script.specs.Output.{first_place, written, answers}
 use Rattle.rb_script.specs.Streams.{AppendsFront}
 
--- The input is read to its end, which is within the limit, and the answers to it are written.
+-- The input is read to its end, within the limit, and its answers are written.
 abbrev pub IsAnswered : Limits → Option (List ℕ) → Option (List ℕ) → Option (List ℕ)
     → Option (List ℕ) → Type 0
 IsAnswered config r0 r w0 w =
     (input : List ℕ) × Consumes r0 r input × IsAtEnd r × (length input ≤ 16777216)
     × Appends w0 w (answers config input)
 
--- Some input is read, within the limit, and its whole lines are answered, not more and not less.
+-- Some input is read, within the limit, and exactly its whole lines are answered.
 abbrev pub IsReadInPart : Limits → Option (List ℕ) → Option (List ℕ) → Option (List ℕ)
     → Option (List ℕ) → Type 0
 IsReadInPart config r0 r w0 w =
@@ -28,8 +28,8 @@ IsOverrun config r0 r w0 w =
     (input : List ℕ) × Consumes r0 r input × (16777216 < length input)
     × Appends w0 w (written config first_place (take 16777216 input))
 
--- The answers break off: those to the whole lines that are read and end within the limit; at the
--- input's end, all of them.
+-- A prefix of the answers is written. The answers are those to the whole lines that are read within
+-- the limit or, at the input's end, all of them.
 abbrev pub BreaksOff : Limits → List ℕ → Option (List ℕ) → Option (List ℕ) → Option (List ℕ)
     → Type 0
 BreaksOff config input r w0 w =
@@ -40,8 +40,8 @@ abbrev pub IsCutOff : Limits → Option (List ℕ) → Option (List ℕ) → Opt
     → Type 0
 IsCutOff config r0 r w0 w = (input : List ℕ) × Consumes r0 r input × BreaksOff config input r w0 w
 
--- How a script ends, by its result, where the reader had r0 left and has r, and the writer held w0
--- and holds w.
+-- How a script ends, by its result. The reader had r0 left and has r; the writer held w0 and holds
+-- w.
 abbrev pub ScriptEnds : {A : Type 0} → Limits → Result A ScriptFault → Option (List ℕ)
     → Option (List ℕ) → Option (List ℕ) → Option (List ℕ) → Type 0
 ScriptEnds config (Ok done) r0 r w0 w = IsAnswered config r0 r w0 w
@@ -57,7 +57,7 @@ IsOfReader (Write why) = ⊥
 IsOfReader Endless = ⊥
 IsOfReader Memory = ⊥
 
--- a fault that comes while lines are answered: of the writer, or want of memory
+-- a fault while lines are answered: of the writer, or out of memory
 abbrev pub IsOfAnswers : ScriptFault → Type 0
 IsOfAnswers (Read why) = ⊥
 IsOfAnswers (Write why) = Unit {0}

@@ -1,4 +1,4 @@
--- The forms of lines.
+-- The forms of lines: which words make which form.
 use Rattle.std.specs.Prelude.{ℕ, List, [], ◌∷◌, Option, Some, None, option_map, if◌then◌else◌}
 use Rattle.std.specs.Prelude.{codes}
 use Rattle.rb_core.specs.declared.event.Event.TheVariants as event
@@ -61,7 +61,7 @@ number_and_word name (Some n) word =
     if same_bytes name (codes "feed") then fed_form n (bytes_of word) else two_numbers name n
     (number_in_word word)
 
--- the form that these words fit
+-- the form of these words, if they have one
 abbrev pub form_of_words : List (List ℕ) → Option Form
 form_of_words [] = None
 form_of_words (name ∷ []) = one_word name
@@ -69,6 +69,6 @@ form_of_words (name ∷ word ∷ []) = two_words name word
 form_of_words (name ∷ number ∷ word ∷ []) = number_and_word name (number_in_word number) word
 form_of_words (name ∷ number ∷ word ∷ more ∷ rest) = None
 
--- the form that a line fits
+-- the form of a line, if it has one
 abbrev pub form_of : List ℕ → Option Form
 form_of line = form_of_words (words_of line)

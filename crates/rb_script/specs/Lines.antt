@@ -1,4 +1,4 @@
--- The answer to a line.
+-- The answer to one line of a script, and the stage after it.
 use Rattle.std.specs.Prelude.{ℕ, List, [], ◌∷◌, ◌++◌, length, nat_lt, Option, Some, None, Result}
 use Rattle.std.specs.Prelude.{Ok, Err, option_map, slice_get, if◌then◌else◌, codes}
 use Rattle.std.specs.FinMap as map
@@ -27,15 +27,15 @@ use Rattle.rb_script.specs.Forms.{form_of}
 use Rattle.rb_script.specs.Replies.{reply_text, desk_refusal_text}
 use Rattle.rb_script.specs.Texts.{entry_text, rows_text}
 
--- the most bytes of a line, its end not counted
+-- the most bytes of a line, without its line end
 abbrev pub most_of_line : ℕ
 most_of_line = 65536
 
--- one line of text
+-- a text with a line end
 abbrev pub line_of : List ℕ → List ℕ
 line_of text = text ++ 10 ∷ []
 
--- the shape that a text spells as one header alone
+-- the shape, if the text is exactly one header
 abbrev pub header_alone : Shape → List Change → List Section → Option Shape
 header_alone shape [] [] = Some shape
 header_alone shape [] (section ∷ sections) = None
@@ -49,7 +49,7 @@ abbrev pub header_of_answer : Result (List Section) ParseFault → Option Shape
 header_of_answer (Ok sections) = header_of_sections sections
 header_of_answer (Err fault) = None
 
--- `table`: one more table, where no line has come that fits another form
+-- `table`: adds a table, if no line of another form has come
 abbrev pub bad_table : TableFault → List ℕ
 bad_table (DuplicateTable i) = codes "refused DuplicateTable"
 bad_table (BadShape i) = codes "refused BadShape"
@@ -66,7 +66,7 @@ abbrev pub table_answer : Stage → List ℕ → List ℕ × Stage
 table_answer (Tables tables) bytes = table_read tables (header_of_answer (answer_of bytes))
 table_answer (Running world) bytes = (codes "refused Line", Running world)
 
--- the world, which begins with the first line that fits another form than `table`
+-- the world, which begins with the first line of another form than `table`
 abbrev pub world_of : Limits → Stage → State
 world_of config (Tables tables) = empty_world config tables
 world_of config (Running world) = world
@@ -107,7 +107,7 @@ form_answer config stage (Some (form.Rows s)) =
 form_answer config stage (Some form.Left) =
     (left_answer (world_of config stage), Running (world_of config stage))
 
--- the answer to a line, with the end of each of its lines, and the stage after it
+-- the answer to a line, each of its lines with a line end, and the stage after it
 abbrev pub line_answer : Limits → Stage → List ℕ → List ℕ × Stage
 line_answer config stage [] = ([], stage)
 line_answer config stage (byte ∷ bytes) =

@@ -1,11 +1,11 @@
--- What is written for what is read.
+-- The output for an input, byte by byte.
 use Rattle.std.specs.Prelude.{ℕ, List, [], ◌∷◌, ◌++◌, length, nat_lt, ◌==◌, if◌then◌else◌}
 use Rattle.rb_desk.specs.Limits.{Limits}
 use Rattle.rb_script.specs.declared.lines.Stage.{Stage}
 use Rattle.rb_script.specs.declared.lines.Stage.TheVariants.{Tables}
 use Rattle.rb_script.specs.Lines.{line_answer, most_of_line}
 
--- how far a script has come: the stage, and what has come of the next line, as far as it counts
+-- how far a script has come: the stage, and the start of the next line, as far as it counts
 pub record ScriptPlace : Type 0 where
   pub stage : Stage
   pub line : List ℕ
@@ -16,11 +16,11 @@ place_at stage line = record { stage = stage; line = line }
 abbrev pub first_place : ScriptPlace
 first_place = place_at (Tables []) []
 
--- one byte more of a line; of a line that is too long only that counts
+-- appends a byte to a line; a line that is too long already does not change
 abbrev pub longer : List ℕ → ℕ → List ℕ
 longer line byte = if nat_lt most_of_line (length line) then line else line ++ byte ∷ []
 
--- what a byte has written, and where the script then is
+-- the output for a byte, and the script's place after it
 abbrev pub ends_line : List ℕ × Stage → List ℕ × ScriptPlace
 ends_line given = (given.0, place_at given.1 [])
 
@@ -29,7 +29,7 @@ byte_answer config place byte =
     if byte == 10 then ends_line (line_answer config place.stage place.line) else
     ([], record place { line = longer place.line byte })
 
--- what bytes have written, and where the script then is
+-- the output for bytes, and the script's place after them
 unfoldable pub written : Limits → ScriptPlace → List ℕ → List ℕ
 written config place [] = []
 written config place (byte ∷ bytes) = (byte_answer config place byte).0
@@ -39,7 +39,7 @@ unfoldable pub place_after : Limits → ScriptPlace → List ℕ → ScriptPlace
 place_after config place [] = place
 place_after config place (byte ∷ bytes) = place_after config (byte_answer config place byte).1 bytes
 
--- What is written for an input: the answers to its lines, the last of which may lack its end.
+-- The output for an input: the answers to its lines. The last line may have no line end.
 abbrev pub last_answer : Limits → ScriptPlace → List ℕ
 last_answer config place = (line_answer config place.stage place.line).0
 

@@ -1,5 +1,4 @@
--- Replies as text, each without the end of its line. A refusal is its name, with its values behind
--- it.
+-- Replies as text, each without a line end. A refusal is its name, followed by its values.
 use Rattle.std.specs.Prelude.{ℕ, List, ◌++◌, codes}
 use Rattle.std.specs.Fmt.{decimal}
 use Rattle.cs_apply.specs.Conflict.{code_of}
@@ -50,7 +49,7 @@ desk_refusal_text (desk.StartAhead front) = codes "refused StartAhead " ++ decim
 desk_refusal_text desk.TooMany = codes "refused TooMany"
 desk_refusal_text desk.SequenceFull = codes "refused SequenceFull"
 
--- why a subscription's end refuses
+-- why a subscription's endpoint refuses
 abbrev pub end_refusal_text : AcceptRefusal → List ℕ
 end_refusal_text end.Closed = codes "refused Closed"
 end_refusal_text end.StaleLink = codes "refused StaleLink"
@@ -74,7 +73,7 @@ refusal_text (refusal.ShapeDiffers i) = codes "refused ShapeDiffers " ++ decimal
 refusal_text (refusal.Desk why) = desk_refusal_text why
 refusal_text (refusal.Accept why) = end_refusal_text why
 
--- a delivery: its number, its subscription, and the first and the last number that it hands over
+-- a delivery: its number, its subscription, and the first and the last number that it delivers
 abbrev pub delivery_text : Delivery → List ℕ
 delivery_text d =
     codes "delivery "

@@ -1,4 +1,4 @@
--- A script as its lines.
+-- A script as its lines, and the events and replies in them.
 use Rattle.std.specs.Prelude.{◌≢◌, ℕ, List, [], ◌∷◌, ◌++◌, length, nat_lt, Option, Some, None, Ok}
 use Rattle.std.specs.Prelude.{if◌then◌else◌}
 use Rattle.std.specs.List.{AllByRecursion}
@@ -12,11 +12,11 @@ use Rattle.rb_script.specs.declared.lines.Stage.{Stage}
 use Rattle.rb_script.specs.Forms.{form_of}
 use Rattle.rb_script.specs.Lines.{most_of_line, line_answer, world_of}
 
--- a line has no end in it
+-- a line contains no line end
 abbrev pub IsLine : List ℕ → Type 0
 IsLine line = AllByRecursion (λ byte. byte ≢ 10) line
 
--- lines, each with its end
+-- lines, each with a line end
 abbrev pub ended_lines : List (List ℕ) → List ℕ
 ended_lines [] = []
 ended_lines (line ∷ lines) = line ++ (10 ∷ ended_lines lines)
@@ -27,7 +27,7 @@ lines_answers config stage [] = []
 lines_answers config stage (line ∷ lines) = (line_answer config stage line).0
     ++ lines_answers config (line_answer config stage line).1 lines
 
--- the event that a line is, where it is one and not too long
+-- the event of a line, if it has one and isn't too long
 abbrev pub event_in : Option Form → Option Event
 event_in (Some (form.Happens event)) = Some event
 event_in other = None
@@ -44,12 +44,12 @@ abbrev pub lines_events : List (List ℕ) → List Event
 lines_events [] = []
 lines_events (line ∷ lines) = with_event (event_of line) (lines_events lines)
 
--- the stage behind lines
+-- the stage after lines
 abbrev pub stage_after : Limits → Stage → List (List ℕ) → Stage
 stage_after config stage [] = stage
 stage_after config stage (line ∷ lines) = stage_after config (line_answer config stage line).1 lines
 
--- the reply that a line's event is given, in front of others
+-- puts the reply to a line's event before the others
 abbrev pub answer_before : Limits → Stage → Option Event → List Answer → List Answer
 answer_before config stage None rest = rest
 answer_before config stage (Some event) rest = Ok (outcome (world_of config stage) event).0 ∷ rest

@@ -1,4 +1,4 @@
-//! Why a script ends before its end.
+//! Why a script stops before its end.
 
 ghost use Rattle.std.specs.Prelude.{◌≡◌};
 ghost use Rattle.rb_script.specs.declared.fault.ScriptFault.TheVariants.{Memory};
@@ -7,15 +7,15 @@ use std::alloc::AllocError;
 use std::io;
 use thiserror::Error;
 
-/// Why `run_script` stopped, with the system's reason where there is one. After `Read` and
-/// `Endless` the answers to all whole lines before are written; after `Write` and `Memory` a front
-/// of them, the last one perhaps in part.
+/// Why `run_script` stopped, with the system's reason if there is one. After `Read` and `Endless`,
+/// the answers to all whole lines before are written. After `Write` and `Memory`, a prefix of the
+/// answers is written, whose last one may be cut.
 #[derive(Clone, Copy, Debug, Error)]
 pub enum ScriptFault {
     /// The reader failed.
     #[error("read fault: {0}")]
     Read(io::Error),
-    /// The writer failed, or took no byte.
+    /// The writer failed, or accepted no byte.
     #[error("write fault: {0}")]
     Write(io::Error),
     /// The script has more than 16,777,216 bytes.

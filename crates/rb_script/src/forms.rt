@@ -1,4 +1,4 @@
-//! The forms of lines.
+//! The forms that a script's lines can have.
 
 use cs_model::Octets;
 use rb_core::Event;
@@ -6,7 +6,7 @@ use rb_core::Event;
 /// What a line asks for.
 #[derive(Debug, Drop)]
 pub enum Form {
-    /// A table, as the bytes of its header.
+    /// A table, given by the bytes of its header.
     Table(Octets),
     /// An event.
     Happens(Event),

@@ -1,4 +1,5 @@
-//! What the answers to a script are, line by line.
+//! Laws of scripts: what the answers to their lines are. Each law is a public function that does
+//! nothing; its contract is the law. Call the function to use the law.
 
 ghost use Rattle.std.specs.Prelude.{◌≡◌, ◌++◌, ◌∷◌, [], ℕ, List, Some, slice_get};
 ghost use Rattle.std.specs.List.{AllByRecursion};
@@ -19,8 +20,8 @@ ghost use Rattle.rb_script.specs.Script.{lines_replies, stage_after};
 
 use rb_core::laws::{accepted_is_gapless, runs_keep_the_headline};
 
-/// What is written for a script is the answers to its lines, one after another, the last of which
-/// lacks its end.
+/// The output for a script is the answers to its lines, one after another. The last line has no
+/// line end.
 pub fn lines_are_answered()
     ensures { (config : Limits) (lines : List (List ℕ)) (last : List ℕ)
         → AllByRecursion IsLine lines → IsLine last
@@ -28,8 +29,8 @@ pub fn lines_are_answered()
         ≡ lines_answers config (Tables []) (lines ++ last ∷ []) }
 {}
 
-/// The events in the lines of a script, with the replies that their lines are given, are a run from
-/// an empty world to the one behind all lines.
+/// The events in a script's lines, with the replies to them, are a run. It leads from an empty
+/// world to the world after all lines.
 pub fn scripts_are_runs()
     ensures { (config : Limits) (lines : List (List ℕ))
         → (schema : List Shape)
@@ -38,14 +39,14 @@ pub fn scripts_are_runs()
         (world_of config (stage_after config (Tables []) lines)) }
 {}
 
-/// What the events in the lines of a script feed are bytes.
+/// The events in a script's lines feed bytes.
 pub fn scripts_feed_bytes()
     ensures { (lines : List (List ℕ)) → AllByRecursion FeedsBytes (lines_events lines) }
 {}
 
-/// In the answers to the lines of a script, what a subscription accepted is one run of the sequence
-/// behind its start: no number is left out, and each comes once. So is every law over runs one over
-/// scripts.
+/// According to a script's events and replies, a subscription has accepted one contiguous run of
+/// the sequence after its start. No number is skipped, and none comes twice. In the same way, every
+/// law of runs holds for scripts.
 pub fn accepted_lines_are_gapless()
     ensures { (config : Limits) (lines : List (List ℕ)) → AreInRange config
         → (schema : List Shape) × ((s : ℕ) (subscriber : Subscriber)

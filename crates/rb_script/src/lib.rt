@@ -1,7 +1,6 @@
-//! Scripts: lines of text that move a world, each with its answer. Theorem: what `run_script`
-//! writes is *answers* of what it reads, or where it stops as much of it as *Ends* says; and the
-//! events in its lines and the replies to them are a run of the world, so that each law over runs
-//! is one over scripts.
+//! Scripts: lines of text that change a world, each with its answer. Theorem: `run_script` writes
+//! *answers* of what it reads; if it stops, it writes as much of it as *Ends* says. The events in
+//! its lines and the replies to them are a run of the world, so each law of runs holds for scripts.
 #![tactic(auto)]
 
 mod fault;

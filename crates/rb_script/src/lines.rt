@@ -1,4 +1,4 @@
-//! The answer to a line.
+//! Answers one line of a script.
 
 ghost use Rattle.std.specs.Prelude.{◌≡◌, ◌++◌, ◌∷◌, [], codes, IfOk, IfSome, Some, None, length};
 ghost use Rattle.std.specs.Prelude.{map as list_map, string_bytes, ◌<◌};
@@ -20,19 +20,19 @@ use rb_core::{Config, Event, World};
 use rb_desk::DeskRefusal;
 use std::alloc::{AllocError, Global};
 
-/// The most bytes of a line, its end not counted.
+/// The most bytes of a line, without its line end.
 pub const MOST_OF_LINE: usize = 65_536;
 
-/// How far a script has come: its tables are read, or its world runs.
+/// How far a script has come: its tables are being read, or its world runs.
 #[derive(Debug, Drop)]
 pub enum Stage {
     Tables(Schema),
     Running(World),
 }
 
-/// The answer to a line, with the end of each of its lines, and the stage after it. A line of more
-/// than 65,536 bytes may be handed in cut, as long as it still has more. `AllocError` where memory
-/// runs out.
+/// The answer to a line, each of its lines with a line end, and the stage after it. A line of more
+/// than 65,536 bytes may be truncated, as long as it keeps more than that. Returns `AllocError` if
+/// memory runs out.
 pub fn answer(
     alloc: Global,
     config: Config,
@@ -81,7 +81,7 @@ fn answer_form(
     }
 }
 
-// a text and the end of its line
+// a text with a line end
 fn text_line(alloc: Global, text: &str) -> Result<Vec<u8>, AllocError>
     ensures { IfOk result (λ line. line.items ≡ line_of text.now) }
 {
@@ -91,7 +91,7 @@ fn text_line(alloc: Global, text: &str) -> Result<Vec<u8>, AllocError>
     Ok(line)
 }
 
-// the world, which begins with the first line that fits another form than `table`
+// the world, which begins with the first line of another form than `table`
 fn begin(alloc: Global, config: Config, stage: Stage) -> Result<World, AllocError>
     ensures { IfOk result (λ world. world ≡ world_of config stage) }
 {
@@ -174,7 +174,7 @@ fn add_table(
     Ok((text_line(alloc, text)?, Stage::Tables(schema)))
 }
 
-// the shape that a text spells as one header alone
+// the shape, if the text is exactly one header
 fn header(alloc: Global, bytes: &[u8]) -> Result<Option<Shape>, AllocError>
     ensures { IfOk result (λ shape. shape ≡ header_of_answer (answer_of bytes.now)) }
 {

@@ -1,4 +1,4 @@
-//! Which form a line fits.
+//! Parses a line into its form.
 
 ghost use Rattle.std.specs.Prelude.{◌≡◌, IfOk, map};
 ghost use Rattle.rb_script.specs.Words.{words_of, number_in_word};
@@ -10,7 +10,7 @@ use crate::words::{is, number, octets};
 use rb_core::Event;
 use std::alloc::{AllocError, Global};
 
-/// The form that a line fits, where it fits one. `AllocError` where memory runs out.
+/// The form of a line, if it has one. Returns `AllocError` if memory runs out.
 pub fn form(alloc: Global, line: &[u8]) -> Result<Option<Form>, AllocError>
     ensures { IfOk result (λ form. form ≡ form_of line.now) }
 {

@@ -1,4 +1,4 @@
-//! Replies as text.
+//! Formats replies and refusals as text.
 
 ghost use Rattle.std.specs.Prelude.{◌≡◌, ◌++◌, IfOk, string_bytes};
 ghost use Rattle.rb_script.specs.Replies.{kind_name, desk_refusal_text, end_refusal_text};
@@ -10,7 +10,7 @@ use rb_desk::DeskRefusal;
 use rb_subscriber::AcceptRefusal;
 use std::alloc::{AllocError, Global};
 
-/// The text of a reply, without the end of its line. `AllocError` where memory runs out.
+/// The text of a reply, without a line end. Returns `AllocError` if memory runs out.
 pub fn text_of(alloc: Global, reply: Reply) -> Result<String, AllocError>
     ensures { IfOk result (λ text. string_bytes text ≡ reply_text reply) }
 {
@@ -70,8 +70,7 @@ fn text_of_refusal(alloc: Global, why: BrokerRefusal) -> Result<String, AllocErr
     }
 }
 
-/// The text of a refusal of the desk, without the end of its line. `AllocError` where memory runs
-/// out.
+/// The text of a desk's refusal, without a line end. Returns `AllocError` if memory runs out.
 pub fn text_of_desk_refusal(alloc: Global, why: DeskRefusal) -> Result<String, AllocError>
     ensures { IfOk result (λ text. string_bytes text ≡ desk_refusal_text why) }
 {

@@ -1,4 +1,4 @@
-//! A script, from a reader to a writer.
+//! Runs a script from a reader to a writer.
 
 ghost use Rattle.std.specs.Prelude.{◌≡◌, ◌<◌, ◌≤◌, ◌^◌, ℕ, List, length, take, replicate, vec_len};
 ghost use Rattle.std.specs.Prelude.{Ok, Err, OnOk, OnErr, IfErr, IfOk};
@@ -19,26 +19,28 @@ use std::io::{Read, Write};
 /// The most bytes of a script.
 pub const MOST_OF_SCRIPT: usize = 16_777_216;
 
-// how many bytes are read at a time
+// how many bytes a read asks for
 const PIECE: usize = 65_536;
 
-/// Answers the lines that a reader gives, in order, on a writer. Each line has one answer line, but
-/// an empty line has none and `rows` has several. The last line may lack its end.
+/// Reads lines from `reader` and writes their answers to `writer`, in order. Each line has one
+/// answer line, but an empty line has none and `rows` has several. The last line may have no line
+/// end.
 ///
-/// Whole lines are answered, and the writer flushed, before the next read waits.
+/// Before each read, all whole lines so far are answered and the writer is flushed.
 ///
-/// `Read` where the reader fails, and `Endless` where more than 16,777,216 bytes come: the answers
-/// to all whole lines before are written then. `Write` where the writer fails or takes no byte,
-/// `Memory` where memory runs out: a front of the answers is written then, the last of them perhaps
-/// in part.
+/// Returns `Read` if the reader fails, and `Endless` if more than 16,777,216 bytes come. The
+/// answers to all whole lines before are written then.
+///
+/// Returns `Write` if the writer fails or accepts no byte, and `Memory` if memory runs out. A
+/// prefix of the answers is written then, whose last one may be cut.
 pub fn run_script<R: Read, W: Write>(
     alloc: Global,
     reader: &mut R,
     writer: &mut W,
     config: Config,
 ) -> Result<(), ScriptFault>
-    // What is written is the answers to what is read: to all of it, or, after a fault, as far as
-    // the fault lets them be.
+    // The output is the answers to the input: to all of it or, after a fault, to as much as the
+    // fault allows.
     ensures { ScriptEnds config result (R.remaining reader.old) (R.remaining reader.new)
         (W.contents writer.old) (W.contents writer.new) }
 {
@@ -50,7 +52,7 @@ pub fn run_script<R: Read, W: Write>(
     }
 }
 
-// The same, but for what the writer holds back at the end.
+// The same, without the last flush.
 fn answer_all<R: Read, W: Write>(
     alloc: Global,
     reader: &mut R,
@@ -66,7 +68,7 @@ fn answer_all<R: Read, W: Write>(
     let mut line = Vec::new(alloc);
     let mut count = 0;
     for _ in 0..=MOST_OF_SCRIPT {
-        // whoever waits for answers has them before the next read waits
+        // the caller has its answers before the next read waits
         hand_on(writer)?;
         let read = read_piece(reader, piece)?;
         if read == 0 {
@@ -89,7 +91,7 @@ fn answer_all<R: Read, W: Write>(
         line = next.1;
         count += read;
     }
-    // each turn reads a byte at least
+    // each pass reads at least one byte
     unreachable!()
 }
 
@@ -125,8 +127,8 @@ fn hand_on<W: Write>(writer: &mut W) -> Result<(), ScriptFault>
     }
 }
 
-// Answers the lines that end in these bytes, and gives the stage after them and what has come of
-// the next line.
+// Answers the lines that end in these bytes. Returns the stage after them and the start of the next
+// line.
 fn feed<W: Write>(
     alloc: Global,
     config: Config,
@@ -156,7 +158,7 @@ fn feed<W: Write>(
     Ok((stage, line))
 }
 
-// One byte more of a line; of a line that is too long only that counts.
+// Appends a byte to a line. A line that is too long already does not change.
 fn lengthen(line: &mut Vec<u8>, byte: u8) -> Result<(), AllocError>
     ensures { OnOk result (line.new.items ≡ longer line.old.items byte) }
 {
@@ -166,7 +168,7 @@ fn lengthen(line: &mut Vec<u8>, byte: u8) -> Result<(), AllocError>
     Ok(())
 }
 
-// Answers a line, and gives the stage after it.
+// Answers a line, and returns the stage after it.
 fn answer_to<W: Write>(
     alloc: Global,
     config: Config,

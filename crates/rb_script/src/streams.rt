@@ -1,4 +1,4 @@
-//! Readers and writers.
+//! Reads and writes that retry after an interruption.
 
 ghost use Rattle.std.specs.Prelude.{◌≡◌, ◌<◌, ◌≤◌, ℕ, List, length, take, IfOk, OnOk, OnErr};
 ghost use Rattle.std.specs.Io.KnownBytes.{Appends, Consumes, Keeps, IsAtEnd};
@@ -7,8 +7,8 @@ ghost use Rattle.rb_script.specs.Streams.{AppendsFront};
 use std::io;
 use std::io::{ErrorKind, Read, Write};
 
-/// Reads some bytes into the front of `buffer`, and tells how many: none at the end of the input.
-/// What the reader interrupts is tried again. An `Err` has taken nothing.
+/// Reads some bytes into the front of `buffer`, and returns how many: none at the end of the input.
+/// Retries if the reader is interrupted. An `Err` has read nothing.
 #[tactic(auto, using(crate::proofs::StreamLaws::known_bytes))]
 pub fn read_some<R: Read>(reader: &mut R, buffer: &mut [u8]) -> io::Result<usize>
     requires { 0 < length buffer.old }
@@ -28,7 +28,7 @@ pub fn read_some<R: Read>(reader: &mut R, buffer: &mut [u8]) -> io::Result<usize
     reader.read(buffer)
 }
 
-/// Writes all bytes. An `Err` has written a front of them.
+/// Writes all bytes. An `Err` has written a prefix of them.
 #[tactic(auto, using(crate::proofs::StreamLaws::known_bytes))]
 pub fn write_whole<W: Write>(writer: &mut W, bytes: &[u8]) -> io::Result<()>
     ensures ok { OnOk result (Appends (W.contents writer.old) (W.contents writer.new) bytes.now) }
@@ -45,8 +45,7 @@ pub fn write_whole<W: Write>(writer: &mut W, bytes: &[u8]) -> io::Result<()>
     Ok(())
 }
 
-/// Hands on what the writer holds back. What the writer interrupts is tried again. An `Err` has
-/// handed on some of it.
+/// Flushes the writer. Retries if it is interrupted. An `Err` may have flushed a part.
 #[tactic(auto, using(crate::proofs::StreamLaws::known_bytes))]
 pub fn flush<W: Write>(writer: &mut W) -> io::Result<()>
     ensures { Keeps (W.contents writer.old) (W.contents writer.new) }
@@ -60,7 +59,8 @@ pub fn flush<W: Write>(writer: &mut W) -> io::Result<()>
     writer.flush()
 }
 
-// Writes a front of some bytes, and tells how many. To take none of them is a fault.
+// Writes a prefix of the bytes, and returns its length. It is an error if the writer accepts no
+// byte.
 #[tactic(auto, using(crate::proofs::StreamLaws::known_bytes))]
 fn write_some<W: Write>(writer: &mut W, bytes: &[u8]) -> io::Result<usize>
     requires { 0 < length bytes.now }

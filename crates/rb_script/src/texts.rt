@@ -1,4 +1,4 @@
-//! Entries and rows as text.
+//! Formats entries and rows as text.
 
 ghost use Rattle.std.specs.Prelude.{◌≡◌, ◌++◌, IfOk, OnOk, string_bytes};
 ghost use Rattle.cs_apply.specs.Seen.{listed};
@@ -10,7 +10,7 @@ use cs_model::{FieldRef, Origin, Row, RowKey, field_push};
 use rb_core::Entry;
 use std::alloc::{AllocError, Global};
 
-/// The text of an entry, without the end of its line. `AllocError` where memory runs out.
+/// The text of an entry, without a line end. Returns `AllocError` if memory runs out.
 pub fn text_of_entry(alloc: Global, entry: &Entry) -> Result<Vec<u8>, AllocError>
     ensures { IfOk result (λ text. text.items ≡ entry_text entry.now) }
 {
@@ -42,7 +42,7 @@ fn add_word(alloc: Global, text: &mut Vec<u8>, bytes: &[u8]) -> Result<(), Alloc
     }
 }
 
-/// The text of rows with their keys: how many, and each on a line of its own. `AllocError` where
+/// The text of rows with their keys: how many, then each on its own line. Returns `AllocError` if
 /// memory runs out.
 pub fn text_of_rows(alloc: Global, rows: &[(&RowKey, &Row)]) -> Result<Vec<u8>, AllocError>
     ensures { IfOk result (λ text. text.items ≡ rows_text (listed rows.now)) }

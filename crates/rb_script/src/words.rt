@@ -1,4 +1,4 @@
-//! The words of a line: numbers and bytes.
+//! Reads the words of a line: numbers and bytes.
 
 ghost use Rattle.std.specs.Prelude.{◌≡◌, true, IfOk};
 ghost use Rattle.cs_model.specs.Schema.{same_bytes};
@@ -10,14 +10,14 @@ use cs_model::{Octets, Seq};
 use hex::FromHexError;
 use std::alloc::{AllocError, Global};
 
-/// The number that a word says in decimal: digits without sign or leading zero, below 2^64.
+/// The number that a word spells in decimal: digits without sign or leading zero, below 2^64.
 pub fn number(word: &[u8]) -> Option<u64>
     ensures { result ≡ number_in_word word.now }
 {
     if numeral(word) { value_of(word) } else { None }
 }
 
-// The value of digits, where it has 64 bits.
+// The value of the digits, if it fits in 64 bits.
 fn value_of(digits: &[u8]) -> Option<u64>
     requires { list_all is_digit digits.now ≡ true }
     ensures { result ≡ value_within digits.now }
@@ -46,8 +46,8 @@ fn all_digits(word: &[u8]) -> bool
     word.iter().all(|byte| b'0' <= *byte && *byte <= b'9')
 }
 
-/// The bytes that a word says in hexadecimal of either case, and none as `-`. `AllocError` where
-/// memory runs out.
+/// The bytes that a word spells in hexadecimal of either case; `-` spells none. Returns
+/// `AllocError` if memory runs out.
 pub fn octets(alloc: Global, word: &[u8]) -> Result<Option<Octets>, AllocError>
     ensures { IfOk result (λ bytes. bytes ≡ bytes_of word.now) }
 {
@@ -64,7 +64,7 @@ pub fn octets(alloc: Global, word: &[u8]) -> Result<Option<Octets>, AllocError>
     }
 }
 
-/// Whether a word is this one.
+/// Whether a word equals `name`.
 pub fn is(word: &[u8], name: &[u8]) -> bool
     ensures { result ≡ same_bytes word.now name.now }
 {

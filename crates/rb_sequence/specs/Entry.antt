@@ -1,10 +1,10 @@
--- Entries as values.
+-- Entries of the sequence as values.
 use Rattle.std.specs.Prelude.{ℕ, refl}
 use Rattle.std.specs.Coded.{Coded, code_by, coded×, coded_ℕ}
 use Rattle.rb_sequence.specs.contracts.item.Item as item
 use Rattle.rb_sequence.specs.declared.item.Item.{Item}
 
--- An entry of the sequence: an item under its number, which is its place, counted from 1.
+-- An entry: an item with its number in the sequence, from 1.
 pub record Entry : Type 0 where
   pub number : ℕ
   pub item : Item

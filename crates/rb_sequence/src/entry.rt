@@ -1,4 +1,4 @@
-//! What has a number.
+//! Entries: items with their number in the sequence.
 
 ghost use Rattle.std.specs.Prelude.{◌≡◌};
 ghost use Rattle.cs_write.specs.Text.{text_of};
@@ -8,8 +8,8 @@ use bytes::Bytes;
 use cs_model::{Changeset, Origin};
 use std::marker::Model;
 
-/// An entry of the sequence: an item under its number, with the canonical text of its body.
-/// Contracts see the number and the item, from which the text follows.
+/// An entry of the sequence: an item with its number and the canonical text of its body. Contracts
+/// see the number and the item, which determine the text.
 #[derive(Debug, Drop)]
 pub struct Entry {
     number: u64,
@@ -32,8 +32,8 @@ impl Model for Entry {
 }
 
 impl Entry {
-    /// The entry of an item that gets this number, with the text that `Item::text` gave. Nothing is
-    /// copied.
+    /// Makes the entry of an item under this number, with the text that `Item::text` returned.
+    /// Copies nothing.
     pub fn new(number: u64, item: Item, text: Bytes) -> Entry
         requires { text ≡ text_of item.body }
         ensures { result ≡ record { number = number; item = item } }
@@ -41,21 +41,21 @@ impl Entry {
         Entry { number, item, text }
     }
 
-    /// Its number: its place in the sequence, counted from 1.
+    /// Its number in the sequence, from 1.
     pub fn number(&self) -> u64
         ensures { result ≡ self.now.number }
     {
         self.number
     }
 
-    /// Who sent it, counted from 0.
+    /// The number of its publisher, from 0.
     pub fn publisher(&self) -> u64
         ensures { result ≡ self.now.item.publisher }
     {
         self.item.publisher
     }
 
-    /// Its place among the sendings of its publisher, from 1.
+    /// Its number among its publisher's sendings, from 1.
     pub fn own(&self) -> u64
         ensures { result ≡ self.now.item.own }
     {
@@ -69,7 +69,7 @@ impl Entry {
         self.item.origin
     }
 
-    /// What was sent.
+    /// The changeset that was sent.
     pub fn body(&self) -> &Changeset
         ensures { result.now ≡ self.now.item.body }
     {

@@ -1,5 +1,5 @@
-//! What is sent, and what stands in the sequence. Theorem: an entry is the item that it was made
-//! of, under its number, and its text is the canonical one of its body.
+//! Items that publishers send, and entries of the sequence. Theorem: an entry is the item that it
+//! was made from, under its number, and its text is the canonical text of its body.
 #![tactic(auto)]
 
 mod entry;

@@ -9,7 +9,8 @@ use Rattle.rb_desk.specs.declared.delivery.Delivery.{Delivery}
 use Rattle.rb_sequence.specs.Entry.{Entry}
 use Rattle.rb_subscriber.specs.declared.refusal.AcceptRefusal.{AcceptRefusal}
 use Rattle.rb_subscriber.specs.declared.refusal.AcceptRefusal.TheVariants as refusal
-use Rattle.rb_subscriber.specs.Accept.{brought, joined_bodies, applied, applied_if_admitted, accept, first_outside_entry}
+use Rattle.rb_subscriber.specs.Accept.{brought, joined_bodies, applied, applied_if_admitted, accept}
+use Rattle.rb_subscriber.specs.Accept.{first_outside_entry}
 use Rattle.rb_subscriber.specs.Accept.{ConflictsSingly}
 use Rattle.rb_subscriber.specs.Endpoint.{Endpoint}
 use Rattle.rb_subscriber.proofs.RunLaws.{RunContinues, nothing_applies}

@@ -1,5 +1,11 @@
+<<<<<<< HEAD
 -- What accepting a delivery answers, and what it leaves.
-use Rattle.std.specs.Prelude.{◌≡◌, ◌⊎◌, ℕ, suc, ◌-◌, ◌≤◌, Bool, false, not, List, [], ◌∷◌, take, drop}
+use Rattle.std.specs.Prelude.{◌≡◌, ◌⊎◌, ℕ, suc, ◌-◌, ◌≤◌, Bool, false, not, List, [], ◌∷◌, take}
+use Rattle.std.specs.Prelude.{drop}
+=======
+-- What accepting a delivery returns, and what it changes.
+use Rattle.std.specs.Prelude.{◌≡◌, ℕ, suc, ◌-◌, ◌≤◌, Bool, false, not, List, [], ◌∷◌, take, drop}
+>>>>>>> passages
 use Rattle.std.specs.Prelude.{Option, Some, None, Result, Ok, Err, ◌==◌, nat_le, if◌then◌else◌}
 use Rattle.std.specs.List.{flat_map, AllByRecursion}
 use Rattle.cs_model.specs.declared.shape.Shape.{Shape}
@@ -19,15 +25,15 @@ use Rattle.rb_subscriber.specs.Endpoint.{Endpoint}
 
 -- ---- runs of the sequence
 
--- the n items of a list behind the first `after`
+-- the n items of a list after the first `after`
 abbrev pub part : {A : Type 0} → List A → ℕ → ℕ → List A
 part items after n = take n (drop after items)
 
--- the entries that a delivery brings to this cursor
+-- the entries of a delivery after the cursor
 abbrev pub brought : Endpoint → List Entry → Delivery → List Entry
 brought old sequence delivery = part sequence old.cursor (delivery.last - old.cursor)
 
--- the sections of all bodies, one entry's behind another's
+-- the sections of all bodies, one entry's after another's
 abbrev pub joined_bodies : List Entry → List Section
 joined_bodies entries = flat_map (λ entry. entry.item.body) entries
 
@@ -35,7 +41,7 @@ joined_bodies entries = flat_map (λ entry. entry.item.body) entries
 abbrev pub IsAdmitted : List Shape → Entry → Type 0
 IsAdmitted schema entry = refusal_of schema entry.item.body ≡ None
 
--- ---- what is answered
+-- ---- what is returned
 
 -- the first entry whose body isn't admitted
 abbrev pub if_admitted : Option SectionFault → Entry → Option Entry → Option Entry
@@ -47,8 +53,7 @@ first_outside_entry schema [] = None
 first_outside_entry schema (entry ∷ entries) =
     if_admitted (refusal_of schema entry.item.body) entry (first_outside_entry schema entries)
 
--- the cursor goes to the delivery's last number, and the tables are the new ones; a conflict is
--- refused
+-- moves the cursor to the delivery's last number and sets the new tables; refuses a conflict
 abbrev pub applied : Endpoint → ℕ → Result tables.TableState Conflict
     → Result Endpoint AcceptRefusal
 applied old last (Ok tables) = Ok (record old { cursor = last; tables = tables })
@@ -60,7 +65,7 @@ applied_if_admitted old last entries None =
     applied old last (single old.tables (joined_bodies entries))
 applied_if_admitted old last entries (Some entry) = Err (refusal.Shape entry.number)
 
--- Accept: the endpoint behind a delivery, or the first refusal in this order
+-- Accept: the endpoint after a delivery, or the first refusal in this order
 unfoldable pub accept : Endpoint → List Entry → Delivery → Result Endpoint AcceptRefusal
 accept old sequence delivery =
     if old.closed then Err refusal.Closed
@@ -70,7 +75,7 @@ accept old sequence delivery =
     else applied_if_admitted old delivery.last (brought old sequence delivery)
     (first_outside_entry old.tables.schema (brought old sequence delivery))
 
--- Whether the tables are asked: then it is accepted, or a change conflicts.
+-- Whether the call reaches the tables: the delivery is accepted, or a change conflicts.
 abbrev pub AsksTables : Result Endpoint AcceptRefusal → Type 0
 AsksTables (Ok new) = Unit {0}
 AsksTables (Err refusal.Closed) = ⊥
@@ -80,8 +85,8 @@ AsksTables (Err (refusal.Gap expected)) = ⊥
 AsksTables (Err (refusal.Shape number)) = ⊥
 AsksTables (Err (refusal.Conflict conflict)) = Unit {0}
 
--- The answer is that of the definition: the new cursor, or the refusal. Want of memory comes only
--- where the tables are asked. Both leave the endpoint as it was.
+-- The call returns what the definition says: the new cursor, or the refusal. Out of memory comes
+-- only if the call reaches the tables. Neither error changes the endpoint.
 abbrev pub AcceptAnswers : Result ℕ AcceptError → Result Endpoint AcceptRefusal → Endpoint
     → Endpoint → Type 0
 AcceptAnswers (Ok cursor) accepted old new = (accepted ≡ Ok new) × (cursor ≡ new.cursor)
@@ -90,10 +95,10 @@ AcceptAnswers (Err Memory) accepted old new = AsksTables accepted × (new ≡ ol
 
 -- ---- as a step
 
--- An endpoint accepts a delivery: it isn't closed, the delivery is one of its present link and
--- begins right behind its cursor, the entries that it brings are all of the endpoint's tables, and
--- their bodies apply without conflict, one behind another. The cursor goes to the delivery's last
--- number, and nothing but cursor and tables changes.
+-- An endpoint accepts a delivery. The endpoint isn't closed, the delivery is of its current link,
+-- and it begins right after the cursor. The endpoint's tables admit the entries, whose bodies apply
+-- one after another without conflict. The cursor moves to the delivery's last number, and nothing
+-- but cursor and tables changes.
 pub record AcceptsDelivery (old : Endpoint) (sequence : List Entry) (delivery : Delivery)
     (new : Endpoint) : Type 0 where
   pub not_closed : old.closed ≡ false
@@ -106,11 +111,11 @@ pub record AcceptsDelivery (old : Endpoint) (sequence : List Entry) (delivery : 
 
 -- ---- what was accepted
 
--- the entries that an endpoint has accepted of a sequence: those behind its start, up to its cursor
+-- the entries of a sequence that an endpoint has accepted: those after its start, up to its cursor
 abbrev pub accepted_entries : List Entry → Endpoint → List Entry
 accepted_entries sequence endpoint = part sequence endpoint.start (endpoint.cursor - endpoint.start)
 
--- bodies applied one changeset after another, as one thread does that gets them singly
+-- bodies applied one changeset after another, as a single thread does
 abbrev pub AppliesSingly : tables.TableState → List Entry → tables.TableState → Type 0
 AppliesSingly old [] new = new ≡ old
 AppliesSingly old (entry ∷ entries) new = (mid : tables.TableState)
@@ -121,4 +126,5 @@ abbrev pub ConflictsSingly : tables.TableState → List Entry → Type 0
 ConflictsSingly old [] = ⊥
 ConflictsSingly old (entry ∷ entries) =
     ((conflict : Conflict) × (single old entry.item.body ≡ Err conflict))
-    ⊎ ((mid : tables.TableState) × (single old entry.item.body ≡ Ok mid) × ConflictsSingly mid entries)
+    ⊎ ((mid : tables.TableState) × (single old entry.item.body ≡ Ok mid)
+        × ConflictsSingly mid entries)

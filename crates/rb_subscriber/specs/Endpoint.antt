@@ -1,10 +1,10 @@
--- Endpoints as values.
+-- A subscriber's endpoint as a value.
 use Rattle.std.specs.Prelude.{ℕ, Bool, false, refl}
 use Rattle.std.specs.Coded.{Coded, code_by, coded×, coded_ℕ, coded_bool}
 use Rattle.cs_apply.specs.State as tables
 
--- A subscriber's end: the number behind which it began, the last number that it accepted, at first
--- its start; its present link; whether it is closed; its tables.
+-- An endpoint: the number after which it began, its cursor, its current link, whether it is closed,
+-- and its tables. The cursor is the last number that it accepted; at first, its start.
 pub record Endpoint : Type 0 where
   pub start : ℕ
   pub cursor : ℕ
@@ -12,7 +12,7 @@ pub record Endpoint : Type 0 where
   pub closed : Bool
   pub tables : tables.TableState
 
--- one that has accepted nothing
+-- an endpoint that has accepted nothing
 abbrev pub new_endpoint : ℕ → ℕ → tables.TableState → Endpoint
 new_endpoint start link tables =
     record { start = start; cursor = start; link = link; closed = false; tables = tables }

@@ -1,4 +1,4 @@
-//! The bodies of entries, applied to tables.
+//! Applies the bodies of entries to tables.
 
 ghost use Rattle.std.specs.Prelude.{◌≡◌, Ok, OnOk, OnErr, IfOk, IfErr};
 ghost use Rattle.std.specs.Option.{option_copied};
@@ -11,7 +11,7 @@ use cs_model::{Changeset, Schema};
 use rb_sequence::Entry;
 use std::alloc::{AllocError, Global};
 
-/// The first entry whose body has a section of another table than the schema's.
+/// The first entry whose body has a section that the schema doesn't admit.
 pub(crate) fn outside<'a>(schema: &Schema, entries: &'a [Entry]) -> Option<&'a Entry>
     ensures { option_copied result ≡ first_outside_entry schema.now entries.now }
 {
@@ -23,7 +23,7 @@ pub(crate) fn outside<'a>(schema: &Schema, entries: &'a [Entry]) -> Option<&'a E
     None
 }
 
-// the sections of all bodies in one changeset
+// joins the sections of all bodies into one changeset
 fn join(alloc: Global, entries: &[Entry]) -> Result<Changeset, AllocError>
     ensures { IfOk result (λ changeset. changeset ≡ joined_bodies entries.now) }
 {
@@ -34,8 +34,8 @@ fn join(alloc: Global, entries: &[Entry]) -> Result<Changeset, AllocError>
     Ok(changeset)
 }
 
-/// Applies the bodies of entries one behind another, as one changeset: all of their changes, or
-/// none.
+/// Applies the bodies of entries one after another, as one changeset: all of their changes, or
+/// none. An error does not change the tables.
 pub(crate) fn apply(alloc: Global, tables: &mut Tables, entries: &[Entry]) -> Result<(), ApplyError>
     ensures ok { OnOk result (single tables.old (joined_bodies entries.now) ≡ Ok tables.new) }
     ensures refused { IfErr result
@@ -43,7 +43,7 @@ pub(crate) fn apply(alloc: Global, tables: &mut Tables, entries: &[Entry]) -> Re
     ensures err { OnErr result (tables.new ≡ tables.old) }
 {
     if let [entry] = entries {
-        // nothing is copied where there is one alone
+        // a single body is applied without a copy
         return tables.apply(alloc, entry.body());
     }
     let Ok(changeset) = join(alloc, entries) else {

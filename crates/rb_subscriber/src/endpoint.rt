@@ -1,4 +1,4 @@
-//! The endpoint.
+//! `Endpoint`: accepts deliveries and holds the subscriber's tables.
 
 ghost use Rattle.std.specs.Prelude.{◌≡◌, ◌≤◌, ◌-◌, true, length};
 ghost use Rattle.rb_subscriber.specs.Accept.{accept, AcceptAnswers, part};
@@ -12,8 +12,8 @@ use rb_sequence::Entry;
 use std::alloc::Global;
 use std::marker::Model;
 
-/// A subscriber's end of a subscription: how far it has accepted, its present link, and its tables.
-/// Only `accept` moves the cursor.
+/// A subscriber's endpoint of a subscription: its cursor, its current link, and its tables. The
+/// cursor is the last number that it accepted; only `accept` moves it.
 #[derive(Debug, Drop)]
 pub struct Endpoint {
     start: u64,
@@ -43,8 +43,8 @@ impl Model for Endpoint {
 }
 
 impl Endpoint {
-    /// An endpoint that begins behind the number `start`, under this link and with these tables,
-    /// and has accepted nothing.
+    /// An endpoint that begins after number `start`, under this link and with these tables, and has
+    /// accepted nothing.
     pub fn new(start: u64, link: u64, tables: Tables) -> Endpoint
         ensures { result ≡ new_endpoint start link tables }
     {
@@ -57,13 +57,12 @@ impl Endpoint {
         }
     }
 
-    /// Accepts a delivery: applies the changesets that it brings, one behind another, and moves the
-    /// cursor to its last number, which it answers. `sequence` is all entries placed so far, up to
-    /// the delivery's last one at least.
+    /// Accepts a delivery: applies its changesets one after another, and moves the cursor to its
+    /// last number, which it returns. `sequence` is all entries placed so far, at least up to the
+    /// delivery's last one.
     ///
     /// Refuses, in this order, `Closed`, `StaleLink`, `Seen`, `Gap`, `Shape`, `Conflict`. `Memory`
-    /// may come in place of a conflict, and of no other refusal. Each leaves the endpoint as it
-    /// was.
+    /// may replace a conflict, but no other refusal. An error does not change the endpoint.
     #[tactic(auto, unfolding(crate::specs::Accept::accept))]
     pub fn accept(
         &mut self,
@@ -106,21 +105,21 @@ impl Endpoint {
         Ok(last)
     }
 
-    /// Goes on under another link: deliveries of the old one are stale. Cursor and tables stay.
+    /// Changes the link: deliveries under the old one are stale. Cursor and tables stay.
     pub fn reconnect(&mut self, link: u64)
         ensures { self.new ≡ record self.old { link = link } }
     {
         self.link = link;
     }
 
-    /// Closes it for good: it accepts nothing more.
+    /// Closes it permanently: it accepts nothing more.
     pub fn close(&mut self)
         ensures { self.new ≡ record self.old { closed = true } }
     {
         self.closed = true;
     }
 
-    /// The number behind which it began.
+    /// The number after which it began.
     pub fn start(&self) -> u64
         ensures value { result ≡ self.now.start }
         ensures order { self.now.start ≤ self.now.cursor }
@@ -128,7 +127,7 @@ impl Endpoint {
         self.start
     }
 
-    /// The last number that it accepted, at first its start.
+    /// The last number that it accepted; at first, its start.
     pub fn cursor(&self) -> u64
         ensures value { result ≡ self.now.cursor }
         ensures order { self.now.start ≤ self.now.cursor }
@@ -136,14 +135,14 @@ impl Endpoint {
         self.cursor
     }
 
-    /// Its present link.
+    /// Its current link.
     pub fn link(&self) -> u64
         ensures { result ≡ self.now.link }
     {
         self.link
     }
 
-    /// Whether it was closed.
+    /// Whether it is closed.
     pub fn is_closed(&self) -> bool
         ensures { result ≡ self.now.closed }
     {
@@ -158,7 +157,7 @@ impl Endpoint {
     }
 }
 
-// the entries behind number `after`, up to number `last`
+// the entries after number `after`, up to number `last`
 fn between(sequence: &[Entry], after: u64, last: u64) -> &[Entry]
     requires order { after ≤ last }
     requires within { last ≤ length sequence.now }

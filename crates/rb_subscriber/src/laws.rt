@@ -1,5 +1,5 @@
-//! Laws: public functions that do nothing, whose contracts say what holds of every delivery. Who
-//! needs one calls it.
+//! Laws of endpoints: what holds of every delivery. Each law is a public function that does
+//! nothing; its contract is the law. Call the function to use the law.
 
 ghost use Rattle.std.specs.Prelude.{◌≡◌, ◌≤◌, ◌↔◌, ◌++◌, List, Ok, Err, length};
 ghost use Rattle.cs_apply.specs.declared.conflict.Conflict.{Conflict};
@@ -12,16 +12,16 @@ ghost use Rattle.rb_subscriber.specs.declared.refusal.AcceptRefusal.TheVariants 
 
 use cs_apply::laws::applying_goes_on;
 
-/// What a delivery is answered is a step: it is accepted exactly where `Accepts` says so, with that
-/// endpoint behind it.
+/// `accept` returns an endpoint exactly if *AcceptsDelivery* holds of the delivery and that
+/// endpoint.
 pub fn accepting_is_step()
     ensures { (old : Endpoint) (sequence : List Entry) (delivery : Delivery) (new : Endpoint)
         → (accept old sequence delivery ≡ Ok new) ↔ AcceptsDelivery old sequence delivery new }
 {}
 
-/// What an endpoint has accepted is one run of the sequence from its start on: a delivery that it
-/// accepts goes on where the cursor was, so that nothing is left out and nothing comes twice, and
-/// entries that are placed later change nothing of it.
+/// What an endpoint has accepted is one contiguous run of the sequence after its start. An accepted
+/// delivery continues at the cursor, so nothing is skipped and nothing comes twice. Entries placed
+/// later do not change it.
 pub fn accepted_is_a_run()
     ensures goes_on { (old : Endpoint) (sequence : List Entry) (delivery : Delivery)
         (new : Endpoint)
@@ -33,8 +33,8 @@ pub fn accepted_is_a_run()
         → accepted_entries (sequence ++ more) endpoint ≡ accepted_entries sequence endpoint }
 {}
 
-/// The tables behind an accepted delivery are what one thread gets that applies its changesets one
-/// after another.
+/// The tables after an accepted delivery equal those of a single thread that applies its changesets
+/// one after another.
 pub fn accepted_apply_singly()
     ensures { (old : Endpoint) (sequence : List Entry) (delivery : Delivery) (new : Endpoint)
         → accept old sequence delivery ≡ Ok new

@@ -1,6 +1,6 @@
-//! A subscriber's end of a subscription. Theorem: what an `Endpoint` accepts is the next run of the
-//! sequence behind its cursor, under its present link and never after it was closed, and its tables
-//! are what the accepted changesets give, applied one after another.
+//! A subscriber's endpoint of a subscription. Theorem: an `Endpoint` accepts only the next run of
+//! the sequence after its cursor, under its current link, and nothing once it is closed. Its tables
+//! are the result of the accepted changesets, applied one after another.
 #![tactic(auto)]
 
 mod apply;

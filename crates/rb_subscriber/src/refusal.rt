@@ -1,4 +1,4 @@
-//! Why a delivery isn't accepted.
+//! Why an endpoint doesn't accept a delivery.
 
 ghost use Rattle.std.specs.Prelude.{◌≡◌};
 
@@ -6,8 +6,8 @@ use cs_apply::Conflict;
 use std::alloc::AllocError;
 use thiserror::Error;
 
-/// Why `Endpoint::accept` refuses a delivery. The endpoint is as it was before the call. Where
-/// several hold, the call answers the first one in this order.
+/// Why `Endpoint::accept` refuses a delivery. The refused call does not change the endpoint. If
+/// several apply, the call returns the first in this order.
 #[derive(Clone, Copy, Debug, PartialEq, Eq, Error)]
 pub enum AcceptRefusal {
     /// The endpoint is closed.
@@ -16,13 +16,13 @@ pub enum AcceptRefusal {
     /// The delivery was made under another link.
     #[error("the subscription has another link now")]
     StaleLink,
-    /// Its numbers are accepted already: its last one isn't behind the cursor.
+    /// Its numbers are accepted already: its last one isn't after the cursor.
     #[error("the delivery is accepted already")]
     Seen,
-    /// It doesn't begin behind the cursor, with the number `expected`.
+    /// It doesn't begin with `expected`, the number after the cursor.
     #[error("the next number to accept is {expected}")]
     Gap { expected: u64 },
-    /// The changeset of this number is of other tables than the endpoint's.
+    /// The changeset with this number is of other tables than the endpoint's.
     #[error("the changeset {number} is of other tables")]
     Shape { number: u64 },
     /// A change conflicts with the rows. Its position counts all changes of the delivery, from 0.
@@ -30,13 +30,13 @@ pub enum AcceptRefusal {
     Conflict(Conflict),
 }
 
-/// What stopped `Endpoint::accept`. The endpoint is as it was before the call.
+/// What stops `Endpoint::accept`. The stopped call does not change the endpoint.
 #[derive(Clone, Copy, Debug, PartialEq, Eq, Error)]
 pub enum AcceptError {
     /// The delivery is refused.
     #[error("{0}")]
     Refused(AcceptRefusal),
-    /// There was no memory. It may come in place of a conflict, and of no other refusal.
+    /// Memory ran out. It may replace a conflict, but no other refusal.
     #[error("out of memory")]
     Memory,
 }

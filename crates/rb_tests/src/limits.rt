@@ -1,4 +1,4 @@
-//! The ranges of limits.
+//! Tests of the ranges of limits.
 
 use rb_desk::{Config, ConfigFault};
 

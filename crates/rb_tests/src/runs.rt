@@ -1,5 +1,5 @@
-//! Runs with ample memory: a list of events, and a changeset with more changes than sixteen bits
-//! count.
+//! Runs with ample memory: a list of events, and a changeset with more changes than a 16-bit count
+//! holds.
 
 ghost use Rattle.std.specs.Prelude.{◌<◌};
 
@@ -11,7 +11,7 @@ use std::alloc::{AllocError, Global};
 use std::process::Abort;
 use std::test::Fail;
 
-// an INSERT of (1, 'x') into a table `t` of two columns, of which the first is its key
+// an INSERT of (1, 'x') into a table `t` of two columns, the first of which is its key
 const INSERT: [u8; 20] = [
     0x54, 2, 1, 0, 0x74, 0, 0x12, 0, 1, 0, 0, 0, 0, 0, 0, 0, 1, 3, 1, 0x78,
 ];
@@ -28,8 +28,7 @@ fn schema(alloc: Global) -> Result<Schema, Fail> {
     Ok(Schema::new(shapes)?)
 }
 
-// after a feed: the INSERT is staged, sent and placed, and a subscription takes it and accepts it
-// twice
+// after a feed: stages, sends and places the INSERT; a subscription takes it and accepts it twice
 fn event(place: usize) -> Event {
     match place {
         0 => Event::End { publisher: 0 },
@@ -63,7 +62,7 @@ fn some_events(alloc: Global) -> Result<Vec<Event>, AllocError> {
     Ok(events)
 }
 
-// The row is there, and the deliveries were answered so.
+// The row is there, and the second `Accept` is refused as seen.
 fn is_done(rt: &impl Abort, alloc: Global, world: &World, last: Reply) -> Result<(), Fail> {
     let rows = world.rows(alloc, 0)?;
     assert_eq!(rt; rows.map(|rows| rows.len()), Some(1));
@@ -88,7 +87,7 @@ fn says_its_numbers(rt: &impl Abort, alloc: Global, reply: Reply) -> Result<(), 
     Ok(())
 }
 
-// A list of events is answered as one after another are.
+// A list of events has the same replies as its events one after another.
 #[test]
 fn runs_as_it_steps(rt: HostRuntime) -> Result<(), Fail> {
     let alloc = rt.alloc();
@@ -108,12 +107,12 @@ fn runs_as_it_steps(rt: HostRuntime) -> Result<(), Fail> {
     is_done(&rt, alloc, &world, last)
 }
 
-// the changes on a line, and the lines
+// the changes of a line, and the lines
 const CHANGES: u32 = 2_000;
 
 const LINES: u32 = 35;
 
-// `feed` of an INSERT for each number from one on
+// a `feed` line of `CHANGES` INSERTs, with keys from `first` on
 fn push_line(alloc: Global, script: &mut Vec<u8>, first: u32) -> Result<(), Fail>
     requires { first < 1000000 }
 {

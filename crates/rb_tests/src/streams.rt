@@ -1,4 +1,4 @@
-//! Readers and writers that fail, that interrupt, and that wait for answers.
+//! Readers and writers that fail, are interrupted, or wait for answers.
 
 use rb_core::Config;
 use rb_script::{ScriptFault, run_script};
@@ -9,7 +9,7 @@ use std::io::{ErrorKind, Read, Write};
 use std::process::Abort;
 use std::test::Fail;
 
-// A reader that gives some bytes, and fails then.
+// A reader that returns some bytes, and then fails.
 #[derive(Drop)]
 struct Failing<'a> {
     rest: &'a [u8],
@@ -37,7 +37,7 @@ impl Read for Unending {
     }
 }
 
-// A writer that takes no byte.
+// A writer that accepts no byte.
 #[derive(Drop)]
 struct Full;
 
@@ -51,7 +51,7 @@ impl Write for Full {
     }
 }
 
-// A reader and a writer that interrupt each call before they do it.
+// A reader and a writer that interrupt each call before they perform it.
 #[derive(Drop)]
 struct Hasty<T> {
     inner: T,
@@ -94,8 +94,8 @@ impl<T: Write> Write for Hasty<T> {
     }
 }
 
-// A reader of one line at a time, which gives the next one only when the answers to those before
-// are handed on.
+// A reader of one line at a time. It returns the next line only after the answers to those before
+// are flushed.
 #[derive(Drop)]
 struct Asking<'a> {
     lines: &'a [&'a [u8]],
@@ -140,7 +140,7 @@ impl Write for Telling<'_> {
     }
 }
 
-// A writer whose writes fail, or whose flushes do after so many.
+// A writer whose writes fail, or whose flushes fail after the first `flushes`.
 #[derive(Drop)]
 struct Broken {
     writes: bool,
@@ -164,8 +164,8 @@ impl Write for Broken {
     }
 }
 
-// A reader without an end, of a line with an answer and many without, whose first piece is shorter
-// than the others.
+// An endless reader of a line with an answer and many without. Its first piece is shorter than the
+// others.
 #[derive(Drop)]
 struct Turning {
     begun: bool,
@@ -187,8 +187,8 @@ impl Read for Turning {
     }
 }
 
-// The run stopped with this text. Where memory ran out before, for the run or for the list that
-// takes its answers, that is handed up.
+// The run stopped with this text. If memory ran out before, for the run or for the list of its
+// answers, that is an error.
 fn stopped(
     rt: &impl Abort,
     alloc: Global,
@@ -261,7 +261,7 @@ fn lines_are_answered_before_the_next_read(rt: HostRuntime) -> Result<(), Fail> 
     };
     run_script(alloc, &mut reader, &mut writer, Config::standard())?;
     assert_eq!(rt; answered.get(), 4);
-    // the answer to a last line without its end is handed on too
+    // the answer to a last line without a line end is flushed too
     let last: [&[u8]; 1] = [b"turn"];
     let rest = Cell::new(0);
     let mut writer = Telling {
@@ -277,7 +277,7 @@ fn lines_are_answered_before_the_next_read(rt: HostRuntime) -> Result<(), Fail> 
 #[test]
 fn write_faults_carry_their_reason(rt: HostRuntime) -> Result<(), Fail> {
     let alloc = rt.alloc();
-    // no write, no flush before the first read, and none behind the last answer
+    // no write; no flush before the first read; no flush after the last answer
     for (writes, flushes) in [(true, 9), (false, 0), (false, 2)] {
         let mut script: &[u8] = b"turn";
         let mut writer = Broken { writes, flushes };

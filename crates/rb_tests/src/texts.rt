@@ -1,4 +1,4 @@
-//! What a user reads of limits, refusals and faults.
+//! The texts of limits, refusals, faults and replies.
 
 use cs_apply::{Conflict, ConflictKind};
 use rb_core::{BrokerRefusal, Reply};

@@ -1,4 +1,4 @@
--- Bytes that are the canonical ones of what is read from them, from a length on up to all changes.
+-- Bytes that are the canonical encoding of what is read from them, from a length up to all changes.
 use Rattle.std.proofs.Common.{◌≡◌, ℕ, ◌+◌, ◌*◌, ◌^◌, ◌<◌, Bool, List, [], ◌∷◌, ◌++◌, Option, Some, None, Result, Ok}
 use Rattle.std.proofs.Common.{Err, refl, sym, ap, subst, ◌∙◌, append_assoc, arith}
 use Rattle.std.specs.Prelude.{IfSome, IfOk, IsTrue, is_some}

@@ -1,4 +1,4 @@
--- A number of changes is that of what the text spells, and a fault the text's.
+-- The number of changes is that of the changeset the text encodes, and a fault is the text's.
 use Rattle.std.proofs.Common.{◌≡◌, ℕ, ◌≤◌, List, Result, Ok, Err, IfOk, IfErr, refl, sym, ap, subst, ◌∙◌}
 use Rattle.cs_model.specs.Section.{Section}
 use Rattle.cs_model.specs.Changeset.{most_bytes}

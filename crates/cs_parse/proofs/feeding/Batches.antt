@@ -1,4 +1,4 @@
--- What bytes bring that stand behind sections: changes of the last one, sections behind it, and what is left.
+-- What the bytes after sections give: changes of the last one, sections after it, and the remaining bytes.
 use Rattle.std.proofs.Common.{◌≡◌, ℕ, ◌-◌, ◌<◌, ◌≤◌, Bool, List, [], ◌∷◌, ◌++◌, length, take, drop, Option, Some, None}
 use Rattle.std.proofs.Common.{refl, sym, ap, subst, ◌∙◌, arith}
 use Rattle.std.proofs.lemmas.List.{append-nil, length-append, take-append-drop}
@@ -37,7 +37,7 @@ abbrev pub BringsAll : List Section → List ℕ → List ℕ → List Section �
 BringsAll sections bytes text more rest why = read_on sections bytes
     ≡ record { sections = with_changes sections (said_by (last_flags sections) text) ++ more; rest = rest; why = why }
 
--- the same by the last section's key bytes
+-- the same by the last section's key flags
 abbrev BringsBy : Option (List ℕ) → List Section → List ℕ → List ℕ → List Section → List ℕ → Option ParseRefusal
     → Type 0
 BringsBy o sections bytes text more rest why = read_on sections bytes

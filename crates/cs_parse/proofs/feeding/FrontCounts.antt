@@ -1,4 +1,4 @@
--- The changes that are whole, against all changes of a section.
+-- The complete changes at the front, compared with all changes of a section.
 use Rattle.std.proofs.Common.{◌≡◌, ℕ, zero, suc, Bool, true, false, cond, List, [], ◌∷◌, length, Option, Some, None}
 use Rattle.std.proofs.Common.{Result, Ok, Err, refl, ap, ◌∙◌}
 use Rattle.cs_model.specs.declared.change.Change.{Change}

@@ -1,4 +1,4 @@
--- As many items as are whole: what was read was spelled so, and where nothing stops it all are read.
+-- The complete items at the front: the bytes encode what is read, and all are read if nothing stops the reader.
 use Rattle.std.proofs.Common.{◌≡◌, ℕ, zero, suc, ◌≤◌, ◌⊎◌, inl, inr, Bool, true, false, cond, List, [], ◌∷◌, ◌++◌}
 use Rattle.std.proofs.Common.{length, Option, Some, None, Result, Ok, Err, refl, sym, ap, subst, ◌∙◌, append_assoc}
 use Rattle.std.proofs.Common.{arith}

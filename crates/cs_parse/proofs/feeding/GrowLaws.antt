@@ -48,7 +48,7 @@ heads_last (section ∷ sections) last bytes count rest canonical why found head
     subst (λ o. Heads o bytes count rest canonical why) (sym (last_is all last (length all - 1) (omega arith) found))
     heads
 
--- the last section's key bytes, as code finds it
+-- the last section's key flags, as code finds it
 pub last_found : (sections : List Section) (last : Section) (flags : List ℕ) → slice_get sections (length sections - 1)
     ≡ Some last → flags ≡ last.shape.flags → last_flags sections ≡ Some flags
 last_found [] last flags found is = absurd cc

@@ -1,4 +1,4 @@
--- Headers up to their names, and names that aren't whole.
+-- Headers up to their names, and incomplete names.
 use Rattle.std.proofs.Common.{◌≡◌, ◌==◌, ℕ, zero, suc, ◌+◌, ◌-◌, ◌≤◌, min, true, false, cond, eqb, List, [], ◌∷◌, ◌++◌}
 use Rattle.std.proofs.Common.{length, take, drop, position, Option, Some, None, Result, Ok, Err, refl, sym, ap, subst}
 use Rattle.std.proofs.Common.{◌∙◌, append_assoc, arith}
@@ -30,7 +30,7 @@ use Rattle.cs_parse.proofs.joining.PartLaws.{part_refused}
 abbrev name_shaped : List ℕ → List ℕ × List ℕ → Result (Shape × List ℕ) ParseRefusal
 name_shaped flags name = Ok (record { name = name.0; flags = flags }, name.1)
 
--- what stands behind the key bytes
+-- what stands after the key flags
 abbrev name_named_by : List ℕ × List ℕ → Result (Shape × List ℕ) ParseRefusal
 name_named_by flags = name_at flags.1 >>= name_shaped flags.0
 

@@ -1,4 +1,4 @@
--- Changes that end too early, with the bytes that are there and with more behind them.
+-- Incomplete changes, with the bytes so far and with more appended.
 use Rattle.std.proofs.Common.{◌≡◌, ℕ, ◌+◌, ◌-◌, ◌<◌, List, ◌++◌, length, drop, map, Some, Err, sym, ap, ◌∙◌}
 use Rattle.std.proofs.lemmas.List.{append-nil, drop-append-le}
 use Rattle.cs_model.specs.Bytes.{AreBytes}

@@ -1,4 +1,4 @@
--- Bytes that wait behind sections.
+-- The pending bytes after sections.
 use Rattle.std.proofs.Common.{◌≡◌, refl, Bool, true, suc, ℕ, ◌+◌, ◌-◌, cond, ◌<◌, ◌≤◌, length, false, List, [], ◌∷◌}
 use Rattle.std.proofs.Common.{◌++◌, Option, Some, None, Err, sym, ap, subst, ◌∙◌, append_assoc, arith}
 use Rattle.std.specs.Prelude.{◌==◌, IsTrue}

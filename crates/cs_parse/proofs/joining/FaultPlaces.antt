@@ -1,4 +1,4 @@
--- Where a fault of a text within the limit stands.
+-- The place of a fault of a text within the limit.
 use Rattle.std.proofs.Common.{◌≡◌, ℕ, ◌-◌, ◌≤◌, Bool, true, false, cond, Option, Some, None, refl, sym, ap, ◌∙◌, arith}
 use Rattle.std.proofs.Common.{ltb}
 use Rattle.std.proofs.lemmas.Bool.{le-ltb}

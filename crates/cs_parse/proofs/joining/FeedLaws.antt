@@ -1,4 +1,4 @@
--- What a parser answers, of every text that it may have taken.
+-- What a parser returns, for every text that it may have taken.
 use Rattle.std.proofs.Common.{◌≡◌, ◌==◌, Bool, cond, refl, suc, length, ◌∷◌, ℕ, List, [], arith, ◌++◌, Option, Some}
 use Rattle.std.proofs.Common.{None, Result, Ok, Err, sym, ap, subst, ◌∙◌}
 use Rattle.std.specs.Prelude.{IfErr, OnOk, IfOk, IsOk}

@@ -1,4 +1,4 @@
--- Texts that come in pieces: faults that last, and what is kept.
+-- Texts that come in pieces: permanent faults, and what is kept.
 use Rattle.std.proofs.Common.{◌≡◌, ℕ, suc, ◌+◌, ◌-◌, ◌<◌, ◌≤◌, ◌⊎◌, inl, inr, Bool, true, false, cond, List, [], ◌∷◌}
 use Rattle.std.proofs.Common.{◌++◌, length, take, get_or, Option, Some, None, Result, Ok, Err, slice_get, refl, sym, ap}
 use Rattle.std.proofs.Common.{subst, ◌∙◌, append_assoc, arith, zero}

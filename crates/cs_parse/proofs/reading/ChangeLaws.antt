@@ -1,4 +1,4 @@
--- Changes: what is read was spelled so, and what is spelled so is read.
+-- Changes: the bytes encode what is read, and every encoding is read.
 use Rattle.std.proofs.Common.{◌≡◌, ◌==◌, ℕ, zero, suc, ◌<◌, inl, inr, Bool, true, false, not, cond, List, [], ◌∷◌, ◌++◌}
 use Rattle.std.proofs.Common.{length, map, Option, Some, None, Result, Ok, Err, refl, sym, ap, subst, ◌∙◌, append_assoc}
 use Rattle.std.proofs.Common.{arith}
@@ -22,7 +22,7 @@ use Rattle.cs_parse.proofs.reading.Steps.{Takes, back_fits, bind_ok, done, ok_is
 use Rattle.cs_parse.proofs.reading.FieldLaws.{record_takes, record_again}
 use Rattle.cs_parse.proofs.reading.ManyLaws.{IsReader, TakesEach, many_takes, many_again}
 
--- a change of a table with these key bytes
+-- a change of a table with these key flags
 abbrev pub IsChangeBy : List ℕ → Change → Type 0
 IsChangeBy flags change = AreRecords flags change.op change.before change.after
 

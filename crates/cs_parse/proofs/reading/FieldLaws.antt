@@ -1,4 +1,4 @@
--- Fields and records: what is read was spelled so, and what is spelled so is read.
+-- Fields and records: the bytes encode what is read, and every encoding is read.
 use Rattle.std.proofs.Common.{◌≡◌, ℕ, zero, suc, true, cond, eqb, ltb, List, [], ◌∷◌, ◌++◌, Some, None, Ok, refl, sym}
 use Rattle.std.proofs.Common.{ap, subst, ◌∙◌, append_assoc, arith}
 use Rattle.std.proofs.lemmas.Bool.{lt-ltb}

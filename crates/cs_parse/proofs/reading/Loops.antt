@@ -1,4 +1,4 @@
--- Reading items one after the other, as a loop does.
+-- Reading items one after another, as a loop does.
 use Rattle.std.proofs.Common.{◌≡◌, ℕ, zero, suc, ◌⊎◌, inl, inr, Bool, true, false, cond, List, [], ◌∷◌, ◌++◌, Result}
 use Rattle.std.proofs.Common.{Ok, refl, ap, arith}
 use Rattle.cs_model.specs.Rule.{Rule}

@@ -1,4 +1,4 @@
--- Numbers and counted bytes: what is read was spelled so, and what is spelled so is read.
+-- Numbers and counted bytes: the bytes encode what is read, and every encoding is read.
 use Rattle.std.proofs.Common.{◌≡◌, ℕ, ℤ, zero, suc, ◌+◌, ◌-◌, ◌*◌, ◌^◌, ◌<◌, ◌≤◌, inl, inr, false, cond, ltb, ◌||◌}
 use Rattle.std.proofs.Common.{List, [], ◌∷◌, ◌++◌, length, take, drop, get_or, Result, Ok, Err, refl, sym, ap, subst}
 use Rattle.std.proofs.Common.{◌∙◌, append_assoc, arith, FitsSigned}

@@ -1,4 +1,4 @@
--- What a reader took from the front, and the steps by which the laws of reading go.
+-- What a reader takes from the front, and the steps of the reading laws.
 use Rattle.std.proofs.Common.{◌≡◌, ℕ, zero, suc, ◌+◌, ◌<◌, ◌⊎◌, inl, inr, [], ◌∷◌, sym, arith, ltb, Bool, true, false}
 use Rattle.std.proofs.Common.{cond, List, ◌++◌, length, get_or, Option, Some, None, Result, Ok, Err, refl, subst, ap}
 use Rattle.std.proofs.Common.{◌∙◌}

@@ -1,4 +1,4 @@
--- What a call's definition says, once it is known what was found.
+-- What a call's definition says, once the searches in it have found their item.
 use Rattle.std.proofs.Common.{◌≡◌, ◌⊎◌, inl, inr, ℕ, max, Bool, true, false, not, cond, ◌==◌, ◌||◌, ◌&&◌, ◌<◌, ◌≤◌}
 use Rattle.std.proofs.Common.{nat_lt, nat_le, filter, length, List, [], ◌∷◌, ◌++◌, Option, Some, None, Result, Ok, Err}
 use Rattle.std.proofs.Common.{IsOk, map, suc, if◌then◌else◌, slice_get, append-nil, refl, sym, ap, subst, ◌∙◌, arith}

@@ -1,4 +1,4 @@
--- What a desk shows after a subscription is made, goes on behind a cursor, or is closed.
+-- What a desk shows after a subscription is made, continues after a cursor, or is closed.
 use Rattle.std.proofs.Common.{◌≡◌, ℕ, suc, ◌-◌, ◌<◌, ◌≤◌, Bool, true, false, cond, List, [], ◌∷◌, ◌++◌, length, map}
 use Rattle.std.proofs.Common.{Option, Some, None, option_map, IfSome, filter_map, slice_get, slice_set, nat_le}
 use Rattle.std.proofs.Common.{if◌then◌else◌, append-nil, refl, sym, ap, ◌∙◌, arith}

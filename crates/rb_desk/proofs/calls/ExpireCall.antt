@@ -1,4 +1,4 @@
--- Expire, whole: the answer and what is shown after it.
+-- The whole call of expire: its result, and what is shown after it.
 use Rattle.std.proofs.Common.{◌≡◌, ℕ, ◌≤◌, max, List, [], ◌∷◌, Option, map, sym}
 use Rattle.std.specs.List.{AllByRecursion}
 use Rattle.rb_desk.specs.declared.sub.Sub.{Sub}

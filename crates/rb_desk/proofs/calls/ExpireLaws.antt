@@ -1,4 +1,4 @@
--- What a desk shows once spans that were out for long go back.
+-- What a desk shows after expired spans are returned.
 use Rattle.std.proofs.Common.{◌≡◌, ℕ, suc, ◌+◌, ◌-◌, ◌≤◌, ne_eqb, eq-eqb, Bool, true, false, not, cond, List, [], ◌∷◌}
 use Rattle.std.proofs.Common.{◌++◌, map, Option, Some, option_map, filter, filter_map, slice_get, nat_le, append-nil}
 use Rattle.std.proofs.Common.{refl, sym, ap, ◌∙◌, arith}

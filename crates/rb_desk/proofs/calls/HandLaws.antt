@@ -1,4 +1,4 @@
--- What a desk keeps after a span was handed over, went back or was settled shows the picture that these calls give.
+-- After a span is delivered, returned or settled, what a desk stores shows the picture of that call.
 use Rattle.std.proofs.Common.{◌≡◌, ℕ, suc, max, Bool, true, false, ◌==◌, cond, List, [], ◌∷◌, ◌++◌, Option, Some}
 use Rattle.std.proofs.Common.{Result, Ok, Err, filter_map, slice_get, slice_set, refl, sym, ap, ◌∙◌, arith}
 use Rattle.std.specs.List.{AllByRecursion}

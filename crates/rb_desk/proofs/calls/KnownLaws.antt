@@ -1,5 +1,5 @@
--- What belongs to a desk's front, turns and deliveries: its tickets are earlier than the next one, and it still belongs
--- after a call.
+-- What agrees with a desk's front, turns and deliveries: its tickets are before the next one, and it still agrees after
+-- a call.
 use Rattle.std.proofs.Common.{◌≡◌, ℕ, zero, suc, max, ◌<◌, ◌≤◌, Bool, true, false, ◌==◌, cond, List, [], ◌∷◌, ◌++◌}
 use Rattle.std.proofs.Common.{Some, None, IfSome, map, nat_le, slice_get, slice_set, refl, sym, ap, subst, arith}
 use Rattle.std.specs.List.{AllByRecursion}

@@ -1,4 +1,4 @@
--- One open subscription of a desk: what the desk shows where another one is put in its place.
+-- One open subscription of a desk: what the desk shows if another replaces it.
 use Rattle.std.proofs.Common.{◌≡◌, ℕ, suc, ◌≤◌, true, false, cond, List, map, Option, Some, None, option_map, slice_get}
 use Rattle.std.proofs.Common.{slice_set, refl, sym, ap, ◌∙◌}
 use Rattle.std.specs.List.{AllByRecursion}

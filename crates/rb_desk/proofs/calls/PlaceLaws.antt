@@ -1,4 +1,4 @@
--- What a desk shows once one number more is placed.
+-- What a desk shows after a number is placed.
 use Rattle.std.proofs.Common.{◌≡◌, ℕ, suc, ◌-◌, ◌≤◌, Bool, true, false, ◌&&◌, ◌||◌, cond, List, [], ◌∷◌, ◌++◌, map}
 use Rattle.std.proofs.Common.{Option, Some, None, filter_map, nat_lt, if◌then◌else◌, append_assoc, append-nil, refl}
 use Rattle.std.proofs.Common.{sym, ap, ◌∙◌, arith}

@@ -1,5 +1,5 @@
--- The ready order once spans that were out for long go back, where each has a ticket by its delivery's number: they
--- stand at its end in the in-flight order.
+-- The ready order after expired spans are returned. Each has a ticket by its delivery's number, so they are at its end,
+-- in the in-flight order.
 use Rattle.std.proofs.Common.{◌≡◌, ℕ, suc, ◌+◌, ◌-◌, ◌<◌, ◌≤◌, Bool, true, false, not, cond, List, [], ◌∷◌, ◌++◌}
 use Rattle.std.proofs.Common.{length, map, Option, Some, filter, filter_map, slice_get, nat_le, nat_lt, length-append}
 use Rattle.std.proofs.Common.{refl, sym, ap, ◌∙◌, subst, arith}

@@ -1,4 +1,4 @@
--- Things with tickets, and the line that they make: what a change to the things changes in the line.
+-- Items with tickets, and the line that they form: how a change to the items changes the line.
 use Rattle.std.proofs.Common.{◌≡◌, Bool, true, false, not, cond, List, [], ◌∷◌, ◌++◌, map, Option, Some, None}
 use Rattle.std.proofs.Common.{option_map, filter, find, if◌then◌else◌, append_assoc, append-nil, refl, sym, ap, ◌∙◌}
 use Rattle.std.proofs.Common.{subst, arith}

@@ -1,4 +1,4 @@
--- The order that the spans of all subscriptions stand in: what a change of one lane, or of each, changes in it.
+-- The order of the spans of all subscriptions: how a change to one lane, or to each, changes it.
 use Rattle.std.proofs.Common.{◌≡◌, ℕ, zero, suc, ◌+◌, ◌≤◌, ne_eqb, eq-eqb, Bool, true, false, not, ◌==◌, cond, List, []}
 use Rattle.std.proofs.Common.{◌∷◌, ◌++◌, length, map, Option, Some, None, option_map, IfSome, filter, filter_map, find}
 use Rattle.std.proofs.Common.{slice_get, slice_set, if◌then◌else◌, append_assoc, append-nil, refl, sym, ap, ◌∙◌, subst}

@@ -1,4 +1,4 @@
--- Which span is taken where any subscription's may be: the first in line of those whose subscription has room.
+-- Which span `take_any` delivers: the first in line of those whose subscription has room.
 use Rattle.std.proofs.Common.{◌≡◌, ℕ, suc, ◌+◌, ◌≤◌, ne_eqb, eq-eqb, Bool, true, false, not, ◌&&◌, cond, ◌⊎◌, inl, inr}
 use Rattle.std.proofs.Common.{List, [], ◌∷◌, map, Option, Some, None, option_map, find, filter_map, slice_get, nat_lt}
 use Rattle.std.proofs.Common.{if◌then◌else◌, refl, sym, ap, ◌∙◌, arith, max, Ok}

@@ -1,4 +1,4 @@
--- What each call changes in the outline, and that a refused one changes nothing.
+-- What each call changes in the outline; a refused call changes nothing.
 use Rattle.std.proofs.Common.{◌≡◌, ℕ, suc, max, false, not, ◌||◌, ◌==◌, length, Option, Some, None, IfSome, Result, Ok}
 use Rattle.std.proofs.Common.{IsOk, find, nat_lt, nat_le, slice_get, refl, sym, ap, ◌∙◌, subst}
 use Rattle.std.specs.Prelude.{⊤}

@@ -1,4 +1,4 @@
--- What calls change in the outline: the members of lists of subscriptions that change, and a span that is handed over.
+-- What calls change in the outline: the members of changed lists of subscriptions, and a delivered span.
 use Rattle.std.proofs.Common.{◌≡◌, ℕ, zero, suc, ◌≤◌, Bool, true, false, List, [], ◌∷◌, map, Some, None, option_map}
 use Rattle.std.proofs.Common.{Result, Ok, Err, find, slice_get, slice_set, refl, sym, ap, ◌∙◌, subst, arith}
 use Rattle.std.proofs.lemmas.Option.{slice_get-map}

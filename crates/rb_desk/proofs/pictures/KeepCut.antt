@@ -1,5 +1,5 @@
--- A picture is still one after a subscription is made, goes on behind a cursor or is closed, and after the sequence is
--- closed.
+-- The invariant of a picture holds after a subscription is made, continues after a cursor or is closed, and after the
+-- sequence is closed.
 use Rattle.std.proofs.Common.{◌≡◌, ℕ, zero, suc, ◌+◌, ◌-◌, ◌<◌, ◌≤◌, ne_eqb, eq-eqb, Bool, true, false, not, ◌&&◌, ◌||◌}
 use Rattle.std.proofs.Common.{◌==◌, cond, ◌⊎◌, inl, inr, List, [], ◌∷◌, ◌++◌, length, Option, Some, None, IfSome}
 use Rattle.std.proofs.Common.{Result, filter, nat_lt, nat_le, slice_get, slice_set, append-nil, refl, sym, ap, ◌∙◌}

@@ -1,4 +1,4 @@
--- A picture is still one after what is due went back.
+-- The invariant of a picture holds after the spans that are due are returned.
 use Rattle.std.proofs.Common.{◌≡◌, ℕ, suc, max, ◌+◌, ◌-◌, ◌≤◌, Bool, true, false, not, ◌==◌, cond, List, [], ◌∷◌}
 use Rattle.std.proofs.Common.{length, Option, Some, None, option_map, filter, nat_le, slice_get, refl, sym, ap, ◌∙◌}
 use Rattle.std.proofs.Common.{arith}

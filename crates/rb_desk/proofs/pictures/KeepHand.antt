@@ -1,4 +1,4 @@
--- A picture is still one after a span was handed over: the laws of take and take any.
+-- The invariant of a picture holds after a span is delivered: the laws of `take` and `take_any`.
 use Rattle.std.proofs.Common.{◌≡◌, ℕ, suc, max, ◌+◌, ◌≤◌, Bool, true, false, not, cond, ◌==◌, List, [], ◌∷◌, ◌++◌}
 use Rattle.std.proofs.Common.{length, Option, Some, None, find, slice_get, slice_set, eq-eqb, ne_eqb, eqb-true}
 use Rattle.std.proofs.Common.{ltb-true, refl, sym, ap, ◌∙◌, ◌⊎◌, inl, inr, arith}

@@ -1,4 +1,4 @@
--- A picture is still one once a number is placed.
+-- The invariant of a picture holds after a number is placed.
 use Rattle.std.proofs.Common.{◌≡◌, ℕ, zero, suc, ◌+◌, ◌-◌, ◌<◌, ◌≤◌, ne_eqb, eq-eqb, Bool, true, false, ◌&&◌, ◌||◌}
 use Rattle.std.proofs.Common.{◌==◌, cond, List, [], ◌∷◌, ◌++◌, length, map, Option, Some, None, option_map, IfSome}
 use Rattle.std.proofs.Common.{Result, Ok, IsOk, filter, nat_lt, slice_get, refl, sym, ap, ◌∙◌, subst, arith}

@@ -1,4 +1,4 @@
--- A picture is still one after a span went back or was settled: the laws of nack and ack.
+-- The invariant of a picture holds after a span is returned or settled: the laws of `nack` and `ack`.
 use Rattle.std.proofs.Common.{◌≡◌, ℕ, suc, ◌≤◌, Bool, true, false, not, cond, ◌==◌, List, [], ◌∷◌, ◌++◌, length, Option}
 use Rattle.std.proofs.Common.{Some, None, filter, slice_get, slice_set, nat_lt, refl, sym, ap, ◌∙◌, ◌⊎◌, inl, inr}
 use Rattle.std.proofs.Common.{arith}

@@ -1,5 +1,5 @@
--- Spans that partition numbers: which one begins where, what changes where one of them gets another status, and what is
--- left where the floor rises.
+-- Spans that partition numbers: which one begins where, what changes if one gets another status, and what is left if
+-- the floor rises.
 use Rattle.std.proofs.Common.{◌≡◌, ℕ, suc, ◌+◌, ◌<◌, ◌≤◌, Bool, true, false, cond, ◌==◌, List, [], ◌∷◌, length, Some}
 use Rattle.std.proofs.Common.{None, filter, find, eq-eqb, ne_eqb, eqb-true, refl, sym, ap, subst, ◌∙◌, arith}
 use Rattle.std.specs.List.{AllByRecursion}

@@ -1,5 +1,5 @@
--- What keeps a picture one, for all calls: lists with one thing put in, how often a span stands in an order, links and
--- deliveries counted, and subscriptions that stay good.
+-- What preserves the invariant of a picture, for all calls. Lists with one item replaced, how often a span is in an
+-- order, counts of links and deliveries, and subscriptions that stay good.
 use Rattle.std.proofs.Common.{◌≡◌, ℕ, zero, suc, ◌+◌, ◌≤◌, Bool, true, false, not, cond, ◌==◌, ◌&&◌, List, [], ◌∷◌}
 use Rattle.std.proofs.Common.{◌++◌, length, Some, None, filter, slice_get, slice_set, eqb-true, ne_eqb, refl, sym, ap}
 use Rattle.std.proofs.Common.{◌∙◌, ◌⊎◌, inl, inr, arith}

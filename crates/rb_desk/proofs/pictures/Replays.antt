@@ -1,5 +1,5 @@
--- What holds of calls one after another: each leaves a picture, links and deliveries' numbers rise strictly, the front
--- and the floors don't fall.
+-- Calls one after another: each preserves the invariant of a picture, links and deliveries' numbers rise strictly, and
+-- the front and the floors do not fall.
 use Rattle.std.proofs.Common.{◌≡◌, ℕ, zero, suc, max, ◌<◌, ◌≤◌, true, false, not, ◌||◌, ◌==◌, ◌⊎◌, inl, inr, List, []}
 use Rattle.std.proofs.Common.{◌∷◌, ◌++◌, length, map, Option, Some, None, option_map, Result, Ok, Err, find, nat_lt}
 use Rattle.std.proofs.Common.{nat_le, slice_get, slice_set, refl, sym, ap, ◌∙◌, subst, arith, length-append}
@@ -361,7 +361,8 @@ unfolding subscribe
 subscribe_floors p start =
     either_way (λ (x : Result (ℕ × ℕ) DeskRefusal × Picture). NoFloorFalls p x.1) (nat_lt p.front start) _ _
     (floors_same p p refl)
-    (either_way (λ (x : Result (ℕ × ℕ) DeskRefusal × Picture). NoFloorFalls p x.1) (nat_le 1024 (length p.subscriptions))
+    (either_way (λ (x : Result (ℕ × ℕ) DeskRefusal × Picture). NoFloorFalls p x.1)
+    (nat_le 1024 (length p.subscriptions))
     _ _ (floors_same p p refl)
     (floors_appended p (subscribed_picture p start (cut_spans p.limits.batch (suc start) p.front)) _ refl))
 
@@ -424,7 +425,8 @@ within (x ∷ xs) zero less none = let not_none : Some x ≡ None = none in cc
 within (x ∷ xs) (suc i) less none = within xs i (omega (arith, less)) none
 
 -- what rises and rises again rises, where the subscriptions stay
-pub floors_then : (p m r : Picture) → length p.subscriptions ≤ length m.subscriptions → NoFloorFalls p m → NoFloorFalls m r
+pub floors_then : (p m r : Picture) → length p.subscriptions ≤ length m.subscriptions → NoFloorFalls p m
+    → NoFloorFalls m r
     → NoFloorFalls p r
 floors_then p m r stay h k i a c first last = by (slice_get m.subscriptions i) refl
   where

@@ -1,4 +1,4 @@
--- A span of a subscription that was found: that it goes out of an order, and that it comes to the end of one.
+-- A span of a subscription that was found: it leaves an order, or goes to the end of one.
 use Rattle.std.proofs.Common.{◌≡◌, ℕ, suc, ◌+◌, Bool, true, false, cond, ◌==◌, ◌&&◌, List, [], ◌∷◌, ◌++◌, Some, None}
 use Rattle.std.proofs.Common.{slice_get, eq-eqb, ne_eqb, refl, sym, ap, ◌∙◌, ◌⊎◌, inl, inr, arith}
 use Rattle.std.proofs.lemmas.Bool.{cases_eq}

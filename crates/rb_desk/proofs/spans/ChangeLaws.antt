@@ -1,4 +1,4 @@
--- One span of a lane becomes something else: what that changes in the lane's spans, and in what stands in an order.
+-- One span of a lane changes: what that changes in the lane's spans, and in the orders.
 use Rattle.std.proofs.Common.{◌≡◌, ℕ, eq-eqb, Bool, true, false, not, ◌==◌, ◌&&◌, cond, List, [], ◌∷◌, ◌++◌, map}
 use Rattle.std.proofs.Common.{Option, Some, None, IfSome, filter, filter_map, append_assoc, refl, sym, ap, ◌∙◌}
 use Rattle.std.specs.List.{AllByRecursion, cons_option}

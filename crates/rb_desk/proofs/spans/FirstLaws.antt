@@ -1,4 +1,4 @@
--- Which span goes first.
+-- Which span is first in line.
 use Rattle.std.proofs.Common.{◌≡◌, ℕ, zero, suc, ◌+◌, ◌<◌, Bool, true, false, not, ◌&&◌, nat_lt, if◌then◌else◌, ◌⊎◌}
 use Rattle.std.proofs.Common.{inl, inr, slice_get, IfSome, OnSome, List, [], ◌∷◌, length, drop, get_or, Option, Some}
 use Rattle.std.proofs.Common.{None, option_map, sym, ap, ◌∙◌, refl, arith}

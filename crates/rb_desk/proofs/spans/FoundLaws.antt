@@ -1,4 +1,4 @@
--- What is found in a lane: that a span that is out is one that was taken before, and that one that is ready may go.
+-- What is found in a lane: a span in flight was taken before, and a ready one can be delivered.
 use Rattle.std.proofs.Common.{◌≡◌, ℕ, ◌<◌, ◌≤◌, Bool, true, false, cond, List, [], ◌∷◌, ◌++◌, length, Option, Some}
 use Rattle.std.proofs.Common.{None, option_map, ◌⊎◌, inl, inr, filter, find, slice_get, append-nil, refl, sym, ap, ◌∙◌}
 use Rattle.std.specs.List.{AllByRecursion}

@@ -1,4 +1,4 @@
--- What a call changes in the spans of a lane: one is handed over, goes back, is settled.
+-- What a call changes in the spans of a lane: one is delivered, returned, settled.
 use Rattle.std.proofs.Common.{◌≡◌, ℕ, suc, ◌<◌, ◌≤◌, eq-eqb, ne_eqb, Bool, true, false, ◌==◌, cond, List, [], ◌∷◌, ◌++◌}
 use Rattle.std.proofs.Common.{Some, None, ◌⊎◌, inl, inr, filter_map, slice_get, append_assoc, refl, sym, ap, ◌∙◌, subst}
 use Rattle.std.proofs.Common.{arith}

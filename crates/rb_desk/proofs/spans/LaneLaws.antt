@@ -1,4 +1,4 @@
--- The spans of a lane: those that were taken before, and the cutting behind them.
+-- The spans of a lane: those that were taken before, then the cutting.
 use Rattle.std.proofs.Common.{◌≡◌, ℕ, zero, suc, ◌-◌, ◌<◌, ◌≤◌, Bool, true, false, cond, List, [], ◌∷◌, ◌++◌, length}
 use Rattle.std.proofs.Common.{take, drop, get_or, slice_set, Option, Some, None, option_map, map, slice_get, ◌==◌}
 use Rattle.std.proofs.Common.{if◌then◌else◌, refl, sym, ap, ◌∙◌, arith}

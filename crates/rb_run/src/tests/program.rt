@@ -1,4 +1,4 @@
-//! Command lines, and how the program ends.
+//! Tests of command lines, and of how the program ends.
 
 use crate::called;
 use crate::command::matches;
@@ -8,7 +8,7 @@ use rb_core::{Config, ConfigFault};
 use std::alloc::Global;
 use std::test::Fail;
 
-// the words of a command line behind the program's name
+// the program's name, then these words
 fn words(alloc: Global, behind: &[&str]) -> Result<Vec<String>, Fail> {
     let mut words = Vec::new(alloc);
     words.push(String::from_str(alloc, "rb_run")?)?;
@@ -18,7 +18,7 @@ fn words(alloc: Global, behind: &[&str]) -> Result<Vec<String>, Fail> {
     Ok(words)
 }
 
-// what a command line is answered that asks for no script
+// the text that a command line without a script prints
 fn shown(alloc: Global, behind: &[&str]) -> Result<String, Fail> {
     let words = words(alloc, behind)?;
     match matches(alloc, &words) {
@@ -55,7 +55,7 @@ fn statuses_are_told(rt: HostRuntime) -> Result<(), Fail> {
     Ok(())
 }
 
-// the limits that a command line of `script` says
+// the limits from a command line of `script`
 fn limits(alloc: Global, behind: &[&str]) -> Result<Result<Config, ConfigFault>, Fail> {
     let words = words(alloc, behind)?;
     let Ok(found) = matches(alloc, &words) else {
@@ -88,7 +88,7 @@ fn options_are_limits(rt: HostRuntime) -> Result<(), Fail> {
     Ok(())
 }
 
-// The first option at fault is told, with its range.
+// The first faulty option is reported, with its range.
 #[test]
 fn options_have_ranges(rt: HostRuntime) -> Result<(), Fail> {
     let alloc = rt.alloc();

@@ -59,6 +59,7 @@ returns-clause-tables c =
 pub returns-clause-sent : goal.returns-clause-sent
 returns-clause-sent c =
     on_ok _ _ c.served.result
-    (λ r both i entry. c.sendings_come_once_in_order.ensures.sent c.args.config c.args.schema c.args.events.now r.1.items
+    (λ r both i entry. c.sendings_come_once_in_order.ensures.sent c.args.config c.args.schema c.args.events.now
+    r.1.items
     r.0 i entry (is_run c r both))
     c.served.ensures

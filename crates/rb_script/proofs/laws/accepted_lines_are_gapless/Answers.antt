@@ -12,5 +12,5 @@ returns c = λ config lines ranges.
       λ s subscriber found.
           (c.accepted_is_gapless.ensures config run.0 (lines_events lines)
           (lines_replies config (Tables []) lines) new s
-          subscriber ranges (c.scripts_feed_bytes.ensures lines) run.1 found).0,
+          subscriber (record { ranges = ranges; feeds = c.scripts_feed_bytes.ensures lines; run = run.1 }) found).0,
     )
