@@ -29,8 +29,8 @@ paired_length R (x ∷ xs) [] all = absurd all
 paired_length R (x ∷ xs) (y ∷ ys) all = omega (arith, paired_length R xs ys all.1)
 
 -- the reply of an outcome
-abbrev answered : Reply × State → Reply
-answered x = x.0
+abbrev reply_of : Reply × State → Reply
+reply_of x = x.0
 
 publisher_number : (old : State) (p : ℕ) (new : State) → outcome old event.Publisher ≡ (reply.Publisher p, new)
     → p ≡ length old.publishers
@@ -41,9 +41,9 @@ publisher_number old p new e = by (nat_le 64 (length old.publishers)) _ e
         → cond b (out.refused old refusal.TooMany) (reply.Publisher (length old.publishers), after)
         ≡ (reply.Publisher p, new) → p ≡ length old.publishers
     by true after e =
-        absurd (let both : reply.Refused refusal.TooMany ≡ reply.Publisher p = ap answered e in cc)
+        absurd (let both : reply.Refused refusal.TooMany ≡ reply.Publisher p = ap reply_of e in cc)
     by false after e =
-        let both : reply.Publisher (length old.publishers) ≡ reply.Publisher p = ap answered e in
+        let both : reply.Publisher (length old.publishers) ≡ reply.Publisher p = ap reply_of e in
         let same : length old.publishers ≡ p = cc in
         sym same
 
@@ -63,9 +63,9 @@ subscriber_counts shows schema old world start s link new good h e =
         → desk.subscribe old.desk start ≡ (answer, picture)
         → out.subscribed_by old start answer picture ≡ (reply.Subscriber s link, new) → s ≡ length world.subscribers
     by (Err why) picture is e =
-        absurd (let both : reply.Refused (refusal.Desk why) ≡ reply.Subscriber s link = ap answered e in cc)
+        absurd (let both : reply.Refused (refusal.Desk why) ≡ reply.Subscriber s link = ap reply_of e in cc)
     by (Ok made) picture is e =
-        let both : reply.Subscriber made.0 made.1 ≡ reply.Subscriber s link = ap answered e in
+        let both : reply.Subscriber made.0 made.1 ≡ reply.Subscriber s link = ap reply_of e in
         let same : made.0 ≡ s = cc in
         let last : made.0 ≡ length (outline_of old.desk).members =
         (shows old.desk start made.0 made.1 picture is).last in

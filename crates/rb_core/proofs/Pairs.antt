@@ -81,9 +81,9 @@ found_in test (y ∷ xs) x e = by (test y) e (found_in test xs x)
     by true here rest = inl (sym (cc here))
     by false later rest = inr (rest later)
 
-pub found_passes : {A : Type 0} (test : A → Bool) (xs : List A) (x : A) → find test xs ≡ Some x → test x ≡ true
-found_passes test [] x e = absurd (let none : None ≡ Some x = e in cc)
-found_passes test (y ∷ xs) x e = by (test y) refl e (found_passes test xs x)
+pub find_passes : {A : Type 0} (test : A → Bool) (xs : List A) (x : A) → find test xs ≡ Some x → test x ≡ true
+find_passes test [] x e = absurd (let none : None ≡ Some x = e in cc)
+find_passes test (y ∷ xs) x e = by (test y) refl e (find_passes test xs x)
   where
     by : (b : Bool) → test y ≡ b → cond b (Some y) (find test xs) ≡ Some x → (find test xs ≡ Some x → test x ≡ true)
         → test x ≡ true

@@ -285,18 +285,18 @@ numbered_at n (item ∷ items) x all here =
     ]
 
 -- an entry's item is among those of its publisher that are placed
-placed_in : (p : ℕ) (entries : List Entry) (i : ℕ) (b : Entry) → slice_get entries i ≡ Some b → b.item.publisher ≡ p
+among_placed : (p : ℕ) (entries : List Entry) (i : ℕ) (b : Entry) → slice_get entries i ≡ Some b → b.item.publisher ≡ p
     → IsIn b.item (placed_of p entries)
-placed_in p [] i b found mine = absurd (cc found)
-placed_in p (x ∷ entries) zero b found mine =
+among_placed p [] i b found mine = absurd (cc found)
+among_placed p (x ∷ entries) zero b found mine =
     elim (eqb_tells x.item.publisher p) as (λ w. IsIn b.item (placed_of p (x ∷ entries))) [
       | inl is ↦
           subst (λ t. IsIn b.item (with_first p x entries t)) (sym is.0)
           (inl (ap (λ (e : Entry). e.item) (sym (entry_at x b found))))
       | inr other ↦ absurd (other.1 (ap (λ (e : Entry). e.item.publisher) (entry_at x b found) ∙ mine))
     ]
-placed_in p (x ∷ entries) (suc i) b found mine =
-    let rest = placed_in p entries i b found mine in
+among_placed p (x ∷ entries) (suc i) b found mine =
+    let rest = among_placed p entries i b found mine in
     elim (eqb_tells x.item.publisher p) as (λ w. IsIn b.item (placed_of p (x ∷ entries))) [
       | inl is ↦ subst (λ t. IsIn b.item (with_first p x entries t)) (sym is.0) (inr rest)
       | inr other ↦ subst (λ t. IsIn b.item (with_first p x entries t)) (sym other.0) rest
@@ -316,12 +316,12 @@ sending_by (Some q) own item h here =
     let at = numbered_at 1 q.sent item h.1 (subst (IsIn item) h.0 here) in
     (q, refl, (at.0, omega (arith, at.1), at.2))
 
-pub is_sending : (mids : List World) (new : World) (i : ℕ) (entry : Entry) → Leads world_begun mids new
+pub sending_of_entry : (mids : List World) (new : World) (i : ℕ) (entry : Entry) → Leads world_begun mids new
     → slice_get new.sequence i ≡ Some entry → (sender : Sender)
     × (slice_get new.senders entry.item.publisher ≡ Some sender) × IsSending sender entry.item
-is_sending mids new i entry leads found =
+sending_of_entry mids new i entry leads found =
     let p = entry.item.publisher in
-    let placed = placed_in p new.sequence i entry found refl in
+    let placed = among_placed p new.sequence i entry found refl in
     let here : IsIn entry.item (own_of p (flow new)) =
     subst (IsIn entry.item) (sym (own_parts p new))
     (in_append (own_of p (items_of new.sequence)) (own_of p (sendings_waiting new)) entry.item placed) in

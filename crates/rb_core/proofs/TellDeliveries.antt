@@ -1,11 +1,6 @@
-<<<<<<< HEAD
--- What is told of deliveries: which are offered, and what is accepted of them.
+-- What is reported of deliveries: which are made, and what is accepted of them.
 use Rattle.std.proofs.Common.{◌≡◌, ℕ, suc, ◌+◌, ◌-◌, ◌<◌, ◌≤◌, inl, inr, false, List, [], ◌∷◌, ◌++◌, length, map}
 use Rattle.std.proofs.Common.{Option, Some, None}
-=======
--- What is reported of deliveries: which are made, and what is accepted of them.
-use Rattle.std.proofs.Common.{◌≡◌, ℕ, suc, ◌+◌, ◌-◌, ◌<◌, ◌≤◌, inl, inr, List, ◌++◌, length, map, Option, Some, None}
->>>>>>> passages
 use Rattle.std.proofs.Common.{Result, Ok, Err, refl, sym, ap, subst, ◌∙◌, arith}
 use Rattle.std.specs.Prelude.{⊤, slice_get, slice_set, ◌↔◌, ◌==◌}
 use Rattle.std.specs.List.{AllByRecursion}
@@ -41,7 +36,7 @@ use Rattle.rb_core.specs.Told.{told, delivery_told, entries_of, IsDelivered, Are
 use Rattle.rb_core.specs.World.{Subscriber, World, cursor, endpoint_of}
 use Rattle.rb_core.proofs.Moving.{all_set, all_get, all_map}
 use Rattle.rb_core.proofs.Gapless.{part_length}
-use Rattle.rb_core.proofs.Pairs.{map_set, set_same, all_find, found_in, found_passes, found_first, found_last}
+use Rattle.rb_core.proofs.Pairs.{map_set, set_same, all_find, found_in, find_passes, found_first, found_last}
 use Rattle.rb_core.proofs.Telling.{TellingGoes, nothing_told, move_told, all_unused, later_numbers, BeginsEmpty}
 use Rattle.rb_core.proofs.Telling.{changed_is, subscriber_of_end, subscriber_of_member, still_offered}
 use Rattle.rb_core.proofs.Telling.{telling_with_both, with_desk}
@@ -137,7 +132,7 @@ offered_tells schema old world delivery picture event is shown good h =
       offers = all_push (IsDelivered new.subscribers) old.deliveries delivery
           (still_offered world.subscribers delivery.sub q r old.deliveries at.1
           (λ d there. found_first (λ (x : Delivery). x.number == d.number) q.offers (delivery ∷ []) d there) h.offers)
-              here;
+          here;
       links = subst (λ n. AllByRecursion (λ (m : ℕ). m < n) world.links) (sym (ap (λ (o : Outline). o.next_link) kept))
           h.links;
       numbers = subst (λ n. AllByRecursion (AreBelow n) new.subscribers)
@@ -263,7 +258,7 @@ accepted_at_tells steps schema old world d delivery None found of offered number
     nothing_told schema world (event.Accept d) (reply.Refused refusal.NoDelivery) old refl h
 accepted_at_tells steps schema old world d delivery (Some end) found of offered number h =
     accepted_tells steps schema old world d delivery end (accept end old.sequence delivery) refl found of offered number
-        h
+    h
 
 accepted_as_tells : AcceptSteps → (schema : List Shape) (old : State) (world : World) (d : ℕ) (found : Option Delivery)
     → out.delivery_of old d ≡ found → IsWorld old → IsToldBy schema old world
@@ -276,7 +271,7 @@ accepted_as_tells steps schema old world d (Some delivery) found good h =
     let offered = all_find (IsDelivered world.subscribers) (λ (x : Delivery). x.number == d) old.deliveries delivery
     h.offers found in
     let number : delivery.number ≡ d = eqb-true delivery.number d
-    (found_passes (λ (x : Delivery). x.number == d) old.deliveries delivery found) in
+    (find_passes (λ (x : Delivery). x.number == d) old.deliveries delivery found) in
     accepted_at_tells steps schema old world d delivery (slice_get old.endpoints delivery.sub) refl of offered number h
 
 pub accept_tells : AcceptSteps → (schema : List Shape) (old : State) (world : World) (d : ℕ) → IsWorld old

@@ -201,14 +201,10 @@ items_of entries = map (λ entry. entry.item) entries
 abbrev pub own_of : ℕ → List Item → List Item
 own_of p items = filter (λ item. item.publisher == p) items
 
-<<<<<<< HEAD
 -- an item is a publisher's sending: what it sent under the item's own number, which counts from 1
 abbrev pub IsSending : Sender → Item → Type 0
 IsSending sender item = (n : ℕ) × (item.own ≡ suc n) × (slice_get sender.sent n ≡ Some item)
 
--- a list is the front of another
-=======
 -- a list is a prefix of another
->>>>>>> passages
 abbrev pub IsFront : {A : Type 0} → List A → List A → Type 0
 IsFront {A} front all = (rest : List A) × (front ++ rest ≡ all)

@@ -1,13 +1,7 @@
-<<<<<<< HEAD
--- What events and their answers tell: what was fed, staged, sent, placed, delivered and accepted,
--- without a look at the broker.
-use Rattle.std.specs.Prelude.{◌≡◌, ◌==◌, ℕ, suc, ◌-◌, ◌<◌, true, false, map, List, [], ◌∷◌, ◌++◌}
-use Rattle.std.specs.Prelude.{length}
-=======
 -- The world that events and replies report: what was fed, staged, sent, placed, delivered and
 -- accepted, without a look at the broker.
-use Rattle.std.specs.Prelude.{◌≡◌, ℕ, suc, ◌-◌, ◌<◌, true, false, map, List, [], ◌∷◌, ◌++◌, length}
->>>>>>> passages
+use Rattle.std.specs.Prelude.{◌≡◌, ◌==◌, ℕ, suc, ◌-◌, ◌<◌, true, false, map, List, [], ◌∷◌, ◌++◌}
+use Rattle.std.specs.Prelude.{length}
 use Rattle.std.specs.Prelude.{Option, Some, None, Result, Ok, Err, slice_get}
 use Rattle.std.specs.List.{AllByRecursion, find}
 use Rattle.cs_model.specs.declared.origin.Origin.TheVariants.{Sent}
@@ -133,11 +127,6 @@ subscribed schema old start link = record old {
 abbrev pub delivered : Delivery → Subscriber → Subscriber
 delivered delivery q = record q { offers = q.offers ++ delivery ∷ [] }
 
-<<<<<<< HEAD
-=======
--- the subscription has accepted up to this number: the entries after its cursor are applied to its
--- tables
->>>>>>> passages
 abbrev pub if_applied : tables.TableState → Result tables.TableState Conflict → tables.TableState
 if_applied old (Ok new) = new
 if_applied old (Err conflict) = old
@@ -230,11 +219,7 @@ pub record IsSender (publisher : Publisher) (sender : Sender) : Type 0 where
   pub staged : sender.staged ≡ publisher.staged
   pub sent : publisher.sent ≡ length sender.sent
 
-<<<<<<< HEAD
--- a delivery was delivered to its subscription, and no earlier one there has its number
-=======
--- the delivery was made to its subscription
->>>>>>> passages
+-- the delivery was made to its subscription, and no earlier one there has its number
 abbrev pub IsDelivered : List Subscriber → Delivery → Type 0
 IsDelivered subscribers delivery = (q : Subscriber) × (slice_get subscribers delivery.sub ≡ Some q)
     × (delivery_told delivery.number q ≡ Some delivery)

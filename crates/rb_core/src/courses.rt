@@ -33,16 +33,9 @@ pub fn nothing_after_close()
         × StaysClosed subscriber after }
 {}
 
-<<<<<<< HEAD
-/// Whatever happens from the beginning on, what stands in the sequence of one publisher is the
-/// front of what it sent, in that order; no two entries have the same publisher and the same own
-/// number, so that each sending is placed once; and each entry is a sending of a publisher that
-/// came.
-=======
 /// After any moves from the start, a publisher's entries in the sequence are a prefix of what it
 /// sent, in that order. No two entries have the same publisher and own number, so each sending is
-/// placed once.
->>>>>>> passages
+/// placed once. Each entry is a sending of a publisher that was added.
 pub fn sendings_come_once_in_order()
     ensures order { (mids : List World) (new : World) (p : ℕ) (sender : Sender)
         → Leads world_begun mids new → slice_get new.senders p ≡ Some sender

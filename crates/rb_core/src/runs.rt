@@ -51,15 +51,11 @@ pub fn run(
     ensures once { IfOk result (λ r. (i j : ℕ) (a b : Entry) → slice_get r.0.sequence i ≡ Some a
         → slice_get r.0.sequence j ≡ Some b → a.item.publisher ≡ b.item.publisher
         → a.item.own ≡ b.item.own → i ≡ j) }
-<<<<<<< HEAD
-    // Each entry is what a publisher that came sent under the entry's own number.
+    // Each entry is what an added publisher sent under the entry's own number.
     ensures sent { IfOk result (λ r. (i : ℕ) (entry : Entry) → slice_get r.0.sequence i ≡ Some entry
         → (sender : Sender) × (slice_get (world_told schema events.now r.1.items).senders
         entry.item.publisher ≡ Some sender) × IsSending sender entry.item) }
-    // Once the first n events have closed the sequence, it stays closed and nothing is placed.
-=======
     // If the first n events close the sequence, it stays closed and nothing more is placed.
->>>>>>> passages
     ensures closed { IfOk result (λ r. (n last : ℕ)
         → (world_told schema (take n events.now) (take n r.1.items)).closing ≡ Some last
         → (r.0.desk.closing ≡ Some last)

@@ -92,11 +92,7 @@ abbrev pub RisesAbove : ℕ → List ℕ → Type 0
 RisesAbove low [] = ⊤
 RisesAbove low (n ∷ rest) = (low ≤ n) × RisesAbove (suc n) rest
 
-<<<<<<< HEAD
--- each subscription is still there, with a floor as high as before, or higher
-=======
--- no subscription's floor falls
->>>>>>> passages
+-- each subscription is still there, and its floor doesn't fall
 abbrev pub FloorsRise : Picture → Picture → Type 0
 FloorsRise old new = (i : ℕ) (a : Subscription) → slice_get old.subscriptions i ≡ Some a
     → (b : Subscription) × (slice_get new.subscriptions i ≡ Some b) × (a.floor ≤ b.floor)

@@ -34,11 +34,7 @@ pub fn numbers_are_given_once()
         → RisesAbove 1 (numbers_given (empty_picture limits) steps) }
 {}
 
-<<<<<<< HEAD
-/// The front never falls, no subscription goes, and no floor falls, whatever calls come.
-=======
-/// No call lowers the front, nor the floor of a subscription.
->>>>>>> passages
+/// No call lowers the front, removes a subscription, or lowers a subscription's floor.
 pub fn front_and_floors_rise()
     ensures front { (old : Picture) (steps : List Step) → old.front ≤ (replayed old steps).front }
     ensures floors { (old : Picture) (steps : List Step)

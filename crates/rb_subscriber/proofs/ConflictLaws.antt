@@ -46,11 +46,11 @@ joined_conflicts goes old (entry ∷ entries) conflict e =
 -- ---- the call
 
 -- what another refusal isn't goes on
-goes_past : (b : Bool) (why : AcceptRefusal) (rest : Result Endpoint AcceptRefusal) (conflict : Conflict)
+conflict_goes_past : (b : Bool) (why : AcceptRefusal) (rest : Result Endpoint AcceptRefusal) (conflict : Conflict)
     → (why ≡ refusal.Conflict conflict → ⊥) → cond b (Err why) rest ≡ Err (refusal.Conflict conflict)
     → rest ≡ Err (refusal.Conflict conflict)
-goes_past true why rest conflict other e = absurd (other cc)
-goes_past false why rest conflict other e = e
+conflict_goes_past true why rest conflict other e = absurd (other cc)
+conflict_goes_past false why rest conflict other e = e
 
 applied_conflicts : (old : Endpoint) (last : ℕ) (r : Result tables.TableState Conflict) (conflict : Conflict)
     → applied old last r ≡ Err (refusal.Conflict conflict) → (found : Conflict) × (r ≡ Err found)
@@ -70,10 +70,11 @@ accept_conflicts : (old : Endpoint) (sequence : List Entry) (delivery : Delivery
 unfolding accept
 accept_conflicts old sequence delivery conflict e =
     let entries = brought old sequence delivery in
-    let closed = goes_past old.closed refusal.Closed _ conflict (λ same. absurd cc) e in
-    let link = goes_past (not (delivery.link == old.link)) refusal.StaleLink _ conflict (λ same. absurd cc) closed in
-    let seen = goes_past (nat_le delivery.last old.cursor) refusal.Seen _ conflict (λ same. absurd cc) link in
-    let gap = goes_past (not (delivery.first == suc old.cursor)) (refusal.Gap (suc old.cursor))
+    let closed = conflict_goes_past old.closed refusal.Closed _ conflict (λ same. absurd cc) e in
+    let link = conflict_goes_past (not (delivery.link == old.link)) refusal.StaleLink _ conflict (λ same. absurd cc)
+        closed in
+    let seen = conflict_goes_past (nat_le delivery.last old.cursor) refusal.Seen _ conflict (λ same. absurd cc) link in
+    let gap = conflict_goes_past (not (delivery.first == suc old.cursor)) (refusal.Gap (suc old.cursor))
     (applied_if_admitted old delivery.last entries (first_outside_entry old.tables.schema entries)) conflict
     (λ same. absurd cc) seen in
     admitted_conflicts old delivery.last entries (first_outside_entry old.tables.schema entries) conflict gap

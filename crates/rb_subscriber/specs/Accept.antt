@@ -1,11 +1,6 @@
-<<<<<<< HEAD
--- What accepting a delivery answers, and what it leaves.
+-- What accepting a delivery returns, and what it changes.
 use Rattle.std.specs.Prelude.{◌≡◌, ◌⊎◌, ℕ, suc, ◌-◌, ◌≤◌, Bool, false, not, List, [], ◌∷◌, take}
 use Rattle.std.specs.Prelude.{drop}
-=======
--- What accepting a delivery returns, and what it changes.
-use Rattle.std.specs.Prelude.{◌≡◌, ℕ, suc, ◌-◌, ◌≤◌, Bool, false, not, List, [], ◌∷◌, take, drop}
->>>>>>> passages
 use Rattle.std.specs.Prelude.{Option, Some, None, Result, Ok, Err, ◌==◌, nat_le, if◌then◌else◌}
 use Rattle.std.specs.List.{flat_map, AllByRecursion}
 use Rattle.cs_model.specs.declared.shape.Shape.{Shape}
@@ -127,4 +122,4 @@ ConflictsSingly old [] = ⊥
 ConflictsSingly old (entry ∷ entries) =
     ((conflict : Conflict) × (single old entry.item.body ≡ Err conflict))
     ⊎ ((mid : tables.TableState) × (single old entry.item.body ≡ Ok mid)
-        × ConflictsSingly mid entries)
+    × ConflictsSingly mid entries)

@@ -1,4 +1,4 @@
-use Rattle.rb_core.proofs.Sendings.{in_order, once, is_sending}
+use Rattle.rb_core.proofs.Sendings.{in_order, once, sending_of_entry}
 use Rattle.rb_core.proofs.courses.sendings_come_once_in_order.Goals as goal
 
 pub returns-clause-order : goal.returns-clause-order
@@ -8,4 +8,4 @@ pub returns-clause-once : goal.returns-clause-once
 returns-clause-once c = λ mids new i j a b. once mids new i j a b
 
 pub returns-clause-sent : goal.returns-clause-sent
-returns-clause-sent c = λ mids new i entry. is_sending mids new i entry
+returns-clause-sent c = λ mids new i entry. sending_of_entry mids new i entry
