@@ -1,5 +1,5 @@
 -- The result of `PieceParser::end`: the changeset, if a schema admits it.
-use Rattle.std.specs.Prelude.{◌≡◌, ℕ, List, Option, Some, None, Result, Ok, Err}
+use Rattle.std.specs.Prelude.{List, Option, Some, None, Result, Ok, Err}
 use Rattle.cs_model.specs.Section.{Section}
 use Rattle.cs_model.specs.declared.shape.Shape.{Shape}
 use Rattle.cs_model.specs.declared.schema.SectionFault.{SectionFault}

@@ -16,7 +16,7 @@ use Rattle.rb_desk.specs.Orders.{order, ready_at, out_at}
 use Rattle.rb_desk.specs.Limits.{Limits}
 use Rattle.rb_desk.specs.Answers.{DeskAnswers}
 use Rattle.rb_desk.specs.Calls.{delivery_from, delivered_picture, nacked_picture, settled_span, without_span}
-use Rattle.rb_desk.specs.Shown.{sub_held, shown_sub, shown, Belongs, delivered_sub, DeliveredTo, WhenDelivered}
+use Rattle.rb_desk.specs.Shown.{sub_held, shown_sub, shown, Belongs, delivered_sub, WhenDelivered}
 use Rattle.rb_desk.specs.Shown.{returned_sub, settled_sub, IsHeld, IsDeliverable}
 use Rattle.rb_desk.proofs.orders.Line.{all_then}
 use Rattle.rb_desk.proofs.orders.OrderLaws.{tagged_ready, tagged_out, order_same, order_without, order_with}

@@ -1,4 +1,4 @@
-use Rattle.std.proofs.Common.{◌≡◌, ◌∙◌, max, Some, Err, ap, sym, refl, slice_get, slice_set}
+use Rattle.std.proofs.Common.{◌≡◌, ◌∙◌, max, Err, ap, refl, slice_set}
 use Rattle.std.proofs.lemmas.Result.{err_from_is_err_and}
 use Rattle.std.proofs.lemmas.Option.{get_or_from_slice_get}
 use Rattle.std.proofs.lemmas.List.{set-get_or}

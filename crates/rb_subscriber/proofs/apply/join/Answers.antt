@@ -1,4 +1,4 @@
-use Rattle.std.proofs.Common.{◌≡◌, ◌++◌, ◌+◌, drop, ap, ◌∙◌, subst, sym}
+use Rattle.std.proofs.Common.{◌++◌, ◌+◌, drop, ap, ◌∙◌}
 use Rattle.rb_subscriber.specs.Accept.{joined_bodies}
 use Rattle.rb_subscriber.proofs.ApplyLaws.{at_front, joins_more, joins_all}
 use Rattle.rb_subscriber.proofs.apply.join.Goals as goal

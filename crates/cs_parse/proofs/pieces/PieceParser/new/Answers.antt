@@ -1,4 +1,4 @@
-use Rattle.std.proofs.Common.{◌≡◌, ℕ, List, ap}
+use Rattle.std.proofs.Common.{ℕ, List, ap}
 use Rattle.cs_model.specs.Section.{Section}
 use Rattle.cs_parse.proofs.joining.FeedLaws.{new_took}
 use Rattle.cs_parse.proofs.pieces.PieceParser.new.Goals as goal

@@ -1,12 +1,9 @@
 use Rattle.std.proofs.Common.{◌≡◌, ◌∙◌, ◌<◌, suc, length, Some, Err, ap, sym, refl, arith, slice_get}
-use Rattle.std.proofs.lemmas.Result.{err_from_is_err_and}
-use Rattle.std.proofs.lemmas.Option.{get_or_from_slice_get, slice_get_within}
-use Rattle.std.proofs.lemmas.List.{set-get_or}
+use Rattle.std.proofs.lemmas.Option.{slice_get_within}
 use Rattle.rb_desk.specs.Spans.{first_ready}
 use Rattle.rb_desk.specs.Lanes.{lane_spans}
-use Rattle.rb_desk.specs.Calls.{delivered_picture, delivery_from}
-use Rattle.rb_desk.specs.Shown.{Belongs, shown, shown_sub, delivered_sub, why_none}
-use Rattle.rb_desk.proofs.calls.CallLaws.{take_full, taken, nothing_taken, ok_call, memory_answers}
+use Rattle.rb_desk.specs.Shown.{Belongs, shown, why_none}
+use Rattle.rb_desk.proofs.calls.CallLaws.{take_full, taken, nothing_taken}
 use Rattle.rb_desk.proofs.calls.KnownLaws.{all_get}
 use Rattle.rb_desk.proofs.spans.FoundLaws.{may_go_first}
 use Rattle.rb_desk.proofs.spans.LaneChanges.{may_go_span}

@@ -1,11 +1,7 @@
-use Rattle.std.proofs.Common.{◌≡◌, ◌∙◌, ◌<◌, suc, length, Some, None, Err, sym, refl, subst, arith, List, option_map}
-use Rattle.std.proofs.lemmas.Result.{err_from_is_err_and}
-use Rattle.std.proofs.lemmas.Option.{get_or_from_slice_get, slice_get_within}
-use Rattle.std.proofs.lemmas.List.{set-get_or}
+use Rattle.std.proofs.Common.{◌≡◌, ◌∙◌, ◌<◌, suc, length, Some, None, sym, refl, subst, arith, List, option_map}
+use Rattle.std.proofs.lemmas.Option.{slice_get_within}
 use Rattle.rb_desk.specs.declared.sub.Sub.{Sub}
-use Rattle.rb_desk.specs.Calls.{delivered_picture, delivery_from}
-use Rattle.rb_desk.specs.Shown.{Belongs, IsJoinedAt, first_to_deliver, span_to_deliver, shown, shown_sub, delivered_sub}
-use Rattle.rb_desk.proofs.calls.CallLaws.{ok_call, memory_answers}
+use Rattle.rb_desk.specs.Shown.{Belongs, IsJoinedAt, first_to_deliver, span_to_deliver}
 use Rattle.rb_desk.proofs.calls.KnownLaws.{all_get}
 use Rattle.rb_desk.proofs.spans.LaneChanges.{may_go_span}
 use Rattle.rb_desk.proofs.calls.HandLaws.{delivered_belongs, delivered_answers}
