@@ -6,8 +6,9 @@
  * Ownership: the caller owns every buffer before, during and after a call. changeset_check does not allocate.
  * changeset_canonical allocates with malloc and realloc, and frees all of it before it returns.
  *
- * The caller must ensure all of this, and nothing checks it:
- * - No pointer is NULL, even if its length is 0; any other address serves then. `len` and `room` are below 2^63.
+ * The caller must ensure all of this, and no call checks it:
+ * - No pointer is NULL, even if its length is 0; any other address serves then. So (NULL, 0) is not a way to ask for a
+ *   length: pass any buffer and a room of 0. `len` and `room` are below 2^63.
  * - `text` has `len` bytes that nobody changes during the call.
  * - `out` has `room` bytes that nobody else reads or changes during the call. It does not overlap `text`.
  * - `fault_at` and `fault_kind` are separate places, aligned, and outside `text`.
@@ -18,6 +19,26 @@
 
 #include <stddef.h>
 #include <stdint.h>
+
+/* A compiler that knows these attributes warns of a result that isn't used, and of NULL. */
+#if defined(__GNUC__) || defined(__clang__)
+#define CHANGESET_CALL __attribute__((warn_unused_result, nonnull))
+#else
+#define CHANGESET_CALL
+#endif
+
+/* The outputs of a call overlap nothing else that it is given. */
+#if defined(__cplusplus)
+#if defined(__GNUC__) || defined(__clang__)
+#define CHANGESET_ALONE __restrict__
+#else
+#define CHANGESET_ALONE
+#endif
+#elif defined(__STDC_VERSION__) && __STDC_VERSION__ >= 199901L
+#define CHANGESET_ALONE restrict
+#else
+#define CHANGESET_ALONE
+#endif
 
 #ifdef __cplusplus
 extern "C" {
@@ -71,17 +92,27 @@ enum changeset_fault_kind {
  *   as numbered in the enum above.
  * It does not allocate, so there are no other results. Unless it returns CHANGESET_NONE, it does not change `*fault_at`
  * and `*fault_kind`. */
-int64_t changeset_check(const unsigned char *text, size_t len, size_t *fault_at, uint32_t *fault_kind);
+CHANGESET_CALL int64_t changeset_check(const unsigned char *CHANGESET_ALONE text, size_t len,
+                                       size_t *CHANGESET_ALONE fault_at, uint32_t *CHANGESET_ALONE fault_kind);
 
 /* Writes the canonical text of the changeset that a text of `len` bytes spells: one section for each
  * table's shape, none without a change, shortest lengths, and indirect bytes of 0 or 1. Returns one of these:
- * - 0 or more: the length of the canonical text. If `room` is at least that, the canonical text is at the start of
- *   `out`, and the bytes after it do not change. If `room` is less, `out` does not change. So a first call with a room
- *   of 0 returns the room needed.
+ * - 0 or more: the length of the canonical text. It is written only if this result is at most `room`: then it is at the
+ *   start of `out`, and the bytes after it do not change. Else `out` does not change. 0 is the result for a changeset
+ *   without changes, whose canonical text is empty.
  * - CHANGESET_NONE: the text spells no changeset. `changeset_check` reports why.
  * - CHANGESET_NO_MEMORY: the text spells a changeset, and memory ran out.
- * Unless it returns 0 or more, it does not change `out`. */
-int64_t changeset_canonical(const unsigned char *text, size_t len, unsigned char *out, size_t room);
+ * Unless it returns 0 or more, it does not change `out`.
+ *
+ * The room needed is not known before the first call, so there are two:
+ *     unsigned char none;
+ *     int64_t need = changeset_canonical(text, len, &none, 0);
+ *     if (need < 0) return need;
+ *     unsigned char *out = malloc(need ? (size_t)need : 1);
+ *     if (!out || changeset_canonical(text, len, out, (size_t)need) < 0) ... memory ran out
+ */
+CHANGESET_CALL int64_t changeset_canonical(const unsigned char *CHANGESET_ALONE text, size_t len,
+                                           unsigned char *CHANGESET_ALONE out, size_t room);
 
 #ifdef __cplusplus
 }

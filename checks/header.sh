@@ -1,0 +1,46 @@
+#!/bin/sh
+# Checks include/changeset.h: it compiles without a warning as C and as C++, compilers warn of a result that isn't used
+# and of NULL, and both exports do what it says. It prints a line for each, and ends with status 1 where one fails.
+#   sh checks/header.sh        needs gcc, g++ and what `rt lib` leaves (docs/C.md)
+# RT names the prover's command where it isn't `rt`.
+cd "$(dirname "$0")/.." || exit 2
+: "${RT:=rt}"
+library=crates/changeset_c/out/libchangeset_c.a
+[ -e $library ] || { echo "no $library: see docs/C.md" >&2; exit 2; }
+heap="$(dirname "$($RT doc)")/c/liblibc_c.a"
+work=$(mktemp -d) || exit 2
+trap 'rm -rf "$work"' EXIT
+bad=0
+
+# says NAME COMMAND..: prints a check's line
+says() {
+    name=$1
+    shift
+    if "$@"; then echo "ok $name"; else echo "FAILED $name"; bad=1; fi
+}
+
+# warns COMMAND..: the compiler refuses a file for a warning
+warns() {
+    ! "$@" 2>"$work/why" && grep -q 'Werror' "$work/why"
+}
+
+strict='-Wall -Wextra -pedantic -Werror -I include'
+for standard in c99 c11 c17; do
+    says "$standard" gcc -std=$standard $strict checks/header.c $library "$heap" -o "$work/c"
+done
+for standard in c++11 c++17; do
+    says "$standard" g++ -std=$standard $strict -x c++ checks/header.c -x none $library "$heap" -o "$work/cpp"
+done
+cat >"$work/unused.c" <<'E'
+#include "changeset.h"
+void f(const unsigned char *text, size_t len, size_t *at, uint32_t *kind) { changeset_check(text, len, at, kind); }
+E
+cat >"$work/null.c" <<'E'
+#include "changeset.h"
+int64_t f(const unsigned char *text, size_t len) { return changeset_canonical(text, len, 0, 0); }
+E
+says 'a result that is not used gets a warning' warns gcc -std=c99 $strict -c "$work/unused.c" -o "$work/o"
+says 'NULL gets a warning' warns gcc -std=c99 $strict -c "$work/null.c" -o "$work/o"
+says 'both exports, from C' "$work/c"
+says 'both exports, from C++' "$work/cpp"
+exit $bad
