@@ -72,7 +72,7 @@ accept_conflicts old sequence delivery conflict e =
     let entries = brought old sequence delivery in
     let closed = conflict_goes_past old.closed refusal.Closed _ conflict (λ same. absurd cc) e in
     let link = conflict_goes_past (not (delivery.link == old.link)) refusal.StaleLink _ conflict (λ same. absurd cc)
-        closed in
+    closed in
     let seen = conflict_goes_past (nat_le delivery.last old.cursor) refusal.Seen _ conflict (λ same. absurd cc) link in
     let gap = conflict_goes_past (not (delivery.first == suc old.cursor)) (refusal.Gap (suc old.cursor))
     (applied_if_admitted old delivery.last entries (first_outside_entry old.tables.schema entries)) conflict
