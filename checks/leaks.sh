@@ -55,6 +55,7 @@ nothing_kept() {
         print "table 540201007400\npublisher\nsubscribe 0"
         for (i = 1; i <= rounds; i++) {
             print "feed 0 540201007400120001000000000000000103017812\nend 0\nreset 0\nfeed 0 02\nfeed 0 54\nend 0\nreset 0"
+            print "feed 0 540201007400120001000000000000000103017812ff\nfeed 0 00\nend 0\nreset 0"
             print "feed 0 5401017500\nend 0\nreset 0\nsend 0\nturn\ntake 0 0\naccept 1\nentry 1\nrows 0\nrows 1\ntable 54\n-"
         }
     }'

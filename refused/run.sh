@@ -17,7 +17,11 @@ judge() {
 }
 
 for script in examples/first.script refused/changes.script; do
-    "$program" script <"$script" >"$work/all"
+    if ! "$program" script <"$script" >"$work/all" || [ ! -s "$work/all" ]; then
+        echo "$script: fails where nothing is refused"
+        bad=$((bad + 1))
+        continue
+    fi
     in_turn "$script" judge "$script" "$program" script
 done
 [ $bad -eq 0 ]

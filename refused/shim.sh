@@ -11,6 +11,11 @@ in_turn() {
     label=$1 judge=$2 input=$3
     shift 3
     count=$(REFUSE_TELL=1 LD_PRELOAD="$work/refuse.so" "$@" <"$input" 2>&1 >/dev/null | sed -n 's/^asked //p')
+    if [ "${count:-0}" -eq 0 ]; then
+        echo "$label: no allocation was seen, so none is refused"
+        bad=$((bad + 1))
+        return
+    fi
     passed=0 told=0 at=1
     while [ "$at" -le "$count" ]; do
         REFUSE_AT=$at LD_PRELOAD="$work/refuse.so" "$@" <"$input" >"$work/out" 2>"$work/err"

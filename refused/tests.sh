@@ -1,7 +1,11 @@
 #!/bin/sh
-# Refuses each allocation of each test in turn. A test must then pass, or end with an error of its own (want of memory,
+# Refuses each allocation of each test in turn. A test must then pass, or end with an error of its own (out of memory,
 # handed up), and never with a failed assertion or a signal: its assertions say that what was refused is as before.
 #   sh refused/tests.sh CRATE..        needs gcc, and the test programs as `rt test` leaves them in crates/CRATE/out
+if [ $# -eq 0 ]; then
+    echo "usage: sh refused/tests.sh CRATE.." >&2
+    exit 2
+fi
 . "$(dirname "$0")/shim.sh"
 
 judge() {
@@ -15,7 +19,12 @@ judge() {
 for crate in "$@"; do
     program=crates/$crate/out/${crate}_tests
     [ -x "$program" ] || { echo "no program at $program: run rt test in crates/$crate" >&2; exit 2; }
-    for test in $("$program" --list | sed -n 's/: test$//p'); do
+    tests=$("$program" --list | sed -n 's/: test$//p')
+    if [ -z "$tests" ]; then
+        echo "$crate: no tests"
+        bad=$((bad + 1))
+    fi
+    for test in $tests; do
         in_turn "$crate $test" judge /dev/null "$program" "$test"
     done
 done
