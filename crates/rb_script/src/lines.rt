@@ -179,21 +179,23 @@ fn header(alloc: Global, bytes: &[u8]) -> Result<Option<Shape>, AllocError>
     ensures { IfOk result (λ shape. shape ≡ header_of_answer (answer_of bytes.now)) }
 {
     match parse(alloc, bytes) {
-        Ok(changeset) => header_of(alloc, &changeset),
+        Ok(changeset) => Ok(header_of(changeset)),
         Err(ParseError::Fault(_)) => Ok(None),
         Err(ParseError::Memory) => Err(AllocError),
     }
 }
 
-fn header_of(alloc: Global, changeset: &Changeset) -> Result<Option<Shape>, AllocError>
-    ensures { IfOk result (λ shape. shape ≡ header_of_sections changeset.now) }
+fn header_of(changeset: Changeset) -> Option<Shape>
+    ensures { result ≡ header_of_sections changeset }
 {
-    let mut sections = changeset.iter();
-    let Some(section) = sections.next() else {
-        return Ok(None);
-    };
-    if !section.is_empty() || sections.next().is_some() {
-        return Ok(None);
+    let mut sections = changeset.into_seq().into_vec();
+    if sections.len() != 1 {
+        return None;
     }
-    Ok(Some(section.shape().copy_in(alloc)?))
+    let (shape, changes) = sections.pop()?.into_parts();
+    if changes.is_empty() {
+        Some(shape)
+    } else {
+        None
+    }
 }
