@@ -87,6 +87,7 @@ refused 'a word too many' script nonsense
 refused 'a word that is no UTF-8' "$(printf '\377')"
 refused 'an option twice' script --batch 1 --batch 2
 refused 'an option without a number' script --batch
+refused 'a number with a sign' script --window -1
 
 # An option whose word is no number in its range is told before the input is read, which would fail here.
 while read -r option word most; do
@@ -99,7 +100,6 @@ done <<END
 batch 0 256
 batch 257 256
 window 65 64
-window -1 64
 timeout 1000000001 1000000000
 capacity 1048577 1048576
 intake 4097 4096

@@ -124,7 +124,7 @@ int_is a b h = (Decides-int_eq a b).0 h
 int_itself : (a : ℤ) → int_eq a a ≡ true
 int_itself a = (Decides-int_eq a a).1 refl
 
-value_is : (a b : Value) → same_value a b ≡ true → a ≡ b
+pub value_is : (a b : Value) → same_value a b ≡ true → a ≡ b
 value_is (Integer a) (Integer b) h = ap (λ (n : ℤ). Integer n) (int_is a b h)
 value_is (Integer a) (Text b) h = absurd (false≢true h)
 value_is (Integer a) (Blob b) h = absurd (false≢true h)

@@ -50,7 +50,7 @@ pub get_row : (es : Entries) (q : RowKey) → IsDistinct same_key (keys_of es) �
     ≡ row_in (lookup (same_key q) es)
 get_row es q distinct = get_key (filled es) q ∙ find_filled es q distinct
 
-get_put : (rows : Rows) (k q : RowKey) (row : Option (List Value)) → map.get (put rows k row) q
+pub get_put : (rows : Rows) (k q : RowKey) (row : Option (List Value)) → map.get (put rows k row) q
     ≡ cond (same_key q k) row (map.get rows q)
 get_put rows k q None = map.get-remove keys_total rows k q ∙ ap (λ b. cond b None (map.get rows q)) (tied q k)
 get_put rows k q (Some row) = map.get-insert keys_total rows k row q

@@ -10,7 +10,7 @@ use Rattle.cs_apply.specs.OneByOne.{AppliesBoth}
 use Rattle.cs_apply.specs.Single.{changes_of, effect_at, next_or_conflict, single_from, with_rows, single}
 use Rattle.cs_apply.specs.State.{Rows, TableState, compatible}
 
-abbrev OneByOneNamed : Type 0
+abbrev pub OneByOneNamed : Type 0
 OneByOneNamed = Shape × Change
 
 abbrev From : Type 0
@@ -22,14 +22,14 @@ effect_found : (rest : ℕ → Rows → Result Rows Conflict) (at : ℕ) (effect
 effect_found rest at (Ok mid) new e = (mid, refl, e)
 effect_found rest at (Err kind) new e = absurd cc
 
-abbrev effect_of : List Shape → List Bool → OneByOneNamed → Rows → Result Rows ConflictKind
+abbrev pub effect_of : List Shape → List Bool → OneByOneNamed → Rows → Result Rows ConflictKind
 effect_of schema kept x rows = effect_at (compatible schema kept x.0) rows x.0 x.1
 
 abbrev after : List Shape → List Bool → List OneByOneNamed → ℕ → Rows → Result Rows Conflict
 after schema kept changes next rows = single_from schema kept changes next rows
 
 -- one change more in front
-front_applies : (schema : List Shape) (kept : List Bool) (x : OneByOneNamed) (changes : List OneByOneNamed) (at : ℕ)
+pub front_applies : (schema : List Shape) (kept : List Bool) (x : OneByOneNamed) (changes : List OneByOneNamed) (at : ℕ)
     (rows mid new : Rows) → effect_of schema kept x rows ≡ Ok mid → single_from schema kept changes (suc at) mid
     ≡ Ok new
     → single_from schema kept (x ∷ changes) at rows ≡ Ok new
@@ -37,14 +37,14 @@ unfolding single_from
 front_applies schema kept x changes at rows mid new effect rest =
     ap (next_or_conflict (after schema kept changes) at) effect ∙ rest
 
-front_found : (schema : List Shape) (kept : List Bool) (x : OneByOneNamed) (changes : List OneByOneNamed) (at : ℕ)
+pub front_found : (schema : List Shape) (kept : List Bool) (x : OneByOneNamed) (changes : List OneByOneNamed) (at : ℕ)
     (rows new : Rows) → single_from schema kept (x ∷ changes) at rows ≡ Ok new
     → (mid : Rows) × (effect_of schema kept x rows ≡ Ok mid) × (single_from schema kept changes (suc at) mid ≡ Ok new)
 unfolding single_from
 front_found schema kept x changes at rows new e =
     effect_found (after schema kept changes) at (effect_of schema kept x rows) new e
 
-one_by_one_none_left : (schema : List Shape) (kept : List Bool) (at : ℕ) (rows : Rows)
+pub one_by_one_none_left : (schema : List Shape) (kept : List Bool) (at : ℕ) (rows : Rows)
     → single_from schema kept [] at rows ≡ Ok rows
 unfolding single_from
 one_by_one_none_left schema kept at rows = refl
@@ -93,10 +93,10 @@ changes_of_both [] more = refl
 changes_of_both (section ∷ some) more = ap (λ xs. named_one_by_one section ++ xs) (changes_of_both some more)
     ∙ sym (append_assoc (named_one_by_one section) (changes_of some) (changes_of more))
 
-abbrev with : TableState → Rows → TableState
+abbrev pub with : TableState → Rows → TableState
 with tables rows = record tables { rows = rows }
 
-rows_found : (tables : TableState) (r : Result Rows Conflict) (new : TableState) → with_rows tables r ≡ Ok new
+pub rows_found : (tables : TableState) (r : Result Rows Conflict) (new : TableState) → with_rows tables r ≡ Ok new
     → (rows : Rows) × (r ≡ Ok rows) × (with tables rows ≡ new)
 rows_found tables (Ok rows) new e = (rows, refl, cc e)
 rows_found tables (Err conflict) new e = absurd cc

@@ -1,6 +1,6 @@
 -- The shapes, changes and changesets that are valid.
 use Rattle.std.specs.Prelude.{◌≡◌, ℕ, ◌<◌, ◌≤◌, true, List, [], ◌∷◌, length, map, nat_lt}
-use Rattle.std.specs.Prelude.{FitsSigned}
+use Rattle.std.specs.Prelude.{FitsSigned, Option, Some, None}
 use Rattle.std.specs.List.{list_any, list_all, flat_map, AllByRecursion}
 use Rattle.std.specs.Int.{w64}
 use Rattle.cs_model.specs.declared.value.Value.{Value}
@@ -67,3 +67,13 @@ IsChangeset sections = AllByRecursion IsSection sections
 -- the changes of all sections, in order
 abbrev pub all_changes : List Section → List Change
 all_changes sections = flat_map (λ section. section.changes) sections
+
+-- the shape of the only section, if there is one section and it has no changes
+abbrev pub header_alone : Shape → List Change → List Section → Option Shape
+header_alone shape [] [] = Some shape
+header_alone shape [] (section ∷ sections) = None
+header_alone shape (change ∷ changes) sections = None
+
+abbrev pub only_header : List Section → Option Shape
+only_header [] = None
+only_header (section ∷ rest) = header_alone section.shape section.changes rest

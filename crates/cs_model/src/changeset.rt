@@ -1,12 +1,13 @@
 //! A whole changeset: a list of sections, each with the changes of one table.
 
 ghost use Rattle.std.specs.Prelude.{◌≡◌, ◌++◌, ◌==◌, [], OnOk, OnErr, length};
-ghost use Rattle.cs_model.specs.Changeset.{IsChangeset};
+ghost use Rattle.cs_model.specs.Changeset.{IsChangeset, only_header};
 
 use crate::copy::CopyIn;
 use crate::section::Section;
 use crate::section_ref::SectionRefs;
 use crate::seq::Seq;
+use crate::shape::Shape;
 use std::alloc::{AllocError, Global};
 use std::marker::Model;
 
@@ -94,6 +95,23 @@ impl Changeset {
     {
         let Changeset { sections } = self;
         sections
+    }
+
+    /// The shape of its only section, if it has one section and that has no changes, without a
+    /// copy.
+    pub fn into_header(self) -> Option<Shape>
+        ensures { result ≡ only_header self }
+    {
+        let mut sections = self.into_seq().into_vec();
+        if sections.len() != 1 {
+            return None;
+        }
+        let (shape, changes) = sections.pop()?.into_parts();
+        if changes.is_empty() {
+            Some(shape)
+        } else {
+            None
+        }
     }
 }
 

@@ -12,3 +12,4 @@ pub mod SpotLaws
 pub mod LackLaws
 pub mod StayLaws
 pub mod WaitLaws
+pub mod RestLaws

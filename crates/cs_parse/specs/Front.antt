@@ -119,6 +119,13 @@ fault_by taken None = None
 fault_by taken (Some Short) = None
 fault_by taken (Some (Bad left kind)) = Some (record { at = taken - left; kind = kind })
 
+-- All that is complete after these sections is read, and none of the bytes is wrong: reading on
+-- changes nothing.
+pub record IsReadOut (sections : List Section) (bytes : List ℕ) : Type 0 where
+  pub same : (read_on sections bytes).sections ≡ sections
+  pub rest : (read_on sections bytes).rest ≡ bytes
+  pub no_fault : (taken : ℕ) → fault_by taken (read_on sections bytes).why ≡ None
+
 -- What the bytes after sections give, if none of them is wrong. `taken` is the number of bytes of
 -- the text up to their end. The first `len` bytes are changes of the last section, `more` are the
 -- sections after it, and `rest` remains.

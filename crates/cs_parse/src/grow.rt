@@ -13,6 +13,7 @@ use crate::change::{is_over, whole_changes};
 use crate::fault::{ParseError, ParseFault};
 use crate::growing::Growing;
 use crate::header_spot::header_short;
+use crate::respell::WholeChanges;
 use crate::section::whole_sections;
 use crate::spot::{Spot, still_short};
 use crate::stop::ParseRefusal;
@@ -91,18 +92,18 @@ pub fn still_waits(sections: &[Section], bytes: &[u8], spot: &mut Spot) -> (usiz
     (still_short(&section.shape().flags, bytes, spot), false)
 }
 
-// Reads the pending bytes without changing the sections. Returns the length and number of the last
-// section's changes, whether they are canonical, the sections after them, and the remaining bytes.
-// The result is the same after all sections whose last table is this one.
+// Reads the pending bytes without changing the sections. Returns the last section's changes, the
+// sections after them, and the remaining bytes. The result is the same after all sections whose
+// last table is this one.
 fn brought<'a>(
     alloc: Global,
     sections: &[Section],
     bytes: &'a [u8],
     taken: usize,
-) -> Result<(usize, usize, bool, Vec<Section>, &'a [u8]), ParseError>
+) -> Result<(WholeChanges, Vec<Section>, &'a [u8]), ParseError>
     ensures ok { IfOk result (λ x. (others : List Section) → last_flags others
-        ≡ last_flags sections.now
-        → Brings taken x.0 x.1 x.2 x.3.items x.4.now others bytes.now) }
+        ≡ last_flags sections.now → Brings taken x.0.len x.0.count x.0.canonical x.1.items x.2.now
+        others bytes.now) }
     ensures err { IfErr result (λ error. (others : List Section)
         → last_flags others ≡ last_flags sections.now → IsBroken error taken others bytes.now) }
 {
@@ -113,8 +114,12 @@ fn brought<'a>(
     if let Some(fault) = wrong_in(taken, why) {
         return Err(ParseError::Fault(fault));
     }
-    let len = bytes.len() - behind.len();
-    Ok((len, count, canonical, more, rest))
+    let whole = WholeChanges {
+        len: bytes.len() - behind.len(),
+        count,
+        canonical,
+    };
+    Ok((whole, more, rest))
 }
 
 /// Reads the pending bytes as far as they are complete, and adds what they encode to the sections.
@@ -123,17 +128,12 @@ fn brought<'a>(
 pub fn grow(alloc: Global, text: &mut Growing, taken: usize) -> Result<(), ParseError>
     ensures { Grows result taken text.old text.new }
 {
-    let (len, count, canonical, more, rest) = brought(
-        alloc,
-        text.sections(),
-        text.waiting(),
-        taken,
-    )?;
+    let (whole, more, rest) = brought(alloc, text.sections(), text.waiting(), taken)?;
     if more.is_empty() {
-        text.keep(alloc, len, count, canonical)?;
+        text.keep(alloc, whole)?;
         return Ok(());
     }
     let others = Growing::of(alloc, more, rest)?;
-    text.join(alloc, len, count, canonical, others)?;
+    text.join(alloc, whole, others)?;
     Ok(())
 }

@@ -7,7 +7,7 @@ ghost use Rattle.cs_parse.specs.Front.{JoinsSection};
 ghost use Rattle.cs_parse.specs.Growing.{with_text, last_changes, Keeps, OpenedSection};
 ghost use Rattle.cs_parse.specs.Progress.{last_flags};
 
-use crate::respell::settle;
+use crate::respell::{WholeChanges, settle};
 use cs_model::{Changeset, Section, Seq};
 use std::alloc::{AllocError, Global};
 use std::marker::Model;
@@ -279,38 +279,24 @@ impl Growing {
         self.count = 0;
     }
 
-    /// Turns the first `len` pending bytes into `count` changes of the last section. Copies nothing
-    /// if they are canonical. An `Err` changes nothing.
-    pub fn keep(
-        &mut self,
-        alloc: Global,
-        len: usize,
-        count: usize,
-        canonical: bool,
-    ) -> Result<(), AllocError>
-        requires inside { len ≤ length self.old.1 }
-        requires joins { JoinsSection (last_flags self.old.0) (take len self.old.1) count
-            canonical }
-        requires valid { IsChangeset (with_text self.old.0 (take len self.old.1)) }
+    /// Moves these changes, the first of the pending bytes, to the last section. Copies nothing if
+    /// they are canonical. An `Err` changes nothing.
+    pub fn keep(&mut self, alloc: Global, whole: WholeChanges) -> Result<(), AllocError>
+        requires inside { whole.len ≤ length self.old.1 }
+        requires joins { JoinsSection (last_flags self.old.0) (take whole.len self.old.1)
+            whole.count whole.canonical }
+        requires valid { IsChangeset (with_text self.old.0 (take whole.len self.old.1)) }
         ensures ok { OnOk result (self.new
-            ≡ (with_text self.old.0 (take len self.old.1), drop len self.old.1)) }
+            ≡ (with_text self.old.0 (take whole.len self.old.1), drop whole.len self.old.1)) }
         ensures err { OnErr result (self.new ≡ self.old) }
     {
-        if len == 0 {
+        if whole.len == 0 {
             return Ok(());
         }
         let sections = self.changeset.sections();
-        let own = settle(
-            alloc,
-            sections,
-            &mut self.bytes,
-            self.kept,
-            len,
-            count,
-            canonical,
-        )?;
+        let own = settle(alloc, sections, &mut self.bytes, self.kept, whole)?;
         self.kept += own;
-        self.count += count;
+        self.count += whole.count;
         if self.kept < self.bytes.len() {
             return Ok(());
         }
@@ -326,19 +312,17 @@ impl Growing {
     pub fn join(
         &mut self,
         alloc: Global,
-        len: usize,
-        count: usize,
-        canonical: bool,
+        whole: WholeChanges,
         others: Growing,
     ) -> Result<(), AllocError>
         requires waits { 0 < length self.old.1 }
-        requires inside { len ≤ length self.old.1 }
-        requires joins { JoinsSection (last_flags self.old.0) (take len self.old.1) count
-            canonical }
-        requires valid { IsChangeset (with_text self.old.0 (take len self.old.1)) }
+        requires inside { whole.len ≤ length self.old.1 }
+        requires joins { JoinsSection (last_flags self.old.0) (take whole.len self.old.1)
+            whole.count whole.canonical }
+        requires valid { IsChangeset (with_text self.old.0 (take whole.len self.old.1)) }
         requires some { 0 < length others.0 }
         ensures ok { OnOk result (self.new
-            ≡ (with_text self.old.0 (take len self.old.1) ++ others.0, others.1)) }
+            ≡ (with_text self.old.0 (take whole.len self.old.1) ++ others.0, others.1)) }
         ensures err { OnErr result (self.new ≡ self.old) }
     {
         let front = self.changeset.sections().len();
@@ -350,15 +334,7 @@ impl Growing {
         } = others;
         append(alloc, &mut self.changeset, more)?;
         let (sections, _) = self.changeset.sections().split_at(front);
-        let settled = settle(
-            alloc,
-            sections,
-            &mut self.bytes,
-            self.kept,
-            len,
-            count,
-            canonical,
-        );
+        let settled = settle(alloc, sections, &mut self.bytes, self.kept, whole);
         let own = match settled {
             Ok(own) => own,
             Err(error) => {
@@ -368,7 +344,13 @@ impl Growing {
         };
         let mut bytes = mem::replace(&mut self.bytes, behind);
         bytes.truncate(self.kept + own);
-        put_at(alloc, &mut self.changeset, front, bytes, self.count + count);
+        put_at(
+            alloc,
+            &mut self.changeset,
+            front,
+            bytes,
+            self.count + whole.count,
+        );
         self.kept = kept;
         self.count = held;
         Ok(())

@@ -2,6 +2,7 @@
 
 ghost use Rattle.std.specs.Prelude.{◌≡◌, ◌≤◌, ◌+◌, [], ◌++◌, length, IfOk, IfErr, IsOk, IsTrue};
 ghost use Rattle.std.specs.Prelude.{OnOk, OnErr, ℕ, List, None, Some, Ok, Err};
+ghost use Rattle.cs_model.specs.Bytes.{AreBytes};
 ghost use Rattle.cs_model.specs.Changeset.{most_bytes};
 ghost use Rattle.cs_model.specs.Text.{Spells};
 ghost use Rattle.cs_parse.specs.Answer.{Shows};
@@ -48,7 +49,7 @@ pub struct PieceParser {
 impl Model for PieceParser {
     ghost use Rattle.std.specs.Prelude.{◌≤◌, ◌+◌};
     ghost use Rattle.cs_model.specs.Changeset.{most_bytes};
-    ghost use Rattle.cs_parse.specs.Front.{KeepsSpot};
+    ghost use Rattle.cs_parse.specs.Front.{KeepsSpot, IsReadOut};
     ghost use Rattle.cs_parse.specs.Lack.{IsPaused};
     ghost use Rattle.cs_parse.specs.Progress.{last_flags};
     ghost use Rattle.cs_parse.specs.Progress.{Progress, progress_code};
@@ -66,7 +67,8 @@ impl Model for PieceParser {
 
     ghost invariant = { λ p. (p.offset + p.lacking ≤ most_bytes)
         × KeepsSpot (last_flags p.text.0) p.text.1 p.spot
-        × IsPaused p.fault p.text.0 p.text.1 p.header p.lacking };
+        × IsPaused p.fault p.text.0 p.text.1 p.header p.lacking
+        × IsReadOut p.text.0 p.text.1 };
 }
 
 // Returns `true` unless a header's name ends in these bytes.
@@ -77,8 +79,14 @@ fn no_end(header: bool, bytes: &[u8]) -> bool
     !header || first_zero(bytes).is_none()
 }
 
+// The type says that these are bytes.
+fn are_bytes(bytes: &[u8])
+    ensures { AreBytes bytes.now }
+{}
+
 impl PieceParser {
     /// A parser that has taken nothing. Does not allocate.
+    #[tactic(auto, using(crate::proofs::feeding::RestLaws::out_empty))]
     pub fn new(alloc: Global) -> PieceParser
         ensures progress { result ≡ nothing }
         ensures text { Took result [] }
@@ -118,6 +126,8 @@ impl PieceParser {
         // So it does with the fault of the progress, whatever the text is.
         ensures lasts { (fault : ParseFault) → self.old.fault ≡ Some fault
             → result ≡ Err (ParseError.Fault fault) }
+        // An empty piece needs no memory.
+        ensures empty { piece.now ≡ [] → self.old.fault ≡ None → IsOk result }
     {
         self.fed(alloc, piece)
     }
@@ -129,7 +139,11 @@ impl PieceParser {
         ensures fed { FeedAnswers result self.old piece.now self.new }
         ensures again { (fault : ParseFault) → self.old.fault ≡ Some fault
             → result ≡ Err (ParseError.Fault fault) }
+        ensures empty { piece.now ≡ [] → self.old.fault ≡ None → IsOk result }
     {
+        if piece.is_empty() {
+            return self.fed_nothing();
+        }
         if piece.len() < self.lacking && no_end(self.header, piece) {
             self.text.append(piece)?;
             self.lacking -= piece.len();
@@ -137,6 +151,20 @@ impl PieceParser {
             return Ok(());
         }
         self.read_in(alloc, piece)
+    }
+
+    // the same, for an empty piece
+    #[tactic(auto, unfolding(crate::specs::Progress::advanced))]
+    fn fed_nothing(&self) -> Result<(), ParseError>
+        ensures fed { FeedAnswers result self.now [] self.now }
+        ensures again { (fault : ParseFault) → self.now.fault ≡ Some fault
+            → result ≡ Err (ParseError.Fault fault) }
+        ensures empty { self.now.fault ≡ None → IsOk result }
+    {
+        if let Some(fault) = self.fault {
+            return Err(ParseError::Fault(fault));
+        }
+        Ok(())
     }
 
     // the same, for a piece that has to be read
@@ -186,6 +214,7 @@ impl PieceParser {
         }
         self.lacking = 0;
         self.spot = Spot::start();
+        are_bytes(self.text.waiting());
         match grow(alloc, &mut self.text, taken) {
             Ok(()) => {
                 self.offset = taken;
@@ -199,6 +228,7 @@ impl PieceParser {
     }
 
     // Drops everything but the fault.
+    #[tactic(auto, using(crate::proofs::feeding::RestLaws::out_empty))]
     fn break_off(&mut self, alloc: Global, fault: ParseFault) -> ParseError
         requires { fault.at ≤ most_bytes }
         ensures broken { self.new ≡ broken fault }

@@ -69,29 +69,37 @@ fn respell(
     Ok(changes.bytes().len())
 }
 
-/// Brings the `len` bytes from `kept` on, changes of the last section, into canonical form. Returns
-/// their new length. Copies nothing if they are canonical. An `Err` changes nothing.
+/// Complete changes: the length of their bytes, their number, and whether these bytes are in
+/// canonical form.
+#[derive(Clone, Copy, Debug)]
+pub struct WholeChanges {
+    pub len: usize,
+    pub count: usize,
+    pub canonical: bool,
+}
+
+/// Brings the bytes of these changes, which begin at `kept` and are of the last section, into
+/// canonical form. Returns their new length. Copies nothing if they are canonical. An `Err` changes
+/// nothing.
 pub fn settle(
     alloc: Global,
     sections: &[Section],
     bytes: &mut Vec<u8>,
     kept: usize,
-    len: usize,
-    count: usize,
-    canonical: bool,
+    whole: WholeChanges,
 ) -> Result<usize, AllocError>
-    requires inside { kept + len ≤ length bytes.old.items }
-    requires joins { JoinsSection (last_flags sections.now) (take len (drop kept bytes.old.items))
-        count canonical }
-    ensures ok { IfOk result (λ own.
-        SettledBytes (last_flags sections.now) kept len own bytes.old.items bytes.new.items) }
+    requires inside { kept + whole.len ≤ length bytes.old.items }
+    requires joins { JoinsSection (last_flags sections.now)
+        (take whole.len (drop kept bytes.old.items)) whole.count whole.canonical }
+    ensures ok { IfOk result (λ own. SettledBytes (last_flags sections.now) kept whole.len own
+        bytes.old.items bytes.new.items) }
     ensures err { OnErr result (bytes.new.items ≡ bytes.old.items) }
 {
-    if canonical {
-        return Ok(len);
+    if whole.canonical {
+        return Ok(whole.len);
     }
     match sections.last() {
-        None => Ok(len),
-        Some(section) => respell(alloc, bytes, section.shape().flags.len(), kept, len),
+        None => Ok(whole.len),
+        Some(section) => respell(alloc, bytes, section.shape().flags.len(), kept, whole.len),
     }
 }

@@ -1,5 +1,6 @@
 pub mod State
 pub mod Outcome
+pub mod Memory
 pub mod Run
 pub mod World
 pub mod Moves

@@ -3,7 +3,9 @@
 ghost use Rattle.std.specs.Prelude.{◌≡◌, IfOk, IfSome, OnErr};
 ghost use Rattle.std.specs.Option.{option_copied};
 ghost use Rattle.rb_core.specs.Outcome.{delivery_of};
+ghost use Rattle.rb_core.specs.Memory.{MayRunOut};
 ghost use Rattle.rb_core.specs.Outcome as outcome;
+ghost use Rattle.rb_core.specs.declared.event.Event.TheVariants as event;
 ghost use Rattle.rb_core.specs.State.{AreNumbered, IsOf, IsWorld};
 
 use crate::parts::Parts;
@@ -37,6 +39,8 @@ impl Parts {
         requires { IsWorld self.old }
         ensures ok { IfOk result (λ reply. outcome.accepted self.old delivery ≡ (reply, self.new)) }
         ensures err { OnErr result (self.new ≡ self.old) }
+        ensures memory { OnErr result (MayRunOut (event.Accept delivery)
+            (outcome.accepted self.old delivery).0) }
     {
         let Some(delivery) = self.known(delivery) else {
             return refused(BrokerRefusal::NoDelivery);
@@ -55,13 +59,12 @@ impl Parts {
     }
 
     /// Settles a delivery's entries. Its subscription must have accepted all of them.
-    pub(crate) fn ack(&mut self, delivery: u64) -> Result<Reply, AllocError>
+    pub(crate) fn ack(&mut self, delivery: u64) -> Reply
         requires { IsWorld self.old }
-        ensures ok { IfOk result (λ reply. outcome.acked self.old delivery ≡ (reply, self.new)) }
-        ensures err { OnErr result (self.new ≡ self.old) }
+        ensures { outcome.acked self.old delivery ≡ (result, self.new) }
     {
         let Some(delivery) = self.known(delivery) else {
-            return refused(BrokerRefusal::NoDelivery);
+            return Reply::Refused(BrokerRefusal::NoDelivery);
         };
         let sub = delivery.sub();
         let cursor = self.endpoints[sub as usize].cursor();
@@ -69,8 +72,8 @@ impl Parts {
             .desk
             .ack(sub, delivery.link(), delivery.number(), cursor)
         {
-            Ok(floor) => Ok(Reply::Floor(floor)),
-            Err(why) => refused(BrokerRefusal::Desk(why)),
+            Ok(floor) => Reply::Floor(floor),
+            Err(why) => Reply::Refused(BrokerRefusal::Desk(why)),
         }
     }
 
@@ -79,6 +82,8 @@ impl Parts {
         requires { IsWorld self.old }
         ensures ok { IfOk result (λ reply. outcome.nacked self.old delivery ≡ (reply, self.new)) }
         ensures err { OnErr result (self.new ≡ self.old) }
+        ensures memory { OnErr result (MayRunOut (event.Nack delivery)
+            (outcome.nacked self.old delivery).0) }
     {
         let Some(delivery) = self.known(delivery) else {
             return refused(BrokerRefusal::NoDelivery);
@@ -97,6 +102,8 @@ impl Parts {
     pub(crate) fn expire(&mut self, now: u64) -> Result<Reply, AllocError>
         ensures ok { IfOk result (λ reply. outcome.expired self.old now ≡ (reply, self.new)) }
         ensures err { OnErr result (self.new ≡ self.old) }
+        ensures memory { OnErr result (MayRunOut (event.Expire now)
+            (outcome.expired self.old now).0) }
     {
         Ok(Reply::Expired(self.desk.expire(now)?))
     }

@@ -6,7 +6,9 @@ ghost use Rattle.cs_model.specs.Section.{Section};
 ghost use Rattle.cs_parse.specs.End.{admitted_answer, left_by};
 ghost use Rattle.cs_parse.specs.Progress.{answer_at_end};
 ghost use Rattle.rb_core.specs.Outcome.{end_reply};
+ghost use Rattle.rb_core.specs.Memory.{MayRunOut};
 ghost use Rattle.rb_core.specs.Outcome as outcome;
+ghost use Rattle.rb_core.specs.declared.event.Event.TheVariants as event;
 ghost use Rattle.rb_core.specs.declared.publisher.Publisher.{Publisher};
 
 use crate::parts::Parts;
@@ -26,6 +28,8 @@ impl Parts {
     pub(crate) fn publisher(&mut self, alloc: Global) -> Result<Reply, AllocError>
         ensures ok { IfOk result (λ reply. outcome.publisher_added self.old ≡ (reply, self.new)) }
         ensures err { OnErr result (self.new ≡ self.old) }
+        ensures memory { OnErr result (MayRunOut event.Publisher
+            (outcome.publisher_added self.old).0) }
     {
         if self.publishers.len() >= MOST_PUBLISHERS {
             return refused(BrokerRefusal::TooMany);
@@ -50,6 +54,8 @@ impl Parts {
         ensures ok { IfOk result (λ reply.
             outcome.fed self.old publisher bytes.now ≡ (reply, self.new)) }
         ensures err { OnErr result (self.new ≡ self.old) }
+        ensures memory { OnErr result (MayRunOut (event.Feed publisher bytes.now)
+            (outcome.fed self.old publisher bytes.now).0) }
     {
         let p = publisher as usize;
         if p >= self.publishers.len() {
@@ -64,45 +70,45 @@ impl Parts {
     }
 
     /// Empties a publisher's stream; what is staged stays.
-    pub(crate) fn reset(&mut self, alloc: Global, publisher: u64) -> Result<Reply, AllocError>
-        ensures ok { IfOk result (λ reply. outcome.reset self.old publisher ≡ (reply, self.new)) }
-        ensures err { OnErr result (self.new ≡ self.old) }
+    pub(crate) fn reset(&mut self, alloc: Global, publisher: u64) -> Reply
+        ensures { outcome.reset self.old publisher ≡ (result, self.new) }
     {
         let p = publisher as usize;
         if p >= self.publishers.len() {
-            return refused(BrokerRefusal::NoPublisher);
+            return Reply::Refused(BrokerRefusal::NoPublisher);
         }
         let found = &mut self.publishers[p];
         found.stream = PieceParser::new(alloc);
-        Ok(Reply::Reset)
+        Reply::Reset
     }
 
     /// Ends a publisher's stream. If the schema admits the changeset that it spells, stages it and
     /// begins a new stream.
-    pub(crate) fn end(&mut self, alloc: Global, publisher: u64) -> Result<Reply, AllocError>
-        ensures ok { IfOk result (λ reply. outcome.ended self.old publisher ≡ (reply, self.new)) }
-        ensures err { OnErr result (self.new ≡ self.old) }
+    pub(crate) fn end(&mut self, alloc: Global, publisher: u64) -> Reply
+        ensures { outcome.ended self.old publisher ≡ (result, self.new) }
     {
         let p = publisher as usize;
         if p >= self.publishers.len() {
-            return refused(BrokerRefusal::NoPublisher);
+            return Reply::Refused(BrokerRefusal::NoPublisher);
         }
         if self.publishers[p].staged.is_some() {
-            return refused(BrokerRefusal::Holding);
+            return Reply::Refused(BrokerRefusal::Holding);
         }
         let found = &mut self.publishers[p];
         let changeset = match end_of(alloc, &mut found.stream, &self.schema) {
             Ok(changeset) => changeset,
-            Err(error) => return Ok(reply_for(error)),
+            Err(error) => return reply_for(error),
         };
         found.staged = Some(changeset);
-        Ok(Reply::Staged)
+        Reply::Staged
     }
 
     /// Moves what a publisher staged to the end of the intake, under that publisher's next number.
     pub(crate) fn send(&mut self, publisher: u64) -> Result<Reply, AllocError>
         ensures ok { IfOk result (λ reply. outcome.sent self.old publisher ≡ (reply, self.new)) }
         ensures err { OnErr result (self.new ≡ self.old) }
+        ensures memory { OnErr result (MayRunOut (event.Send publisher)
+            (outcome.sent self.old publisher).0) }
     {
         let p = publisher as usize;
         if p >= self.publishers.len() {

@@ -3,7 +3,9 @@
 ghost use Rattle.std.specs.Prelude.{◌≡◌, None, IfOk, OnErr};
 ghost use Rattle.std.specs.Option.{option_copied};
 ghost use Rattle.rb_core.specs.Outcome.{hand_of, rest_of};
+ghost use Rattle.rb_core.specs.Memory.{MayRunOut};
 ghost use Rattle.rb_core.specs.Outcome as outcome;
+ghost use Rattle.rb_core.specs.declared.event.Event.TheVariants as event;
 
 use crate::parts::Parts;
 use crate::reply::{BrokerRefusal, Reply};
@@ -19,6 +21,7 @@ impl Parts {
     pub(crate) fn turn(&mut self, alloc: Global) -> Result<Reply, AllocError>
         ensures ok { IfOk result (λ reply. outcome.turned self.old ≡ (reply, self.new)) }
         ensures err { OnErr result (self.new ≡ self.old) }
+        ensures memory { OnErr result (MayRunOut event.Turn (outcome.turned self.old).0) }
     {
         let Some(item) = self.next_item() else {
             return Ok(Reply::Idle);
@@ -55,11 +58,10 @@ impl Parts {
     }
 
     /// Closes the sequence, and returns its last number.
-    pub(crate) fn close(&mut self) -> Result<Reply, AllocError>
-        ensures ok { IfOk result (λ reply. outcome.closed self.old ≡ (reply, self.new)) }
-        ensures err { OnErr result (self.new ≡ self.old) }
+    pub(crate) fn close(&mut self) -> Reply
+        ensures { outcome.closed self.old ≡ (result, self.new) }
     {
-        Ok(Reply::Closed(self.desk.close()))
+        Reply::Closed(self.desk.close())
     }
 }
 

@@ -2,7 +2,9 @@
 
 ghost use Rattle.std.specs.Prelude.{◌≡◌, IfOk, OnErr};
 ghost use Rattle.std.specs.Arc.{arc_value};
+ghost use Rattle.rb_core.specs.Memory.{MayRunOut};
 ghost use Rattle.rb_core.specs.Outcome as outcome;
+ghost use Rattle.rb_core.specs.declared.event.Event.TheVariants as event;
 ghost use Rattle.rb_core.specs.State.{empty_tables};
 
 use crate::parts::Parts;
@@ -20,7 +22,12 @@ impl Parts {
     pub(crate) fn subscribe(&mut self, alloc: Global, start: u64) -> Result<Reply, AllocError>
         ensures ok { IfOk result (λ reply. outcome.subscribed self.old start ≡ (reply, self.new)) }
         ensures err { OnErr result (self.new ≡ self.old) }
+        ensures memory { OnErr result (MayRunOut (event.Subscribe start)
+            (outcome.subscribed self.old start).0) }
     {
+        if let Some(why) = self.desk.refuses_subscribe(start) {
+            return refused(BrokerRefusal::Desk(why));
+        }
         let tables = tables_of(alloc, &self.schema)?;
         self.endpoints.reserve(1)?;
         match self.desk.subscribe(alloc, start) {
@@ -39,11 +46,21 @@ impl Parts {
         ensures ok { IfOk result (λ reply. outcome.delivered self.old subscription now
             ≡ (reply, self.new)) }
         ensures err { OnErr result (self.new ≡ self.old) }
+        ensures memory { OnErr result (MayRunOut (event.Take subscription now)
+            (outcome.delivered self.old subscription now).0) }
     {
         let Some(end) = self.endpoints.get(subscription as usize) else {
             return refused(BrokerRefusal::Desk(DeskRefusal::NoSuch));
         };
-        self.deliveries.reserve(1)?;
+        if self.deliveries.reserve(1).is_err() {
+            return match self
+                .desk
+                .refuses_take(subscription, end.link(), end.cursor())
+            {
+                Some(why) => refused(BrokerRefusal::Desk(why)),
+                None => Err(AllocError),
+            };
+        }
         match self.desk.take(subscription, end.link(), end.cursor(), now) {
             Ok(delivery) => {
                 self.deliveries.push_reserved(delivery);
@@ -58,8 +75,15 @@ impl Parts {
     pub(crate) fn take_any(&mut self, now: u64) -> Result<Reply, AllocError>
         ensures ok { IfOk result (λ reply. outcome.delivered_any self.old now ≡ (reply, self.new)) }
         ensures err { OnErr result (self.new ≡ self.old) }
+        ensures memory { OnErr result (MayRunOut (event.TakeAny now)
+            (outcome.delivered_any self.old now).0) }
     {
-        self.deliveries.reserve(1)?;
+        if self.deliveries.reserve(1).is_err() {
+            return match self.desk.refuses_take_any() {
+                Some(why) => refused(BrokerRefusal::Desk(why)),
+                None => Err(AllocError),
+            };
+        }
         match self.desk.take_any(now) {
             Ok(delivery) => {
                 self.deliveries.push_reserved(delivery);
@@ -80,6 +104,8 @@ impl Parts {
         ensures ok { IfOk result (λ reply.
             outcome.reconnected self.old subscription cursor ≡ (reply, self.new)) }
         ensures err { OnErr result (self.new ≡ self.old) }
+        ensures memory { OnErr result (MayRunOut (event.Reconnect subscription cursor)
+            (outcome.reconnected self.old subscription cursor).0) }
     {
         let s = subscription as usize;
         if s >= self.endpoints.len() {
@@ -96,22 +122,20 @@ impl Parts {
     }
 
     /// Closes a subscription.
-    pub(crate) fn unsubscribe(&mut self, subscription: u64) -> Result<Reply, AllocError>
-        ensures ok { IfOk result (λ reply. outcome.unsubscribed self.old subscription
-            ≡ (reply, self.new)) }
-        ensures err { OnErr result (self.new ≡ self.old) }
+    pub(crate) fn unsubscribe(&mut self, subscription: u64) -> Reply
+        ensures { outcome.unsubscribed self.old subscription ≡ (result, self.new) }
     {
         let s = subscription as usize;
         if s >= self.endpoints.len() {
-            return refused(BrokerRefusal::Desk(DeskRefusal::NoSuch));
+            return Reply::Refused(BrokerRefusal::Desk(DeskRefusal::NoSuch));
         }
         let link = self.endpoints[s].link();
         match self.desk.unsubscribe(subscription, link) {
             Ok(()) => {
                 self.endpoints[s].close();
-                Ok(Reply::Unsubscribed)
+                Reply::Unsubscribed
             }
-            Err(why) => refused(BrokerRefusal::Desk(why)),
+            Err(why) => Reply::Refused(BrokerRefusal::Desk(why)),
         }
     }
 }

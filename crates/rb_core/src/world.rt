@@ -4,6 +4,7 @@ ghost use Rattle.std.specs.Prelude.{◌≡◌, ◌+◌, length, IfOk, OnErr, Mat
 ghost use Rattle.std.specs.Option.{option_map, option_copied};
 ghost use Rattle.std.specs.FinMap as map;
 ghost use Rattle.cs_apply.specs.Seen.{listed};
+ghost use Rattle.rb_core.specs.Memory.{MayRunOut};
 ghost use Rattle.rb_core.specs.Outcome.{outcome, entry_of};
 ghost use Rattle.rb_core.specs.State.{empty_world, IsWorld, how_many_wait};
 
@@ -49,10 +50,12 @@ impl World {
     }
 
     /// Applies one event to the world and returns the reply; a refusal is a reply. Returns
-    /// `AllocError` if memory runs out, and does not change the world then.
+    /// `AllocError` if memory runs out, and does not change the world then. Memory never runs out
+    /// for a refused event, unless a delivery is refused for a conflict.
     pub fn step(&mut self, alloc: Global, event: Event) -> Result<Reply, AllocError>
         ensures ok { IfOk result (λ reply. outcome self.old event ≡ (reply, self.new)) }
         ensures err { OnErr result (self.new ≡ self.old) }
+        ensures memory { OnErr result (MayRunOut event (outcome self.old event).0) }
     {
         self.serve(alloc, &event)
     }
@@ -61,6 +64,7 @@ impl World {
     pub fn serve(&mut self, alloc: Global, event: &Event) -> Result<Reply, AllocError>
         ensures ok { IfOk result (λ reply. outcome self.old event.now ≡ (reply, self.new)) }
         ensures err { OnErr result (self.new ≡ self.old) }
+        ensures memory { OnErr result (MayRunOut event.now (outcome self.old event.now).0) }
     {
         events_keep_worlds();
         self.parts.moved_by(alloc, event)
@@ -111,27 +115,28 @@ impl Parts {
         requires { IsWorld self.old }
         ensures ok { IfOk result (λ reply. outcome self.old event.now ≡ (reply, self.new)) }
         ensures err { OnErr result (self.new ≡ self.old) }
+        ensures memory { OnErr result (MayRunOut event.now (outcome self.old event.now).0) }
     {
         match event {
             Event::Publisher => self.publisher(alloc),
             Event::Feed { publisher, bytes } => self.feed(alloc, *publisher, bytes),
-            Event::Reset { publisher } => self.reset(alloc, *publisher),
-            Event::End { publisher } => self.end(alloc, *publisher),
+            Event::Reset { publisher } => Ok(self.reset(alloc, *publisher)),
+            Event::End { publisher } => Ok(self.end(alloc, *publisher)),
             Event::Send { publisher } => self.send(*publisher),
             Event::Turn => self.turn(alloc),
-            Event::Close => self.close(),
+            Event::Close => Ok(self.close()),
             Event::Subscribe { start } => self.subscribe(alloc, *start),
             Event::Take { subscription, now } => self.take(*subscription, *now),
             Event::TakeAny { now } => self.take_any(*now),
             Event::Accept { delivery } => self.accept(alloc, *delivery),
-            Event::Ack { delivery } => self.ack(*delivery),
+            Event::Ack { delivery } => Ok(self.ack(*delivery)),
             Event::Nack { delivery } => self.nack(*delivery),
             Event::Expire { now } => self.expire(*now),
             Event::Reconnect {
                 subscription,
                 cursor,
             } => self.reconnect(alloc, *subscription, *cursor),
-            Event::Unsubscribe { subscription } => self.unsubscribe(*subscription),
+            Event::Unsubscribe { subscription } => Ok(self.unsubscribe(*subscription)),
         }
     }
 }

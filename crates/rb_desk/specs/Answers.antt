@@ -1,9 +1,14 @@
 -- What a call returns, and what it leaves.
-use Rattle.std.specs.Prelude.{◌≡◌, Result, Ok, Err, IsOk}
+use Rattle.std.specs.Prelude.{◌≡◌, Option, Some, None, Result, Ok, Err, IsOk}
 use Rattle.rb_desk.specs.declared.refusal.DeskRefusal.{DeskRefusal}
 use Rattle.rb_desk.specs.declared.refusal.DeskError.{DeskError}
 use Rattle.rb_desk.specs.declared.refusal.DeskError.TheVariants.{Refused, Memory}
 use Rattle.rb_desk.specs.Picture.{Picture}
+
+-- why a call is refused, if it is
+abbrev pub call_refusal : {A : Type 0} → Result A DeskRefusal → Option DeskRefusal
+call_refusal (Ok answer) = None
+call_refusal (Err why) = Some why
 
 -- The result and the picture after the call are those of the call's definition. Out of memory comes
 -- only if the call isn't refused, and does not change the picture.

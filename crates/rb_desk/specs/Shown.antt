@@ -15,9 +15,10 @@ use Rattle.rb_desk.specs.declared.refusal.DeskRefusal.TheVariants.{Empty, Draine
 use Rattle.rb_desk.specs.declared.refusal.DeskError.{DeskError}
 use Rattle.rb_desk.specs.declared.refusal.DeskError.TheVariants.{Memory}
 use Rattle.rb_desk.specs.declared.sub.Sub.{Sub}
-use Rattle.rb_desk.specs.Spans.{cut_spans, is_fresh, is_ready, how_many_out, out_as}
+use Rattle.rb_desk.specs.Calls.{take, refused_call}
+use Rattle.rb_desk.specs.Spans.{cut_spans, first_ready, is_fresh, is_ready, how_many_out, out_as}
 use Rattle.rb_desk.specs.Lanes.{AreJoined, earlier, least, cut_lane, delivered_lane, returned_lane}
-use Rattle.rb_desk.specs.Lanes.{settled_lane, Lane, lane_held, spans_of}
+use Rattle.rb_desk.specs.Lanes.{settled_lane, Lane, lane_held, lane_spans, spans_of}
 use Rattle.rb_desk.specs.Orders.{order, ready_at, out_at}
 use Rattle.rb_desk.specs.Limits.{Limits}
 use Rattle.rb_desk.specs.Picture.{Picture, Subscription}
@@ -175,3 +176,28 @@ first_to_deliver window batch front s (sub ∷ rest) =
 -- the spans of the subscription with this number follow one another
 abbrev pub IsJoinedAt : List Sub → ℕ → Type 0
 IsJoinedAt subs s = (sub : Sub) × (slice_get subs s ≡ Some sub) × AreJoined sub.lane
+
+-- ---- what `take` finds
+
+-- The span is the one that `take` delivers: the first ready span of this subscription, which is
+-- open, has this link, and has room in its window.
+pub record IsToTake (window batch front : ℕ) (subs : List Sub) (s link : ℕ) (span : Span) : Type 0
+  where
+    pub sub : Sub
+    pub found : slice_get subs s ≡ Some sub
+    pub linked : sub.link ≡ link
+    pub is_open : sub.closed ≡ false
+    pub room : how_many_out (spans_of sub.lane.held) < window
+    pub first : first_ready (lane_spans batch front sub.lane) ≡ Some span
+    pub joined : AreJoined sub.lane
+
+-- What `take` finds: the span that it delivers, or why it refuses, whatever the clock and the next
+-- numbers are.
+abbrev pub FindsToTake : Result Span DeskRefusal → Limits → ℕ → Option ℕ → List Sub → ℕ → ℕ → ℕ
+    → Type 0
+FindsToTake (Ok span) limits front closing subs s link cursor =
+    IsToTake limits.window limits.batch front subs s link span
+FindsToTake (Err why) limits front closing subs s link cursor =
+    (clock next_link next_delivery now : ℕ)
+    → take (shown limits front closing clock next_link next_delivery subs) s link cursor now
+    ≡ refused_call (shown limits front closing clock next_link next_delivery subs) why

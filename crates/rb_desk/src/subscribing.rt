@@ -2,7 +2,7 @@
 
 ghost use Rattle.std.specs.Prelude.{◌≡◌, suc, OnErr};
 ghost use Rattle.rb_desk.specs.Calls.{subscribe, reconnect, unsubscribe};
-ghost use Rattle.rb_desk.specs.Answers.{DeskAnswers, OnlyMemory};
+ghost use Rattle.rb_desk.specs.Answers.{DeskAnswers, OnlyMemory, call_refusal};
 
 use crate::desk::Desk;
 use crate::refusal::{DeskError, DeskRefusal};
@@ -19,13 +19,10 @@ impl Desk {
     pub fn subscribe(&mut self, alloc: Global, start: u64) -> Result<(u64, u64), DeskError>
         ensures { DeskAnswers result (subscribe self.old start) self.old self.new }
     {
+        if let Some(why) = self.refuses_subscribe(start) {
+            return Err(why.into());
+        }
         let front = self.front;
-        if front < start {
-            return Err(DeskRefusal::StartAhead { front }.into());
-        }
-        if self.subs.len() >= 1_024 {
-            return Err(DeskRefusal::TooMany.into());
-        }
         let sub = self.subs.len() as u64;
         let link = self.next_link;
         let next_link = after(link)?;
@@ -36,6 +33,22 @@ impl Desk {
         self.next_link = next_link;
         self.turn = turn;
         Ok((sub, link))
+    }
+
+    /// Why `subscribe` would refuse this start, or `None` where it would not. Does not change the
+    /// desk.
+    #[tactic(auto, unfolding(crate::specs::Calls::subscribe))]
+    pub fn refuses_subscribe(&self, start: u64) -> Option<DeskRefusal>
+        ensures { result ≡ call_refusal (subscribe self.now start).0 }
+    {
+        let front = self.front;
+        if front < start {
+            return Some(DeskRefusal::StartAhead { front });
+        }
+        if self.subs.len() >= 1_024 {
+            return Some(DeskRefusal::TooMany);
+        }
+        None
     }
 
     /// Continues a subscription after `cursor`, the last number that it has accepted. The numbers

@@ -1,13 +1,14 @@
 //! Calls that deliver numbers to subscriptions.
 
-ghost use Rattle.std.specs.Prelude.{◌≡◌, ◌<◌, length, IfSome};
+ghost use Rattle.std.specs.Prelude.{◌≡◌, ◌<◌, ℕ, length, IfSome};
 ghost use Rattle.rb_desk.specs.Calls.{take, take_any};
-ghost use Rattle.rb_desk.specs.Answers.{DeskAnswers};
+ghost use Rattle.rb_desk.specs.Answers.{DeskAnswers, call_refusal};
 ghost use Rattle.std.specs.Option.{option_map};
 ghost use Rattle.rb_desk.specs.Lanes.{AreLimited, HasNumbers};
 ghost use Rattle.rb_desk.specs.Shown.{why_none, WhenDelivered, first_to_deliver, span_to_deliver};
-ghost use Rattle.rb_desk.specs.Shown.{goes_first, IsJoinedAt};
+ghost use Rattle.rb_desk.specs.Shown.{goes_first, IsJoinedAt, FindsToTake};
 
+use crate::config::Config;
 use crate::delivery::Delivery;
 use crate::desk::Desk;
 use crate::refusal::{DeskError, DeskRefusal};
@@ -33,23 +34,15 @@ impl Desk {
     ) -> Result<Delivery, DeskError>
         ensures { DeskAnswers result (take self.old sub link cursor now) self.old self.new }
     {
-        let front = self.front;
-        let Some(found) = numbered(&self.subs, sub) else {
-            return Err(DeskRefusal::NoSuch.into());
-        };
-        if found.link != link {
-            return Err(DeskRefusal::StaleLink.into());
-        }
-        if found.closed {
-            return Err(DeskRefusal::Closed.into());
-        }
-        if found.lane.out() >= self.config.window() {
-            return Err(DeskRefusal::WindowFull.into());
-        }
-        let Some(span) = found.lane.first_ready(self.config.batch(), front) else {
-            let is_empty = found.lane.is_empty(front);
-            return Err(none_ready(self.closing, front, is_empty, cursor).into());
-        };
+        let span = to_take(
+            self.config,
+            self.front,
+            self.closing,
+            &self.subs,
+            sub,
+            link,
+            cursor,
+        )?;
         deliver(
             &mut self.subs,
             &mut self.next_delivery,
@@ -58,6 +51,23 @@ impl Desk {
             span,
             now,
         )
+    }
+
+    /// Why `take` would refuse these numbers, or `None` where it would not. Does not change the
+    /// desk.
+    pub fn refuses_take(&self, sub: u64, link: u64, cursor: u64) -> Option<DeskRefusal>
+        ensures { (now : ℕ) → result ≡ call_refusal (take self.now sub link cursor now).0 }
+    {
+        to_take(
+            self.config,
+            self.front,
+            self.closing,
+            &self.subs,
+            sub,
+            link,
+            cursor,
+        )
+        .err()
     }
 
     /// Delivers the first span in the ready order whose subscription has room in its window. `now`
@@ -82,6 +92,50 @@ impl Desk {
             span,
             now,
         )
+    }
+
+    /// Why `take_any` would refuse, or `None` where it would not. Does not change the desk.
+    pub fn refuses_take_any(&self) -> Option<DeskRefusal>
+        ensures { (now : ℕ) → result ≡ call_refusal (take_any self.now now).0 }
+    {
+        let front = self.front;
+        let window = self.config.window();
+        match first_to_deliver(&self.subs, window, self.config.batch(), front) {
+            Some(_) => None,
+            None => Some(DeskRefusal::Empty { front }),
+        }
+    }
+}
+
+// The span that `take` delivers, or why it refuses.
+#[tactic(auto, unfolding(crate::specs::Calls::take))]
+fn to_take(
+    config: Config,
+    front: u64,
+    closing: Option<u64>,
+    subs: &[Sub],
+    sub: u64,
+    link: u64,
+    cursor: u64,
+) -> Result<Span, DeskRefusal>
+    requires { AreLimited config.batch front }
+    ensures { FindsToTake result config front closing subs.now sub link cursor }
+{
+    let Some(found) = numbered(subs, sub) else {
+        return Err(DeskRefusal::NoSuch);
+    };
+    if found.link != link {
+        return Err(DeskRefusal::StaleLink);
+    }
+    if found.closed {
+        return Err(DeskRefusal::Closed);
+    }
+    if found.lane.out() >= config.window() {
+        return Err(DeskRefusal::WindowFull);
+    }
+    match found.lane.first_ready(config.batch(), front) {
+        Some(span) => Ok(span),
+        None => Err(none_ready(closing, front, found.lane.is_empty(front), cursor)),
     }
 }
 

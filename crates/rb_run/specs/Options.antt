@@ -1,5 +1,7 @@
 -- The limits from the options of a command line.
 use Rattle.std.specs.Prelude.{ℕ, List, [], Option, Some, None, Result, Ok, Err, codes}
+use Rattle.std.specs.Option.{option_and_then}
+use Rattle.clap.specs.Walk.{Row, Text, first_of}
 use Rattle.rb_desk.specs.Limits.{Limits, first_out_of_range}
 use Rattle.rb_desk.specs.declared.config.ConfigFault.{ConfigFault}
 use Rattle.rb_desk.specs.declared.config.ConfigFault.TheVariants.{Batch, Window, Timeout, Capacity}
@@ -46,7 +48,16 @@ range_text Capacity = codes "--capacity takes a number from 1 to 1048576"
 range_text Intake = codes "--intake takes a number from 1 to 4096"
 range_text Appliers = codes "--appliers takes a number from 1 to 16"
 
--- the word of an option; the empty word if there is none
-abbrev pub word_of : Option (List ℕ) → List ℕ
-word_of None = []
-word_of (Some word) = word
+-- the word of an option, among what a subcommand was given; the empty word if there is none
+abbrev pub word_or_none : Option (List ℕ) → List ℕ
+word_or_none None = []
+word_or_none (Some word) = word
+
+abbrev pub word_of : Option (Text × List Row) → Text → List ℕ
+word_of found name = word_or_none (option_and_then (λ given. first_of name given.1) found)
+
+-- the same, for what a subcommand was given
+abbrev pub config_by : Option (Text × List Row) → Result Limits ConfigFault
+config_by found = config_of (word_of found (codes "batch")) (word_of found (codes "window"))
+    (word_of found (codes "timeout")) (word_of found (codes "capacity"))
+    (word_of found (codes "intake"))

@@ -1,7 +1,12 @@
 //! The command line: its options and its help.
 
-use clap::{Arg, ArgAction, ArgMatches, Command, Error};
-use std::alloc::Global;
+ghost use Rattle.std.specs.Prelude.{◌≡◌, false, IfOk};
+ghost use Rattle.clap.specs.Words.{app_of, rule_of};
+ghost use Rattle.clap.specs.declared.builder.command.Command.TheViews.{out-Command};
+ghost use Rattle.rb_run.specs.Program.{limit_option, program, script_command};
+
+use clap::{Arg, ArgAction, Command};
+use std::alloc::{AllocError, Global};
 
 // the version that `--version` prints
 const VERSION: &str = "0.1.0";
@@ -42,57 +47,71 @@ Statuses:
      more than 16777216 bytes, or out of memory
   2  the command line is faulty";
 
-/// Parses a command line, whose first word is the program's name. An error is a text to print:
-/// help, the version, or how to call the program.
-pub fn matches<'a>(alloc: Global, words: &'a [String]) -> Result<ArgMatches<'a>, Error> {
-    let script = Command::new(alloc, "script")
-        .about("Answers the lines of a script on standard input, one after another")
-        .after_help(LINES)
-        .arg(limit(
-            alloc,
-            "batch",
-            "16",
-            "The most entries in a delivery, 1 to 256",
-        ))?
-        .arg(limit(
-            alloc,
-            "window",
-            "4",
-            "The most deliveries in flight to a subscription, 1 to 64",
-        ))?
-        .arg(limit(
-            alloc,
-            "timeout",
-            "10",
-            "After how many ticks a delivery expires, 1 to 1000000000",
-        ))?
-        .arg(limit(
-            alloc,
-            "capacity",
-            "65536",
-            "The most entries of the sequence, 1 to 1048576",
-        ))?
-        .arg(limit(
-            alloc,
-            "intake",
-            "64",
-            "The most changesets that wait to be placed, 1 to 4096",
-        ))?;
-    let program = Command::new(alloc, "rb_run")
+/// The program's name, version, subcommand and options. Returns `AllocError` if memory runs out.
+pub fn program<'a>(alloc: Global) -> Result<Command<'a>, AllocError>
+    ensures app { IfOk result (λ command. app_of command ≡ program) }
+{
+    Command::new(alloc, "rb_run")
         .version(VERSION)
         .about("A replication broker for SQLite changesets")
         .subcommand_required(true)
-        .subcommand(script)?;
-    program.try_get_matches_from(words)
+        .subcommand(script(alloc)?)
+}
+
+// the subcommand `script`
+fn script<'a>(alloc: Global) -> Result<Command<'a>, AllocError>
+    ensures app { IfOk result (λ command. (app_of command).top ≡ script_command) }
+    ensures local { IfOk result (λ command. (out-Command command).has_globals ≡ false) }
+{
+    let batch = limit(
+        alloc,
+        "batch",
+        "16",
+        "The most entries in a delivery, 1 to 256",
+    );
+    let window = limit(
+        alloc,
+        "window",
+        "4",
+        "The most deliveries in flight to a subscription, 1 to 64",
+    );
+    let timeout = limit(
+        alloc,
+        "timeout",
+        "10",
+        "After how many ticks a delivery expires, 1 to 1000000000",
+    );
+    let capacity = limit(
+        alloc,
+        "capacity",
+        "65536",
+        "The most entries of the sequence, 1 to 1048576",
+    );
+    let intake = limit(
+        alloc,
+        "intake",
+        "64",
+        "The most changesets that wait to be placed, 1 to 4096",
+    );
+    Command::new(alloc, "script")
+        .about("Answers the lines of a script on standard input, one after another")
+        .after_help(LINES)
+        .arg(batch)?
+        .arg(window)?
+        .arg(timeout)?
+        .arg(capacity)?
+        .arg(intake)
 }
 
 // an option that takes a number
-fn limit<'a>(alloc: Global, name: &'a str, usual: &'a str, help: &'a str) -> Arg<'a> {
+fn limit<'a>(alloc: Global, name: &'a str, usual: &'a str, help: &'a str) -> Arg<'a>
+    ensures rule { rule_of result ≡ limit_option name.now usual.now }
+    ensures local { result.global ≡ false }
+{
     Arg::new(alloc, name)
         .long(name)
         .action(ArgAction::Set)
         .value_name("N")
         .default_value(usual)
-        .allow_negative_numbers(true)
         .help(help)
 }

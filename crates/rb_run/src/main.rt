@@ -1,16 +1,22 @@
 //! The program: parses a command line, and runs a script from standard input to standard output.
-//! Theorem: the limits are those of the options, or the first faulty option is reported. The exit
-//! status says how the script ended.
+//! Theorem: the exit status is that of what the words ask for. They ask for a script under the
+//! limits of their options, for a message about the first faulty option, or for a text to print.
 #![tactic(auto)]
 
 mod command;
 mod ending;
+mod job;
 mod options;
 
+ghost use Rattle.std.specs.Prelude.{map, string_bytes};
+ghost use Rattle.clap.specs.Values.{kind_of};
+ghost use Rattle.rb_run.specs.Program.{EndsAsAsked, EndsFor, EndsShown, HasTried};
+
+use clap::Error;
 use clap::error::ErrorKind;
-use clap::{ArgMatches, Error};
-use command::matches;
 use ending::Ending;
+use job::Job;
+use options::range;
 use rb_core::Config;
 use rb_script::{ScriptFault, run_script};
 use std::alloc::Global;
@@ -48,29 +54,29 @@ fn words_of(rt: &HostRuntime) -> io::Result<Vec<String>> {
 }
 
 // Does what these words ask for. The first is the program's name.
-fn called(rt: &HostRuntime, words: &[String]) -> Ending {
-    match matches(rt.alloc(), words) {
-        Ok(found) => match found.subcommand() {
-            None => Ending::Misused,
-            Some((_, found)) => limited(rt, found),
-        },
-        Err(shown) => told(rt, &shown),
-    }
+fn called(rt: &HostRuntime, words: &[String]) -> Ending
+    ensures { EndsAsAsked (map string_bytes words.now) result }
+{
+    done(rt, Job::of(rt.alloc(), words))
 }
 
-// Answers a script under the limits of its options, or reports the first that is out of range.
-fn limited(rt: &HostRuntime, found: &ArgMatches) -> Ending {
-    match options::config(found) {
-        Ok(config) => scripted(rt, rt.alloc(), config),
-        Err(fault) => {
-            let _ = eprintln!(rt; "rb_run: {}", options::range(fault));
+fn done(rt: &HostRuntime, job: Job) -> Ending
+    ensures { EndsFor job result }
+{
+    match job {
+        Job::Script(config) => scripted(rt, rt.alloc(), config),
+        Job::Range(fault) => {
+            let _ = eprintln!(rt; "rb_run: {}", range(fault));
             Ending::Misused
         }
+        Job::Show(shown) => printed(rt, &shown),
     }
 }
 
 // Prints help, the version, or what is wrong with the command line.
-fn told(rt: &HostRuntime, shown: &Error) -> Ending {
+fn printed(rt: &HostRuntime, shown: &Error) -> Ending
+    ensures { EndsShown (kind_of shown.now) result }
+{
     if shown.kind() == ErrorKind::OutOfMemory {
         return Ending::Stopped(ScriptFault::Memory);
     }
@@ -85,13 +91,12 @@ fn told(rt: &HostRuntime, shown: &Error) -> Ending {
 }
 
 // Answers the script from standard input on standard output.
-fn scripted(rt: &HostRuntime, alloc: Global, config: Config) -> Ending {
+fn scripted(rt: &HostRuntime, alloc: Global, config: Config) -> Ending
+    ensures { HasTried result }
+{
     let mut reader = rt.stdin();
     let Ok(mut writer) = BufWriter::with_capacity(alloc, 65_536, rt.stdout()) else {
         return Ending::Stopped(ScriptFault::Memory);
     };
     Ending::of(run_script(alloc, &mut reader, &mut writer, config))
 }
-
-#[cfg(test)]
-mod tests;

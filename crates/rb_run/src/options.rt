@@ -1,22 +1,17 @@
 //! Reads the limits from the options of a command line.
 
-ghost use Rattle.std.specs.Prelude.{◌≡◌, codes};
-ghost use Rattle.clap.specs.Words.{first_value, found_of};
-ghost use Rattle.rb_run.specs.Options.{config_of, range_text, value_of, word_of};
+ghost use Rattle.std.specs.Prelude.{◌≡◌};
+ghost use Rattle.clap.specs.Words.{subcommand_rows_of};
+ghost use Rattle.rb_run.specs.Options.{config_by, config_of, range_text, value_of, word_of};
 
 use clap::ArgMatches;
 use rb_core::{Config, ConfigFault};
 use rb_script::number;
 
-/// The limits from the options of a command line, or the first option whose word isn't a number in
+/// The limits from the options of the subcommand, or the first option whose word isn't a number in
 /// its range.
 pub fn config(found: &ArgMatches) -> Result<Config, ConfigFault>
-    ensures { result ≡ config_of
-        (word_of (first_value (found_of found.now) (codes "batch")))
-        (word_of (first_value (found_of found.now) (codes "window")))
-        (word_of (first_value (found_of found.now) (codes "timeout")))
-        (word_of (first_value (found_of found.now) (codes "capacity")))
-        (word_of (first_value (found_of found.now) (codes "intake"))) }
+    ensures { result ≡ config_by (subcommand_rows_of found.now) }
 {
     let batch = word(found, "batch");
     let window = word(found, "window");
@@ -26,10 +21,14 @@ pub fn config(found: &ArgMatches) -> Result<Config, ConfigFault>
     config_from(batch, window, timeout, capacity, intake)
 }
 
+// the word of an option of the subcommand, or none
 fn word<'a>(found: &ArgMatches<'a>, name: &str) -> &'a str
-    ensures { result.now ≡ word_of (first_value (found_of found.now) name.now) }
+    ensures { result.now ≡ word_of (subcommand_rows_of found.now) name.now }
 {
-    match found.get_str(name) {
+    let Some((_, options)) = found.subcommand() else {
+        return "";
+    };
+    match options.get_str(name) {
         None => "",
         Some(word) => word,
     }

@@ -4,12 +4,12 @@ use Rattle.std.specs.Prelude.{Ok, Err, option_map, slice_get, if◌then◌else�
 use Rattle.std.specs.FinMap as map
 use Rattle.std.specs.Fmt.{decimal}
 use Rattle.cs_model.specs.declared.shape.Shape.{Shape}
-use Rattle.cs_model.specs.declared.change.Change.{Change}
 use Rattle.cs_model.specs.Section.{Section}
 use Rattle.cs_model.specs.declared.value.Value.{Value}
 use Rattle.cs_model.specs.declared.row_key.RowKey.{RowKey}
 use Rattle.cs_model.specs.declared.schema.TableFault.{TableFault}
 use Rattle.cs_model.specs.declared.schema.TableFault.TheVariants.{DuplicateTable, BadShape}
+use Rattle.cs_model.specs.Changeset.{only_header}
 use Rattle.cs_model.specs.Schema.{table_refusal}
 use Rattle.cs_parse.specs.declared.fault.ParseFault.{ParseFault}
 use Rattle.cs_parse.specs.Reading.{answer_of}
@@ -36,17 +36,8 @@ abbrev pub line_of : List ℕ → List ℕ
 line_of text = text ++ 10 ∷ []
 
 -- the shape, if the text is exactly one header
-abbrev pub header_alone : Shape → List Change → List Section → Option Shape
-header_alone shape [] [] = Some shape
-header_alone shape [] (section ∷ sections) = None
-header_alone shape (change ∷ changes) sections = None
-
-abbrev pub header_of_sections : List Section → Option Shape
-header_of_sections [] = None
-header_of_sections (section ∷ rest) = header_alone section.shape section.changes rest
-
 abbrev pub header_of_answer : Result (List Section) ParseFault → Option Shape
-header_of_answer (Ok sections) = header_of_sections sections
+header_of_answer (Ok sections) = only_header sections
 header_of_answer (Err fault) = None
 
 -- `table`: adds a table, if no line of another form has come

@@ -8,13 +8,12 @@ ghost use Rattle.rb_core.specs.Outcome.{outcome};
 ghost use Rattle.rb_script.specs.Lines.{line_answer, form_answer, line_of, world_of, event_answer};
 ghost use Rattle.rb_script.specs.Lines.{entry_answer, rows_answer, left_answer, with_line_end};
 ghost use Rattle.rb_script.specs.Lines.{table_answer, table_added, header_of_answer};
-ghost use Rattle.rb_script.specs.Lines.{header_of_sections};
 
 use crate::forms::Form;
 use crate::reading::form;
 use crate::replies::{text_of, text_of_desk_refusal};
 use crate::texts::{text_of_entry, text_of_rows};
-use cs_model::{Changeset, CopyIn, Schema, SchemaError, Shape, TableFault};
+use cs_model::{CopyIn, Schema, SchemaError, Shape, TableFault};
 use cs_parse::{ParseError, parse};
 use rb_core::{Config, Event, World};
 use rb_desk::DeskRefusal;
@@ -179,23 +178,8 @@ fn header(alloc: Global, bytes: &[u8]) -> Result<Option<Shape>, AllocError>
     ensures { IfOk result (λ shape. shape ≡ header_of_answer (answer_of bytes.now)) }
 {
     match parse(alloc, bytes) {
-        Ok(changeset) => Ok(header_of(changeset)),
+        Ok(changeset) => Ok(changeset.into_header()),
         Err(ParseError::Fault(_)) => Ok(None),
         Err(ParseError::Memory) => Err(AllocError),
-    }
-}
-
-fn header_of(changeset: Changeset) -> Option<Shape>
-    ensures { result ≡ header_of_sections changeset }
-{
-    let mut sections = changeset.into_seq().into_vec();
-    if sections.len() != 1 {
-        return None;
-    }
-    let (shape, changes) = sections.pop()?.into_parts();
-    if changes.is_empty() {
-        Some(shape)
-    } else {
-        None
     }
 }

@@ -1,8 +1,9 @@
 -- Sections the last of which is missing changes, which are kept as bytes.
 use Rattle.std.proofs.Common.{◌≡◌, ℕ, ◌+◌, ◌-◌, ◌*◌, ◌<◌, ◌≤◌, Bool, true, List, [], ◌∷◌, ◌++◌, length, take, drop}
 use Rattle.std.proofs.Common.{Option, Some, None, Result, Ok, Err, refl, sym, ap, subst, ◌∙◌, append_assoc, arith}
-use Rattle.std.specs.Prelude.{IfOk}
+use Rattle.std.specs.Prelude.{IfOk, slice_get, get_or}
 use Rattle.std.proofs.lemmas.List.{append-nil, length-append, length-take-le, length-drop, drop-drop, take-append-drop}
+use Rattle.std.proofs.lemmas.Option.{none-some, slice_get-get_or}
 use Rattle.std.proofs.Math.Seq.{take-append_seam, drop-append_seam, take-length, take-add}
 use Rattle.cs_model.specs.PackedChanges.{changes_bytes, unpacked_changes}
 use Rattle.cs_model.specs.Section.{Section}
@@ -148,6 +149,18 @@ pub settled_as : (flags : Option (List ℕ)) (kept len count : ℕ) (canonical :
 settled_as flags kept len count canonical old inside is joins =
     settled_canonical flags kept len count old inside
     (subst (λ b. JoinsSection flags (take len (drop kept old)) count b) is joins)
+
+-- nor has it where there is no section
+pub settled_none : (sections : List Section) (kept len count : ℕ) (canonical : Bool) (old : List ℕ) → kept + len
+    ≤ length old → slice_get sections (length sections - 1) ≡ None
+    → JoinsSection (last_flags sections) (take len (drop kept old)) count canonical
+    → SettledBytes (last_flags sections) kept len len old old
+settled_none [] kept len count canonical old inside none joins =
+    settled_canonical None kept len count old inside joins
+settled_none (section ∷ sections) kept len count canonical old inside none joins =
+    let all = section ∷ sections in
+    absurd (none-some (get_or all (length all - 1) section)
+    (sym none ∙ slice_get-get_or all (length all - 1) section (omega arith)))
 
 -- ---- with the text, and behind it
 

@@ -36,6 +36,24 @@ pub record ExactStopped {A : Type 0} (T : List ℕ → A → Type 0) (S : List �
   pub stands : S front place
   pub is_wrong : wrong place byte ≡ Some kind
 
+-- Where a part behind a text stops, all stops: at the same byte, behind that text and what stands before it.
+pub stopped_behind : {A B : Type 0} {T : List ℕ → A → Type 0} {U : List ℕ → B → Type 0}
+    {S P : List ℕ → BytePlace → Type 0} (bytes text rest : List ℕ) (left : ℕ) (kind : FaultKind) → bytes ≡ text ++ rest
+    → ((front : List ℕ) → Completes T front → Completes U (text ++ front))
+    → ((front : List ℕ) (place : BytePlace) → S front place → P (text ++ front) place)
+    → ExactStopped T S rest left kind → ExactStopped U P bytes left kind
+stopped_behind bytes text rest left kind parts alive stands s = record {
+  front = text ++ s.front;
+  byte = s.byte;
+  back = s.back;
+  place = s.place;
+  parts = parts ∙ ap (λ w. text ++ w) s.parts ∙ sym (append_assoc text s.front (s.byte ∷ s.back));
+  left_is = s.left_is;
+  alive = alive s.front s.alive;
+  stands = stands s.front s.place s.stands;
+  is_wrong = s.is_wrong;
+}
+
 -- What the texts of T spell is read, and nothing else; where reading stops at a byte, the byte is wrong where S says
 -- that it stands, and where the bytes end too early they can be gone on with.
 pub record ExactReader {A : Type 0} (read : List ℕ → Result (A × List ℕ) ParseRefusal) (T : List ℕ → A → Type 0)
@@ -88,18 +106,8 @@ renamed read T U S P names exact = record {
       record { text = t.text; parts = t.parts; spelled = names.text_to t.text x.0 t.spelled };
   again = λ text a rest h. exact.again text a rest (names.text_from text a h);
   stops = λ bytes left kind fits e.
-      let s = exact.stops bytes left kind fits e in
-      record {
-        front = s.front;
-        byte = s.byte;
-        back = s.back;
-        place = s.place;
-        parts = s.parts;
-        left_is = s.left_is;
-        alive = completes_by T U s.front names.text_to s.alive;
-        stands = names.place_to s.front s.place s.stands;
-        is_wrong = s.is_wrong;
-      };
+      stopped_behind bytes [] bytes left kind refl (λ front c. completes_by T U front names.text_to c) names.place_to
+      (exact.stops bytes left kind fits e);
   places = λ front place byte kind more h w. exact.places front place byte kind more (names.place_from front place h) w;
   completes = λ bytes fits e. completes_by T U bytes names.text_to (exact.completes bytes fits e);
 }
@@ -192,37 +200,14 @@ module _ {A B : Type 0} (read : List ℕ → Result (A × List ℕ) ParseRefusal
     seq_stops bytes left kind fits e =
         elim (bind_err (read bytes) (λ x. next x.0 x.1) (Bad left kind) e) as
         (λ w. ExactStopped (SeqText T U) (SeqPlace T S P) bytes left kind) [
-          | inl h ↦
-              let s = first.stops bytes left kind fits h in
-              record {
-                front = s.front;
-                byte = s.byte;
-                back = s.back;
-                place = s.place;
-                parts = s.parts;
-                left_is = s.left_is;
-                alive = seq_begun s.front s.alive;
-                stands = inl s.stands;
-                is_wrong = s.is_wrong;
-              }
+          | inl h ↦ stopped_behind bytes [] bytes left kind refl seq_begun (λ front place s. inl s)
+              (first.stops bytes left kind fits h)
           | inr h ↦
               let t = first.takes bytes h.0 fits h.1 in
-              let s = (second t.text h.0.0 t.spelled).stops h.0.1 left kind
-              (back_fits bytes t.text h.0.1 t.parts fits) h.2 in
-              let whole : bytes ≡ (t.text ++ s.front) ++ s.byte ∷ s.back = t.parts ∙ ap (λ w. t.text ++ w) s.parts
-              ∙ sym (append_assoc t.text s.front (s.byte ∷ s.back)) in
-              record {
-                front = t.text ++ s.front;
-                byte = s.byte;
-                back = s.back;
-                place = s.place;
-                parts = whole;
-                left_is = s.left_is;
-                alive = seq_behind t.text h.0.0 s.front t.spelled s.alive;
-                stands =
-                    inr (h.0.0, t.text, s.front, refl, t.spelled, s.stands);
-                is_wrong = s.is_wrong;
-              }
+              stopped_behind bytes t.text h.0.1 left kind t.parts
+              (λ front c. seq_behind t.text h.0.0 front t.spelled c)
+              (λ front place s. inr (h.0.0, t.text, front, refl, t.spelled, s))
+              ((second t.text h.0.0 t.spelled).stops h.0.1 left kind (back_fits bytes t.text h.0.1 t.parts fits) h.2)
         ]
 
     seq_places : (front : List ℕ) (place : BytePlace) (byte : ℕ) (kind : FaultKind) (more : List ℕ)

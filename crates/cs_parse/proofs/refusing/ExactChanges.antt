@@ -22,7 +22,7 @@ use Rattle.cs_parse.proofs.reading.Steps.{Takes, done, ok_is, steps_chosen}
 use Rattle.cs_parse.proofs.reading.ChangeLaws.{IsChangeBy, SpellsRecords, change_made, mark_spells, op_is, by_byte}
 use Rattle.cs_parse.proofs.reading.ChangeLaws.{op_no_header}
 use Rattle.cs_parse.proofs.refusing.Exact.{Completes, ExactStopped, ExactReader, Nowhere, SeqText, SeqPlace, seq}
-use Rattle.cs_parse.proofs.refusing.Exact.{seq_exact, mapped_exact, renamed, same_reader}
+use Rattle.cs_parse.proofs.refusing.Exact.{stopped_behind, seq_exact, mapped_exact, renamed, same_reader}
 use Rattle.cs_parse.proofs.refusing.ExactFields.{RecordText, record_exact}
 
 abbrev Fields : Type 0
@@ -322,19 +322,9 @@ operated_stops : (flags : List ℕ) (o : Option Op) (byte : ℕ) (rest : List �
     → AreBytes rest → op_of byte ≡ o → (byte == 84) ≡ false → operated flags o byte rest ≡ Err (Bad left kind)
     → ExactStopped (ChangeText flags) (AtChange flags) (byte ∷ rest) left kind
 operated_stops flags (Some op) byte rest left kind fits is no_header e =
-    let s = (marked_exact flags op).stops rest left kind fits e in
     let known = op_is byte op is in
-    record {
-      front = byte ∷ s.front;
-      byte = s.byte;
-      back = s.back;
-      place = s.place;
-      parts = ap (λ w. byte ∷ w) s.parts;
-      left_is = s.left_is;
-      alive = change_begun flags op byte s.front known s.alive;
-      stands = place_in flags op byte s.front s.place known s.stands;
-      is_wrong = s.is_wrong;
-    }
+    stopped_behind (byte ∷ rest) (byte ∷ []) rest left kind refl (λ front c. change_begun flags op byte front known c)
+    (λ front place s. place_in flags op byte front place known s) ((marked_exact flags op).stops rest left kind fits e)
 operated_stops flags None byte rest left kind fits is no_header e =
     let len : left ≡ suc (length rest) = cc e in
     let same : exact_changes_begins_none byte ≡ kind = cc e in

@@ -14,7 +14,7 @@ use Rattle.cs_model.specs.Bytes.{AreBytes}
 use Rattle.cs_parse.proofs.reading.Steps.{back_fits, done}
 use Rattle.cs_parse.proofs.reading.Loops.{then_others, loops_rest_of, many_more, many_done}
 use Rattle.cs_parse.proofs.reading.ManyLaws.{IsReader}
-use Rattle.cs_parse.proofs.refusing.Exact.{Completes, ExactStopped, bind_err}
+use Rattle.cs_parse.proofs.refusing.Exact.{Completes, ExactStopped, stopped_behind, bind_err}
 
 -- a valid item and its spelling
 abbrev pub ItemText : {A : Type 0} → (List ℕ → A → Type 0) → (A → Type 0) → List ℕ → A → Type 0
@@ -87,20 +87,9 @@ module _ {A : Type 0} (over : List ℕ → Bool) (read : List ℕ → Result (A 
         | inr more ↦ elim (bind_err (read bytes) (loops_rest_of over read fuel) (Bad left kind)
             (sym (many_more over read fuel bytes more) ∙ e)) as
             (λ w. ExactStopped (ManyText Spelling IsItem) (ManyPlace Spelling IsItem S) bytes left kind) [
-              | inl h ↦
-                  let s = exact.stops bytes left kind more follows fits h in
-                  record {
-                    front = s.front;
-                    byte = s.byte;
-                    back = s.back;
-                    place = s.place;
-                    parts = s.parts;
-                    left_is = s.left_is;
-                    alive = one_begun s.front s.alive;
-                    stands =
-                        ([], [], s.front, refl, (refl, tt), s.stands);
-                    is_wrong = s.is_wrong;
-                  }
+              | inl h ↦ stopped_behind bytes [] bytes left kind refl one_begun
+                  (λ front place s. ([], [], front, refl, (refl, tt), s))
+                  (exact.stops bytes left kind more follows fits h)
               | inr h ↦ elim (bind_err (many_at over read fuel h.0.1) (λ others. done (h.0.0 ∷ others.0, others.1))
                   (Bad left kind) h.2) as (λ w. ExactStopped (ManyText Spelling IsItem)
                   (ManyPlace Spelling IsItem S) bytes
@@ -108,33 +97,19 @@ module _ {A : Type 0} (over : List ℕ → Bool) (read : List ℕ → Result (A 
                     | inl k ↦
                         let t = exact.reader.takes bytes h.0 fits h.1 in
                         let text = t.0.text in
-                        let s = many_stops fuel h.0.1 left kind
+                        stopped_behind bytes text h.0.1 left kind t.0.parts
+                        (λ front c. one_more text h.0.0 front t.0.spelled t.1 c)
+                        (λ front place p. (
+                          text ++ p.0,
+                          h.0.0 ∷ p.1,
+                          p.2,
+                          ap (λ w. text ++ w) p.3 ∙ sym (append_assoc text p.0 p.2),
+                          ((text, p.0, refl, t.0.spelled, p.4.0), (t.1, p.4.1)),
+                          p.5,
+                        ))
+                        (many_stops fuel h.0.1 left kind
                         (less_fuel fuel bytes text h.0.1 h.0.0 enough t.0.parts t.0.spelled)
-                        (exact.leaves bytes h.0 follows fits h.1) (back_fits bytes text h.0.1 t.0.parts fits) k in
-                        let whole : bytes ≡ (text ++ s.front) ++ s.byte ∷ s.back =
-                        t.0.parts ∙ ap (λ w. text ++ w) s.parts
-                        ∙ sym (append_assoc text s.front (s.byte ∷ s.back)) in
-                        let p = s.stands in
-                        let front_is : text ++ s.front ≡ (text ++ p.0) ++ p.2 = ap (λ w. text ++ w) p.3
-                        ∙ sym (append_assoc text p.0 p.2) in
-                        record {
-                          front = text ++ s.front;
-                          byte = s.byte;
-                          back = s.back;
-                          place = s.place;
-                          parts = whole;
-                          left_is = s.left_is;
-                          alive = one_more text h.0.0 s.front t.0.spelled t.1 s.alive;
-                          stands = (
-                            text ++ p.0,
-                            h.0.0 ∷ p.1,
-                            p.2,
-                            front_is,
-                            ((text, p.0, refl, t.0.spelled, p.4.0), (t.1, p.4.1)),
-                            p.5,
-                          );
-                          is_wrong = s.is_wrong;
-                        }
+                        (exact.leaves bytes h.0 follows fits h.1) (back_fits bytes text h.0.1 t.0.parts fits) k)
                     | inr k ↦ absurd (cc k.2)
                   ]
             ]

@@ -13,7 +13,7 @@ use Rattle.cs_parse.specs.Reading.{number_within, number_at, columns_at, length_
 use Rattle.cs_parse.proofs.reading.Steps.{steps_chosen}
 use Rattle.cs_parse.proofs.reading.Numbers.{goes, number_short, number_more, number_last, number_ends, number_goes}
 use Rattle.cs_parse.proofs.reading.NumberLaws.{number_takes, number_again}
-use Rattle.cs_parse.proofs.refusing.Exact.{Completes, ExactStopped, ExactReader}
+use Rattle.cs_parse.proofs.refusing.Exact.{Completes, ExactStopped, stopped_behind, ExactReader}
 
 -- ---- tests
 
@@ -153,24 +153,14 @@ module _ (least most : ℕ) (kind : FaultKind) (P : ℕ → ℕ → BytePlace) (
               | inr on ↦
                   let under = ltb-false most (factor left * next) on.0 in
                   let large = ltb-false byte 128 more.0 in
-                  let s = number_stops left next rest l k under on.1 in
-                  let c = s.alive in
-                  record {
-                    front = byte ∷ s.front;
-                    byte = s.byte;
-                    back = s.back;
-                    place = s.place;
-                    parts = ap (λ w. byte ∷ w) s.parts;
-                    left_is = s.left_is;
-                    alive = record {
-                      more = c.more;
-                      bytes = c.bytes;
-                      value = c.value;
-                      whole = (inr (large, c.whole.0), c.whole.1, c.whole.2);
-                    };
-                    stands = (s.stands.0, s.stands.1, (large, under, s.stands.2), s.stands.3);
-                    is_wrong = s.is_wrong;
-                  }
+                  stopped_behind (byte ∷ rest) (byte ∷ []) rest l k refl
+                  (λ front c. record {
+                    more = c.more;
+                    bytes = c.bytes;
+                    value = c.value;
+                    whole = (inr (large, c.whole.0), c.whole.1, c.whole.2);
+                  })
+                  (λ front place s. (s.0, s.1, (large, under, s.2), s.3)) (number_stops left next rest l k under on.1)
             ]
       ]
 

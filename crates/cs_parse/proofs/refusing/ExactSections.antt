@@ -19,7 +19,7 @@ use Rattle.cs_parse.proofs.reading.HeaderLaws.{header_again}
 use Rattle.cs_parse.proofs.reading.ChangeLaws.{IsChangeBy, IsAny, change_reader, changes_take}
 use Rattle.cs_parse.proofs.reading.TextLaws.{sectioned, changes_behind, nothing_taken, CanFollow, marked_again}
 use Rattle.cs_parse.proofs.reading.TextLaws.{section_reader}
-use Rattle.cs_parse.proofs.refusing.Exact.{Completes, ExactStopped, bind_err}
+use Rattle.cs_parse.proofs.refusing.Exact.{Completes, ExactStopped, stopped_behind, bind_err}
 use Rattle.cs_parse.proofs.refusing.ExactHeader.{HeaderSpelled, header_exact}
 use Rattle.cs_parse.proofs.refusing.ExactChanges.{exact_change_stops, change_places, change_completes}
 use Rattle.cs_parse.proofs.refusing.ExactMany.{ItemText, ManyText, ManyPlace, IsExact, many_stops, many_places}
@@ -122,40 +122,17 @@ marked_stops : (rest : List ℕ) (left : ℕ) (kind : FaultKind) → AreBytes re
 marked_stops rest left kind fits e =
     elim (bind_err (header_at rest) changes_behind (Bad left kind) (sym (marked_again rest) ∙ e)) as
     (λ w. ExactStopped ExactSectionsSectionText InSection (84 ∷ rest) left kind) [
-      | inl h ↦
-          let s = header_exact.stops rest left kind fits h in
-          record {
-            front = 84 ∷ s.front;
-            byte = s.byte;
-            back = s.back;
-            place = s.place;
-            parts = ap (λ w. 84 ∷ w) s.parts;
-            left_is = s.left_is;
-            alive = section_begun s.front s.alive;
-            stands = inl (s.front, refl, s.stands);
-            is_wrong =
-                s.is_wrong;
-          }
+      | inl h ↦ stopped_behind (84 ∷ rest) (84 ∷ []) rest left kind refl section_begun
+          (λ front place s. inl (front, refl, s)) (header_exact.stops rest left kind fits h)
       | inr h ↦
           let shape = h.0.0 in
           let t = header_exact.takes rest h.0 fits h.1 in
           elim (bind_err (changes_at shape.flags h.0.1) (sectioned shape) (Bad left kind) h.2) as
           (λ w. ExactStopped ExactSectionsSectionText InSection (84 ∷ rest) left kind) [
-            | inl k ↦
-                let s = changes_stops shape.flags h.0.1 left kind (back_fits rest t.text h.0.1 t.parts fits) k in
-                let whole : rest ≡ (t.text ++ s.front) ++ s.byte ∷ s.back = t.parts ∙ ap (λ w. t.text ++ w) s.parts
-                ∙ sym (append_assoc t.text s.front (s.byte ∷ s.back)) in
-                record {
-                  front = 84 ∷ (t.text ++ s.front);
-                  byte = s.byte;
-                  back = s.back;
-                  place = s.place;
-                  parts = ap (λ w. 84 ∷ w) whole;
-                  left_is = s.left_is;
-                  alive = section_behind t.text shape s.front t.spelled s.alive;
-                  stands = changes_stand t.text shape s.front s.place t.spelled s.stands;
-                  is_wrong = s.is_wrong;
-                }
+            | inl k ↦ stopped_behind (84 ∷ rest) (84 ∷ t.text) h.0.1 left kind (ap (λ w. 84 ∷ w) t.parts)
+                (λ front c. section_behind t.text shape front t.spelled c)
+                (λ front place s. changes_stand t.text shape front place t.spelled s)
+                (changes_stops shape.flags h.0.1 left kind (back_fits rest t.text h.0.1 t.parts fits) k)
             | inr k ↦ absurd (cc k.2)
           ]
     ]

@@ -20,7 +20,7 @@ use Rattle.cs_parse.proofs.reading.Steps.{steps_chosen}
 use Rattle.cs_parse.proofs.reading.Loops.{loops_rest_of, many_more, many_done}
 use Rattle.cs_parse.proofs.reading.TextLaws.{CanFollow, changes_behind, begins_none, section_begins, sections_take}
 use Rattle.cs_parse.proofs.reading.TextLaws.{sections_again}
-use Rattle.cs_parse.proofs.refusing.Exact.{Completes, ExactStopped, are_bytes-append}
+use Rattle.cs_parse.proofs.refusing.Exact.{Completes, ExactStopped, stopped_behind, are_bytes-append}
 use Rattle.cs_parse.proofs.refusing.ExactMany.{ManyText, ManyPlace, many_stops, many_places, many_completes}
 use Rattle.cs_parse.proofs.refusing.ExactSections.{section_exact}
 
@@ -96,19 +96,9 @@ behind_stops : (text : List ℕ) (left : ℕ) (kind : FaultKind) → CanFollow t
     ≡ Err (Bad left kind) → ExactStopped ExactTextSectionsText Stands text left kind
 unfolding sections_at
 behind_stops text left kind follows fits e =
-    let s = many_stops is_empty section_at SpellsSection IsSection CanFollow InSection section_exact (length text) text
-    left kind (omega arith) follows fits e in
-    record {
-      front = s.front;
-      byte = s.byte;
-      back = s.back;
-      place = s.place;
-      parts = s.parts;
-      left_is = s.left_is;
-      alive = s.alive;
-      stands = stands_behind s.front s.place s.stands;
-      is_wrong = s.is_wrong;
-    }
+    stopped_behind text [] text left kind refl (λ front c. c) stands_behind
+    (many_stops is_empty section_at SpellsSection IsSection CanFollow InSection section_exact (length text) text
+    left kind (omega arith) follows fits e)
 
 pub text_stops : (text : List ℕ) (left : ℕ) (kind : FaultKind) → AreBytes text → sections_at text ≡ Err (Bad left kind)
     → ExactStopped ExactTextSectionsText Stands text left kind

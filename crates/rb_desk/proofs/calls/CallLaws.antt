@@ -4,10 +4,11 @@ use Rattle.std.proofs.Common.{nat_lt, nat_le, filter, length, List, [], ◌∷�
 use Rattle.std.proofs.Common.{IsOk, map, suc, if◌then◌else◌, slice_get, append-nil, refl, sym, ap, subst, ◌∙◌, arith}
 use Rattle.std.proofs.lemmas.Option.{slice_get-map}
 use Rattle.std.specs.Option.{option_map, option_or}
+use Rattle.std.specs.Result.{result_err}
 use Rattle.std.specs.List.{AllByRecursion}
 use Rattle.std.proofs.lemmas.List.Folds.{find-append}
 use Rattle.std.proofs.lemmas.List.Elements.{filter-append}
-use Rattle.std.proofs.lemmas.Bool.{ltb-true, ltb-false, lt-ltb, le-ltb, lt-leb, false≢true}
+use Rattle.std.proofs.lemmas.Bool.{ltb-true, ltb-false, leb-false, lt-ltb, le-ltb, lt-leb, false≢true}
 use Rattle.rb_desk.specs.declared.span.Span.{Span}
 use Rattle.rb_desk.specs.declared.span.Status.TheVariants.{Settled}
 use Rattle.rb_desk.specs.declared.sub.Sub.{Sub}
@@ -23,12 +24,12 @@ use Rattle.rb_desk.specs.Calls.{delivered_picture, is_drained, none_ready, has_r
 use Rattle.rb_desk.specs.Calls.{reconnected_by, reconnected_picture, unsubscribe, unsubscribed_by, unsubscribed_picture}
 use Rattle.rb_desk.specs.Calls.{take, delivered_from, delivered_span, ack, acked_by, acked_span, nack, nacked_by}
 use Rattle.rb_desk.specs.Calls.{nacked_span}
-use Rattle.rb_desk.specs.Shown.{shown, shown_sub, sub_held, sub_out_as, why_none}
+use Rattle.rb_desk.specs.Shown.{shown, shown_sub, sub_held, sub_out_as, why_none, FindsToTake}
 use Rattle.rb_desk.specs.Limits.{Limits}
 use Rattle.rb_desk.specs.Lanes.{Lane, spans_of, lane_held, lane_spans, is_none_left}
 use Rattle.rb_desk.proofs.spans.CutLaws.{CutIsFresh, cut_fresh, cut_none, cut_some}
 use Rattle.rb_desk.proofs.spans.LaneLaws.{lane_spans_is}
-use Rattle.rb_desk.specs.Answers.{DeskAnswers}
+use Rattle.rb_desk.specs.Answers.{DeskAnswers, call_refusal}
 
 -- a subscription that is kept is shown
 pub sub_shown : (batch front s : ℕ) (subs : List Sub) (sub : Sub) → slice_get subs s ≡ Some sub
@@ -83,6 +84,53 @@ reconnect_found p s cursor q h running =
     (if nat_lt cursor q.floor || nat_lt q.offered cursor then refused_call p (refusal.BadCursor q.floor q.offered)
     else (Ok p.next_link, reconnected_picture p s q cursor (cut_spans p.limits.batch (suc cursor) p.front))))
     running
+
+-- ---- refusals
+
+-- a call is refused if a test holds, or by what comes behind the test
+refused_by : {A : Type 0} (test : Bool) (p : Picture) (first why : DeskRefusal) (rest : Result A DeskRefusal × Picture)
+    → (call_refusal rest.0 ≡ Some why → rest ≡ refused_call p why)
+    → call_refusal (cond test (refused_call p first) rest).0 ≡ Some why
+    → cond test (refused_call p first) rest ≡ refused_call p why
+refused_by true p first why rest h e = ap (refused_call p) (same_why first why e)
+  where
+    same_why : (a b : DeskRefusal) → Some a ≡ Some b → a ≡ b
+    same_why a b e = cc
+refused_by false p first why rest h e = h e
+
+not_refused_by : {A : Type 0} (test : Bool) (p : Picture) (first : DeskRefusal) (rest : Result A DeskRefusal × Picture)
+    → call_refusal (cond test (refused_call p first) rest).0 ≡ None
+    → (test ≡ false) × (call_refusal rest.0 ≡ None)
+not_refused_by true p first rest e = absurd (some_why first e)
+  where
+    some_why : (why : DeskRefusal) → Some why ≡ None → ⊥
+    some_why why e = cc
+not_refused_by false p first rest e = (refl, e)
+
+pub subscribe_refused : (p : Picture) (start : ℕ) (why : DeskRefusal) → call_refusal (subscribe p start).0 ≡ Some why
+    → subscribe p start ≡ refused_call p why
+unfolding subscribe
+subscribe_refused p start why =
+    refused_by (nat_lt p.front start) p (refusal.StartAhead p.front) why _
+    (refused_by (nat_le 1024 (length p.subscriptions)) p refusal.TooMany why _ (λ e. absurd cc))
+
+pub subscribe_goes : (p : Picture) (start : ℕ) → call_refusal (subscribe p start).0 ≡ None
+    → (start ≤ p.front) × (length p.subscriptions < 1024)
+unfolding subscribe
+subscribe_goes p start e =
+    let first = not_refused_by (nat_lt p.front start) p (refusal.StartAhead p.front) _ e in
+    let second = not_refused_by (nat_le 1024 (length p.subscriptions)) p refusal.TooMany _ first.1 in
+    (ltb-false _ _ first.0, leb-false _ _ second.0)
+
+-- the error of a result is why its call is refused
+pub error_is_why : {A : Type 0} (result : Result A DeskRefusal) → result_err result ≡ call_refusal result
+error_is_why (Ok answer) = refl
+error_is_why (Err why) = refl
+
+-- what is known of a call's result is known of why it is refused
+pub why_of : {A : Type 0} (call : Result A DeskRefusal × Picture) (result : Result A DeskRefusal) (new : Picture)
+    → call ≡ (result, new) → call_refusal result ≡ call_refusal call.0
+why_of {A = A} call result new e = ap (λ (c : Result A DeskRefusal × Picture). call_refusal c.0) (sym e)
 
 -- ---- want of memory
 
@@ -332,6 +380,22 @@ module _ (lim : Limits) (front : ℕ) (closing : Option ℕ) (clock next_link ne
   taken span some =
       take_room lim front closing clock next_link next_delivery subs s sub here link cursor now same running room
       ∙ ap (delivered_span before s (shown_sub lim.batch front sub) cursor now) some
+
+-- why nothing is taken follows from what is found
+pub finds_why : (lim : Limits) (front : ℕ) (closing : Option ℕ) (subs : List Sub) (s link cursor : ℕ)
+    (result : Result Span DeskRefusal) → FindsToTake result lim front closing subs s link cursor
+    → (clock next_link next_delivery now : ℕ)
+    → call_refusal result
+    ≡ call_refusal (take (shown lim front closing clock next_link next_delivery subs) s link cursor now).0
+finds_why lim front closing subs s link cursor (Ok span) t clock next_link next_delivery now =
+    why_of (take (shown lim front closing clock next_link next_delivery subs) s link cursor now)
+    (Ok (delivery_from (shown lim front closing clock next_link next_delivery subs) s
+    (shown_sub lim.batch front t.sub) span)) _
+    (taken lim front closing clock next_link next_delivery subs s t.sub t.found link cursor now t.linked t.is_open
+    t.room span t.first)
+finds_why lim front closing subs s link cursor (Err why) h clock next_link next_delivery now =
+    why_of (take (shown lim front closing clock next_link next_delivery subs) s link cursor now) (Err why) _
+    (h clock next_link next_delivery now)
 
 -- ---- a subscription more
 

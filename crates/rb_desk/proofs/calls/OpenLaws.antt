@@ -15,7 +15,7 @@ use Rattle.rb_desk.specs.Lanes.{FollowOn, spans_of, lane_held}
 use Rattle.rb_desk.specs.Orders.{order, ready_at, out_at, out_at_status}
 use Rattle.rb_desk.specs.Limits.{Limits}
 use Rattle.rb_desk.specs.Picture.{Subscription}
-use Rattle.rb_desk.specs.Shown.{sub_held, shown_sub, shown, Belongs}
+use Rattle.rb_desk.specs.Shown.{sub_held, shown_sub, shown, Belongs, IsToTake}
 use Rattle.rb_desk.proofs.spans.ChangeLaws.{Changes, changed_spans}
 use Rattle.rb_desk.proofs.calls.KnownLaws.{all_get, held_open}
 
@@ -26,6 +26,13 @@ pub record IsOpen (batch front turn number : ℕ) (subs : List Sub) (s : ℕ) (s
   pub found : slice_get subs s ≡ Some sub
   pub is_open : sub.closed ≡ false
   pub joins : FollowOn (suc sub.lane.floor) sub.lane.held sub.lane.next
+
+-- so it is of what `take` finds
+pub to_take_open : (lim : Limits) (front turn number : ℕ) (subs : List Sub) (s link : ℕ) (span : Span)
+    (t : IsToTake lim.window lim.batch front subs s link span) → 1 ≤ lim.batch
+    → AllByRecursion (Belongs front turn number) subs → IsOpen lim.batch front turn number subs s t.sub
+to_take_open lim front turn number subs s link span t one belong =
+    record { one = one; belong = belong; found = t.found; is_open = t.is_open; joins = t.joined }
 
 -- ---- which order a span stands in
 

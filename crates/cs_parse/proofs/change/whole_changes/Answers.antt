@@ -1,42 +1,33 @@
-use Rattle.std.proofs.Common.{true, length, inl, inr, ◌≡◌, ◌-◌, ◌+◌, ◌⊎◌, sym, ap, ◌∙◌, arith}
+use Rattle.std.proofs.Common.{Some, true, length, inl, inr, ◌≡◌, ◌-◌, ◌+◌, ◌⊎◌, sym, ap, ◌∙◌, arith}
 use Rattle.cs_parse.specs.Front.{changes_front}
 use Rattle.cs_parse.specs.Reading.{ends_section, change_at}
 use Rattle.cs_parse.proofs.counting.Skims.{behind_value, behind_refused}
-use Rattle.cs_parse.proofs.feeding.WholeLaws.{whole_changes_end, whole_changes_stop, whole_changes_go}
+use Rattle.cs_parse.proofs.feeding.WholeLaws.{Found, whole_changes_end, whole_changes_stop, whole_changes_go}
+use Rattle.cs_parse.proofs.change.whole_changes.Goals.{In-Err}
 use Rattle.cs_parse.proofs.change.whole_changes.Goals.{else-loop-test, then-loop-test+then-is_over}
 use Rattle.cs_parse.proofs.change.whole_changes.Goals as goal
 
-pub returns-in-Err-clause-count : goal.returns-in-Err-clause-count
-returns-in-Err-clause-count c =
-    let read = change_at c.args.flags.now c.loop.rest.now in
-    let more = sym c.is_over.ensures ∙ c.if-is_over.false in
-    (whole_changes_stop c.args.flags.now c.args.bytes.now c.loop.rest.now c.loop.count (length c.args.bytes.now)
+-- what was found, where a change isn't read
+found_stopped : (c : In-Err) → Found c.loop.count c.loop.canonical c.args.bytes.now c.loop.rest.now (Some c.in-Err.why)
+    (changes_front c.args.flags.now c.args.bytes.now)
+found_stopped c =
+    whole_changes_stop c.args.flags.now c.args.bytes.now c.loop.rest.now c.loop.count (length c.args.bytes.now)
     c.loop.counter c.loop.canonical c.in-Err.why (changes_front c.args.flags.now c.args.bytes.now) c.loop-test.true
-    more (behind_refused read c.in-Err.why c.in-Err.ensures.read) c.loop.invariant.so_far).many
+    (sym c.is_over.ensures ∙ c.if-is_over.false)
+    (behind_refused (change_at c.args.flags.now c.loop.rest.now) c.in-Err.why c.in-Err.ensures.read)
+    c.loop.invariant.so_far
+
+pub returns-in-Err-clause-count : goal.returns-in-Err-clause-count
+returns-in-Err-clause-count c = (found_stopped (goal.at.returns-in-Err-clause-count c).In-Err).many
 
 pub returns-in-Err-clause-rest : goal.returns-in-Err-clause-rest
-returns-in-Err-clause-rest c =
-    let read = change_at c.args.flags.now c.loop.rest.now in
-    let more = sym c.is_over.ensures ∙ c.if-is_over.false in
-    (whole_changes_stop c.args.flags.now c.args.bytes.now c.loop.rest.now c.loop.count (length c.args.bytes.now)
-    c.loop.counter c.loop.canonical c.in-Err.why (changes_front c.args.flags.now c.args.bytes.now) c.loop-test.true
-    more (behind_refused read c.in-Err.why c.in-Err.ensures.read) c.loop.invariant.so_far).behind
+returns-in-Err-clause-rest c = (found_stopped (goal.at.returns-in-Err-clause-rest c).In-Err).behind
 
 pub returns-in-Err-clause-canonical : goal.returns-in-Err-clause-canonical
-returns-in-Err-clause-canonical c =
-    let read = change_at c.args.flags.now c.loop.rest.now in
-    let more = sym c.is_over.ensures ∙ c.if-is_over.false in
-    (whole_changes_stop c.args.flags.now c.args.bytes.now c.loop.rest.now c.loop.count (length c.args.bytes.now)
-    c.loop.counter c.loop.canonical c.in-Err.why (changes_front c.args.flags.now c.args.bytes.now) c.loop-test.true
-    more (behind_refused read c.in-Err.why c.in-Err.ensures.read) c.loop.invariant.so_far).packs
+returns-in-Err-clause-canonical c = (found_stopped (goal.at.returns-in-Err-clause-canonical c).In-Err).packs
 
 pub returns-in-Err-clause-why : goal.returns-in-Err-clause-why
-returns-in-Err-clause-why c =
-    let read = change_at c.args.flags.now c.loop.rest.now in
-    let more = sym c.is_over.ensures ∙ c.if-is_over.false in
-    (whole_changes_stop c.args.flags.now c.args.bytes.now c.loop.rest.now c.loop.count (length c.args.bytes.now)
-    c.loop.counter c.loop.canonical c.in-Err.why (changes_front c.args.flags.now c.args.bytes.now) c.loop-test.true
-    more (behind_refused read c.in-Err.why c.in-Err.ensures.read) c.loop.invariant.so_far).reason
+returns-in-Err-clause-why c = (found_stopped (goal.at.returns-in-Err-clause-why c).In-Err).reason
 
 pub loop-preserved : goal.loop-preserved
 loop-preserved c =

@@ -4,8 +4,8 @@ use Rattle.cs_parse.specs.Front.{Heads}
 use Rattle.cs_parse.proofs.feeding.Batches.{heads_shorter, batch, batch_bad, batches_brings}
 use Rattle.cs_parse.proofs.grow.brought.Goals as goal
 
-pub overflow_sub-len : goal.overflow_sub-len
-overflow_sub-len c =
+pub overflow_sub-whole : goal.overflow_sub-whole
+overflow_sub-whole c =
     let w = c.head_of-count in
     heads_shorter c.args.sections.now c.args.bytes.now w.result.0 w.result.1.now w.result.2 w.result.3
     (λ i. omega (arith, c.type_inv.bytes i)) w.ensures

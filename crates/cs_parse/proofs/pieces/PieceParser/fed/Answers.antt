@@ -1,9 +1,10 @@
-use Rattle.std.proofs.Common.{◌≡◌, ◌+◌, ◌-◌, ℕ, List, None, length, sym, ap, subst, arith}
+use Rattle.std.proofs.Common.{◌≡◌, ◌+◌, ◌-◌, ◌++◌, ℕ, List, None, length, sym, ap, subst, arith}
 use Rattle.cs_model.specs.Bytes.{AreBytes}
 use Rattle.cs_model.specs.Section.{Section}
-use Rattle.cs_parse.specs.Front.{KeepsSpot}
+use Rattle.cs_parse.specs.Front.{KeepsSpot, IsReadOut}
 use Rattle.cs_parse.specs.Lack.{IsPaused}
 use Rattle.cs_parse.specs.Progress.{Progress, last_flags, advanced}
+use Rattle.cs_parse.proofs.feeding.RestLaws.{out_short}
 use Rattle.cs_parse.proofs.feeding.WaitLaws.{keeps_more, paused_behind, paused_fed}
 use Rattle.cs_parse.proofs.pieces.PieceParser.fed.Goals as goal
 
@@ -20,6 +21,9 @@ invariant_of-self-then-no_end c =
       subst (λ (t : List Section × List ℕ). IsPaused old.fault t.0 t.1 old.header (old.lacking - length piece)) new_is
           (paused_behind old.fault old.text.0 old.text.1 piece old.header old.lacking c.if-piece-self.true none
           c.self.invariant.2),
+      subst (λ (t : List Section × List ℕ). IsReadOut t.0 t.1) new_is
+          (out_short old.text.0 (old.text.1 ++ piece)
+          (c.self.invariant.2.lacks piece c.if-piece-self.true none)),
     )
 
 pub returns-then-no_end-clause-fed : goal.returns-then-no_end-clause-fed

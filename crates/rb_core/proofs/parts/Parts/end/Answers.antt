@@ -4,12 +4,11 @@ use Rattle.std.proofs.lemmas.Option.{slice_get_read}
 use Rattle.cs_parse.specs.End.{admitted_answer, left_by}
 use Rattle.cs_parse.specs.Progress.{answer_at_end}
 use Rattle.rb_core.specs.contracts.parts.Parts.{the_view}
-use Rattle.rb_core.specs.declared.publisher.Publisher.{Publisher}
 use Rattle.rb_core.proofs.Written.{none_staged, end_refused, end_staged}
 use Rattle.rb_core.proofs.parts.Parts.end.Goals as goal
 
-pub returns-in-Err-clause-ok : goal.returns-in-Err-clause-ok
-returns-in-Err-clause-ok c =
+pub returns-in-Err : goal.returns-in-Err
+returns-in-Err c =
     let q = c.index_mut-found.result.now in
     let here : slice_get c.self.inside.publishers.items c.args.publisher ≡ Some q =
     slice_get_read c.self.inside.publishers.items _ c.args.publisher q
@@ -27,8 +26,8 @@ returns-in-Err-clause-ok c =
     (end_refused (the_view c.self.inside) c.args.publisher q (record q { stream = c.end_of.new.stream }) c.in-Err.error
     here staged ends (ap (λ s. record q { stream = s }) stays))
 
-pub returns-clause-ok : goal.returns-clause-ok
-returns-clause-ok c =
+pub returns : goal.returns
+returns c =
     let q = c.index_mut-found.result.now in
     let here : slice_get c.self.inside.publishers.items c.args.publisher ≡ Some q =
     slice_get_read c.self.inside.publishers.items _ c.args.publisher q

@@ -1,12 +1,19 @@
-use Rattle.std.proofs.Common.{◌≡◌, ◌∙◌, suc, Ok, ap, sym, arith, ◌++◌, ◌∷◌, [], length}
+use Rattle.std.proofs.Common.{◌≡◌, ◌∙◌, suc, Ok, ap, sym, ◌++◌, ◌∷◌, [], length}
 use Rattle.std.proofs.lemmas.List.{length-map}
+use Rattle.rb_desk.specs.Answers.{call_refusal}
+use Rattle.rb_desk.specs.Calls.{subscribe}
 use Rattle.rb_desk.specs.Shown.{shown, shown_sub, new_sub}
-use Rattle.rb_desk.proofs.calls.CallLaws.{subscribe_kept}
+use Rattle.rb_desk.proofs.calls.CallLaws.{subscribe_kept, subscribe_goes}
 use Rattle.rb_desk.proofs.calls.CuttingLaws.{subscribed_shown, belongs_subscribed}
 use Rattle.rb_desk.proofs.desk.Desk.subscribe.Goals as goal
 
 pub invariant_of-self-2 : goal.invariant_of-self-2
 invariant_of-self-2 c =
+    let picture = shown c.self.inside.config c.self.inside.front c.self.inside.closing c.self.inside.clock
+    c.self.inside.next_link c.self.inside.next_delivery c.self.inside.subs.items in
+    let may = subscribe_goes picture c.args.start
+    (ap (λ p. call_refusal (subscribe p c.args.start).0) c.self.view_is ∙ sym c.refuses_subscribe.ensures
+    ∙ c.in_default.is) in
     let made : c.push_reserved.new.self.items ≡ c.self.inside.subs.items
     ++ new_sub c.args.start c.self.inside.next_link
     (record { front = c.self.inside.front; turn = suc c.self.inside.turn }) ∷ [] =
@@ -18,11 +25,16 @@ invariant_of-self-2 c =
     rw (made, c.in_ok-turn.ensures) (
       c.self.invariant.0,
       belongs_subscribed c.self.inside.front c.self.inside.turn c.self.inside.next_link
-          c.self.inside.next_delivery c.args.start c.self.inside.subs.items c.if-front-start.false c.self.invariant.1,
+          c.self.inside.next_delivery c.args.start c.self.inside.subs.items may.0 c.self.invariant.1,
     )
 
 pub returns : goal.returns
 returns c =
+    let picture = shown c.self.inside.config c.self.inside.front c.self.inside.closing c.self.inside.clock
+    c.self.inside.next_link c.self.inside.next_delivery c.self.inside.subs.items in
+    let may = subscribe_goes picture c.args.start
+    (ap (λ p. call_refusal (subscribe p c.args.start).0) c.self.view_is ∙ sym c.refuses_subscribe.ensures
+    ∙ c.in_default.is) in
     let made : c.push_reserved.new.self.items ≡ c.self.inside.subs.items
     ++ new_sub c.args.start c.self.inside.next_link
     (record { front = c.self.inside.front; turn = suc c.self.inside.turn }) ∷ [] =
@@ -39,7 +51,7 @@ returns c =
     rw (← c.self.view_is, made, c.in_ok-next_link.ensures, number, ← many)
     (subscribe_kept (shown c.self.inside.config c.self.inside.front c.self.inside.closing c.self.inside.clock
     c.self.inside.next_link c.self.inside.next_delivery c.self.inside.subs.items) c.args.start
-    c.if-front-start.false (omega (arith, many, c.if-len-ge1024.false, c.len.ensures, c.self.inside.subs.ok))
+    may.0 may.1
     ∙ ap (λ p. (
       Ok (
         length (shown c.self.inside.config c.self.inside.front c.self.inside.closing c.self.inside.clock

@@ -1,0 +1,13 @@
+pub mod Valid
+pub mod Between
+pub mod Merging
+pub mod Effects
+pub mod Turning
+pub mod RowLaw
+pub mod Through
+pub mod OneRow
+pub mod Keyed
+pub mod Together
+pub mod Tables
+pub mod Law
+pub mod Lengths

@@ -1,0 +1,4 @@
+pub mod Merge
+pub mod Group
+pub mod Rows
+pub mod Columns

@@ -1,0 +1,39 @@
+use Rattle.std.proofs.Common.{◌≡◌, ◌∙◌, Some, None, Ok, Err, sym, subst, List, option_map}
+use Rattle.rb_desk.specs.declared.sub.Sub.{Sub}
+use Rattle.rb_desk.specs.declared.refusal.DeskRefusal.TheVariants.{Empty}
+use Rattle.rb_desk.specs.Calls.{take_any, delivery_from}
+use Rattle.rb_desk.specs.Shown.{IsJoinedAt, first_to_deliver, span_to_deliver, shown, shown_sub}
+use Rattle.rb_desk.proofs.calls.AnyLaws.{any_goes_first, any_taken, none_taken}
+use Rattle.rb_desk.proofs.calls.CallLaws.{why_of}
+use Rattle.rb_desk.proofs.desk.Desk.refuses_take_any.Goals as goal
+
+pub returns-in-Some : goal.returns-in-Some
+returns-in-Some c now =
+    let d = c.self.inside in
+    let picture = shown d.config d.front d.closing d.clock d.next_link d.next_delivery d.subs.items in
+    let found = c.in-Some.field-0 in
+    let searched : option_map span_to_deliver
+    (first_to_deliver d.config.window d.config.batch d.front 0 d.subs.items) ≡ Some (found.0, found.1) =
+    sym (λ i. option_map span_to_deliver
+    (first_to_deliver (c.window-window.ensures i) (c.batch.ensures.value i) d.front 0 (c.deref.ensures.value i)))
+    ∙ sym c.first_to_deliver.ensures.value ∙ c.in-Some.is in
+    let g = any_goes_first d.config d.front d.turn d.next_delivery d.subs.items found.0 found.1 c.self.invariant.0.0
+    c.self.invariant.1 searched
+    (subst (λ (subs : List Sub). IsJoinedAt subs found.0) c.deref.ensures.value c.in-Some.ensures.joined) in
+    rw (← c.self.view_is)
+    (why_of (take_any picture now) (Ok (delivery_from picture found.0 (shown_sub d.config.batch d.front g.sub) found.1))
+    _ (any_taken d.config d.front d.turn d.clock d.next_link d.next_delivery now d.closing d.subs.items found.0 found.1
+    g))
+
+pub returns-in-None : goal.returns-in-None
+returns-in-None c now =
+    let d = c.self.inside in
+    let picture = shown d.config d.front d.closing d.clock d.next_link d.next_delivery d.subs.items in
+    let searched : option_map span_to_deliver
+    (first_to_deliver d.config.window d.config.batch d.front 0 d.subs.items) ≡ None =
+    sym (λ i. option_map span_to_deliver
+    (first_to_deliver (c.window-window.ensures i) (c.batch.ensures.value i) d.front 0 (c.deref.ensures.value i)))
+    ∙ sym c.first_to_deliver.ensures.value ∙ c.in-None.is in
+    rw (← c.self.view_is)
+    (why_of (take_any picture now) (Err (Empty d.front)) _
+    (none_taken d.config d.front d.clock d.next_link d.next_delivery now d.closing d.subs.items searched))

@@ -1,0 +1,46 @@
+//! What the words of a command line ask for.
+
+ghost use Rattle.std.specs.Prelude.{◌≡◌, map, IfOk, string_bytes};
+ghost use Rattle.clap.specs.Words.{FailsBy, subcommand_of, subcommand_rows_of};
+ghost use Rattle.rb_run.specs.Program.{AsksFor, program, wrong_in};
+
+use crate::command::program;
+use crate::options::config;
+use clap::{ArgMatches, Error};
+use rb_core::{Config, ConfigFault};
+use std::alloc::Global;
+
+/// What a command line asks for.
+#[derive(Debug, Drop)]
+pub enum Job {
+    /// Answers a script under these limits.
+    Script(Config),
+    /// Says which option's word isn't a number in its range.
+    Range(ConfigFault),
+    /// Prints help, the version or what is wrong with the words; or memory ran out.
+    Show(Error),
+}
+
+impl Job {
+    /// What these words ask for. The first is the program's name.
+    pub fn of(alloc: Global, words: &[String]) -> Job
+        ensures { AsksFor result (map string_bytes words.now) }
+    {
+        match found(alloc, words) {
+            Err(shown) => Job::Show(shown),
+            Ok(found) => match config(&found) {
+                Ok(config) => Job::Script(config),
+                Err(fault) => Job::Range(fault),
+            },
+        }
+    }
+}
+
+// what the program's parser finds in the words
+fn found<'a>(alloc: Global, words: &'a [String]) -> Result<ArgMatches<'a>, Error>
+    ensures ok { IfOk result (λ found. subcommand_rows_of found
+        ≡ subcommand_of program (map string_bytes words.now)) }
+    ensures kinds { FailsBy (wrong_in (map string_bytes words.now)) result }
+{
+    program(alloc)?.try_get_matches_from(words)
+}

@@ -1,3 +1,0 @@
-//! Tests of the program, from its words to its ending.
-
-mod program;
