@@ -10,3 +10,4 @@ pub mod FitLaws
 pub mod CountLaws
 pub mod SaidLaws
 pub mod CanonicalLaws
+pub mod Fronts

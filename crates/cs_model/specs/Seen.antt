@@ -1,4 +1,5 @@
 -- Borrowed fields and changes, seen as the values that they encode.
+use Rattle.std.specs.Prelude.{List, map}
 use Rattle.cs_model.specs.declared.value.Value.TheVariants as value
 use Rattle.cs_model.specs.declared.value.Field.{Field}
 use Rattle.cs_model.specs.declared.value.Field.TheVariants.{Is}
@@ -16,6 +17,10 @@ field_seen (Integer n) = Is (value.Integer n)
 field_seen (Text bytes) = Is (value.Text bytes.now)
 field_seen (Blob bytes) = Is (value.Blob bytes.now)
 field_seen Null = Is value.Null
+
+-- the fields that are borrowed
+abbrev pub fields_seen : List FieldRef → List Field
+fields_seen fields = map field_seen fields
 
 -- the change that is borrowed
 abbrev pub change_seen : ChangeRef → Change

@@ -12,11 +12,14 @@ ghost use Rattle.cs_model.specs.PackedChanges.{mark, change_bytes, changes_bytes
 ghost use Rattle.cs_model.specs.PackedChanges.{change_of, Long, Fit, unpacked_changes};
 ghost use Rattle.cs_model.specs.PackedChanges.{AreCanonical};
 ghost use Rattle.cs_model.specs.Schema.{same_bytes};
+ghost use Rattle.cs_model.specs.Seen.{change_seen, fields_seen};
 
 use crate::canonical::text_push;
 use crate::change::{Change, Op};
-use crate::change_ref::ChangeRefs;
+use crate::change_ref::{ChangeRef, ChangeRefs};
 use crate::copy::CopyIn;
+use crate::field::add_fields;
+use crate::field_ref::FieldRef;
 use crate::record::Record;
 use std::alloc::{AllocError, Global};
 use std::marker::Model;
@@ -73,6 +76,38 @@ impl Changes {
         ensures err { OnErr result (self.new.1 ≡ self.old.1) }
     {
         change_push(&mut self.bytes, op, indirect, before, after)?;
+        self.count += 1;
+        Ok(())
+    }
+
+    /// Appends a copy of a borrowed change, without reading its fields. An `Err` does not change the
+    /// list.
+    pub fn push_ref(&mut self, change: &ChangeRef) -> Result<(), AllocError>
+        requires { Long self.old.0 change.now.op change.now.before change.now.after }
+        ensures columns { self.new.0 ≡ self.old.0 }
+        ensures ok { OnOk result (self.new.1 ≡ self.old.1 ++ change_seen change.now ∷ []) }
+        ensures err { OnErr result (self.new.1 ≡ self.old.1) }
+    {
+        ref_push(&mut self.bytes, change)?;
+        self.count += 1;
+        Ok(())
+    }
+
+    /// Appends a change whose records have these fields. An `Err` does not change the list.
+    pub fn push_fields(
+        &mut self,
+        op: Op,
+        indirect: bool,
+        before: &[FieldRef],
+        after: &[FieldRef],
+    ) -> Result<(), AllocError>
+        requires { Long self.old.0 op (fields_seen before.now) (fields_seen after.now) }
+        ensures columns { self.new.0 ≡ self.old.0 }
+        ensures ok { OnOk result (self.new.1 ≡ self.old.1
+            ++ change_of op indirect (fields_seen before.now) (fields_seen after.now) ∷ []) }
+        ensures err { OnErr result (self.new.1 ≡ self.old.1) }
+    {
+        fields_push(&mut self.bytes, op, indirect, before, after)?;
         self.count += 1;
         Ok(())
     }
@@ -266,4 +301,67 @@ fn add_change(
     out.push(u8::from(indirect))?;
     out.extend_from_slice(before)?;
     out.extend_from_slice(after)
+}
+
+// Appends a borrowed change's bytes to `out`. An `Err` does not change `out`.
+fn ref_push(out: &mut Vec<u8>, change: &ChangeRef) -> Result<(), AllocError>
+    ensures ok { AddsBytes result out.old out.new (change_bytes (change_seen change.now)) }
+    ensures err { OnErr result (out.new.items ≡ out.old.items) }
+    ensures before { AllByRecursion Fits change.now.before }
+    ensures after { AllByRecursion Fits change.now.after }
+{
+    let start = out.len();
+    let pushed = add_change(
+        out,
+        change.op,
+        change.indirect,
+        change.before.bytes(),
+        change.after.bytes(),
+    );
+    if pushed.is_err() {
+        out.truncate(start);
+    }
+    pushed
+}
+
+// Appends the bytes of a change with these fields to `out`. An `Err` does not change `out`.
+fn fields_push(
+    out: &mut Vec<u8>,
+    op: Op,
+    indirect: bool,
+    before: &[FieldRef],
+    after: &[FieldRef],
+) -> Result<(), AllocError>
+    ensures ok { AddsBytes result out.old out.new
+        (change_bytes (change_of op indirect (fields_seen before.now) (fields_seen after.now))) }
+    ensures err { OnErr result (out.new.items ≡ out.old.items) }
+    ensures before { OnOk result (AllByRecursion Fits (fields_seen before.now)) }
+    ensures after { OnOk result (AllByRecursion Fits (fields_seen after.now)) }
+{
+    let start = out.len();
+    let pushed = add_fields_of(out, op, indirect, before, after);
+    if pushed.is_err() {
+        out.truncate(start);
+    }
+    pushed
+}
+
+// The same; an `Err` may have appended some.
+fn add_fields_of(
+    out: &mut Vec<u8>,
+    op: Op,
+    indirect: bool,
+    before: &[FieldRef],
+    after: &[FieldRef],
+) -> Result<(), AllocError>
+    ensures ok { AddsBytes result out.old out.new
+        (change_bytes (change_of op indirect (fields_seen before.now) (fields_seen after.now))) }
+    ensures adds { take (length out.old.items) out.new.items ≡ out.old.items }
+    ensures before { OnOk result (AllByRecursion Fits (fields_seen before.now)) }
+    ensures after { OnOk result (AllByRecursion Fits (fields_seen after.now)) }
+{
+    out.push(op.byte())?;
+    out.push(u8::from(indirect))?;
+    add_fields(out, before)?;
+    add_fields(out, after)
 }

@@ -1,10 +1,11 @@
 //! Encodes fields in canonical form.
 
-ghost use Rattle.std.specs.Prelude.{◌≡◌, ◌++◌, ◌∷◌, OnErr, length, take};
+ghost use Rattle.std.specs.List.{AllByRecursion};
+ghost use Rattle.std.specs.Prelude.{◌≡◌, ◌++◌, ◌∷◌, OnOk, OnErr, length, take};
 ghost use Rattle.cs_model.specs.Bytes.{AddsBytes};
 ghost use Rattle.cs_model.specs.FieldBytes.{field_bytes};
-ghost use Rattle.cs_model.specs.Packed.{Fits, IsLength};
-ghost use Rattle.cs_model.specs.Seen.{field_seen};
+ghost use Rattle.cs_model.specs.Packed.{packed, Fits, IsLength};
+ghost use Rattle.cs_model.specs.Seen.{field_seen, fields_seen};
 ghost use Rattle.cs_model.specs.Varint.{varint};
 
 use crate::field_ref::FieldRef;
@@ -47,6 +48,18 @@ fn add_field(out: &mut Vec<u8>, field: FieldRef) -> Result<(), AllocError>
             add_counted(out, 4, bytes)?;
         }
         FieldRef::Null => out.push(5)?,
+    }
+    Ok(())
+}
+
+/// Appends fields in canonical form, one after another. An `Err` may have appended some.
+pub(crate) fn add_fields(out: &mut Vec<u8>, fields: &[FieldRef]) -> Result<(), AllocError>
+    ensures ok { AddsBytes result out.old out.new (packed (fields_seen fields.now)) }
+    ensures adds { take (length out.old.items) out.new.items ≡ out.old.items }
+    ensures fits { OnOk result (AllByRecursion Fits (fields_seen fields.now)) }
+{
+    for field in fields {
+        field_push(out, *field)?;
     }
     Ok(())
 }

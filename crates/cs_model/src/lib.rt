@@ -36,7 +36,7 @@ pub use fields::Fields;
 pub use origin::Origin;
 pub use record::{Record, same_fields};
 pub use row::{Row, same_values};
-pub use row_key::RowKey;
+pub use row_key::{RowKey, key_of_row};
 pub use schema::{RefusedTables, Schema, SchemaError, SectionFault, TableFault};
 pub use section::{Section, same_sections};
 pub use section_ref::{SectionRef, SectionRefs};

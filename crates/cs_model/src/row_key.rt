@@ -33,9 +33,18 @@ impl RowKey {
     ) -> Result<RowKey, AllocError>
         ensures { IfOk result (λ key. key ≡ key_of table shape.now.flags (change_seen change.now)) }
     {
-        let bytes = key_bytes_of(alloc, &shape.flags, record_of(change))?;
+        let bytes = key_of_row(alloc, &shape.flags, change)?;
         Ok(RowKey { table, bytes })
     }
+}
+
+/// The key columns' values of the row that a change is about, in canonical form. `flags` are the
+/// table's key flags, one byte a column. Returns `AllocError` if memory runs out.
+pub fn key_of_row(alloc: Global, flags: &[u8], change: &ChangeRef) -> Result<Octets, AllocError>
+    ensures { IfOk result (λ bytes. bytes ≡ key_bytes flags.now
+        (key_record change.now.op change.now.before change.now.after)) }
+{
+    key_bytes_of(alloc, flags, record_of(change))
 }
 
 // the record that identifies a change's row
