@@ -11,3 +11,4 @@ pub mod Together
 pub mod Tables
 pub mod Law
 pub mod Lengths
+pub mod Ending

@@ -2,3 +2,4 @@ pub mod Merge
 pub mod Group
 pub mod Rows
 pub mod Columns
+pub mod Slots

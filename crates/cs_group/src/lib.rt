@@ -5,4 +5,7 @@
 //! This crate has the definition (*Group*) and its laws, and no function that combines yet.
 #![tactic(auto)]
 
+mod fields;
 pub mod laws;
+mod merge;
+mod slot;
