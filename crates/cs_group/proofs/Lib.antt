@@ -12,3 +12,4 @@ pub mod Tables
 pub mod Law
 pub mod Lengths
 pub mod Ending
+pub mod StepLaw

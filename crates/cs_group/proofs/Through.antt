@@ -50,7 +50,7 @@ left_more flags row there (c ∷ before) change = if_of_row flags row (same_byte
 
 -- ---- a change that stays
 
-kept_merged : (flags row : List ℕ) (key : List Field) (there : Option Change) (changes : List Change)
+pub kept_merged : (flags row : List ℕ) (key : List Field) (there : Option Change) (changes : List Change)
     → IsValidOfRow flags key there
     → AreValidChanges flags changes → IsValidOfRow flags key (lasts_through flags row there changes)
 kept_merged flags row key None changes t c = tt

@@ -3,3 +3,4 @@ pub mod Group
 pub mod Rows
 pub mod Columns
 pub mod Slots
+pub mod Table

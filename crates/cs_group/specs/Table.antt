@@ -1,0 +1,68 @@
+-- The slots of a table: each row's place, and what the row's changes come to so far.
+use Rattle.std.specs.Prelude.{◌≡◌, ℕ, zero, suc, List, [], ◌∷◌, ◌++◌, length, map, slice_get}
+use Rattle.std.specs.Prelude.{Option, Some, None, option_map}
+use Rattle.std.specs.Map.{lookup}
+use Rattle.cs_model.specs.declared.change.Change.{Change}
+use Rattle.cs_model.specs.Schema.{same_bytes}
+use Rattle.cs_group.specs.declared.slot.Slot.{Slot}
+use Rattle.cs_group.specs.Group.{changed_row, combined}
+use Rattle.cs_group.specs.Merge.{only_change, two_changes}
+use Rattle.cs_group.specs.Slots.{slot_seen}
+
+-- slots, each with a change or none
+abbrev pub Slots : Type 0
+Slots = List (Option Change)
+
+-- the slots that are stored, seen as changes
+abbrev pub slots_seen : List (Option Slot) → Slots
+slots_seen slots = map (option_map slot_seen) slots
+
+-- the changes that slots hold, in order
+abbrev pub with_held : Option Change → List Change → List Change
+with_held None changes = changes
+with_held (Some change) changes = change ∷ changes
+
+abbrev pub held : Slots → List Change
+held [] = []
+held (slot ∷ slots) = with_held slot (held slots)
+
+-- the change in a slot, if there is such a slot and it has one
+abbrev pub there_by : Option (Option Change) → Option Change
+there_by None = None
+there_by (Some slot) = slot
+
+abbrev pub there_at : Slots → ℕ → Option Change
+there_at slots place = there_by (slice_get slots place)
+
+-- the slots with this in place of what a slot has
+abbrev pub put_at : ℕ → Option Change → Slots → Slots
+put_at place slot [] = []
+put_at zero slot (old ∷ slots) = slot ∷ slots
+put_at (suc place) slot (old ∷ slots) = old ∷ put_at place slot slots
+
+-- What one more change of a row does, whose slot is at this place: the row's place, and the slots.
+-- A change that meets another turns it, where it stands. One that meets none takes a new last slot.
+abbrev pub begun_last : ℕ → Slots → Option Change → ℕ × Slots
+begun_last place slots None = (place, slots)
+begun_last place slots (Some change) = (length slots, slots ++ Some change ∷ [])
+
+abbrev pub step_by : Option Change → List ℕ → ℕ → Slots → Change → ℕ × Slots
+step_by None flags place slots new = begun_last place slots (only_change flags new)
+step_by (Some there) flags place slots new =
+    (place, put_at place (two_changes flags there new) slots)
+
+abbrev pub step : List ℕ → ℕ → Slots → Change → ℕ × Slots
+step flags place slots new = step_by (there_at slots place) flags place slots new
+
+-- the place of a row
+abbrev pub place_in : List (List ℕ × ℕ) → List ℕ → Option ℕ
+place_in places row = lookup (same_bytes row) places
+
+-- The slots hold what these changes come to, and each row that has a change finds it at its place.
+pub record Holds (flags : List ℕ) (at : List ℕ → Option ℕ) (slots : Slots)
+    (changes : List Change) : Type 0 where
+  pub listed : held slots ≡ combined flags changes
+  pub found : (row : List ℕ) (place : ℕ) (change : Change) → at row ≡ Some place
+      → slice_get slots place ≡ Some (Some change) → changed_row flags change ≡ row
+  pub kept : (place : ℕ) (change : Change) → slice_get slots place ≡ Some (Some change)
+      → at (changed_row flags change) ≡ Some place
