@@ -13,3 +13,5 @@ pub mod Law
 pub mod Lengths
 pub mod Ending
 pub mod StepLaw
+pub mod Slots
+pub mod Holding

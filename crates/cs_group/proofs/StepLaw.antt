@@ -47,7 +47,7 @@ pub one_row : (flags : List ℕ) (key : List Field) (change : Change) → IsVali
     → changed_row flags change ≡ flat_map field_bytes key
 one_row flags key change valid = ap (flat_map field_bytes) valid.1
 
-begun_alone : (there : Option Change) → begun_by None there ≡ as_list there
+pub begun_alone : (there : Option Change) → begun_by None there ≡ as_list there
 begun_alone None = refl
 begun_alone (Some there) = refl
 

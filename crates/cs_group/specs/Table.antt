@@ -1,8 +1,9 @@
 -- The slots of a table: each row's place, and what the row's changes come to so far.
-use Rattle.std.specs.Prelude.{◌≡◌, ℕ, zero, suc, List, [], ◌∷◌, ◌++◌, length, map, slice_get}
+use Rattle.std.specs.Prelude.{◌≡◌, ◌<◌, ◌⊎◌, ℕ, zero, suc, List, [], ◌∷◌, ◌++◌, length, map, slice_get}
 use Rattle.std.specs.Prelude.{Option, Some, None, option_map}
 use Rattle.std.specs.Map.{lookup}
 use Rattle.cs_model.specs.declared.change.Change.{Change}
+use Rattle.cs_model.specs.Changeset.{AreRecords}
 use Rattle.cs_model.specs.Schema.{same_bytes}
 use Rattle.cs_group.specs.declared.slot.Slot.{Slot}
 use Rattle.cs_group.specs.Group.{changed_row, combined}
@@ -58,7 +59,11 @@ step flags place slots new = step_by (there_at slots place) flags place slots ne
 abbrev pub place_in : List (List ℕ × ℕ) → List ℕ → Option ℕ
 place_in places row = lookup (same_bytes row) places
 
--- The slots hold what these changes come to, and each row that has a change finds it at its place.
+-- The place of a row that has no slot yet. No list of slots is as long.
+abbrev pub no_place : ℕ
+no_place = 18446744073709551615
+
+-- The slots hold what these changes come to. Each row that has a change finds it at its place.
 pub record Holds (flags : List ℕ) (at : List ℕ → Option ℕ) (slots : Slots)
     (changes : List Change) : Type 0 where
   pub listed : held slots ≡ combined flags changes
@@ -66,3 +71,7 @@ pub record Holds (flags : List ℕ) (at : List ℕ → Option ℕ) (slots : Slot
       → slice_get slots place ≡ Some (Some change) → changed_row flags change ≡ row
   pub kept : (place : ℕ) (change : Change) → slice_get slots place ≡ Some (Some change)
       → at (changed_row flags change) ≡ Some place
+  pub bound : (row : List ℕ) (place : ℕ) → at row ≡ Some place
+      → (place < length slots) ⊎ (place ≡ no_place)
+  pub valid : (place : ℕ) (change : Change) → slice_get slots place ≡ Some (Some change)
+      → AreRecords flags change.op change.before change.after
