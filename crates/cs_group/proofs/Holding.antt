@@ -274,3 +274,48 @@ module _ (flags : List ℕ) (at later : List ℕ → Option ℕ) (slots : Slots)
               | inr last ↦ subst (IsValidChange flags) last.1 alone.0
             ];
       }
+
+-- ---- every step
+
+placed_at : (slots : Slots) (old : Option ℕ) (place : ℕ) (there : Change) → length slots < no_place
+    → place ≡ unwrap_or old no_place → Holding slots place there → old ≡ Some place
+placed_at slots None place there small is here = absurd (past_end slots place there (omega (arith, is, small)) here)
+placed_at slots (Some old) place there small is here = ap Some (sym is)
+
+pub step_holds : (flags : List ℕ) (at later : List ℕ → Option ℕ) (slots after : Slots) (changes : List Change)
+    (new : Change) (place next : ℕ) → AreValidChanges flags changes → IsValidChange flags new
+    → Holds flags at slots changes → length slots < no_place
+    → place ≡ unwrap_or (at (changed_row flags new)) no_place
+    → next ≡ (step flags place slots new).0 → after ≡ (step flags place slots new).1
+    → ((row : List ℕ) → later row ≡ cond (same_bytes (changed_row flags new) row) (Some next) (at row))
+    → Holds flags later after (changes ++ new ∷ [])
+step_holds flags at later slots after changes new place next valid fits holds small is_at steps turns moved =
+    by (there_at slots place) refl steps turns
+  where
+    Done : Slots → Type 0
+    Done slots = Holds flags later slots (changes ++ new ∷ [])
+
+    moved_to : (p : ℕ) → next ≡ p → (row : List ℕ)
+        → later row ≡ cond (same_bytes (changed_row flags new) row) (Some p) (at row)
+    moved_to p e row = moved row ∙ ap (λ q. cond (same_bytes (changed_row flags new) row) (Some q) (at row)) e
+
+    alone : there_at slots place ≡ None → (only : Option Change) → only_change flags new ≡ only
+        → next ≡ (begun_last place slots only).0 → after ≡ (begun_last place slots only).1
+        → Holds flags later after (changes ++ new ∷ [])
+    alone none None only n a =
+        subst (λ s. Holds flags later s (changes ++ new ∷ [])) (sym a)
+        (ignored flags at later slots changes new valid fits holds small place none is_at only (moved_to place n))
+    alone none (Some first) only n a =
+        subst (λ s. Holds flags later s (changes ++ new ∷ [])) (sym a)
+        (begun flags at later slots changes new valid fits holds small place none is_at first only
+        (moved_to (length slots) n))
+
+    by : (there : Option Change) → there_at slots place ≡ there
+        → next ≡ (step_by there flags place slots new).0 → after ≡ (step_by there flags place slots new).1
+        → Holds flags later after (changes ++ new ∷ [])
+    by None none n a = alone none (only_change flags new) refl n a
+    by (Some there) is n a =
+        let here = there_is slots place there is in
+        subst (λ s. Holds flags later s (changes ++ new ∷ [])) (sym a)
+        (met flags at later slots changes new valid fits holds small place there here
+        (placed_at slots (at (changed_row flags new)) place there small is_at here) (moved_to place n))

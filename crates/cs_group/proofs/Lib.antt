@@ -15,3 +15,4 @@ pub mod Ending
 pub mod StepLaw
 pub mod Slots
 pub mod Holding
+pub mod Seen

@@ -9,3 +9,4 @@ mod fields;
 pub mod laws;
 mod merge;
 mod slot;
+mod table;
