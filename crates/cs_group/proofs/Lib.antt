@@ -16,3 +16,4 @@ pub mod StepLaw
 pub mod Slots
 pub mod Holding
 pub mod Seen
+pub mod Lists

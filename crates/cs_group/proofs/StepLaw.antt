@@ -71,7 +71,8 @@ begun_more flags row None (Some kept) new mine =
 
 -- ---- all places
 
-flat_map_both : (f : Change → List Change) (xs ys : List Change) → flat_map f (xs ++ ys) ≡ flat_map f xs ++ flat_map f ys
+pub flat_map_both : {A B : Type 0} (f : A → List B) (xs ys : List A)
+    → flat_map f (xs ++ ys) ≡ flat_map f xs ++ flat_map f ys
 flat_map_both f [] ys = refl
 flat_map_both f (x ∷ xs) ys = ap (λ zs. f x ++ zs) (flat_map_both f xs ys)
     ∙ sym (append_assoc (f x) (flat_map f xs) (flat_map f ys))

@@ -4,6 +4,7 @@ use Rattle.std.specs.Prelude.{Option, Some, None, option_map}
 use Rattle.std.specs.Map.{lookup}
 use Rattle.cs_model.specs.declared.change.Change.{Change}
 use Rattle.cs_model.specs.Changeset.{AreRecords}
+use Rattle.cs_model.specs.PackedChanges.{Long}
 use Rattle.cs_model.specs.Schema.{same_bytes}
 use Rattle.cs_group.specs.declared.slot.Slot.{Slot}
 use Rattle.cs_group.specs.Group.{changed_row, combined}
@@ -59,6 +60,13 @@ step flags place slots new = step_by (there_at slots place) flags place slots ne
 abbrev pub place_in : List (List ℕ × ℕ) → List ℕ → Option ℕ
 place_in places row = lookup (same_bytes row) places
 
+-- a change of a table with these key flags, and one whose records have as many fields
+abbrev pub IsOf : List ℕ → Change → Type 0
+IsOf flags change = AreRecords flags change.op change.before change.after
+
+abbrev pub IsLong : ℕ → Change → Type 0
+IsLong columns change = Long columns change.op change.before change.after
+
 -- The place of a row that has no slot yet. No list of slots is as long.
 abbrev pub no_place : ℕ
 no_place = 18446744073709551615
@@ -74,4 +82,4 @@ pub record Holds (flags : List ℕ) (at : List ℕ → Option ℕ) (slots : Slot
   pub bound : (row : List ℕ) (place : ℕ) → at row ≡ Some place
       → (place < length slots) ⊎ (place ≡ no_place)
   pub valid : (place : ℕ) (change : Change) → slice_get slots place ≡ Some (Some change)
-      → AreRecords flags change.op change.before change.after
+      → IsOf flags change

@@ -1,10 +1,12 @@
 //! What the changes of a row come to so far.
 
-ghost use Rattle.std.specs.Prelude.{◌≡◌};
+ghost use Rattle.std.specs.Prelude.{◌≡◌, ◌++◌, ◌∷◌, [], OnOk};
 ghost use Rattle.cs_group.specs.Slots.{slot_seen};
+ghost use Rattle.cs_group.specs.Table.{IsLong};
 
 use crate::fields::SlotFields;
-use cs_model::{ChangeRef, FieldRef, Op};
+use cs_model::{ChangeRef, Changes, FieldRef, Op};
+use std::alloc::AllocError;
 
 /// A change that comes from several. Its fields stand in the changesets that they come from.
 #[derive(Debug, Drop)]
@@ -62,6 +64,20 @@ impl<'a> Slot<'a> {
         match self {
             Slot::Alone(change) => return SlotFields::packed(&change.after),
             Slot::Merged(merged) => return SlotFields::listed(&merged.after),
+        }
+    }
+
+    /// Appends the change to a list, in one copy of the bytes that its fields have.
+    pub(crate) fn push_to(&self, changes: &mut Changes) -> Result<(), AllocError>
+        requires { IsLong changes.old.0 (slot_seen self.now) }
+        ensures columns { changes.new.0 ≡ changes.old.0 }
+        ensures ok { OnOk result (changes.new.1 ≡ changes.old.1 ++ slot_seen self.now ∷ []) }
+    {
+        match self {
+            Slot::Alone(change) => changes.push_ref(change),
+            Slot::Merged(merged) => {
+                changes.push_fields(merged.op, merged.indirect, &merged.before, &merged.after)
+            }
         }
     }
 }

@@ -1,19 +1,22 @@
 //! What the changes of one table come to, row by row.
 
-ghost use Rattle.std.specs.Prelude.{◌≡◌, ◌++◌, ◌∷◌, [], List, OnOk, Some};
+ghost use Rattle.std.specs.Prelude.{◌≡◌, ◌++◌, ◌∷◌, [], IfOk, List, OnOk, Some, length};
 ghost use Rattle.std.specs.List.{AllByRecursion};
 ghost use Rattle.std.specs.Option.{option_map};
 ghost use Rattle.cs_model.specs.declared.change.Change.{Change};
-ghost use Rattle.cs_model.specs.Changeset.{AreRecords};
+ghost use Rattle.cs_model.specs.Changeset.{IsChange, all_changes};
 ghost use Rattle.cs_model.specs.Seen.{change_seen};
+ghost use Rattle.cs_group.specs.Group.{combined};
 ghost use Rattle.cs_group.specs.Merge.{only_change};
 ghost use Rattle.cs_group.specs.Slots.{next_seen, slot_seen};
-ghost use Rattle.cs_group.specs.Table.{Holds, begun_last, place_in, put_at, slots_seen, step};
-ghost use Rattle.cs_group.specs.Table.{there_at};
+ghost use Rattle.cs_group.specs.Table.{Holds, IsLong, IsOf, begun_last, held, place_in, put_at};
+ghost use Rattle.cs_group.specs.Table.{slots_seen, step, there_at};
+ghost use Rattle.cs_write.specs.Seen.{sections_of};
 
 use crate::merge::{Next, merge, only};
 use crate::slot::Slot;
-use cs_model::{ChangeRef, Octets, key_of_row};
+use cs_model::laws::changes_fit;
+use cs_model::{ChangeRef, Changes, Octets, Section, Shape, key_of_row};
 use indexmap::IndexMap;
 use std::alloc::{AllocError, Global};
 
@@ -118,9 +121,8 @@ impl<'s, 'a> Table<'s, 'a> {
     pub(crate) fn add(&mut self, alloc: Global, new: ChangeRef<'a>) -> Result<(), AllocError>
         ensures flags { self.new.flags.now ≡ self.old.flags.now }
         ensures ok { OnOk result ((changes : List Change)
-            → AllByRecursion (λ change. AreRecords self.old.flags.now change.op change.before
-            change.after) changes
-            → AreRecords self.old.flags.now new.entry.op new.entry.before new.entry.after
+            → AllByRecursion (IsOf self.old.flags.now) changes
+            → IsOf self.old.flags.now (change_seen new.entry)
             → Holds self.old.flags.now (place_in self.old.places.entries)
             (slots_seen self.old.slots.items) changes
             → Holds self.old.flags.now (place_in self.new.places.entries)
@@ -130,4 +132,57 @@ impl<'s, 'a> Table<'s, 'a> {
         let place = self.places.entry(key)?.or_insert(NO_PLACE);
         turn(alloc, self.flags, place, &mut self.slots, new)
     }
+
+    /// Adds the changes of a section of the table.
+    fn add_all(&mut self, alloc: Global, changes: &'a Changes) -> Result<(), AllocError>
+        ensures flags { self.new.flags.now ≡ self.old.flags.now }
+        ensures ok { OnOk result ((before : List Change)
+            → AllByRecursion (IsOf self.old.flags.now) before
+            → AllByRecursion (IsOf self.old.flags.now) changes.now.1
+            → Holds self.old.flags.now (place_in self.old.places.entries)
+            (slots_seen self.old.slots.items) before
+            → Holds self.old.flags.now (place_in self.new.places.entries)
+            (slots_seen self.new.slots.items) (before ++ changes.now.1)) }
+    {
+        for change in changes.iter() {
+            self.add(alloc, change)?;
+        }
+        Ok(())
+    }
+
+    /// What the changes come to, in the order in which their rows began. `columns` is the number of
+    /// columns of the table.
+    fn changes(&self, alloc: Global, columns: usize) -> Result<Changes, AllocError>
+        requires { AllByRecursion (IsLong columns) (held (slots_seen self.now.slots.items)) }
+        ensures columns { IfOk result (λ made. made.0 ≡ columns) }
+        ensures held { IfOk result (λ made. made.1 ≡ held (slots_seen self.now.slots.items)) }
+    {
+        let mut changes = Changes::new(alloc, columns);
+        for slot in &self.slots {
+            let Some(slot) = slot else {
+                continue;
+            };
+            slot.push_to(&mut changes)?;
+        }
+        Ok(changes)
+    }
+}
+
+/// What the changes of these sections of one table come to.
+pub(crate) fn combined(
+    alloc: Global,
+    shape: &Shape,
+    sections: &[&Section],
+) -> Result<Changes, AllocError>
+    requires { AllByRecursion (IsChange shape.now) (all_changes (sections_of sections.now)) }
+    ensures columns { IfOk result (λ made. made.0 ≡ length shape.now.flags) }
+    ensures combined { IfOk result (λ made. made.1
+        ≡ combined shape.now.flags (all_changes (sections_of sections.now))) }
+{
+    changes_fit();
+    let mut table = Table::new(alloc, &shape.flags);
+    for section in sections {
+        table.add_all(alloc, section.changes())?;
+    }
+    table.changes(alloc, shape.flags.len())
 }

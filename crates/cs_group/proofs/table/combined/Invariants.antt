@@ -1,0 +1,13 @@
+use Rattle.std.proofs.Common.{◌≡◌, ◌++◌, take}
+use Rattle.cs_model.specs.Changeset.{all_changes}
+use Rattle.cs_group.specs.Table.{Holds, place_in, slots_seen}
+use Rattle.cs_write.specs.Seen.{sections_of}
+use Rattle.cs_group.proofs.table.combined.Given as goal
+
+-- the slots hold what the changes of the sections so far come to
+abbrev pub invariant-loop-section : goal.invariant-loop-section
+invariant-loop-section l = record {
+  flags : l.table.flags.now ≡ l.fn.shape.flags;
+  holds : Holds l.fn.shape.flags (place_in l.table.places.entries) (slots_seen l.table.slots.items)
+      (all_changes (sections_of (take l.section-index l.sections)));
+}
