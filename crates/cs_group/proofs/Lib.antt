@@ -17,3 +17,5 @@ pub mod Slots
 pub mod Holding
 pub mod Seen
 pub mod Lists
+pub mod Knowing
+pub mod Fitting

@@ -4,3 +4,4 @@ pub mod Rows
 pub mod Columns
 pub mod Slots
 pub mod Table
+pub mod Adding

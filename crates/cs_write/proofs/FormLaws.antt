@@ -58,7 +58,7 @@ begun_fits : (b : Bool) (earlier : List Shape) (s : Section) (ss : List Section)
 begun_fits true earlier s ss first old new = old
 begun_fits false earlier s ss first old new = (first, new)
 
-grouped_fit : (earlier : List Shape) (ss : List Section) → IsChangeset ss
+pub grouped_fit : (earlier : List Shape) (ss : List Section) → IsChangeset ss
     → AllByRecursion IsSection (map joined_section (by_shape earlier ss))
 unfolding by_shape
 grouped_fit earlier [] h = tt

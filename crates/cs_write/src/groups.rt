@@ -13,8 +13,12 @@ use std::alloc::{AllocError, Global};
 /// The sections of each shape. The shapes are in the order of their first sections.
 pub type Groups<'a> = IndexMap<Shape, Vec<&'a Section>>;
 
-// Adds a section to the group of its shape, which it creates if there is none.
-fn add<'a>(alloc: Global, groups: &mut Groups<'a>, section: &'a Section) -> Result<(), AllocError>
+/// Adds a section to the group of its shape, which it creates if there is none. cs_group uses it.
+pub fn add_section<'a>(
+    alloc: Global,
+    groups: &mut Groups<'a>,
+    section: &'a Section,
+) -> Result<(), AllocError>
     ensures ok { OnOk result (seen groups.new.entries
         ≡ added (seen groups.old.entries) section.now) }
 {
@@ -38,7 +42,7 @@ pub fn groups_of<'a>(alloc: Global, sections: &'a [Section]) -> Result<Groups<'a
 {
     let mut groups = IndexMap::new(alloc);
     for section in sections {
-        add(alloc, &mut groups, section)?;
+        add_section(alloc, &mut groups, section)?;
     }
     Ok(groups)
 }

@@ -18,6 +18,7 @@ mod sink;
 mod text;
 
 pub use form::canonical;
+pub use groups::{Groups, add_section};
 pub use pieces::{WriteError, write_pieces};
 pub use sink::{Sink, SinkFault};
 pub use text::{write, write_to};
