@@ -1,16 +1,16 @@
 -- The tables that are known by name, once one more section is there.
-use Rattle.std.proofs.Common.{◌≡◌, ◌∙◌, ℕ, zero, suc, ◌+◌, ◌≤◌, Bool, true, false, cond, not, ◌||◌, List, [], ◌∷◌, ◌++◌, length, take}
-use Rattle.std.proofs.Common.{Option, Some, None, Bor, refl, sym, ap, subst, arith, append_assoc, length-take, min}
-use Rattle.std.proofs.lemmas.List.{take-take, append-nil}
+use Rattle.std.proofs.Common.{◌≡◌, ◌∙◌, ℕ, suc, ◌+◌, Bool, true, false, cond, not, ◌||◌, List, [], ◌∷◌, ◌++◌, length}
+use Rattle.std.proofs.Common.{take}
+use Rattle.std.proofs.Common.{Option, Some, None, Bor, refl, sym, ap, arith, append_assoc, length-take}
+use Rattle.std.proofs.lemmas.List.{take-take}
 use Rattle.std.proofs.lemmas.Option.{none-some}
 use Rattle.std.specs.Cmp.Lexicographic.{same_text, nat_list_eq_equiv}
-use Rattle.std.specs.List.{list_any}
 use Rattle.std.specs.Map.{lookup}
 use Rattle.std.specs.Prelude.{option_map, ◌&&◌}
 use Rattle.cs_model.specs.declared.shape.Shape.{Shape}
 use Rattle.cs_model.specs.Schema.{same_bytes, same_shape}
 use Rattle.cs_model.specs.Section.{Section}
-use Rattle.cs_group.specs.Adding.{Knows, ReportsClash, differs_by, known_as, refused_by, first_refused}
+use Rattle.cs_group.specs.Adding.{Knows, ReportsClash, differs_by, known_as, refused_earliest, first_refused}
 use Rattle.cs_group.specs.declared.error.GroupError.{GroupError}
 use Rattle.cs_group.specs.declared.error.GroupError.TheVariants.{Schema, Memory}
 use Rattle.cs_group.specs.Group.{clashes, differs_from, first_clash}
@@ -55,7 +55,8 @@ lookup_more test (first ∷ tables) entry none = by (test first.0) none (lookup_
 lookup_apart : (test : List ℕ → Bool) (tables : List (List ℕ × Bor Shape)) (entry : List ℕ × Bor Shape)
     → test entry.0 ≡ false → lookup test (tables ++ entry ∷ []) ≡ lookup test tables
 lookup_apart test [] entry apart = ap (λ b. cond b (Some entry.1) None) apart
-lookup_apart test (first ∷ tables) entry apart = ap (cond (test first.0) (Some first.1)) (lookup_apart test tables entry apart)
+lookup_apart test (first ∷ tables) entry apart = ap (cond (test first.0) (Some first.1))
+    (lookup_apart test tables entry apart)
 
 -- ---- a section whose table is known
 
@@ -82,9 +83,9 @@ knows_old earlier section tables known is knows fits other =
         sym (same_text section.shape.name other.shape.name (sym e)) in
         let same : clashes earlier other ≡ not (same_shape section.shape other.shape) =
         knows other ∙ ap (λ k. differs_by k other.shape) (ap (known_as tables) name ∙ is)
-            ∙ ap (λ s. not (same_shape s other.shape)) shape in
+        ∙ ap (λ s. not (same_shape s other.shape)) shape in
         ap (λ b. b || not (same_shape section.shape other.shape)) same
-            ∙ or_itself (not (same_shape section.shape other.shape)) ∙ sym same ∙ knows other
+        ∙ or_itself (not (same_shape section.shape other.shape)) ∙ sym same ∙ knows other
 
 -- ---- a section of a new table
 
@@ -112,12 +113,12 @@ knows_new earlier section tables shape is none knows other =
         let absent : lookup (same_bytes other.shape.name) tables ≡ None =
         ap (λ n. lookup (same_bytes n) tables) name ∙ none in
         ap (λ b. clashes earlier other || (b && not (same_shape section.shape other.shape))) (turned true e)
-            ∙ ap (λ b. b || not (same_shape section.shape other.shape))
-            (knows other ∙ ap (λ k. differs_by (option_map (λ s. s.now) k) other.shape) absent)
-            ∙ ap (λ s. not (same_shape s other.shape)) is
-            ∙ ap (λ k. differs_by (option_map (λ s. s.now) k) other.shape)
-            (sym (lookup_more (same_bytes other.shape.name) tables (section.shape.name, shape) absent
-            ∙ ap (λ b. cond b (Some shape) None) e))
+        ∙ ap (λ b. b || not (same_shape section.shape other.shape))
+        (knows other ∙ ap (λ k. differs_by (option_map (λ s. s.now) k) other.shape) absent)
+        ∙ ap (λ s. not (same_shape s other.shape)) is
+        ∙ ap (λ k. differs_by (option_map (λ s. s.now) k) other.shape)
+        (sym (lookup_more (same_bytes other.shape.name) tables (section.shape.name, shape) absent
+        ∙ ap (λ b. cond b (Some shape) None) e))
 
 -- ---- entries that are added are kept
 
@@ -156,13 +157,13 @@ clash_here earlier section rest i total clash e =
 -- ---- the first changeset that is refused
 
 -- what is refused of one changeset is refused of all
-pub reports_all : (error : GroupError) (clash later total : Option ℕ) → total ≡ refused_by clash later
+pub reports_all : (error : GroupError) (clash later total : Option ℕ) → total ≡ refused_earliest clash later
     → ReportsClash error clash → ReportsClash error total
-reports_all (Schema section) clash later total is reports = is ∙ ap (λ c. refused_by c later) reports
+reports_all (Schema section) clash later total is reports = is ∙ ap (λ c. refused_earliest c later) reports
 reports_all Memory clash later total is reports = tt
 
 pub refused_next : (earlier changeset : List Section) (changesets : List (List Section)) (total : Option ℕ)
     → first_clash earlier changeset ≡ None → total ≡ first_refused earlier (changeset ∷ changesets)
     → total ≡ first_refused (earlier ++ changeset) changesets
 refused_next earlier changeset changesets total fits is =
-    is ∙ ap (λ clash. refused_by clash (first_refused (earlier ++ changeset) changesets)) fits
+    is ∙ ap (λ clash. refused_earliest clash (first_refused (earlier ++ changeset) changesets)) fits

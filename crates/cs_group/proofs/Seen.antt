@@ -1,12 +1,12 @@
 -- Stored slots, seen as changes.
-use Rattle.std.proofs.Common.{◌≡◌, ◌∙◌, ℕ, zero, suc, List, [], ◌∷◌, Option, Some, None, slice_get, slice_set, refl, ap, sym}
+use Rattle.std.proofs.Common.{◌≡◌, ℕ, zero, suc, List, [], ◌∷◌, Option, Some, slice_get, slice_set, refl, ap, sym}
 use Rattle.std.proofs.Common.{◌≤◌, length, arith}
 use Rattle.std.proofs.Math.Bridge.{no_suc-le-zero}
 use Rattle.std.specs.Prelude.{option_map}
 use Rattle.cs_model.specs.declared.change.Change.{Change}
 use Rattle.cs_group.specs.declared.slot.Slot.{Slot}
 use Rattle.cs_group.specs.Slots.{slot_seen}
-use Rattle.cs_group.specs.Table.{Slots, put_at, slots_seen, there_at, there_by}
+use Rattle.cs_group.specs.Table.{Slots, put_at, slots_seen, there_at}
 
 -- the change at a place
 pub seen_at : (items : List (Option Slot)) (place : ℕ)

@@ -1,5 +1,5 @@
 -- Slots: what they hold, and what they hold once one is replaced or added.
-use Rattle.std.proofs.Common.{◌≡◌, ◌∙◌, ℕ, zero, suc, ◌<◌, Bool, true, false, cond, List, [], ◌∷◌, ◌++◌, length}
+use Rattle.std.proofs.Common.{◌≡◌, ◌∙◌, ℕ, zero, suc, Bool, true, false, cond, List, [], ◌∷◌, ◌++◌, length}
 use Rattle.std.proofs.Common.{Option, Some, None, slice_get, refl, ap, sym, ◌≤◌, ◌⊎◌, inl, inr, true≢false, arith}
 use Rattle.std.proofs.Math.Bridge.{no_suc-le-zero}
 use Rattle.std.proofs.Math.Nat.{suc-ne-zero}
@@ -7,7 +7,7 @@ use Rattle.std.proofs.lemmas.Option.{none-some}
 use Rattle.std.specs.List.{flat_map}
 use Rattle.std.specs.Prelude.{filter}
 use Rattle.cs_model.specs.declared.change.Change.{Change}
-use Rattle.cs_group.specs.Table.{Slots, held, with_held, put_at, there_by, there_at}
+use Rattle.cs_group.specs.Table.{Slots, slot_changes, put_at, there_by, there_at}
 use Rattle.cs_group.proofs.Through.{as_list}
 
 -- a slot holds this change
@@ -16,7 +16,8 @@ Holding slots place change = slice_get slots place ≡ Some (Some change)
 
 -- ---- one more slot
 
-pub held_more : (slots : Slots) (change : Change) → held (slots ++ Some change ∷ []) ≡ held slots ++ change ∷ []
+pub held_more : (slots : Slots) (change : Change) → slot_changes (slots ++ Some change ∷ []) ≡ slot_changes slots
+    ++ change ∷ []
 held_more [] change = refl
 held_more (None ∷ slots) change = held_more slots change
 held_more (Some first ∷ slots) change = ap (λ xs. first ∷ xs) (held_more slots change)
@@ -25,7 +26,7 @@ held_more (Some first ∷ slots) change = ap (λ xs. first ∷ xs) (held_more sl
 
 pub held_same : (f : Change → List Change) (slots : Slots)
     → ((place : ℕ) (change : Change) → Holding slots place change → f change ≡ change ∷ [])
-    → flat_map f (held slots) ≡ held slots
+    → flat_map f (slot_changes slots) ≡ slot_changes slots
 held_same f [] same = refl
 held_same f (None ∷ slots) same = held_same f slots (λ place change is. same (suc place) change is)
 held_same f (Some first ∷ slots) same =
@@ -33,38 +34,39 @@ held_same f (Some first ∷ slots) same =
 
 -- ---- one slot replaced
 
-held_first : (x : Option Change) (slots : Slots) → held (x ∷ slots) ≡ as_list x ++ held slots
+held_first : (x : Option Change) (slots : Slots) → slot_changes (x ∷ slots) ≡ as_list x ++ slot_changes slots
 held_first None slots = refl
 held_first (Some x) slots = refl
 
 pub held_put : (f : Change → List Change) (slots : Slots) (at : ℕ) (there : Change) (x : Option Change)
     → Holding slots at there → f there ≡ as_list x
     → ((place : ℕ) (change : Change) → Holding slots place change → (place ≡ at → ⊥) → f change ≡ change ∷ [])
-    → held (put_at at x slots) ≡ flat_map f (held slots)
+    → slot_changes (put_at at x slots) ≡ flat_map f (slot_changes slots)
 held_put f [] at there x here turns others = absurd (none-some _ here)
 held_put f (slot ∷ slots) zero there x here turns others = first slot cc
   where
-    after : flat_map f (held slots) ≡ held slots
+    after : flat_map f (slot_changes slots) ≡ slot_changes slots
     after = held_same f slots (λ place change is. others (suc place) change is (suc-ne-zero place))
 
-    first : (slot : Option Change) → slot ≡ Some there → held (x ∷ slots) ≡ flat_map f (held (slot ∷ slots))
+    first : (slot : Option Change) → slot ≡ Some there → slot_changes (x ∷ slots)
+        ≡ flat_map f (slot_changes (slot ∷ slots))
     first None e = absurd (none-some _ e)
     first (Some old) e =
         let same : old ≡ there = cc in
-        held_first x slots ∙ sym (ap (λ xs. xs ++ flat_map f (held slots)) (ap f same ∙ turns)
+        held_first x slots ∙ sym (ap (λ xs. xs ++ flat_map f (slot_changes slots)) (ap f same ∙ turns)
         ∙ ap (λ xs. as_list x ++ xs) after)
 held_put f (None ∷ slots) (suc at) there x here turns others =
     held_put f slots at there x here turns (λ place change is other. others (suc place) change is (λ e. other cc))
 held_put f (Some first ∷ slots) (suc at) there x here turns others =
     ap (λ xs. first ∷ xs) (held_put f slots at there x here turns
     (λ place change is other. others (suc place) change is (λ e. other cc)))
-    ∙ sym (ap (λ xs. xs ++ flat_map f (held slots)) (others zero first refl (λ e. suc-ne-zero at (sym e))))
+    ∙ sym (ap (λ xs. xs ++ flat_map f (slot_changes slots)) (others zero first refl (λ e. suc-ne-zero at (sym e))))
 
 -- ---- which changes slots hold
 
--- a change that is held stands in a slot
+-- a change that is slot_changes stands in a slot
 pub slot_of : (P : Change → Bool) (slots : Slots) (change : Change) (rest : List Change)
-    → filter P (held slots) ≡ change ∷ rest → (place : ℕ) × Holding slots place change × (P change ≡ true)
+    → filter P (slot_changes slots) ≡ change ∷ rest → (place : ℕ) × Holding slots place change × (P change ≡ true)
 slot_of P [] change rest e = absurd (none_first e)
   where
     none_first : [] ≡ change ∷ rest → ⊥
@@ -74,16 +76,17 @@ slot_of P (None ∷ slots) change rest e =
     (suc found.0, found.1, found.2)
 slot_of P (Some first ∷ slots) change rest e = by (P first) refl e (slot_of P slots change rest)
   where
-    by : (b : Bool) → P first ≡ b → cond b (first ∷ filter P (held slots)) (filter P (held slots)) ≡ change ∷ rest
-        → (filter P (held slots) ≡ change ∷ rest
+    by : (b : Bool) → P first ≡ b → cond b (first ∷ filter P (slot_changes slots)) (filter P (slot_changes slots))
+        ≡ change ∷ rest
+        → (filter P (slot_changes slots) ≡ change ∷ rest
         → (place : ℕ) × Holding slots place change × (P change ≡ true))
         → (place : ℕ) × Holding (Some first ∷ slots) place change × (P change ≡ true)
     by true p e later = let same : first ≡ change = cc in (zero, ap (λ c. Some (Some c)) same, sym (ap P same) ∙ p)
     by false p e later = let found = later e in (suc found.0, found.1, found.2)
 
--- a change that stands in a slot is held
+-- a change that stands in a slot is slot_changes
 pub held_of : (P : Change → Bool) (slots : Slots) (place : ℕ) (change : Change) → Holding slots place change
-    → P change ≡ true → filter P (held slots) ≡ [] → ⊥
+    → P change ≡ true → filter P (slot_changes slots) ≡ [] → ⊥
 held_of P [] place change is p none = none-some _ is
 held_of P (None ∷ slots) zero change is p none = absurd none_is
   where
@@ -92,13 +95,14 @@ held_of P (None ∷ slots) zero change is p none = absurd none_is
 held_of P (None ∷ slots) (suc place) change is p none = held_of P slots place change is p none
 held_of P (Some first ∷ slots) zero change is p none = by (P first) refl none
   where
-    by : (b : Bool) → P first ≡ b → cond b (first ∷ filter P (held slots)) (filter P (held slots)) ≡ [] → ⊥
+    by : (b : Bool) → P first ≡ b → cond b (first ∷ filter P (slot_changes slots)) (filter P (slot_changes slots))
+        ≡ [] → ⊥
     by true q e = cc
     by false q e = let same : first ≡ change = cc in true≢false (sym p ∙ sym (ap P same) ∙ q)
 held_of P (Some first ∷ slots) (suc place) change is p none = by (P first) none (held_of P slots place change is p)
   where
-    by : (b : Bool) → cond b (first ∷ filter P (held slots)) (filter P (held slots)) ≡ []
-        → (filter P (held slots) ≡ [] → ⊥) → ⊥
+    by : (b : Bool) → cond b (first ∷ filter P (slot_changes slots)) (filter P (slot_changes slots)) ≡ []
+        → (filter P (slot_changes slots) ≡ [] → ⊥) → ⊥
     by true e later = cc
     by false e later = later e
 
@@ -147,9 +151,9 @@ more_is [] zero new change is = inr (refl, cc)
 more_is [] (suc place) new change is = absurd (none-some _ is)
 more_is (slot ∷ slots) zero new change is = inl is
 more_is (slot ∷ slots) (suc place) new change is = elim (more_is slots place new change is) [
-      | inl old ↦ inl old
-      | inr last ↦ inr (ap suc last.0, last.1)
-    ]
+  | inl old ↦ inl old
+  | inr last ↦ inr (ap suc last.0, last.1)
+]
 
 -- slots end before a place that no list reaches
 pub past_end : (slots : Slots) (place : ℕ) (change : Change) → length slots ≤ place → Holding slots place change → ⊥

@@ -9,12 +9,12 @@ use Rattle.cs_model.specs.FieldBytes.{field_bytes}
 use Rattle.cs_model.specs.Schema.{same_bytes}
 use Rattle.cs_group.specs.Group.{changed_row, left_of, lasts_through, begun_by, begun_at, combined_after, combined}
 use Rattle.cs_group.specs.Merge.{only_change, two_changes}
-use Rattle.cs_group.proofs.Merging.{IsValidOfRow, key_in, alone_is, merged_is}
+use Rattle.cs_group.proofs.Merging.{IsValidOfRow, key_in, alone_is}
 use Rattle.cs_group.proofs.Through.{AreValidChanges, as_list, kept_merged}
 
 -- a change of the result, with one change more
-abbrev pub turned : List ℕ → Change → Change → List Change
-turned flags new there = cond (same_bytes (changed_row flags new) (changed_row flags there))
+abbrev pub turned_by : List ℕ → Change → Change → List Change
+turned_by flags new there = cond (same_bytes (changed_row flags new) (changed_row flags there))
     (as_list (two_changes flags there new)) (there ∷ [])
 
 -- ---- what lasts through one change more
@@ -60,7 +60,7 @@ turns_if false flags row kept next = refl
 
 begun_more : (flags row : List ℕ) (left kept : Option Change) (new : Change)
     → ((change : Change) → kept ≡ Some change → changed_row flags change ≡ row)
-    → begun_by left (lasts_through flags row kept (new ∷ [])) ≡ flat_map (turned flags new) (begun_by left kept)
+    → begun_by left (lasts_through flags row kept (new ∷ [])) ≡ flat_map (turned_by flags new) (begun_by left kept)
 begun_more flags row (Some left) None new mine = refl
 begun_more flags row (Some left) (Some kept) new mine = refl
 begun_more flags row None None new mine = refl
@@ -77,18 +77,18 @@ flat_map_both f [] ys = refl
 flat_map_both f (x ∷ xs) ys = ap (λ zs. f x ++ zs) (flat_map_both f xs ys)
     ∙ sym (append_assoc (f x) (flat_map f xs) (flat_map f ys))
 
-pub kept_row : (flags : List ℕ) (change : Change) (after : List Change) → AreValidChanges flags (change ∷ after)
+pub lasting_row : (flags : List ℕ) (change : Change) (after : List Change) → AreValidChanges flags (change ∷ after)
     → (kept : Change)
     → lasts_through flags (changed_row flags change) (only_change flags change) after ≡ Some kept
     → changed_row flags kept ≡ changed_row flags change
-kept_row flags change after valid kept is =
+lasting_row flags change after valid kept is =
     one_row flags (key_in flags change) kept (subst (IsValidOfRow flags (key_in flags change)) is
     (kept_merged flags (changed_row flags change) (key_in flags change) (only_change flags change) after
     (alone_is flags change valid.0) valid.1))
 
 more_after : (flags : List ℕ) (before after : List Change) (new : Change) → AreValidChanges flags after
     → combined_after flags before (after ++ new ∷ [])
-    ≡ flat_map (turned flags new) (combined_after flags before after)
+    ≡ flat_map (turned_by flags new) (combined_after flags before after)
     ++ combined_after flags (before ++ after) (new ∷ [])
 more_after flags before [] new valid = ap (λ b. combined_after flags b (new ∷ [])) (sym (append-nil before))
 more_after flags before (change ∷ after) new valid = joined (more_after flags (before ++ change ∷ []) after new valid.1)
@@ -102,31 +102,34 @@ more_after flags before (change ∷ after) new valid = joined (more_after flags 
     later : List Change
     later = combined_after flags (before ++ change ∷ []) after
 
-    begun_here : begun_at flags before change (after ++ new ∷ []) ≡ flat_map (turned flags new) here
-    begun_here = ap (begun_by (left_of flags row None before)) (lasts_more flags row (only_change flags change) after new)
+    begun_here : begun_at flags before change (after ++ new ∷ []) ≡ flat_map (turned_by flags new) here
+    begun_here = ap (begun_by (left_of flags row None before)) (lasts_more flags row
+        (only_change flags change) after new)
         ∙ begun_more flags row (left_of flags row None before)
-        (lasts_through flags row (only_change flags change) after) new (kept_row flags change after valid)
+        (lasts_through flags row (only_change flags change) after) new (lasting_row flags change after valid)
 
     joined : combined_after flags (before ++ change ∷ []) (after ++ new ∷ [])
-        ≡ flat_map (turned flags new) later ++ combined_after flags ((before ++ change ∷ []) ++ after) (new ∷ [])
-        → begun_at flags before change (after ++ new ∷ []) ++ combined_after flags (before ++ change ∷ []) (after ++ new ∷ [])
-        ≡ flat_map (turned flags new) (here ++ later) ++ combined_after flags (before ++ change ∷ after) (new ∷ [])
+        ≡ flat_map (turned_by flags new) later ++ combined_after flags ((before ++ change ∷ []) ++ after) (new ∷ [])
+        → begun_at flags before change (after ++ new ∷ []) ++ combined_after flags (before ++ change ∷ []) (after
+        ++ new ∷ [])
+        ≡ flat_map (turned_by flags new) (here ++ later) ++ combined_after flags (before ++ change ∷ after) (new ∷ [])
     joined more =
         (λ i. begun_here i ++ more i)
-        ∙ ap (λ b. flat_map (turned flags new) here
-        ++ (flat_map (turned flags new) later ++ combined_after flags b (new ∷ []))) (append_assoc before (change ∷ []) after)
-        ∙ sym (append_assoc (flat_map (turned flags new) here) (flat_map (turned flags new) later)
+        ∙ ap (λ b. flat_map (turned_by flags new) here
+        ++ (flat_map (turned_by flags new) later ++ combined_after flags b (new ∷ []))) (append_assoc before
+        (change ∷ []) after)
+        ∙ sym (append_assoc (flat_map (turned_by flags new) here) (flat_map (turned_by flags new) later)
         (combined_after flags (before ++ change ∷ after) (new ∷ [])))
         ∙ ap (λ xs. xs ++ combined_after flags (before ++ change ∷ after) (new ∷ []))
-        (sym (flat_map_both (turned flags new) here later))
+        (sym (flat_map_both (turned_by flags new) here later))
 
 -- the step law
 pub combined_more : (flags : List ℕ) (changes : List Change) (new : Change) → AreValidChanges flags changes
     → combined flags (changes ++ new ∷ [])
-    ≡ flat_map (turned flags new) (combined flags changes)
+    ≡ flat_map (turned_by flags new) (combined flags changes)
     ++ begun_by (left_of flags (changed_row flags new) None changes) (only_change flags new)
 combined_more flags changes new valid = more_after flags [] changes new valid
-    ∙ ap (λ xs. flat_map (turned flags new) (combined flags changes) ++ xs)
+    ∙ ap (λ xs. flat_map (turned_by flags new) (combined flags changes) ++ xs)
     (append-nil (begun_at flags changes new [])
     ∙ ap (begun_by (left_of flags (changed_row flags new) None changes))
     (lasts_to_end flags (changed_row flags new) (only_change flags new)))

@@ -1,6 +1,6 @@
 -- Changesets that are added to a group, and those that it refuses.
 use Rattle.std.specs.Prelude.{◌≡◌, ℕ, Bool, false, not, List, [], ◌∷◌, ◌++◌, Option, Some, None}
-use Rattle.std.specs.Prelude.{option_map, map}
+use Rattle.std.specs.Prelude.{option_map}
 use Rattle.std.specs.Borrow.{Bor}
 use Rattle.std.specs.List.{flat_map}
 use Rattle.std.specs.Map.{lookup}
@@ -27,14 +27,14 @@ sections_added changesets = flat_map (λ changeset. changeset.now) changesets
 
 -- The first changeset that can't be combined with those before it, by the index of its section that
 -- can't.
-abbrev pub refused_by : Option ℕ → Option ℕ → Option ℕ
-refused_by None later = later
-refused_by (Some section) later = Some section
+abbrev pub refused_earliest : Option ℕ → Option ℕ → Option ℕ
+refused_earliest None later = later
+refused_earliest (Some section) later = Some section
 
 abbrev pub first_refused : List Section → List (List Section) → Option ℕ
 first_refused earlier [] = None
 first_refused earlier (changeset ∷ changesets) =
-    refused_by (first_clash earlier changeset) (first_refused (earlier ++ changeset) changesets)
+    refused_earliest (first_clash earlier changeset) (first_refused (earlier ++ changeset) changesets)
 
 -- whether a table differs from the one that is known by its name
 abbrev pub differs_by : Option Shape → Shape → Bool

@@ -34,8 +34,7 @@ equal_fields (Is old) (Is new) = same_value old new
 -- ---- an UPDATE with the columns that it changes
 
 -- A column's old and new field, if the UPDATE changes the column. Outside the key both are
--- undefined
--- if they are equal; a key column keeps its old value and has no new one.
+-- undefined if they are equal; a key column keeps its old value and has no new one.
 abbrev pub old_if_changed : ℕ → Field → Field → Field
 old_if_changed flag old new = if flag == 0 && equal_fields old new then Undefined else old
 
@@ -66,8 +65,7 @@ update_between flags indirect before after =
 
 -- ---- one change
 
--- a change of a row that has none: an UPDATE with the columns that it changes, and any other as it
--- is
+-- a change of a row that has none: an UPDATE with the columns that it changes, any other as it is
 abbrev pub only_change_by : Op → List ℕ → Change → Option Change
 only_change_by Insert flags new = Some new
 only_change_by Update flags new = update_between flags new.indirect new.before new.after
@@ -104,8 +102,7 @@ delete_insert flags there new =
     update_between flags (both_indirect there new) there.before new.after
 
 -- The change that two changes of one row come to, or none. INSERT, then DELETE is none. A second
--- one
--- that can't come after the first is ignored.
+-- one that can't come after the first is ignored.
 abbrev pub two_changes_by : Op → Op → List ℕ → Change → Change → Option Change
 two_changes_by Insert Insert flags there new = Some there
 two_changes_by Insert Update flags there new = insert_update there new

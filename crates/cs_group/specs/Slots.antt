@@ -1,6 +1,5 @@
 -- Slots, seen as changes.
-use Rattle.std.specs.Prelude.{List, [], ◌∷◌, ◌++◌, Option, Some, None, map}
-use Rattle.std.specs.List.{flat_map}
+use Rattle.std.specs.Prelude.{Option, Some, None}
 use Rattle.cs_model.specs.declared.change.Change.{Change}
 use Rattle.cs_model.specs.PackedChanges.{change_of}
 use Rattle.cs_model.specs.Seen.{change_seen, fields_seen}

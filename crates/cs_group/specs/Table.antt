@@ -1,5 +1,6 @@
 -- The slots of a table: each row's place, and what the row's changes come to so far.
-use Rattle.std.specs.Prelude.{◌≡◌, ◌<◌, ◌⊎◌, ℕ, zero, suc, List, [], ◌∷◌, ◌++◌, length, map, slice_get}
+use Rattle.std.specs.Prelude.{◌≡◌, ◌<◌, ◌⊎◌, ℕ, zero, suc, List, [], ◌∷◌, ◌++◌, length, map}
+use Rattle.std.specs.Prelude.{slice_get}
 use Rattle.std.specs.Prelude.{Option, Some, None, option_map}
 use Rattle.std.specs.Map.{lookup}
 use Rattle.cs_model.specs.declared.change.Change.{Change}
@@ -24,9 +25,9 @@ abbrev pub with_held : Option Change → List Change → List Change
 with_held None changes = changes
 with_held (Some change) changes = change ∷ changes
 
-abbrev pub held : Slots → List Change
-held [] = []
-held (slot ∷ slots) = with_held slot (held slots)
+abbrev pub slot_changes : Slots → List Change
+slot_changes [] = []
+slot_changes (slot ∷ slots) = with_held slot (slot_changes slots)
 
 -- the change in a slot, if there is such a slot and it has one
 abbrev pub there_by : Option (Option Change) → Option Change
@@ -53,33 +54,33 @@ step_by None flags place slots new = begun_last place slots (only_change flags n
 step_by (Some there) flags place slots new =
     (place, put_at place (two_changes flags there new) slots)
 
-abbrev pub step : List ℕ → ℕ → Slots → Change → ℕ × Slots
-step flags place slots new = step_by (there_at slots place) flags place slots new
+abbrev pub slot_step : List ℕ → ℕ → Slots → Change → ℕ × Slots
+slot_step flags place slots new = step_by (there_at slots place) flags place slots new
 
 -- the place of a row
-abbrev pub place_in : List (List ℕ × ℕ) → List ℕ → Option ℕ
-place_in places row = lookup (same_bytes row) places
+abbrev pub row_place : List (List ℕ × ℕ) → List ℕ → Option ℕ
+row_place places row = lookup (same_bytes row) places
 
 -- a change of a table with these key flags, and one whose records have as many fields
-abbrev pub IsOf : List ℕ → Change → Type 0
-IsOf flags change = AreRecords flags change.op change.before change.after
+abbrev pub IsOfTable : List ℕ → Change → Type 0
+IsOfTable flags change = AreRecords flags change.op change.before change.after
 
-abbrev pub IsLong : ℕ → Change → Type 0
-IsLong columns change = Long columns change.op change.before change.after
+abbrev pub HasColumnsOf : ℕ → Change → Type 0
+HasColumnsOf columns change = Long columns change.op change.before change.after
 
 -- The place of a row that has no slot yet. No list of slots is as long.
-abbrev pub no_place : ℕ
-no_place = 18446744073709551615
+abbrev pub no_slot : ℕ
+no_slot = 18446744073709551615
 
 -- The slots hold what these changes come to. Each row that has a change finds it at its place.
-pub record Holds (flags : List ℕ) (at : List ℕ → Option ℕ) (slots : Slots)
+pub record HoldSlots (flags : List ℕ) (at : List ℕ → Option ℕ) (slots : Slots)
     (changes : List Change) : Type 0 where
-  pub listed : held slots ≡ combined flags changes
+  pub listed : slot_changes slots ≡ combined flags changes
   pub found : (row : List ℕ) (place : ℕ) (change : Change) → at row ≡ Some place
       → slice_get slots place ≡ Some (Some change) → changed_row flags change ≡ row
   pub kept : (place : ℕ) (change : Change) → slice_get slots place ≡ Some (Some change)
       → at (changed_row flags change) ≡ Some place
   pub bound : (row : List ℕ) (place : ℕ) → at row ≡ Some place
-      → (place < length slots) ⊎ (place ≡ no_place)
+      → (place < length slots) ⊎ (place ≡ no_slot)
   pub valid : (place : ℕ) (change : Change) → slice_get slots place ≡ Some (Some change)
-      → IsOf flags change
+      → IsOfTable flags change

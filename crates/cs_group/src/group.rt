@@ -1,6 +1,7 @@
 //! Changesets that are combined into one.
 
-ghost use Rattle.std.specs.Prelude.{◌≡◌, ◌++◌, [], None, IfErr, IfOk, List, OnErr, OnOk, filter, map};
+ghost use Rattle.std.specs.Prelude.{◌≡◌, ◌++◌, [], None, IfErr, IfOk, List, OnErr, OnOk};
+ghost use Rattle.std.specs.Prelude.{filter, map};
 ghost use Rattle.std.specs.List.{AllByRecursion};
 ghost use Rattle.cs_model.specs.Changeset.{IsChangeset, IsSection};
 ghost use Rattle.cs_write.specs.Canon.{by_shape, has_changes, joined_section};
@@ -9,8 +10,8 @@ ghost use Rattle.cs_group.specs.Adding.{ReportsClash, first_refused, sections_ad
 ghost use Rattle.cs_group.specs.Group.{combined_section, first_clash, group_of};
 
 use crate::error::GroupError;
-use crate::table::combined;
 use crate::known::{Tables, admit_all};
+use crate::table::combined;
 use cs_model::{Changeset, CopyIn, Section, Seq};
 use cs_write::{Groups, add_section};
 use indexmap::IndexMap;
@@ -72,8 +73,9 @@ impl<'a> Group<'a> {
         Ok(())
     }
 
-    /// The changesets as one. Works as `sqlite3changegroup_output`: each row has at most one change,
-    /// and a table of which nothing is left has no section. Returns `AllocError` if memory runs out.
+    /// The changesets as one. Works as `sqlite3changegroup_output`: each row has at most one
+    /// change, and a table of which nothing is left has no section. Returns `AllocError` if memory
+    /// runs out.
     pub fn output(&self, alloc: Global) -> Result<Changeset, AllocError>
         ensures { IfOk result (λ made. made ≡ group_of self.now) }
     {

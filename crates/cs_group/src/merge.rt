@@ -116,8 +116,10 @@ fn changed_columns<'a>(
 
 // a column's old and new field, if an UPDATE changes the column
 fn changed<'a>(flag: u8, old: FieldRef<'a>, new: FieldRef<'a>) -> (FieldRef<'a>, FieldRef<'a>)
-    ensures old { field_seen result.0 ≡ old_if_changed flag (field_seen old.entry) (field_seen new.entry) }
-    ensures new { field_seen result.1 ≡ new_if_changed flag (field_seen old.entry) (field_seen new.entry) }
+    ensures old { field_seen result.0
+        ≡ old_if_changed flag (field_seen old.entry) (field_seen new.entry) }
+    ensures new { field_seen result.1
+        ≡ new_if_changed flag (field_seen old.entry) (field_seen new.entry) }
 {
     if flag > 0 {
         return (old, FieldRef::Undefined);
@@ -173,9 +175,7 @@ pub(crate) fn only<'a>(
     ensures { IfOk result (λ slot. option_map slot_seen slot
         ≡ only_change flags.now (change_seen change.entry)) }
 {
-    if change.op != Op::Update
-        || is_normal(flags, change.before.fields(), change.after.fields())
-    {
+    if change.op != Op::Update || is_normal(flags, change.before.fields(), change.after.fields()) {
         return Ok(Some(Slot::Alone(change)));
     }
     let before = SlotFields::packed(&change.before);
@@ -230,9 +230,15 @@ fn insert_update<'a>(
     new: &ChangeRef<'a>,
 ) -> Result<Next<'a>, AllocError>
     ensures { IfOk result (λ next. (old : Change) → next_seen old next
-        ≡ Some (change_of Insert indirect [] (record_or new.now.after (slot_seen there.now).after))) }
+        ≡ Some (change_of Insert indirect []
+        (record_or new.now.after (slot_seen there.now).after))) }
 {
-    let after = record_or(alloc, columns, SlotFields::packed(&new.after), there.after())?;
+    let after = record_or(
+        alloc,
+        columns,
+        SlotFields::packed(&new.after),
+        there.after(),
+    )?;
     Ok(Next::Becomes(Merged {
         op: Op::Insert,
         indirect,
@@ -255,8 +261,18 @@ fn update_update<'a>(
         (record_or new.now.after (slot_seen there.now).after)) }
 {
     let columns = flags.len();
-    let before = record_or(alloc, columns, there.before(), SlotFields::packed(&new.before))?;
-    let after = record_or(alloc, columns, SlotFields::packed(&new.after), there.after())?;
+    let before = record_or(
+        alloc,
+        columns,
+        there.before(),
+        SlotFields::packed(&new.before),
+    )?;
+    let after = record_or(
+        alloc,
+        columns,
+        SlotFields::packed(&new.after),
+        there.after(),
+    )?;
     let before = SlotFields::listed(&before);
     let after = SlotFields::listed(&after);
     Ok(next_of(update_between(alloc, flags, indirect, before, after)?))
@@ -271,9 +287,15 @@ fn update_delete<'a>(
     new: &ChangeRef<'a>,
 ) -> Result<Next<'a>, AllocError>
     ensures { IfOk result (λ next. (old : Change) → next_seen old next
-        ≡ Some (change_of Delete indirect (record_or (slot_seen there.now).before new.now.before) [])) }
+        ≡ Some (change_of Delete indirect
+        (record_or (slot_seen there.now).before new.now.before) [])) }
 {
-    let before = record_or(alloc, columns, there.before(), SlotFields::packed(&new.before))?;
+    let before = record_or(
+        alloc,
+        columns,
+        there.before(),
+        SlotFields::packed(&new.before),
+    )?;
     Ok(Next::Becomes(Merged {
         op: Op::Delete,
         indirect,

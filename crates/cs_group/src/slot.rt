@@ -2,7 +2,7 @@
 
 ghost use Rattle.std.specs.Prelude.{◌≡◌, ◌++◌, ◌∷◌, [], OnOk};
 ghost use Rattle.cs_group.specs.Slots.{slot_seen};
-ghost use Rattle.cs_group.specs.Table.{IsLong};
+ghost use Rattle.cs_group.specs.Table.{HasColumnsOf};
 
 use crate::fields::SlotFields;
 use cs_model::{ChangeRef, Changes, FieldRef, Op};
@@ -69,7 +69,7 @@ impl<'a> Slot<'a> {
 
     /// Appends the change to a list, in one copy of the bytes that its fields have.
     pub(crate) fn push_to(&self, changes: &mut Changes) -> Result<(), AllocError>
-        requires { IsLong changes.old.0 (slot_seen self.now) }
+        requires { HasColumnsOf changes.old.0 (slot_seen self.now) }
         ensures columns { changes.new.0 ≡ changes.old.0 }
         ensures ok { OnOk result (changes.new.1 ≡ changes.old.1 ++ slot_seen self.now ∷ []) }
     {

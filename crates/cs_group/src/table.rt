@@ -9,8 +9,9 @@ ghost use Rattle.cs_model.specs.Seen.{change_seen};
 ghost use Rattle.cs_group.specs.Group.{combined};
 ghost use Rattle.cs_group.specs.Merge.{only_change};
 ghost use Rattle.cs_group.specs.Slots.{next_seen, slot_seen};
-ghost use Rattle.cs_group.specs.Table.{Holds, IsLong, IsOf, begun_last, held, place_in, put_at};
-ghost use Rattle.cs_group.specs.Table.{slots_seen, step, there_at};
+ghost use Rattle.cs_group.specs.Table.{HasColumnsOf, HoldSlots, IsOfTable, begun_last, put_at};
+ghost use Rattle.cs_group.specs.Table.{row_place, slot_changes};
+ghost use Rattle.cs_group.specs.Table.{slots_seen, slot_step, there_at};
 ghost use Rattle.cs_write.specs.Seen.{sections_of};
 
 use crate::merge::{Next, merge, only};
@@ -44,9 +45,9 @@ fn turn<'a>(
     new: ChangeRef<'a>,
 ) -> Result<(), AllocError>
     ensures place { OnOk result (place.new
-        ≡ (step flags.now place.old (slots_seen slots.old.items) (change_seen new.entry)).0) }
+        ≡ (slot_step flags.now place.old (slots_seen slots.old.items) (change_seen new.entry)).0) }
     ensures slots { OnOk result (slots_seen slots.new.items
-        ≡ (step flags.now place.old (slots_seen slots.old.items) (change_seen new.entry)).1) }
+        ≡ (slot_step flags.now place.old (slots_seen slots.old.items) (change_seen new.entry)).1) }
 {
     let Some(Some(there)) = slots.get(*place) else {
         return begin(alloc, flags, place, slots, new);
@@ -107,7 +108,7 @@ impl<'s, 'a> Table<'s, 'a> {
     /// A table with these key flags, without changes.
     pub(crate) fn new(alloc: Global, flags: &'s [u8]) -> Table<'s, 'a>
         ensures flags { result.flags.now ≡ flags.now }
-        ensures none { Holds flags.now (place_in result.places.entries)
+        ensures none { HoldSlots flags.now (row_place result.places.entries)
             (slots_seen result.slots.items) [] }
     {
         Table {
@@ -121,11 +122,11 @@ impl<'s, 'a> Table<'s, 'a> {
     pub(crate) fn add(&mut self, alloc: Global, new: ChangeRef<'a>) -> Result<(), AllocError>
         ensures flags { self.new.flags.now ≡ self.old.flags.now }
         ensures ok { OnOk result ((changes : List Change)
-            → AllByRecursion (IsOf self.old.flags.now) changes
-            → IsOf self.old.flags.now (change_seen new.entry)
-            → Holds self.old.flags.now (place_in self.old.places.entries)
+            → AllByRecursion (IsOfTable self.old.flags.now) changes
+            → IsOfTable self.old.flags.now (change_seen new.entry)
+            → HoldSlots self.old.flags.now (row_place self.old.places.entries)
             (slots_seen self.old.slots.items) changes
-            → Holds self.old.flags.now (place_in self.new.places.entries)
+            → HoldSlots self.old.flags.now (row_place self.new.places.entries)
             (slots_seen self.new.slots.items) (changes ++ change_seen new.entry ∷ [])) }
     {
         let key = key_of_row(alloc, self.flags, &new)?;
@@ -137,11 +138,11 @@ impl<'s, 'a> Table<'s, 'a> {
     fn add_all(&mut self, alloc: Global, changes: &'a Changes) -> Result<(), AllocError>
         ensures flags { self.new.flags.now ≡ self.old.flags.now }
         ensures ok { OnOk result ((before : List Change)
-            → AllByRecursion (IsOf self.old.flags.now) before
-            → AllByRecursion (IsOf self.old.flags.now) changes.now.1
-            → Holds self.old.flags.now (place_in self.old.places.entries)
+            → AllByRecursion (IsOfTable self.old.flags.now) before
+            → AllByRecursion (IsOfTable self.old.flags.now) changes.now.1
+            → HoldSlots self.old.flags.now (row_place self.old.places.entries)
             (slots_seen self.old.slots.items) before
-            → Holds self.old.flags.now (place_in self.new.places.entries)
+            → HoldSlots self.old.flags.now (row_place self.new.places.entries)
             (slots_seen self.new.slots.items) (before ++ changes.now.1)) }
     {
         for change in changes.iter() {
@@ -153,9 +154,11 @@ impl<'s, 'a> Table<'s, 'a> {
     /// What the changes come to, in the order in which their rows began. `columns` is the number of
     /// columns of the table.
     fn changes(&self, alloc: Global, columns: usize) -> Result<Changes, AllocError>
-        requires { AllByRecursion (IsLong columns) (held (slots_seen self.now.slots.items)) }
+        requires { AllByRecursion (HasColumnsOf columns)
+            (slot_changes (slots_seen self.now.slots.items)) }
         ensures columns { IfOk result (λ made. made.0 ≡ columns) }
-        ensures held { IfOk result (λ made. made.1 ≡ held (slots_seen self.now.slots.items)) }
+        ensures changes { IfOk result (λ made. made.1
+            ≡ slot_changes (slots_seen self.now.slots.items)) }
     {
         let mut changes = Changes::new(alloc, columns);
         for slot in &self.slots {

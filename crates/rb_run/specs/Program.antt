@@ -56,8 +56,7 @@ abbrev pub wrong_in : List Text → Kinds
 wrong_in words = fault_of program words
 
 -- What the words ask for. If the program takes them, a script under their limits, or a message
--- about
--- an option; else a text to print, also if memory ran out.
+-- about an option; else a text to print, also if memory ran out.
 abbrev pub AsksFor : Job → List Text → Type 0
 AsksFor (job.Script limits) words = (wrong_in words ≡ []) × (config_in words ≡ Ok limits)
 AsksFor (job.Range fault) words = (wrong_in words ≡ []) × (config_in words ≡ Err fault)

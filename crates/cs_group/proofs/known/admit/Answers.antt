@@ -1,4 +1,4 @@
-use Rattle.std.proofs.Common.{◌≡◌, ◌∙◌, ◌∷◌, ◌++◌, [], List, ℕ, Bor, Some, None, length, take, sym, ap, subst}
+use Rattle.std.proofs.Common.{◌≡◌, ◌∙◌, ◌∷◌, ◌++◌, [], List, ℕ, Bor, None, length, take, sym, ap, subst}
 use Rattle.std.proofs.Math.Seq.{take-append_seam}
 use Rattle.std.specs.Map.{lookup}
 use Rattle.std.specs.Prelude.{option_map}
@@ -11,11 +11,11 @@ use Rattle.cs_group.proofs.Knowing.{knows_old, knows_new}
 use Rattle.cs_group.proofs.known.admit.Goals as goal
 
 -- a new table goes last
-pushed : {S : Type 0} (tables : IndexMap (List ℕ) (Bor Shape) S) (new : List (List ℕ × Bor Shape)) (name : List ℕ)
+pushed_last : {S : Type 0} (tables : IndexMap (List ℕ) (Bor Shape) S) (new : List (List ℕ × Bor Shape)) (name : List ℕ)
     (shape : Bor Shape) → lookup (same_bytes shape.now.name) tables.entries ≡ None → name ≡ shape.now.name
     → new ≡ insert_entry same_bytes tables.entries name shape
     → new ≡ tables.entries ++ (shape.now.name, shape) ∷ []
-pushed tables new name shape none same inserted =
+pushed_last tables new name shape none same inserted =
     inserted ∙ insert_entry-new same_bytes tables name shape
     (subst (λ n. lookup (same_bytes n) tables.entries ≡ None) (sym same) none)
     ∙ ap (λ n. tables.entries ++ (n, shape) ∷ []) same
@@ -30,7 +30,7 @@ pub returns-clause-knows : goal.returns-clause-knows
 returns-clause-knows c = λ earlier section is knows fits.
     let tables = c.args.tables.now in
     let shape = c.args.shape in
-    subst (Knows (earlier ++ section ∷ [])) (sym (pushed tables c.insert.new.self.entries c.in_ok-name.name shape
+    subst (Knows (earlier ++ section ∷ [])) (sym (pushed_last tables c.insert.new.self.entries c.in_ok-name.name shape
     (sym c.in_default.ensures.value) (c.in_ok-name.ensures ∙ c.deref.ensures) c.in_ok-insert.ensures.entries
     ∙ ap (λ n. tables.entries ++ (n, shape) ∷ []) (ap (λ s. s.name) (sym is))))
     (knows_new earlier section tables.entries shape is
@@ -39,6 +39,6 @@ returns-clause-knows c = λ earlier section is knows fits.
 pub returns-clause-kept : goal.returns-clause-kept
 returns-clause-kept c =
     let tables = c.args.tables.now in
-    ap (take (length tables.entries)) (pushed tables c.insert.new.self.entries c.in_ok-name.name c.args.shape
+    ap (take (length tables.entries)) (pushed_last tables c.insert.new.self.entries c.in_ok-name.name c.args.shape
     (sym c.in_default.ensures.value) (c.in_ok-name.ensures ∙ c.deref.ensures) c.in_ok-insert.ensures.entries)
     ∙ take-append_seam tables.entries ((c.args.shape.now.name, c.args.shape) ∷ [])

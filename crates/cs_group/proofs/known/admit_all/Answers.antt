@@ -1,11 +1,11 @@
-use Rattle.std.proofs.Common.{◌≡◌, ◌∙◌, ◌∷◌, ◌++◌, [], ◌+◌, ℕ, Bool, true, false, not, List, Some, None, take, drop, refl, sym}
+use Rattle.std.proofs.Common.{◌≡◌, ◌∙◌, ◌∷◌, ◌++◌, [], ◌+◌, Bool, true, false, not, List, take, drop, refl, sym}
 use Rattle.std.proofs.Common.{ap, subst, append_assoc}
 use Rattle.std.proofs.lemmas.List.{take_more, drop_more}
 use Rattle.std.specs.Prelude.{option_map}
 use Rattle.cs_model.specs.Section.{Section}
 use Rattle.cs_group.specs.Adding.{Knows, differs_by, known_as}
 use Rattle.cs_group.specs.Group.{clashes, first_clash}
-use Rattle.cs_group.proofs.Knowing.{clash_next, clash_here, kept_on}
+use Rattle.cs_group.proofs.Knowing.{clash_next, kept_on}
 use Rattle.cs_group.proofs.known.admit_all.Goals as goal
 
 not_is : (b : Bool) → true ≡ not b → b ≡ false
@@ -26,9 +26,9 @@ loop-section-preserved c =
     drop_more all i section c.loop-section-test.true ∙ ap (λ s. s ∷ drop (i + 1) all) (sym c.part-item.is) in
     let same : differs_by (known_as now section.shape.name) section.shape ≡ false =
     ap (λ s. differs_by (known_as now s.name) s) (sym shape)
-        ∙ not_is _ (sym c.if-not-branch.false ∙ c.in_ok-admit.ensures.admits) in
+    ∙ not_is _ (sym c.if-not-branch.false ∙ c.in_ok-admit.ensures.admits) in
     let fits : (earlier : List Section) → Knows earlier c.args.tables.now.entries
-        → clashes (earlier ++ take i all) section ≡ false =
+    → clashes (earlier ++ take i all) section ≡ false =
     λ earlier known. so_far.knows earlier known section ∙ same in
     record {
       knows = λ earlier known. subst (λ ss. Knows ss c.admit.new.tables.entries)

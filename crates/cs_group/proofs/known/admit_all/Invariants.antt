@@ -12,6 +12,7 @@ invariant-loop-section l = record {
       → Knows (earlier ++ take l.section l.part-items) l.tables.entries;
   fits : (earlier : List Section) → Knows earlier l.fn.tables.entries
       → first_clash earlier l.part-items
-      ≡ option_map (λ n. l.section + n) (first_clash (earlier ++ take l.section l.part-items) (drop l.section l.part-items));
+      ≡ option_map (λ n. l.section + n) (first_clash (earlier
+      ++ take l.section l.part-items) (drop l.section l.part-items));
   kept : take (length l.fn.tables.entries) l.tables.entries ≡ l.fn.tables.entries;
 }

@@ -1,4 +1,3 @@
-use Rattle.std.proofs.Common.{sym, drop}
 use Rattle.cs_group.proofs.Ending.{olds_end_before, olds_end_after, news_end_before, news_end_after}
 use Rattle.cs_group.proofs.merge.changed_columns.Goals as goal
 

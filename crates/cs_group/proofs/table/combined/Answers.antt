@@ -4,8 +4,8 @@ use Rattle.std.specs.List.{AllByRecursion}
 use Rattle.cs_model.specs.declared.change.Change.{Change}
 use Rattle.cs_model.specs.Changeset.{all_changes}
 use Rattle.cs_write.specs.Seen.{sections_of}
-use Rattle.cs_group.specs.Table.{Holds, IsLong, IsOf, held, place_in, slots_seen}
-use Rattle.cs_group.proofs.Lists.{all_front, all_back, all_held}
+use Rattle.cs_group.specs.Table.{HoldSlots, HasColumnsOf, IsOfTable, slot_changes, row_place, slots_seen}
+use Rattle.cs_group.proofs.Lists.{all_of_front, all_of_back, all_held}
 use Rattle.cs_group.proofs.StepLaw.{flat_map_both}
 use Rattle.cs_group.proofs.table.combined.Goals as goal
 
@@ -21,36 +21,40 @@ loop-section-preserved c =
     let before = all_changes (sections_of (take i all)) in
     let more : all_changes (sections_of (take (i + 1) all)) ≡ before ++ section.now.changes =
     ap (λ ss. all_changes (sections_of ss)) (take_more all i section c.loop-section-test.true
-        ∙ ap (λ s. take i all ++ s ∷ []) (sym c.section-item.is))
-        ∙ ap all_changes (map-append (λ s. s.now) (take i all) (section ∷ []))
-        ∙ flat_map_both (λ s. s.changes) (sections_of (take i all)) (section.now ∷ [])
-        ∙ ap (λ xs. before ++ xs) (append-nil section.now.changes) in
+    ∙ ap (λ s. take i all ++ s ∷ []) (sym c.section-item.is))
+    ∙ ap all_changes (map-append (λ s. s.now) (take i all) (section ∷ []))
+    ∙ flat_map_both (λ s. s.changes) (sections_of (take i all)) (section.now ∷ [])
+    ∙ ap (λ xs. before ++ xs) (append-nil section.now.changes) in
     let whole : all_changes (sections_of all)
-        ≡ all_changes (sections_of (take (i + 1) all)) ++ all_changes (sections_of (drop (i + 1) all)) =
+    ≡ all_changes (sections_of (take (i + 1) all)) ++ all_changes (sections_of (drop (i + 1) all)) =
     ap (λ ss. all_changes (sections_of ss)) (sym (take-append-drop (i + 1) all))
-        ∙ ap all_changes (map-append (λ s. s.now) (take (i + 1) all) (drop (i + 1) all))
-        ∙ flat_map_both (λ s. s.changes) (sections_of (take (i + 1) all)) (sections_of (drop (i + 1) all)) in
-    let mine : AllByRecursion (IsOf flags) (before ++ section.now.changes) =
-    subst (AllByRecursion (IsOf flags)) more (all_front (IsOf flags) (all_changes (sections_of (take (i + 1) all)))
-        (all_changes (sections_of (drop (i + 1) all))) (subst (AllByRecursion (IsOf flags)) whole c.requires)) in
+    ∙ ap all_changes (map-append (λ s. s.now) (take (i + 1) all) (drop (i + 1) all))
+    ∙ flat_map_both (λ s. s.changes) (sections_of (take (i + 1) all)) (sections_of (drop (i + 1) all)) in
+    let mine : AllByRecursion (IsOfTable flags) (before ++ section.now.changes) =
+    subst (AllByRecursion (IsOfTable flags)) more (all_of_front (IsOfTable flags) (all_changes (sections_of (take
+    (i + 1) all)))
+    (all_changes (sections_of (drop (i + 1) all))) (subst (AllByRecursion (IsOfTable flags)) whole c.requires)) in
     let changes : c.changes.result.now.1 ≡ section.now.changes = ap (λ p. p.1) c.changes.ensures in
-    let step = subst (λ (f : List ℕ). (first : List Change) → AllByRecursion (IsOf f) first
-        → AllByRecursion (IsOf f) c.changes.result.now.1
-        → Holds f (place_in now.places.entries) (slots_seen now.slots.items) first
-        → Holds f (place_in later.places.entries) (slots_seen later.slots.items) (first ++ c.changes.result.now.1))
-        same c.in_ok-add_all.ensures.ok in
+    let step = subst (λ (f : List ℕ). (first : List Change) → AllByRecursion (IsOfTable f) first
+    → AllByRecursion (IsOfTable f) c.changes.result.now.1
+    → HoldSlots f (row_place now.places.entries) (slots_seen now.slots.items) first
+    → HoldSlots f (row_place later.places.entries) (slots_seen later.slots.items) (first ++ c.changes.result.now.1))
+    same c.in_ok-add_all.ensures.ok in
     record {
       flags = c.in_ok-add_all.ensures.flags ∙ same;
-      holds = subst (Holds flags (place_in later.places.entries) (slots_seen later.slots.items))
+      holds = subst (HoldSlots flags (row_place later.places.entries) (slots_seen later.slots.items))
           (ap (λ xs. before ++ xs) changes ∙ sym more)
-          (step before (all_front (IsOf flags) before section.now.changes mine)
-          (subst (AllByRecursion (IsOf flags)) (sym changes) (all_back (IsOf flags) before section.now.changes mine))
+          (step before (all_of_front (IsOfTable flags) before section.now.changes mine)
+          (subst (AllByRecursion (IsOfTable flags)) (sym changes) (all_of_back
+          (IsOfTable flags) before section.now.changes mine))
           c.loop-section.invariant.holds);
     }
 
 pub changes-requires-2 : goal.changes-requires-2
 changes-requires-2 c =
     let shape = c.args.shape.now in
-    subst (λ n. AllByRecursion (IsLong n) (held (slots_seen c.loop-section.table.slots.items))) (sym c.len.ensures)
-    (all_held (IsLong (length shape.flags)) (slots_seen c.loop-section.table.slots.items)
-    (λ place change is. (c.changes_fit.ensures shape change (c.loop-section.invariant.holds.valid place change is)).long))
+    subst (λ n. AllByRecursion (HasColumnsOf n) (slot_changes (slots_seen c.loop-section.table.slots.items)))
+    (sym c.len.ensures)
+    (all_held (HasColumnsOf (length shape.flags)) (slots_seen c.loop-section.table.slots.items)
+    (λ place change is. (c.changes_fit.ensures shape change
+    (c.loop-section.invariant.holds.valid place change is)).long))

@@ -1,6 +1,6 @@
-use Rattle.std.proofs.Common.{◌≡◌, ◌++◌, take}
+use Rattle.std.proofs.Common.{◌≡◌, take}
 use Rattle.cs_model.specs.Changeset.{all_changes}
-use Rattle.cs_group.specs.Table.{Holds, place_in, slots_seen}
+use Rattle.cs_group.specs.Table.{HoldSlots, row_place, slots_seen}
 use Rattle.cs_write.specs.Seen.{sections_of}
 use Rattle.cs_group.proofs.table.combined.Given as goal
 
@@ -8,6 +8,6 @@ use Rattle.cs_group.proofs.table.combined.Given as goal
 abbrev pub invariant-loop-section : goal.invariant-loop-section
 invariant-loop-section l = record {
   flags : l.table.flags.now ≡ l.fn.shape.flags;
-  holds : Holds l.fn.shape.flags (place_in l.table.places.entries) (slots_seen l.table.slots.items)
+  holds : HoldSlots l.fn.shape.flags (row_place l.table.places.entries) (slots_seen l.table.slots.items)
       (all_changes (sections_of (take l.section-index l.sections)));
 }

@@ -6,4 +6,5 @@ use Rattle.cs_group.proofs.fields.SlotFields.listed.Goals as goal
 
 pub returns : goal.returns
 unfolding unpacked fields_in
-returns c = ap (λ packed. fields_seen c.args.fields.now ++ packed) c.of.ensures ∙ append-nil (fields_seen c.args.fields.now)
+returns c = ap (λ packed. fields_seen c.args.fields.now ++ packed) c.of.ensures
+    ∙ append-nil (fields_seen c.args.fields.now)

@@ -6,4 +6,5 @@ use Rattle.cs_group.proofs.group.Group.by_table.Given as goal
 
 -- the groups of the sections of the changesets so far
 abbrev pub invariant-loop-changeset : goal.invariant-loop-changeset
-invariant-loop-changeset l = seen l.groups.entries ≡ by_shape [] (sections_added (take l.changeset-index l.changeset-items))
+invariant-loop-changeset l = seen l.groups.entries ≡ by_shape [] (sections_added
+    (take l.changeset-index l.changeset-items))

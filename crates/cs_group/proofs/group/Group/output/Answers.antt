@@ -1,7 +1,7 @@
-use Rattle.std.proofs.Common.{◌≡◌, ◌∙◌, [], map, filter, sym, ap, subst}
+use Rattle.std.proofs.Common.{◌≡◌, ◌∙◌, map, filter, sym, ap, subst}
 use Rattle.std.specs.List.{AllByRecursion}
 use Rattle.cs_model.specs.Changeset.{IsChangeset, IsSection}
-use Rattle.cs_write.specs.Canon.{by_shape, has_changes, joined_section}
+use Rattle.cs_write.specs.Canon.{has_changes, joined_section}
 use Rattle.cs_group.specs.Group.{combined_section, group_of}
 use Rattle.cs_group.proofs.Fitting.{groups_fit, group_fits}
 use Rattle.cs_group.proofs.group.Group.output.Goals as goal
@@ -15,6 +15,6 @@ pub from_seq-requires : goal.from_seq-requires
 from_seq-requires c =
     let made : c.from_vec.result ≡ group_of c.args.self.now =
     c.from_vec.ensures ∙ c.in_ok-sections.ensures
-        ∙ ap (λ groups. filter has_changes (map (λ group. combined_section (joined_section group)) groups))
-        c.in_ok-groups.ensures.grouped in
+    ∙ ap (λ groups. filter has_changes (map (λ group. combined_section (joined_section group)) groups))
+    c.in_ok-groups.ensures.grouped in
     subst IsChangeset (sym made) (group_fits c.args.self.now c.in_ok-groups.ensures.valid)

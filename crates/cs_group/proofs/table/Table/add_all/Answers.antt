@@ -3,8 +3,8 @@ use Rattle.std.specs.List.{AllByRecursion}
 use Rattle.cs_model.proofs.CallerLemmas.{all_append}
 use Rattle.cs_model.specs.declared.change.Change.{Change}
 use Rattle.cs_model.specs.Seen.{change_seen}
-use Rattle.cs_group.specs.Table.{Holds, IsOf, place_in, slots_seen}
-use Rattle.cs_group.proofs.Lists.{all_front, all_back}
+use Rattle.cs_group.specs.Table.{HoldSlots, IsOfTable, row_place, slots_seen}
+use Rattle.cs_group.proofs.Lists.{all_of_front, all_of_back}
 use Rattle.cs_group.proofs.table.Table.add_all.Goals as goal
 
 pub loop-change-preserved : goal.loop-change-preserved
@@ -14,22 +14,27 @@ loop-change-preserved c =
     let later = c.add.new.self in
     let change = change_seen c.in-Some.change in
     let same = c.loop-change.invariant.flags in
-    let step = subst (λ (f : List ℕ). (changes : List Change) → AllByRecursion (IsOf f) changes → IsOf f change
-        → Holds f (place_in now.places.entries) (slots_seen now.slots.items) changes
-        → Holds f (place_in later.places.entries) (slots_seen later.slots.items) (changes ++ change ∷ []))
-        same c.in_ok-add.ensures.ok in
+    let step = subst (λ (f : List ℕ). (changes : List Change) → AllByRecursion (IsOfTable f) changes
+    → IsOfTable f change
+    → HoldSlots f (row_place now.places.entries) (slots_seen now.slots.items) changes
+    → HoldSlots f (row_place later.places.entries) (slots_seen later.slots.items) (changes ++ change ∷ []))
+    same c.in_ok-add.ensures.ok in
     record {
       flags = c.in_ok-add.ensures.flags ∙ same;
-      holds = λ before valid fits held.
-          let so_far = c.loop-change.invariant.holds before valid fits held in
+      holds = λ before valid fits holds.
+          let so_far = c.loop-change.invariant.holds before valid fits holds in
           let whole : (so_far.0 ++ change ∷ []) ++ c.next.new.self ≡ c.args.changes.now.1 =
           append_assoc so_far.0 (change ∷ []) c.next.new.self
-              ∙ ap (λ rest. so_far.0 ++ rest) (sym c.in-Some.ensures.steps) ∙ so_far.1 in
-          let all = subst (AllByRecursion (IsOf flags)) (sym whole) fits in
-          let mine = all_front (IsOf flags) (so_far.0 ++ change ∷ []) c.next.new.self all in
-          (so_far.0 ++ change ∷ [], whole, subst (Holds flags (place_in later.places.entries)
-              (slots_seen later.slots.items)) (append_assoc before so_far.0 (change ∷ []))
-              (step (before ++ so_far.0)
-              (all_append (IsOf flags) before so_far.0 valid (all_front (IsOf flags) so_far.0 (change ∷ []) mine))
-              (all_back (IsOf flags) so_far.0 (change ∷ []) mine).0 so_far.2));
+          ∙ ap (λ rest. so_far.0 ++ rest) (sym c.in-Some.ensures.steps) ∙ so_far.1 in
+          let all = subst (AllByRecursion (IsOfTable flags)) (sym whole) fits in
+          let mine = all_of_front (IsOfTable flags) (so_far.0 ++ change ∷ []) c.next.new.self all in (
+            so_far.0 ++ change ∷ [],
+            whole,
+            subst (HoldSlots flags (row_place later.places.entries)
+                (slots_seen later.slots.items)) (append_assoc before so_far.0 (change ∷ []))
+                (step (before ++ so_far.0)
+                (all_append (IsOfTable flags) before so_far.0 valid (all_of_front (IsOfTable flags) so_far.0
+                (change ∷ []) mine))
+                (all_of_back (IsOfTable flags) so_far.0 (change ∷ []) mine).0 so_far.2),
+          );
     }
