@@ -83,9 +83,9 @@ out_in d [] = 0
 out_in d (q ∷ rest) = length (filter (λ p. is_out_as d p.status) q.spans) + out_in d rest
 
 -- A picture. Its limits are in their ranges, the front is within the capacity, and the closing
--- number, if there is one, is the front. There are at most 1,024 subscriptions, and each is good. No
--- two have the same link, and no two spans are in flight as the same delivery. The ready order has
--- each ready span once and nothing else; the in-flight order has each span in flight once and
+-- number, if there is one, is the front. There are at most 1,024 subscriptions, and each is good.
+-- No two have the same link, and no two spans are in flight as the same delivery. The ready order
+-- has each ready span once and nothing else; the in-flight order has each span in flight once and
 -- nothing else.
 pub record IsPicture (p : Picture) : Type 0 where
   pub in_range : AreInRange p.limits

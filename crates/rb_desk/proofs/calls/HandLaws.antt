@@ -1,6 +1,6 @@
 -- After a span is delivered, returned or settled, what a desk stores shows the picture of that call.
-use Rattle.std.proofs.Common.{◌≡◌, ◌≤◌, length, ℕ, suc, max, Bool, true, false, ◌==◌, cond, List, [], ◌∷◌, ◌++◌, Option, Some}
-use Rattle.std.proofs.Common.{Result, Ok, Err, filter_map, slice_get, slice_set, refl, sym, ap, ◌∙◌, arith}
+use Rattle.std.proofs.Common.{◌≡◌, ℕ, suc, max, Bool, true, false, ◌==◌, cond, List, [], ◌∷◌, ◌++◌, Option, Some}
+use Rattle.std.proofs.Common.{length, ◌≤◌, Result, Ok, Err, filter_map, slice_get, slice_set, refl, sym, ap, ◌∙◌, arith}
 use Rattle.std.specs.List.{AllByRecursion}
 use Rattle.rb_desk.specs.declared.span.Span.{Span}
 use Rattle.rb_desk.specs.declared.span.Status.{Status}

@@ -1,7 +1,8 @@
 -- What agrees with a desk's front, turns and deliveries: its tickets are before the next one, and it still agrees after
 -- a call.
 use Rattle.std.proofs.Common.{◌≡◌, ℕ, zero, suc, max, ◌<◌, ◌≤◌, Bool, true, false, ◌==◌, cond, List, [], ◌∷◌, ◌++◌}
-use Rattle.std.proofs.Common.{length, Some, None, IfSome, map, nat_le, slice_get, slice_set, refl, sym, ap, subst, arith}
+use Rattle.std.proofs.Common.{Some, None, IfSome, map, nat_le, slice_get, slice_set, refl, sym, ap, subst, arith}
+use Rattle.std.proofs.Common.{length}
 use Rattle.std.specs.List.{AllByRecursion}
 use Rattle.std.proofs.lemmas.List.{length-map, length-set}
 use Rattle.rb_desk.specs.declared.span.Span.{Span}
@@ -35,7 +36,8 @@ module _ {A : Type 0} (P : A → Type 0) where
   all_set (y ∷ xs) (suc i) x h p = (h.0, all_set xs i x h.1 p)
 
 -- a bound on a list's length holds still once one item, or each, becomes another
-pub few_set : {A : Type 0} {most : ℕ} (xs : List A) (i : ℕ) (x : A) → length xs ≤ most → length (slice_set xs i x) ≤ most
+pub few_set : {A : Type 0} {most : ℕ} (xs : List A) (i : ℕ) (x : A) → length xs ≤ most
+    → length (slice_set xs i x) ≤ most
 few_set xs i x few = omega (arith, few, length-set xs i x)
 
 pub few_map : {A B : Type 0} {most : ℕ} (xs : List A) (f : A → B) → length xs ≤ most → length (map f xs) ≤ most

@@ -84,7 +84,13 @@ pub record ReplaysRises (old new : Picture) (link number : Option ℕ) : Type 0 
 
 -- a refused call
 rises_same : (p : Picture) → ReplaysRises p p None None
-rises_same p = record { limits = refl; front = omega arith; stay = omega arith; links = omega arith; numbers = omega arith }
+rises_same p = record {
+  limits = refl;
+  front = omega arith;
+  stay = omega arith;
+  links = omega arith;
+  numbers = omega arith;
+}
 
 -- one subscription changes
 same_length : (p : Picture) (s : ℕ) (q : Subscription) → length p.subscriptions ≤ length (slice_set p.subscriptions s q)
@@ -125,7 +131,13 @@ taken_rises : (p : Picture) (s cursor now : ℕ) (q : Subscription) (o : Option 
     → TakeRises p (delivered_span p s q cursor now o)
 taken_rises p s cursor now q None = rises_same p
 taken_rises p s cursor now q (Some span) =
-    record { limits = refl; front = omega arith; stay = same_length p s _; links = omega arith; numbers = (refl, omega arith) }
+    record {
+      limits = refl;
+      front = omega arith;
+      stay = same_length p s _;
+      links = omega arith;
+      numbers = (refl, omega arith);
+    }
 
 take_rises : (p : Picture) (s link cursor now : ℕ) → TakeRises p (take p s link cursor now)
 unfolding take
@@ -143,7 +155,13 @@ any_span_rises : (p : Picture) (s now : ℕ) (q : Subscription) (o : Option Span
     → TakeRises p (delivered_any_span p s q now o)
 any_span_rises p s now q None = rises_same p
 any_span_rises p s now q (Some span) =
-    record { limits = refl; front = omega arith; stay = same_length p s _; links = omega arith; numbers = (refl, omega arith) }
+    record {
+      limits = refl;
+      front = omega arith;
+      stay = same_length p s _;
+      links = omega arith;
+      numbers = (refl, omega arith);
+    }
 
 any_of_rises : (p : Picture) (s first now : ℕ) (o : Option Subscription)
     → TakeRises p (delivered_any_of p s first now o)
@@ -166,7 +184,13 @@ ack_rises p s link delivery cursor = by (slice_get p.subscriptions s)
     of_span q None = rises_same p
     of_span q (Some span) = either_way (λ (x : Result ℕ DeskRefusal × Picture). ReplaysRises p x.1 None None)
         (nat_lt cursor span.last) _ _ (rises_same p)
-        (record { limits = refl; front = omega arith; stay = same_length p s _; links = omega arith; numbers = omega arith })
+        (record {
+          limits = refl;
+          front = omega arith;
+          stay = same_length p s _;
+          links = omega arith;
+          numbers = omega arith;
+        })
 
     by : (o : Option Subscription) → ReplaysRises p (acked_by p s link delivery cursor o).1 None None
     by None = rises_same p
@@ -217,7 +241,13 @@ reconnect_rises p s cursor = by (slice_get p.subscriptions s)
         (rises_same p)
         (either_way (λ (x : Result ℕ DeskRefusal × Picture). ReplaysRises p x.1 (link_of x.0) None)
         (nat_lt cursor q.floor || nat_lt q.offered cursor) _ _ (rises_same p)
-        (record { limits = refl; front = omega arith; stay = same_length p s _; links = (refl, omega arith); numbers = omega arith }))
+        (record {
+          limits = refl;
+          front = omega arith;
+          stay = same_length p s _;
+          links = (refl, omega arith);
+          numbers = omega arith;
+        }))
 
 unsubscribe_rises : (p : Picture) (s link : ℕ) → ReplaysRises p (unsubscribe p s link).1 None None
 unfolding unsubscribe
@@ -230,7 +260,13 @@ unsubscribe_rises p s link = by (slice_get p.subscriptions s)
         (rises_same p)
         (either_way (λ (x : Result Unit DeskRefusal × Picture). ReplaysRises p x.1 None None) q.closed _ _
         (rises_same p)
-        (record { limits = refl; front = omega arith; stay = same_length p s _; links = omega arith; numbers = omega arith }))
+        (record {
+          limits = refl;
+          front = omega arith;
+          stay = same_length p s _;
+          links = omega arith;
+          numbers = omega arith;
+        }))
 
 place_rises : (p : Picture) → ReplaysRises p (place p) None None
 unfolding place
@@ -246,7 +282,13 @@ place_rises p =
 
 close_rises : (p : Picture) → ReplaysRises p (close p).1 None None
 unfolding close
-close_rises p = record { limits = refl; front = omega arith; stay = omega arith; links = omega arith; numbers = omega arith }
+close_rises p = record {
+  limits = refl;
+  front = omega arith;
+  stay = omega arith;
+  links = omega arith;
+  numbers = omega arith;
+}
 
 placed_if_rises : (p : Picture) (r : Result ℕ DeskRefusal) → ReplaysRises p (placed_if p r) None None
 placed_if_rises p (Ok n) = place_rises p
