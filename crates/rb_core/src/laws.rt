@@ -30,7 +30,9 @@ use crate::courses;
 use cs_parse::laws::{
     feeding_tells_faults, progress_goes_on, progress_tells, reading_is_spelling, refusing_is_fault,
 };
-use rb_desk::laws::{calls_keep_pictures, calls_show_in_outline, replays_are_pictures};
+use rb_desk::laws::{
+    calls_keep_limits, calls_keep_pictures, calls_show_in_outline, replays_are_pictures,
+};
 use rb_subscriber::laws::accepting_is_step;
 
 /// Every event preserves the invariant of a world (*IsWorld*).
@@ -39,6 +41,7 @@ pub fn events_keep_worlds()
         → IsWorld old → outcome old event ≡ (given, new) → IsWorld new }
 {
     accepting_is_step();
+    calls_keep_limits();
     calls_keep_pictures();
     calls_show_in_outline();
 }
