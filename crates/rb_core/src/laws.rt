@@ -16,15 +16,17 @@ ghost use Rattle.rb_core.specs.declared.reply.Reply.TheVariants as reply;
 ghost use Rattle.rb_core.specs.Headline.{KeepsHeadline};
 ghost use Rattle.rb_core.specs.Moves.{Leads, HasRun, StaysClosed, items_of, own_of, IsFront};
 ghost use Rattle.rb_core.specs.Moves.{IsSending};
-ghost use Rattle.rb_core.specs.Outcome.{outcome};
+ghost use Rattle.rb_core.specs.Outcome.{outcome, delivery_of};
 ghost use Rattle.rb_core.specs.Run.{Answer, IsRunOf, RunsOn};
 ghost use Rattle.rb_core.specs.State.{State, IsWorld, empty_tables};
 ghost use Rattle.rb_core.specs.Texts.{FeedsByText, EndsByText};
 ghost use Rattle.rb_core.specs.Told.{world_told, IsToldBy};
 ghost use Rattle.rb_core.specs.World.{Sender, Subscriber, World, world_begun, endpoint_of};
+ghost use Rattle.rb_desk.specs.declared.delivery.Delivery.{Delivery};
 ghost use Rattle.rb_desk.specs.Limits.{Limits};
 ghost use Rattle.rb_sequence.specs.Entry.{Entry};
 ghost use Rattle.rb_subscriber.specs.Accept.{AppliesSingly};
+ghost use Rattle.rb_subscriber.specs.Endpoint.{Endpoint};
 
 use crate::courses;
 use cs_parse::laws::{
@@ -191,6 +193,18 @@ pub fn runs_keep_the_headline()
     sendings_come_once_in_order();
     nothing_after_close();
     tables_apply_singly();
+}
+
+/// If the reply to `Accept` is `Accepted`, it names the delivery's subscription, and its cursor is
+/// the last number of that delivery. That is the new cursor of the subscription's endpoint.
+pub fn accepted_tells_the_cursor()
+    ensures { (old : State) (d s cursor : ℕ) (new : State)
+        → outcome old (event.Accept d) ≡ (reply.Accepted s cursor, new)
+        → (delivery : Delivery) × (end : Endpoint) × (delivery_of old d ≡ Some delivery)
+        × (delivery.sub ≡ s) × (delivery.last ≡ cursor)
+        × (slice_get new.endpoints s ≡ Some end) × (end.cursor ≡ cursor) }
+{
+    accepting_is_step();
 }
 
 /// In every run the number of a new publisher, and that of a new subscription, is how many came
