@@ -12,9 +12,13 @@ use Rattle.rb_desk.specs.Outline as outline
 use Rattle.rb_desk.specs.Picture.{Picture}
 use Rattle.rb_desk.specs.Steps.{after_step}
 
--- every call keeps what a picture keeps
+-- a picture with the limits of an older one
+abbrev pub KeepsLimits : Picture → Picture → Type 0
+KeepsLimits old new = IsPicture new × (new.limits ≡ old.limits)
+
+-- every call keeps what a picture keeps, and its limits
 abbrev pub KeepsPictures : Type 0
-KeepsPictures = (old : Picture) (step : Step) → IsPicture old → IsPicture (after_step old step)
+KeepsPictures = (old : Picture) (step : Step) → IsPicture old → KeepsLimits old (after_step old step)
 
 -- what each call changes in the outline
 pub record DeskShows : Type 0 where
@@ -46,44 +50,45 @@ beside new answer = (answer, new)
 
 -- ---- what each call keeps
 
-pub subscribe_keeps : KeepsPictures → (old : Picture) (start : ℕ) → IsPicture old → IsPicture (subscribe old start).1
+pub subscribe_keeps : KeepsPictures → (old : Picture) (start : ℕ) → IsPicture old
+    → KeepsLimits old (subscribe old start).1
 unfolding after_step
 subscribe_keeps keeps old start good = keeps old (step.Subscribe start) good
 
 pub take_keeps : KeepsPictures → (old : Picture) (s link cursor now : ℕ) → IsPicture old
-    → IsPicture (take old s link cursor now).1
+    → KeepsLimits old (take old s link cursor now).1
 unfolding after_step
 take_keeps keeps old s link cursor now good = keeps old (step.Take s link cursor now) good
 
-pub take_any_keeps : KeepsPictures → (old : Picture) (now : ℕ) → IsPicture old → IsPicture (take_any old now).1
+pub take_any_keeps : KeepsPictures → (old : Picture) (now : ℕ) → IsPicture old → KeepsLimits old (take_any old now).1
 unfolding after_step
 take_any_keeps keeps old now good = keeps old (step.TakeAny now) good
 
 pub ack_keeps : KeepsPictures → (old : Picture) (s link number cursor : ℕ) → IsPicture old
-    → IsPicture (ack old s link number cursor).1
+    → KeepsLimits old (ack old s link number cursor).1
 unfolding after_step
 ack_keeps keeps old s link number cursor good = keeps old (step.Ack s link number cursor) good
 
 pub nack_keeps : KeepsPictures → (old : Picture) (s link number : ℕ) → IsPicture old
-    → IsPicture (nack old s link number).1
+    → KeepsLimits old (nack old s link number).1
 unfolding after_step
 nack_keeps keeps old s link number good = keeps old (step.Nack s link number) good
 
-pub expire_keeps : KeepsPictures → (old : Picture) (now : ℕ) → IsPicture old → IsPicture (expire old now).1
+pub expire_keeps : KeepsPictures → (old : Picture) (now : ℕ) → IsPicture old → KeepsLimits old (expire old now).1
 unfolding after_step
 expire_keeps keeps old now good = keeps old (step.Expire now) good
 
 pub reconnect_keeps : KeepsPictures → (old : Picture) (s cursor : ℕ) → IsPicture old
-    → IsPicture (reconnect old s cursor).1
+    → KeepsLimits old (reconnect old s cursor).1
 unfolding after_step
 reconnect_keeps keeps old s cursor good = keeps old (step.Reconnect s cursor) good
 
 pub unsubscribe_keeps : KeepsPictures → (old : Picture) (s link : ℕ) → IsPicture old
-    → IsPicture (unsubscribe old s link).1
+    → KeepsLimits old (unsubscribe old s link).1
 unfolding after_step
 unsubscribe_keeps keeps old s link good = keeps old (step.Unsubscribe s link) good
 
-pub close_keeps : KeepsPictures → (old : Picture) → IsPicture old → IsPicture (close old).1
+pub close_keeps : KeepsPictures → (old : Picture) → IsPicture old → KeepsLimits old (close old).1
 unfolding after_step
 close_keeps keeps old good = keeps old step.Close good
 
@@ -93,5 +98,6 @@ unfolding after_step
 placed_step old number ready = rw ready refl
 
 pub place_keeps : KeepsPictures → (old : Picture) (number : ℕ) → prepare old ≡ Ok number → IsPicture old
-    → IsPicture (place old)
-place_keeps keeps old number ready good = subst IsPicture (placed_step old number ready) (keeps old step.Place good)
+    → KeepsLimits old (place old)
+place_keeps keeps old number ready good =
+    subst (KeepsLimits old) (placed_step old number ready) (keeps old step.Place good)

@@ -20,3 +20,4 @@ pub mod ToldLaws
 pub mod ByText
 pub mod RunCuts
 pub mod Counting
+pub mod AcceptedCursor

@@ -1,5 +1,5 @@
 -- What whole runs report.
-use Rattle.std.proofs.Common.{◌≡◌, List, [], ◌∷◌, ◌++◌, Ok, Err, refl, sym, subst}
+use Rattle.std.proofs.Common.{◌≡◌, List, [], ◌∷◌, ◌++◌, Ok, Err, refl, sym, subst, arith}
 use Rattle.std.specs.Prelude.{slice_get}
 use Rattle.std.specs.List.{AllByRecursion}
 use Rattle.cs_model.specs.declared.shape.Shape.{Shape}
@@ -106,7 +106,17 @@ run_tells laws schema old world (event ∷ events) (answer ∷ answers) new feed
 empty_is_world : (limits : Limits) (schema : List Shape) → IsPicture (empty_picture limits)
     → IsWorld (empty_world limits schema)
 empty_is_world limits schema picture =
-    record { picture = picture; front = refl; members = refl; entries = tt; deliveries = tt; next = refl; are_of = tt }
+    record {
+      picture = picture;
+      front = refl;
+      few = omega arith;
+      waiting = omega arith;
+      members = refl;
+      entries = tt;
+      deliveries = tt;
+      next = refl;
+      are_of = tt;
+    }
 
 nothing_tells : (limits : Limits) (schema : List Shape) → IsToldBy schema (empty_world limits schema) world_begun
 nothing_tells limits schema =

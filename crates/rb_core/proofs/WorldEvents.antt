@@ -1,8 +1,10 @@
 -- Each event preserves the invariant of a world, by the cases of its outcome.
 use Rattle.std.proofs.Common.{◌≡◌, ◌↔◌, ℕ, Bool, true, false, cond, List, [], ◌∷◌, ◌++◌, Option, Some, None, Result, Ok}
-use Rattle.std.proofs.Common.{Err, slice_get, slice_set, refl, sym, ap, ◌∙◌, arith}
+use Rattle.std.proofs.Common.{Err, length, nat_le, ◌≤◌, ◌+◌, slice_get, slice_set, refl, sym, ap, ◌∙◌, arith}
 use Rattle.std.specs.Prelude.{⊤}
+use Rattle.std.proofs.lemmas.Bool.{leb-false}
 use Rattle.std.proofs.lemmas.List.{length-append, length-set, map_push}
+use Rattle.cs_model.specs.declared.origin.Origin.TheVariants.{Sent}
 use Rattle.cs_model.specs.Section.{Section}
 use Rattle.cs_parse.specs.declared.end.EndError.{EndError}
 use Rattle.cs_parse.specs.End.{admitted_answer}
@@ -10,7 +12,6 @@ use Rattle.cs_parse.specs.Progress as stream
 use Rattle.rb_desk.specs.Calls as desk
 use Rattle.rb_desk.specs.declared.delivery.Delivery.{Delivery}
 use Rattle.rb_desk.specs.declared.refusal.DeskRefusal.{DeskRefusal}
-use Rattle.rb_desk.specs.IsPicture.{IsPicture}
 use Rattle.rb_desk.specs.Outline.{Member, Outline, outline_of}
 use Rattle.rb_desk.specs.Outline as outline
 use Rattle.rb_desk.specs.Picture.{Picture}
@@ -30,9 +31,9 @@ use Rattle.rb_core.specs.Outcome.{reconnected_for, unsubscribed_with, unsubscrib
 use Rattle.rb_core.specs.Outcome.{outcome}
 use Rattle.rb_core.specs.Outcome as outcome
 use Rattle.rb_core.specs.State.{State, empty_tables, member_of_end, IsWorld}
-use Rattle.rb_core.proofs.DeskLaws.{KeepsPictures, DeskShows, beside, subscribe_keeps, take_keeps, take_any_keeps}
-use Rattle.rb_core.proofs.DeskLaws.{ack_keeps, nack_keeps, expire_keeps, reconnect_keeps, unsubscribe_keeps}
-use Rattle.rb_core.proofs.DeskLaws.{close_keeps, place_keeps}
+use Rattle.rb_core.proofs.DeskLaws.{KeepsLimits, KeepsPictures, DeskShows, beside, subscribe_keeps, take_keeps}
+use Rattle.rb_core.proofs.DeskLaws.{take_any_keeps, ack_keeps, nack_keeps, expire_keeps, reconnect_keeps}
+use Rattle.rb_core.proofs.DeskLaws.{unsubscribe_keeps, close_keeps, place_keeps}
 use Rattle.rb_core.proofs.Worlds.{apart, worlds_changed, same_outline, handed_over, placed_next, set_end, same_end}
 use Rattle.rb_core.proofs.Worlds.{found_end}
 
@@ -41,28 +42,40 @@ abbrev pub AcceptsBySteps : Type 0
 AcceptsBySteps = (old : Endpoint) (sequence : List Entry) (delivery : Delivery) (new : Endpoint)
     → (accept old sequence delivery ≡ Ok new) ↔ AcceptsDelivery old sequence delivery new
 
--- the world is one after either of two outcomes
-world_events_either : (b : Bool) (x y : Reply × State) → IsWorld x.1 → IsWorld y.1 → IsWorld (cond b x y).1
-world_events_either true x y h k = h
-world_events_either false x y h k = k
+-- the world is one after either of two outcomes, of which the second comes where the test fails
+world_events_unless : (b : Bool) (x y : Reply × State) → IsWorld x.1 → (b ≡ false → IsWorld y.1)
+    → IsWorld (cond b x y).1
+world_events_unless true x y h k = h
+world_events_unless false x y h k = k refl
+
+-- one publisher becomes another
+publisher_set : (old : State) (p : ℕ) (publisher : Publisher) → IsWorld old
+    → IsWorld (outcome.with_publisher old p publisher)
+publisher_set old p publisher good =
+    apart old (slice_set old.publishers p publisher) old.intake old.hand good
+    (omega (arith, good.few, length-set old.publishers p publisher)) good.waiting
 
 -- ---- publishers
 
 publisher_keeps : (old : State) → IsWorld old → IsWorld (outcome.publisher_added old).1
-publisher_keeps old good = world_events_either _ _ _ good (apart old _ old.intake old.hand good)
+publisher_keeps old good =
+    let new : Publisher = record { stream = stream.nothing; staged = None; sent = 0 } in
+    world_events_unless (nat_le 64 (length old.publishers)) _ _ good
+    (λ room. apart old (old.publishers ++ new ∷ []) old.intake old.hand good
+    (omega (arith, leb-false _ _ room, length-append old.publishers (new ∷ []))) good.waiting)
 
 feed_keeps : (old : State) (p : ℕ) (bytes : List ℕ) (found : Option Publisher) → IsWorld old
     → IsWorld (fed_by old p bytes found).1
 feed_keeps old p bytes None good = good
-feed_keeps old p bytes (Some publisher) good = apart old _ old.intake old.hand good
+feed_keeps old p bytes (Some publisher) good = publisher_set old p _ good
 
 reset_keeps : (old : State) (p : ℕ) (found : Option Publisher) → IsWorld old → IsWorld (reset_by old p found).1
 reset_keeps old p None good = good
-reset_keeps old p (Some publisher) good = apart old _ old.intake old.hand good
+reset_keeps old p (Some publisher) good = publisher_set old p _ good
 
 staged_keeps : (old : State) (p : ℕ) (publisher : Publisher) (r : Result (List Section) EndError) → IsWorld old
     → IsWorld (staged_by old p publisher r).1
-staged_keeps old p publisher (Ok changeset) good = apart old _ old.intake old.hand good
+staged_keeps old p publisher (Ok changeset) good = publisher_set old p _ good
 staged_keeps old p publisher (Err error) good = good
 
 ended_by_keeps : (old : State) (p : ℕ) (publisher : Publisher) (kept : Option (List Section)) → IsWorld old
@@ -78,7 +91,13 @@ end_keeps old p (Some publisher) good = ended_by_keeps old p publisher publisher
 sent_while_keeps : (old : State) (p : ℕ) (publisher : Publisher) (changeset : List Section) (closing : Option ℕ)
     → IsWorld old → IsWorld (sent_while old p publisher changeset closing).1
 sent_while_keeps old p publisher changeset (Some last) good = good
-sent_while_keeps old p publisher changeset None good = world_events_either _ _ _ good (apart old _ _ old.hand good)
+sent_while_keeps old p publisher changeset None good =
+    let left : Publisher = record publisher { staged = None; sent = publisher.sent + 1 } in
+    let item : Item = record { publisher = p; own = publisher.sent + 1; origin = Sent; body = changeset } in
+    world_events_unless (nat_le old.desk.limits.intake (length old.intake)) _ _ good
+    (λ room. apart old (slice_set old.publishers p left) (old.intake ++ item ∷ []) old.hand good
+    (omega (arith, good.few, length-set old.publishers p left))
+    (omega (arith, leb-false _ _ room, length-append old.intake (item ∷ []))))
 
 sent_by_keeps : (old : State) (p : ℕ) (publisher : Publisher) (kept : Option (List Section)) → IsWorld old
     → IsWorld (sent_by old p publisher kept).1
@@ -103,10 +122,17 @@ turned_keeps : KeepsPictures → DeskShows → (mid : State) (hand : Option Item
 turned_keeps keeps shows mid None good = good
 turned_keeps keeps shows mid (Some item) good = placed_keeps keeps shows mid item (desk.prepare mid.desk) refl good
 
+-- no more waits once an item was pulled
+fewer_wait : (hand : Option Item) (intake : List Item) → length (outcome.rest_of hand intake) ≤ length intake
+fewer_wait (Some item) intake = omega arith
+fewer_wait None [] = omega arith
+fewer_wait None (item ∷ rest) = omega arith
+
 turn_keeps : KeepsPictures → DeskShows → (old : State) → IsWorld old
     → IsWorld (turned_with (outcome.pulled old) (outcome.pulled old).hand).1
 turn_keeps keeps shows old good =
-    turned_keeps keeps shows (outcome.pulled old) (outcome.pulled old).hand (apart old old.publishers _ _ good)
+    turned_keeps keeps shows (outcome.pulled old) (outcome.pulled old).hand
+    (apart old old.publishers _ _ good good.few (omega (arith, good.waiting, fewer_wait old.hand old.intake)))
 
 end_sequence_keeps : KeepsPictures → DeskShows → (old : State) → IsWorld old → IsWorld (outcome.closed old).1
 end_sequence_keeps keeps shows old good =
@@ -119,8 +145,8 @@ end_sequence_keeps keeps shows old good =
 -- ---- subscriptions
 
 world_events_subscribed_keeps : (old : State) (start : ℕ) (r : Result (ℕ × ℕ) DeskRefusal) (new : Picture) → IsWorld old
-    → IsPicture new → ((made : ℕ × ℕ) → r ≡ Ok made → outline.Subscribes (outline_of old.desk) (outline_of new) start
-    made.0 made.1)
+    → KeepsLimits old.desk new
+    → ((made : ℕ × ℕ) → r ≡ Ok made → outline.Subscribes (outline_of old.desk) (outline_of new) start made.0 made.1)
     → IsWorld (subscribed_by old start r new).1
 world_events_subscribed_keeps old start (Ok made) new good picture joins =
     let join = joins made refl in
@@ -140,7 +166,7 @@ subscription_keeps keeps shows old start good =
     world_events_subscribed_keeps old start call.0 call.1 good (subscribe_keeps keeps old.desk start good.picture)
     (λ made is. shows.subscribes old.desk start made.0 made.1 call.1 (ap (beside call.1) is))
 
-handed_keeps : (old : State) (r : Result Delivery DeskRefusal) (new : Picture) → IsWorld old → IsPicture new
+handed_keeps : (old : State) (r : Result Delivery DeskRefusal) (new : Picture) → IsWorld old → KeepsLimits old.desk new
     → ((delivery : Delivery) → r ≡ Ok delivery → outline.Delivers (outline_of old.desk) (outline_of new) delivery)
     → IsWorld (outcome.delivered_by old r new).1
 handed_keeps old (Ok delivery) new good picture hands = handed_over old new delivery good picture (hands delivery refl)
@@ -170,7 +196,7 @@ accepted_keeps : AcceptsBySteps
     → IsWorld (accepted_by old s r).1
 accepted_keeps steps old s end delivery (Ok new) is found good =
     let step = (steps end old.sequence delivery new).0 is in
-    worlds_changed old old.desk (slice_set old.endpoints s new) good good.picture refl refl
+    worlds_changed old old.desk (slice_set old.endpoints s new) good (good.picture, refl) refl refl
     (same_end old.endpoints s end new found (ap member_of_end step.kept) ∙ good.members)
     (omega (arith, length-set old.endpoints s new))
 accepted_keeps steps old s end delivery (Err why) is found good = good
@@ -187,7 +213,7 @@ accepted_as_keeps steps old None good = good
 accepted_as_keeps steps old (Some delivery) good =
     accepted_at_keeps steps old delivery (slice_get old.endpoints delivery.sub) refl good
 
-settled_keeps : (old : State) (r : Result ℕ DeskRefusal) (new : Picture) → IsWorld old → IsPicture new
+settled_keeps : (old : State) (r : Result ℕ DeskRefusal) (new : Picture) → IsWorld old → KeepsLimits old.desk new
     → ((floor : ℕ) → r ≡ Ok floor → outline_of new ≡ outline_of old.desk) → IsWorld (acked_by_desk old r new).1
 settled_keeps old (Ok floor) new good picture same = same_outline old new good picture (same floor refl)
 settled_keeps old (Err why) new good picture same = good
@@ -208,7 +234,7 @@ acked_keeps keeps shows old None good = good
 acked_keeps keeps shows old (Some delivery) good =
     acked_at_keeps keeps shows old delivery (slice_get old.endpoints delivery.sub) good
 
-returned_keeps : (old : State) (r : Result ⊤ DeskRefusal) (new : Picture) → IsWorld old → IsPicture new
+returned_keeps : (old : State) (r : Result ⊤ DeskRefusal) (new : Picture) → IsWorld old → KeepsLimits old.desk new
     → (r ≡ Ok tt → outline_of new ≡ outline_of old.desk) → IsWorld (nacked_by_desk old r new).1
 returned_keeps old (Ok done) new good picture same = same_outline old new good picture (same refl)
 returned_keeps old (Err why) new good picture same = good
@@ -232,7 +258,8 @@ world_events_expired_keeps keeps shows old now good =
 -- ---- links
 
 -- an end becomes another, and so does the desk's member
-changed_end : (old : State) (s : ℕ) (next : Endpoint) (member : Member) (new : Picture) → IsWorld old → IsPicture new
+changed_end : (old : State) (s : ℕ) (next : Endpoint) (member : Member) (new : Picture) → IsWorld old
+    → KeepsLimits old.desk new
     → (outline_of new).front ≡ (outline_of old.desk).front → (outline_of new).next_delivery
     ≡ (outline_of old.desk).next_delivery
     → (outline_of new).members ≡ slice_set (outline_of old.desk).members s member → member_of_end next ≡ member
@@ -248,7 +275,7 @@ changed_end old s next member new good picture front delivery members is =
     (omega (arith, length-set old.endpoints s next))
 
 linked_keeps : (old : State) (s : ℕ) (end : Endpoint) (r : Result ℕ DeskRefusal) (new : Picture)
-    → slice_get old.endpoints s ≡ Some end → IsWorld old → IsPicture new
+    → slice_get old.endpoints s ≡ Some end → IsWorld old → KeepsLimits old.desk new
     → ((link : ℕ) → r ≡ Ok link → outline.Reconnects (outline_of old.desk) (outline_of new) s link)
     → IsWorld (reconnected_with old s end r new).1
 linked_keeps old s end (Ok link) new here good picture relinks =
@@ -268,7 +295,7 @@ world_events_reconnected_keeps keeps shows old s cursor (Some end) is good =
     (λ link e. shows.reconnects old.desk s cursor link call.1 (ap (beside call.1) e))
 
 left_keeps : (old : State) (s : ℕ) (end : Endpoint) (r : Result ⊤ DeskRefusal) (new : Picture)
-    → slice_get old.endpoints s ≡ Some end → IsWorld old → IsPicture new
+    → slice_get old.endpoints s ≡ Some end → IsWorld old → KeepsLimits old.desk new
     → (r ≡ Ok tt → outline.Unsubscribes (outline_of old.desk) (outline_of new) s)
     → IsWorld (unsubscribed_with old s end r new).1
 left_keeps old s end (Ok done) new here good picture leaves =

@@ -1,12 +1,11 @@
 -- The invariant of a world, part by part.
-use Rattle.std.proofs.Common.{◌≡◌, ℕ, zero, suc, ◌+◌, ◌<◌, ◌≤◌, List, [], ◌∷◌, ◌++◌, length, map, Option, Some, None}
+use Rattle.std.proofs.Common.{◌≡◌, ℕ, zero, suc, ◌<◌, ◌≤◌, List, [], ◌∷◌, ◌++◌, length, map, Option, Some, None}
 use Rattle.std.proofs.Common.{option_map, slice_get, slice_set, refl, sym, ap, ◌∙◌, arith}
 use Rattle.std.specs.List.{AllByRecursion}
 use Rattle.std.proofs.lemmas.List.{length-append, length-map, map-set}
 use Rattle.std.proofs.lemmas.Option.{slice_get-map, slice_get_within}
 use Rattle.cs_model.proofs.CallerLemmas.{all_push}
 use Rattle.rb_desk.specs.declared.delivery.Delivery.{Delivery}
-use Rattle.rb_desk.specs.IsPicture.{IsPicture}
 use Rattle.rb_desk.specs.Outline.{Member, Outline, outline_of}
 use Rattle.rb_desk.specs.Outline as outline
 use Rattle.rb_desk.specs.Picture.{Picture}
@@ -15,6 +14,7 @@ use Rattle.rb_sequence.specs.Entry.{Entry}
 use Rattle.rb_subscriber.specs.Endpoint.{Endpoint}
 use Rattle.rb_core.specs.declared.publisher.Publisher.{Publisher}
 use Rattle.rb_core.specs.State.{State, member_of_end, IsOf, IsWorld}
+use Rattle.rb_core.proofs.DeskLaws.{KeepsLimits}
 use Rattle.rb_core.proofs.Moving.{all_map}
 use Rattle.rb_core.proofs.Numbers.{numbered_push}
 
@@ -67,12 +67,15 @@ end_within w s member good found =
 
 -- ---- parts that change
 
--- publishers, what waits and the hand are no matter
+-- of publishers and of what waits only the number matters, and the hand is no matter
 pub apart : (old : State) (publishers : List Publisher) (intake : List Item) (hand : Option Item) → IsWorld old
+    → length publishers ≤ 64 → length intake ≤ old.desk.limits.intake
     → IsWorld (record old { publishers = publishers; intake = intake; hand = hand })
-apart old publishers intake hand good = record {
+apart old publishers intake hand good few waiting = record {
   picture = good.picture;
   front = good.front;
+  few = few;
+  waiting = waiting;
   members = good.members;
   entries = good.entries;
   deliveries = good.deliveries;
@@ -80,14 +83,21 @@ apart old publishers intake hand good = record {
   are_of = good.are_of;
 }
 
+-- what waits is within the limits of a later picture
+still_waits : (old : State) (desk : Picture) → IsWorld old → desk.limits ≡ old.desk.limits
+    → length old.intake ≤ desk.limits.intake
+still_waits old desk good same = rw same good.waiting
+
 -- the desk and the ends change together, where nothing is placed or handed over
-pub worlds_changed : (old : State) (desk : Picture) (endpoints : List Endpoint) → IsWorld old → IsPicture desk
-    → desk.front ≡ old.desk.front → desk.next_delivery ≡ old.desk.next_delivery
+pub worlds_changed : (old : State) (desk : Picture) (endpoints : List Endpoint) → IsWorld old
+    → KeepsLimits old.desk desk → desk.front ≡ old.desk.front → desk.next_delivery ≡ old.desk.next_delivery
     → map member_of_end endpoints ≡ (outline_of desk).members → length old.endpoints ≤ length endpoints
     → IsWorld (record old { desk = desk; endpoints = endpoints })
 worlds_changed old desk endpoints good picture front next members more = record {
-  picture = picture;
+  picture = picture.0;
   front = front ∙ good.front;
+  few = good.few;
+  waiting = still_waits old desk good picture.1;
   members = members;
   entries = good.entries;
   deliveries = good.deliveries;
@@ -96,15 +106,15 @@ worlds_changed old desk endpoints good picture front next members more = record 
 }
 
 -- the desk alone, where its outline stays
-pub same_outline : (old : State) (desk : Picture) → IsWorld old → IsPicture desk → outline_of desk ≡ outline_of old.desk
-    → IsWorld (record old { desk = desk })
+pub same_outline : (old : State) (desk : Picture) → IsWorld old → KeepsLimits old.desk desk
+    → outline_of desk ≡ outline_of old.desk → IsWorld (record old { desk = desk })
 same_outline old desk good picture same =
     worlds_changed old desk old.endpoints good picture (ap (λ (o : Outline). o.front) same)
     (ap (λ (o : Outline). o.next_delivery) same)
     (good.members ∙ sym (ap (λ (o : Outline). o.members) same)) (omega arith)
 
 -- a delivery is handed over
-pub handed_over : (old : State) (desk : Picture) (delivery : Delivery) → IsWorld old → IsPicture desk
+pub handed_over : (old : State) (desk : Picture) (delivery : Delivery) → IsWorld old → KeepsLimits old.desk desk
     → outline.Delivers (outline_of old.desk) (outline_of desk) delivery
     → IsWorld (record old { desk = desk; deliveries = old.deliveries ++ delivery ∷ [] })
 handed_over old desk delivery good picture hands =
@@ -112,8 +122,10 @@ handed_over old desk delivery good picture hands =
     let next : desk.next_delivery ≡ suc delivery.number = ap (λ (o : Outline). o.next_delivery) hands.kept in
     let number : delivery.number ≡ suc (length old.deliveries) = hands.given ∙ good.next in
     record {
-      picture = picture;
+      picture = picture.0;
       front = front ∙ good.front;
+      few = good.few;
+      waiting = still_waits old desk good picture.1;
       members = good.members ∙ sym (ap (λ (o : Outline). o.members) hands.kept);
       entries = good.entries;
       deliveries = numbered_push (λ (d : Delivery). d.number) 1 old.deliveries delivery good.deliveries
@@ -127,7 +139,7 @@ handed_over old desk delivery good picture hands =
 abbrev pub entry_as : ℕ → Item → Entry
 entry_as number item = record { number = number; item = item }
 
-pub placed_next : (old : State) (desk : Picture) (number : ℕ) (item : Item) → IsWorld old → IsPicture desk
+pub placed_next : (old : State) (desk : Picture) (number : ℕ) (item : Item) → IsWorld old → KeepsLimits old.desk desk
     → outline.Places (outline_of old.desk) (outline_of desk) number
     → IsWorld (record old { hand = None; sequence = old.sequence ++ entry_as number item ∷ []; desk = desk })
 placed_next old desk number item good picture places =
@@ -135,8 +147,10 @@ placed_next old desk number item good picture places =
     let is : number ≡ suc (length old.sequence) = places.next ∙ ap suc good.front in
     let longer = worlds_one_more old.sequence (entry_as number item) in
     record {
-      picture = picture;
+      picture = picture.0;
       front = omega (arith, front, is, longer);
+      few = good.few;
+      waiting = still_waits old desk good picture.1;
       members = good.members ∙ sym (ap (λ (o : Outline). o.members) places.kept);
       entries = numbered_push (λ (e : Entry). e.number) 1 old.sequence (entry_as number item) good.entries
           (omega (arith, is));

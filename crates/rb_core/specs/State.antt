@@ -1,5 +1,5 @@
 -- The broker's state as a value, and its invariant.
-use Rattle.std.specs.Prelude.{◌≡◌, ℕ, suc, ◌+◌, ◌<◌, ◌≤◌, Bool, true, List, [], ◌∷◌, length, map}
+use Rattle.std.specs.Prelude.{◌≡◌, ℕ, suc, ◌+◌, ◌<◌, ◌≤◌, true, List, [], ◌∷◌, length, map}
 use Rattle.std.specs.Prelude.{replicate, Option, Some, None, refl}
 use Rattle.std.specs.Coded.{Coded, code_by, coded×, coded_list, coded_option}
 use Rattle.std.specs.FinMap as map
@@ -69,11 +69,14 @@ abbrev pub IsOf : List Endpoint → List Entry → Delivery → Type 0
 IsOf endpoints sequence d = (d.sub < length endpoints) × (d.last ≤ length sequence)
 
 -- The invariant of a world. Its desk shows a picture, whose front is the sequence's last number.
+-- There are at most 64 publishers, and the intake has no more items than the picture's limits say.
 -- The desk's subscriptions are those of the endpoints. Entries and deliveries are numbered from 1.
 -- The subscription of each delivery exists, and its numbers are placed.
 pub record IsWorld (w : State) : Type 0 where
   pub picture : IsPicture w.desk
   pub front : w.desk.front ≡ length w.sequence
+  pub few : length w.publishers ≤ 64
+  pub waiting : length w.intake ≤ w.desk.limits.intake
   pub members : map member_of_end w.endpoints ≡ (outline_of w.desk).members
   pub entries : AreNumbered (λ entry. entry.number) 1 w.sequence
   pub deliveries : AreNumbered (λ d. d.number) 1 w.deliveries

@@ -16,21 +16,25 @@ ghost use Rattle.rb_core.specs.declared.reply.Reply.TheVariants as reply;
 ghost use Rattle.rb_core.specs.Headline.{KeepsHeadline};
 ghost use Rattle.rb_core.specs.Moves.{Leads, HasRun, StaysClosed, items_of, own_of, IsFront};
 ghost use Rattle.rb_core.specs.Moves.{IsSending};
-ghost use Rattle.rb_core.specs.Outcome.{outcome};
+ghost use Rattle.rb_core.specs.Outcome.{outcome, delivery_of};
 ghost use Rattle.rb_core.specs.Run.{Answer, IsRunOf, RunsOn};
 ghost use Rattle.rb_core.specs.State.{State, IsWorld, empty_tables};
 ghost use Rattle.rb_core.specs.Texts.{FeedsByText, EndsByText};
 ghost use Rattle.rb_core.specs.Told.{world_told, IsToldBy};
 ghost use Rattle.rb_core.specs.World.{Sender, Subscriber, World, world_begun, endpoint_of};
+ghost use Rattle.rb_desk.specs.declared.delivery.Delivery.{Delivery};
 ghost use Rattle.rb_desk.specs.Limits.{Limits};
 ghost use Rattle.rb_sequence.specs.Entry.{Entry};
 ghost use Rattle.rb_subscriber.specs.Accept.{AppliesSingly};
+ghost use Rattle.rb_subscriber.specs.Endpoint.{Endpoint};
 
 use crate::courses;
 use cs_parse::laws::{
     feeding_tells_faults, progress_goes_on, progress_tells, reading_is_spelling, refusing_is_fault,
 };
-use rb_desk::laws::{calls_keep_pictures, calls_show_in_outline, replays_are_pictures};
+use rb_desk::laws::{
+    calls_keep_limits, calls_keep_pictures, calls_show_in_outline, replays_are_pictures,
+};
 use rb_subscriber::laws::accepting_is_step;
 
 /// Every event preserves the invariant of a world (*IsWorld*).
@@ -39,6 +43,7 @@ pub fn events_keep_worlds()
         → IsWorld old → outcome old event ≡ (given, new) → IsWorld new }
 {
     accepting_is_step();
+    calls_keep_limits();
     calls_keep_pictures();
     calls_show_in_outline();
 }
@@ -188,6 +193,18 @@ pub fn runs_keep_the_headline()
     sendings_come_once_in_order();
     nothing_after_close();
     tables_apply_singly();
+}
+
+/// If the reply to `Accept` is `Accepted`, it names the delivery's subscription, and its cursor is
+/// the last number of that delivery. That is the new cursor of the subscription's endpoint.
+pub fn accepted_tells_the_cursor()
+    ensures { (old : State) (d s cursor : ℕ) (new : State)
+        → outcome old (event.Accept d) ≡ (reply.Accepted s cursor, new)
+        → (delivery : Delivery) × (end : Endpoint) × (delivery_of old d ≡ Some delivery)
+        × (delivery.sub ≡ s) × (delivery.last ≡ cursor)
+        × (slice_get new.endpoints s ≡ Some end) × (end.cursor ≡ cursor) }
+{
+    accepting_is_step();
 }
 
 /// In every run the number of a new publisher, and that of a new subscription, is how many came

@@ -83,13 +83,15 @@ out_in d [] = 0
 out_in d (q ∷ rest) = length (filter (λ p. is_out_as d p.status) q.spans) + out_in d rest
 
 -- A picture. Its limits are in their ranges, the front is within the capacity, and the closing
--- number, if there is one, is the front. Each subscription is good. No two have the same link, and
--- no two spans are in flight as the same delivery. The ready order has each ready span once and
--- nothing else; the in-flight order has each span in flight once and nothing else.
+-- number, if there is one, is the front. There are at most 1,024 subscriptions, and each is good.
+-- No two have the same link, and no two spans are in flight as the same delivery. The ready order
+-- has each ready span once and nothing else; the in-flight order has each span in flight once and
+-- nothing else.
 pub record IsPicture (p : Picture) : Type 0 where
   pub in_range : AreInRange p.limits
   pub within : p.front ≤ p.limits.capacity
   pub closed : IfSome p.closing (λ last. last ≡ p.front)
+  pub few : length p.subscriptions ≤ 1024
   pub good : AllByRecursion (IsGoodSubscription p) p.subscriptions
   pub links : (link : ℕ) → links_of link p.subscriptions ≤ 1
   pub deliveries : (d : ℕ) → out_in d p.subscriptions ≤ 1

@@ -24,6 +24,7 @@ pub struct Desk {
 }
 
 impl Model for Desk {
+    ghost use Rattle.std.specs.Prelude.{◌≤◌, length};
     ghost use Rattle.std.specs.List.{AllByRecursion};
     ghost use Rattle.rb_desk.specs.Picture.{Picture, picture_code};
     ghost use Rattle.rb_desk.specs.Shown.{shown, IsWithin, Belongs};
@@ -36,7 +37,8 @@ impl Model for Desk {
         d.subs.items };
 
     ghost invariant = { λ d. IsWithin d.config d.front
-        × AllByRecursion (Belongs d.front d.turn d.next_delivery) d.subs.items };
+        × AllByRecursion (Belongs d.front d.turn d.next_delivery) d.subs.items
+        × (length d.subs.items ≤ 1024) };
 }
 
 impl Desk {

@@ -26,6 +26,11 @@ pub fn replays_are_pictures()
         → IsPicture (replay limits steps) }
 {}
 
+/// No call changes the limits.
+pub fn calls_keep_limits()
+    ensures { (old : Picture) (step : Step) → (after_step old step).limits ≡ old.limits }
+{}
+
 /// No link and no delivery's number is issued twice: those that a list of calls issues rise from 1.
 pub fn numbers_are_given_once()
     ensures links { (limits : Limits) (steps : List Step)

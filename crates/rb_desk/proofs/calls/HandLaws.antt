@@ -1,6 +1,6 @@
 -- After a span is delivered, returned or settled, what a desk stores shows the picture of that call.
 use Rattle.std.proofs.Common.{◌≡◌, ℕ, suc, max, Bool, true, false, ◌==◌, cond, List, [], ◌∷◌, ◌++◌, Option, Some}
-use Rattle.std.proofs.Common.{Result, Ok, Err, filter_map, slice_get, slice_set, refl, sym, ap, ◌∙◌, arith}
+use Rattle.std.proofs.Common.{length, ◌≤◌, Result, Ok, Err, filter_map, slice_get, slice_set, refl, sym, ap, ◌∙◌, arith}
 use Rattle.std.specs.List.{AllByRecursion}
 use Rattle.rb_desk.specs.declared.span.Span.{Span}
 use Rattle.rb_desk.specs.declared.span.Status.{Status}
@@ -23,7 +23,7 @@ use Rattle.rb_desk.proofs.orders.OrderLaws.{tagged_ready, tagged_out, order_same
 use Rattle.rb_desk.proofs.spans.ChangeLaws.{Changes, stands_same, stands_new, stands_left}
 use Rattle.rb_desk.proofs.spans.LaneChanges.{may_go_span, may_go_ready, restated_changes, handed_changes, settled_spans}
 use Rattle.rb_desk.proofs.spans.LaneChanges.{settled_stands}
-use Rattle.rb_desk.proofs.calls.KnownLaws.{all_set, held_open, out_earlier, ready_earlier, known_belongs_later}
+use Rattle.rb_desk.proofs.calls.KnownLaws.{all_set, few_set, held_open, out_earlier, ready_earlier, known_belongs_later}
 use Rattle.rb_desk.proofs.calls.KnownLaws.{sub_handed, sub_returned, sub_settled}
 use Rattle.rb_desk.proofs.spans.FoundLaws.{out_as_held}
 use Rattle.rb_desk.proofs.calls.OpenLaws.{IsOpen, lanes, lane_found, belongs, shown_changed, spans_changed}
@@ -113,6 +113,12 @@ module _ (lim : Limits) (front turn number : ℕ) (subs : List Sub) (s : ℕ) (s
       let made = d sub o.found in
       rw (made.subs_are, made.next_is) (belongs_handed (max clock now) span may)
   delivered_belongs span clock now next tick new (Err why) may d = rw (d.1, d.2) o.belong
+
+  pub delivered_few : (span : Span) (clock now next tick : ℕ) (new : List Sub) (result : Result Delivery DeskError)
+      → WhenDelivered result subs s span number clock now new next tick → length subs ≤ 1024 → length new ≤ 1024
+  delivered_few span clock now next tick new (Ok delivery) d few =
+      rw (d sub o.found).subs_are (few_set subs s (delivered_sub sub span number (max clock now)) few)
+  delivered_few span clock now next tick new (Err why) d few = rw d.1 few
 
   pub delivered_answers : (closing : Option ℕ) (next_link : ℕ) (span : Span) (clock now next tick : ℕ) (new : List Sub)
       (result : Result Delivery DeskError)

@@ -2,7 +2,9 @@
 -- a call.
 use Rattle.std.proofs.Common.{◌≡◌, ℕ, zero, suc, max, ◌<◌, ◌≤◌, Bool, true, false, ◌==◌, cond, List, [], ◌∷◌, ◌++◌}
 use Rattle.std.proofs.Common.{Some, None, IfSome, map, nat_le, slice_get, slice_set, refl, sym, ap, subst, arith}
+use Rattle.std.proofs.Common.{length}
 use Rattle.std.specs.List.{AllByRecursion}
+use Rattle.std.proofs.lemmas.List.{length-map, length-set}
 use Rattle.rb_desk.specs.declared.span.Span.{Span}
 use Rattle.rb_desk.specs.declared.span.Status.{Status}
 use Rattle.rb_desk.specs.declared.span.Status.TheVariants.{Ready, InFlight, Settled}
@@ -32,6 +34,14 @@ module _ {A : Type 0} (P : A → Type 0) where
   all_set [] i x h p = tt
   all_set (y ∷ xs) zero x h p = (p, h.1)
   all_set (y ∷ xs) (suc i) x h p = (h.0, all_set xs i x h.1 p)
+
+-- a bound on a list's length holds still once one item, or each, becomes another
+pub few_set : {A : Type 0} {most : ℕ} (xs : List A) (i : ℕ) (x : A) → length xs ≤ most
+    → length (slice_set xs i x) ≤ most
+few_set xs i x few = omega (arith, few, length-set xs i x)
+
+pub few_map : {A B : Type 0} {most : ℕ} (xs : List A) (f : A → B) → length xs ≤ most → length (map f xs) ≤ most
+few_map xs f few = omega (arith, few, length-map xs f)
 
 -- what holds of what each thing becomes holds of all that they become
 pub all_mapped : {A B : Type 0} (P : B → Type 0) (f : A → B) (xs : List A) → AllByRecursion (λ x. P (f x)) xs

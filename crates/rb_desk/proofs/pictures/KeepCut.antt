@@ -3,9 +3,9 @@
 use Rattle.std.proofs.Common.{◌≡◌, ℕ, zero, suc, ◌+◌, ◌-◌, ◌<◌, ◌≤◌, ne_eqb, eq-eqb, Bool, true, false, not, ◌&&◌, ◌||◌}
 use Rattle.std.proofs.Common.{◌==◌, cond, ◌⊎◌, inl, inr, List, [], ◌∷◌, ◌++◌, length, Option, Some, None, IfSome}
 use Rattle.std.proofs.Common.{Result, filter, nat_lt, nat_le, slice_get, slice_set, append-nil, refl, sym, ap, ◌∙◌}
-use Rattle.std.proofs.Common.{subst, arith}
+use Rattle.std.proofs.Common.{subst, arith, length-append}
 use Rattle.std.specs.List.{AllByRecursion}
-use Rattle.std.proofs.lemmas.Bool.{false≢true, eqb-true, ltb-false, leb-true}
+use Rattle.std.proofs.lemmas.Bool.{false≢true, eqb-true, ltb-false, leb-true, leb-false}
 use Rattle.std.proofs.Math.Dec.{eqb-suc-suc}
 use Rattle.rb_desk.specs.declared.config.ConfigFault.{ConfigFault}
 use Rattle.rb_desk.specs.declared.config.ConfigFault.TheVariants.{Batch}
@@ -46,6 +46,7 @@ opening_keeps limits h = record {
   in_range = h;
   within = omega arith;
   closed = tt;
+  few = omega arith;
   good = tt;
   links = λ link. omega arith;
   deliveries = λ d. omega arith;
@@ -155,12 +156,13 @@ stands_appended test first (z ∷ subs) q zero = rw (ne_eqb (suc (length subs)) 
 stands_appended test first (z ∷ subs) q (suc s) = rw (eqb-suc-suc (length subs) s) (stands_appended test first subs q s)
 
 -- a new one behind a number that is placed
-pub subscribed_keeps : (p : Picture) (start : ℕ) → IsPicture p → start ≤ p.front
+pub subscribed_keeps : (p : Picture) (start : ℕ) → IsPicture p → start ≤ p.front → length p.subscriptions < 1024
     → IsPicture (subscribed_picture p start (cut_spans p.limits.batch (suc start) p.front))
-subscribed_keeps p start k behind = record {
+subscribed_keeps p start k behind room = record {
   in_range = k.in_range;
   within = k.within;
   closed = k.closed;
+  few = omega (arith, room, length-append p.subscriptions (q ∷ []));
   good = all_both (IsGoodSubscription new) p.subscriptions (q ∷ [])
       (all_later p new p.subscriptions refl refl (omega arith) (omega arith) k.good) (mine, tt);
   links = λ link. rw (
@@ -228,7 +230,7 @@ keep_cut_subscribe_keeps p start k =
     (λ ahead. k)
     (λ behind. keep_cut_either (λ (x : Result (ℕ × ℕ) DeskRefusal × Picture). IsPicture x.1)
     (nat_le 1024 (length p.subscriptions)) _ _ (λ many. k)
-    (λ few. subscribed_keeps p start k (ltb-false _ _ behind)))
+    (λ few. subscribed_keeps p start k (ltb-false _ _ behind) (leb-false _ _ few)))
 
 -- ---- a subscription whose spans all go, and that has fresh ones in place of them
 
@@ -386,6 +388,7 @@ keep_cut_close_keeps p k = record {
   in_range = k.in_range;
   within = k.within;
   closed = by p.closing k.closed;
+  few = k.few;
   good = all_later p (record p { closing = Some (last_number p p.closing) }) p.subscriptions refl refl (omega arith)
       (omega arith) k.good;
   links = k.links;

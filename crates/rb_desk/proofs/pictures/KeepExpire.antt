@@ -5,6 +5,7 @@ use Rattle.std.proofs.Common.{arith}
 use Rattle.std.specs.List.{AllByRecursion}
 use Rattle.std.proofs.lemmas.Bool.{false≢true}
 use Rattle.std.proofs.lemmas.Option.{slice_get-map}
+use Rattle.std.proofs.lemmas.List.{length-map}
 use Rattle.rb_desk.specs.declared.span.Span.{Span}
 use Rattle.rb_desk.specs.declared.span.Status.{Status}
 use Rattle.rb_desk.specs.declared.span.Status.TheVariants.{Ready, InFlight, Settled}
@@ -179,6 +180,7 @@ expired_keeps p clock k = record {
   in_range = k.in_range;
   within = k.within;
   closed = k.closed;
+  few = omega (arith, k.few, length-map p.subscriptions goes);
   good = all_mapped (IsGoodSubscription new) goes p.subscriptions
       (all_then (IsGoodSubscription p) (λ q. IsGoodSubscription new (goes q)) p.subscriptions
       (λ q g. back_subscription p.limits.timeout clock p new q refl refl refl refl g) k.good);

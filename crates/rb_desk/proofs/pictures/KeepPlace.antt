@@ -5,6 +5,7 @@ use Rattle.std.proofs.Common.{Result, Ok, IsOk, filter, nat_lt, slice_get, refl,
 use Rattle.std.specs.List.{AllByRecursion}
 use Rattle.std.proofs.lemmas.Bool.{false≢true, eqb-true, ltb-true}
 use Rattle.std.proofs.lemmas.Option.{slice_get-map}
+use Rattle.std.proofs.lemmas.List.{length-map}
 use Rattle.rb_desk.specs.declared.refusal.DeskRefusal.{DeskRefusal}
 use Rattle.rb_desk.specs.declared.span.Span.{Span}
 use Rattle.rb_desk.specs.declared.span.Status.{Status}
@@ -310,6 +311,7 @@ keep_place_keeps p n k ok = record {
   in_range = k.in_range;
   within = may.1;
   closed = subst (λ o. IfSome o (λ last. last ≡ suc p.front)) (sym may.0) tt;
+  few = omega (arith, k.few, length-map p.subscriptions grow);
   good = all_mapped (IsGoodSubscription (place p)) grow p.subscriptions
       (all_then (IsGoodSubscription p) (λ q. IsGoodSubscription (place p) (grow q)) p.subscriptions
       (λ q g. grows_good p q (one_in_batch p.limits k.in_range) g) k.good);

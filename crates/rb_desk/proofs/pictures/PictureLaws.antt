@@ -5,6 +5,7 @@ use Rattle.std.proofs.Common.{◌++◌, length, Some, None, filter, slice_get, s
 use Rattle.std.proofs.Common.{◌∙◌, ◌⊎◌, inl, inr, arith}
 use Rattle.std.specs.List.{AllByRecursion}
 use Rattle.std.proofs.lemmas.Bool.{false≢true, cases_eq}
+use Rattle.std.proofs.lemmas.List.{length-set}
 use Rattle.rb_desk.specs.declared.span.Span.{Span}
 use Rattle.rb_desk.specs.declared.span.Status.{Status}
 use Rattle.rb_desk.specs.declared.span.Status.TheVariants.{Ready, InFlight, Settled}
@@ -326,6 +327,7 @@ module _ (p : Picture) (s : ℕ) (q : Subscription) (here : slice_get p.subscrip
         in_range = good.in_range;
         within = good.within;
         closed = good.closed;
+        few = omega (arith, good.few, length-set p.subscriptions s r);
         good = all_set (IsGoodSubscription new) p.subscriptions s r
             (all_later p new p.subscriptions refl refl links numbers good.good) is;
         links = link_count;

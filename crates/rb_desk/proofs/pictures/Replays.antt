@@ -73,9 +73,10 @@ abbrev pub ReplaysGoesOn : ℕ → ℕ → Option ℕ → Type 0
 ReplaysGoesOn next next' None = next ≤ next'
 ReplaysGoesOn next next' (Some n) = (n ≡ next) × (next < next')
 
--- a call that gave this link and this delivery's number, or none: the front doesn't fall, no subscription goes, and
--- both go on
+-- a call that gave this link and this delivery's number, or none: the limits stay, the front doesn't fall, no
+-- subscription goes, and both go on
 pub record ReplaysRises (old new : Picture) (link number : Option ℕ) : Type 0 where
+  pub limits : new.limits ≡ old.limits
   pub front : old.front ≤ new.front
   pub stay : length old.subscriptions ≤ length new.subscriptions
   pub links : ReplaysGoesOn old.next_link new.next_link link
@@ -83,7 +84,13 @@ pub record ReplaysRises (old new : Picture) (link number : Option ℕ) : Type 0 
 
 -- a refused call
 rises_same : (p : Picture) → ReplaysRises p p None None
-rises_same p = record { front = omega arith; stay = omega arith; links = omega arith; numbers = omega arith }
+rises_same p = record {
+  limits = refl;
+  front = omega arith;
+  stay = omega arith;
+  links = omega arith;
+  numbers = omega arith;
+}
 
 -- one subscription changes
 same_length : (p : Picture) (s : ℕ) (q : Subscription) → length p.subscriptions ≤ length (slice_set p.subscriptions s q)
@@ -99,6 +106,7 @@ subscribe_rises p start =
     (either_way (λ (x : Result (ℕ × ℕ) DeskRefusal × Picture). ReplaysRises p x.1 (second_of x.0) None)
     (nat_le 1024 (length p.subscriptions)) _ _ (rises_same p)
     (record {
+      limits = refl;
       front = omega arith;
       stay = omega (arith, length-append p.subscriptions (q ∷ []));
       links = (refl, omega arith);
@@ -123,7 +131,13 @@ taken_rises : (p : Picture) (s cursor now : ℕ) (q : Subscription) (o : Option 
     → TakeRises p (delivered_span p s q cursor now o)
 taken_rises p s cursor now q None = rises_same p
 taken_rises p s cursor now q (Some span) =
-    record { front = omega arith; stay = same_length p s _; links = omega arith; numbers = (refl, omega arith) }
+    record {
+      limits = refl;
+      front = omega arith;
+      stay = same_length p s _;
+      links = omega arith;
+      numbers = (refl, omega arith);
+    }
 
 take_rises : (p : Picture) (s link cursor now : ℕ) → TakeRises p (take p s link cursor now)
 unfolding take
@@ -141,7 +155,13 @@ any_span_rises : (p : Picture) (s now : ℕ) (q : Subscription) (o : Option Span
     → TakeRises p (delivered_any_span p s q now o)
 any_span_rises p s now q None = rises_same p
 any_span_rises p s now q (Some span) =
-    record { front = omega arith; stay = same_length p s _; links = omega arith; numbers = (refl, omega arith) }
+    record {
+      limits = refl;
+      front = omega arith;
+      stay = same_length p s _;
+      links = omega arith;
+      numbers = (refl, omega arith);
+    }
 
 any_of_rises : (p : Picture) (s first now : ℕ) (o : Option Subscription)
     → TakeRises p (delivered_any_of p s first now o)
@@ -164,7 +184,13 @@ ack_rises p s link delivery cursor = by (slice_get p.subscriptions s)
     of_span q None = rises_same p
     of_span q (Some span) = either_way (λ (x : Result ℕ DeskRefusal × Picture). ReplaysRises p x.1 None None)
         (nat_lt cursor span.last) _ _ (rises_same p)
-        (record { front = omega arith; stay = same_length p s _; links = omega arith; numbers = omega arith })
+        (record {
+          limits = refl;
+          front = omega arith;
+          stay = same_length p s _;
+          links = omega arith;
+          numbers = omega arith;
+        })
 
     by : (o : Option Subscription) → ReplaysRises p (acked_by p s link delivery cursor o).1 None None
     by None = rises_same p
@@ -178,6 +204,7 @@ nack_rises p s link delivery = by (slice_get p.subscriptions s)
     of_span : (q : Subscription) (o : Option Span) → ReplaysRises p (nacked_span p s q o).1 None None
     of_span q None = rises_same p
     of_span q (Some span) = record {
+      limits = refl;
       front = omega arith;
       stay = same_length p s _;
       links = omega arith;
@@ -193,6 +220,7 @@ expire_rises : (p : Picture) (now : ℕ) → ReplaysRises p (expire p now).1 Non
 unfolding expire
 expire_rises p now =
     record {
+      limits = refl;
       front = omega arith;
       stay = omega (arith, length-map p.subscriptions (goes_back p.limits.timeout (max p.clock now)));
       links =
@@ -213,7 +241,13 @@ reconnect_rises p s cursor = by (slice_get p.subscriptions s)
         (rises_same p)
         (either_way (λ (x : Result ℕ DeskRefusal × Picture). ReplaysRises p x.1 (link_of x.0) None)
         (nat_lt cursor q.floor || nat_lt q.offered cursor) _ _ (rises_same p)
-        (record { front = omega arith; stay = same_length p s _; links = (refl, omega arith); numbers = omega arith }))
+        (record {
+          limits = refl;
+          front = omega arith;
+          stay = same_length p s _;
+          links = (refl, omega arith);
+          numbers = omega arith;
+        }))
 
 unsubscribe_rises : (p : Picture) (s link : ℕ) → ReplaysRises p (unsubscribe p s link).1 None None
 unfolding unsubscribe
@@ -226,12 +260,19 @@ unsubscribe_rises p s link = by (slice_get p.subscriptions s)
         (rises_same p)
         (either_way (λ (x : Result Unit DeskRefusal × Picture). ReplaysRises p x.1 None None) q.closed _ _
         (rises_same p)
-        (record { front = omega arith; stay = same_length p s _; links = omega arith; numbers = omega arith }))
+        (record {
+          limits = refl;
+          front = omega arith;
+          stay = same_length p s _;
+          links = omega arith;
+          numbers = omega arith;
+        }))
 
 place_rises : (p : Picture) → ReplaysRises p (place p) None None
 unfolding place
 place_rises p =
     record {
+      limits = refl;
       front = omega arith;
       stay = omega (arith, length-map p.subscriptions (grown_subscription p.limits.batch (suc p.front)));
       links =
@@ -241,7 +282,13 @@ place_rises p =
 
 close_rises : (p : Picture) → ReplaysRises p (close p).1 None None
 unfolding close
-close_rises p = record { front = omega arith; stay = omega arith; links = omega arith; numbers = omega arith }
+close_rises p = record {
+  limits = refl;
+  front = omega arith;
+  stay = omega arith;
+  links = omega arith;
+  numbers = omega arith;
+}
 
 placed_if_rises : (p : Picture) (r : Result ℕ DeskRefusal) → ReplaysRises p (placed_if p r) None None
 placed_if_rises p (Ok n) = place_rises p
@@ -270,6 +317,10 @@ pub front_rises_all : (p : Picture) (steps : List Step) → p.front ≤ (replaye
 front_rises_all p [] = omega arith
 front_rises_all p (step ∷ steps) = let rest = front_rises_all (after_step p step) steps in
     omega (arith, rest, front_rises p step)
+
+-- the limits stay
+pub limits_stay : (p : Picture) (step : Step) → (after_step p step).limits ≡ p.limits
+limits_stay p step = (after_rises p step).limits
 
 -- subscriptions stay
 pub subscriptions_stay : (p : Picture) (step : Step) → length p.subscriptions ≤ length (after_step p step).subscriptions

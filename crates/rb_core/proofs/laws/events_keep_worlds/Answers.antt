@@ -1,7 +1,7 @@
 use Rattle.std.proofs.Common.{subst}
 use Rattle.rb_core.specs.declared.reply.Reply.{Reply}
 use Rattle.rb_core.specs.State.{State, IsWorld}
-use Rattle.rb_core.proofs.DeskLaws.{DeskShows}
+use Rattle.rb_core.proofs.DeskLaws.{DeskShows, KeepsPictures}
 use Rattle.rb_core.proofs.WorldEvents.{event_keeps}
 use Rattle.rb_core.proofs.laws.events_keep_worlds.Goals as goal
 
@@ -19,5 +19,7 @@ returns c = λ old event given new good is.
       places = c.calls_show_in_outline.ensures.place;
       closes = c.calls_show_in_outline.ensures.close;
     } in
+    let keeps : KeepsPictures = λ old step good.
+    (c.calls_keep_pictures.ensures old step good, c.calls_keep_limits.ensures old step) in
     subst (λ (x : Reply × State). IsWorld x.1) is
-    (event_keeps c.calls_keep_pictures.ensures shows c.accepting_is_step.ensures old event good)
+    (event_keeps keeps shows c.accepting_is_step.ensures old event good)

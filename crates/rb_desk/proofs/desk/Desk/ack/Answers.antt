@@ -8,6 +8,7 @@ use Rattle.rb_desk.proofs.calls.CallLaws.{out_running, ack_none, ack_behind, ack
 use Rattle.rb_desk.proofs.spans.FoundLaws.{out_as_held}
 use Rattle.rb_desk.proofs.calls.OpenLaws.{IsOpen}
 use Rattle.rb_desk.proofs.calls.HandLaws.{settled_as, settled_floor, belongs_settled}
+use Rattle.rb_desk.proofs.calls.KnownLaws.{few_set}
 use Rattle.rb_desk.proofs.desk.Desk.ack.Goals as goal
 
 pub returns-in_default-out_as-clause-answer : goal.returns-in_default-out_as-clause-answer
@@ -58,6 +59,7 @@ invariant_of-self c =
       c.self.invariant.0,
       belongs_settled c.self.inside.config c.self.inside.front c.self.inside.turn
           c.self.inside.next_delivery c.self.inside.subs.items c.args.sub c.in-Some.found.now found span.first,
+      few_set c.self.inside.subs.items c.args.sub _ c.self.invariant.2,
     )
 
 pub returns-clause-answer : goal.returns-clause-answer

@@ -6,6 +6,7 @@ use Rattle.rb_desk.specs.Shown.{shown}
 use Rattle.rb_desk.specs.Expiry.{expired_sub, by_number, turns_from, all_due}
 use Rattle.rb_desk.proofs.orders.ExpireOrder.{belongs_turned_back}
 use Rattle.rb_desk.proofs.calls.ExpireCall.{expire_is}
+use Rattle.rb_desk.proofs.calls.KnownLaws.{few_map}
 use Rattle.rb_desk.proofs.desk.Desk.expire.Goals as goal
 
 pub invariant_of-self : goal.invariant_of-self
@@ -14,6 +15,7 @@ invariant_of-self c =
       c.self.invariant.0,
       belongs_turned_back c.self.inside.front c.self.inside.turn c.self.inside.next_delivery
           c.timeout-timeout.result c.max-clock.result c.self.inside.subs.items c.self.invariant.1,
+      few_map c.self.inside.subs.items _ c.self.invariant.2,
     )
 
 pub returns-clause-ok : goal.returns-clause-ok

@@ -6,6 +6,7 @@ use Rattle.rb_desk.specs.Shown.{returned_sub}
 use Rattle.rb_desk.proofs.calls.CallLaws.{out_running, nack_kept, ok_call, memory_answers}
 use Rattle.rb_desk.proofs.calls.OpenLaws.{IsOpen}
 use Rattle.rb_desk.proofs.calls.HandLaws.{returned_as, belongs_returned}
+use Rattle.rb_desk.proofs.calls.KnownLaws.{few_set}
 use Rattle.rb_desk.proofs.desk.Desk.nack.Goals as goal
 
 pub returns-in_default-out_as : goal.returns-in_default-out_as
@@ -65,6 +66,7 @@ invariant_of-self c =
       c.self.invariant.0,
       belongs_returned c.self.inside.config c.self.inside.front c.self.inside.turn
           c.self.inside.next_delivery c.self.inside.subs.items c.args.sub c.in-Some.found.now found span.first,
+      few_set c.self.inside.subs.items c.args.sub _ c.self.invariant.2,
     )
 
 pub returns : goal.returns

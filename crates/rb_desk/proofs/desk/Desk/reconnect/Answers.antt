@@ -3,7 +3,7 @@ use Rattle.std.proofs.lemmas.Result.{err_from_is_err_and}
 use Rattle.std.proofs.lemmas.Option.{get_or_from_slice_get, slice_get_within}
 use Rattle.rb_desk.specs.Shown.{Belongs, reconnected_sub}
 use Rattle.rb_desk.proofs.calls.CallLaws.{reconnect_ok, reconnect_bad, ok_call, memory_answers}
-use Rattle.rb_desk.proofs.calls.KnownLaws.{all_get}
+use Rattle.rb_desk.proofs.calls.KnownLaws.{few_set, all_get}
 use Rattle.rb_desk.proofs.calls.CuttingLaws.{reconnected_shown, belongs_reconnected}
 use Rattle.rb_desk.proofs.desk.Desk.reconnect.Goals as goal
 
@@ -64,6 +64,7 @@ invariant_of-self c =
       belongs_reconnected c.self.inside.front c.self.inside.turn c.self.inside.next_link
           c.self.inside.next_delivery c.args.sub c.args.cursor c.self.inside.subs.items c.in-Some.found.now
           (omega (arith, offered, c.if-offered-cursor.false)) c.self.invariant.1 here,
+      few_set c.self.inside.subs.items c.args.sub _ c.self.invariant.2,
     )
 
 pub returns : goal.returns

@@ -1,4 +1,4 @@
-use Rattle.std.proofs.Common.{◌≡◌, ◌∙◌, suc, Ok, ap, sym, ◌++◌, ◌∷◌, [], length}
+use Rattle.std.proofs.Common.{◌≡◌, ◌∙◌, suc, Ok, ap, sym, ◌++◌, ◌∷◌, [], length, length-append, arith}
 use Rattle.std.proofs.lemmas.List.{length-map}
 use Rattle.rb_desk.specs.Answers.{call_refusal}
 use Rattle.rb_desk.specs.Calls.{subscribe}
@@ -26,6 +26,13 @@ invariant_of-self-2 c =
       c.self.invariant.0,
       belongs_subscribed c.self.inside.front c.self.inside.turn c.self.inside.next_link
           c.self.inside.next_delivery c.args.start c.self.inside.subs.items may.0 c.self.invariant.1,
+      omega (
+        arith,
+        may.1,
+        length-map c.self.inside.subs.items (shown_sub c.self.inside.config.batch c.self.inside.front),
+        length-append c.self.inside.subs.items (new_sub c.args.start c.self.inside.next_link
+            (record { front = c.self.inside.front; turn = suc c.self.inside.turn }) ∷ []),
+      ),
     )
 
 pub returns : goal.returns

@@ -6,7 +6,7 @@ use Rattle.rb_desk.proofs.calls.CallLaws.{taken}
 use Rattle.rb_desk.proofs.calls.KnownLaws.{all_get}
 use Rattle.rb_desk.proofs.spans.FoundLaws.{may_go_first}
 use Rattle.rb_desk.proofs.spans.LaneChanges.{may_go_span}
-use Rattle.rb_desk.proofs.calls.HandLaws.{delivered_belongs, delivered_answers}
+use Rattle.rb_desk.proofs.calls.HandLaws.{delivered_belongs, delivered_few, delivered_answers}
 use Rattle.rb_desk.proofs.calls.OpenLaws.{to_take_open}
 use Rattle.rb_desk.proofs.desk.Desk.take.Goals as goal
 
@@ -41,6 +41,8 @@ invariant_of-self c =
       c.self.invariant.0,
       delivered_belongs d.config d.front d.turn d.next_delivery d.subs.items c.args.sub t.sub found c.in_ok-span.span
           d.clock c.args.now _ _ _ c.deliver.result may c.deliver.ensures,
+      delivered_few d.config d.front d.turn d.next_delivery d.subs.items c.args.sub t.sub found c.in_ok-span.span
+          d.clock c.args.now _ _ _ c.deliver.result c.deliver.ensures c.self.invariant.2,
     )
 
 pub returns : goal.returns

@@ -4,7 +4,7 @@ use Rattle.rb_desk.specs.declared.sub.Sub.{Sub}
 use Rattle.rb_desk.specs.Shown.{Belongs, IsJoinedAt, first_to_deliver, span_to_deliver}
 use Rattle.rb_desk.proofs.calls.KnownLaws.{all_get}
 use Rattle.rb_desk.proofs.spans.LaneChanges.{may_go_span}
-use Rattle.rb_desk.proofs.calls.HandLaws.{delivered_belongs, delivered_answers}
+use Rattle.rb_desk.proofs.calls.HandLaws.{delivered_belongs, delivered_few, delivered_answers}
 use Rattle.rb_desk.proofs.calls.AnyLaws.{any_goes_first, goes_may, any_taken, none_taken}
 use Rattle.rb_desk.proofs.desk.Desk.take_any.Goals as goal
 
@@ -68,6 +68,9 @@ invariant_of-self c =
           c.self.inside.clock c.args.now _ _ _ c.deliver.result (goes_may c.self.inside.config c.self.inside.front
           c.self.inside.turn c.self.inside.next_delivery c.self.inside.subs.items c.in-Some.sub c.in-Some.span g)
           c.deliver.ensures,
+      delivered_few c.self.inside.config c.self.inside.front c.self.inside.turn c.self.inside.next_delivery
+          c.self.inside.subs.items c.in-Some.sub g.sub g.opened c.in-Some.span c.self.inside.clock c.args.now _ _ _
+          c.deliver.result c.deliver.ensures c.self.invariant.2,
     )
 
 pub returns : goal.returns

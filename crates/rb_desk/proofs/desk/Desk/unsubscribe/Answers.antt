@@ -5,6 +5,7 @@ use Rattle.rb_desk.specs.Lanes.{AreJoined}
 use Rattle.rb_desk.specs.Shown.{closed_sub}
 use Rattle.rb_desk.proofs.calls.CallLaws.{unsubscribe_kept}
 use Rattle.rb_desk.proofs.calls.CuttingLaws.{unsubscribed_shown, belongs_unsubscribed}
+use Rattle.rb_desk.proofs.calls.KnownLaws.{few_set}
 use Rattle.rb_desk.proofs.desk.Desk.unsubscribe.Goals as goal
 
 pub index_mut-requires : goal.index_mut-requires
@@ -25,6 +26,7 @@ invariant_of-self c =
       belongs_unsubscribed c.self.inside.front c.self.inside.turn c.self.inside.next_delivery
           c.args.sub c.self.inside.subs.items c.in-Some.found.now c.self.invariant.1 here
           (subst (λ (sub : Sub). AreJoined sub.lane) same c.close.ensures.joined),
+      few_set c.self.inside.subs.items c.args.sub _ c.self.invariant.2,
     )
 
 pub returns-clause-answer : goal.returns-clause-answer

@@ -1,0 +1,5 @@
+use Rattle.rb_core.proofs.AcceptedCursor.{accepted_says_cursor}
+use Rattle.rb_core.proofs.laws.accepted_tells_the_cursor.Goals as goal
+
+pub returns : goal.returns
+returns c = λ old d s cursor new says. accepted_says_cursor c.accepting_is_step.ensures old d s cursor new says
