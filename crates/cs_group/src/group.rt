@@ -79,22 +79,31 @@ impl<'a> Group<'a> {
     pub fn output(&self, alloc: Global) -> Result<Changeset, AllocError>
         ensures { IfOk result (λ made. made ≡ group_of self.now) }
     {
-        let groups = self.by_table(alloc)?;
-        let sections = sections_of(alloc, &groups)?;
-        Ok(Changeset::from_seq(Seq::from_vec(sections)))
+        combine_admitted(alloc, &self.added)
     }
+}
 
-    // the sections of each table
-    fn by_table(&self, alloc: Global) -> Result<Groups<'a>, AllocError>
-        ensures grouped { IfOk result (λ groups. seen groups.entries ≡ by_shape [] self.now) }
-        ensures valid { IsChangeset self.now }
-    {
-        let mut groups = IndexMap::new(alloc);
-        for changeset in &self.added {
-            add_sections(alloc, &mut groups, changeset.sections())?;
-        }
-        Ok(groups)
+/// Combines changesets that one schema admits, so that no section can clash. Tables are told apart
+/// by their names and key flags. Returns `AllocError` if memory runs out.
+pub fn combine_admitted(alloc: Global, changesets: &[&Changeset]) -> Result<Changeset, AllocError>
+    ensures { IfOk result (λ made. made ≡ group_of (sections_added changesets.now)) }
+{
+    let groups = by_table(alloc, changesets)?;
+    let sections = sections_of(alloc, &groups)?;
+    Ok(Changeset::from_seq(Seq::from_vec(sections)))
+}
+
+// the sections of each table
+fn by_table<'a>(alloc: Global, changesets: &[&'a Changeset]) -> Result<Groups<'a>, AllocError>
+    ensures grouped { IfOk result (λ groups. seen groups.entries
+        ≡ by_shape [] (sections_added changesets.now)) }
+    ensures valid { OnOk result (IsChangeset (sections_added changesets.now)) }
+{
+    let mut groups = IndexMap::new(alloc);
+    for changeset in changesets {
+        add_sections(alloc, &mut groups, changeset.sections())?;
     }
+    Ok(groups)
 }
 
 // adds sections to the groups of their shapes

@@ -13,4 +13,4 @@ mod slot;
 mod table;
 
 pub use error::GroupError;
-pub use group::{Group, combine};
+pub use group::{Group, combine, combine_admitted};

@@ -1,5 +1,6 @@
 pub mod State
 pub mod Outcome
+pub mod Combined
 pub mod Memory
 pub mod Run
 pub mod World

@@ -4,6 +4,7 @@
 //! sending is placed once and in order, and none after a close.
 #![tactic(auto)]
 
+mod combining;
 pub mod courses;
 mod delivering;
 mod event;

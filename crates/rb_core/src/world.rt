@@ -70,6 +70,13 @@ impl World {
         self.parts.moved_by(alloc, event)
     }
 
+    /// The entries, in order.
+    pub(crate) fn sequence(&self) -> &[Entry]
+        ensures { result.now ≡ self.now.sequence }
+    {
+        &self.parts.sequence
+    }
+
     /// The entry with this number, if it is placed.
     pub fn entry(&self, number: u64) -> Option<&Entry>
         ensures { option_copied result ≡ entry_of self.now number }

@@ -115,6 +115,7 @@ form_feeds (Some (form.Table bytes)) h = tt
 form_feeds (Some (form.Happens e)) h =
     event_feeds e (λ p bytes is. h p bytes (ap (λ (x : Event). Some (form.Happens x)) is))
 form_feeds (Some (form.Entry n)) h = tt
+form_feeds (Some (form.Combine first last)) h = tt
 form_feeds (Some (form.Rows s)) h = tt
 form_feeds (Some form.Left) h = tt
 

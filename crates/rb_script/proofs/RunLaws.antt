@@ -31,6 +31,7 @@ form_from_world config world None = refl
 form_from_world config world (Some (form.Table bytes)) = refl
 form_from_world config world (Some (form.Happens event)) = refl
 form_from_world config world (Some (form.Entry n)) = refl
+form_from_world config world (Some (form.Combine first last)) = refl
 form_from_world config world (Some (form.Rows s)) = refl
 form_from_world config world (Some form.Left) = refl
 
@@ -91,6 +92,7 @@ form_from_tables config tables (Some (form.Table bytes)) =
     inl (table_from_tables tables (header_of_answer (answer_of bytes)))
 form_from_tables config tables (Some (form.Happens event)) = refl
 form_from_tables config tables (Some (form.Entry n)) = inr refl
+form_from_tables config tables (Some (form.Combine first last)) = inr refl
 form_from_tables config tables (Some (form.Rows s)) = inr refl
 form_from_tables config tables (Some form.Left) = inr refl
 

@@ -4,7 +4,7 @@ use Rattle.std.specs.Prelude.{codes}
 use Rattle.rb_core.specs.declared.event.Event.TheVariants as event
 use Rattle.cs_model.specs.Schema.{same_bytes}
 use Rattle.rb_script.specs.declared.forms.Form.{Form}
-use Rattle.rb_script.specs.declared.forms.Form.TheVariants.{Table, Happens, Entry, Rows, Left}
+use Rattle.rb_script.specs.declared.forms.Form.TheVariants.{Table, Happens, Entry, Combine, Rows, Left}
 use Rattle.rb_script.specs.Words.{words_of, number_in_word, bytes_of}
 
 -- `publisher`, `turn`, `close` and `left`
@@ -41,12 +41,13 @@ two_words name word =
     if same_bytes name (codes "table") then option_map Table (bytes_of word) else name_and_number
     name (number_in_word word)
 
--- `take S NOW` and `reconnect S CURSOR`
+-- `take S NOW`, `reconnect S CURSOR` and `combine FIRST LAST`
 abbrev pub two_numbers : List ℕ → ℕ → Option ℕ → Option Form
 two_numbers name s None = None
 two_numbers name s (Some n) =
     if same_bytes name (codes "take") then Some (Happens (event.Take s n))
     else if same_bytes name (codes "reconnect") then Some (Happens (event.Reconnect s n))
+    else if same_bytes name (codes "combine") then Some (Combine s n)
     else None
 
 -- `feed P HEX`

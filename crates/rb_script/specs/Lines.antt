@@ -13,11 +13,13 @@ use Rattle.cs_model.specs.Changeset.{only_header}
 use Rattle.cs_model.specs.Schema.{table_refusal}
 use Rattle.cs_parse.specs.declared.fault.ParseFault.{ParseFault}
 use Rattle.cs_parse.specs.Reading.{answer_of}
+use Rattle.cs_write.specs.Text.{text_of}
 use Rattle.rb_desk.specs.Limits.{Limits}
 use Rattle.rb_desk.specs.declared.refusal.DeskRefusal.TheVariants as desk
 use Rattle.rb_core.specs.declared.reply.Reply.{Reply}
 use Rattle.rb_core.specs.State.{State, empty_world, how_many_wait}
 use Rattle.rb_sequence.specs.Entry.{Entry}
+use Rattle.rb_core.specs.Combined.{combined_of}
 use Rattle.rb_core.specs.Outcome.{outcome, entry_of}
 use Rattle.rb_script.specs.declared.forms.Form.{Form}
 use Rattle.rb_script.specs.declared.forms.Form.TheVariants as form
@@ -25,7 +27,7 @@ use Rattle.rb_script.specs.declared.lines.Stage.{Stage}
 use Rattle.rb_script.specs.declared.lines.Stage.TheVariants.{Tables, Running}
 use Rattle.rb_script.specs.Forms.{form_of}
 use Rattle.rb_script.specs.Replies.{reply_text, desk_refusal_text}
-use Rattle.rb_script.specs.Texts.{entry_text, rows_text}
+use Rattle.rb_script.specs.Texts.{bytes_word, entry_text, rows_text}
 
 -- the most bytes of a line, without its line end
 abbrev pub most_of_line : ℕ
@@ -80,6 +82,13 @@ found_entry (Some entry) = entry_text entry
 abbrev pub entry_answer : State → ℕ → List ℕ
 entry_answer world n = line_of (found_entry (entry_of world n))
 
+abbrev pub found_changeset : Option (List Section) → List ℕ
+found_changeset None = codes "refused NotPlaced"
+found_changeset (Some sections) = codes "text " ++ bytes_word (text_of sections)
+
+abbrev pub combine_answer : State → ℕ → ℕ → List ℕ
+combine_answer world first last = line_of (found_changeset (combined_of world first last))
+
 abbrev pub left_answer : State → List ℕ
 left_answer world = line_of (codes "left " ++ decimal (how_many_wait world))
 
@@ -93,6 +102,8 @@ form_answer config stage (Some (form.Happens event)) =
     event_answer (outcome (world_of config stage) event)
 form_answer config stage (Some (form.Entry n)) =
     (entry_answer (world_of config stage) n, Running (world_of config stage))
+form_answer config stage (Some (form.Combine first last)) =
+    (combine_answer (world_of config stage) first last, Running (world_of config stage))
 form_answer config stage (Some (form.Rows s)) =
     (rows_answer (world_of config stage) s, Running (world_of config stage))
 form_answer config stage (Some form.Left) =

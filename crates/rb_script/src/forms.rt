@@ -12,6 +12,8 @@ pub enum Form {
     Happens(Event),
     /// The entry with this number.
     Entry(u64),
+    /// The changesets of the entries numbered `first` to `last`, as one.
+    Combine { first: u64, last: u64 },
     /// The rows of a subscription.
     Rows(u64),
     /// How many changesets are sent and not placed.

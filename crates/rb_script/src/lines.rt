@@ -7,12 +7,12 @@ ghost use Rattle.cs_parse.specs.Reading.{answer_of};
 ghost use Rattle.rb_core.specs.Outcome.{outcome};
 ghost use Rattle.rb_script.specs.Lines.{line_answer, form_answer, line_of, world_of, event_answer};
 ghost use Rattle.rb_script.specs.Lines.{entry_answer, rows_answer, left_answer, with_line_end};
-ghost use Rattle.rb_script.specs.Lines.{table_answer, table_added, header_of_answer};
+ghost use Rattle.rb_script.specs.Lines.{combine_answer, table_answer, table_added, header_of_answer};
 
 use crate::forms::Form;
 use crate::reading::form;
 use crate::replies::{text_of, text_of_desk_refusal};
-use crate::texts::{text_of_entry, text_of_rows};
+use crate::texts::{text_of_changeset, text_of_entry, text_of_rows};
 use cs_model::{CopyIn, Schema, SchemaError, Shape, TableFault};
 use cs_parse::{ParseError, parse};
 use rb_core::{Config, Event, World};
@@ -67,6 +67,11 @@ fn answer_form(
             let text = entry(alloc, &world, number)?;
             Ok((text, Stage::Running(world)))
         }
+        Some(Form::Combine { first, last }) => {
+            let world = begin(alloc, config, stage)?;
+            let text = combine(alloc, &world, first, last)?;
+            Ok((text, Stage::Running(world)))
+        }
         Some(Form::Rows(subscription)) => {
             let world = begin(alloc, config, stage)?;
             let text = rows(alloc, &world, subscription)?;
@@ -116,6 +121,19 @@ fn entry(alloc: Global, world: &World, number: u64) -> Result<Vec<u8>, AllocErro
         None => text_line(alloc, "refused NotPlaced"),
         Some(found) => {
             let mut line = text_of_entry(alloc, found)?;
+            line.push(b'\n')?;
+            Ok(line)
+        }
+    }
+}
+
+fn combine(alloc: Global, world: &World, first: u64, last: u64) -> Result<Vec<u8>, AllocError>
+    ensures { IfOk result (λ line. line.items ≡ combine_answer world.now first last) }
+{
+    match world.combined(alloc, first, last)? {
+        None => text_line(alloc, "refused NotPlaced"),
+        Some(changeset) => {
+            let mut line = text_of_changeset(alloc, &changeset)?;
             line.push(b'\n')?;
             Ok(line)
         }

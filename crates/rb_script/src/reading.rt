@@ -118,19 +118,21 @@ fn with_two(alloc: Global, name: &[u8], n: u64, word: &[u8]) -> Result<Option<Fo
     }
 }
 
-fn with_numbers(name: &[u8], subscription: u64, n: u64) -> Option<Form>
-    ensures { result ≡ two_numbers name.now subscription (Some n) }
+fn with_numbers(name: &[u8], first: u64, last: u64) -> Option<Form>
+    ensures { result ≡ two_numbers name.now first (Some last) }
 {
     if is(name, b"take") {
         Some(Form::Happens(Event::Take {
-            subscription,
-            now: n,
+            subscription: first,
+            now: last,
         }))
     } else if is(name, b"reconnect") {
         Some(Form::Happens(Event::Reconnect {
-            subscription,
-            cursor: n,
+            subscription: first,
+            cursor: last,
         }))
+    } else if is(name, b"combine") {
+        Some(Form::Combine { first, last })
     } else {
         None
     }

@@ -1,0 +1,54 @@
+//! The changesets of placed entries as one.
+
+ghost use Rattle.std.specs.Prelude.{◌≡◌, IfOk};
+ghost use Rattle.std.specs.Option.{option_map};
+ghost use Rattle.rb_core.specs.Combined.{combined_of, placed_span, sections_placed};
+ghost use Rattle.cs_group.specs.Group.{group_of};
+
+use crate::world::World;
+use cs_group::combine_admitted;
+use cs_model::Changeset;
+use rb_sequence::Entry;
+use std::alloc::{AllocError, Global};
+
+impl World {
+    /// The changesets of the entries numbered `first` to `last` as one ("The Session Extension",
+    /// changegroups). Returns `None` unless 1 <= `first` <= `last` and `last` is placed. Returns
+    /// `AllocError` if memory runs out.
+    pub fn combined(
+        &self,
+        alloc: Global,
+        first: u64,
+        last: u64,
+    ) -> Result<Option<Changeset>, AllocError>
+        ensures { IfOk result (λ made. made ≡ combined_of self.now first last) }
+    {
+        match span(self.sequence(), first, last) {
+            None => Ok(None),
+            Some(entries) => Ok(Some(group(alloc, entries)?)),
+        }
+    }
+}
+
+// the entries numbered `first` to `last`, if 1 <= `first` <= `last` and `last` is placed
+fn span(sequence: &[Entry], first: u64, last: u64) -> Option<&[Entry]>
+    ensures { option_map (λ entries. entries.now) result ≡ placed_span sequence.now first last }
+{
+    if first == 0 || last < first || (sequence.len() as u64) < last {
+        return None;
+    }
+    let (placed, _) = sequence.split_at(last as usize);
+    let (_, entries) = placed.split_at(first as usize - 1);
+    Some(entries)
+}
+
+// the changesets of these entries as one
+fn group(alloc: Global, entries: &[Entry]) -> Result<Changeset, AllocError>
+    ensures { IfOk result (λ made. made ≡ group_of (sections_placed entries.now)) }
+{
+    let mut bodies = Vec::with_capacity(alloc, entries.len())?;
+    for entry in entries {
+        bodies.push(entry.body())?;
+    }
+    combine_admitted(alloc, &bodies)
+}
