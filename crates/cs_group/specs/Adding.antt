@@ -34,7 +34,8 @@ refused_earliest (Some section) later = Some section
 abbrev pub first_refused : List Section → List (List Section) → Option ℕ
 first_refused earlier [] = None
 first_refused earlier (changeset ∷ changesets) =
-    refused_earliest (first_clash earlier changeset) (first_refused (earlier ++ changeset) changesets)
+    refused_earliest (first_clash earlier changeset)
+    (first_refused (earlier ++ changeset) changesets)
 
 -- whether a table differs from the one that is known by its name
 abbrev pub differs_by : Option Shape → Shape → Bool

@@ -80,8 +80,8 @@ impl Changes {
         Ok(())
     }
 
-    /// Appends a copy of a borrowed change, without reading its fields. An `Err` does not change the
-    /// list.
+    /// Appends a copy of a borrowed change, without reading its fields. An `Err` does not change
+    /// the list.
     pub fn push_ref(&mut self, change: &ChangeRef) -> Result<(), AllocError>
         requires { Long self.old.0 change.now.op change.now.before change.now.after }
         ensures columns { self.new.0 ≡ self.old.0 }

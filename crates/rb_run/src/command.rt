@@ -35,6 +35,7 @@ Lines, each with its answer when it is done:
   reconnect S CURSOR  link L              a subscription goes on after CURSOR
   unsubscribe S       ok                  a subscription ends
   entry N             entry N P OWN O HEX an entry with its canonical text
+  combine A B         text HEX            entries A to B as one changeset
   rows S              rows N, N rows      the rows of a subscription
   left                left COUNT          how many changesets are sent and not placed
 

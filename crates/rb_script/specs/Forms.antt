@@ -4,7 +4,8 @@ use Rattle.std.specs.Prelude.{codes}
 use Rattle.rb_core.specs.declared.event.Event.TheVariants as event
 use Rattle.cs_model.specs.Schema.{same_bytes}
 use Rattle.rb_script.specs.declared.forms.Form.{Form}
-use Rattle.rb_script.specs.declared.forms.Form.TheVariants.{Table, Happens, Entry, Combine, Rows, Left}
+use Rattle.rb_script.specs.declared.forms.Form.TheVariants.{Table, Happens, Entry, Combine}
+use Rattle.rb_script.specs.declared.forms.Form.TheVariants.{Rows, Left}
 use Rattle.rb_script.specs.Words.{words_of, number_in_word, bytes_of}
 
 -- `publisher`, `turn`, `close` and `left`

@@ -7,7 +7,8 @@ ghost use Rattle.cs_parse.specs.Reading.{answer_of};
 ghost use Rattle.rb_core.specs.Outcome.{outcome};
 ghost use Rattle.rb_script.specs.Lines.{line_answer, form_answer, line_of, world_of, event_answer};
 ghost use Rattle.rb_script.specs.Lines.{entry_answer, rows_answer, left_answer, with_line_end};
-ghost use Rattle.rb_script.specs.Lines.{combine_answer, table_answer, table_added, header_of_answer};
+ghost use Rattle.rb_script.specs.Lines.{combine_answer, table_answer, table_added};
+ghost use Rattle.rb_script.specs.Lines.{header_of_answer};
 
 use crate::forms::Form;
 use crate::reading::form;
