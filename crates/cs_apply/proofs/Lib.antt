@@ -5,3 +5,4 @@ pub mod Log
 pub mod Orders
 pub mod Sections
 pub mod OneByOne
+pub mod Lengths

@@ -6,3 +6,4 @@ pub mod Single
 pub mod Steps
 pub mod Seen
 pub mod OneByOne
+pub mod Columns

@@ -1,5 +1,5 @@
 -- The steps of `apply`: one edit of a place, one change, and the changes of one section.
-use Rattle.std.specs.Prelude.{◌≡◌, ℕ, zero, suc, ◌≤◌, Bool, true, false, ◌&&◌, ◌==◌, if◌then◌else◌}
+use Rattle.std.specs.Prelude.{◌≡◌, ℕ, zero, suc, ◌+◌, ◌-◌, ◌^◌, ◌≤◌, min, Bool, true, false, ◌&&◌, ◌==◌, if◌then◌else◌}
 use Rattle.std.specs.Prelude.{List, [], ◌∷◌, length, take, Option, None, Some, Result, Ok, Err}
 use Rattle.std.specs.FinMap as map
 use Rattle.cs_model.specs.declared.change.Change.{Change}
@@ -80,6 +80,17 @@ abbrev pub merged : List Field → List Field → List Field
 merged fields [] = []
 merged [] (value ∷ values) = chosen None value ∷ merged [] values
 merged (field ∷ fields) (value ∷ values) = chosen (Some field) value ∷ merged fields values
+
+-- The approximate number of empty places after one step, and after all: one more for a step that
+-- took a row out of its place, and one less for a step that found its place empty. A row that
+-- replaces another counts as taken out.
+abbrev pub empty_with : ℕ → Option (List Value) → ℕ
+empty_with empty None = empty - 1
+empty_with empty (Some back) = min (empty + 1) (2 ^ 64 - 1)
+
+abbrev pub empty_after : ℕ → List Step → ℕ
+empty_after empty [] = empty
+empty_after empty (step ∷ steps) = empty_after (empty_with empty step.back) steps
 
 -- Undoing the log restores the old places, which precede the new ones.
 pub record Back (old new : Places) : Type 0 where

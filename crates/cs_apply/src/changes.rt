@@ -4,7 +4,7 @@
 ghost use Rattle.std.specs.Prelude.{◌≡◌, ◌+◌, ◌<◌, ◌^◌, Ok, OnOk, IfErr, length, true};
 ghost use Rattle.std.specs.FinMap as map;
 ghost use Rattle.std.specs.List.{list_all};
-ghost use Rattle.cs_model.specs.Changeset.{IsChange, IsSection};
+ghost use Rattle.cs_model.specs.Changeset.{IsChange, IsChangeset, IsSection};
 ghost use Rattle.cs_model.specs.Row.{values_of};
 ghost use Rattle.cs_model.specs.Rule.{is_defined};
 ghost use Rattle.cs_model.specs.Seen.{change_seen};
@@ -166,6 +166,7 @@ pub(crate) fn change_all(
     kept: &[bool],
     changeset: &Changeset,
 ) -> Result<(), ApplyError>
+    ensures valid { IsChangeset changeset.now }
     ensures ok { OnOk result (single_from schema.now kept.now (changes_of changeset.now) 0
         (rows_in places.old) ≡ Ok (rows_in places.new)) }
     ensures back { Back places.old places.new }

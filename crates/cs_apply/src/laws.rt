@@ -2,7 +2,9 @@
 //! that needs one calls it.
 
 ghost use Rattle.std.specs.Prelude.{◌≡◌, ◌↔◌, ◌++◌, List, Ok};
+ghost use Rattle.cs_model.specs.Changeset.{IsChangeset};
 ghost use Rattle.cs_model.specs.Section.{Section};
+ghost use Rattle.cs_apply.specs.Columns.{HaveColumns};
 ghost use Rattle.cs_apply.specs.OneByOne.{AppliesBoth};
 ghost use Rattle.cs_apply.specs.Single.{single};
 ghost use Rattle.cs_apply.specs.State.{TableState};
@@ -13,4 +15,11 @@ ghost use Rattle.cs_apply.specs.State.{TableState};
 pub fn applying_goes_on()
     ensures { (old : TableState) (some more : List Section) (new : TableState)
         → (single old (some ++ more) ≡ Ok new) ↔ AppliesBoth old some more new }
+{}
+
+/// Sections that apply without conflict leave rows with a value for each column, if the rows before
+/// have one. Tables that began empty always have (`Tables::schema`).
+pub fn rows_keep_columns()
+    ensures { (old new : TableState) (sections : List Section) → IsChangeset sections
+        → HaveColumns old → single old sections ≡ Ok new → HaveColumns new }
 {}

@@ -13,7 +13,7 @@ ghost use Rattle.cs_model.specs.declared.row_key.RowKey.{RowKey};
 ghost use Rattle.cs_apply.specs.Effect.{inserted};
 ghost use Rattle.cs_apply.specs.Errors.{ReportsKind};
 ghost use Rattle.cs_apply.specs.Seen.{listed};
-ghost use Rattle.cs_apply.specs.Steps.{filled, rows_in, put, set_at, undone, Back};
+ghost use Rattle.cs_apply.specs.Steps.{empty_after, filled, rows_in, put, set_at, undone, Back};
 
 use crate::change_error::ChangeError;
 use crate::conflict::ConflictKind;
@@ -174,13 +174,16 @@ impl Places {
     }
 }
 
-// The number of empty places after these steps.
-fn counted(mut empty: usize, log: &[Step]) -> usize {
+// The approximate number of empty places after these steps.
+fn counted(empty: usize, log: &[Step]) -> usize
+    ensures { result ≡ empty_after empty log.now }
+{
+    let mut count = empty;
     for step in log {
-        match &step.back {
-            Some(_) => empty = empty.saturating_add(1),
-            None => empty = empty.saturating_sub(1),
-        }
+        count = match &step.back {
+            Some(_) => count.saturating_add(1),
+            None => count.saturating_sub(1),
+        };
     }
-    empty
+    count
 }

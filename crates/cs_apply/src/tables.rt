@@ -4,6 +4,7 @@ ghost use Rattle.std.specs.Prelude.{◌≡◌, length, IfOk, IfErr, OnOk, OnErr,
 ghost use Rattle.std.specs.Option.{option_copied};
 ghost use Rattle.std.specs.Arc.{arc_value};
 ghost use Rattle.std.specs.FinMap as map;
+ghost use Rattle.cs_apply.specs.Columns.{HaveColumns};
 ghost use Rattle.cs_apply.specs.Seen.{listed};
 ghost use Rattle.cs_apply.specs.Single.{single};
 ghost use Rattle.cs_apply.specs.Errors.{ReportsConflict};
@@ -27,6 +28,7 @@ pub struct Tables {
 impl Model for Tables {
     ghost use Rattle.std.specs.Prelude.{◌≡◌, [], length};
     ghost use Rattle.std.specs.Arc.{arc_value};
+    ghost use Rattle.cs_apply.specs.Columns.{RowsHaveColumns};
     ghost use Rattle.cs_apply.specs.State.{TableState, state_code};
     ghost use Rattle.cs_apply.specs.Steps.{rows_of};
 
@@ -41,7 +43,8 @@ impl Model for Tables {
     } };
 
     ghost invariant = { λ t. (length t.kept.items ≡ length (arc_value t.schema))
-        × (t.places.log.items ≡ []) };
+        × (t.places.log.items ≡ [])
+        × RowsHaveColumns (arc_value t.schema) (rows_of t.places.rows.entries) };
 }
 
 impl Tables {
@@ -62,9 +65,10 @@ impl Tables {
         }
     }
 
-    /// The schema of these tables.
+    /// The schema of these tables. Each row has one value for each column of its table.
     pub fn schema(&self) -> &Schema
-        ensures { result.now ≡ self.now.schema }
+        ensures same { result.now ≡ self.now.schema }
+        ensures columns { HaveColumns self.now }
     {
         &self.schema
     }

@@ -20,7 +20,7 @@ use Rattle.cs_apply.specs.Single.{changes_of, single, single_from, with_rows}
 use Rattle.cs_apply.specs.State.{Rows, TableState, compatible, is_kept, only_kept}
 use Rattle.cs_apply.proofs.Keys.{exact_keys, keys_total}
 use Rattle.cs_apply.proofs.OneByOne.{rows_found}
-use Rattle.cs_group.specs.Columns.{HaveColumns, table_flags}
+use Rattle.cs_apply.specs.Columns.{HaveColumns, table_flags}
 use Rattle.cs_group.specs.Group.{group_of}
 use Rattle.cs_group.proofs.Merging.{IsValidChange}
 use Rattle.cs_group.proofs.Effects.{Row}

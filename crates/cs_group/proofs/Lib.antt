@@ -10,7 +10,6 @@ pub mod Keyed
 pub mod Together
 pub mod Tables
 pub mod Law
-pub mod Lengths
 pub mod Ending
 pub mod StepLaw
 pub mod Slots

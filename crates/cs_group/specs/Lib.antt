@@ -1,7 +1,6 @@
 pub mod Merge
 pub mod Group
 pub mod Rows
-pub mod Columns
 pub mod Slots
 pub mod Table
 pub mod Adding

@@ -7,7 +7,7 @@ ghost use Rattle.cs_model.specs.Section.{Section};
 ghost use Rattle.cs_apply.specs.declared.conflict.Conflict.{Conflict};
 ghost use Rattle.cs_apply.specs.Single.{single};
 ghost use Rattle.cs_apply.specs.State.{TableState};
-ghost use Rattle.cs_group.specs.Columns.{HaveColumns};
+ghost use Rattle.cs_apply.specs.Columns.{HaveColumns};
 ghost use Rattle.cs_group.specs.Group.{group_of};
 
 use cs_model::laws::{changes_fit, fields_again};
@@ -15,7 +15,7 @@ use cs_model::laws::{changes_fit, fields_again};
 /// The combining law. If sections apply one after another without conflict, their group applies
 /// without conflict and leaves the same tables. So a group conflicts only where its sections,
 /// applied one after another, conflict too. The rows have a value for each column, as those of
-/// tables that began empty do (`rows_keep_columns`).
+/// `Tables` do (`cs_apply::laws::rows_keep_columns`).
 pub fn groups_apply()
     ensures same { (old new : TableState) (sections : List Section) → IsChangeset sections
         → HaveColumns old → single old sections ≡ Ok new → single old (group_of sections) ≡ Ok new }
@@ -26,10 +26,3 @@ pub fn groups_apply()
     changes_fit();
     fields_again();
 }
-
-/// Sections that apply without conflict leave rows with a value for each column, if the rows before
-/// have one.
-pub fn rows_keep_columns()
-    ensures { (old new : TableState) (sections : List Section) → IsChangeset sections
-        → HaveColumns old → single old sections ≡ Ok new → HaveColumns new }
-{}

@@ -2,6 +2,7 @@ pub mod Moving
 pub mod Gapless
 pub mod Closing
 pub mod Sendings
+pub mod Bodies
 pub mod Singly
 pub mod Written
 pub mod Numbers

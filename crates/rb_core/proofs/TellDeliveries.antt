@@ -10,6 +10,7 @@ use Rattle.cs_model.proofs.CallerLemmas.{all_push}
 use Rattle.cs_model.specs.declared.shape.Shape.{Shape}
 use Rattle.cs_apply.specs.State as tables
 use Rattle.cs_apply.specs.Single.{single}
+use Rattle.cs_group.specs.Group.{group_of}
 use Rattle.rb_desk.specs.Calls as desk
 use Rattle.rb_desk.specs.declared.delivery.Delivery.{Delivery}
 use Rattle.rb_desk.specs.declared.refusal.DeskRefusal.{DeskRefusal}
@@ -196,9 +197,9 @@ end_behind sequence q delivery end placed accepts =
     let long = part_length sequence (cursor q) delivery.last placed (omega (arith, accepts.some)) in
     let far : q.start + length (q.accepted ++ entries) ≡ delivery.last =
     omega (arith, long, length-append q.accepted entries, accepts.some) in
-    let rows : say.if_applied q.tables (single q.tables (joined_bodies entries)) ≡ end.tables =
+    let rows : say.if_applied q.tables (single q.tables (group_of (joined_bodies entries))) ≡ end.tables =
     ap (say.if_applied q.tables) accepts.tables in
-    ap (λ n. as_end q n (say.if_applied q.tables (single q.tables (joined_bodies entries)))) far
+    ap (λ n. as_end q n (say.if_applied q.tables (single q.tables (group_of (joined_bodies entries))))) far
     ∙ ap (as_end q delivery.last) rows ∙ sym accepts.kept
 
 accepted_tells : AcceptSteps → (schema : List Shape) (old : State) (world : World) (d : ℕ) (delivery : Delivery)

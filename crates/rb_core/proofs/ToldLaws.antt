@@ -1,9 +1,11 @@
 -- Laws of runs, from the laws of the courses that they report.
 use Rattle.std.proofs.Common.{◌≡◌, ℕ, zero, suc, true, List, [], ◌∷◌, Some, sym, ap, subst, ◌∙◌}
-use Rattle.std.specs.Prelude.{slice_get, map}
+use Rattle.std.specs.Prelude.{slice_get, map as list_map}
+use Rattle.std.specs.FinMap as map
 use Rattle.cs_model.specs.declared.shape.Shape.{Shape}
-use Rattle.rb_subscriber.specs.Accept.{AppliesSingly}
-use Rattle.rb_core.specs.Moves.{Leads, HasRun, StaysClosed}
+use Rattle.cs_model.specs.Key.{row_key_cmp}
+use Rattle.cs_apply.specs.Columns.{HaveColumns}
+use Rattle.rb_core.specs.Moves.{Leads, HasRun, HasSingleTables, StaysClosed}
 use Rattle.rb_core.specs.State.{State, empty_tables}
 use Rattle.rb_core.specs.Told.{IsToldBy}
 use Rattle.rb_core.specs.World.{Subscriber, World, world_begun, endpoint_of}
@@ -12,7 +14,7 @@ use Rattle.rb_core.proofs.Moving.{all_get}
 use Rattle.rb_core.proofs.Telling.{BeginsEmpty, IsTold}
 
 -- the thing at a place of a list, and what is made of it
-mapped_at : {A B : Type 0} (f : A → B) (xs : List A) (i : ℕ) (x : A) → slice_get xs i ≡ Some x → slice_get (map f xs) i
+mapped_at : {A B : Type 0} (f : A → B) (xs : List A) (i : ℕ) (x : A) → slice_get xs i ≡ Some x → slice_get (list_map f xs) i
     ≡ Some (f x)
 mapped_at f [] i x e = absurd (cc e)
 mapped_at f (y ∷ xs) zero x e = let same : y ≡ x = cc e in ap (λ z. Some (f z)) same
@@ -43,14 +45,17 @@ pub left_run : (schema : List Shape) (new : State) (old world : World) (s : ℕ)
 left_run schema new old world s subscriber told found closed =
     nothing_accepted old told.0.0 world s subscriber found closed told.0.1
 
--- a subscription of which the course says that its tables follow from those that it began with
+-- a subscription of which the course says that its tables are those of single application
+empty_have_columns : (schema : List Shape) → HaveColumns (empty_tables schema)
+empty_have_columns schema key row found = absurd (let no = sym (map.get-empty row_key_cmp key) ∙ found in cc)
+
 pub singly_run : ((mids : List World) (new : World) (s : ℕ) (subscriber : Subscriber) → Leads world_begun mids new
-    → slice_get new.subscribers s ≡ Some subscriber
-    → AppliesSingly subscriber.base subscriber.accepted subscriber.tables)
+    → slice_get new.subscribers s ≡ Some subscriber → HaveColumns subscriber.base
+    → HasSingleTables subscriber.base subscriber)
     → (schema : List Shape) (new : State) (world : World) (s : ℕ) (subscriber : Subscriber)
     → IsTold schema world_begun new world → slice_get world.subscribers s ≡ Some subscriber
-    → AppliesSingly (empty_tables schema) subscriber.accepted subscriber.tables
+    → HasSingleTables (empty_tables schema) subscriber
 singly_run law schema new world s subscriber told found =
-    subst (λ t. AppliesSingly t subscriber.accepted subscriber.tables)
-    (all_get (BeginsEmpty schema) world.subscribers s subscriber told.1.bases found)
-    (law told.0.0 world s subscriber told.0.1 found)
+    let base = all_get (BeginsEmpty schema) world.subscribers s subscriber told.1.bases found in
+    subst (λ t. HasSingleTables t subscriber) base
+    (law told.0.0 world s subscriber told.0.1 found (subst HaveColumns (sym base) (empty_have_columns schema)))

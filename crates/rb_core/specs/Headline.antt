@@ -2,9 +2,8 @@
 use Rattle.std.specs.Prelude.{◌≡◌, ℕ, true, List, take, Some, slice_get}
 use Rattle.cs_model.specs.declared.shape.Shape.{Shape}
 use Rattle.rb_sequence.specs.Entry.{Entry}
-use Rattle.rb_subscriber.specs.Accept.{AppliesSingly}
 use Rattle.rb_core.specs.declared.event.Event.{Event}
-use Rattle.rb_core.specs.Moves.{HasRun, StaysClosed, items_of, own_of, IsFront, IsSending}
+use Rattle.rb_core.specs.Moves.{HasRun, HasSingleTables, StaysClosed, items_of, own_of, IsFront, IsSending}
 use Rattle.rb_core.specs.Run.{Answer}
 use Rattle.rb_core.specs.State.{State, empty_tables}
 use Rattle.rb_core.specs.Told.{world_told}
@@ -13,8 +12,8 @@ use Rattle.rb_core.specs.World.{Sender, Subscriber}
 -- What a subscription accepted is a gapless run of the sequence. Each publisher's entries are the
 -- front of what it sent, in that order; each sending is placed once; each entry is a sending.
 -- Nothing is placed once the first n events have closed the sequence, and nothing accepted once
--- they have closed a subscription. A subscription's tables are what one thread gets that applies
--- what it accepted to empty tables, one changeset after another.
+-- they have closed a subscription. Where what a subscription accepted applies singly, without
+-- conflict, to empty tables, its tables are what one thread gets that applies it so.
 pub record KeepsHeadline (schema : List Shape) (events : List Event) (answers : List Answer)
     (new : State)
     : Type 0 where
@@ -42,4 +41,4 @@ pub record KeepsHeadline (schema : List Shape) (events : List Event) (answers : 
       × StaysClosed subscriber after
   pub tables : (s : ℕ) (subscriber : Subscriber)
       → slice_get (world_told schema events answers).subscribers s ≡ Some subscriber
-      → AppliesSingly (empty_tables schema) subscriber.accepted subscriber.tables
+      → HasSingleTables (empty_tables schema) subscriber

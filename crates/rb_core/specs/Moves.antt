@@ -4,12 +4,13 @@ use Rattle.std.specs.Prelude.{◌≡◌, ◌==◌, ℕ, suc, ◌-◌, ◌<◌, �
 use Rattle.std.specs.Prelude.{◌∷◌, ◌++◌, length, Option, Some, None, slice_get, slice_set}
 use Rattle.std.specs.List.{AllByRecursion, filter}
 use Rattle.cs_model.specs.declared.origin.Origin.{Origin}
+use Rattle.cs_model.specs.Changeset.{IsChangeset}
 use Rattle.cs_model.specs.Section.{Section}
 use Rattle.cs_apply.specs.State as tables
 use Rattle.rb_desk.specs.declared.delivery.Delivery.{Delivery}
 use Rattle.rb_sequence.specs.declared.item.Item.{Item}
 use Rattle.rb_sequence.specs.Entry.{Entry}
-use Rattle.rb_subscriber.specs.Accept.{part, brought, AcceptsDelivery}
+use Rattle.rb_subscriber.specs.Accept.{part, brought, AcceptsDelivery, AppliesSingly}
 use Rattle.rb_subscriber.specs.Endpoint.{Endpoint}
 use Rattle.rb_core.specs.World.{Sender, Subscriber, World, world_begun, cursor, endpoint_of}
 
@@ -33,6 +34,11 @@ IsIn x (y ∷ rest) = (x ≡ y) ⊎ IsIn x rest
 abbrev pub IsUnused : ℕ → Subscriber → Type 0
 IsUnused number q = AllByRecursion (λ offer. offer.number ≡ number → ⊥) q.offers
 
+-- what is staged is a changeset, if anything is
+abbrev pub IsStaged : Option (List Section) → Type 0
+IsStaged None = Unit {0}
+IsStaged (Some changeset) = IsChangeset changeset
+
 -- ---- publishers
 
 -- adds a publisher
@@ -40,13 +46,15 @@ abbrev pub AddsPublisher : World → World → Type 0
 AddsPublisher old new = new
     ≡ record old { senders = old.senders ++ record { text = []; staged = None; sent = [] } ∷ [] }
 
--- a publisher's text and staged changeset change, and nothing else
+-- A publisher's text and staged changeset change, and nothing else. What it stages anew is a
+-- changeset.
 pub record Streams (old new : World) : Type 0 where
   pub p : ℕ
   pub before : Sender
   pub after : Sender
   pub found : slice_get old.senders p ≡ Some before
   pub sent : after.sent ≡ before.sent
+  pub valid : (after.staged ≡ before.staged) ⊎ IsStaged after.staged
   pub kept : new ≡ with_sender old p after
 
 -- what a publisher staged becomes its next sending, at the end of the intake
@@ -187,6 +195,12 @@ Leads old (mid ∷ rest) new = Moves old mid × Leads mid rest new
 -- a subscription has accepted one contiguous run of the sequence after its start
 abbrev pub HasRun : List Entry → Subscriber → Type 0
 HasRun sequence q = q.accepted ≡ part sequence q.start (length q.accepted)
+
+-- where what a subscription accepted applies singly to these tables, without conflict, its tables
+-- are what that gives
+abbrev pub HasSingleTables : tables.TableState → Subscriber → Type 0
+HasSingleTables first q = (tables : tables.TableState) → AppliesSingly first q.accepted tables
+    → q.tables ≡ tables
 
 -- `r` is closed, with the accepted entries and the tables of `q`
 pub record StaysClosed (q r : Subscriber) : Type 0 where

@@ -13,6 +13,7 @@ use Rattle.cs_parse.specs.Reading.{answer_of}
 use Rattle.cs_apply.specs.declared.conflict.Conflict.{Conflict}
 use Rattle.cs_apply.specs.Single.{single}
 use Rattle.cs_apply.specs.State as tables
+use Rattle.cs_group.specs.Group.{group_of}
 use Rattle.rb_desk.specs.declared.delivery.Delivery.{Delivery}
 use Rattle.rb_sequence.specs.declared.item.Item.{Item}
 use Rattle.rb_sequence.specs.Entry.{Entry}
@@ -136,7 +137,7 @@ with_accepted entries q =
     record q {
       accepted = q.accepted
           ++ entries;
-      tables = if_applied q.tables (single q.tables (joined_bodies entries));
+      tables = if_applied q.tables (single q.tables (group_of (joined_bodies entries)));
     }
 
 -- the delivery of this number among those that it was delivered
@@ -149,7 +150,7 @@ entries_of sequence delivery =
     part sequence (delivery.first - 1) (suc delivery.last - delivery.first)
 
 -- It accepts the delivery of this number: the entries that the delivery names go to the end of what
--- it accepted, and are applied to its tables.
+-- it accepted, and the group of their bodies is applied to its tables.
 abbrev pub accepted_told : List Entry → Option Delivery → Subscriber → Subscriber
 accepted_told sequence None q = q
 accepted_told sequence (Some delivery) q = with_accepted (entries_of sequence delivery) q

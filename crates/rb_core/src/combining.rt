@@ -2,13 +2,12 @@
 
 ghost use Rattle.std.specs.Prelude.{◌≡◌, IfOk};
 ghost use Rattle.std.specs.Option.{option_map};
-ghost use Rattle.rb_core.specs.Combined.{combined_of, placed_span, sections_placed};
-ghost use Rattle.cs_group.specs.Group.{group_of};
+ghost use Rattle.rb_core.specs.Combined.{combined_of, placed_span};
 
 use crate::world::World;
-use cs_group::combine_admitted;
 use cs_model::Changeset;
 use rb_sequence::Entry;
+use rb_subscriber::combined;
 use std::alloc::{AllocError, Global};
 
 impl World {
@@ -25,7 +24,7 @@ impl World {
     {
         match span(self.sequence(), first, last) {
             None => Ok(None),
-            Some(entries) => Ok(Some(group(alloc, entries)?)),
+            Some(entries) => Ok(Some(combined(alloc, entries)?)),
         }
     }
 }
@@ -40,15 +39,4 @@ fn span(sequence: &[Entry], first: u64, last: u64) -> Option<&[Entry]>
     let (placed, _) = sequence.split_at(last as usize);
     let (_, entries) = placed.split_at(first as usize - 1);
     Some(entries)
-}
-
-// the changesets of these entries as one
-fn group(alloc: Global, entries: &[Entry]) -> Result<Changeset, AllocError>
-    ensures { IfOk result (λ made. made ≡ group_of (sections_placed entries.now)) }
-{
-    let mut bodies = Vec::with_capacity(alloc, entries.len())?;
-    for entry in entries {
-        bodies.push(entry.body())?;
-    }
-    combine_admitted(alloc, &bodies)
 }

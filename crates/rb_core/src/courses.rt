@@ -3,13 +3,13 @@
 //! function to use the law.
 
 ghost use Rattle.std.specs.Prelude.{◌≡◌, ℕ, true, List, Some, slice_get};
+ghost use Rattle.cs_apply.specs.Columns.{HaveColumns};
 ghost use Rattle.rb_core.specs.Moves.{Leads, HasRun, StaysClosed, items_of, own_of, IsFront};
-ghost use Rattle.rb_core.specs.Moves.{IsSending};
+ghost use Rattle.rb_core.specs.Moves.{HasSingleTables, IsSending};
 ghost use Rattle.rb_core.specs.World.{Sender, Subscriber, World, world_begun};
 ghost use Rattle.rb_sequence.specs.Entry.{Entry};
-ghost use Rattle.rb_subscriber.specs.Accept.{AppliesSingly};
 
-use cs_apply::laws::applying_goes_on;
+use rb_subscriber::laws::{accepted_apply_singly, accepting_is_step, singly_keeps_columns};
 
 /// After any moves from the start, a subscription has accepted one contiguous run of the sequence
 /// after its start. No number is skipped, and none comes twice. This holds at any time, because any
@@ -50,13 +50,15 @@ pub fn sendings_come_once_in_order()
         × IsSending sender entry.item }
 {}
 
-/// After any moves from the start, a subscription's tables equal those of a single thread. That
-/// thread applies the accepted changesets one after another to the tables the subscription began
-/// with.
+/// After any moves from the start: where the changesets that a subscription accepted apply singly,
+/// without conflict, to the tables it began with, its tables are what that gives. The rows it began
+/// with have a value for each column.
 pub fn tables_apply_singly()
     ensures { (mids : List World) (new : World) (s : ℕ) (subscriber : Subscriber)
         → Leads world_begun mids new → slice_get new.subscribers s ≡ Some subscriber
-        → AppliesSingly subscriber.base subscriber.accepted subscriber.tables }
+        → HaveColumns subscriber.base → HasSingleTables subscriber.base subscriber }
 {
-    applying_goes_on();
+    accepting_is_step();
+    accepted_apply_singly();
+    singly_keeps_columns();
 }

@@ -15,7 +15,7 @@ ghost use Rattle.rb_core.specs.declared.reply.Reply.{Reply};
 ghost use Rattle.rb_core.specs.declared.reply.Reply.TheVariants as reply;
 ghost use Rattle.rb_core.specs.Headline.{KeepsHeadline};
 ghost use Rattle.rb_core.specs.Moves.{Leads, HasRun, StaysClosed, items_of, own_of, IsFront};
-ghost use Rattle.rb_core.specs.Moves.{IsSending};
+ghost use Rattle.rb_core.specs.Moves.{HasSingleTables, IsSending};
 ghost use Rattle.rb_core.specs.Outcome.{outcome, delivery_of};
 ghost use Rattle.rb_core.specs.Run.{Answer, IsRunOf, RunsOn};
 ghost use Rattle.rb_core.specs.State.{State, IsWorld, empty_tables};
@@ -25,7 +25,6 @@ ghost use Rattle.rb_core.specs.World.{Sender, Subscriber, World, world_begun, en
 ghost use Rattle.rb_desk.specs.declared.delivery.Delivery.{Delivery};
 ghost use Rattle.rb_desk.specs.Limits.{Limits};
 ghost use Rattle.rb_sequence.specs.Entry.{Entry};
-ghost use Rattle.rb_subscriber.specs.Accept.{AppliesSingly};
 ghost use Rattle.rb_subscriber.specs.Endpoint.{Endpoint};
 
 use crate::courses;
@@ -93,6 +92,7 @@ pub fn runs_are_told()
     replays_are_pictures();
     calls_show_in_outline();
     accepting_is_step();
+    reading_is_spelling();
     progress_goes_on();
     progress_tells();
 }
@@ -169,14 +169,14 @@ pub fn nothing_after_close()
     courses::nothing_after_close();
 }
 
-/// At any time of any run, a subscription's tables equal those of a single thread. That thread
-/// applies the accepted changesets one after another to empty tables.
+/// At any time of any run: where the changesets that a subscription accepted apply singly, without
+/// conflict, to empty tables, its tables are what one thread gets that applies them so.
 pub fn tables_apply_singly()
     ensures { (limits : Limits) (schema : List Shape) (events : List Event)
         (answers : List Answer) (new : State) (s : ℕ) (subscriber : Subscriber)
         → IsRunOf limits schema events answers new
         → slice_get (world_told schema events answers).subscribers s ≡ Some subscriber
-        → AppliesSingly (empty_tables schema) subscriber.accepted subscriber.tables }
+        → HasSingleTables (empty_tables schema) subscriber }
 {
     runs_are_told();
     courses::tables_apply_singly();

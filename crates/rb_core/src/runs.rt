@@ -3,13 +3,13 @@
 ghost use Rattle.std.specs.Prelude.{◌≡◌, ℕ, true, List, Some, IfOk, slice_get, take};
 ghost use Rattle.std.specs.List.{AllByRecursion};
 ghost use Rattle.cs_model.specs.Bytes.{AreBytes};
-ghost use Rattle.rb_core.specs.Moves.{HasRun, StaysClosed, items_of, own_of, IsFront, IsSending};
+ghost use Rattle.rb_core.specs.Moves.{HasRun, HasSingleTables, StaysClosed, items_of, own_of};
+ghost use Rattle.rb_core.specs.Moves.{IsFront, IsSending};
 ghost use Rattle.rb_core.specs.Run.{Run, FeedsBytes};
 ghost use Rattle.rb_core.specs.State.{empty_tables, empty_world};
 ghost use Rattle.rb_core.specs.Told.{world_told};
 ghost use Rattle.rb_core.specs.World.{Sender, Subscriber, endpoint_of};
 ghost use Rattle.rb_sequence.specs.Entry.{Entry};
-ghost use Rattle.rb_subscriber.specs.Accept.{AppliesSingly};
 
 use crate::event::Event;
 use crate::laws::{
@@ -67,11 +67,11 @@ pub fn run(
         → subscriber.closed ≡ true
         → (after : Subscriber) × (slice_get (world_told schema events.now r.1.items).subscribers s
         ≡ Some after) × StaysClosed subscriber after) }
-    // A subscription's tables equal those of a single thread that applies the accepted changesets
-    // one after another to empty tables.
+    // Where what a subscription accepted applies singly, without conflict, to empty tables, its
+    // tables are what one thread gets that applies it so.
     ensures tables { IfOk result (λ r. (s : ℕ) (subscriber : Subscriber)
         → slice_get (world_told schema events.now r.1.items).subscribers s ≡ Some subscriber
-        → AppliesSingly (empty_tables schema) subscriber.accepted subscriber.tables) }
+        → HasSingleTables (empty_tables schema) subscriber) }
 {
     runs_are_told();
     accepted_is_gapless();

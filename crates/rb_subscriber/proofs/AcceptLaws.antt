@@ -11,6 +11,7 @@ use Rattle.cs_model.specs.Schema.{refusal_of}
 use Rattle.cs_apply.specs.State as tables
 use Rattle.cs_apply.specs.Single.{single}
 use Rattle.cs_apply.specs.declared.conflict.Conflict.{Conflict}
+use Rattle.cs_group.specs.Group.{group_of}
 use Rattle.rb_desk.specs.declared.delivery.Delivery.{Delivery}
 use Rattle.rb_sequence.specs.Entry.{Entry}
 use Rattle.rb_subscriber.specs.declared.refusal.AcceptRefusal.{AcceptRefusal}
@@ -72,14 +73,14 @@ none_outside schema (entry ∷ entries) all =
 -- ---- the tables
 
 record AcceptApplied (old : Endpoint) (last : ℕ) (entries : List Entry) (new : Endpoint) : Type 0 where
-  tables : single old.tables (joined_bodies entries) ≡ Ok new.tables
+  tables : single old.tables (group_of (joined_bodies entries)) ≡ Ok new.tables
   kept : new ≡ record old { cursor = last; tables = new.tables }
 
 abbrev with_tables : Endpoint → ℕ → tables.TableState → Endpoint
 with_tables old last tables = record old { cursor = last; tables = tables }
 
 applied_is : (old : Endpoint) (last : ℕ) (entries : List Entry) (new : Endpoint) (r : Result tables.TableState Conflict)
-    → single old.tables (joined_bodies entries) ≡ r → applied old last r ≡ Ok new → AcceptApplied old last entries new
+    → single old.tables (group_of (joined_bodies entries)) ≡ r → applied old last r ≡ Ok new → AcceptApplied old last entries new
 applied_is old last entries new (Ok tables) is e =
     let same : with_tables old last tables ≡ new = cc in
     let here : tables ≡ new.tables = ap (λ (x : Endpoint). x.tables) same in
@@ -91,7 +92,7 @@ opened_is : (old : Endpoint) (last : ℕ) (entries : List Entry) (new : Endpoint
     → AllByRecursion (IsAdmitted old.tables.schema) entries × AcceptApplied old last entries new
 opened_is old last entries new None is e = (
   all_admitted old.tables.schema entries is,
-  applied_is old last entries new (single old.tables (joined_bodies entries)) refl e,
+  applied_is old last entries new (single old.tables (group_of (joined_bodies entries))) refl e,
 )
 opened_is old last entries new (Some entry) is e = absurd cc
 

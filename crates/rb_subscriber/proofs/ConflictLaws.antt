@@ -1,19 +1,23 @@
--- Where the joined bodies of a delivery conflict, so do the bodies applied one after another.
+-- Where the group of a delivery's bodies conflicts, so do the bodies applied one after another.
 use Rattle.std.proofs.Common.{◌≡◌, ◌==◌, ℕ, suc, inl, inr, Bool, true, false, not, cond, List, [], ◌∷◌}
 use Rattle.std.proofs.Common.{Option, Some, None, Result, Ok, Err, refl, sym, ◌∙◌}
 use Rattle.std.specs.Prelude.{nat_le}
 use Rattle.cs_apply.specs.declared.conflict.Conflict.{Conflict}
+use Rattle.cs_model.specs.Changeset.{IsChangeset}
+use Rattle.cs_model.specs.Section.{Section}
+use Rattle.cs_apply.specs.Columns.{HaveColumns}
 use Rattle.cs_apply.specs.Single.{single}
 use Rattle.cs_apply.specs.State as tables
+use Rattle.cs_group.specs.Group.{group_of}
 use Rattle.rb_desk.specs.declared.delivery.Delivery.{Delivery}
 use Rattle.rb_sequence.specs.Entry.{Entry}
 use Rattle.rb_subscriber.specs.declared.refusal.AcceptRefusal.{AcceptRefusal}
 use Rattle.rb_subscriber.specs.declared.refusal.AcceptRefusal.TheVariants as refusal
 use Rattle.rb_subscriber.specs.Accept.{brought, joined_bodies, applied, applied_if_admitted, accept}
 use Rattle.rb_subscriber.specs.Accept.{first_outside_entry}
-use Rattle.rb_subscriber.specs.Accept.{ConflictsSingly}
+use Rattle.rb_subscriber.specs.Accept.{AreChangesets, ConflictsSingly}
 use Rattle.rb_subscriber.specs.Endpoint.{Endpoint}
-use Rattle.rb_subscriber.proofs.RunLaws.{RunContinues, nothing_applies}
+use Rattle.rb_subscriber.proofs.RunLaws.{RunContinues, joined_valid, nothing_applies}
 
 -- ---- joined bodies
 
@@ -59,14 +63,14 @@ applied_conflicts old last (Err found) conflict e = (found, refl)
 
 admitted_conflicts : (old : Endpoint) (last : ℕ) (entries : List Entry) (o : Option Entry) (conflict : Conflict)
     → applied_if_admitted old last entries o ≡ Err (refusal.Conflict conflict) → (found : Conflict)
-    × (single old.tables (joined_bodies entries) ≡ Err found)
+    × (single old.tables (group_of (joined_bodies entries)) ≡ Err found)
 admitted_conflicts old last entries None conflict e =
-    applied_conflicts old last (single old.tables (joined_bodies entries)) conflict e
+    applied_conflicts old last (single old.tables (group_of (joined_bodies entries))) conflict e
 admitted_conflicts old last entries (Some entry) conflict e = absurd cc
 
 accept_conflicts : (old : Endpoint) (sequence : List Entry) (delivery : Delivery) (conflict : Conflict)
     → accept old sequence delivery ≡ Err (refusal.Conflict conflict) → (found : Conflict)
-    × (single old.tables (joined_bodies (brought old sequence delivery)) ≡ Err found)
+    × (single old.tables (group_of (joined_bodies (brought old sequence delivery))) ≡ Err found)
 unfolding accept
 accept_conflicts old sequence delivery conflict e =
     let entries = brought old sequence delivery in
@@ -79,9 +83,17 @@ accept_conflicts old sequence delivery conflict e =
     (λ same. absurd cc) seen in
     admitted_conflicts old delivery.last entries (first_outside_entry old.tables.schema entries) conflict gap
 
-pub conflict_singly : RunContinues → (old : Endpoint) (sequence : List Entry) (delivery : Delivery)
-    (conflict : Conflict) → accept old sequence delivery ≡ Err (refusal.Conflict conflict)
+abbrev pub GroupConflicts : Type 0
+GroupConflicts = (old : tables.TableState) (sections : List Section) (conflict : Conflict) → IsChangeset sections
+    → HaveColumns old → single old (group_of sections) ≡ Err conflict → (other : Conflict)
+    × (single old sections ≡ Err other)
+
+pub conflict_singly : RunContinues → GroupConflicts → (old : Endpoint) (sequence : List Entry) (delivery : Delivery)
+    (conflict : Conflict) → AreChangesets (brought old sequence delivery) → HaveColumns old.tables
+    → accept old sequence delivery ≡ Err (refusal.Conflict conflict)
     → ConflictsSingly old.tables (brought old sequence delivery)
-conflict_singly goes old sequence delivery conflict e =
+conflict_singly goes group old sequence delivery conflict valid have e =
+    let entries = brought old sequence delivery in
     let found = accept_conflicts old sequence delivery conflict e in
-    joined_conflicts goes old.tables (brought old sequence delivery) found.0 found.1
+    let joined = group old.tables (joined_bodies entries) found.0 (joined_valid entries valid) have found.1 in
+    joined_conflicts goes old.tables entries joined.0 joined.1

@@ -1,15 +1,20 @@
--- What is accepted is one contiguous run, and its bodies apply one after another.
+-- What is accepted is one contiguous run, and its group leaves what its bodies leave.
 use Rattle.std.proofs.Common.{◌≡◌, ◌↔◌, ℕ, ◌+◌, ◌-◌, ◌≤◌, List, [], ◌∷◌, ◌++◌, length, take, drop, Ok}
-use Rattle.std.proofs.Common.{refl, sym, ap, ◌∙◌, arith}
+use Rattle.std.proofs.Common.{refl, sym, ap, subst, ◌∙◌, arith}
 use Rattle.std.proofs.Math.Seq.{take-add}
 use Rattle.std.proofs.lemmas.List.{drop-drop, take-append-le, drop-append-le, length-drop}
+use Rattle.cs_model.proofs.CallerLemmas.{all_append}
+use Rattle.cs_model.specs.Changeset.{IsChangeset, IsSection}
 use Rattle.cs_model.specs.Section.{Section}
+use Rattle.cs_apply.specs.Columns.{HaveColumns}
 use Rattle.cs_apply.specs.OneByOne.{AppliesBoth}
 use Rattle.cs_apply.specs.Single.{single, single_from}
 use Rattle.cs_apply.specs.State as tables
+use Rattle.cs_group.specs.Group.{group_of}
 use Rattle.rb_desk.specs.declared.delivery.Delivery.{Delivery}
 use Rattle.rb_sequence.specs.Entry.{Entry}
 use Rattle.rb_subscriber.specs.Accept.{part, brought, joined_bodies, accept, accepted_entries, AppliesSingly}
+use Rattle.rb_subscriber.specs.Accept.{AreChangesets}
 use Rattle.rb_subscriber.specs.Endpoint.{Endpoint}
 use Rattle.rb_subscriber.proofs.AcceptLaws.{accepted_steps}
 
@@ -66,8 +71,40 @@ singly goes old (entry ∷ entries) new e =
     let both = (goes old entry.item.body (joined_bodies entries) new).0 e in
     (both.0, both.1, singly goes both.0 entries new both.2)
 
-pub tables_singly : RunContinues → (old : Endpoint) (sequence : List Entry) (delivery : Delivery) (new : Endpoint)
-    → accept old sequence delivery ≡ Ok new → AppliesSingly old.tables (brought old sequence delivery) new.tables
-tables_singly goes old sequence delivery new e =
-    singly goes old.tables (brought old sequence delivery) new.tables
-    (accepted_steps old sequence delivery new e).tables
+-- and the other way round
+singly_joined : RunContinues → (old : tables.TableState) (entries : List Entry) (new : tables.TableState)
+    → AppliesSingly old entries new → single old (joined_bodies entries) ≡ Ok new
+singly_joined goes old [] new e = nothing_applies old ∙ ap (λ t. Ok t) (sym e)
+singly_joined goes old (entry ∷ entries) new e =
+    (goes old entry.item.body (joined_bodies entries) new).1 (e.0, e.1, singly_joined goes e.0 entries new e.2)
+
+pub joined_valid : (entries : List Entry) → AreChangesets entries → IsChangeset (joined_bodies entries)
+joined_valid [] valid = tt
+joined_valid (entry ∷ entries) valid =
+    all_append IsSection entry.item.body (joined_bodies entries) valid.0 (joined_valid entries valid.1)
+
+-- a group applies where its sections do
+abbrev pub GroupApplies : Type 0
+GroupApplies = (old new : tables.TableState) (sections : List Section) → IsChangeset sections → HaveColumns old
+    → single old sections ≡ Ok new → single old (group_of sections) ≡ Ok new
+
+pub tables_singly : RunContinues → GroupApplies → (old : Endpoint) (sequence : List Entry) (delivery : Delivery)
+    (new : Endpoint) (tables : tables.TableState) → AreChangesets (brought old sequence delivery)
+    → HaveColumns old.tables → accept old sequence delivery ≡ Ok new
+    → AppliesSingly old.tables (brought old sequence delivery) tables → new.tables ≡ tables
+tables_singly goes group old sequence delivery new tables valid have e singly =
+    let entries = brought old sequence delivery in
+    let other = group old.tables tables (joined_bodies entries) (joined_valid entries valid) have
+    (singly_joined goes old.tables entries tables singly) in
+    cc (sym (accepted_steps old sequence delivery new e).tables ∙ other)
+
+-- rows keep their columns
+abbrev pub RowsKeepColumns : Type 0
+RowsKeepColumns = (old new : tables.TableState) (sections : List Section) → IsChangeset sections → HaveColumns old
+    → single old sections ≡ Ok new → HaveColumns new
+
+pub singly_columns : RowsKeepColumns → (old : tables.TableState) (entries : List Entry) (new : tables.TableState)
+    → AreChangesets entries → HaveColumns old → AppliesSingly old entries new → HaveColumns new
+singly_columns keep old [] new valid have e = subst HaveColumns (sym e) have
+singly_columns keep old (entry ∷ entries) new valid have e =
+    singly_columns keep e.0 entries new valid.1 (keep old e.0 entry.item.body valid.0 have e.1) e.2

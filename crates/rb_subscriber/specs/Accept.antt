@@ -6,10 +6,12 @@ use Rattle.std.specs.List.{flat_map, AllByRecursion}
 use Rattle.cs_model.specs.declared.shape.Shape.{Shape}
 use Rattle.cs_model.specs.Schema.{refusal_of}
 use Rattle.cs_model.specs.declared.schema.SectionFault.{SectionFault}
+use Rattle.cs_model.specs.Changeset.{IsChangeset}
 use Rattle.cs_model.specs.Section.{Section}
 use Rattle.cs_apply.specs.State as tables
 use Rattle.cs_apply.specs.Single.{single}
 use Rattle.cs_apply.specs.declared.conflict.Conflict.{Conflict}
+use Rattle.cs_group.specs.Group.{group_of}
 use Rattle.rb_desk.specs.declared.delivery.Delivery.{Delivery}
 use Rattle.rb_sequence.specs.Entry.{Entry}
 use Rattle.rb_subscriber.specs.declared.refusal.AcceptRefusal.{AcceptRefusal}
@@ -32,6 +34,10 @@ brought old sequence delivery = part sequence old.cursor (delivery.last - old.cu
 abbrev pub joined_bodies : List Entry → List Section
 joined_bodies entries = flat_map (λ entry. entry.item.body) entries
 
+-- each body is a changeset
+abbrev pub AreChangesets : List Entry → Type 0
+AreChangesets entries = AllByRecursion (λ entry. IsChangeset entry.item.body) entries
+
 -- the tables admit a body
 abbrev pub IsAdmitted : List Shape → Entry → Type 0
 IsAdmitted schema entry = refusal_of schema entry.item.body ≡ None
@@ -48,7 +54,8 @@ first_outside_entry schema [] = None
 first_outside_entry schema (entry ∷ entries) =
     if_admitted (refusal_of schema entry.item.body) entry (first_outside_entry schema entries)
 
--- moves the cursor to the delivery's last number and sets the new tables; refuses a conflict
+-- moves the cursor to the delivery's last number and sets the new tables; refuses a conflict of the
+-- bodies' group
 abbrev pub applied : Endpoint → ℕ → Result tables.TableState Conflict
     → Result Endpoint AcceptRefusal
 applied old last (Ok tables) = Ok (record old { cursor = last; tables = tables })
@@ -57,7 +64,7 @@ applied old last (Err conflict) = Err (refusal.Conflict conflict)
 abbrev pub applied_if_admitted : Endpoint → ℕ → List Entry → Option Entry
     → Result Endpoint AcceptRefusal
 applied_if_admitted old last entries None =
-    applied old last (single old.tables (joined_bodies entries))
+    applied old last (single old.tables (group_of (joined_bodies entries)))
 applied_if_admitted old last entries (Some entry) = Err (refusal.Shape entry.number)
 
 -- Accept: the endpoint after a delivery, or the first refusal in this order
@@ -91,9 +98,9 @@ AcceptAnswers (Err Memory) accepted old new = AsksTables accepted × (new ≡ ol
 -- ---- as a step
 
 -- An endpoint accepts a delivery. The endpoint isn't closed, the delivery is of its current link,
--- and it begins right after the cursor. The endpoint's tables admit the entries, whose bodies apply
--- one after another without conflict. The cursor moves to the delivery's last number, and nothing
--- but cursor and tables changes.
+-- and it begins right after the cursor. The endpoint's tables admit the entries. The group of their
+-- bodies applies without conflict. The cursor moves to the delivery's last number, and nothing but
+-- cursor and tables changes.
 pub record AcceptsDelivery (old : Endpoint) (sequence : List Entry) (delivery : Delivery)
     (new : Endpoint) : Type 0 where
   pub not_closed : old.closed ≡ false
@@ -101,7 +108,8 @@ pub record AcceptsDelivery (old : Endpoint) (sequence : List Entry) (delivery : 
   pub next : delivery.first ≡ suc old.cursor
   pub some : suc old.cursor ≤ delivery.last
   pub admitted : AllByRecursion (IsAdmitted old.tables.schema) (brought old sequence delivery)
-  pub tables : single old.tables (joined_bodies (brought old sequence delivery)) ≡ Ok new.tables
+  pub tables : single old.tables (group_of (joined_bodies (brought old sequence delivery)))
+      ≡ Ok new.tables
   pub kept : new ≡ record old { cursor = delivery.last; tables = new.tables }
 
 -- ---- what was accepted

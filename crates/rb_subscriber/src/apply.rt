@@ -1,12 +1,16 @@
-//! Applies the bodies of entries to tables.
+//! The bodies of entries: which the tables don't admit, their group, and applying it to tables.
 
-ghost use Rattle.std.specs.Prelude.{◌≡◌, Ok, OnOk, OnErr, IfOk, IfErr};
+ghost use Rattle.std.specs.Prelude.{◌≡◌, ◌∷◌, [], Ok, OnOk, OnErr, IfOk, IfErr};
+ghost use Rattle.std.specs.Prelude.{if◌then◌else◌};
 ghost use Rattle.std.specs.Option.{option_copied};
 ghost use Rattle.cs_apply.specs.Errors.{ReportsConflict};
 ghost use Rattle.cs_apply.specs.Single.{single};
+ghost use Rattle.cs_group.specs.Group.{group_of};
 ghost use Rattle.rb_subscriber.specs.Accept.{first_outside_entry, joined_bodies};
 
 use cs_apply::{ApplyError, Tables};
+use cs_group::combine_admitted;
+use cs_group::laws::groups_apply;
 use cs_model::{Changeset, Schema};
 use rb_sequence::Entry;
 use std::alloc::{AllocError, Global};
@@ -23,30 +27,55 @@ pub(crate) fn outside<'a>(schema: &Schema, entries: &'a [Entry]) -> Option<&'a E
     None
 }
 
-// joins the sections of all bodies into one changeset
-fn join(alloc: Global, entries: &[Entry]) -> Result<Changeset, AllocError>
-    ensures { IfOk result (λ changeset. changeset ≡ joined_bodies entries.now) }
+/// The changesets of entries as one, their group ("The Session Extension", changegroups). A schema
+/// admits them all, so no two sections clash. Returns `AllocError` if memory runs out.
+pub fn combined(alloc: Global, entries: &[Entry]) -> Result<Changeset, AllocError>
+    ensures { IfOk result (λ made. made ≡ group_of (joined_bodies entries.now)) }
 {
-    let mut changeset = Changeset::new(alloc);
+    let mut bodies = Vec::with_capacity(alloc, entries.len())?;
     for entry in entries {
-        changeset.append(alloc, entry.body())?;
+        let body = entry.body();
+        bodies.push(body)?;
     }
-    Ok(changeset)
+    combine_admitted(alloc, &bodies)
 }
 
-/// Applies the bodies of entries one after another, as one changeset: all of their changes, or
-/// none. An error does not change the tables.
+// Applies a body as it is. If it doesn't conflict, the tables are those that its group leaves. An
+// `Err` does not change the tables, nor does a conflict.
+fn applies_alone(alloc: Global, tables: &mut Tables, entry: &Entry) -> Result<bool, AllocError>
+    ensures ok { IfOk result (λ applied. if applied
+        then single tables.old (group_of (joined_bodies (entry.now ∷ []))) ≡ Ok tables.new
+        else tables.new ≡ tables.old) }
+    ensures err { OnErr result (tables.new ≡ tables.old) }
+{
+    groups_apply();
+    // for what their clauses say: each row has its columns, and the body is a changeset
+    let (_schema, _sections) = (tables.schema(), entry.body().iter());
+    match tables.apply(alloc, entry.body()) {
+        Ok(()) => Ok(true),
+        Err(ApplyError::Conflict(_)) => Ok(false),
+        Err(ApplyError::Memory) => Err(AllocError),
+    }
+}
+
+/// Applies the group of the bodies of entries: all of its changes, or none. An error does not change
+/// the tables.
 pub(crate) fn apply(alloc: Global, tables: &mut Tables, entries: &[Entry]) -> Result<(), ApplyError>
-    ensures ok { OnOk result (single tables.old (joined_bodies entries.now) ≡ Ok tables.new) }
+    ensures ok { OnOk result (single tables.old (group_of (joined_bodies entries.now))
+        ≡ Ok tables.new) }
     ensures refused { IfErr result
-        (λ e. ReportsConflict e (single tables.old (joined_bodies entries.now))) }
+        (λ e. ReportsConflict e (single tables.old (group_of (joined_bodies entries.now)))) }
     ensures err { OnErr result (tables.new ≡ tables.old) }
 {
     if let [entry] = entries {
-        // a single body is applied without a copy
-        return tables.apply(alloc, entry.body());
+        // a single body is mostly applied without a group of its own
+        match applies_alone(alloc, tables, entry) {
+            Ok(true) => return Ok(()),
+            Ok(false) => {}
+            Err(_) => return Err(ApplyError::Memory),
+        }
     }
-    let Ok(changeset) = join(alloc, entries) else {
+    let Ok(changeset) = combined(alloc, entries) else {
         return Err(ApplyError::Memory);
     };
     tables.apply(alloc, &changeset)

@@ -57,9 +57,10 @@ impl Endpoint {
         }
     }
 
-    /// Accepts a delivery: applies its changesets one after another, and moves the cursor to its
-    /// last number, which it returns. `sequence` is all entries placed so far, at least up to the
-    /// delivery's last one.
+    /// Accepts a delivery: applies the group of its changesets, and moves the cursor to its last
+    /// number, which it returns. `sequence` is all entries placed so far, at least up to the
+    /// delivery's last one. If the changesets apply one after another without conflict, their group
+    /// leaves the same tables (`laws::accepted_apply_singly`).
     ///
     /// Refuses, in this order, `Closed`, `StaleLink`, `Seen`, `Gap`, `Shape`, `Conflict`. `Memory`
     /// may replace a conflict, but no other refusal. An error does not change the endpoint.

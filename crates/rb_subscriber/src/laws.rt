@@ -3,14 +3,17 @@
 
 ghost use Rattle.std.specs.Prelude.{◌≡◌, ◌≤◌, ◌↔◌, ◌++◌, List, Ok, Err, length};
 ghost use Rattle.cs_apply.specs.declared.conflict.Conflict.{Conflict};
+ghost use Rattle.cs_apply.specs.Columns.{HaveColumns};
+ghost use Rattle.cs_apply.specs.State.{TableState};
 ghost use Rattle.rb_desk.specs.declared.delivery.Delivery.{Delivery};
 ghost use Rattle.rb_sequence.specs.Entry.{Entry};
 ghost use Rattle.rb_subscriber.specs.Endpoint.{Endpoint};
 ghost use Rattle.rb_subscriber.specs.Accept.{accept, AcceptsDelivery, brought, accepted_entries};
-ghost use Rattle.rb_subscriber.specs.Accept.{AppliesSingly, ConflictsSingly};
+ghost use Rattle.rb_subscriber.specs.Accept.{AppliesSingly, AreChangesets, ConflictsSingly};
 ghost use Rattle.rb_subscriber.specs.declared.refusal.AcceptRefusal.TheVariants as refusal;
 
-use cs_apply::laws::applying_goes_on;
+use cs_apply::laws::{applying_goes_on, rows_keep_columns};
+use cs_group::laws::groups_apply;
 
 /// `accept` returns an endpoint exactly if *AcceptsDelivery* holds of the delivery and that
 /// endpoint.
@@ -33,22 +36,36 @@ pub fn accepted_is_a_run()
         → accepted_entries (sequence ++ more) endpoint ≡ accepted_entries sequence endpoint }
 {}
 
-/// The tables after an accepted delivery equal those of a single thread that applies its changesets
-/// one after another.
+/// If the changesets of an accepted delivery, applied one after another, don't conflict, the tables
+/// after it are what that gives. The changesets are valid, and the rows have their columns, as those
+/// of entries and of `Tables` do.
 pub fn accepted_apply_singly()
     ensures { (old : Endpoint) (sequence : List Entry) (delivery : Delivery) (new : Endpoint)
-        → accept old sequence delivery ≡ Ok new
-        → AppliesSingly old.tables (brought old sequence delivery) new.tables }
+        (tables : TableState) → AreChangesets (brought old sequence delivery)
+        → HaveColumns old.tables → accept old sequence delivery ≡ Ok new
+        → AppliesSingly old.tables (brought old sequence delivery) tables → new.tables ≡ tables }
 {
     applying_goes_on();
+    groups_apply();
 }
 
 /// A delivery is refused for a conflict only where its changesets, applied one after another,
 /// conflict too: those before some changeset apply, and that one doesn't.
 pub fn conflicts_are_single()
     ensures { (old : Endpoint) (sequence : List Entry) (delivery : Delivery) (conflict : Conflict)
+        → AreChangesets (brought old sequence delivery) → HaveColumns old.tables
         → accept old sequence delivery ≡ Err (refusal.Conflict conflict)
         → ConflictsSingly old.tables (brought old sequence delivery) }
 {
     applying_goes_on();
+    groups_apply();
+}
+
+/// Changesets that apply one after another without conflict leave rows with a value for each column,
+/// if the rows before have one.
+pub fn singly_keeps_columns()
+    ensures { (old : TableState) (entries : List Entry) (new : TableState) → AreChangesets entries
+        → HaveColumns old → AppliesSingly old entries new → HaveColumns new }
+{
+    rows_keep_columns();
 }

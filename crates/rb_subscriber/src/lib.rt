@@ -1,6 +1,6 @@
 //! A subscriber's endpoint of a subscription. Theorem: an `Endpoint` accepts only the next run of
-//! the sequence after its cursor, under its current link, and nothing once it is closed. Its tables
-//! are the result of the accepted changesets, applied one after another.
+//! the sequence after its cursor, under its current link, and nothing once it is closed. Where the
+//! accepted changesets apply one after another without conflict, its tables are what that gives.
 #![tactic(auto)]
 
 mod apply;
@@ -8,5 +8,6 @@ mod endpoint;
 pub mod laws;
 mod refusal;
 
+pub use apply::combined;
 pub use endpoint::Endpoint;
 pub use refusal::{AcceptError, AcceptRefusal};

@@ -25,7 +25,8 @@ pub enum AcceptRefusal {
     /// The changeset with this number is of other tables than the endpoint's.
     #[error("the changeset {number} is of other tables")]
     Shape { number: u64 },
-    /// A change conflicts with the rows. Its position counts all changes of the delivery, from 0.
+    /// A change conflicts with the rows. Its position counts the changes of the delivery's group,
+    /// from 0.
     #[error("{0}")]
     Conflict(Conflict),
 }

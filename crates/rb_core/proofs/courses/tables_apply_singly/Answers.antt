@@ -1,5 +1,9 @@
-use Rattle.rb_core.proofs.Singly.{applied_singly}
+use Rattle.rb_core.proofs.Singly.{tables_are_single}
 use Rattle.rb_core.proofs.courses.tables_apply_singly.Goals as goal
 
 pub returns : goal.returns
-returns c = λ mids new s subscriber. applied_singly c.applying_goes_on.ensures mids new s subscriber
+returns c = λ mids new s subscriber. tables_are_single (record {
+  step = c.accepting_is_step.ensures;
+  single = c.accepted_apply_singly.ensures;
+  columns = c.singly_keeps_columns.ensures;
+}) mids new s subscriber

@@ -2,8 +2,8 @@ use Rattle.std.proofs.Common.{◌∙◌, ◌∷◌, ◌++◌, [], take, sym, ap}
 use Rattle.std.proofs.lemmas.List.{take_more}
 use Rattle.cs_group.proofs.StepLaw.{flat_map_both}
 use Rattle.cs_group.specs.Adding.{sections_added}
-use Rattle.rb_core.specs.Combined.{sections_placed}
-use Rattle.rb_core.proofs.combining.group.Goals as goal
+use Rattle.rb_subscriber.specs.Accept.{joined_bodies}
+use Rattle.rb_subscriber.proofs.apply.combined.Goals as goal
 
 pub loop-entry-preserved : goal.loop-entry-preserved
 loop-entry-preserved c =
@@ -15,7 +15,7 @@ loop-entry-preserved c =
     ap sections_added c.in_ok-push.ensures.items
     ∙ flat_map_both (λ changeset. changeset.now) front (body ∷ [])
     ∙ ap (λ ss. ss ++ sections_added (body ∷ [])) c.loop-entry.invariant
-    ∙ ap (λ sections. sections_placed (take i all) ++ (sections ++ [])) c.body.ensures
+    ∙ ap (λ sections. joined_bodies (take i all) ++ (sections ++ [])) c.body.ensures
     ∙ sym (flat_map_both (λ e. e.item.body) (take i all) (entry ∷ []))
-    ∙ ap sections_placed (ap (λ e. take i all ++ e ∷ []) c.entry-item.is
+    ∙ ap joined_bodies (ap (λ e. take i all ++ e ∷ []) c.entry-item.is
     ∙ sym (take_more all i entry c.loop-entry-test.true))

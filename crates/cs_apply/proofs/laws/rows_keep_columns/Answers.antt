@@ -1,0 +1,5 @@
+use Rattle.cs_apply.proofs.Lengths.{columns_kept}
+use Rattle.cs_apply.proofs.laws.rows_keep_columns.Goals as goal
+
+pub returns : goal.returns
+returns c = columns_kept

@@ -1,5 +1,0 @@
-use Rattle.cs_group.proofs.Lengths.{columns_kept}
-use Rattle.cs_group.proofs.laws.rows_keep_columns.Goals as goal
-
-pub returns : goal.returns
-returns c = columns_kept
