@@ -1,7 +1,6 @@
 //! The bodies of entries: which the tables don't admit, their group, and applying it to tables.
 
-ghost use Rattle.std.specs.Prelude.{◌≡◌, ◌∷◌, [], Ok, OnOk, OnErr, IfOk, IfErr};
-ghost use Rattle.std.specs.Prelude.{if◌then◌else◌};
+ghost use Rattle.std.specs.Prelude.{◌≡◌, ◌∷◌, [], true, false, Ok, OnOk, OnErr, IfOk, IfErr};
 ghost use Rattle.std.specs.Option.{option_copied};
 ghost use Rattle.cs_apply.specs.Errors.{ReportsConflict};
 ghost use Rattle.cs_apply.specs.Single.{single};
@@ -34,8 +33,7 @@ pub fn combined(alloc: Global, entries: &[Entry]) -> Result<Changeset, AllocErro
 {
     let mut bodies = Vec::with_capacity(alloc, entries.len())?;
     for entry in entries {
-        let body = entry.body();
-        bodies.push(body)?;
+        bodies.push(entry.body())?;
     }
     combine_admitted(alloc, &bodies)
 }
@@ -43,23 +41,38 @@ pub fn combined(alloc: Global, entries: &[Entry]) -> Result<Changeset, AllocErro
 // Applies a body as it is. If it doesn't conflict, the tables are those that its group leaves. An
 // `Err` does not change the tables, nor does a conflict.
 fn applies_alone(alloc: Global, tables: &mut Tables, entry: &Entry) -> Result<bool, AllocError>
-    ensures ok { IfOk result (λ applied. if applied
-        then single tables.old (group_of (joined_bodies (entry.now ∷ []))) ≡ Ok tables.new
-        else tables.new ≡ tables.old) }
+    ensures applied { IfOk result (λ applied. applied ≡ true
+        → single tables.old (group_of (joined_bodies (entry.now ∷ []))) ≡ Ok tables.new) }
+    ensures conflict { IfOk result (λ applied. applied ≡ false → tables.new ≡ tables.old) }
     ensures err { OnErr result (tables.new ≡ tables.old) }
 {
     groups_apply();
     // for what their clauses say: each row has its columns, and the body is a changeset
     let (_schema, _sections) = (tables.schema(), entry.body().iter());
     match tables.apply(alloc, entry.body()) {
-        Ok(()) => Ok(true),
-        Err(ApplyError::Conflict(_)) => Ok(false),
-        Err(ApplyError::Memory) => Err(AllocError),
+        Ok(()) => return Ok(true),
+        Err(ApplyError::Conflict(_)) => return Ok(false),
+        Err(ApplyError::Memory) => return Err(AllocError),
     }
 }
 
+// Applies the group of the bodies of entries.
+fn apply_group(alloc: Global, tables: &mut Tables, entries: &[Entry]) -> Result<(), ApplyError>
+    ensures ok { OnOk result (single tables.old (group_of (joined_bodies entries.now))
+        ≡ Ok tables.new) }
+    ensures refused { IfErr result
+        (λ e. ReportsConflict e (single tables.old (group_of (joined_bodies entries.now)))) }
+    ensures err { OnErr result (tables.new ≡ tables.old) }
+{
+    let Ok(changeset) = combined(alloc, entries) else {
+        return Err(ApplyError::Memory);
+    };
+    tables.apply(alloc, &changeset)
+}
+
 /// Applies the group of the bodies of entries: all of its changes, or none. An error does not change
-/// the tables.
+/// the tables. A single body is applied as it is, and grouped only if it conflicts: its group leaves
+/// the same tables, and grouping costs more than applying.
 pub(crate) fn apply(alloc: Global, tables: &mut Tables, entries: &[Entry]) -> Result<(), ApplyError>
     ensures ok { OnOk result (single tables.old (group_of (joined_bodies entries.now))
         ≡ Ok tables.new) }
@@ -67,16 +80,12 @@ pub(crate) fn apply(alloc: Global, tables: &mut Tables, entries: &[Entry]) -> Re
         (λ e. ReportsConflict e (single tables.old (group_of (joined_bodies entries.now)))) }
     ensures err { OnErr result (tables.new ≡ tables.old) }
 {
-    if let [entry] = entries {
-        // a single body is mostly applied without a group of its own
-        match applies_alone(alloc, tables, entry) {
-            Ok(true) => return Ok(()),
-            Ok(false) => {}
-            Err(_) => return Err(ApplyError::Memory),
-        }
-    }
-    let Ok(changeset) = combined(alloc, entries) else {
-        return Err(ApplyError::Memory);
+    let [entry] = entries else {
+        return apply_group(alloc, tables, entries);
     };
-    tables.apply(alloc, &changeset)
+    match applies_alone(alloc, tables, entry) {
+        Ok(true) => return Ok(()),
+        Ok(false) => return apply_group(alloc, tables, entries),
+        Err(_) => return Err(ApplyError::Memory),
+    }
 }
