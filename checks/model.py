@@ -3,8 +3,7 @@
 
     python3 checks/model.py NAME.script [--batch N] [--window N] [--timeout N] [--capacity N] [--intake N]
 
-It prints the answers to a script. The answers of the cases `history-..` of crates/rb_cases are its answers. A delivery of
-several entries is applied as their changes joined.
+It prints the answers to a script. The answers of the cases `history-..` of crates/rb_cases are its answers.
 """
 import sys
 
@@ -230,6 +229,59 @@ def apply(schema, tables, sections):
                         now[key] = [row[i] if new[i] is None else new[i] for i in range(len(row))]
             position += 1
     return now
+
+
+# ---------------------------------------------------------------- groups
+def update(flags, indirect, old, new):
+    """the UPDATE with the columns that it changes, or None if there is none"""
+    old, new = list(old), list(new)
+    for i, key in enumerate(flags):
+        if key:
+            new[i] = None
+        elif old[i] == new[i]:
+            old[i] = new[i] = None
+    return (UPD, indirect, old, new) if any(f is not None for f in new) else None
+
+
+def either(fields, others):
+    return [other if field is None else field for field, other in zip(fields, others)]
+
+
+def merged(flags, there, change):
+    """what two changes of a row come to, or None"""
+    op, indirect, old, new = there
+    op2, indirect2, old2, new2 = change
+    both = indirect & indirect2
+    if (op, op2) == (INS, UPD):
+        return (INS, both, None, either(new2, new))
+    if (op, op2) == (INS, DEL):
+        return None
+    if (op, op2) == (UPD, UPD):
+        return update(flags, both, either(old, old2), either(new2, new))
+    if (op, op2) == (UPD, DEL):
+        return (DEL, both, either(old, old2), None)
+    if (op, op2) == (DEL, INS):
+        return update(flags, both, old, new2)
+    return there
+
+
+def group(sections):
+    """each row's changes as one; a row that came from none again stands last"""
+    tables = {}
+    for name, flags, changes in sections:
+        rows = tables.setdefault((name, flags), {})
+        for change in changes:
+            op, indirect, old, new = change
+            key = b''.join(f for f, k in zip(new if op == INS else old, flags) if k)
+            if key not in rows:
+                now = update(flags, indirect, old, new) if op == UPD else change
+            else:
+                now = merged(flags, rows[key], change)
+            if now is not None:
+                rows[key] = now
+            else:
+                rows.pop(key, None)
+    return [(name, flags, list(rows.values())) for (name, flags), rows in tables.items()]
 
 
 # ---------------------------------------------------------------- the desk
@@ -467,7 +519,7 @@ class World:
         for n in range(first, last + 1):
             joined += self.sequence[n - 1][2]
         try:
-            sub.tables = apply(self.schema, sub.tables, joined)
+            sub.tables = apply(self.schema, sub.tables, group(joined))
         except Conflict as c:
             raise Refused('Conflict', c.position, c.kind)
         sub.cursor = last
@@ -534,6 +586,14 @@ class World:
         p, own, body = self.sequence[n - 1]
         return ['entry %d %d %d s %s' % (n, p, own, canonical(body).hex() or '-')]
 
+    def do_combine(self, a, b):
+        if not 1 <= a <= b <= self.front():
+            raise Refused('NotPlaced')
+        joined = []
+        for n in range(a, b + 1):
+            joined += self.sequence[n - 1][2]
+        return ['text %s' % (canonical(group(joined)).hex() or '-')]
+
     def do_rows(self, s):
         sub = self.sub_of(s)
         out = ['rows %d' % len(sub.tables)]
@@ -547,7 +607,8 @@ class World:
     # -- script
     FORMS = {'table': 'h', 'publisher': '', 'feed': 'nh', 'end': 'n', 'reset': 'n', 'send': 'n', 'turn': '',
              'subscribe': 'n', 'take': 'nn', 'takeany': 'n', 'accept': 'n', 'ack': 'n', 'nack': 'n', 'expire': 'n',
-             'reconnect': 'nn', 'unsubscribe': 'n', 'close': '', 'entry': 'n', 'rows': 'n', 'left': ''}
+             'reconnect': 'nn', 'unsubscribe': 'n', 'close': '', 'entry': 'n', 'combine': 'nn', 'rows': 'n',
+             'left': ''}
 
     def line(self, raw):
         """the answer lines of one line (bytes, without its line end)"""

@@ -108,7 +108,7 @@ effect_keeps schema Delete rows key flags before after (Some row) new have is ow
 
 -- ---- the compatible table
 
-kept_at : (kept : List Bool) (o : Option ℕ) (table : ℕ) → only_kept kept o ≡ Some table → o ≡ Some table
+pub kept_at : (kept : List Bool) (o : Option ℕ) (table : ℕ) → only_kept kept o ≡ Some table → o ≡ Some table
 kept_at kept None table e = absurd cc
 kept_at kept (Some i) table e = go (is_kept kept i) e
   where
@@ -116,9 +116,9 @@ kept_at kept (Some i) table e = go (is_kept kept i) e
     go true e = e
     go false e = absurd cc
 
-flags_at : (schema : List Shape) (kept : List Bool) (table : ℕ) (shape : Shape)
+flags_of_compatible : (schema : List Shape) (kept : List Bool) (table : ℕ) (shape : Shape)
     → compatible schema kept shape ≡ Some table → table_flags schema table ≡ shape.flags
-flags_at schema kept table shape e =
+flags_of_compatible schema kept table shape e =
     let found : table_index schema shape ≡ Some table = kept_at kept (table_index schema shape) table e in
     let there = get_or schema table (record { name = []; flags = [] }) in
     let is = position-Some (λ t. same_shape t shape) schema table (record { name = []; flags = [] }) found in
@@ -127,32 +127,32 @@ flags_at schema kept table shape e =
 
 -- ---- all changes
 
-abbrev IsNamed : OneByOneNamed → Type 0
-IsNamed x = IsChange x.0 x.1
+abbrev FitsItsShape : OneByOneNamed → Type 0
+FitsItsShape x = IsChange x.0 x.1
 
 named_valid : (shape : Shape) (changes : List Change) → AllByRecursion (IsChange shape) changes
-    → AllByRecursion IsNamed (list_map (λ change. (shape, change)) changes)
+    → AllByRecursion FitsItsShape (list_map (λ change. (shape, change)) changes)
 named_valid shape [] all = tt
 named_valid shape (change ∷ changes) all = (all.0, named_valid shape changes all.1)
 
-all_valid : (sections : List Section) → IsChangeset sections → AllByRecursion IsNamed (changes_of sections)
+all_valid : (sections : List Section) → IsChangeset sections → AllByRecursion FitsItsShape (changes_of sections)
 all_valid [] valid = tt
 all_valid (section ∷ sections) valid =
-    all_append IsNamed (list_map (λ change. (section.shape, change)) section.changes) (changes_of sections)
+    all_append FitsItsShape (list_map (λ change. (section.shape, change)) section.changes) (changes_of sections)
     (named_valid section.shape section.changes valid.0.1) (all_valid sections valid.1)
 
 one_keeps : (schema : List Shape) (kept : List Bool) (o : Option ℕ) (x : OneByOneNamed) (rows new : Rows)
-    → compatible schema kept x.0 ≡ o → IsNamed x → RowsHaveColumns schema rows → effect_at o rows x.0 x.1 ≡ Ok new
+    → compatible schema kept x.0 ≡ o → FitsItsShape x → RowsHaveColumns schema rows → effect_at o rows x.0 x.1 ≡ Ok new
     → RowsHaveColumns schema new
 one_keeps schema kept None x rows new is valid have e =
     let same : rows ≡ new = cc e in subst (RowsHaveColumns schema) same have
 one_keeps schema kept (Some table) x rows new is valid have e =
     let key = key_of table x.0.flags x.1 in
     effect_keeps schema x.1.op rows key x.0.flags x.1.before x.1.after (map.get rows key) new have refl
-    (flags_at schema kept table x.0 is) valid e
+    (flags_of_compatible schema kept table x.0 is) valid e
 
 all_keep : (schema : List Shape) (kept : List Bool) (xs : List OneByOneNamed) (at : ℕ) (rows new : Rows)
-    → AllByRecursion IsNamed xs → RowsHaveColumns schema rows → single_from schema kept xs at rows ≡ Ok new
+    → AllByRecursion FitsItsShape xs → RowsHaveColumns schema rows → single_from schema kept xs at rows ≡ Ok new
     → RowsHaveColumns schema new
 all_keep schema kept [] at rows new valid have e =
     let same : rows ≡ new = cc (sym (one_by_one_none_left schema kept at rows) ∙ e) in
@@ -188,10 +188,10 @@ apply_keeps schema given kept sections (Ok done) old new last is valid have ok a
     let after = all_keep given kept (changes_of sections) 0 old new (all_valid sections valid) first ok in
     subst (λ (s : List Shape). RowsHaveColumns s last) is (subst (RowsHaveColumns given) (sym same) after)
 
-pub taken_back : (old new : Places) (places : ℕ) (last : Entries) → Back old new → old.log.items ≡ []
+pub all_taken_back : (old new : Places) (places : ℕ) (last : Entries) → Back old new → old.log.items ≡ []
     → places ≡ length old.rows.entries → last ≡ take places (undone new.log.items new.rows.entries)
     → last ≡ old.rows.entries
-taken_back old new places last back empty counted is =
+all_taken_back old new places last back empty counted is =
     let n = length old.rows.entries in
     is ∙ ap (λ m. take m (undone new.log.items new.rows.entries)) counted
     ∙ back.back n (omega arith)

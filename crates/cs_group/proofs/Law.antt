@@ -17,8 +17,9 @@ use Rattle.cs_model.specs.Schema.{same_shape, table_index}
 use Rattle.cs_model.specs.Section.{Section}
 use Rattle.cs_apply.specs.declared.conflict.Conflict.{Conflict}
 use Rattle.cs_apply.specs.Single.{changes_of, single, single_from, with_rows}
-use Rattle.cs_apply.specs.State.{Rows, TableState, compatible, is_kept, only_kept}
+use Rattle.cs_apply.specs.State.{Rows, TableState, compatible}
 use Rattle.cs_apply.proofs.Keys.{exact_keys, keys_total}
+use Rattle.cs_apply.proofs.Lengths.{kept_at}
 use Rattle.cs_apply.proofs.OneByOne.{rows_found}
 use Rattle.cs_apply.specs.Columns.{HaveColumns, table_flags}
 use Rattle.cs_group.specs.Group.{group_of}
@@ -34,14 +35,6 @@ use Rattle.cs_group.proofs.Tables.{IsOne, all_with, has_such_shape, group_by_tab
 -- ---- the table of a key
 
 -- the table at an index has the shape that is compatible with it
-kept_at : (kept : List Bool) (o : Option ℕ) (table : ℕ) → only_kept kept o ≡ Some table → o ≡ Some table
-kept_at kept None table e = absurd cc
-kept_at kept (Some i) table e = go (is_kept kept i) e
-  where
-    go : (b : Bool) → cond b (Some i) None ≡ Some table → Some i ≡ Some table
-    go true e = e
-    go false e = absurd cc
-
 at_index : (schema : List Shape) (kept : List Bool) (table : ℕ) (shape : Shape) → of_table schema kept table shape
     ≡ true
     → get_or schema table (record { name = []; flags = [] }) ≡ shape

@@ -1,5 +1,6 @@
 -- What is staged, sent and placed are changesets.
-use Rattle.std.proofs.Common.{◌≡◌, ◌∙◌, ℕ, zero, suc, inl, inr, List, [], ◌∷◌, ◌++◌, Option, Some, None, take, drop, sym, ap, subst}
+use Rattle.std.proofs.Common.{◌≡◌, ◌∙◌, ℕ, zero, suc, inl, inr, List, [], ◌∷◌, ◌++◌, Option, Some, None}
+use Rattle.std.proofs.Common.{take, drop, sym, ap, subst}
 use Rattle.std.specs.Prelude.{IfSome, slice_get}
 use Rattle.std.specs.List.{AllByRecursion}
 use Rattle.cs_model.proofs.CallerLemmas.{all_push}
@@ -34,8 +35,8 @@ some_first entries zero valid = tt
 some_first [] (suc n) valid = tt
 some_first (entry ∷ entries) (suc n) valid = (valid.0, some_first entries n valid.1)
 
-pub part_valid : (entries : List Entry) (after n : ℕ) → AreChangesets entries → AreChangesets (part entries after n)
-part_valid entries after n valid = some_first (drop after entries) n (after_some entries after valid)
+pub part_of_changesets : (entries : List Entry) (after n : ℕ) → AreChangesets entries → AreChangesets (part entries after n)
+part_of_changesets entries after n valid = some_first (drop after entries) n (after_some entries after valid)
 
 same_parts : (old new : World) → HasChangesets old → new.senders ≡ old.senders → new.intake ≡ old.intake
     → new.hand ≡ old.hand → new.sequence ≡ old.sequence → HasChangesets new
@@ -48,17 +49,17 @@ same_parts old new has senders intake hand sequence = record {
 
 pub changesets_kept : MovingKeeps HasChangesets
 changesets_kept = record {
-  comes = λ old new move has. subst HasChangesets (sym move) (record {
+  adds_publisher = λ old new move has. subst HasChangesets (sym move) (record {
     staged = all_push HasStaged old.senders (record { text = []; staged = None; sent = [] }) has.staged tt;
     intake = has.intake;
     hand = has.hand;
     sequence = has.sequence;
   });
-  stages = λ old new move has. subst HasChangesets (sym move.kept) (record {
+  streams = λ old new move has. subst HasChangesets (sym move.kept) (record {
     staged = all_set HasStaged old.senders move.p move.after has.staged (elim move.valid [
-          | inl same ↦ subst IsStaged (sym same) (all_get HasStaged old.senders move.p move.before has.staged move.found)
-          | inr valid ↦ valid
-        ]);
+      | inl same ↦ subst IsStaged (sym same) (all_get HasStaged old.senders move.p move.before has.staged move.found)
+      | inr valid ↦ valid
+    ]);
     intake = has.intake;
     hand = has.hand;
     sequence = has.sequence;
@@ -85,16 +86,40 @@ changesets_kept = record {
         hand = tt;
         sequence = all_push (λ entry. IsChangeset entry.item.body) old.sequence _ has.sequence item;
       });
-  ends = λ old new move has. subst HasChangesets (sym move.kept) (record {
-    staged = has.staged; intake = has.intake; hand = has.hand; sequence = has.sequence });
-  begins = λ old new move has. subst HasChangesets (sym move.kept) (record {
-    staged = has.staged; intake = has.intake; hand = has.hand; sequence = has.sequence });
-  offers = λ old new move has. subst HasChangesets (sym move.kept) (record {
-    staged = has.staged; intake = has.intake; hand = has.hand; sequence = has.sequence });
-  takes = λ old new move has. subst HasChangesets (sym move.kept) (record {
-    staged = has.staged; intake = has.intake; hand = has.hand; sequence = has.sequence });
+  closes = λ old new move has. subst HasChangesets (sym move.kept) (record {
+    staged = has.staged;
+    intake = has.intake;
+    hand = has.hand;
+    sequence = has.sequence;
+  });
+  subscribes = λ old new move has. subst HasChangesets (sym move.kept) (record {
+    staged = has.staged;
+    intake = has.intake;
+    hand = has.hand;
+    sequence = has.sequence;
+  });
+  delivers = λ old new move has. subst HasChangesets (sym move.kept) (record {
+    staged = has.staged;
+    intake = has.intake;
+    hand = has.hand;
+    sequence = has.sequence;
+  });
+  accepts = λ old new move has. subst HasChangesets (sym move.kept) (record {
+    staged = has.staged;
+    intake = has.intake;
+    hand = has.hand;
+    sequence = has.sequence;
+  });
   reconnects = λ old new move has. subst HasChangesets (sym move.kept) (record {
-    staged = has.staged; intake = has.intake; hand = has.hand; sequence = has.sequence });
-  leaves = λ old new move has. subst HasChangesets (sym move.kept) (record {
-    staged = has.staged; intake = has.intake; hand = has.hand; sequence = has.sequence });
+    staged = has.staged;
+    intake = has.intake;
+    hand = has.hand;
+    sequence = has.sequence;
+  });
+  unsubscribes = λ old new move has. subst HasChangesets (sym move.kept) (record {
+    staged = has.staged;
+    intake = has.intake;
+    hand = has.hand;
+    sequence = has.sequence;
+  });
 }

@@ -118,15 +118,15 @@ feed_by_text feeding goes tells old p bytes publisher text given new found took 
 
 -- ---- a stream ends
 
-abbrev IsStaged : State → ℕ → Publisher → List Section → Reply → State → Type 0
-IsStaged old p publisher changeset given new = (given ≡ reply.Staged)
+abbrev IsStagedText : State → ℕ → Publisher → List Section → Reply → State → Type 0
+IsStagedText old p publisher changeset given new = (given ≡ reply.Staged)
     × (new ≡ with_publisher old p (record publisher { stream = nothing; staged = Some changeset }))
 
 abbrev ByTextStays : State → Reply → Reply → State → Type 0
 ByTextStays old answer given new = (given ≡ answer) × (new ≡ old)
 
 staged_if : (old : State) (p : ℕ) (publisher : Publisher) (changeset : List Section) (first : Option SectionFault)
-    → first ≡ None → Of (IsStaged old p publisher changeset)
+    → first ≡ None → Of (IsStagedText old p publisher changeset)
     (out.staged_by old p publisher (end.admitted changeset first))
 staged_if old p publisher changeset None is = (refl, refl)
 staged_if old p publisher changeset (Some fault) is = absurd (let none : Some fault ≡ None = is in cc)
@@ -153,7 +153,7 @@ answered_by_text reading refusing tells old p publisher text (Ok changeset) is t
     record {
       stages = λ other spells none.
           let same = one other spells in
-          subst (λ (x : List Section). Of (IsStaged old p publisher x)
+          subst (λ (x : List Section). Of (IsStagedText old p publisher x)
           (out.staged_by old p publisher (end.admitted changeset first))) same
           (staged_if old p publisher changeset first (ap (refusal_of old.schema) same ∙ none));
       refuses = λ other fault spells some. refused_if old p publisher changeset first fault

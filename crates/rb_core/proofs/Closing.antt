@@ -21,24 +21,25 @@ not_open last o some none = absurd (cc (sym some ∙ none))
 
 closed_kept : (last : ℕ) (sequence : List Entry) → MovingKeeps (IsClosed last sequence)
 closed_kept last sequence = record {
-  comes = λ old new move h. subst (IsClosed last sequence) (sym move) (record { closed = h.closed; same = h.same });
-  stages = λ old new move h. subst (IsClosed last sequence) (sym move.kept)
+  adds_publisher = λ old new move h. subst (IsClosed last sequence) (sym move)
+      (record { closed = h.closed; same = h.same });
+  streams = λ old new move h. subst (IsClosed last sequence) (sym move.kept)
       (record { closed = h.closed; same = h.same });
   sends = λ old new move h. subst (IsClosed last sequence) (sym move.kept)
       (record { closed = h.closed; same = h.same });
   pulls = λ old new move h. subst (IsClosed last sequence) (sym move.kept)
       (record { closed = h.closed; same = h.same });
   places = λ old new move h. absurd (not_open last old.closing h.closed move.not_closed);
-  ends = λ old new move h. absurd (not_open last old.closing h.closed move.not_closed);
-  begins = λ old new move h. subst (IsClosed last sequence) (sym move.kept)
+  closes = λ old new move h. absurd (not_open last old.closing h.closed move.not_closed);
+  subscribes = λ old new move h. subst (IsClosed last sequence) (sym move.kept)
       (record { closed = h.closed; same = h.same });
-  offers = λ old new move h. subst (IsClosed last sequence) (sym move.kept)
+  delivers = λ old new move h. subst (IsClosed last sequence) (sym move.kept)
       (record { closed = h.closed; same = h.same });
-  takes = λ old new move h. subst (IsClosed last sequence) (sym move.kept)
+  accepts = λ old new move h. subst (IsClosed last sequence) (sym move.kept)
       (record { closed = h.closed; same = h.same });
   reconnects = λ old new move h. subst (IsClosed last sequence) (sym move.kept)
       (record { closed = h.closed; same = h.same });
-  leaves = λ old new move h. subst (IsClosed last sequence) (sym move.kept)
+  unsubscribes = λ old new move h. subst (IsClosed last sequence) (sym move.kept)
       (record { closed = h.closed; same = h.same });
 }
 
@@ -80,20 +81,20 @@ becomes s accepted rows subs at q r found stays x here left =
 
 left_kept : (s : ℕ) (accepted : List Entry) (rows : tables.TableState) → MovingKeeps (Left s accepted rows)
 left_kept s accepted rows = record {
-  comes = λ old new move h. subst (Left s accepted rows) (sym move) (h.0, h.1, h.2);
-  stages = λ old new move h. subst (Left s accepted rows) (sym move.kept) (h.0, h.1, h.2);
+  adds_publisher = λ old new move h. subst (Left s accepted rows) (sym move) (h.0, h.1, h.2);
+  streams = λ old new move h. subst (Left s accepted rows) (sym move.kept) (h.0, h.1, h.2);
   sends = λ old new move h. subst (Left s accepted rows) (sym move.kept) (h.0, h.1, h.2);
   pulls = λ old new move h. subst (Left s accepted rows) (sym move.kept) (h.0, h.1, h.2);
   places = λ old new move h. subst (Left s accepted rows) (sym move.kept) (h.0, h.1, h.2);
-  ends = λ old new move h. subst (Left s accepted rows) (sym move.kept) (h.0, h.1, h.2);
-  begins = λ old new move h. subst (Left s accepted rows) (sym move.kept)
+  closes = λ old new move h. subst (Left s accepted rows) (sym move.kept) (h.0, h.1, h.2);
+  subscribes = λ old new move h. subst (Left s accepted rows) (sym move.kept)
       (h.0, get_push old.subscribers _ h.0 s h.1, h.2);
-  offers = λ old new move h.
+  delivers = λ old new move h.
       subst (Left s accepted rows) (sym move.kept)
       (becomes s accepted rows old.subscribers move.s move.subscriber _ move.found
       (λ left. record { closed = left.closed; accepted_same = left.accepted_same; tables_same = left.tables_same })
       h.0 h.1 h.2);
-  takes = λ old new move h.
+  accepts = λ old new move h.
       subst (Left s accepted rows) (sym move.kept)
       (becomes s accepted rows old.subscribers move.s move.subscriber _ move.found
       (λ left. absurd (cc (sym left.closed ∙ move.accepts.not_closed))) h.0 h.1 h.2);
@@ -102,7 +103,7 @@ left_kept s accepted rows = record {
       (becomes s accepted rows old.subscribers move.s move.subscriber _ move.found
       (λ left. record { closed = left.closed; accepted_same = left.accepted_same; tables_same = left.tables_same })
       h.0 h.1 h.2);
-  leaves = λ old new move h.
+  unsubscribes = λ old new move h.
       subst (Left s accepted rows) (sym move.kept)
       (becomes s accepted rows old.subscribers move.s move.subscriber _ move.found
       (λ left. record { closed = refl; accepted_same = left.accepted_same; tables_same = left.tables_same }) h.0 h.1

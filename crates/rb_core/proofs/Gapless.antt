@@ -21,7 +21,7 @@ GaplessIsPlaced sequence delivery = delivery.last ≤ length sequence
 record IsRun (sequence : List Entry) (q : Subscriber) : Type 0 where
   run : q.accepted ≡ part sequence q.start (length q.accepted)
   placed : cursor q ≤ length sequence
-  offers : AllByRecursion (GaplessIsPlaced sequence) q.offers
+  deliveries : AllByRecursion (GaplessIsPlaced sequence) q.deliveries
 
 abbrev AreRuns : World → Type 0
 AreRuns world = AllByRecursion (IsRun world.sequence) world.subscribers
@@ -36,8 +36,8 @@ still_run : (sequence : List Entry) (entry : Entry) (q : Subscriber) → IsRun s
 still_run sequence entry q h = record {
   run = h.run ∙ sym (part_stays sequence (entry ∷ []) q.start (length q.accepted) h.placed);
   placed = omega (arith, gapless_longer sequence entry, h.placed);
-  offers = all_map (GaplessIsPlaced sequence) (GaplessIsPlaced (sequence ++ entry ∷ [])) q.offers
-      (λ d placed. omega (arith, gapless_longer sequence entry, placed)) h.offers;
+  deliveries = all_map (GaplessIsPlaced sequence) (GaplessIsPlaced (sequence ++ entry ∷ [])) q.deliveries
+      (λ d placed. omega (arith, gapless_longer sequence entry, placed)) h.deliveries;
 }
 
 -- ---- what is accepted goes on
@@ -63,9 +63,10 @@ gapless_goes_on sequence start last accepted run order placed =
     ∙ ap (part sequence start) (sym all)
 
 accepts_run : (sequence : List Entry) (q : Subscriber) (delivery : Delivery) (new : Subscriber) → IsRun sequence q
-    → suc (cursor q) ≤ delivery.last → delivery.last ≤ length sequence → new.start ≡ q.start → new.offers ≡ q.offers
+    → suc (cursor q) ≤ delivery.last → delivery.last ≤ length sequence → new.start ≡ q.start
+    → new.deliveries ≡ q.deliveries
     → new.accepted ≡ q.accepted ++ part sequence (cursor q) (delivery.last - cursor q) → IsRun sequence new
-accepts_run sequence q delivery new h some placed start offers accepted =
+accepts_run sequence q delivery new h some placed start deliveries accepted =
     let more = part sequence (cursor q) (delivery.last - cursor q) in
     let run = gapless_goes_on sequence q.start delivery.last q.accepted h.run (omega (arith, some)) placed in
     let long : length (q.accepted ++ more) ≡ length q.accepted + (delivery.last - cursor q) =
@@ -79,7 +80,7 @@ accepts_run sequence q delivery new h some placed start offers accepted =
       run = accepted ∙ run ∙ ap (λ n. part sequence n (length (q.accepted ++ more))) (sym start)
           ∙ ap (λ xs. part sequence new.start (length xs)) (sym accepted);
       placed = omega (arith, some, placed, start, long, ap length accepted);
-      offers = subst (AllByRecursion (GaplessIsPlaced sequence)) (sym offers) h.offers;
+      deliveries = subst (AllByRecursion (GaplessIsPlaced sequence)) (sym deliveries) h.deliveries;
     }
 
 -- ---- moves
@@ -93,8 +94,8 @@ gapless_becomes old new s q r runs found same kept =
 
 runs_kept : MovingKeeps AreRuns
 runs_kept = record {
-  comes = λ old new move runs. subst AreRuns (sym move) runs;
-  stages = λ old new move runs. subst AreRuns (sym move.kept) runs;
+  adds_publisher = λ old new move runs. subst AreRuns (sym move) runs;
+  streams = λ old new move runs. subst AreRuns (sym move.kept) runs;
   sends = λ old new move runs. subst AreRuns (sym move.kept) runs;
   pulls = λ old new move runs. subst AreRuns (sym move.kept) runs;
   places = λ old new move runs.
@@ -102,8 +103,8 @@ runs_kept = record {
       subst AreRuns (sym move.kept)
       (all_map (IsRun old.sequence) (IsRun (old.sequence ++ entry ∷ [])) old.subscribers
       (still_run old.sequence entry) runs);
-  ends = λ old new move runs. subst AreRuns (sym move.kept) runs;
-  begins = λ old new move runs.
+  closes = λ old new move runs. subst AreRuns (sym move.kept) runs;
+  subscribes = λ old new move runs.
       let q : Subscriber = record {
         start = move.start;
         base = move.base;
@@ -111,21 +112,21 @@ runs_kept = record {
         tables = move.base;
         link = move.link;
         closed = false;
-        offers = [];
+        deliveries = [];
       } in
       subst AreRuns (sym move.kept)
       (all_push (IsRun old.sequence) old.subscribers q runs
-      (record { run = refl; placed = omega (arith, move.placed); offers = tt }));
-  offers = λ old new move runs.
+      (record { run = refl; placed = omega (arith, move.placed); deliveries = tt }));
+  delivers = λ old new move runs.
       gapless_becomes old new move.s move.subscriber
-      (record move.subscriber { offers = move.subscriber.offers ++ move.delivery ∷ [] }) runs move.found
+      (record move.subscriber { deliveries = move.subscriber.deliveries ++ move.delivery ∷ [] }) runs move.found
       (λ h. record {
         run = h.run;
         placed = h.placed;
-        offers = all_push (GaplessIsPlaced old.sequence)
-            move.subscriber.offers move.delivery h.offers move.placed;
+        deliveries = all_push (GaplessIsPlaced old.sequence)
+            move.subscriber.deliveries move.delivery h.deliveries move.placed;
       }) move.kept;
-  takes = λ old new move runs.
+  accepts = λ old new move runs.
       let q = move.subscriber in
       gapless_becomes old new move.s q
       (record q {
@@ -137,7 +138,7 @@ runs_kept = record {
         accepted = q.accepted ++ part old.sequence (cursor q) (move.delivery.last - cursor q);
         tables = move.end.tables;
       }) h move.accepts.some
-      (all_in (GaplessIsPlaced old.sequence) q.offers move.delivery h.offers move.offered) refl refl refl)
+      (all_in (GaplessIsPlaced old.sequence) q.deliveries move.delivery h.deliveries move.offered) refl refl refl)
       move.kept;
   reconnects = λ old new move runs.
       let q = move.subscriber in
@@ -145,10 +146,10 @@ runs_kept = record {
       subst AreRuns (sym move.kept)
       (all_set (IsRun old.sequence) old.subscribers move.s r runs
       (let h = all_get (IsRun old.sequence) old.subscribers move.s q runs move.found in
-      record { run = h.run; placed = h.placed; offers = h.offers }));
-  leaves = λ old new move runs.
+      record { run = h.run; placed = h.placed; deliveries = h.deliveries }));
+  unsubscribes = λ old new move runs.
       gapless_becomes old new move.s move.subscriber (record move.subscriber { closed = true }) runs move.found
-      (λ h. record { run = h.run; placed = h.placed; offers = h.offers }) move.kept;
+      (λ h. record { run = h.run; placed = h.placed; deliveries = h.deliveries }) move.kept;
 }
 
 pub gapless : (mids : List World) (new : World) (s : ℕ) (q : Subscriber) → Leads world_begun mids new

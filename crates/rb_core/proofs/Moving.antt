@@ -45,25 +45,25 @@ get_push (z ∷ xs) y x (suc i) e = get_push xs y x i e
 
 -- what each kind of move keeps
 pub record MovingKeeps (P : World → Type 0) : Type 0 where
-  pub comes : (old new : World) → AddsPublisher old new → P old → P new
-  pub stages : (old new : World) → Streams old new → P old → P new
+  pub adds_publisher : (old new : World) → AddsPublisher old new → P old → P new
+  pub streams : (old new : World) → Streams old new → P old → P new
   pub sends : (old new : World) → Sends old new → P old → P new
   pub pulls : (old new : World) → Pulls old new → P old → P new
   pub places : (old new : World) → Places old new → P old → P new
-  pub ends : (old new : World) → Closes old new → P old → P new
-  pub begins : (old new : World) → Subscribes old new → P old → P new
-  pub offers : (old new : World) → Delivers old new → P old → P new
-  pub takes : (old new : World) → Accepts old new → P old → P new
+  pub closes : (old new : World) → Closes old new → P old → P new
+  pub subscribes : (old new : World) → Subscribes old new → P old → P new
+  pub delivers : (old new : World) → Delivers old new → P old → P new
+  pub accepts : (old new : World) → Accepts old new → P old → P new
   pub reconnects : (old new : World) → Reconnects old new → P old → P new
-  pub leaves : (old new : World) → Unsubscribes old new → P old → P new
+  pub unsubscribes : (old new : World) → Unsubscribes old new → P old → P new
 
 kept_by : (P : World → Type 0) → MovingKeeps P → (old new : World) → Moves old new → P old → P new
 kept_by P keeps old new move h = elim move as (λ w. P new) [
   | inl same ↦ subst P (sym same) h
   | inr m ↦ elim m as (λ w. P new) [
-    | inl x ↦ keeps.comes old new x h
+    | inl x ↦ keeps.adds_publisher old new x h
     | inr m ↦ elim m as (λ w. P new) [
-      | inl x ↦ keeps.stages old new x h
+      | inl x ↦ keeps.streams old new x h
       | inr m ↦ elim m as (λ w. P new) [
         | inl x ↦ keeps.sends old new x h
         | inr m ↦ elim m as (λ w. P new) [
@@ -71,16 +71,16 @@ kept_by P keeps old new move h = elim move as (λ w. P new) [
           | inr m ↦ elim m as (λ w. P new) [
             | inl x ↦ keeps.places old new x h
             | inr m ↦ elim m as (λ w. P new) [
-              | inl x ↦ keeps.ends old new x h
+              | inl x ↦ keeps.closes old new x h
               | inr m ↦ elim m as (λ w. P new) [
-                | inl x ↦ keeps.begins old new x h
+                | inl x ↦ keeps.subscribes old new x h
                 | inr m ↦ elim m as (λ w. P new) [
-                  | inl x ↦ keeps.offers old new x h
+                  | inl x ↦ keeps.delivers old new x h
                   | inr m ↦ elim m as (λ w. P new) [
-                    | inl x ↦ keeps.takes old new x h
+                    | inl x ↦ keeps.accepts old new x h
                     | inr m ↦ elim m as (λ w. P new) [
                       | inl x ↦ keeps.reconnects old new x h
-                      | inr x ↦ keeps.leaves old new x h
+                      | inr x ↦ keeps.unsubscribes old new x h
                     ]
                   ]
                 ]

@@ -135,9 +135,9 @@ flow_placed old item entry holds is =
 
 sent_kept : (p : ℕ) → MovingKeeps (SendingsSent p)
 sent_kept p = record {
-  comes = λ old new move h. subst (SendingsSent p) (sym move)
+  adds_publisher = λ old new move h. subst (SendingsSent p) (sym move)
       (push_holds old.senders p (record { text = []; staged = None; sent = [] }) (own_of p (flow old)) refl h);
-  stages = λ old new move h. subst (SendingsSent p) (sym move.kept)
+  streams = λ old new move h. subst (SendingsSent p) (sym move.kept)
       (same_holds old.senders p move.p move.before move.after (own_of p (flow old)) move.found move.sent h);
   sends = λ old new move h.
       let after : Sender = record move.sender { staged = None; sent = move.sender.sent ++ move.item ∷ [] } in
@@ -154,12 +154,12 @@ sent_kept p = record {
       subst (SendingsSent p) (sym move.kept)
       (subst (λ xs. SendingsHolds (slice_get old.senders p) (own_of p xs))
       (flow_placed old move.item entry move.held refl) h);
-  ends = λ old new move h. subst (SendingsSent p) (sym move.kept) h;
-  begins = λ old new move h. subst (SendingsSent p) (sym move.kept) h;
-  offers = λ old new move h. subst (SendingsSent p) (sym move.kept) h;
-  takes = λ old new move h. subst (SendingsSent p) (sym move.kept) h;
+  closes = λ old new move h. subst (SendingsSent p) (sym move.kept) h;
+  subscribes = λ old new move h. subst (SendingsSent p) (sym move.kept) h;
+  delivers = λ old new move h. subst (SendingsSent p) (sym move.kept) h;
+  accepts = λ old new move h. subst (SendingsSent p) (sym move.kept) h;
   reconnects = λ old new move h. subst (SendingsSent p) (sym move.kept) h;
-  leaves = λ old new move h. subst (SendingsSent p) (sym move.kept) h;
+  unsubscribes = λ old new move h. subst (SendingsSent p) (sym move.kept) h;
 }
 
 -- ---- in order

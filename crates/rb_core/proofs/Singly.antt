@@ -12,7 +12,7 @@ use Rattle.rb_subscriber.specs.Accept.{accept, brought, AcceptsDelivery, Applies
 use Rattle.rb_subscriber.specs.Endpoint.{Endpoint}
 use Rattle.rb_core.specs.World.{Subscriber, World, world_begun, cursor, endpoint_of}
 use Rattle.rb_core.specs.Moves.{with_subscriber, Accepts, HasSingleTables, Leads}
-use Rattle.rb_core.proofs.Bodies.{HasChangesets, changesets_kept, part_valid}
+use Rattle.rb_core.proofs.Bodies.{HasChangesets, changesets_kept, part_of_changesets}
 use Rattle.rb_core.proofs.Moving.{all_set, all_get, MovingKeeps, kept_through}
 
 -- ---- the laws of endpoints
@@ -55,15 +55,15 @@ record AreSingle (world : World) : Type 0 where
   bodies : HasChangesets world
   all : AllByRecursion IsSingle world.subscribers
 
-abbrev with_more : Subscriber → List Entry → tables.TableState → Subscriber
-with_more q entries tables = record q { accepted = q.accepted ++ entries; tables = tables }
+abbrev with_brought : Subscriber → List Entry → tables.TableState → Subscriber
+with_brought q entries tables = record q { accepted = q.accepted ++ entries; tables = tables }
 
 single_more : SinglyLaws → (q : Subscriber) (sequence : List Entry) (delivery : Delivery) (end : Endpoint)
     → AreChangesets sequence → AcceptsDelivery (endpoint_of q) sequence delivery end → IsSingle q
-    → IsSingle (with_more q (brought (endpoint_of q) sequence delivery) end.tables)
+    → IsSingle (with_brought q (brought (endpoint_of q) sequence delivery) end.tables)
 single_more laws q sequence delivery end valid accepts is =
     let entries = brought (endpoint_of q) sequence delivery in
-    let brings = part_valid sequence (cursor q) (delivery.last - cursor q) valid in record {
+    let brings = part_of_changesets sequence (cursor q) (delivery.last - cursor q) valid in record {
       valid = all_append (λ entry. IsChangeset entry.item.body) q.accepted entries is.valid brings;
       tables = λ have tables applied.
           let parts = applies_parts q.base q.accepted entries tables applied in
@@ -92,35 +92,37 @@ single_becomes old new s q r h bodies found same kept = record {
 
 single_kept : SinglyLaws → MovingKeeps AreSingle
 single_kept laws = record {
-  comes = λ old new move h. same_subscribers old new (ap (λ (w : World). w.subscribers) move)
-      (changesets_kept.comes old new move h.bodies) h;
-  stages = λ old new move h. same_subscribers old new (ap (λ (w : World). w.subscribers) move.kept)
-      (changesets_kept.stages old new move h.bodies) h;
+  adds_publisher = λ old new move h. same_subscribers old new (ap (λ (w : World). w.subscribers) move)
+      (changesets_kept.adds_publisher old new move h.bodies) h;
+  streams = λ old new move h. same_subscribers old new (ap (λ (w : World). w.subscribers) move.kept)
+      (changesets_kept.streams old new move h.bodies) h;
   sends = λ old new move h. same_subscribers old new (ap (λ (w : World). w.subscribers) move.kept)
       (changesets_kept.sends old new move h.bodies) h;
   pulls = λ old new move h. same_subscribers old new (ap (λ (w : World). w.subscribers) move.kept)
       (changesets_kept.pulls old new move h.bodies) h;
   places = λ old new move h. same_subscribers old new (ap (λ (w : World). w.subscribers) move.kept)
       (changesets_kept.places old new move h.bodies) h;
-  ends = λ old new move h. same_subscribers old new (ap (λ (w : World). w.subscribers) move.kept)
-      (changesets_kept.ends old new move h.bodies) h;
-  begins = λ old new move h. record {
-    bodies = changesets_kept.begins old new move h.bodies;
+  closes = λ old new move h. same_subscribers old new (ap (λ (w : World). w.subscribers) move.kept)
+      (changesets_kept.closes old new move h.bodies) h;
+  subscribes = λ old new move h. record {
+    bodies = changesets_kept.subscribes old new move h.bodies;
     all = subst (AllByRecursion IsSingle) (sym (ap (λ (w : World). w.subscribers) move.kept))
-        (all_push IsSingle old.subscribers _ h.all (record { valid = tt; tables = λ have tables applied. sym applied }));
+        (all_push IsSingle old.subscribers _ h.all
+        (record { valid = tt; tables = λ have tables applied. sym applied }));
   };
-  offers = λ old new move h. single_becomes old new move.s move.subscriber _ h
-      (changesets_kept.offers old new move h.bodies) move.found (λ is. record { valid = is.valid; tables = is.tables })
+  delivers = λ old new move h. single_becomes old new move.s move.subscriber _ h
+      (changesets_kept.delivers old new move h.bodies) move.found
+      (λ is. record { valid = is.valid; tables = is.tables })
       (ap (λ (w : World). w.subscribers) move.kept);
-  takes = λ old new move h. single_becomes old new move.s move.subscriber _ h
-      (changesets_kept.takes old new move h.bodies) move.found
+  accepts = λ old new move h. single_becomes old new move.s move.subscriber _ h
+      (changesets_kept.accepts old new move h.bodies) move.found
       (single_more laws move.subscriber old.sequence move.delivery move.end h.bodies.sequence move.accepts)
       (ap (λ (w : World). w.subscribers) move.kept);
   reconnects = λ old new move h. single_becomes old new move.s move.subscriber _ h
       (changesets_kept.reconnects old new move h.bodies) move.found
       (λ is. record { valid = is.valid; tables = is.tables }) (ap (λ (w : World). w.subscribers) move.kept);
-  leaves = λ old new move h. single_becomes old new move.s move.subscriber _ h
-      (changesets_kept.leaves old new move h.bodies) move.found
+  unsubscribes = λ old new move h. single_becomes old new move.s move.subscriber _ h
+      (changesets_kept.unsubscribes old new move h.bodies) move.found
       (λ is. record { valid = is.valid; tables = is.tables }) (ap (λ (w : World). w.subscribers) move.kept);
 }
 
@@ -130,5 +132,5 @@ pub tables_are_single : SinglyLaws → (mids : List World) (new : World) (s : �
 tables_are_single laws mids new s q leads found =
     let begun : AreSingle world_begun =
     record { bodies = record { staged = tt; intake = tt; hand = tt; sequence = tt }; all = tt } in
-    (all_get IsSingle new.subscribers s q (kept_through AreSingle (single_kept laws) world_begun mids new leads begun).all
-    found).tables
+    let all = (kept_through AreSingle (single_kept laws) world_begun mids new leads begun).all in
+    (all_get IsSingle new.subscribers s q all found).tables

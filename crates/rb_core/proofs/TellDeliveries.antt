@@ -96,9 +96,9 @@ offered_tells schema old world delivery picture event is shown good h =
     let later : AllByRecursion (AreBelow (suc delivery.number)) world.subscribers =
     later_numbers delivery.number world.subscribers below in
     let of_one : AreBelow (suc delivery.number) r =
-    all_push (λ (o : Delivery). o.number < suc delivery.number) q.offers delivery
+    all_push (λ (o : Delivery). o.number < suc delivery.number) q.deliveries delivery
     (all_get (AreBelow (suc delivery.number)) world.subscribers delivery.sub q later at.1) (omega arith) in
-    let offers : Delivers world new = record {
+    let deliveries : Delivers world new = record {
       s = delivery.sub;
       subscriber = q;
       delivery = delivery;
@@ -110,19 +110,19 @@ offered_tells schema old world delivery picture event is shown good h =
       placed = subst (λ n. delivery.last ≤ n) far shown.placed;
       kept = refl;
     } in
-    let others : AllByRecursion (λ (x : Delivery). (x.number == delivery.number) ≡ false) q.offers =
+    let others : AllByRecursion (λ (x : Delivery). (x.number == delivery.number) ≡ false) q.deliveries =
     all_map (λ (x : Delivery). x.number < delivery.number) (λ (x : Delivery). (x.number == delivery.number) ≡ false)
-    q.offers (λ x less. ne_eqb x.number delivery.number (λ same. omega (arith, less, same)))
+    q.deliveries (λ x less. ne_eqb x.number delivery.number (λ same. omega (arith, less, same)))
     (all_get (AreBelow delivery.number) world.subscribers delivery.sub q below at.1) in
     let here : IsDelivered new.subscribers delivery = (
       r,
       get_set world.subscribers delivery.sub q r at.1,
-      found_last (λ (x : Delivery). x.number == delivery.number) q.offers
+      found_last (λ (x : Delivery). x.number == delivery.number) q.deliveries
           delivery others (eq-eqb delivery.number delivery.number refl),
     ) in
     move_told schema world new event (reply.Delivery delivery) (out.delivered_by old (Ok delivery) picture).1
     (is ∙ changed_is world delivery.sub (say.delivered delivery) q at.1)
-    (inr (inr (inr (inr (inr (inr (inr (inr (inl offers))))))))) (record {
+    (inr (inr (inr (inr (inr (inr (inr (inr (inl deliveries))))))))) (record {
       served = h.served;
       senders = h.senders;
       intake = h.intake;
@@ -130,9 +130,10 @@ offered_tells schema old world delivery picture event is shown good h =
       sequence = h.sequence;
       closing = h.closing ∙ sym (ap (λ (o : Outline). o.closing) kept);
       ends = offered_ends world.subscribers delivery.sub q delivery at.1 ∙ h.ends;
-      offers = all_push (IsDelivered new.subscribers) old.deliveries delivery
+      deliveries = all_push (IsDelivered new.subscribers) old.deliveries delivery
           (still_offered world.subscribers delivery.sub q r old.deliveries at.1
-          (λ d there. found_first (λ (x : Delivery). x.number == d.number) q.offers (delivery ∷ []) d there) h.offers)
+          (λ d there. found_first (λ (x : Delivery). x.number == d.number) q.deliveries (delivery ∷ []) d there)
+          h.deliveries)
           here;
       links = subst (λ n. AllByRecursion (λ (m : ℕ). m < n) world.links) (sym (ap (λ (o : Outline). o.next_link) kept))
           h.links;
@@ -234,7 +235,7 @@ accepted_tells steps schema old world d delivery end (Ok after) is found of offe
       delivery = delivery;
       end = after;
       found = at.1;
-      offered = found_in (λ (x : Delivery). x.number == delivery.number) q.offers delivery here;
+      offered = found_in (λ (x : Delivery). x.number == delivery.number) q.deliveries delivery here;
       accepts = accepts;
       kept = ap (λ t. with_subscriber world s (record q { accepted = q.accepted ++ entries; tables = t })) rows;
     } in
@@ -270,7 +271,7 @@ accepted_as_tells steps schema old world d (Some delivery) found good h =
     let of = all_find (IsOf old.endpoints old.sequence) (λ (x : Delivery). x.number == d) old.deliveries delivery
     good.are_of found in
     let offered = all_find (IsDelivered world.subscribers) (λ (x : Delivery). x.number == d) old.deliveries delivery
-    h.offers found in
+    h.deliveries found in
     let number : delivery.number ≡ d = eqb-true delivery.number d
     (find_passes (λ (x : Delivery). x.number == d) old.deliveries delivery found) in
     accepted_at_tells steps schema old world d delivery (slice_get old.endpoints delivery.sub) refl of offered number h

@@ -1,6 +1,6 @@
 -- What the events of publishers report.
-use Rattle.std.proofs.Common.{◌≡◌, ◌↔◌, ◌⊎◌, ℕ, zero, suc, ◌+◌, inl, inr, List, [], ◌∷◌, ◌++◌, length, Option, Some, None, Result}
-use Rattle.std.proofs.Common.{Ok, Err, refl, sym, ap, ◌∙◌, arith}
+use Rattle.std.proofs.Common.{◌≡◌, ◌↔◌, ◌⊎◌, ℕ, zero, suc, ◌+◌, inl, inr, List, [], ◌∷◌, ◌++◌, length, Option, Some, None}
+use Rattle.std.proofs.Common.{Result, Ok, Err, refl, sym, ap, ◌∙◌, arith}
 use Rattle.std.specs.Prelude.{slice_get, nat_le}
 use Rattle.std.proofs.lemmas.List.{length-append}
 use Rattle.cs_model.specs.Bytes.{AreBytes}
@@ -82,7 +82,7 @@ publisher_tells begins schema old world h =
       sequence = h.sequence;
       closing = h.closing;
       ends = h.ends;
-      offers = h.offers;
+      deliveries = h.deliveries;
       links = h.links;
       numbers = h.numbers;
       bases = h.bases;
@@ -107,7 +107,7 @@ with_pair schema old world p publisher sender pair h = record {
   sequence = h.sequence;
   closing = h.closing;
   ends = h.ends;
-  offers = h.offers;
+  deliveries = h.deliveries;
   links = h.links;
   numbers = h.numbers;
   bases = h.bases;
@@ -119,7 +119,8 @@ stages_told : (schema : List Shape) (old : State) (world : World) (event : Event
     → told schema world event given ≡ say.sender_changed world p change → slice_get old.publishers p ≡ Some before
     → ((sender : Sender) → IsSender before sender → IsSender after (change sender))
     → ((sender : Sender) → (change sender).sent ≡ sender.sent)
-    → ((sender : Sender) → IsSender before sender → ((change sender).staged ≡ sender.staged) ⊎ IsStaged (change sender).staged)
+    → ((sender : Sender) → IsSender before sender
+    → ((change sender).staged ≡ sender.staged) ⊎ IsStaged (change sender).staged)
     → IsToldBy schema old world
     → TellingGoes schema world event (given, with_publisher old p after)
 stages_told schema old world event given p before after change is found pairs same valid h =
@@ -285,7 +286,7 @@ queued_tells schema old world p publisher changeset e holds h =
       sequence = h.sequence;
       closing = h.closing;
       ends = h.ends;
-      offers = h.offers;
+      deliveries = h.deliveries;
       links = h.links;
       numbers = h.numbers;
       bases = h.bases;

@@ -53,7 +53,7 @@ tell_subscriptions_one schema start link =
       tables = empty_tables schema;
       link = link;
       closed = false;
-      offers = [];
+      deliveries = [];
     }
 
 -- its end
@@ -114,7 +114,7 @@ subscribed_tells shows schema old world start (Ok made) picture is good h =
       sequence = h.sequence;
       closing = linked.closing;
       ends = push_ends world.subscribers q old.endpoints end h.ends (one_end schema old.schema start link h.served);
-      offers = pushed_offers world.subscribers q old.deliveries h.offers;
+      deliveries = pushed_offers world.subscribers q old.deliveries h.deliveries;
       links = linked.links;
       numbers = all_push (AreBelow picture.next_delivery) world.subscribers q linked.numbers tt;
       bases = all_push (BeginsEmpty schema) world.subscribers q h.bases refl;

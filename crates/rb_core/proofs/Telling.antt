@@ -78,7 +78,7 @@ all_new n links below = all_map (λ (m : ℕ). m < n) (λ (m : ℕ). m ≡ n →
 pub all_unused : (n : ℕ) (subs : List Subscriber) → AllByRecursion (AreBelow n) subs → AllByRecursion (IsUnused n) subs
 all_unused n subs below =
     all_map (AreBelow n) (IsUnused n) subs
-    (λ q all. all_map (λ (o : Delivery). o.number < n) (λ (o : Delivery). o.number ≡ n → ⊥) q.offers
+    (λ q all. all_map (λ (o : Delivery). o.number < n) (λ (o : Delivery). o.number ≡ n → ⊥) q.deliveries
     (λ o less same. omega (arith, less, same)) all) below
 
 pub later_links : (n : ℕ) (links : List ℕ) → AllByRecursion (λ link. link < n) links
@@ -87,7 +87,7 @@ later_links n links below = all_map (λ (m : ℕ). m < n) (λ (m : ℕ). m < suc
     below
 
 pub later_offers : (n : ℕ) (q : Subscriber) → AreBelow n q → AreBelow (suc n) q
-later_offers n q below = all_map (λ (o : Delivery). o.number < n) (λ (o : Delivery). o.number < suc n) q.offers
+later_offers n q below = all_map (λ (o : Delivery). o.number < n) (λ (o : Delivery). o.number < suc n) q.deliveries
     (λ o less. omega (arith, less)) below
 
 pub later_numbers : (n : ℕ) (subs : List Subscriber) → AllByRecursion (AreBelow n) subs
@@ -121,7 +121,7 @@ subscriber_of_member schema old world s member good h found =
     let q = subscriber_of_end schema old world s end.0 h end.1 in
     (q.0, q.1, ap member_of_end q.2 ∙ end.2)
 
--- deliveries stay offered where the offers to one subscription only grow
+-- deliveries stay offered where the deliveries to one subscription only grow
 pub still_offered : (subs : List Subscriber) (s : ℕ) (q r : Subscriber) (deliveries : List Delivery) → slice_get subs s
     ≡ Some q → ((d : Delivery) → delivery_told d.number q ≡ Some d → delivery_told d.number r ≡ Some d)
     → AllByRecursion (IsDelivered subs) deliveries
@@ -140,9 +140,9 @@ still_offered subs s q r deliveries found grows all =
       | inr other ↦ (h.0, get_set_other subs s d.sub r (λ e. other.1 (sym e)) ∙ h.1, h.2)
     ]
 
--- one subscription becomes another that began with the same tables and has the same offers, and so does its end
+-- one subscription becomes another that began with the same tables and has the same deliveries, and so does its end
 pub telling_with_both : (schema : List Shape) (old : State) (world : World) (s : ℕ) (q r : Subscriber) (end : Endpoint)
-    → slice_get world.subscribers s ≡ Some q → r.base ≡ q.base → r.offers ≡ q.offers → endpoint_of r ≡ end
+    → slice_get world.subscribers s ≡ Some q → r.base ≡ q.base → r.deliveries ≡ q.deliveries → endpoint_of r ≡ end
     → IsToldBy schema old world
     → IsToldBy schema (with_endpoint old s end) (with_subscriber world s r)
 telling_with_both schema old world s q r end found base same is h = record {
@@ -154,9 +154,9 @@ telling_with_both schema old world s q r end found base same is h = record {
   closing = h.closing;
   ends = map_set endpoint_of world.subscribers s r ∙ ap (λ ends. slice_set ends s (endpoint_of r)) h.ends
       ∙ ap (slice_set old.endpoints s) is;
-  offers = still_offered world.subscribers s q r old.deliveries found
+  deliveries = still_offered world.subscribers s q r old.deliveries found
       (λ d here. ap (find (λ (x : Delivery). x.number == d.number)) same ∙ here)
-      h.offers;
+      h.deliveries;
   links = h.links;
   numbers = all_set (AreBelow old.desk.next_delivery) world.subscribers s r h.numbers
       (subst (AllByRecursion (λ (o : Delivery). o.number < old.desk.next_delivery)) (sym same)
@@ -179,7 +179,7 @@ with_desk schema old world desk closing link delivery h = record {
   sequence = h.sequence;
   closing = h.closing ∙ sym closing;
   ends = h.ends;
-  offers = h.offers;
+  deliveries = h.deliveries;
   links = subst (λ n. AllByRecursion (λ (m : ℕ). m < n) world.links) (sym link) h.links;
   numbers = subst (λ n. AllByRecursion (AreBelow n) world.subscribers) (sym delivery) h.numbers;
   bases = h.bases;
@@ -199,7 +199,7 @@ with_link schema old world desk link closing given next delivery h = record {
   sequence = h.sequence;
   closing = h.closing ∙ sym closing;
   ends = h.ends;
-  offers = h.offers;
+  deliveries = h.deliveries;
   links = subst (λ n. AllByRecursion (λ (m : ℕ). m < n) (link ∷ world.links)) (sym next) (
     omega arith,
     later_links link world.links

@@ -14,8 +14,8 @@ use Rattle.rb_core.proofs.Moving.{all_get}
 use Rattle.rb_core.proofs.Telling.{BeginsEmpty, IsTold}
 
 -- the thing at a place of a list, and what is made of it
-mapped_at : {A B : Type 0} (f : A → B) (xs : List A) (i : ℕ) (x : A) → slice_get xs i ≡ Some x → slice_get (list_map f xs) i
-    ≡ Some (f x)
+mapped_at : {A B : Type 0} (f : A → B) (xs : List A) (i : ℕ) (x : A) → slice_get xs i ≡ Some x
+    → slice_get (list_map f xs) i ≡ Some (f x)
 mapped_at f [] i x e = absurd (cc e)
 mapped_at f (y ∷ xs) zero x e = let same : y ≡ x = cc e in ap (λ z. Some (f z)) same
 mapped_at f (y ∷ xs) (suc i) x e = mapped_at f xs i x e

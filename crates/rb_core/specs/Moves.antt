@@ -32,7 +32,7 @@ IsIn x (y ∷ rest) = (x ≡ y) ⊎ IsIn x rest
 
 -- no delivery with this number was made to the subscription
 abbrev pub IsUnused : ℕ → Subscriber → Type 0
-IsUnused number q = AllByRecursion (λ offer. offer.number ≡ number → ⊥) q.offers
+IsUnused number q = AllByRecursion (λ offer. offer.number ≡ number → ⊥) q.deliveries
 
 -- what is staged is a changeset, if anything is
 abbrev pub IsStaged : Option (List Section) → Type 0
@@ -123,7 +123,7 @@ pub record Subscribes (old new : World) : Type 0 where
           tables = base;
           link = link;
           closed = false;
-          offers = [];
+          deliveries = [];
         } ∷ [];
   }
 
@@ -140,7 +140,7 @@ pub record Delivers (old new : World) : Type 0 where
   pub order : delivery.first ≤ delivery.last
   pub placed : delivery.last ≤ length old.sequence
   pub kept : new ≡ with_subscriber old s
-      (record subscriber { offers = subscriber.offers ++ delivery ∷ [] })
+      (record subscriber { deliveries = subscriber.deliveries ++ delivery ∷ [] })
 
 -- a subscription accepts a delivery that was made to it, as its endpoint does
 pub record Accepts (old new : World) : Type 0 where
@@ -149,7 +149,7 @@ pub record Accepts (old new : World) : Type 0 where
   pub delivery : Delivery
   pub end : Endpoint
   pub found : slice_get old.subscribers s ≡ Some subscriber
-  pub offered : IsIn delivery subscriber.offers
+  pub offered : IsIn delivery subscriber.deliveries
   pub accepts : AcceptsDelivery (endpoint_of subscriber) old.sequence delivery end
   pub kept : new ≡ with_subscriber old s
       (record subscriber {

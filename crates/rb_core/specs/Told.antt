@@ -121,12 +121,12 @@ subscribed schema old start link = record old {
         tables = empty_tables schema;
         link = link;
         closed = false;
-        offers = [];
+        deliveries = [];
       } ∷ [];
 }
 
 abbrev pub delivered : Delivery → Subscriber → Subscriber
-delivered delivery q = record q { offers = q.offers ++ delivery ∷ [] }
+delivered delivery q = record q { deliveries = q.deliveries ++ delivery ∷ [] }
 
 abbrev pub if_applied : tables.TableState → Result tables.TableState Conflict → tables.TableState
 if_applied old (Ok new) = new
@@ -142,7 +142,7 @@ with_accepted entries q =
 
 -- the delivery of this number among those that it was delivered
 abbrev pub delivery_told : ℕ → Subscriber → Option Delivery
-delivery_told d q = find (λ delivery. delivery.number == d) q.offers
+delivery_told d q = find (λ delivery. delivery.number == d) q.deliveries
 
 -- the entries that a delivery names: its first number to its last
 abbrev pub entries_of : List Entry → Delivery → List Entry
@@ -227,7 +227,7 @@ IsDelivered subscribers delivery = (q : Subscriber) × (slice_get subscribers de
 
 -- all deliveries to the subscription have numbers below `next`
 abbrev pub AreBelow : ℕ → Subscriber → Type 0
-AreBelow next q = AllByRecursion (λ offer. offer.number < next) q.offers
+AreBelow next q = AllByRecursion (λ offer. offer.number < next) q.deliveries
 
 -- A broker's state agrees with the reported world: publishers, intake, item in hand, sequence,
 -- closing number and endpoints. Each of its deliveries was made to its subscription. All links and
@@ -240,7 +240,7 @@ pub record IsToldBy (schema : List Shape) (state : State) (world : World) : Type
   pub sequence : world.sequence ≡ state.sequence
   pub closing : world.closing ≡ state.desk.closing
   pub ends : map endpoint_of world.subscribers ≡ state.endpoints
-  pub offers : AllByRecursion (IsDelivered world.subscribers) state.deliveries
+  pub deliveries : AllByRecursion (IsDelivered world.subscribers) state.deliveries
   pub links : AllByRecursion (λ link. link < state.desk.next_link) world.links
   pub numbers : AllByRecursion (AreBelow state.desk.next_delivery) world.subscribers
   pub bases : AllByRecursion (λ q. q.base ≡ empty_tables schema) world.subscribers

@@ -24,7 +24,7 @@ pub record Subscriber : Type 0 where
   pub tables : tables.TableState
   pub link : ℕ
   pub closed : Bool
-  pub offers : List Delivery
+  pub deliveries : List Delivery
 
 -- The abstract world. It has the publishers and the intake of sent items in order. The item in hand
 -- has left the intake and has no number yet. It has the sequence, its closing number if it is

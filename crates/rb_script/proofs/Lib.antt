@@ -6,3 +6,4 @@ pub mod LineLaws
 pub mod RunLaws
 pub mod FeedLaws
 pub mod RowTexts
+pub mod HexTexts

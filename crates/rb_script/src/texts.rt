@@ -1,6 +1,7 @@
 //! Formats entries and rows as text.
 
 ghost use Rattle.std.specs.Prelude.{◌≡◌, ◌++◌, IfOk, OnOk, Some, string_bytes};
+ghost use Rattle.hex.specs.Hex.{encode_lower};
 ghost use Rattle.cs_apply.specs.Seen.{listed};
 ghost use Rattle.cs_model.specs.Seen.{field_seen};
 ghost use Rattle.rb_script.specs.Texts.{origin_text, bytes_word, entry_text, field_text, row_text};
@@ -11,6 +12,9 @@ use cs_model::{Changeset, FieldRef, Origin, Row, RowKey, field_push};
 use cs_write::write;
 use rb_core::Entry;
 use std::alloc::{AllocError, Global};
+
+// how many bytes are encoded at once
+const ENCODED: usize = 4_096;
 
 /// The text of an entry, without a line end. Returns `AllocError` if memory runs out.
 pub fn text_of_entry(alloc: Global, entry: &Entry) -> Result<Vec<u8>, AllocError>
@@ -45,13 +49,24 @@ pub fn text_of_changeset(alloc: Global, changeset: &Changeset) -> Result<Vec<u8>
     Ok(text)
 }
 
+// Appends bytes as a word.
 fn add_word(alloc: Global, text: &mut Vec<u8>, bytes: &[u8]) -> Result<(), AllocError>
     ensures { OnOk result (text.new.items ≡ text.old.items ++ bytes_word bytes.now) }
 {
     match bytes {
         [] => Ok(text.push(b'-')?),
-        _ => text.extend_from_slice(hex::encode(alloc, bytes)?.as_bytes()),
+        _ => add_hex(alloc, text, bytes),
     }
+}
+
+// Appends bytes in hexadecimal, some at a time, so that the whole is not copied once more.
+fn add_hex(alloc: Global, text: &mut Vec<u8>, bytes: &[u8]) -> Result<(), AllocError>
+    ensures { OnOk result (text.new.items ≡ text.old.items ++ encode_lower bytes.now) }
+{
+    for piece in bytes.chunks(ENCODED) {
+        text.extend_from_slice(hex::encode(alloc, piece)?.as_bytes())?;
+    }
+    Ok(())
 }
 
 /// The text of rows with their keys: how many, then each on its own line. Returns `AllocError` if

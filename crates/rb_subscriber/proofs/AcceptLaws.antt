@@ -80,7 +80,8 @@ abbrev with_tables : Endpoint → ℕ → tables.TableState → Endpoint
 with_tables old last tables = record old { cursor = last; tables = tables }
 
 applied_is : (old : Endpoint) (last : ℕ) (entries : List Entry) (new : Endpoint) (r : Result tables.TableState Conflict)
-    → single old.tables (group_of (joined_bodies entries)) ≡ r → applied old last r ≡ Ok new → AcceptApplied old last entries new
+    → single old.tables (group_of (joined_bodies entries)) ≡ r → applied old last r ≡ Ok new
+    → AcceptApplied old last entries new
 applied_is old last entries new (Ok tables) is e =
     let same : with_tables old last tables ≡ new = cc in
     let here : tables ≡ new.tables = ap (λ (x : Endpoint). x.tables) same in

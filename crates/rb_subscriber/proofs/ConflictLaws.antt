@@ -83,12 +83,12 @@ accept_conflicts old sequence delivery conflict e =
     (λ same. absurd cc) seen in
     admitted_conflicts old delivery.last entries (first_outside_entry old.tables.schema entries) conflict gap
 
-abbrev pub GroupConflicts : Type 0
-GroupConflicts = (old : tables.TableState) (sections : List Section) (conflict : Conflict) → IsChangeset sections
+abbrev pub GroupsConflictSingly : Type 0
+GroupsConflictSingly = (old : tables.TableState) (sections : List Section) (conflict : Conflict) → IsChangeset sections
     → HaveColumns old → single old (group_of sections) ≡ Err conflict → (other : Conflict)
     × (single old sections ≡ Err other)
 
-pub conflict_singly : RunContinues → GroupConflicts → (old : Endpoint) (sequence : List Entry) (delivery : Delivery)
+pub conflict_singly : RunContinues → GroupsConflictSingly → (old : Endpoint) (sequence : List Entry) (delivery : Delivery)
     (conflict : Conflict) → AreChangesets (brought old sequence delivery) → HaveColumns old.tables
     → accept old sequence delivery ≡ Err (refusal.Conflict conflict)
     → ConflictsSingly old.tables (brought old sequence delivery)

@@ -84,11 +84,11 @@ joined_valid (entry ∷ entries) valid =
     all_append IsSection entry.item.body (joined_bodies entries) valid.0 (joined_valid entries valid.1)
 
 -- a group applies where its sections do
-abbrev pub GroupApplies : Type 0
-GroupApplies = (old new : tables.TableState) (sections : List Section) → IsChangeset sections → HaveColumns old
+abbrev pub GroupsLeaveSame : Type 0
+GroupsLeaveSame = (old new : tables.TableState) (sections : List Section) → IsChangeset sections → HaveColumns old
     → single old sections ≡ Ok new → single old (group_of sections) ≡ Ok new
 
-pub tables_singly : RunContinues → GroupApplies → (old : Endpoint) (sequence : List Entry) (delivery : Delivery)
+pub tables_singly : RunContinues → GroupsLeaveSame → (old : Endpoint) (sequence : List Entry) (delivery : Delivery)
     (new : Endpoint) (tables : tables.TableState) → AreChangesets (brought old sequence delivery)
     → HaveColumns old.tables → accept old sequence delivery ≡ Ok new
     → AppliesSingly old.tables (brought old sequence delivery) tables → new.tables ≡ tables

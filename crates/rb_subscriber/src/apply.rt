@@ -70,9 +70,9 @@ fn apply_group(alloc: Global, tables: &mut Tables, entries: &[Entry]) -> Result<
     tables.apply(alloc, &changeset)
 }
 
-/// Applies the group of the bodies of entries: all of its changes, or none. An error does not change
-/// the tables. A single body is applied as it is, and grouped only if it conflicts: its group leaves
-/// the same tables, and grouping costs more than applying.
+/// Applies the group of the bodies of entries: all of its changes, or none. An error does not
+/// change the tables. A single body is applied as it is, and grouped only if it conflicts: its
+/// group leaves the same tables, and grouping costs more than applying.
 pub(crate) fn apply(alloc: Global, tables: &mut Tables, entries: &[Entry]) -> Result<(), ApplyError>
     ensures ok { OnOk result (single tables.old (group_of (joined_bodies entries.now))
         ≡ Ok tables.new) }

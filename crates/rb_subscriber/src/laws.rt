@@ -37,8 +37,8 @@ pub fn accepted_is_a_run()
 {}
 
 /// If the changesets of an accepted delivery, applied one after another, don't conflict, the tables
-/// after it are what that gives. The changesets are valid, and the rows have their columns, as those
-/// of entries and of `Tables` do.
+/// after it are what that gives. The changesets are valid, and the rows have their columns, as
+/// those of entries and of `Tables` do.
 pub fn accepted_apply_singly()
     ensures { (old : Endpoint) (sequence : List Entry) (delivery : Delivery) (new : Endpoint)
         (tables : TableState) → AreChangesets (brought old sequence delivery)
@@ -61,8 +61,8 @@ pub fn conflicts_are_single()
     groups_apply();
 }
 
-/// Changesets that apply one after another without conflict leave rows with a value for each column,
-/// if the rows before have one.
+/// Changesets that apply one after another without conflict leave rows with a value for each
+/// column, if the rows before have one.
 pub fn singly_keeps_columns()
     ensures { (old : TableState) (entries : List Entry) (new : TableState) → AreChangesets entries
         → HaveColumns old → AppliesSingly old entries new → HaveColumns new }

@@ -110,34 +110,59 @@ fn runs_as_it_steps(rt: HostRuntime) -> Result<(), Fail> {
 // the changes of a line, and the lines
 const CHANGES: u32 = 2_000;
 
-const LINES: u32 = 35;
+const LINES: u32 = 50;
 
-// a `feed` line of `CHANGES` INSERTs, with keys from `first` on
-fn push_line(alloc: Global, script: &mut Vec<u8>, first: u32) -> Result<(), Fail>
+// `CHANGES` INSERTs, with keys from `first` on, in hexadecimal
+fn push_changes(alloc: Global, text: &mut Vec<u8>, first: u32) -> Result<(), Fail>
     requires { first < 1000000 }
 {
-    script.extend_from_slice(b"feed 0 ")?;
     for i in 0..CHANGES {
         let number = first + i;
         let change = format!(in alloc; "120001{number:016x}030178")?;
-        script.extend_from_slice(change.as_bytes())?;
+        text.extend_from_slice(change.as_bytes())?;
     }
-    Ok(script.push(b'\n')?)
+    Ok(())
 }
 
+// the answer lines of their rows
+fn push_rows(alloc: Global, answers: &mut Vec<u8>, first: u32) -> Result<(), Fail>
+    requires { first < 1000000 }
+{
+    for i in 0..CHANGES {
+        let number = first + i;
+        let row = format!(in alloc; "row 0 01{number:016x} 030178\n")?;
+        answers.extend_from_slice(row.as_bytes())?;
+    }
+    Ok(())
+}
+
+// One changeset of 1.4 MB and 100,000 changes: written, combined, applied, and its rows in order.
 #[test]
-fn seventy_thousand_rows_are_accepted(rt: HostRuntime) -> Result<(), Fail> {
+fn a_hundred_thousand_rows_are_accepted(rt: HostRuntime) -> Result<(), Fail> {
     let alloc = rt.alloc();
     let mut script = Vec::new(alloc);
+    let mut text = Vec::new(alloc);
+    let mut rows = Vec::new(alloc);
     let mut answers = Vec::new(alloc);
     script.extend_from_slice(b"table 540201007400\npublisher\nsubscribe 0\nfeed 0 540201007400\n")?;
     answers.extend_from_slice(b"ok\npublisher 0\nsubscriber 0 link 1\nok\n")?;
     for line in 0..LINES {
-        push_line(alloc, &mut script, line * CHANGES)?;
+        let first = line * CHANGES;
+        script.extend_from_slice(b"feed 0 ")?;
+        push_changes(alloc, &mut script, first)?;
+        script.push(b'\n')?;
+        push_changes(alloc, &mut text, first)?;
+        push_rows(alloc, &mut rows, first)?;
         answers.extend_from_slice(b"ok\n")?;
     }
-    script.extend_from_slice(b"end 0\nsend 0\nturn\ntake 0 0\naccept 1\n")?;
-    answers.extend_from_slice(b"staged\nsent 1\nplaced 1\ndelivery 1 0 1 1\naccepted 1\n")?;
+    script.extend_from_slice(b"end 0\nsend 0\nturn\nentry 1\ncombine 1 1\n")?;
+    script.extend_from_slice(b"take 0 0\naccept 1\nrows 0\n")?;
+    answers.extend_from_slice(b"staged\nsent 1\nplaced 1\nentry 1 0 1 s 540201007400")?;
+    answers.extend_from_slice(&text)?;
+    answers.extend_from_slice(b"\ntext 540201007400")?;
+    answers.extend_from_slice(&text)?;
+    answers.extend_from_slice(b"\ndelivery 1 0 1 1\naccepted 1\nrows 100000\n")?;
+    answers.extend_from_slice(&rows)?;
     let mut reader: &[u8] = &script;
     let mut written = Vec::new(alloc);
     run_script(alloc, &mut reader, &mut written, Config::standard())?;

@@ -2,7 +2,7 @@ use Rattle.std.proofs.Common.{ap, sym, subst, ◌∙◌}
 use Rattle.std.specs.Arc.{arc_value}
 use Rattle.cs_apply.specs.Columns.{RowsHaveColumns}
 use Rattle.cs_apply.specs.Steps.{rows_in, rows_of}
-use Rattle.cs_apply.proofs.Lengths.{apply_keeps, taken_back}
+use Rattle.cs_apply.proofs.Lengths.{apply_keeps, all_taken_back}
 use Rattle.cs_apply.proofs.tables.Tables.apply.Goals as goal
 
 pub invariant_of-self : goal.invariant_of-self
@@ -20,7 +20,7 @@ invariant_of-self-else-is_ok c = (
   c.self.invariant.0,
   c.take_back.ensures.log,
   subst (λ es. RowsHaveColumns (arc_value c.self.inside.schema) (rows_of es))
-      (sym (taken_back c.self.inside.places c.change_all-applied.new.places c.len-places.result
+      (sym (all_taken_back c.self.inside.places c.change_all-applied.new.places c.len-places.result
       c.take_back.new.self.rows.entries c.change_all-applied.ensures.back c.self.invariant.1 c.len-places.ensures
       c.take_back.ensures.rows)) c.self.invariant.2,
 )
