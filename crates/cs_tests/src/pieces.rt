@@ -82,6 +82,8 @@ fn longest_texts(rt: HostRuntime) -> Result<(), Fail> {
         let text = with_blob(alloc, low, len)?;
         assert_eq!(rt; count_changes(&text), want);
         assert_eq!(rt; whole(alloc, &text)?.err(), want.err());
+        // and all of it in one piece
+        feeds(&rt, alloc, &mut PieceParser::new(alloc), &text, want.err());
     }
     Ok(())
 }
