@@ -18,11 +18,15 @@ HasStaged sender = IsStaged sender.staged
 abbrev pub IsBody : Item → Type 0
 IsBody item = IsChangeset item.body
 
-pub record HasChangesets (w : World) : Type 0 where
-  pub staged : AllByRecursion HasStaged w.senders
-  pub intake : AllByRecursion IsBody w.intake
-  pub hand : IfSome w.hand IsBody
-  pub sequence : AreChangesets w.sequence
+pub record BodiesIn (s : List Sender) (i : List Item) (h : Option Item) (e : List Entry) : Type 0 where
+  pub staged : AllByRecursion HasStaged s
+  pub intake : AllByRecursion IsBody i
+  pub hand : IfSome h IsBody
+  pub sequence : AreChangesets e
+
+-- a world that differs from this one in other parts has them too, by computing
+abbrev pub HasChangesets : World → Type 0
+HasChangesets w = BodiesIn w.senders w.intake w.hand w.sequence
 
 -- a list of changesets has parts of changesets
 after_some : (entries : List Entry) (n : ℕ) → AreChangesets entries → AreChangesets (drop n entries)
@@ -35,17 +39,9 @@ some_first entries zero valid = tt
 some_first [] (suc n) valid = tt
 some_first (entry ∷ entries) (suc n) valid = (valid.0, some_first entries n valid.1)
 
-pub part_of_changesets : (entries : List Entry) (after n : ℕ) → AreChangesets entries → AreChangesets (part entries after n)
+pub part_of_changesets : (entries : List Entry) (after n : ℕ) → AreChangesets entries
+    → AreChangesets (part entries after n)
 part_of_changesets entries after n valid = some_first (drop after entries) n (after_some entries after valid)
-
-same_parts : (old new : World) → HasChangesets old → new.senders ≡ old.senders → new.intake ≡ old.intake
-    → new.hand ≡ old.hand → new.sequence ≡ old.sequence → HasChangesets new
-same_parts old new has senders intake hand sequence = record {
-  staged = subst (AllByRecursion HasStaged) (sym senders) has.staged;
-  intake = subst (AllByRecursion IsBody) (sym intake) has.intake;
-  hand = subst (λ h. IfSome h IsBody) (sym hand) has.hand;
-  sequence = subst AreChangesets (sym sequence) has.sequence;
-}
 
 pub changesets_kept : MovingKeeps HasChangesets
 changesets_kept = record {
@@ -86,40 +82,10 @@ changesets_kept = record {
         hand = tt;
         sequence = all_push (λ entry. IsChangeset entry.item.body) old.sequence _ has.sequence item;
       });
-  closes = λ old new move has. subst HasChangesets (sym move.kept) (record {
-    staged = has.staged;
-    intake = has.intake;
-    hand = has.hand;
-    sequence = has.sequence;
-  });
-  subscribes = λ old new move has. subst HasChangesets (sym move.kept) (record {
-    staged = has.staged;
-    intake = has.intake;
-    hand = has.hand;
-    sequence = has.sequence;
-  });
-  delivers = λ old new move has. subst HasChangesets (sym move.kept) (record {
-    staged = has.staged;
-    intake = has.intake;
-    hand = has.hand;
-    sequence = has.sequence;
-  });
-  accepts = λ old new move has. subst HasChangesets (sym move.kept) (record {
-    staged = has.staged;
-    intake = has.intake;
-    hand = has.hand;
-    sequence = has.sequence;
-  });
-  reconnects = λ old new move has. subst HasChangesets (sym move.kept) (record {
-    staged = has.staged;
-    intake = has.intake;
-    hand = has.hand;
-    sequence = has.sequence;
-  });
-  unsubscribes = λ old new move has. subst HasChangesets (sym move.kept) (record {
-    staged = has.staged;
-    intake = has.intake;
-    hand = has.hand;
-    sequence = has.sequence;
-  });
+  closes = λ old new move has. subst HasChangesets (sym move.kept) has;
+  subscribes = λ old new move has. subst HasChangesets (sym move.kept) has;
+  delivers = λ old new move has. subst HasChangesets (sym move.kept) has;
+  accepts = λ old new move has. subst HasChangesets (sym move.kept) has;
+  reconnects = λ old new move has. subst HasChangesets (sym move.kept) has;
+  unsubscribes = λ old new move has. subst HasChangesets (sym move.kept) has;
 }
