@@ -3,7 +3,9 @@
 #![tactic(auto)]
 
 mod answers;
+mod combining;
 mod exports;
 mod kinds;
+mod reading;
 #[cfg(test)]
 mod tests;
