@@ -16,8 +16,8 @@ job ours_writes, sqlite_writes;
 /* COMBINED texts become one, which has the length of the one after them */
 job ours_combines, sqlite_combines;
 
-/* Ends the program unless ours combines them to that very text, and SQLite's to one of its length: SQLite's has the same
- * changes in another order. */
+/* Ends the program unless ours combines them to that very text, and SQLite's to one of its length: SQLite's has the
+ * same changes in another order. */
 void check_combined(const struct input *inputs);
 
 /* Sets SQLite up as it comes, or lean: without its memory statistics and its locks. */

@@ -12,7 +12,7 @@
  * - `text` has `len` bytes that nobody changes during the call. So has each text of `texts`, which has `count` of them.
  *   One text may stand in `texts` twice, and texts may overlap.
  * - `out` has `room` bytes that nobody else reads or changes during the call. It does not overlap a text or `texts`.
- * - `fault_text`, `fault_at` and `fault_kind` are separate places, aligned, and outside the texts and `texts`.
+ * - `fault_text`, `fault_at` and `fault_kind` are separate places, aligned, and outside the texts, `texts` and `out`.
  * - No call is made in a signal handler, or in the forked child of a process with threads.
  * Two threads may make calls at once if each has its own output buffers. */
 #ifndef CHANGESET_H
@@ -49,7 +49,7 @@ extern "C" {
 #define CHANGESET_NONE (-1)
 /* Memory ran out. changeset_canonical returns this only if the text spells a changeset. */
 #define CHANGESET_NO_MEMORY (-2)
-/* The changesets of two texts can't be combined, because a table has another shape in the second one. */
+/* The texts can't be combined: a section's table has the name of an earlier section's and another shape. */
 #define CHANGESET_CLASH (-3)
 
 /* The kind of a fault. */
@@ -126,8 +126,8 @@ struct changeset_text {
 /* Combines `count` texts into one, in their order, as sqlite3changegroup_add of each and sqlite3changegroup_output do:
  * a row's changes become one change or none. Writes the canonical text of the result. Returns one of these:
  * - 0 or more: the length of that text. It is written only if this result is at most `room`: then it is at the start of
- *   `out`, and the bytes after it do not change. Else `out` does not change. 0 is the result if no change is left, as of
- *   no texts.
+ *   `out`, and the bytes after it do not change. Else `out` does not change. 0 is the result if no change is left, and
+ *   if `count` is 0.
  * - CHANGESET_NONE: the first text that can't be added spells no changeset. `*fault_text` is set to its index, from 0.
  *   `*fault_at` and `*fault_kind` are set to the place and the kind of its fault, as `changeset_check` does.
  * - CHANGESET_CLASH: the first text that can't be added has a section whose table has the name of an earlier section's

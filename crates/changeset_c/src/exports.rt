@@ -56,11 +56,14 @@ pub extern "C" fn changeset_canonical(alloc: Global, text: &[u8], out: &mut [u8]
     canonical(alloc, text, out)
 }
 
-/// The length of the canonical text of the texts' group, written to the front of `out` if there is
-/// room for it. Returns -1 if the first text that can't be added has a fault, with the text's
-/// index and the fault's place and kind. Returns -3 if that text has a section that clashes with
-/// an earlier one, with the text's index and the section's in `fault_at`. Indexes are from 0.
-/// Returns -2 if memory ran out. Else `out` and those three do not change.
+/// Combines texts into one, in their order. Returns the length of the canonical text of their
+/// group, in bytes, written to the front of `out` if there is room for it.
+///
+/// Returns -1 if the first text that can't be added has a fault. Sets `fault_text` to the text's
+/// index, and `fault_at` and `fault_kind` to the fault's place and its kind's number. Returns -3 if
+/// that text has a section whose table has the name of an earlier section's and another shape. Sets
+/// `fault_text` to the text's index, and `fault_at` to the section's. Indexes are from 0. Returns
+/// -2 if memory ran out. What is not named here does not change.
 #[unsafe(no_mangle)]
 pub extern "C" fn changeset_combine(
     alloc: Global,
