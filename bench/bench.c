@@ -16,6 +16,8 @@ enum side { OURS, SQLITE, LEAN, SIDES };
 /* a text may have so many bytes */
 static const size_t MOST_BYTES = 16777216;
 static const size_t USUAL_BYTES = 15000000;
+/* each of the texts that are combined */
+static const size_t COMBINED_BYTES = 1000000;
 
 /* the seconds of each run */
 struct measured {
@@ -99,15 +101,68 @@ static void compare_changes(long changes) {
     free(input.bytes);
 }
 
+static void print_combining_head(const char *unit) {
+    printf("| job | input | ours, %s | SQLite's, %s | ratio | lean SQLite's, %s | ratio |\n"
+           "|---|---|--:|--:|--:|--:|--:|\n",
+           unit, unit, unit);
+}
+
+static void free_combined(struct input *inputs) {
+    for (int i = 0; i <= COMBINED; i++) free(inputs[i].bytes);
+}
+
+/* Combining, on texts of at most so many changes and bytes. Figures are megabytes a second, or thousands of changes. */
+static void compare_combining(enum rows rows, const char *what, enum keys keys, long changes, int by_changes) {
+    struct input inputs[COMBINED + 1];
+    make_combined(inputs, rows, keys, changes, by_changes ? MOST_BYTES : COMBINED_BYTES);
+    check_combined(inputs);
+    double bytes = 0;
+    for (int i = 0; i < COMBINED; i++) bytes += (double)inputs[i].len;
+    long all = COMBINED * inputs[0].changes;
+    int calls = all < 100000 && by_changes ? (int)(100000 / all) : 1;
+    char name[100];
+    snprintf(name, sizeof name, "%s, %d times %ld changes", what, COMBINED, inputs[0].changes);
+    struct measured combines = measure(ours_combines, sqlite_combines, inputs, calls);
+    print_row(keys == HOT ? "combine, the same rows" : "combine, rows apart", name,
+              by_changes ? (double)all / 1e3 : bytes / 1e6, &combines);
+    free_combined(inputs);
+}
+
+static void compare_all_combining(void) {
+    print_combining_head("MB/s");
+    for (int keys = HOT; keys <= APART; keys++) {
+        compare_combining(INTEGERS, "integer rows", (enum keys)keys, 1000000000, 0);
+        compare_combining(TEXTS, "100-byte text rows", (enum keys)keys, 1000000000, 0);
+        compare_combining(BLOBS, "4 KB blob rows", (enum keys)keys, 1000000000, 0);
+    }
+    printf("\n");
+    print_combining_head("1,000 changes/s");
+    for (int keys = HOT; keys <= APART; keys++)
+        for (long changes = 1000; changes <= 1000000; changes *= 10)
+            compare_combining(INTEGERS, "integer rows", (enum keys)keys, changes / COMBINED, 1);
+}
+
 static void print_head(const char *unit) {
     printf("| job (SQLite writes again by sqlite3changeset_invert twice, the nearest that it has) | input "
            "| ours, %s | SQLite's, %s | ratio | lean SQLite's, %s | ratio |\n|---|---|--:|--:|--:|--:|--:|\n",
            unit, unit, unit);
 }
 
-/* Runs one job once, for a profiler: `ours` or `sqlite`, `read`, `build` or `write`, and `integers`, `texts` or `blobs`. */
+/* combining once, with the rows `hot` or `apart` */
+static int combine_once(const char *who, enum keys keys, enum rows rows) {
+    struct input inputs[COMBINED + 1];
+    make_combined(inputs, rows, keys, 1000000000, COMBINED_BYTES);
+    (strcmp(who, "ours") == 0 ? ours_combines : sqlite_combines)(inputs);
+    free_combined(inputs);
+    return 0;
+}
+
+/* Runs one job once, for a profiler: `ours` or `sqlite`, `read`, `build`, `write`, `hot` or `apart` (combining), and
+ * `integers`, `texts` or `blobs`. */
 static int run_once(const char *who, const char *what, const char *which) {
     enum rows rows = *which == 'i' ? INTEGERS : *which == 't' ? TEXTS : BLOBS;
+    if (strcmp(what, "hot") == 0 || strcmp(what, "apart") == 0)
+        return combine_once(who, strcmp(what, "hot") == 0 ? HOT : APART, rows);
     struct input input = make_input(rows, 1000000000, USUAL_BYTES);
     int writes = strcmp(what, "write") == 0, builds = strcmp(what, "build") == 0;
     if (strcmp(who, "ours") == 0) (writes ? ours_writes : builds ? ours_builds : ours_reads)(&input);
@@ -121,6 +176,7 @@ int main(int count, char **words) {
     mallopt(M_MMAP_MAX, 0);
     mallopt(M_TRIM_THRESHOLD, -1);
     if (count == 4) return run_once(words[1], words[2], words[3]);
+    if (count == 2 && strcmp(words[1], "combine") == 0) return compare_all_combining(), 0;
     print_head("MB/s");
     compare_bytes(INTEGERS, "integer rows");
     compare_bytes(TEXTS, "100-byte text rows");
@@ -131,5 +187,7 @@ int main(int count, char **words) {
     compare_changes(10000);
     compare_changes(100000);
     compare_changes(1000000000);
+    printf("\n");
+    compare_all_combining();
     return 0;
 }

@@ -57,12 +57,17 @@ static unsigned char *put_header(unsigned char *at, enum rows rows) {
     return at + 9;
 }
 
-struct input make_input(enum rows rows, long changes, size_t limit) {
+static unsigned char *room_for(size_t limit) {
     unsigned char *bytes = malloc(limit + MOST_OF_A_CHANGE);
     if (!bytes) {
         fputs("out of memory\n", stderr);
         exit(1);
     }
+    return bytes;
+}
+
+struct input make_input(enum rows rows, long changes, size_t limit) {
+    unsigned char *bytes = room_for(limit);
     state = 1;
     unsigned char *at = put_header(bytes, rows);
     long made = 0;
@@ -73,4 +78,46 @@ struct input make_input(enum rows rows, long changes, size_t limit) {
         made++;
     }
     return (struct input){bytes, (size_t)(at - bytes), made};
+}
+
+/* the columns of a row behind its key, after so many UPDATEs; each UPDATE changes all of them */
+static unsigned char *put_columns_after(unsigned char *at, enum rows rows, uint64_t key, int updates) {
+    int letter = 'a' + (int)((key + (uint64_t)updates) % 26);
+    if (rows == TEXTS) return put_bytes(at, TEXT, 100, letter);
+    if (rows == BLOBS) return put_bytes(at, BLOB, 4096, letter);
+    for (uint64_t column = 1; column < 4; column++)
+        at = put_integer(at, (key * 64 + (uint64_t)updates) * 4 + column);
+    return at;
+}
+
+/* An INSERT of the row that so many UPDATEs leave, or the last of these UPDATEs. */
+static unsigned char *put_step(unsigned char *at, enum rows rows, int operation, uint64_t key, int updates) {
+    *at++ = (unsigned char)operation;
+    *at++ = 0;
+    at = put_integer(at, key);
+    if (operation == INSERT) return put_columns_after(at, rows, key, updates);
+    at = put_columns_after(at, rows, key, updates - 1);
+    *at++ = UNDEFINED;
+    return put_columns_after(at, rows, key, updates);
+}
+
+/* a text of one such change for each of these keys */
+static struct input make_steps(enum rows rows, int operation, uint64_t first, long changes, int updates, size_t limit) {
+    unsigned char *bytes = room_for(limit);
+    unsigned char *at = put_header(bytes, rows);
+    for (long i = 0; i < changes; i++) at = put_step(at, rows, operation, first + (uint64_t)i, updates);
+    return (struct input){bytes, (size_t)(at - bytes), changes};
+}
+
+void make_combined(struct input *inputs, enum rows rows, enum keys keys, long changes, size_t limit) {
+    unsigned char change[MOST_OF_A_CHANGE];
+    size_t each = (size_t)(put_step(change, rows, keys == HOT ? UPDATE : INSERT, 0, 1) - change);
+    long most = (long)((limit - 100) / each);
+    if (changes > most) changes = most;
+    for (int i = 0; i < COMBINED; i++) {
+        if (keys == APART) inputs[i] = make_steps(rows, INSERT, (uint64_t)(i * changes), changes, 0, limit);
+        else inputs[i] = make_steps(rows, i == 0 ? INSERT : UPDATE, 0, changes, i, limit);
+    }
+    if (keys == APART) inputs[COMBINED] = make_steps(rows, INSERT, 0, COMBINED * changes, 0, COMBINED * limit);
+    else inputs[COMBINED] = make_steps(rows, INSERT, 0, changes, COMBINED - 1, limit);
 }

@@ -17,4 +17,14 @@ struct input {
  * `limit` bytes. It is canonical. The caller frees its bytes. Ends the program where memory runs out. */
 struct input make_input(enum rows rows, long changes, size_t limit);
 
+/* Texts that are combined; after them stands the text of the result. */
+enum { COMBINED = 16 };
+
+/* HOT: INSERTs in the first text, and then UPDATEs of all columns but the key, of the same rows in each text. APART:
+ * INSERTs, of rows of its own in each text. */
+enum keys { HOT, APART };
+
+/* Fills COMBINED + 1 inputs. Each text has at most `changes` changes, and as many as fit into `limit` bytes. */
+void make_combined(struct input *inputs, enum rows rows, enum keys keys, long changes, size_t limit);
+
 #endif

@@ -87,3 +87,41 @@ void sqlite_writes(const struct input *input) {
     sqlite3_free(inverse);
     sqlite3_free(again);
 }
+
+/* the texts, combined by ours; the caller frees them */
+static unsigned char *combined(const struct input *inputs) {
+    struct changeset_text texts[COMBINED];
+    size_t room = 0, index = 0, at = 0;
+    uint32_t kind = 0;
+    for (int i = 0; i < COMBINED; i++) {
+        texts[i] = (struct changeset_text){inputs[i].bytes, inputs[i].len};
+        room += inputs[i].len;
+    }
+    unsigned char *out = malloc(room);
+    must(out != NULL, "memory");
+    int64_t len = changeset_combine(texts, COMBINED, out, room, &index, &at, &kind);
+    must(len == (int64_t)inputs[COMBINED].len, "ours_combines");
+    return out;
+}
+
+void ours_combines(const struct input *inputs) { free(combined(inputs)); }
+
+void sqlite_combines(const struct input *inputs) {
+    sqlite3_changegroup *group;
+    must(sqlite3changegroup_new(&group) == SQLITE_OK, "new");
+    for (int i = 0; i < COMBINED; i++)
+        must(sqlite3changegroup_add(group, (int)inputs[i].len, inputs[i].bytes) == SQLITE_OK, "add");
+    int len;
+    void *out;
+    must(sqlite3changegroup_output(group, &len, &out) == SQLITE_OK, "output");
+    must((size_t)len == inputs[COMBINED].len, "sqlite_combines");
+    sqlite3_free(out);
+    sqlite3changegroup_delete(group);
+}
+
+void check_combined(const struct input *inputs) {
+    unsigned char *out = combined(inputs);
+    must_be_same(&inputs[COMBINED], out, inputs[COMBINED].len);
+    free(out);
+    sqlite_combines(inputs);
+}

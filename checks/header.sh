@@ -1,6 +1,6 @@
 #!/bin/sh
 # Checks include/changeset.h: it compiles without a warning as C and as C++, compilers warn of a result that isn't used
-# and of NULL, and both exports do what it says. It prints a line for each, and ends with status 1 where one fails.
+# and of NULL, and the exports do what it says. It prints a line for each, and ends with status 1 where one fails.
 #   sh checks/header.sh        needs gcc, g++ and what `rt lib` leaves (docs/C.md)
 # RT names the prover's command where it isn't `rt`.
 cd "$(dirname "$0")/.." || exit 2
@@ -39,8 +39,15 @@ cat >"$work/null.c" <<'E'
 #include "changeset.h"
 int64_t f(const unsigned char *text, size_t len) { return changeset_canonical(text, len, 0, 0); }
 E
+cat >"$work/no-texts.c" <<'E'
+#include "changeset.h"
+int64_t f(unsigned char *out, size_t *index, size_t *at, uint32_t *kind) {
+    return changeset_combine(0, 0, out, 0, index, at, kind);
+}
+E
 says 'a result that is not used gets a warning' warns gcc -std=c99 $strict -c "$work/unused.c" -o "$work/o"
 says 'NULL gets a warning' warns gcc -std=c99 $strict -c "$work/null.c" -o "$work/o"
-says 'both exports, from C' "$work/c"
-says 'both exports, from C++' "$work/cpp"
+says 'NULL for texts gets a warning' warns gcc -std=c99 $strict -c "$work/no-texts.c" -o "$work/o"
+says 'the exports, from C' "$work/c"
+says 'the exports, from C++' "$work/cpp"
 exit $bad

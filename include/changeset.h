@@ -1,17 +1,18 @@
 /* Functions on the bytes of an SQLite changeset.
  *
  * A text is the bytes of a changeset, as SQLite's session extension writes it. Any bytes may be passed: each call
- * returns, reads nothing outside the text, and keeps no pointer. Lengths, places and rooms are in bytes.
+ * returns, reads nothing outside the texts, and keeps no pointer. Lengths, places and rooms are in bytes.
  *
  * Ownership: the caller owns every buffer before, during and after a call. changeset_check does not allocate.
- * changeset_canonical allocates with malloc and realloc, and frees all of it before it returns.
+ * changeset_canonical and changeset_combine allocate with malloc and realloc, and free all of it before they return.
  *
  * The caller must ensure all of this, and no call checks it:
  * - No pointer is NULL, even if its length is 0; any other address serves then. So (NULL, 0) is not a way to ask for a
- *   length: pass any buffer and a room of 0. `len` and `room` are below 2^63.
- * - `text` has `len` bytes that nobody changes during the call.
- * - `out` has `room` bytes that nobody else reads or changes during the call. It does not overlap `text`.
- * - `fault_at` and `fault_kind` are separate places, aligned, and outside `text`.
+ *   length: pass any buffer and a room of 0. `len` and `room` are below 2^63. So is the size of `texts` in bytes.
+ * - `text` has `len` bytes that nobody changes during the call. So has each text of `texts`, which has `count` of them.
+ *   One text may stand in `texts` twice, and texts may overlap.
+ * - `out` has `room` bytes that nobody else reads or changes during the call. It does not overlap a text or `texts`.
+ * - `fault_text`, `fault_at` and `fault_kind` are separate places, aligned, and outside the texts, `texts` and `out`.
  * - No call is made in a signal handler, or in the forked child of a process with threads.
  * Two threads may make calls at once if each has its own output buffers. */
 #ifndef CHANGESET_H
@@ -46,8 +47,10 @@ extern "C" {
 
 /* The text spells no changeset. */
 #define CHANGESET_NONE (-1)
-/* Memory ran out. The text spells a changeset. */
+/* Memory ran out. changeset_canonical returns this only if the text spells a changeset. */
 #define CHANGESET_NO_MEMORY (-2)
+/* The texts can't be combined: a section's table has the name of an earlier section's and another shape. */
+#define CHANGESET_CLASH (-3)
 
 /* The kind of a fault. */
 enum changeset_fault_kind {
@@ -113,6 +116,42 @@ CHANGESET_CALL int64_t changeset_check(const unsigned char *CHANGESET_ALONE text
  */
 CHANGESET_CALL int64_t changeset_canonical(const unsigned char *CHANGESET_ALONE text, size_t len,
                                            unsigned char *CHANGESET_ALONE out, size_t room);
+
+/* One of several texts: `len` bytes. */
+struct changeset_text {
+    const unsigned char *bytes;
+    size_t len;
+};
+
+/* Combines `count` texts into one, in their order, as sqlite3changegroup_add of each and sqlite3changegroup_output do:
+ * a row's changes become one change or none. Writes the canonical text of the result. Returns one of these:
+ * - 0 or more: the length of that text. It is written only if this result is at most `room`: then it is at the start of
+ *   `out`, and the bytes after it do not change. Else `out` does not change. 0 is the result if no change is left, and
+ *   if `count` is 0.
+ * - CHANGESET_NONE: the first text that can't be added spells no changeset. `*fault_text` is set to its index, from 0.
+ *   `*fault_at` and `*fault_kind` are set to the place and the kind of its fault, as `changeset_check` does.
+ * - CHANGESET_CLASH: the first text that can't be added has a section whose table has the name of an earlier section's
+ *   and another shape, in the same text or in one before it: another number of columns, or other key columns.
+ *   `*fault_text` is set to the text's index, from 0, and `*fault_at` to that of its first such section, from 0.
+ *   `*fault_kind` does not change.
+ * - CHANGESET_NO_MEMORY: memory ran out. This is also the result if the length is not below 2^63.
+ * Unless it returns 0 or more, it does not change `out`. Unless it returns CHANGESET_NONE or CHANGESET_CLASH, it does
+ * not change `*fault_text`, `*fault_at` and `*fault_kind`.
+ *
+ * The room needed is not known before the first call, so there are two:
+ *     struct changeset_text texts[2] = {{one, one_len}, {two, two_len}};
+ *     size_t index, at;
+ *     uint32_t kind;
+ *     unsigned char none;
+ *     int64_t need = changeset_combine(texts, 2, &none, 0, &index, &at, &kind);
+ *     if (need < 0) return need;
+ *     unsigned char *out = malloc(need ? (size_t)need : 1);
+ *     if (!out || changeset_combine(texts, 2, out, (size_t)need, &index, &at, &kind) < 0) ... memory ran out
+ */
+CHANGESET_CALL int64_t changeset_combine(const struct changeset_text *CHANGESET_ALONE texts, size_t count,
+                                         unsigned char *CHANGESET_ALONE out, size_t room,
+                                         size_t *CHANGESET_ALONE fault_text, size_t *CHANGESET_ALONE fault_at,
+                                         uint32_t *CHANGESET_ALONE fault_kind);
 
 #ifdef __cplusplus
 }

@@ -1,5 +1,5 @@
 -- The exports' results allow no other result, because a text either spells one changeset or has one fault.
-use Rattle.std.proofs.Common.{◌≡◌, ℕ, suc, zero, ◌⊎◌, inl, inr, ℤ, pos, negsuc, List, length, refl, sym, ap, ◌∙◌, arith}
+use Rattle.std.proofs.Common.{◌≡◌, ℕ, suc, zero, ◌⊎◌, inl, inr, ℤ, pos, negsuc, List, length, refl, sym, ap, ◌∙◌}
 use Rattle.cs_model.specs.Section.{Section}
 use Rattle.cs_model.specs.Text.{Spells}
 use Rattle.cs_parse.specs.declared.fault.ParseFault.{ParseFault}

@@ -1,1 +1,3 @@
+pub mod CombineLaws
 pub mod Laws
+pub mod Outcomes

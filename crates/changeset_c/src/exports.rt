@@ -1,16 +1,22 @@
 //! The functions that C calls, under the names of `include/changeset.h`. A slice is passed as its
 //! pointer and its length. The allocator isn't an argument in C.
 
-ghost use Rattle.std.specs.Prelude.{◌≡◌, List, pos, negsuc, length};
+ghost use Rattle.std.specs.Prelude.{◌≡◌, ℕ, List, [], None, pos, negsuc, length};
 ghost use Rattle.cs_model.specs.Section.{Section};
 ghost use Rattle.cs_model.specs.Text.{Spells};
 ghost use Rattle.cs_parse.specs.declared.fault.ParseFault.{ParseFault};
 ghost use Rattle.cs_parse.specs.Count.{changes_in};
 ghost use Rattle.cs_parse.specs.Fault.{IsFault};
 ghost use Rattle.cs_write.specs.Text.{text_of};
+ghost use Rattle.cs_group.specs.Adding.{first_refused};
+ghost use Rattle.changeset_c.specs.Combining.{CombineSays, HasClash, HasTextFault, IsClash};
+ghost use Rattle.changeset_c.specs.Combining.{IsTextFault, KeptUnlessBad, SpellAll};
+ghost use Rattle.changeset_c.specs.Combining.{combined_text, texts_of};
 ghost use Rattle.changeset_c.specs.Says.{CheckSays, CanonicalSays, IsNumber, IsFaultAt, KeptBut};
 
 use crate::answers::{canonical, check};
+use crate::combining::{Text, combine};
+use crate::reading::texts_are_read_so;
 use cs_parse::laws::every_text;
 use std::alloc::Global;
 
@@ -48,4 +54,44 @@ pub extern "C" fn changeset_canonical(alloc: Global, text: &[u8], out: &mut [u8]
 {
     every_text();
     canonical(alloc, text, out)
+}
+
+/// Combines texts into one, in their order. Returns the length of the canonical text of their
+/// group, in bytes, written to the front of `out` if there is room for it.
+///
+/// Returns -1 if the first text that can't be added has a fault. Sets `fault_text` to the text's
+/// index, and `fault_at` and `fault_kind` to the fault's place and its kind's number. Returns -3 if
+/// that text has a section whose table has the name of an earlier section's and another shape. Sets
+/// `fault_text` to the text's index, and `fault_at` to the section's. Indexes are from 0. Returns
+/// -2 if memory ran out. What is not named here does not change.
+#[unsafe(no_mangle)]
+pub extern "C" fn changeset_combine(
+    alloc: Global,
+    texts: &[Text],
+    out: &mut [u8],
+    fault_text: &mut usize,
+    fault_at: &mut usize,
+    fault_kind: &mut u32,
+) -> i64
+    // The result is true of the texts, and `out` is as it says.
+    ensures says { CombineSays result (texts_of texts.now) out.old out.new
+        fault_text.new fault_at.new fault_kind.new }
+    // If the texts spell changesets of which no two clash, the result is the length of the text of
+    // their group, unless memory runs out.
+    ensures only { (changesets : List (List Section)) → SpellAll (texts_of texts.now) changesets
+        → first_refused [] changesets ≡ None
+        → IsNumber result (length (combined_text changesets)) }
+    // If the first text that can't be added has a fault, the result is -1 and that fault, unless
+    // memory runs out.
+    ensures the_fault { (text at kind : ℕ) → HasTextFault (texts_of texts.now) text at kind
+        → IsTextFault result fault_text.new fault_at.new fault_kind.new text at kind }
+    // If it has a section that clashes, the result is -3 and that section, unless memory runs out.
+    ensures the_clash { (text section : ℕ) → HasClash (texts_of texts.now) text section
+        → IsClash result fault_text.new fault_at.new text section }
+    ensures same_text { KeptUnlessBad result fault_text.old fault_text.new }
+    ensures same_place { KeptUnlessBad result fault_at.old fault_at.new }
+    ensures same_kind { KeptBut result fault_kind.old fault_kind.new }
+{
+    texts_are_read_so(texts);
+    combine(alloc, texts, out, fault_text, fault_at, fault_kind)
 }

@@ -1,9 +1,12 @@
-//! Functions on the bytes of a changeset, for C. Each reads a text, and works on the changeset that
-//! it spells. Theorem: what each export returns is true of the text, whatever its bytes are.
+//! Functions on the bytes of changesets, for C. Each reads a text or several, and works on the
+//! changesets that they spell. Theorem: what each export returns is true of the texts, whatever
+//! their bytes are.
 #![tactic(auto)]
 
 mod answers;
+mod combining;
 mod exports;
 mod kinds;
+mod reading;
 #[cfg(test)]
 mod tests;

@@ -1,9 +1,10 @@
-//! The one test that the exports need in this crate, since no other crate can call them: with
-//! enough memory the canonical text is written. Their contracts state the rest.
+//! The tests that the exports need in this crate, since no other crate can call them: with enough
+//! memory the canonical text is written, and texts are combined. Their contracts state the rest.
 
 ghost use Rattle.std.specs.Prelude.{◌<◌};
 
-use crate::exports::changeset_canonical;
+use crate::combining::Text;
+use crate::exports::{changeset_canonical, changeset_combine};
 use std::alloc::Global;
 use std::process::Abort;
 use std::test::*;
@@ -40,6 +41,11 @@ fn writes(
         answer = changeset_canonical(alloc, text, &mut buffer[..room]);
     }
     assert_eq!(rt; answer, want);
+    begins(rt, alloc, &buffer, front)
+}
+
+// that the bytes after `front` are 9
+fn begins(rt: &impl Abort, alloc: Global, buffer: &[u8; 60], front: &[u8]) -> Result<(), Fail> {
     let mut all = Vec::from_slice(alloc, front)?;
     for _ in front.len()..60 {
         all.push(9)?;
@@ -57,4 +63,53 @@ fn canonical_text_is_written_where_there_is_room(rt: HostRuntime) -> Result<(), 
     writes(&rt, alloc, &LOOSE[..48], 34, 34, &TIGHT)?;
     writes(&rt, alloc, &LOOSE[..48], 59, 34, &TIGHT)?;
     writes(&rt, alloc, &LOOSE, 59, -1, &[])
+}
+
+// an INSERT of the row (1, 5) of a table with two columns
+const INSERTED: [u8; 26] = [
+    0x54, 2, 1, 0, 0x74, 0, 0x12, 0, 1, 0, 0, 0, 0, 0, 0, 0, 1, 1, 0, 0, 0, 0, 0, 0, 0, 5,
+];
+
+// the UPDATE of its 5 to 6
+const UPDATED: [u8; 36] = [
+    0x54, 2, 1, 0, 0x74, 0, 0x17, 0, 1, 0, 0, 0, 0, 0, 0, 0, 1, 1, 0, 0, 0, 0, 0, 0, 0, 5, 0, 1, 0,
+    0, 0, 0, 0, 0, 0, 6,
+];
+
+// both: an INSERT of (1, 6)
+const BOTH: [u8; 26] = [
+    0x54, 2, 1, 0, 0x74, 0, 0x12, 0, 1, 0, 0, 0, 0, 0, 0, 0, 1, 1, 0, 0, 0, 0, 0, 0, 0, 6,
+];
+
+// a table of its own, and then that table with one column
+const OTHER: [u8; 10] = [0x54, 1, 1, 0x75, 0, 0x54, 1, 1, 0x74, 0];
+
+// Combines INSERTED with a second text, in a buffer of 60 bytes of 9, of which `room` are passed.
+// Compares all 60, and the index, place and kind, which are 7 before.
+fn combines(
+    rt: &impl Abort,
+    alloc: Global,
+    second: &[u8],
+    room: usize,
+    want: (i64, usize, usize, u32),
+    front: &[u8],
+) -> Result<(), Fail>
+    requires { room < 60 }
+{
+    let mut buffer = [9u8; 60];
+    let (mut text, mut at, mut kind) = (7usize, 7usize, 7u32);
+    let texts = [Text { bytes: &INSERTED }, Text { bytes: second }];
+    let out = &mut buffer[..room];
+    let answer = changeset_combine(alloc, &texts, out, &mut text, &mut at, &mut kind);
+    assert_eq!(rt; (answer, text, at, kind), want);
+    begins(rt, alloc, &buffer, front)
+}
+
+#[test]
+fn texts_are_combined(rt: HostRuntime) -> Result<(), Fail> {
+    let alloc = rt.alloc();
+    combines(&rt, alloc, &UPDATED, 26, (26, 7, 7, 7), &BOTH)?;
+    combines(&rt, alloc, &UPDATED, 25, (26, 7, 7, 7), &[])?;
+    combines(&rt, alloc, &UPDATED[..12], 59, (-1, 1, 12, 16), &[])?;
+    combines(&rt, alloc, &OTHER, 59, (-3, 1, 1, 7), &[])
 }

@@ -1,0 +1,152 @@
+//! Combines several texts into one, as the export `changeset_combine` does.
+
+ghost use Rattle.std.specs.Prelude.{◌≡◌, [], IfErr, IfOk, None, OnErr, OnOk, length, pos};
+ghost use Rattle.cs_group.specs.Adding.{first_refused, sections_in};
+ghost use Rattle.cs_write.specs.Buffer.{given};
+ghost use Rattle.cs_write.specs.Text.{text_of};
+ghost use Rattle.changeset_c.specs.Combining.{combined_text, texts_of};
+ghost use Rattle.changeset_c.specs.Combining.{CombineSays, KeptUnlessBad, ReadUntil, Refuses};
+ghost use Rattle.changeset_c.specs.Combining.{ReportsFirstClash, Writes};
+ghost use Rattle.changeset_c.specs.Says.{KeptBut};
+ghost use Rattle.changeset_c.specs.declared.combining.Refusal.TheVariants.{Memory};
+
+use crate::kinds::kind_number;
+use cs_group::{Group, GroupError};
+use cs_model::Changeset;
+use cs_parse::{ParseError, ParseFault, parse};
+use cs_write::write_to;
+use std::alloc::{AllocError, AllocFailed, Global};
+
+// a text spells no changeset
+const NO_CHANGESET: i64 = -1;
+// memory ran out
+const NO_MEMORY: i64 = -2;
+// a section's table has the name of an earlier one's, and another shape
+const CLASH: i64 = -3;
+
+/// A text, as C passes one: a pointer and a length.
+#[derive(Clone, Copy)]
+#[repr(C)]
+pub struct Text<'a> {
+    /// The bytes of the text.
+    pub bytes: &'a [u8],
+}
+
+/// Why texts can't be combined. `text` is the index of the first text that can't be added.
+#[derive(Clone, Copy, Debug, Drop)]
+pub enum Refusal {
+    /// The text has this fault.
+    Fault { text: usize, fault: ParseFault },
+    /// The text spells a changeset whose section with this index clashes with an earlier one.
+    Clash { text: usize, section: usize },
+    /// Out of memory.
+    Memory,
+}
+
+impl From<AllocError> for Refusal {
+    ghost from_gives = { λ _ e. e ≡ Memory };
+
+    fn from(_e: AllocError) -> Refusal {
+        Refusal::Memory
+    }
+}
+
+impl<T: Drop> From<AllocFailed<T>> for Refusal {
+    ghost from_gives = { λ _ e. e ≡ Memory };
+
+    fn from(_e: AllocFailed<T>) -> Refusal {
+        Refusal::Memory
+    }
+}
+
+// the changesets of the texts before the first one with a fault, and the fault
+fn read(alloc: Global, texts: &[Text]) -> Result<(Vec<Changeset>, Option<ParseFault>), AllocError>
+    ensures { IfOk result (λ r. ReadUntil (texts_of texts.now) r.0.items r.1) }
+{
+    let mut changesets = Vec::new(alloc);
+    for text in texts {
+        match parse(alloc, text.bytes) {
+            Ok(changeset) => changesets.push(changeset)?,
+            Err(ParseError::Fault(fault)) => return Ok((changesets, Some(fault))),
+            Err(ParseError::Memory) => return Err(AllocError),
+        }
+    }
+    Ok((changesets, None))
+}
+
+// the group of the changesets
+fn grouped<'a>(alloc: Global, changesets: &'a [Changeset]) -> Result<Group<'a>, Refusal>
+    ensures ok { IfOk result (λ group. group ≡ sections_in changesets.now) }
+    ensures fits { OnOk result (first_refused [] changesets.now ≡ None) }
+    ensures refused { IfErr result (λ e. ReportsFirstClash e changesets.now) }
+{
+    let mut group = Group::new(alloc);
+    for (text, changeset) in changesets.iter().enumerate() {
+        match group.add(alloc, changeset) {
+            Ok(()) => {}
+            Err(GroupError::Schema { section }) => return Err(Refusal::Clash { text, section }),
+            Err(GroupError::Memory) => return Err(Refusal::Memory),
+        }
+    }
+    Ok(group)
+}
+
+// Writes the canonical text if there is room for it, and returns its length.
+fn written(alloc: Global, changeset: &Changeset, out: &mut [u8]) -> Result<i64, AllocError>
+    ensures len { IfOk result (λ n. n ≡ pos (length (text_of changeset.now))) }
+    ensures ok { OnOk result (out.new ≡ given (text_of changeset.now) out.old) }
+    ensures err { OnErr result (out.new ≡ out.old) }
+{
+    let len = write_to(alloc, changeset, out)?;
+    // no memory holds a longer text
+    i64::try_from(len).map_err(|_| AllocError)
+}
+
+// Combines the texts, and writes the text of the result if there is room for it.
+fn combined(alloc: Global, texts: &[Text], out: &mut [u8]) -> Result<i64, Refusal>
+    ensures ok { IfOk result (λ n. Writes n (texts_of texts.now) out.old out.new) }
+    ensures refused { IfErr result (λ e. Refuses e (texts_of texts.now)) }
+    ensures err { OnErr result (out.new ≡ out.old) }
+{
+    let (changesets, fault) = read(alloc, texts)?;
+    let group = grouped(alloc, &changesets)?;
+    if let Some(fault) = fault {
+        let text = changesets.len();
+        return Err(Refusal::Fault { text, fault });
+    }
+    let changeset = group.output(alloc)?;
+    Ok(written(alloc, &changeset, out)?)
+}
+
+/// The length of the text of the texts' group, which is written if `out` has room for it; -1; -2;
+/// or -3.
+pub fn combine(
+    alloc: Global,
+    texts: &[Text],
+    out: &mut [u8],
+    fault_text: &mut usize,
+    fault_at: &mut usize,
+    fault_kind: &mut u32,
+) -> i64
+    ensures says { CombineSays result (texts_of texts.now) out.old out.new
+        fault_text.new fault_at.new fault_kind.new }
+    ensures same_text { KeptUnlessBad result fault_text.old fault_text.new }
+    ensures same_place { KeptUnlessBad result fault_at.old fault_at.new }
+    ensures same_kind { KeptBut result fault_kind.old fault_kind.new }
+{
+    match combined(alloc, texts, out) {
+        Ok(len) => len,
+        Err(Refusal::Memory) => NO_MEMORY,
+        Err(Refusal::Fault { text, fault }) => {
+            *fault_text = text;
+            *fault_at = fault.at;
+            *fault_kind = kind_number(fault.kind);
+            NO_CHANGESET
+        }
+        Err(Refusal::Clash { text, section }) => {
+            *fault_text = text;
+            *fault_at = section;
+            CLASH
+        }
+    }
+}
