@@ -1,4 +1,4 @@
-/* Calls both exports on many texts, and checks that as many bytes are in use behind each call as before it: where the
+/* Calls the exports on many texts, and checks that as many bytes are in use behind each call as before it: where the
  * text is right, faulty or long, where there is too little room, and wherever an allocation is refused. */
 #include "changeset.h"
 #include "count.h"
@@ -12,7 +12,7 @@ enum { MOST = 16777216, FILL = 0xee };
 static unsigned char text[MOST + 1];
 static size_t len;
 static unsigned char out[MOST];
-static long checks, writes, refusals, told, bad;
+static long checks, writes, combines, refusals, told, bad;
 
 static void must(int holds, const char *what) {
     if (!holds && ++bad <= 10) printf("%s, a text of %zu bytes\n", what, len);
@@ -47,6 +47,39 @@ static int64_t write_again(size_t room, unsigned long number, unsigned long *cou
     return answer;
 }
 
+/* changeset_combine's answer for the text and itself again */
+static int64_t combine_again(size_t room, unsigned long number, unsigned long *count) {
+    struct changeset_text texts[] = {{text, len}, {text, len}};
+    memset(out, FILL, room);
+    size_t before = in_use, which = 7, at = 7;
+    uint32_t kind = 99;
+    unsigned long asked_before = asked;
+    refused_at = number ? asked + number : 0;
+    int64_t answer = changeset_combine(texts, 2, out, room, &which, &at, &kind);
+    refused_at = 0;
+    *count = asked - asked_before;
+    must(in_use == before, "changeset_combine leaves other bytes in use");
+    must((kind == 99) == (answer != CHANGESET_NONE), "changeset_combine sets a kind for no fault");
+    size_t end = answer >= 0 && (size_t)answer <= room ? (size_t)answer : 0;
+    while (end < room && out[end] == FILL) end++;
+    must(end == room, "changeset_combine writes where it mustn't");
+    combines++;
+    return answer;
+}
+
+/* the text combined with itself, and each of the allocations for that refused */
+static void combine(int64_t changes) {
+    unsigned long count, ignored;
+    int64_t answer = combine_again(len <= MOST ? len : MOST, 0, &count);
+    must((changes < 0) == (answer == CHANGESET_NONE), "changeset_combine reads otherwise");
+    for (unsigned long number = 1; number <= count; number++) {
+        int64_t now = combine_again(0, number, &ignored);
+        must(now == answer || now == CHANGESET_NO_MEMORY, "changeset_combine answers wrongly without memory");
+        refusals++;
+        told += now == CHANGESET_NO_MEMORY;
+    }
+}
+
 /* all calls on the text */
 static void call(void) {
     unsigned long count, ignored;
@@ -63,6 +96,7 @@ static void call(void) {
             told += now == CHANGESET_NO_MEMORY;
         }
     }
+    combine(changes);
 }
 
 static void put(const void *bytes, size_t count) {
@@ -115,7 +149,7 @@ int main(void) {
     call();
 
     size_t left = in_use;
-    printf("%ld calls of changeset_check, %ld of changeset_canonical\n", checks, writes);
+    printf("%ld calls of changeset_check, %ld of changeset_canonical, %ld of changeset_combine\n", checks, writes, combines);
     printf("an allocation was refused in %ld, of which %ld told it\n", refusals, told);
     printf("in use at the end %zu bytes, at most %zu; %ld faults\n", left, most_in_use, bad);
     return bad != 0;

@@ -1,5 +1,5 @@
 #!/bin/sh
-# Checks that memory is given back: by both exports for C at every call, and by the program at its end. It prints the numbers.
+# Checks that memory is given back: by the exports for C at every call, and by the program at its end. It prints the numbers.
 #   sh checks/leaks.sh        needs gcc, and what `rt run` and `rt lib` leave (docs/C.md and README.md)
 # RT names the prover's command where it isn't `rt`.
 cd "$(dirname "$0")/.." || exit 2
@@ -81,6 +81,10 @@ have 2000 floor
 have 2000 'refused Conflict'
 have 3000 fault
 told 'as much in use at the end of both' test -n "$left" -a "$left" = "$left_of_100"
+
+# what one piece, one change and one fault take at most: two tables and a few changes are far below 1 MB
+measure nothing_kept 1
+told 'a few small changesets take less than 1,000,000 bytes' test -n "$most" -a "$most" -lt 1000000
 
 measure nothing_kept 100
 left_of_100=$left most_of_100=$most
