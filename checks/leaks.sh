@@ -82,9 +82,11 @@ have 2000 'refused Conflict'
 have 3000 fault
 told 'as much in use at the end of both' test -n "$left" -a "$left" = "$left_of_100"
 
-# what one piece, one change and one fault take at most: two tables and a few changes are far below 1 MB
-measure nothing_kept 1
-told 'a few small changesets take less than 1,000,000 bytes' test -n "$most" -a "$most" -lt 1000000
+# a few pieces, changes of each kind, conflicts and faults are far below 1 MB
+for script in nothing_kept all_kinds; do
+    measure $script 1
+    told 'a few small changesets take less than 1,000,000 bytes' test -n "$most" -a "$most" -lt 1000000
+done
 
 measure nothing_kept 100
 left_of_100=$left most_of_100=$most

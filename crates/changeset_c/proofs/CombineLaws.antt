@@ -18,13 +18,13 @@ use Rattle.changeset_c.specs.Kinds.{kind_number}
 
 -- ---- texts that spell changesets
 
-pub one_more : (texts : List (List ℕ)) (changesets : List (List Section)) (text : List ℕ) (changeset : List Section)
-    → SpellAll texts changesets → Spells text changeset
+pub one_text_more : (texts : List (List ℕ)) (changesets : List (List Section)) (text : List ℕ)
+    (changeset : List Section) → SpellAll texts changesets → Spells text changeset
     → SpellAll (texts ++ text ∷ []) (changesets ++ changeset ∷ [])
-one_more [] [] text changeset all one = (one, tt)
-one_more [] (c ∷ cs) text changeset all one = absurd all
-one_more (t ∷ ts) [] text changeset all one = absurd all
-one_more (t ∷ ts) (c ∷ cs) text changeset all one = (all.0, one_more ts cs text changeset all.1 one)
+one_text_more [] [] text changeset all one = (one, tt)
+one_text_more [] (c ∷ cs) text changeset all one = absurd all
+one_text_more (t ∷ ts) [] text changeset all one = absurd all
+one_text_more (t ∷ ts) (c ∷ cs) text changeset all one = (all.0, one_text_more ts cs text changeset all.1 one)
 
 pub same_count : (texts : List (List ℕ)) (changesets : List (List Section)) → SpellAll texts changesets
     → length changesets ≡ length texts
@@ -61,8 +61,8 @@ split (t ∷ ts) (c ∷ front) changeset rest all =
 
 -- ---- the loop that reads the texts
 
-abbrev pub no_text : Text
-no_text = record { bytes = record { ref_ptr = (0, 0); now = [] } }
+abbrev pub blank_text : Text
+blank_text = record { bytes = record { ref_ptr = (0, 0); now = [] } }
 
 pub texts_front : (texts : List Text) (i : ℕ) → texts_of texts ≡ texts_of (take i texts) ++ texts_of (drop i texts)
 texts_front texts i = ap texts_of (sym (take-append-drop i texts))
@@ -75,7 +75,7 @@ pub read_next : (texts : List Text) (i : ℕ) (text : Text) (changesets : List (
 read_next texts i text changesets changeset next all one =
     subst (λ xs. SpellAll xs (changesets ++ changeset ∷ []))
     (sym (ap texts_of next ∙ map-append (λ (text : Text). text.bytes.now) (take i texts) (text ∷ [])))
-    (one_more (texts_of (take i texts)) changesets text.bytes.now changeset all one)
+    (one_text_more (texts_of (take i texts)) changesets text.bytes.now changeset all one)
 
 pub read_cut : (texts : List Text) (i : ℕ) (text : Text) (changesets : List (List Section)) (fault : ParseFault)
     → drop i texts ≡ text ∷ drop (i + 1) texts → SpellAll (texts_of (take i texts)) changesets
@@ -192,10 +192,10 @@ clash_told texts changesets (Some fault) index section cut at =
       clash = at.clash;
     }
 
-pub fault_told : (texts : List (List ℕ)) (changesets : List (List Section)) (fault : ParseFault) (index : ℕ)
+pub text_fault_told : (texts : List (List ℕ)) (changesets : List (List Section)) (fault : ParseFault) (index : ℕ)
     → index ≡ length changesets → IsCutBy texts changesets fault → first_refused [] changesets ≡ None
     → HasTextFault texts index fault.at (kind_number fault.kind)
-fault_told texts changesets fault index is cut fits = record {
+text_fault_told texts changesets fault index is cut fits = record {
   front = cut.front;
   text = cut.text;
   changesets = changesets;

@@ -8,3 +8,4 @@ pub mod Moves
 pub mod Told
 pub mod Texts
 pub mod Headline
+pub mod Rows

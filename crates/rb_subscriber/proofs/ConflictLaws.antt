@@ -88,8 +88,9 @@ GroupsConflictSingly = (old : tables.TableState) (sections : List Section) (conf
     → HaveColumns old → single old (group_of sections) ≡ Err conflict → (other : Conflict)
     × (single old sections ≡ Err other)
 
-pub conflict_singly : RunContinues → GroupsConflictSingly → (old : Endpoint) (sequence : List Entry) (delivery : Delivery)
-    (conflict : Conflict) → AreChangesets (brought old sequence delivery) → HaveColumns old.tables
+pub conflict_singly : RunContinues → GroupsConflictSingly → (old : Endpoint) (sequence : List Entry)
+    (delivery : Delivery) (conflict : Conflict) → AreChangesets (brought old sequence delivery)
+    → HaveColumns old.tables
     → accept old sequence delivery ≡ Err (refusal.Conflict conflict)
     → ConflictsSingly old.tables (brought old sequence delivery)
 conflict_singly goes group old sequence delivery conflict valid have e =
