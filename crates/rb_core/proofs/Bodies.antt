@@ -1,7 +1,7 @@
 -- What is staged, sent and placed are changesets.
-use Rattle.std.proofs.Common.{◌≡◌, ◌∙◌, ℕ, zero, suc, inl, inr, List, [], ◌∷◌, ◌++◌, Option, Some, None}
+use Rattle.std.proofs.Common.{ℕ, zero, suc, inl, inr, List, [], ◌∷◌, Option, None}
 use Rattle.std.proofs.Common.{take, drop, sym, ap, subst}
-use Rattle.std.specs.Prelude.{IfSome, slice_get}
+use Rattle.std.specs.Prelude.{IfSome}
 use Rattle.std.specs.List.{AllByRecursion}
 use Rattle.cs_model.proofs.CallerLemmas.{all_push}
 use Rattle.cs_model.specs.Changeset.{IsChangeset}

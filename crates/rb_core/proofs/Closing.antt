@@ -1,5 +1,5 @@
 -- Nothing is placed once the sequence is closed, and a closed subscription accepts nothing more.
-use Rattle.std.proofs.Common.{◌≡◌, ℕ, Bool, true, false, inl, inr, List, [], ◌∷◌, ◌++◌, Option, Some, None, refl, sym}
+use Rattle.std.proofs.Common.{◌≡◌, ℕ, true, inl, inr, List, Option, Some, None, refl, sym}
 use Rattle.std.proofs.Common.{subst, ◌∙◌}
 use Rattle.std.specs.Prelude.{slice_get, slice_set}
 use Rattle.std.proofs.lemmas.Bool.Decides.{eqb_tells}
@@ -7,7 +7,7 @@ use Rattle.cs_apply.specs.State as tables
 use Rattle.rb_desk.proofs.pictures.PictureLaws.{get_set, get_set_other}
 use Rattle.rb_sequence.specs.Entry.{Entry}
 use Rattle.rb_core.specs.World.{Subscriber, World}
-use Rattle.rb_core.specs.Moves.{with_subscriber, Leads, StaysClosed}
+use Rattle.rb_core.specs.Moves.{Leads, StaysClosed}
 use Rattle.rb_core.proofs.Moving.{get_push, MovingKeeps, kept_through}
 
 -- ---- the sequence

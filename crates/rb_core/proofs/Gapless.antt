@@ -1,7 +1,7 @@
 -- A subscription has accepted one contiguous run of the sequence after its start.
-use Rattle.std.proofs.Common.{◌≡◌, ℕ, zero, suc, ◌+◌, ◌-◌, ◌<◌, ◌≤◌, Bool, true, false, List, [], ◌∷◌, ◌++◌, length}
-use Rattle.std.proofs.Common.{take, drop, min, Option, Some, None, refl, sym, ap, subst, ◌∙◌, arith}
-use Rattle.std.specs.Prelude.{slice_get, slice_set}
+use Rattle.std.proofs.Common.{◌≡◌, ℕ, suc, ◌+◌, ◌-◌, ◌≤◌, true, false, List, [], ◌∷◌, ◌++◌, length}
+use Rattle.std.proofs.Common.{drop, Some, refl, sym, ap, subst, ◌∙◌, arith}
+use Rattle.std.specs.Prelude.{slice_get}
 use Rattle.std.specs.List.{AllByRecursion}
 use Rattle.std.proofs.lemmas.List.{length-take, length-drop, length-append}
 use Rattle.cs_model.proofs.CallerLemmas.{all_push}
@@ -9,9 +9,9 @@ use Rattle.rb_desk.specs.declared.delivery.Delivery.{Delivery}
 use Rattle.rb_sequence.specs.Entry.{Entry}
 use Rattle.rb_subscriber.specs.Accept.{part}
 use Rattle.rb_subscriber.proofs.RunLaws.{parts, part_stays}
-use Rattle.rb_core.specs.World.{Subscriber, World, world_begun, cursor, endpoint_of}
-use Rattle.rb_core.specs.Moves.{IsIn, with_subscriber, AddsPublisher, Streams, Sends, Pulls, Places, Closes, Subscribes}
-use Rattle.rb_core.specs.Moves.{Delivers, Accepts, Reconnects, Unsubscribes, Moves, Leads}
+use Rattle.rb_core.specs.World.{Subscriber, World, world_begun, cursor}
+use Rattle.rb_core.specs.Moves.{with_subscriber}
+use Rattle.rb_core.specs.Moves.{Leads}
 use Rattle.rb_core.proofs.Moving.{all_set, all_get, all_in, all_map, MovingKeeps, kept_through}
 
 -- a delivery's numbers are placed

@@ -1,8 +1,7 @@
 -- Each publisher's sendings are in the sequence in the order in which it sent them, each once.
 use Rattle.std.proofs.Common.{◌≡◌, ◌==◌, ℕ, zero, suc, ◌+◌, ◌≤◌, inl, inr, Bool, true, false, cond, List, [], ◌∷◌, ◌++◌}
-use Rattle.std.proofs.Common.{length, map, Option, Some, None, refl, sym, ap, subst, ◌∙◌, append_assoc, arith}
+use Rattle.std.proofs.Common.{length, Option, Some, None, refl, sym, ap, subst, ◌∙◌, append_assoc, arith}
 use Rattle.std.specs.Prelude.{slice_get, slice_set}
-use Rattle.std.specs.List.{filter}
 use Rattle.std.proofs.lemmas.Bool.Decides.{eqb_tells}
 use Rattle.std.proofs.lemmas.List.{append-nil, map-append}
 use Rattle.std.proofs.lemmas.List.Elements.{filter-append}
@@ -10,7 +9,7 @@ use Rattle.rb_desk.proofs.pictures.PictureLaws.{get_set, get_set_other}
 use Rattle.rb_sequence.specs.declared.item.Item.{Item}
 use Rattle.rb_sequence.specs.Entry.{Entry}
 use Rattle.rb_core.specs.World.{Sender, World, world_begun}
-use Rattle.rb_core.specs.Moves.{with_sender, AddsPublisher, Streams, Sends, Pulls, Places, Leads, items_of, own_of}
+use Rattle.rb_core.specs.Moves.{Leads, items_of, own_of}
 use Rattle.rb_core.specs.Moves.{IsFront, IsIn, IsSending}
 use Rattle.rb_core.proofs.Moving.{MovingKeeps, kept_through}
 

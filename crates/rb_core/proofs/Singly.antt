@@ -1,5 +1,5 @@
 -- Where what a subscription accepted applies singly, its tables are what that gives.
-use Rattle.std.proofs.Common.{◌≡◌, ◌↔◌, ℕ, false, List, [], ◌∷◌, ◌++◌, Some, Ok, refl, sym, ap, subst}
+use Rattle.std.proofs.Common.{◌≡◌, ◌↔◌, ℕ, List, [], ◌∷◌, ◌++◌, Some, Ok, refl, sym, ap, subst}
 use Rattle.std.specs.Prelude.{slice_get, ◌-◌}
 use Rattle.std.specs.List.{AllByRecursion}
 use Rattle.cs_model.proofs.CallerLemmas.{all_append, all_push}
@@ -11,7 +11,7 @@ use Rattle.rb_sequence.specs.Entry.{Entry}
 use Rattle.rb_subscriber.specs.Accept.{accept, brought, AcceptsDelivery, AppliesSingly, AreChangesets}
 use Rattle.rb_subscriber.specs.Endpoint.{Endpoint}
 use Rattle.rb_core.specs.World.{Subscriber, World, world_begun, cursor, endpoint_of}
-use Rattle.rb_core.specs.Moves.{with_subscriber, Accepts, HasSingleTables, Leads}
+use Rattle.rb_core.specs.Moves.{with_subscriber, HasSingleTables, Leads}
 use Rattle.rb_core.proofs.Bodies.{HasChangesets, changesets_kept, part_of_changesets}
 use Rattle.rb_core.proofs.Moving.{all_set, all_get, MovingKeeps, kept_through}
 

@@ -13,7 +13,7 @@ use Rattle.rb_desk.proofs.pictures.PictureLaws.{get_set, get_set_other}
 use Rattle.rb_subscriber.specs.Endpoint.{Endpoint}
 use Rattle.rb_core.specs.declared.event.Event.{Event}
 use Rattle.rb_core.specs.declared.reply.Reply.{Reply}
-use Rattle.rb_core.specs.Moves.{with_subscriber, IsIn, IsNew, IsUnused, Moves, Leads}
+use Rattle.rb_core.specs.Moves.{with_subscriber, IsNew, IsUnused, Moves, Leads}
 use Rattle.rb_core.specs.Outcome.{with_endpoint}
 use Rattle.rb_core.specs.State.{State, IsWorld, empty_tables, member_of_end}
 use Rattle.rb_core.specs.Told.{told, subscriber_set, subscriber_changed, delivery_told, IsDelivered, AreBelow, IsToldBy}

@@ -1,15 +1,14 @@
 -- Writing an item of a list back to its index, changed or unchanged.
-use Rattle.std.proofs.Common.{◌≡◌, ℕ, zero, suc, Bool, true, false, cond, List, [], ◌∷◌, Option, Some, None, Result, Ok}
+use Rattle.std.proofs.Common.{◌≡◌, ℕ, Bool, true, false, cond, List, [], ◌∷◌, Option, Some, None, Result, Ok}
 use Rattle.std.proofs.Common.{Err, refl, sym, ap, subst, ◌∙◌}
 use Rattle.std.specs.List.{AllByRecursion, find}
 use Rattle.std.specs.Option.{is_some}
-use Rattle.std.specs.Prelude.{slice_get, slice_set, IfSome}
+use Rattle.std.specs.Prelude.{slice_get, IfSome}
 use Rattle.cs_model.specs.Section.{Section}
 use Rattle.cs_parse.specs.declared.end.EndError.{EndError}
 use Rattle.cs_parse.specs.End.{admitted_answer}
 use Rattle.cs_parse.specs.Progress as stream
 use Rattle.rb_core.specs.declared.publisher.Publisher.{Publisher}
-use Rattle.rb_core.specs.declared.reply.Reply.{Reply}
 use Rattle.rb_core.specs.declared.reply.Reply.TheVariants as reply
 use Rattle.rb_core.specs.declared.reply.BrokerRefusal.TheVariants as refusal
 use Rattle.rb_core.specs.Outcome.{with_publisher, with_endpoint, delivery_of, end_reply, staged_by, ended_by, ended_for}

@@ -1,6 +1,6 @@
 -- Moves of the abstract world: what may happen at once. Refusals, acknowledgements, returned
 -- deliveries and expiries change nothing here.
-use Rattle.std.specs.Prelude.{◌≡◌, ◌==◌, ℕ, suc, ◌-◌, ◌<◌, ◌≤◌, ◌⊎◌, true, false, map, List, []}
+use Rattle.std.specs.Prelude.{◌≡◌, ◌==◌, ℕ, suc, ◌<◌, ◌≤◌, ◌⊎◌, true, false, map, List, []}
 use Rattle.std.specs.Prelude.{◌∷◌, ◌++◌, length, Option, Some, None, slice_get, slice_set}
 use Rattle.std.specs.List.{AllByRecursion, filter}
 use Rattle.cs_model.specs.declared.origin.Origin.{Origin}
@@ -12,7 +12,7 @@ use Rattle.rb_sequence.specs.declared.item.Item.{Item}
 use Rattle.rb_sequence.specs.Entry.{Entry}
 use Rattle.rb_subscriber.specs.Accept.{part, brought, AcceptsDelivery, AppliesSingly}
 use Rattle.rb_subscriber.specs.Endpoint.{Endpoint}
-use Rattle.rb_core.specs.World.{Sender, Subscriber, World, world_begun, cursor, endpoint_of}
+use Rattle.rb_core.specs.World.{Sender, Subscriber, World, endpoint_of}
 
 abbrev pub with_sender : World → ℕ → Sender → World
 with_sender old p sender = record old { senders = slice_set old.senders p sender }

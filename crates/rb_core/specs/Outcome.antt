@@ -1,6 +1,6 @@
 -- What an event does: the reply, and the world after it. A refused event does not change the world,
 -- except that a refused turn pulls the next item into the hand.
-use Rattle.std.specs.Prelude.{ℕ, suc, ◌+◌, ⊤, Bool, true, List, [], ◌∷◌, ◌++◌, length, Option, Some}
+use Rattle.std.specs.Prelude.{ℕ, ◌+◌, ⊤, true, List, [], ◌∷◌, ◌++◌, length, Option, Some}
 use Rattle.std.specs.Prelude.{None, Result, Ok, Err, ◌==◌, slice_get, slice_set, nat_le}
 use Rattle.std.specs.Prelude.{if◌then◌else◌}
 use Rattle.std.specs.List.{find}

@@ -1,5 +1,5 @@
 -- Runs: events one after another, with their replies.
-use Rattle.std.specs.Prelude.{◌≡◌, ℕ, List, [], ◌∷◌, Result, Ok, Err}
+use Rattle.std.specs.Prelude.{◌≡◌, List, [], ◌∷◌, Result, Ok, Err}
 use Rattle.std.specs.declared.alloc.AllocError.{AllocError}
 use Rattle.cs_model.specs.Bytes.{AreBytes}
 use Rattle.rb_core.specs.declared.event.Event.{Event}
