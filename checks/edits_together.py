@@ -1,0 +1,101 @@
+#!/usr/bin/env python3
+"""Tries edits of crates/NAME/on-demand many at a time, one in each source file, in one check of a copy of the crate.
+
+    python3 checks/edits_together.py NAME..
+
+A function is proved by its own contract and those of what it calls, so an edit can only keep the function that it stands in
+from being proved. For each edit it prints `refused` and that function, or `STILL PROVED`, or why it can't be applied. It takes a
+tenth of the time of checks/edits.sh, whose verdict, by the prover's own command, is the one that counts. It needs the
+prover's command `rt`.
+"""
+import collections
+import os
+import re
+import shutil
+import subprocess
+import sys
+import tempfile
+
+TOP = os.path.join(os.path.dirname(os.path.abspath(__file__)), '..')
+
+
+def edit_of(path):
+    """the file of an edit, and its pairs of old and new text"""
+    name, old, pairs = None, None, []
+    with open(path) as f:
+        for line in f:
+            word, _, text = line.rstrip('\n').partition(': ')
+            if word == 'file':
+                name = text
+            elif word == 'old':
+                old = text
+            elif word == 'new':
+                pairs.append((old, text))
+    return name, pairs
+
+
+def applied(source, pairs):
+    """the source after the edit and the functions that it stands in, or None"""
+    functions = set()
+    for old, new in pairs:
+        if source.count(old) != 1:
+            return None
+        named = re.findall(r'\bfn (\w+)', source[:source.index(old) + len(old)])
+        functions.update(named[-1:])
+        source = source.replace(old, new)
+    return source, functions
+
+
+def unproved(crate):
+    """the functions that aren't proved, apart from those that only call one, and faults of the sources"""
+    run = subprocess.run(['rt', 'check', '--allow-holes'], cwd=crate, capture_output=True, text=True)
+    lines = (run.stdout + run.stderr).split('\n')
+    open_ = [line[3:].split(': ', 1) for line in lines if re.match(r'fn \S+: (not proved|no proof: expected)', line)]
+    return {name.split('::')[-1] for name, _ in open_}, [line for line in lines if re.match(r'(so far: )?src/\S+: error', line)]
+
+
+def tried(crate, edits):
+    """tries edits of different files at once"""
+    kept, stands = {}, {}
+    for edit in edits:
+        name, pairs = edit_of(os.path.join(crate, 'on-demand', edit))
+        path = os.path.join(crate, name)
+        with open(path) as f:
+            source = f.read()
+        after = applied(source, pairs)
+        if after is None:
+            print(os.path.basename(crate), edit, "CAN'T BE APPLIED", flush=True)
+            continue
+        kept[path], stands[edit] = source, after[1]
+        with open(path, 'w') as f:
+            f.write(after[0])
+    open_, faults = unproved(crate)
+    for path, source in kept.items():
+        with open(path, 'w') as f:
+            f.write(source)
+    if faults and len(edits) > 1:
+        for edit in edits:
+            tried(crate, [edit])
+        return
+    for edit, functions in stands.items():
+        found = sorted(functions & open_) or faults[:1]
+        print(os.path.basename(crate), edit, 'refused: ' + ', '.join(found) if found else 'STILL PROVED', flush=True)
+
+
+def main():
+    work = tempfile.mkdtemp()
+    try:
+        subprocess.run(['git', 'clone', '-q', TOP, work + '/clone'], check=True)
+        for name in sys.argv[1:]:
+            crate = os.path.join(work, 'clone', 'crates', name)
+            files = collections.defaultdict(list)
+            for edit in sorted(os.listdir(os.path.join(crate, 'on-demand'))):
+                files[edit_of(os.path.join(crate, 'on-demand', edit))[0]].append(edit)
+            while any(files.values()):
+                tried(crate, [edits.pop(0) for edits in files.values() if edits])
+    finally:
+        shutil.rmtree(work)
+
+
+if __name__ == '__main__':
+    main()
