@@ -11,3 +11,4 @@ pub mod CountLaws
 pub mod SaidLaws
 pub mod CanonicalLaws
 pub mod Fronts
+pub mod PartLaws

@@ -45,7 +45,7 @@ skip_done columns i rest total done e =
 abbrev pub then_some : ℕ → Field × List ℕ → List Field × List ℕ
 then_some n x = (x.0 ∷ (some_in n x.1).0, (some_in n x.1).1)
 
-some_step : (n byte : ℕ) (rest : List ℕ) → some_in (suc n) (byte ∷ rest) ≡ then_some n (typed_in byte rest)
+pub some_step : (n byte : ℕ) (rest : List ℕ) → some_in (suc n) (byte ∷ rest) ≡ then_some n (typed_in byte rest)
 unfolding some_in
 some_step n byte rest = refl
 

@@ -13,3 +13,4 @@ pub mod Packed
 pub mod Row
 pub mod PackedChanges
 pub mod Canonical
+pub mod TextSection

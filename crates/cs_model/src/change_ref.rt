@@ -1,7 +1,7 @@
 //! Borrowed changes and records, and an iterator over the changes of a table. Their bytes are
 //! canonical, so a record is copied without reading its fields.
 
-ghost use Rattle.std.specs.Prelude.{◌≡◌, ◌∷◌, [], IfSome, MatchOption};
+ghost use Rattle.std.specs.Prelude.{◌≡◌, ◌∷◌, [], IfSome, MatchOption, drop, take};
 ghost use Rattle.std.specs.List.{AllByRecursion};
 ghost use Rattle.cs_model.specs.Packed.{packed, unpacked, Fits};
 ghost use Rattle.cs_model.specs.PackedChanges.{some_in, op_in, records_by, unpacked_changes};
@@ -38,6 +38,17 @@ impl<'a> RecordRef<'a> {
         ensures { result ≡ self.now }
     {
         Fields::of(self.bytes)
+    }
+
+    /// Returns the canonical bytes of `count` fields after the first `first` ones, or of those that
+    /// there are.
+    pub fn part(&self, first: usize, count: usize) -> &'a [u8]
+        ensures { result.now ≡ packed (take count (drop first self.now)) }
+    {
+        let rest = behind(first, self.bytes);
+        let after = behind(count, rest);
+        let (front, _) = rest.split_at(rest.len() - after.len());
+        front
     }
 
     /// Returns its canonical bytes.

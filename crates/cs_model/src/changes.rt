@@ -124,19 +124,6 @@ impl Changes {
         self.push(change.op, change.indirect, &before, &after)
     }
 
-    /// Appends another list's changes, of the same number of columns, in one copy. An `Err` does
-    /// not change the list.
-    pub fn append(&mut self, others: &Changes) -> Result<(), AllocError>
-        requires { others.now.0 ≡ self.old.0 }
-        ensures columns { self.new.0 ≡ self.old.0 }
-        ensures ok { OnOk result (self.new.1 ≡ self.old.1 ++ others.now.1) }
-        ensures err { OnErr result (self.new.1 ≡ self.old.1) }
-    {
-        self.bytes.extend_from_slice(&others.bytes)?;
-        self.count += others.count;
-        Ok(())
-    }
-
     /// Appends the changes that `text` encodes, which are complete, as `laws::spelled_is_said`
     /// says. Makes one copy of canonical bytes, and re-encodes others. An `Err` does not change the
     /// list.
@@ -219,6 +206,14 @@ impl Changes {
         ensures fit { AllByRecursion (Fit self.now.0) self.now.1 }
     {
         ChangeRefs::of(self.columns, &self.bytes)
+    }
+
+    /// The same bytes as `bytes` returns. The contract says that they encode the changes.
+    pub(crate) fn canonical(&self) -> &[u8]
+        ensures canonical { AreCanonical self.now.0 result.now }
+        ensures changes { unpacked_changes self.now.0 result.now ≡ self.now.1 }
+    {
+        &self.bytes
     }
 
     /// The canonical bytes of the changes, one after another.

@@ -78,15 +78,6 @@ impl Changeset {
         &self.sections
     }
 
-    /// Appends copies of another changeset's sections. An `Err` does not change this changeset.
-    pub fn append(&mut self, alloc: Global, other: &Changeset) -> Result<(), AllocError>
-        ensures ok { OnOk result (self.new ≡ self.old ++ other.now) }
-        ensures err { OnErr result (self.new ≡ self.old) }
-    {
-        let more = other.sections.copy_in(alloc)?;
-        self.sections.append(more)
-    }
-
     /// Returns the sections, without a copy. cs_parse and cs_write use it; other crates read by
     /// `iter`.
     pub fn into_seq(self) -> Seq<Section>

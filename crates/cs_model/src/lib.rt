@@ -22,6 +22,8 @@ mod section;
 mod section_ref;
 mod seq;
 mod shape;
+mod text_changeset;
+mod text_section;
 mod value;
 mod varint;
 
@@ -42,5 +44,7 @@ pub use section::{Section, same_sections};
 pub use section_ref::{SectionRef, SectionRefs};
 pub use seq::{Octets, Seq};
 pub use shape::Shape;
+pub use text_changeset::TextChangeset;
+pub use text_section::TextSection;
 pub use value::{Field, Value};
 pub use varint::{varint_of, varint_push, varint_read, varint_strip};

@@ -8,6 +8,7 @@ ghost use Rattle.cs_model.specs.PackedChanges.{AreCanonical, section_parts, unpa
 
 use crate::changes::{Changes, same_changes};
 use crate::copy::CopyIn;
+use crate::section_ref::SectionRef;
 use crate::shape::Shape;
 use std::alloc::{AllocError, Global};
 use std::marker::Model;
@@ -41,6 +42,13 @@ impl Section {
         ensures { result ≡ record { shape = shape; changes = changes.1 } }
     {
         Section { shape, changes }
+    }
+
+    /// Borrows the section.
+    pub fn as_ref(&self) -> SectionRef<'_>
+        ensures { result ≡ self.now }
+    {
+        SectionRef::new(&self.shape, self.changes.canonical(), self.changes.len())
     }
 
     /// The table.

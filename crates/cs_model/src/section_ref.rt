@@ -1,86 +1,149 @@
 //! Borrowed sections, and an iterator over the sections of a changeset.
 
-ghost use Rattle.std.specs.Prelude.{◌≡◌, length, ◌==◌};
+ghost use Rattle.std.specs.Prelude.{◌≡◌, ◌++◌, OnErr, OnOk, length, ◌==◌};
+ghost use Rattle.cs_model.specs.PackedChanges.{AreCanonical, changes_bytes, unpacked_changes};
 
 use crate::change_ref::ChangeRefs;
+use crate::changes::Changes;
 use crate::section::Section;
 use crate::shape::Shape;
+use crate::text_section::TextSection;
+use std::alloc::AllocError;
 use std::iter::Iterator;
 use std::marker::Model;
 
 /// A section of a changeset, borrowed. Contracts see the section.
 #[derive(Drop)]
 pub struct SectionRef<'a> {
-    section: &'a Section,
+    shape: &'a Shape,
+    bytes: &'a [u8],
+    // the number of changes
+    count: usize,
 }
 
 impl<'a> Model for SectionRef<'a> {
+    ghost use Rattle.std.specs.Prelude.{◌≡◌, length};
+    ghost use Rattle.cs_model.specs.PackedChanges.{AreCanonical, unpacked_changes};
     ghost use Rattle.cs_model.specs.Section.{Section, section_code};
 
     ghost Value = { Section };
 
     ghost coded = { section_code };
 
-    ghost view = { λ s. s.section.now };
+    ghost view = { λ s. record {
+      shape = s.shape.now;
+      changes = unpacked_changes (length s.shape.now.flags) s.bytes.now;
+    } };
+
+    ghost invariant = { λ s. AreCanonical (length s.shape.now.flags) s.bytes.now
+        × (s.count ≡ length (unpacked_changes (length s.shape.now.flags) s.bytes.now)) };
 }
 
 impl<'a> SectionRef<'a> {
+    /// The section of this table with the `count` changes that canonical bytes encode.
+    pub(crate) fn new(shape: &'a Shape, bytes: &'a [u8], count: usize) -> SectionRef<'a>
+        requires canonical { AreCanonical (length shape.now.flags) bytes.now }
+        requires count { count ≡ length (unpacked_changes (length shape.now.flags) bytes.now) }
+        ensures { result ≡ record {
+          shape = shape.now;
+          changes = unpacked_changes (length shape.now.flags) bytes.now;
+        } }
+    {
+        SectionRef {
+            shape,
+            bytes,
+            count,
+        }
+    }
+
+    /// Borrows the same section once more.
+    pub fn again(&self) -> SectionRef<'a>
+        ensures { result ≡ self.now }
+    {
+        SectionRef {
+            shape: self.shape,
+            bytes: self.bytes,
+            count: self.count,
+        }
+    }
+
     /// The name of the table.
     pub fn name(&self) -> &'a [u8]
         ensures { result.now ≡ self.now.shape.name }
     {
-        &self.section.shape().name
+        &self.shape.name
     }
 
     /// The key flags of the table, one byte a column.
     pub fn flags(&self) -> &'a [u8]
         ensures { result.now ≡ self.now.shape.flags }
     {
-        &self.section.shape().flags
+        &self.shape.flags
     }
 
     /// The table.
     pub fn shape(&self) -> &'a Shape
         ensures { result.now ≡ self.now.shape }
     {
-        self.section.shape()
+        self.shape
     }
 
     /// Returns an iterator over the changes, in order.
     pub fn changes(&self) -> ChangeRefs<'a>
         ensures { result ≡ self.now.changes }
     {
-        self.section.changes().iter()
+        ChangeRefs::of(self.shape.flags.len(), self.bytes)
+    }
+
+    /// The canonical bytes of the changes, one after another.
+    pub fn bytes(&self) -> &'a [u8]
+        ensures { result.now ≡ changes_bytes self.now.changes }
+    {
+        self.bytes
+    }
+
+    /// Appends the changes to a list of the same number of columns, in one copy. An `Err` does not
+    /// change the list.
+    pub fn append_to(&self, changes: &mut Changes) -> Result<(), AllocError>
+        requires { length self.now.shape.flags ≡ changes.old.0 }
+        ensures columns { changes.new.0 ≡ changes.old.0 }
+        ensures ok { OnOk result (changes.new.1 ≡ changes.old.1 ++ self.now.changes) }
+        ensures err { OnErr result (changes.new.1 ≡ changes.old.1) }
+    {
+        changes.append_canonical(self.bytes, self.count)
     }
 
     /// The number of changes.
     pub fn len(&self) -> usize
         ensures { result ≡ length self.now.changes }
     {
-        self.section.changes().len()
+        self.count
     }
 
     /// Returns `true` if there are no changes.
     pub fn is_empty(&self) -> bool
         ensures { result ≡ (length self.now.changes == 0) }
     {
-        self.section.changes().is_empty()
+        self.count == 0
     }
 }
 
 /// An iterator over the sections of a changeset. Contracts see the list of remaining sections.
 #[derive(Drop)]
 pub struct SectionRefs<'a> {
-    rest: &'a [Section],
+    owned: &'a [Section],
+    text: &'a [TextSection<'a>],
+    // how many of `text` are gone
+    gone: usize,
 }
 
 impl<'a> Model for SectionRefs<'a> {
-    ghost use Rattle.std.specs.Prelude.{List};
+    ghost use Rattle.std.specs.Prelude.{List, ◌++◌, drop};
     ghost use Rattle.cs_model.specs.Section.{Section};
 
     ghost Value = { List Section };
 
-    ghost view = { λ s. s.rest.now };
+    ghost view = { λ s. s.owned.now ++ drop s.gone s.text.now };
 }
 
 impl<'a> SectionRefs<'a> {
@@ -88,7 +151,22 @@ impl<'a> SectionRefs<'a> {
     pub(crate) fn of(sections: &'a [Section]) -> SectionRefs<'a>
         ensures { result ≡ sections.now }
     {
-        SectionRefs { rest: sections }
+        SectionRefs {
+            owned: sections,
+            text: &[],
+            gone: 0,
+        }
+    }
+
+    /// An iterator over these sections of a text.
+    pub(crate) fn of_text(sections: &'a [TextSection<'a>]) -> SectionRefs<'a>
+        ensures { result ≡ sections.now }
+    {
+        SectionRefs {
+            owned: &[],
+            text: sections,
+            gone: 0,
+        }
     }
 }
 
@@ -102,8 +180,12 @@ impl<'a> Iterator for SectionRefs<'a> {
     ghost remaining = { item_count (λ s. s) };
 
     fn next(&mut self) -> Option<SectionRef<'a>> {
-        let (section, after) = self.rest.split_first()?;
-        self.rest = after;
-        Some(SectionRef { section })
+        if let Some((section, after)) = self.owned.split_first() {
+            self.owned = after;
+            return Some(section.as_ref());
+        }
+        let section = self.text.get(self.gone)?;
+        self.gone += 1;
+        Some(section.as_ref())
     }
 }

@@ -1,5 +1,5 @@
-//! The changeset parser: `parse` reads a whole text, `PieceParser` reads one in pieces. A text is
-//! the bytes of a serialized changeset.
+//! The changeset parser: `parse` reads a whole text, `parse_in_place` leaves its changes where they
+//! stand, and `PieceParser` reads it in pieces. A text is the bytes of a serialized changeset.
 //!
 //! The theorems: a call returns `Ok` exactly on the texts that encode a changeset, as `Spells`
 //! says. On any other text it returns the text's one fault, whose place and kind `IsFault` defines.
@@ -15,6 +15,7 @@ mod grow;
 mod growing;
 mod header;
 mod header_spot;
+mod in_place;
 mod lack;
 pub mod laws;
 mod number;
@@ -29,5 +30,6 @@ mod whole;
 
 pub use end::EndError;
 pub use fault::{FaultKind, ParseError, ParseFault};
+pub use in_place::parse_in_place;
 pub use pieces::PieceParser;
 pub use whole::{count_changes, parse};

@@ -15,10 +15,10 @@ use crate::stop::ParseRefusal;
 use cs_model::Section;
 use std::alloc::{AllocError, Global};
 
-// Reads a section's shape, in place. Only a `T` ends the section before it. So another first byte
-// is the first byte of the text.
+/// Reads a section's shape, in place. Only a `T` ends the section before it. So another first byte
+/// is the first byte of the text.
 #[tactic(auto, unfolding(crate::specs::Reading::shape_at))]
-fn shape_in(bytes: &[u8]) -> Result<(ShapeRef, &[u8]), ParseRefusal>
+pub fn shape_in(bytes: &[u8]) -> Result<(ShapeRef, &[u8]), ParseRefusal>
     ensures { Reads (λ x. (shape_seen x.0, x.1.now)) result (shape_at bytes.now) }
 {
     let Some((&byte, rest)) = bytes.split_first() else {

@@ -21,8 +21,8 @@ use std::alloc::Global;
 /// The maximum length of a text, in bytes.
 pub const MOST_BYTES: usize = 16_777_216;
 
-// The fault of a text whose first `len` bytes are read. Its kind is `ended` if they end too early.
-fn fault_from(refusal: ParseRefusal, len: usize, ended: FaultKind) -> ParseFault
+/// The fault of a text whose first `len` bytes are read. Its kind is `ended` if they end too early.
+pub fn fault_from(refusal: ParseRefusal, len: usize, ended: FaultKind) -> ParseFault
     ensures { result ≡ fault_of len ended refusal }
 {
     match refusal {
@@ -53,9 +53,9 @@ fn whole_of(alloc: Global, text: &[u8]) -> Result<Seq<Section>, ParseError>
     }
 }
 
-// The error when memory runs out. It is the text's fault if it has one, because finding a fault
-// does not allocate.
-fn unbuilt(text: &[u8]) -> ParseError
+/// The error when memory runs out. It is the text's fault if it has one, because finding a fault
+/// does not allocate.
+pub fn unbuilt(text: &[u8]) -> ParseError
     ensures { ParseAnswers (Err result) (whole_answer (length text.now) (sections_at text.now)) }
 {
     match sections_counted(text) {
@@ -64,8 +64,8 @@ fn unbuilt(text: &[u8]) -> ParseError
     }
 }
 
-// the fault of a text over the limit that begins with `front`
-fn cut_of(front: &[u8]) -> ParseFault
+/// The fault of a text over the limit that begins with `front`.
+pub fn cut_of(front: &[u8]) -> ParseFault
     ensures { overlong_answer (length front.now) (sections_at front.now) ≡ Err result }
 {
     let refusal = match sections_counted(front) {
