@@ -12,48 +12,46 @@ use Rattle.cs_model.specs.Section.{Section}
 use Rattle.cs_model.specs.Schema.{same_shape, has_shape}
 use Rattle.cs_write.specs.Canon.{Group, with_shape, by_shape}
 use Rattle.cs_write.specs.Groups.{added}
-use Rattle.cs_write.specs.Seen.{sections_of, seen}
+use Rattle.cs_write.specs.Seen.{seen}
 use Rattle.cs_write.proofs.Shapes.{shape_is, flip}
 
 -- ---- in the map
 
-pub added_at : (es : List (Shape × Vec (Bor Section))) (i : ℕ) (s : Bor Section) (d : Shape)
-    (old new : Vec (Bor Section)) → i < length es → same_shape s.now.shape (get_or (keys_of es) i d) ≡ true
-    → ((k : ℕ) → k < i → same_shape s.now.shape (get_or (keys_of es) k d) ≡ false) → slice_get (values_of es) i
+pub added_at : (es : List (Shape × Vec Section)) (i : ℕ) (s : Section) (d : Shape)
+    (old new : Vec Section) → i < length es → same_shape s.shape (get_or (keys_of es) i d) ≡ true
+    → ((k : ℕ) → k < i → same_shape s.shape (get_or (keys_of es) k d) ≡ false) → slice_get (values_of es) i
     ≡ Some old → new.items ≡ old.items ++ s ∷ []
-    → seen (set_value_at es i new) ≡ added (seen es) s.now
+    → seen (set_value_at es i new) ≡ added (seen es) s
 added_at [] i s d old new lt hit before at is = absurd (omega (arith, lt))
 added_at (e ∷ es) zero s d old new lt hit before at is =
     let same : e.1 ≡ old = cc in
-    let items : sections_of new.items ≡ sections_of e.1.items ++ s.now ∷ [] = ap sections_of is
-    ∙ map-append (λ x. x.now) old.items (s ∷ []) ∙ ap (λ (v : Vec (Bor Section)). sections_of v.items ++ s.now ∷ [])
-    (sym same) in
+    let items : new.items ≡ e.1.items ++ s ∷ [] = is ∙ ap (λ (v : Vec Section). v.items ++ s ∷ []) (sym same) in
     ap (λ (g : List Section). (e.0, g) ∷ seen es) items
-    ∙ ap (λ b. cond b ((e.0, sections_of e.1.items ++ s.now ∷ []) ∷ seen es)
-    ((e.0, sections_of e.1.items) ∷ added (seen es) s.now)) (sym hit)
+    ∙ ap (λ b. cond b ((e.0, e.1.items ++ s ∷ []) ∷ seen es)
+    ((e.0, e.1.items) ∷ added (seen es) s)) (sym hit)
 added_at (e ∷ es) (suc i) s d old new lt hit before at is =
     let rest = added_at es i s d old new (omega arith) hit (λ k less. before (suc k) (omega arith)) at is in
-    let first : same_shape s.now.shape e.0 ≡ false = before 0 (omega arith) in
-    ap (λ gs. (e.0, sections_of e.1.items) ∷ gs) rest
-    ∙ ap (λ b. cond b ((e.0, sections_of e.1.items ++ s.now ∷ []) ∷ seen es)
-    ((e.0, sections_of e.1.items) ∷ added (seen es) s.now)) (sym first)
+    let first : same_shape s.shape e.0 ≡ false = before 0 (omega arith) in
+    ap (λ gs. (e.0, e.1.items) ∷ gs) rest
+    ∙ ap (λ b. cond b ((e.0, e.1.items ++ s ∷ []) ∷ seen es)
+    ((e.0, e.1.items) ∷ added (seen es) s)) (sym first)
 
-pub added_new : (es : List (Shape × Vec (Bor Section))) (s : Bor Section) (new : Vec (Bor Section))
-    → lookup (same_shape s.now.shape) es ≡ None → new.items ≡ s ∷ []
-    → seen (es ++ (s.now.shape, new) ∷ []) ≡ added (seen es) s.now
-added_new [] s new none is = ap (λ (v : List (Bor Section)). (s.now.shape, sections_of v) ∷ []) is
+pub added_new : (es : List (Shape × Vec Section)) (s : Section) (new : Vec Section)
+    → lookup (same_shape s.shape) es ≡ None → new.items ≡ s ∷ []
+    → seen (es ++ (s.shape, new) ∷ []) ≡ added (seen es) s
+added_new [] s new none is = ap (λ (v : List Section). (s.shape, v) ∷ []) is
 added_new (e ∷ es) s new none is =
-    elim (cases_Bool (same_shape s.now.shape e.0)) [
+    elim (cases_Bool (same_shape s.shape e.0)) [
       | inl hit ↦
-          let found : lookup (same_shape s.now.shape) (e ∷ es) ≡ Some e.1 =
-          ap (λ b. cond b (Some e.1) (lookup (same_shape s.now.shape) es)) hit in
+          let found : lookup (same_shape s.shape) (e ∷ es) ≡ Some e.1 =
+          ap (λ b. cond b (Some e.1) (lookup (same_shape s.shape) es)) hit in
           absurd cc
       | inr other ↦
-          let left : lookup (same_shape s.now.shape) es ≡ None =
-          ap (λ b. cond b (Some e.1) (lookup (same_shape s.now.shape) es)) (sym other) ∙ none in
-          ap (λ gs. (e.0, sections_of e.1.items) ∷ gs) (added_new es s new left is)
-          ∙ ap (λ b. cond b ((e.0, sections_of e.1.items ++ s.now ∷ []) ∷ seen es)
-          ((e.0, sections_of e.1.items) ∷ added (seen es) s.now)) (sym other)
+          let left : lookup (same_shape s.shape) es ≡ None =
+          ap (λ b. cond b (Some e.1) (lookup (same_shape s.shape) es)) (sym other) ∙ none in
+          ap (λ gs. (e.0, e.1.items) ∷ gs) (added_new es s new left is)
+          ∙ ap (λ b. cond b ((e.0, e.1.items ++ s ∷ []) ∷ seen es)
+          ((e.0, e.1.items) ∷ added (seen es) s)) (sym other)
     ]
 
 -- a look-up that finds nothing

@@ -5,21 +5,21 @@ ghost use Rattle.std.specs.List.{AllByRecursion};
 ghost use Rattle.cs_model.specs.Changeset.{all_changes};
 ghost use Rattle.cs_write.specs.Canon.{canon, canon_of};
 ghost use Rattle.cs_write.specs.Groups.{HasColumns, IsAlike};
-ghost use Rattle.cs_write.specs.Seen.{seen, sections_of};
+ghost use Rattle.cs_write.specs.Seen.{seen};
 
 use crate::groups::{Groups, groups_of};
-use cs_model::{Changes, Changeset, CopyIn, Section, Seq};
+use cs_model::{Changes, Changeset, CopyIn, Section, SectionRef, Seq};
 use std::alloc::{AllocError, Global};
 
 // the changes of these sections, one after another
-fn changes_of(alloc: Global, columns: usize, sections: &[&Section]) -> Result<Changes, AllocError>
-    requires { AllByRecursion (HasColumns columns) (sections_of sections.now) }
-    ensures changes { IfOk result (λ changes. changes.1 ≡ all_changes (sections_of sections.now)) }
+fn changes_of(alloc: Global, columns: usize, sections: &[SectionRef]) -> Result<Changes, AllocError>
+    requires { AllByRecursion (HasColumns columns) sections.now }
+    ensures changes { IfOk result (λ changes. changes.1 ≡ all_changes sections.now) }
     ensures columns { IfOk result (λ changes. changes.0 ≡ columns) }
 {
     let mut changes = Changes::new(alloc, columns);
     for section in sections {
-        changes.append(section.changes())?;
+        section.append_to(&mut changes)?;
     }
     Ok(changes)
 }

@@ -4,23 +4,23 @@ ghost use Rattle.std.specs.Prelude.{◌≡◌, [], IfOk, OnOk, length, nat_lt};
 ghost use Rattle.cs_model.specs.Changeset.{all_changes};
 ghost use Rattle.cs_write.specs.Canon.{by_shape};
 ghost use Rattle.cs_write.specs.Groups.{added};
-ghost use Rattle.cs_write.specs.Seen.{seen, sections_of};
+ghost use Rattle.cs_write.specs.Seen.{seen};
 
-use cs_model::{CopyIn, Section, Shape};
+use cs_model::{CopyIn, Section, SectionRef, Shape};
 use indexmap::IndexMap;
 use std::alloc::{AllocError, Global};
 
 /// The sections of each shape. The shapes are in the order of their first sections.
-pub type Groups<'a> = IndexMap<Shape, Vec<&'a Section>>;
+pub type Groups<'a> = IndexMap<Shape, Vec<SectionRef<'a>>>;
 
 /// Adds a section to the group of its shape, which it creates if there is none. cs_group uses it.
 pub fn add_section<'a>(
     alloc: Global,
     groups: &mut Groups<'a>,
-    section: &'a Section,
+    section: SectionRef<'a>,
 ) -> Result<(), AllocError>
     ensures ok { OnOk result (seen groups.new.entries
-        ≡ added (seen groups.old.entries) section.now) }
+        ≡ added (seen groups.old.entries) section.entry) }
 {
     let shape = section.shape();
     if let Some(place) = groups.get_index_of(shape) {
@@ -42,17 +42,17 @@ pub fn groups_of<'a>(alloc: Global, sections: &'a [Section]) -> Result<Groups<'a
 {
     let mut groups = IndexMap::new(alloc);
     for section in sections {
-        add_section(alloc, &mut groups, section)?;
+        add_section(alloc, &mut groups, section.as_ref())?;
     }
     Ok(groups)
 }
 
 /// Whether these sections have a change.
-pub fn any_change(sections: &[&Section]) -> bool
-    ensures { result ≡ nat_lt 0 (length (all_changes (sections_of sections.now))) }
+pub fn any_change(sections: &[SectionRef]) -> bool
+    ensures { result ≡ nat_lt 0 (length (all_changes sections.now)) }
 {
     for section in sections {
-        if !section.changes().is_empty() {
+        if !section.is_empty() {
             return true;
         }
     }

@@ -7,11 +7,11 @@ ghost use Rattle.cs_write.specs.Lengths.{held};
 ghost use Rattle.cs_model.specs.PackedChanges.{changes_bytes};
 ghost use Rattle.cs_write.specs.Text.{header_text};
 
-use cs_model::{Changes, Shape};
+use cs_model::{SectionRef, Shape};
 
-/// Adds two lengths.
+/// Adds two lengths. cs_group uses it.
 #[tactic(auto, using(crate::proofs::Held::holding))]
-pub fn plus(one: Option<usize>, other: Option<usize>) -> Option<usize>
+pub fn add_lengths(one: Option<usize>, other: Option<usize>) -> Option<usize>
     ensures { (m n : ℕ) → one ≡ held m → other ≡ held n → result ≡ held (m + n) }
 {
     one?.checked_add(other?)
@@ -34,15 +34,15 @@ fn varint_len(n: u64) -> usize
     len
 }
 
-/// The length of these changes, in bytes.
+/// The length of a section's changes, in bytes.
 #[tactic(auto, using(crate::proofs::Held::holding))]
-pub fn changes_len(changes: &Changes) -> Option<usize>
-    ensures { result ≡ held (length (changes_bytes changes.now.1)) }
+pub fn changes_len(section: &SectionRef) -> Option<usize>
+    ensures { result ≡ held (length (changes_bytes section.now.changes)) }
 {
-    Some(changes.bytes().len())
+    Some(section.bytes().len())
 }
 
-/// The length of this header, in bytes.
+/// The length of this header, in bytes. cs_group uses it.
 pub fn header_len(shape: &Shape) -> Option<usize>
     ensures { result ≡ held (length (header_text shape.now)) }
 {

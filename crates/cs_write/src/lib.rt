@@ -19,6 +19,8 @@ mod text;
 
 pub use form::canonical;
 pub use groups::{Groups, add_section};
+pub use length::{add_lengths, header_len};
 pub use pieces::{WriteError, write_pieces};
+pub use placing::{put_bytes, put_header};
 pub use sink::{Sink, SinkFault};
 pub use text::{write, write_to};

@@ -5,15 +5,15 @@
 ghost use Rattle.std.specs.Prelude.{◌≡◌, ◌+◌, ◌≤◌, length};
 ghost use Rattle.cs_write.specs.Buffer.{laid};
 ghost use Rattle.cs_write.specs.Groups.{group_text, groups_text};
-ghost use Rattle.cs_write.specs.Seen.{bodies, seen, sections_of};
+ghost use Rattle.cs_write.specs.Seen.{bodies, seen};
 ghost use Rattle.cs_write.specs.Text.{header_text};
 
 use crate::groups::{Groups, any_change};
-use cs_model::{Section, Shape, varint_of};
+use cs_model::{SectionRef, Shape, varint_of};
 
-// these bytes, in one copy
+/// Writes these bytes, in one copy. cs_group uses it.
 #[tactic(auto, unfolding(crate::specs::Buffer::laid))]
-fn put(out: &mut [u8], at: usize, bytes: &[u8]) -> usize
+pub fn put_bytes(out: &mut [u8], at: usize, bytes: &[u8]) -> usize
     requires { at + length bytes.now ≤ length out.old }
     ensures end { result ≡ at + length bytes.now }
     ensures bytes { out.new ≡ laid at bytes.now out.old }
@@ -23,39 +23,39 @@ fn put(out: &mut [u8], at: usize, bytes: &[u8]) -> usize
     end
 }
 
-// a header
-fn put_header(out: &mut [u8], at: usize, shape: &Shape) -> usize
+/// Writes a header. cs_group uses it.
+pub fn put_header(out: &mut [u8], at: usize, shape: &Shape) -> usize
     requires { at + length (header_text shape.now) ≤ length out.old }
     ensures end { result ≡ at + length (header_text shape.now) }
     ensures bytes { out.new ≡ laid at (header_text shape.now) out.old }
 {
     let flags: &[u8] = &shape.flags;
     let (count, start) = varint_of(flags.len() as u64);
-    let mut end = put(out, at, b"T");
-    end = put(out, end, &count[start..]);
-    end = put(out, end, flags);
-    end = put(out, end, &shape.name);
-    put(out, end, &[0])
+    let mut end = put_bytes(out, at, b"T");
+    end = put_bytes(out, end, &count[start..]);
+    end = put_bytes(out, end, flags);
+    end = put_bytes(out, end, &shape.name);
+    put_bytes(out, end, &[0])
 }
 
 // the changes of these sections, each section's in one copy
-fn put_sections(out: &mut [u8], at: usize, sections: &[&Section]) -> usize
+fn put_sections(out: &mut [u8], at: usize, sections: &[SectionRef]) -> usize
     requires { at + length (bodies sections.now) ≤ length out.old }
     ensures end { result ≡ at + length (bodies sections.now) }
     ensures bytes { out.new ≡ laid at (bodies sections.now) out.old }
 {
     let mut end = at;
     for section in sections {
-        end = put(out, end, section.changes().bytes());
+        end = put_bytes(out, end, section.bytes());
     }
     end
 }
 
 // a group, if it has a change
-fn put_group(out: &mut [u8], at: usize, shape: &Shape, sections: &[&Section]) -> usize
-    requires { at + length (group_text (shape.now, sections_of sections.now)) ≤ length out.old }
-    ensures end { result ≡ at + length (group_text (shape.now, sections_of sections.now)) }
-    ensures bytes { out.new ≡ laid at (group_text (shape.now, sections_of sections.now)) out.old }
+fn put_group(out: &mut [u8], at: usize, shape: &Shape, sections: &[SectionRef]) -> usize
+    requires { at + length (group_text (shape.now, sections.now)) ≤ length out.old }
+    ensures end { result ≡ at + length (group_text (shape.now, sections.now)) }
+    ensures bytes { out.new ≡ laid at (group_text (shape.now, sections.now)) out.old }
 {
     if !any_change(sections) {
         return at;

@@ -5,7 +5,7 @@ ghost use Rattle.cs_model.specs.Bytes.{AddsBytes};
 ghost use Rattle.cs_model.specs.PackedChanges.{changes_bytes};
 ghost use Rattle.cs_write.specs.Text.{header_text};
 
-use cs_model::{Changes, Shape, varint_push};
+use cs_model::{SectionRef, Shape, varint_push};
 use std::alloc::AllocError;
 
 /// Appends a header.
@@ -21,9 +21,9 @@ pub fn push_header(out: &mut Vec<u8>, shape: &Shape) -> Result<(), AllocError>
     Ok(())
 }
 
-/// Appends changes, in one copy.
-pub fn push_changes(out: &mut Vec<u8>, changes: &Changes) -> Result<(), AllocError>
-    ensures ok { AddsBytes result out.old out.new (changes_bytes changes.now.1) }
+/// Appends a section's changes, in one copy.
+pub fn push_changes(out: &mut Vec<u8>, section: &SectionRef) -> Result<(), AllocError>
+    ensures ok { AddsBytes result out.old out.new (changes_bytes section.now.changes) }
 {
-    out.extend_from_slice(changes.bytes())
+    out.extend_from_slice(section.bytes())
 }

@@ -7,35 +7,35 @@ ghost use Rattle.cs_write.specs.Buffer.{given};
 ghost use Rattle.cs_write.specs.Lengths.{held};
 ghost use Rattle.cs_write.specs.Text.{text_of};
 ghost use Rattle.cs_write.specs.Groups.{group_text, groups_text};
-ghost use Rattle.cs_write.specs.Seen.{bodies, seen, sections_of};
+ghost use Rattle.cs_write.specs.Seen.{bodies, seen};
 
 use crate::groups::{Groups, any_change, groups_of};
-use crate::length::{changes_len, header_len, plus};
+use crate::length::{add_lengths, changes_len, header_len};
 use crate::placing::put_groups;
 use crate::pushing::{push_changes, push_header};
 use bytes::Bytes;
-use cs_model::{Changeset, Section, Shape};
+use cs_model::{Changeset, SectionRef, Shape};
 use std::alloc::{AllocError, Global};
 
 // the length of the changes of these sections, in bytes
-fn sections_len(sections: &[&Section]) -> Option<usize>
+fn sections_len(sections: &[SectionRef]) -> Option<usize>
     ensures { result ≡ held (length (bodies sections.now)) }
 {
     let mut len = Some(0);
     for section in sections {
-        len = plus(len, changes_len(section.changes()));
+        len = add_lengths(len, changes_len(section));
     }
     len
 }
 
 // the length of a group in bytes, 0 if it has no change
-fn group_len(shape: &Shape, sections: &[&Section]) -> Option<usize>
-    ensures { result ≡ held (length (group_text (shape.now, sections_of sections.now))) }
+fn group_len(shape: &Shape, sections: &[SectionRef]) -> Option<usize>
+    ensures { result ≡ held (length (group_text (shape.now, sections.now))) }
 {
     if !any_change(sections) {
         return Some(0);
     }
-    plus(header_len(shape), sections_len(sections))
+    add_lengths(header_len(shape), sections_len(sections))
 }
 
 // the length of the canonical text, in bytes
@@ -44,25 +44,25 @@ fn groups_len(groups: &Groups) -> Option<usize>
 {
     let mut len = Some(0);
     for (shape, sections) in groups.iter() {
-        len = plus(len, group_len(shape, sections));
+        len = add_lengths(len, group_len(shape, sections));
     }
     len
 }
 
 // the changes of these sections
-fn push_sections(out: &mut Vec<u8>, sections: &[&Section]) -> Result<(), AllocError>
+fn push_sections(out: &mut Vec<u8>, sections: &[SectionRef]) -> Result<(), AllocError>
     ensures ok { AddsBytes result out.old out.new (bodies sections.now) }
 {
     for section in sections {
-        push_changes(out, section.changes())?;
+        push_changes(out, section)?;
     }
     Ok(())
 }
 
 // a group, if it has a change
-fn push_group(out: &mut Vec<u8>, shape: &Shape, sections: &[&Section]) -> Result<(), AllocError>
+fn push_group(out: &mut Vec<u8>, shape: &Shape, sections: &[SectionRef]) -> Result<(), AllocError>
     ensures ok { AddsBytes result out.old out.new
-        (group_text (shape.now, sections_of sections.now)) }
+        (group_text (shape.now, sections.now)) }
 {
     if !any_change(sections) {
         return Ok(());

@@ -14,14 +14,14 @@ pub returns-in_ok-push : goal.returns-in_ok-push
 returns-in_ok-push c =
     let m = c.args.groups.now in
     let s = c.args.section in
-    let at_shape : position (same_shape s.now.shape) (keys m) ≡ Some c.in-Some.place =
+    let at_shape : position (same_shape s.shape) (keys m) ≡ Some c.in-Some.place =
     ap (λ w. position (same_shape w) (keys m)) (sym c.shape-shape.ensures) ∙ sym c.in-Some.ensures.index in
-    let found = position-Some (same_shape s.now.shape) (keys m) c.in-Some.place s.now.shape at_shape in
+    let found = position-Some (same_shape s.shape) (keys m) c.in-Some.place s.shape at_shape in
     let within : c.in-Some.place < length m.entries = omega (arith, found.0, length-keys_of m.entries) in
     let at : slice_get (values_of m.entries) c.in-Some.place ≡ Some c.in-Some-get_index_mut.group.now =
     sym c.in-Some-get_index_mut.ensures.value in
     record {
-      ok = added_at m.entries c.in-Some.place s s.now.shape c.in-Some-get_index_mut.group.now c.push.new.self
+      ok = added_at m.entries c.in-Some.place s s.shape c.in-Some-get_index_mut.group.now c.push.new.self
           within found.1 found.2 at c.in_ok-push.ensures.items;
     }
 
@@ -29,10 +29,10 @@ pub returns : goal.returns
 returns c =
     let m = c.args.groups.now in
     let s = c.args.section in
-    let none : lookup (same_shape s.now.shape) m.entries ≡ None =
+    let none : lookup (same_shape s.shape) m.entries ≡ None =
     ap (λ w. lookup (same_shape w) m.entries) (sym c.shape-shape.ensures)
     ∙ unfound (lookup (same_shape c.shape-shape.result.now) m.entries) (sym c.in_default.ensures.found) in
-    let copied : c.in_ok-shape.shape ≡ s.now.shape = c.in_ok-shape.ensures ∙ c.shape-shape.ensures in
+    let copied : c.in_ok-shape.shape ≡ s.shape = c.in_ok-shape.ensures ∙ c.shape-shape.ensures in
     let group = c.push-2.new.self in
     let items : group.items ≡ s ∷ [] = c.in_ok-push-2.ensures.items
     ∙ ap (λ xs. xs ++ s ∷ []) c.new-group.ensures.items in

@@ -16,6 +16,7 @@ loop-section-preserved c =
     let s = c.section-item.result in
     let now : seen c.add_section.new.groups.entries ≡ added (by_shape []
     (take i all)) s = c.in_ok-add_section.ensures.ok
+    ∙ ap (λ x. added (seen c.loop-section.groups.entries) x) c.as_ref.ensures
     ∙ ap (λ g. added g s) c.loop-section.invariant in
     now ∙ sym (by_shape-more [] (take i all) s refl)
     ∙ ap (by_shape []) (ap (λ x. take i all ++ x ∷ []) c.section-item.is

@@ -13,20 +13,20 @@ returns-clause-bytes c =
     let whole = header_text shape in
     -- after each part, what is left of the header
     let begun : LayingLaid at whole out at whole out = record { end = refl; size = refl; same = refl } in
-    let letter : LayingLaid c.put-end.result (varint (length shape.flags) ++ (shape.flags ++ (shape.name ++ 0 ∷ [])))
-    c.put-end.new.out at whole out =
-    laying_goes_on _ _ _ _ _ _ _ _ _ _ c.requires c.put-end.ensures.end c.put-end.ensures.bytes begun
+    let letter : LayingLaid c.put_bytes-end.result (varint (length shape.flags) ++ (shape.flags ++ (shape.name ++ 0 ∷ [])))
+    c.put_bytes-end.new.out at whole out =
+    laying_goes_on _ _ _ _ _ _ _ _ _ _ c.requires c.put_bytes-end.ensures.end c.put_bytes-end.ensures.bytes begun
     (grind (arith, common_steps)) in
-    let count : LayingLaid c.put-end-2.result (shape.flags ++ (shape.name ++ 0 ∷ [])) c.put-end-2.new.out at whole out =
-    laying_goes_on _ _ _ _ _ _ _ _ _ _ c.requires c.put-end-2.ensures.end c.put-end-2.ensures.bytes letter
+    let count : LayingLaid c.put_bytes-end-2.result (shape.flags ++ (shape.name ++ 0 ∷ [])) c.put_bytes-end-2.new.out at whole out =
+    laying_goes_on _ _ _ _ _ _ _ _ _ _ c.requires c.put_bytes-end-2.ensures.end c.put_bytes-end-2.ensures.bytes letter
     (grind (arith, common_steps)) in
-    let flags : LayingLaid c.put-end-3.result (shape.name ++ 0 ∷ []) c.put-end-3.new.out at whole out =
-    laying_goes_on _ _ _ _ _ _ _ _ _ _ c.requires c.put-end-3.ensures.end c.put-end-3.ensures.bytes count
+    let flags : LayingLaid c.put_bytes-end-3.result (shape.name ++ 0 ∷ []) c.put_bytes-end-3.new.out at whole out =
+    laying_goes_on _ _ _ _ _ _ _ _ _ _ c.requires c.put_bytes-end-3.ensures.end c.put_bytes-end-3.ensures.bytes count
     (grind (arith, common_steps)) in
-    let name : LayingLaid c.put-end-4.result (0 ∷ []) c.put-end-4.new.out at whole out =
-    laying_goes_on _ _ _ _ _ _ _ _ _ _ c.requires c.put-end-4.ensures.end c.put-end-4.ensures.bytes flags
+    let name : LayingLaid c.put_bytes-end-4.result (0 ∷ []) c.put_bytes-end-4.new.out at whole out =
+    laying_goes_on _ _ _ _ _ _ _ _ _ _ c.requires c.put_bytes-end-4.ensures.end c.put_bytes-end-4.ensures.bytes flags
     (grind (arith, common_steps)) in
-    let last : LayingLaid c.put.result [] c.put.new.out at whole out =
-    laying_goes_on _ _ _ _ _ _ _ _ _ _ c.requires c.put.ensures.end c.put.ensures.bytes name
+    let last : LayingLaid c.put_bytes.result [] c.put_bytes.new.out at whole out =
+    laying_goes_on _ _ _ _ _ _ _ _ _ _ c.requires c.put_bytes.ensures.end c.put_bytes.ensures.bytes name
     (grind (arith, common_steps)) in
     laying_ends _ _ _ _ _ _ refl last

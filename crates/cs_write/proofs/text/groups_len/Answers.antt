@@ -7,7 +7,7 @@ pub loop-shape-init : goal.loop-shape-init
 loop-shape-init c = held_begins _ _ (grind (arith, common_steps))
 
 pub loop-shape-preserved : goal.loop-shape-preserved
-loop-shape-preserved c = held_goes_on _ _ _ _ _ _ _ c.plus-len.ensures c.group_len.ensures c.loop-shape.invariant
+loop-shape-preserved c = held_goes_on _ _ _ _ _ _ _ c.add_lengths-len.ensures c.group_len.ensures c.loop-shape.invariant
     (grind (arith, common_steps))
 
 pub returns : goal.returns
