@@ -17,8 +17,8 @@ pub fn add_lengths(one: Option<usize>, other: Option<usize>) -> Option<usize>
     one?.checked_add(other?)
 }
 
-// the length of a number's shortest varint, in bytes
-fn varint_len(n: u64) -> usize
+/// The length of a number's shortest varint, in bytes.
+pub fn varint_len(n: u64) -> usize
     ensures bounded { result ≤ 9 }
     ensures same { result ≡ length (varint n) }
 {

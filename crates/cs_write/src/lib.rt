@@ -7,6 +7,7 @@
 //! limit, because it is no longer than the parsed one.
 #![tactic(auto)]
 
+mod field;
 mod form;
 mod groups;
 pub mod laws;
@@ -17,6 +18,7 @@ mod pushing;
 mod sink;
 mod text;
 
+pub use field::{fields_len, put_fields, put_operation};
 pub use form::canonical;
 pub use groups::{Groups, add_section};
 pub use length::{add_lengths, header_len};
