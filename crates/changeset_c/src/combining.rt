@@ -2,6 +2,7 @@
 
 ghost use Rattle.std.specs.Prelude.{◌≡◌, [], IfErr, IfOk, None, OnErr, OnOk, length, pos};
 ghost use Rattle.cs_group.specs.Adding.{first_refused, sections_in};
+ghost use Rattle.cs_group.specs.Group.{group_of};
 ghost use Rattle.cs_write.specs.Buffer.{given};
 ghost use Rattle.cs_write.specs.Text.{text_of};
 ghost use Rattle.changeset_c.specs.Combining.{combined_text, texts_of};
@@ -12,9 +13,8 @@ ghost use Rattle.changeset_c.specs.declared.combining.Refusal.TheVariants.{Memor
 
 use crate::kinds::kind_number;
 use cs_group::{Group, GroupError};
-use cs_model::Changeset;
-use cs_parse::{ParseError, ParseFault, parse};
-use cs_write::write_to;
+use cs_model::TextChangeset;
+use cs_parse::{ParseError, ParseFault, parse_in_place};
 use std::alloc::{AllocError, AllocFailed, Global};
 
 // a text spells no changeset
@@ -60,12 +60,15 @@ impl<T: Drop> From<AllocFailed<T>> for Refusal {
 }
 
 // the changesets of the texts before the first one with a fault, and the fault
-fn read(alloc: Global, texts: &[Text]) -> Result<(Vec<Changeset>, Option<ParseFault>), AllocError>
+fn read<'a>(
+    alloc: Global,
+    texts: &[Text<'a>],
+) -> Result<(Vec<TextChangeset<'a>>, Option<ParseFault>), AllocError>
     ensures { IfOk result (λ r. ReadUntil (texts_of texts.now) r.0.items r.1) }
 {
     let mut changesets = Vec::new(alloc);
     for text in texts {
-        match parse(alloc, text.bytes) {
+        match parse_in_place(alloc, text.bytes) {
             Ok(changeset) => changesets.push(changeset)?,
             Err(ParseError::Fault(fault)) => return Ok((changesets, Some(fault))),
             Err(ParseError::Memory) => return Err(AllocError),
@@ -75,14 +78,17 @@ fn read(alloc: Global, texts: &[Text]) -> Result<(Vec<Changeset>, Option<ParseFa
 }
 
 // the group of the changesets
-fn grouped<'a>(alloc: Global, changesets: &'a [Changeset]) -> Result<Group<'a>, Refusal>
+fn grouped<'a>(
+    alloc: Global,
+    changesets: &'a [TextChangeset<'a>],
+) -> Result<Group<'a>, Refusal>
     ensures ok { IfOk result (λ group. group ≡ sections_in changesets.now) }
     ensures fits { OnOk result (first_refused [] changesets.now ≡ None) }
     ensures refused { IfErr result (λ e. ReportsFirstClash e changesets.now) }
 {
     let mut group = Group::new(alloc);
     for (text, changeset) in changesets.iter().enumerate() {
-        match group.add(alloc, changeset) {
+        match group.add_text(alloc, changeset) {
             Ok(()) => {}
             Err(GroupError::Schema { section }) => return Err(Refusal::Clash { text, section }),
             Err(GroupError::Memory) => return Err(Refusal::Memory),
@@ -91,13 +97,13 @@ fn grouped<'a>(alloc: Global, changesets: &'a [Changeset]) -> Result<Group<'a>, 
     Ok(group)
 }
 
-// Writes the canonical text if there is room for it, and returns its length.
-fn written(alloc: Global, changeset: &Changeset, out: &mut [u8]) -> Result<i64, AllocError>
-    ensures len { IfOk result (λ n. n ≡ pos (length (text_of changeset.now))) }
-    ensures ok { OnOk result (out.new ≡ given (text_of changeset.now) out.old) }
+// Writes the group's text if there is room for it, and returns its length.
+fn written(alloc: Global, group: &Group, out: &mut [u8]) -> Result<i64, AllocError>
+    ensures len { IfOk result (λ n. n ≡ pos (length (text_of (group_of group.now)))) }
+    ensures ok { OnOk result (out.new ≡ given (text_of (group_of group.now)) out.old) }
     ensures err { OnErr result (out.new ≡ out.old) }
 {
-    let len = write_to(alloc, changeset, out)?;
+    let len = group.write_to(alloc, out)?;
     // no memory holds a longer text
     i64::try_from(len).map_err(|_| AllocError)
 }
@@ -114,8 +120,7 @@ fn combined(alloc: Global, texts: &[Text], out: &mut [u8]) -> Result<i64, Refusa
         let text = changesets.len();
         return Err(Refusal::Fault { text, fault });
     }
-    let changeset = group.output(alloc)?;
-    Ok(written(alloc, &changeset, out)?)
+    Ok(written(alloc, &group, out)?)
 }
 
 /// The length of the text of the texts' group, which is written if `out` has room for it; -1; -2;

@@ -18,3 +18,8 @@ pub mod Seen
 pub mod Lists
 pub mod Knowing
 pub mod Fitting
+pub mod KeyPlace
+pub mod InPlace
+pub mod InPlaceTwo
+pub mod OwnForm
+pub mod SlotBytes

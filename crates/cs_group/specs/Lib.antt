@@ -4,3 +4,5 @@ pub mod Rows
 pub mod Slots
 pub mod Table
 pub mod Adding
+pub mod Key
+pub mod Text

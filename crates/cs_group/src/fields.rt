@@ -29,13 +29,13 @@ impl<'s, 'a> Model for SlotFields<'s, 'a> {
 
 impl<'s, 'a> SlotFields<'s, 'a> {
     /// The fields of a borrowed record.
-    pub(crate) fn packed(record: &RecordRef<'a>) -> SlotFields<'s, 'a>
-        ensures { result ≡ record.now }
+    pub(crate) fn packed(from: &RecordRef<'a>) -> SlotFields<'s, 'a>
+        ensures { result ≡ from.now }
     {
         SlotFields {
             listed: &[],
             gone: 0,
-            packed: record.fields(),
+            packed: from.fields(),
         }
     }
 

@@ -1,19 +1,19 @@
 //! Changesets that are combined into one.
 
-ghost use Rattle.std.specs.Prelude.{◌≡◌, ◌++◌, [], None, IfErr, IfOk, List, OnErr, OnOk};
-ghost use Rattle.std.specs.Prelude.{filter, map};
-ghost use Rattle.std.specs.List.{AllByRecursion};
-ghost use Rattle.cs_model.specs.Changeset.{IsChangeset, IsSection};
-ghost use Rattle.cs_write.specs.Canon.{by_shape, has_changes, joined_section};
-ghost use Rattle.cs_write.specs.Seen.{seen};
-ghost use Rattle.cs_group.specs.Adding.{ReportsClash, first_refused, sections_added, sections_in};
-ghost use Rattle.cs_group.specs.Group.{combined_section, first_clash, group_of};
+ghost use Rattle.std.specs.Prelude.{◌≡◌, ◌++◌, [], None, IfErr, IfOk, List, OnErr, OnOk, length};
+ghost use Rattle.std.specs.Prelude.{take};
+ghost use Rattle.cs_model.specs.Changeset.{IsChangeset};
+ghost use Rattle.cs_model.specs.Section.{Section};
+ghost use Rattle.cs_write.specs.Buffer.{given};
+ghost use Rattle.cs_write.specs.Text.{text_of};
+ghost use Rattle.cs_group.specs.Adding.{Knows, ReportsClash, first_refused, sections_added};
+ghost use Rattle.cs_group.specs.Adding.{sections_in};
+ghost use Rattle.cs_group.specs.Group.{first_clash, group_of};
 
 use crate::error::GroupError;
 use crate::known::{Tables, admit_all};
-use crate::table::combined;
-use cs_model::{Changeset, CopyIn, Section, Seq};
-use cs_write::{Groups, add_section};
+use crate::output::{changeset_of, write_text};
+use cs_model::{Changeset, SectionRef, SectionRefs, TextChangeset};
 use indexmap::IndexMap;
 use std::alloc::{AllocError, Global};
 use std::marker::Model;
@@ -23,23 +23,21 @@ use std::marker::Model;
 /// changesets that were added, one changeset's after another's.
 #[derive(Drop)]
 pub struct Group<'a> {
-    added: Vec<&'a Changeset>,
+    added: Vec<SectionRef<'a>>,
     tables: Tables<'a>,
 }
 
 impl<'a> Model for Group<'a> {
-    ghost use Rattle.std.specs.Prelude.{◌≡◌, List, [], None};
+    ghost use Rattle.std.specs.Prelude.{List};
     ghost use Rattle.cs_model.specs.Changeset.{IsChangeset};
     ghost use Rattle.cs_model.specs.Section.{Section};
-    ghost use Rattle.cs_group.specs.Adding.{Knows, sections_added};
-    ghost use Rattle.cs_group.specs.Group.{first_clash};
+    ghost use Rattle.cs_group.specs.Adding.{Knows};
 
     ghost Value = { List Section };
 
-    ghost view = { λ g. sections_added g.added.items };
+    ghost view = { λ g. g.added.items };
 
-    ghost invariant = { λ g. IsChangeset (sections_added g.added.items)
-        × Knows (sections_added g.added.items) g.tables.entries };
+    ghost invariant = { λ g. IsChangeset g.added.items × Knows g.added.items g.tables.entries };
 }
 
 impl<'a> Group<'a> {
@@ -63,13 +61,38 @@ impl<'a> Group<'a> {
         ensures refused { IfErr result (λ e. ReportsClash e (first_clash self.old changeset.now)) }
         ensures err { OnErr result (self.new ≡ self.old) }
     {
+        self.add_sections(alloc, changeset.iter())
+    }
+
+    /// The same for a changeset that stands in its text.
+    pub fn add_text(
+        &mut self,
+        alloc: Global,
+        changeset: &'a TextChangeset<'a>,
+    ) -> Result<(), GroupError>
+        ensures ok { OnOk result (self.new ≡ self.old ++ changeset.now) }
+        ensures fits { OnOk result (first_clash self.old changeset.now ≡ None) }
+        ensures refused { IfErr result (λ e. ReportsClash e (first_clash self.old changeset.now)) }
+        ensures err { OnErr result (self.new ≡ self.old) }
+    {
+        self.add_sections(alloc, changeset.iter())
+    }
+
+    // adds the sections of a changeset
+    fn add_sections(&mut self, alloc: Global, sections: SectionRefs<'a>) -> Result<(), GroupError>
+        requires { IsChangeset sections }
+        ensures ok { OnOk result (self.new ≡ self.old ++ sections.entry) }
+        ensures fits { OnOk result (first_clash self.old sections.entry ≡ None) }
+        ensures refused { IfErr result (λ e. ReportsClash e (first_clash self.old sections.entry)) }
+        ensures err { OnErr result (self.new ≡ self.old) }
+    {
         let known = self.tables.len();
-        self.added.reserve(1)?;
-        if let Err(error) = admit_all(alloc, &mut self.tables, changeset) {
+        let held = self.added.len();
+        if let Err(error) = take_in(alloc, &mut self.tables, &mut self.added, sections) {
             self.tables.truncate(known);
+            self.added.truncate(held);
             return Err(error);
         }
-        self.added.push_reserved(changeset);
         Ok(())
     }
 
@@ -79,8 +102,56 @@ impl<'a> Group<'a> {
     pub fn output(&self, alloc: Global) -> Result<Changeset, AllocError>
         ensures { IfOk result (λ made. made ≡ group_of self.now) }
     {
-        combine_admitted(alloc, &self.added)
+        changeset_of(alloc, &self.added)
     }
+
+    /// Writes the canonical text of `output` to the front of `out`, and returns its length in
+    /// bytes. Makes no changeset of it. If `out` is shorter, writes nothing. Returns `AllocError`
+    /// if memory runs out, which does not change `out`.
+    pub fn write_to(&self, alloc: Global, out: &mut [u8]) -> Result<usize, AllocError>
+        ensures length { IfOk result (λ n. n ≡ length (text_of (group_of self.now))) }
+        ensures written { OnOk result (out.new ≡ given (text_of (group_of self.now)) out.old) }
+        ensures err { OnErr result (out.new ≡ out.old) }
+    {
+        write_text(alloc, &self.added, out)
+    }
+}
+
+// Adds sections and their tables. An `Err` may have added some.
+fn take_in<'a>(
+    alloc: Global,
+    tables: &mut Tables<'a>,
+    added: &mut Vec<SectionRef<'a>>,
+    sections: SectionRefs<'a>,
+) -> Result<(), GroupError>
+    ensures ok { OnOk result (added.new.items ≡ added.old.items ++ sections.entry) }
+    ensures knows { OnOk result (Knows added.old.items tables.old.entries
+        → Knows added.new.items tables.new.entries) }
+    ensures fits { OnOk result (Knows added.old.items tables.old.entries
+        → first_clash added.old.items sections.entry ≡ None) }
+    ensures refused { IfErr result (λ e. Knows added.old.items tables.old.entries
+        → ReportsClash e (first_clash added.old.items sections.entry)) }
+    ensures kept { take (length tables.old.entries) tables.new.entries ≡ tables.old.entries }
+    ensures front { take (length added.old.items) added.new.items ≡ added.old.items }
+{
+    let held = added.len();
+    push_all(added, sections)?;
+    let (_, more) = added.split_at(held);
+    admit_all(alloc, tables, more)
+}
+
+// Appends sections. An `Err` may have appended some.
+fn push_all<'a>(
+    added: &mut Vec<SectionRef<'a>>,
+    sections: SectionRefs<'a>,
+) -> Result<(), AllocError>
+    ensures ok { OnOk result (added.new.items ≡ added.old.items ++ sections.entry) }
+    ensures front { take (length added.old.items) added.new.items ≡ added.old.items }
+{
+    for section in sections {
+        added.push(section)?;
+    }
+    Ok(())
 }
 
 /// Combines changesets that one schema admits, so that no section can clash. Tables are told apart
@@ -88,54 +159,23 @@ impl<'a> Group<'a> {
 pub fn combine_admitted(alloc: Global, changesets: &[&Changeset]) -> Result<Changeset, AllocError>
     ensures { IfOk result (λ made. made ≡ group_of (sections_added changesets.now)) }
 {
-    let groups = by_table(alloc, changesets)?;
-    let sections = sections_of(alloc, &groups)?;
-    Ok(Changeset::from_seq(Seq::from_vec(sections)))
+    let added = listed(alloc, changesets)?;
+    changeset_of(alloc, &added)
 }
 
-// the sections of each table
-fn by_table<'a>(alloc: Global, changesets: &[&'a Changeset]) -> Result<Groups<'a>, AllocError>
-    ensures grouped { IfOk result (λ groups. seen groups.entries
-        ≡ by_shape [] (sections_added changesets.now)) }
+// the sections of changesets, one changeset's after another's
+fn listed<'a>(
+    alloc: Global,
+    changesets: &[&'a Changeset],
+) -> Result<Vec<SectionRef<'a>>, AllocError>
+    ensures added { IfOk result (λ added. added.items ≡ sections_added changesets.now) }
     ensures valid { OnOk result (IsChangeset (sections_added changesets.now)) }
 {
-    let mut groups = IndexMap::new(alloc);
+    let mut added = Vec::new(alloc);
     for changeset in changesets {
-        add_sections(alloc, &mut groups, changeset.sections())?;
+        push_all(&mut added, changeset.iter())?;
     }
-    Ok(groups)
-}
-
-// adds sections to the groups of their shapes
-fn add_sections<'a>(
-    alloc: Global,
-    groups: &mut Groups<'a>,
-    sections: &'a [Section],
-) -> Result<(), AllocError>
-    ensures { OnOk result ((before : List Section) → seen groups.old.entries ≡ by_shape [] before
-        → seen groups.new.entries ≡ by_shape [] (before ++ sections.now)) }
-{
-    for section in sections {
-        add_section(alloc, groups, section)?;
-    }
-    Ok(())
-}
-
-// one section for each table of which something is left
-fn sections_of(alloc: Global, groups: &Groups) -> Result<Vec<Section>, AllocError>
-    requires { AllByRecursion IsSection (map joined_section (seen groups.now.entries)) }
-    ensures { IfOk result (λ sections. sections.items ≡ filter has_changes
-        (map (λ group. combined_section (joined_section group)) (seen groups.now.entries))) }
-{
-    let mut sections = Vec::new(alloc);
-    for (shape, group) in groups.iter() {
-        let changes = combined(alloc, shape, group)?;
-        if !changes.is_empty() {
-            let shape = shape.copy_in(alloc)?;
-            sections.push(Section::new(shape, changes))?;
-        }
-    }
-    Ok(sections)
+    Ok(added)
 }
 
 /// Combines changesets into one: the `output` of a group of them.

@@ -2,13 +2,12 @@
 
 ghost use Rattle.std.specs.Prelude.{◌≡◌, ◌++◌, ◌∷◌, [], None, IfErr, IfOk, List, OnOk, length};
 ghost use Rattle.std.specs.Prelude.{false, not, take};
-ghost use Rattle.cs_model.specs.Changeset.{IsChangeset};
 ghost use Rattle.cs_model.specs.Section.{Section};
 ghost use Rattle.cs_group.specs.Adding.{Knows, ReportsClash, differs_by, known_as};
 ghost use Rattle.cs_group.specs.Group.{clashes, first_clash};
 
 use crate::error::GroupError;
-use cs_model::{Changeset, Octets, Section, Seq, Shape};
+use cs_model::{Octets, Section, SectionRef, Seq, Shape};
 use indexmap::IndexMap;
 use std::alloc::{AllocError, Global};
 
@@ -32,22 +31,21 @@ fn admit<'a>(alloc: Global, tables: &mut Tables<'a>, shape: &'a Shape) -> Result
     Ok(true)
 }
 
-/// Adds the tables of a changeset. An `Err` may have added some.
+/// Adds the tables of these sections. An `Err` may have added some.
 pub(crate) fn admit_all<'a>(
     alloc: Global,
     tables: &mut Tables<'a>,
-    changeset: &'a Changeset,
+    sections: &[SectionRef<'a>],
 ) -> Result<(), GroupError>
-    ensures valid { IsChangeset changeset.now }
     ensures ok { OnOk result ((earlier : List Section) → Knows earlier tables.old.entries
-        → Knows (earlier ++ changeset.now) tables.new.entries) }
+        → Knows (earlier ++ sections.now) tables.new.entries) }
     ensures fits { OnOk result ((earlier : List Section) → Knows earlier tables.old.entries
-        → first_clash earlier changeset.now ≡ None) }
+        → first_clash earlier sections.now ≡ None) }
     ensures refused { IfErr result (λ e. (earlier : List Section) → Knows earlier tables.old.entries
-        → ReportsClash e (first_clash earlier changeset.now)) }
+        → ReportsClash e (first_clash earlier sections.now)) }
     ensures kept { take (length tables.old.entries) tables.new.entries ≡ tables.old.entries }
 {
-    for (section, part) in changeset.sections().iter().enumerate() {
+    for (section, part) in sections.iter().enumerate() {
         if !admit(alloc, tables, part.shape())? {
             return Err(GroupError::Schema { section });
         }

@@ -6,9 +6,12 @@
 mod error;
 mod fields;
 mod group;
+mod key;
 mod known;
 pub mod laws;
 mod merge;
+mod output;
+mod rows;
 mod slot;
 mod table;
 

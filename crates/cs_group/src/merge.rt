@@ -1,52 +1,86 @@
 //! Two changes of one row as one change, and a change that is the first of its row.
 
-ghost use Rattle.std.specs.Prelude.{◌≡◌, [], IfOk, Some, true, Bool};
+ghost use Rattle.std.specs.Prelude.{◌≡◌, IfOk, Some, true, Bool, take};
 ghost use Rattle.std.specs.List.{list_any};
 ghost use Rattle.std.specs.Option.{option_map};
-ghost use Rattle.cs_model.specs.declared.change.Op.TheVariants.{Insert, Update, Delete};
-ghost use Rattle.cs_model.specs.declared.change.Change.{Change};
+ghost use Rattle.cs_model.specs.declared.change.Op.TheVariants.{Update};
 ghost use Rattle.cs_model.specs.PackedChanges.{change_of};
 ghost use Rattle.cs_model.specs.Rule.{is_defined};
 ghost use Rattle.cs_model.specs.Seen.{change_seen, field_seen, fields_seen};
 ghost use Rattle.cs_group.specs.Merge.{new_if_changed, news_changed, old_if_changed, olds_changed};
-ghost use Rattle.cs_group.specs.Merge.{only_change, record_or};
-ghost use Rattle.cs_group.specs.Merge.{two_changes, update_between};
-ghost use Rattle.cs_group.specs.Slots.{merged_seen, next_seen, slot_seen};
+ghost use Rattle.cs_group.specs.Merge.{delete_insert, insert_update, only_change, record_or};
+ghost use Rattle.cs_group.specs.Merge.{two_changes, update_between, update_delete, update_update};
+ghost use Rattle.cs_group.specs.Slots.{merged_seen, slot_seen};
 
 use crate::fields::SlotFields;
 use crate::slot::{Merged, Slot};
-use cs_model::{ChangeRef, FieldRef, Fields, Op};
+use cs_model::{ChangeRef, FieldRef, Fields, Op, RecordRef};
 use std::alloc::{AllocError, Global};
 
-/// What a row's change becomes by one more.
-#[derive(Debug, Drop)]
-pub(crate) enum Next<'a> {
-    /// It stays as it is.
-    Same,
-    /// Nothing is left.
-    Nothing,
-    /// This takes its place.
-    Becomes(Merged<'a>),
+// Puts another record's values in place of a record's fields, where it has some.
+fn put_values<'a>(fields: &mut Vec<FieldRef<'a>>, values: &RecordRef<'a>)
+    ensures { fields_seen fields.new.items
+        ≡ record_or values.now (fields_seen fields.old.items) }
+{
+    let mut values = values.fields();
+    for i in 0..fields.len() {
+        let Some(value) = values.next() else {
+            fields.truncate(i);
+            return;
+        };
+        if value.has_value() {
+            fields[i] = value;
+        }
+    }
 }
 
-// a record, with another's fields where its own are undefined
-fn record_or<'a>(
-    alloc: Global,
-    columns: usize,
-    mine: SlotFields<'_, 'a>,
-    others: SlotFields<'_, 'a>,
-) -> Result<Vec<FieldRef<'a>>, AllocError>
-    ensures { IfOk result (λ made. fields_seen made.items ≡ record_or mine.entry others.entry) }
+// Puts another record's fields in place of a record's undefined ones.
+fn fill<'a>(fields: &mut Vec<FieldRef<'a>>, others: &RecordRef<'a>)
+    ensures { fields_seen fields.new.items
+        ≡ record_or (fields_seen fields.old.items) others.now }
 {
-    let mut others = others;
-    let mut made = Vec::with_capacity(alloc, columns)?;
-    for field in mine {
+    let mut others = others.fields();
+    for i in 0..fields.len() {
         let Some(other) = others.next() else {
-            break;
+            fields.truncate(i);
+            return;
         };
-        made.push(if field.has_value() { field } else { other })?;
+        if !fields[i].has_value() {
+            fields[i] = other;
+        }
     }
-    Ok(made)
+}
+
+// Leaves, of two records, the fields of the columns that an UPDATE between them changes.
+fn keep_changed<'a>(flags: &[u8], before: &mut Vec<FieldRef<'a>>, after: &mut Vec<FieldRef<'a>>)
+    ensures olds { fields_seen before.new.items
+        ≡ olds_changed flags.now (fields_seen before.old.items) (fields_seen after.old.items) }
+    ensures news { fields_seen after.new.items
+        ≡ news_changed flags.now (fields_seen before.old.items) (fields_seen after.old.items) }
+{
+    for i in 0..flags.len() {
+        let Some(old) = before.get(i) else {
+            cut(before, after, i);
+            return;
+        };
+        let Some(new) = after.get(i) else {
+            cut(before, after, i);
+            return;
+        };
+        let (old, new) = changed(flags[i], *old, *new);
+        before[i] = old;
+        after[i] = new;
+    }
+    cut(before, after, flags.len());
+}
+
+// Leaves the first `columns` fields of two records.
+fn cut<'a>(before: &mut Vec<FieldRef<'a>>, after: &mut Vec<FieldRef<'a>>, columns: usize)
+    ensures before { before.new.items ≡ take columns before.old.items }
+    ensures after { after.new.items ≡ take columns after.old.items }
+{
+    before.truncate(columns);
+    after.truncate(columns);
 }
 
 // the UPDATE between two records, or none if no column is left
@@ -190,34 +224,19 @@ pub(crate) fn only<'a>(
 pub(crate) fn merge<'a>(
     alloc: Global,
     flags: &[u8],
-    there: &Slot<'a>,
+    there: Slot<'a>,
     new: &ChangeRef<'a>,
-) -> Result<Next<'a>, AllocError>
-    ensures { IfOk result (λ next. next_seen (slot_seen there.now) next
-        ≡ two_changes flags.now (slot_seen there.now) (change_seen new.now)) }
+) -> Result<Option<Slot<'a>>, AllocError>
+    ensures { IfOk result (λ next. option_map slot_seen next
+        ≡ two_changes flags.now (slot_seen there.entry) (change_seen new.now)) }
 {
-    let indirect = there.indirect() && new.indirect;
     match (there.op(), new.op) {
-        (Op::Insert, Op::Update) => insert_update(alloc, flags.len(), indirect, there, new),
-        (Op::Update, Op::Update) => update_update(alloc, flags, indirect, there, new),
-        (Op::Update, Op::Delete) => update_delete(alloc, flags.len(), indirect, there, new),
-        (Op::Delete, Op::Insert) => {
-            let after = SlotFields::packed(&new.after);
-            Ok(next_of(update_between(alloc, flags, indirect, there.before(), after)?))
-        }
-        (Op::Insert, Op::Delete) => Ok(Next::Nothing),
-        _ => Ok(Next::Same),
-    }
-}
-
-// what a row's change becomes, or that nothing is left
-fn next_of(made: Option<Merged>) -> Next
-    ensures { (there : Change) → next_seen there result
-        ≡ option_map merged_seen made.entry }
-{
-    match made {
-        None => Next::Nothing,
-        Some(merged) => Next::Becomes(merged),
+        (Op::Insert, Op::Update) => insert_update(alloc, flags.len(), there, new),
+        (Op::Update, Op::Update) => update_update(alloc, flags, there, new),
+        (Op::Update, Op::Delete) => update_delete(alloc, flags.len(), there, new),
+        (Op::Delete, Op::Insert) => delete_insert(alloc, flags, &there, new),
+        (Op::Insert, Op::Delete) => Ok(None),
+        _ => Ok(Some(there)),
     }
 }
 
@@ -225,81 +244,98 @@ fn next_of(made: Option<Merged>) -> Next
 fn insert_update<'a>(
     alloc: Global,
     columns: usize,
-    indirect: bool,
-    there: &Slot<'a>,
+    there: Slot<'a>,
     new: &ChangeRef<'a>,
-) -> Result<Next<'a>, AllocError>
-    ensures { IfOk result (λ next. (old : Change) → next_seen old next
-        ≡ Some (change_of Insert indirect []
-        (record_or new.now.after (slot_seen there.now).after))) }
+) -> Result<Option<Slot<'a>>, AllocError>
+    ensures { IfOk result (λ next. option_map slot_seen next
+        ≡ insert_update (slot_seen there.entry) (change_seen new.now)) }
 {
-    let after = record_or(
-        alloc,
-        columns,
-        SlotFields::packed(&new.after),
-        there.after(),
-    )?;
-    Ok(Next::Becomes(Merged {
-        op: Op::Insert,
+    let Merged {
         indirect,
+        after,
+        ..
+    } = there.into_merged(alloc, columns)?;
+    let mut after = after;
+    put_values(&mut after, &new.after);
+    Ok(Some(Slot::Merged(Merged {
+        op: Op::Insert,
+        indirect: indirect && new.indirect,
         before: Vec::new(alloc),
         after,
-    }))
+    })))
 }
 
 // UPDATE, then UPDATE
 fn update_update<'a>(
     alloc: Global,
     flags: &[u8],
-    indirect: bool,
-    there: &Slot<'a>,
+    there: Slot<'a>,
     new: &ChangeRef<'a>,
-) -> Result<Next<'a>, AllocError>
-    ensures { IfOk result (λ next. (old : Change) → next_seen old next
-        ≡ update_between flags.now indirect
-        (record_or (slot_seen there.now).before new.now.before)
-        (record_or new.now.after (slot_seen there.now).after)) }
+) -> Result<Option<Slot<'a>>, AllocError>
+    ensures { IfOk result (λ next. option_map slot_seen next
+        ≡ update_update flags.now (slot_seen there.entry) (change_seen new.now)) }
 {
-    let columns = flags.len();
-    let before = record_or(
-        alloc,
-        columns,
-        there.before(),
-        SlotFields::packed(&new.before),
-    )?;
-    let after = record_or(
-        alloc,
-        columns,
-        SlotFields::packed(&new.after),
-        there.after(),
-    )?;
-    let before = SlotFields::listed(&before);
-    let after = SlotFields::listed(&after);
-    Ok(next_of(update_between(alloc, flags, indirect, before, after)?))
+    let Merged {
+        indirect,
+        before,
+        after,
+        ..
+    } = there.into_merged(alloc, flags.len())?;
+    let mut before = before;
+    let mut after = after;
+    fill(&mut before, &new.before);
+    put_values(&mut after, &new.after);
+    keep_changed(flags, &mut before, &mut after);
+    if !any_value(&after) {
+        return Ok(None);
+    }
+    Ok(Some(Slot::Merged(Merged {
+        op: Op::Update,
+        indirect: indirect && new.indirect,
+        before,
+        after,
+    })))
 }
 
 // UPDATE, then DELETE
 fn update_delete<'a>(
     alloc: Global,
     columns: usize,
-    indirect: bool,
-    there: &Slot<'a>,
+    there: Slot<'a>,
     new: &ChangeRef<'a>,
-) -> Result<Next<'a>, AllocError>
-    ensures { IfOk result (λ next. (old : Change) → next_seen old next
-        ≡ Some (change_of Delete indirect
-        (record_or (slot_seen there.now).before new.now.before) [])) }
+) -> Result<Option<Slot<'a>>, AllocError>
+    ensures { IfOk result (λ next. option_map slot_seen next
+        ≡ update_delete (slot_seen there.entry) (change_seen new.now)) }
 {
-    let before = record_or(
-        alloc,
-        columns,
-        there.before(),
-        SlotFields::packed(&new.before),
-    )?;
-    Ok(Next::Becomes(Merged {
-        op: Op::Delete,
+    let Merged {
         indirect,
         before,
+        ..
+    } = there.into_merged(alloc, columns)?;
+    let mut before = before;
+    fill(&mut before, &new.before);
+    Ok(Some(Slot::Merged(Merged {
+        op: Op::Delete,
+        indirect: indirect && new.indirect,
+        before,
         after: Vec::new(alloc),
-    }))
+    })))
+}
+
+// DELETE, then INSERT
+fn delete_insert<'a>(
+    alloc: Global,
+    flags: &[u8],
+    there: &Slot<'a>,
+    new: &ChangeRef<'a>,
+) -> Result<Option<Slot<'a>>, AllocError>
+    ensures { IfOk result (λ next. option_map slot_seen next
+        ≡ delete_insert flags.now (slot_seen there.now) (change_seen new.now)) }
+{
+    let indirect = there.indirect() && new.indirect;
+    let after = SlotFields::packed(&new.after);
+    match update_between(alloc, flags, indirect, there.before(), after)? {
+        None => Ok(None),
+        Some(merged) => Ok(Some(Slot::Merged(merged))),
+    }
 }

@@ -1,12 +1,17 @@
 //! What the changes of a row come to so far.
 
-ghost use Rattle.std.specs.Prelude.{◌≡◌, ◌++◌, ◌∷◌, [], OnOk};
-ghost use Rattle.cs_group.specs.Slots.{slot_seen};
+ghost use Rattle.std.specs.Prelude.{◌≡◌, ◌+◌, ◌≤◌, ◌++◌, ◌∷◌, [], IfOk, OnOk, length};
+ghost use Rattle.cs_model.specs.PackedChanges.{change_bytes};
+ghost use Rattle.cs_model.specs.Seen.{change_seen, fields_seen};
+ghost use Rattle.cs_write.specs.Buffer.{laid};
+ghost use Rattle.cs_write.specs.Lengths.{held};
+ghost use Rattle.cs_group.specs.Slots.{merged_seen, slot_seen};
 ghost use Rattle.cs_group.specs.Table.{HasColumnsOf};
 
 use crate::fields::SlotFields;
-use cs_model::{ChangeRef, Changes, FieldRef, Op};
-use std::alloc::AllocError;
+use cs_model::{ChangeRef, Changes, FieldRef, Op, RecordRef};
+use cs_write::{add_lengths, fields_len, put_bytes, put_fields, put_operation};
+use std::alloc::{AllocError, Global};
 
 /// A change that comes from several. Its fields stand in the changesets that they come from.
 #[derive(Debug, Drop)]
@@ -67,6 +72,46 @@ impl<'a> Slot<'a> {
         }
     }
 
+    /// The length of the change in canonical form, in bytes.
+    pub(crate) fn text_len(&self) -> Option<usize>
+        ensures { result ≡ held (length (change_bytes (slot_seen self.now))) }
+    {
+        match self {
+            Slot::Alone(change) => alone_len(change),
+            Slot::Merged(merged) => merged_len(merged),
+        }
+    }
+
+    /// Writes the change in canonical form.
+    pub(crate) fn put(&self, out: &mut [u8], at: usize) -> usize
+        requires { at + length (change_bytes (slot_seen self.now)) ≤ length out.old }
+        ensures end { result ≡ at + length (change_bytes (slot_seen self.now)) }
+        ensures bytes { out.new ≡ laid at (change_bytes (slot_seen self.now)) out.old }
+    {
+        match self {
+            Slot::Alone(change) => put_alone(out, at, change),
+            Slot::Merged(merged) => put_merged(out, at, merged),
+        }
+    }
+
+    /// The change as lists of fields, of which a record has `columns`.
+    pub(crate) fn into_merged(self, alloc: Global, columns: usize) -> Result<Merged<'a>, AllocError>
+        ensures { IfOk result (λ merged. merged_seen merged ≡ slot_seen self.entry) }
+    {
+        let change = match self {
+            Slot::Alone(change) => change,
+            Slot::Merged(merged) => return Ok(merged),
+        };
+        let before = fields_of(alloc, columns, &change.before)?;
+        let after = fields_of(alloc, columns, &change.after)?;
+        Ok(Merged {
+            op: change.op,
+            indirect: change.indirect,
+            before,
+            after,
+        })
+    }
+
     /// Appends the change to a list, in one copy of the bytes that its fields have.
     pub(crate) fn push_to(&self, changes: &mut Changes) -> Result<(), AllocError>
         requires { HasColumnsOf changes.old.0 (slot_seen self.now) }
@@ -80,4 +125,59 @@ impl<'a> Slot<'a> {
             }
         }
     }
+}
+
+// the fields of a record, which are `columns` or none
+fn fields_of<'a>(
+    alloc: Global,
+    columns: usize,
+    from: &RecordRef<'a>,
+) -> Result<Vec<FieldRef<'a>>, AllocError>
+    ensures { IfOk result (λ fields. fields_seen fields.items ≡ from.now) }
+{
+    // a field takes at least one byte
+    let mut fields = Vec::with_capacity(alloc, columns.min(from.bytes().len()))?;
+    for field in from.fields() {
+        fields.push(field)?;
+    }
+    Ok(fields)
+}
+
+// the length of a change where it stands, in bytes
+fn alone_len(change: &ChangeRef) -> Option<usize>
+    ensures { result ≡ held (length (change_bytes (change_seen change.now))) }
+{
+    let before = Some(change.before.bytes().len());
+    let after = Some(change.after.bytes().len());
+    add_lengths(Some(2), add_lengths(before, after))
+}
+
+// the length of a change that comes from several, in bytes
+fn merged_len(merged: &Merged) -> Option<usize>
+    ensures { result ≡ held (length (change_bytes (merged_seen merged.now))) }
+{
+    let records = add_lengths(fields_len(&merged.before), fields_len(&merged.after));
+    add_lengths(Some(2), records)
+}
+
+// a change where it stands
+fn put_alone(out: &mut [u8], at: usize, change: &ChangeRef) -> usize
+    requires { at + length (change_bytes (change_seen change.now)) ≤ length out.old }
+    ensures end { result ≡ at + length (change_bytes (change_seen change.now)) }
+    ensures bytes { out.new ≡ laid at (change_bytes (change_seen change.now)) out.old }
+{
+    let mut end = put_operation(out, at, change.op, change.indirect);
+    end = put_bytes(out, end, change.before.bytes());
+    put_bytes(out, end, change.after.bytes())
+}
+
+// a change that comes from several
+fn put_merged(out: &mut [u8], at: usize, merged: &Merged) -> usize
+    requires { at + length (change_bytes (merged_seen merged.now)) ≤ length out.old }
+    ensures end { result ≡ at + length (change_bytes (merged_seen merged.now)) }
+    ensures bytes { out.new ≡ laid at (change_bytes (merged_seen merged.now)) out.old }
+{
+    let mut end = put_operation(out, at, merged.op, merged.indirect);
+    end = put_fields(out, end, &merged.before);
+    put_fields(out, end, &merged.after)
 }

@@ -15,15 +15,15 @@ not_is false e = refl
 pub loop-section-preserved : goal.loop-section-preserved
 loop-section-preserved c =
     let i = c.loop-section.section in
-    let all = c.sections-part-items.result.now in
-    let section = c.part-item.result in
+    let all = c.args.sections.now in
+    let section = c.index-sections-section.result in
     let now = c.loop-section.tables.entries in
     let shape = c.shape.ensures in
     let so_far = c.loop-section.invariant in
     let next : take (i + 1) all ≡ take i all ++ section ∷ [] =
-    take_more all i section c.loop-section-test.true ∙ ap (λ s. take i all ++ s ∷ []) (sym c.part-item.is) in
+    take_more all i section c.loop-section-test.true ∙ ap (λ s. take i all ++ s ∷ []) (sym c.index-sections-section.is) in
     let rest : drop i all ≡ section ∷ drop (i + 1) all =
-    drop_more all i section c.loop-section-test.true ∙ ap (λ s. s ∷ drop (i + 1) all) (sym c.part-item.is) in
+    drop_more all i section c.loop-section-test.true ∙ ap (λ s. s ∷ drop (i + 1) all) (sym c.index-sections-section.is) in
     let same : differs_by (known_as now section.shape.name) section.shape ≡ false =
     ap (λ s. differs_by (known_as now s.name) s) (sym shape)
     ∙ not_is _ (sym c.if-not-branch.false ∙ c.in_ok-admit.ensures.admits) in

@@ -9,10 +9,10 @@ use Rattle.cs_group.proofs.known.admit_all.Given as goal
 abbrev pub invariant-loop-section : goal.invariant-loop-section
 invariant-loop-section l = record {
   knows : (earlier : List Section) → Knows earlier l.fn.tables.entries
-      → Knows (earlier ++ take l.section l.part-items) l.tables.entries;
+      → Knows (earlier ++ take l.section l.sections) l.tables.entries;
   fits : (earlier : List Section) → Knows earlier l.fn.tables.entries
-      → first_clash earlier l.part-items
+      → first_clash earlier l.sections
       ≡ option_map (λ n. l.section + n) (first_clash (earlier
-      ++ take l.section l.part-items) (drop l.section l.part-items));
+      ++ take l.section l.sections) (drop l.section l.sections));
   kept : take (length l.fn.tables.entries) l.tables.entries ≡ l.fn.tables.entries;
 }

@@ -21,9 +21,10 @@ loop-change-preserved c =
     same c.in_ok-add.ensures.ok in
     record {
       flags = c.in_ok-add.ensures.flags ∙ same;
+      columns = c.in_ok-add.ensures.columns ∙ c.loop-change.invariant.columns;
       holds = λ before valid fits holds.
           let so_far = c.loop-change.invariant.holds before valid fits holds in
-          let whole : (so_far.0 ++ change ∷ []) ++ c.next.new.self ≡ c.args.changes.now.1 =
+          let whole : (so_far.0 ++ change ∷ []) ++ c.next.new.self ≡ c.args.section.now.changes =
           append_assoc so_far.0 (change ∷ []) c.next.new.self
           ∙ ap (λ rest. so_far.0 ++ rest) (sym c.in-Some.ensures.steps) ∙ so_far.1 in
           let all = subst (AllByRecursion (IsOfTable flags)) (sym whole) fits in

@@ -8,11 +8,12 @@ use Rattle.cs_group.proofs.table.Table.add_all.Given as goal
 abbrev pub invariant-loop-change : goal.invariant-loop-change
 invariant-loop-change l = record {
   flags : l.self.flags.now ≡ l.initial.self.flags.now;
+  columns : l.self.columns ≡ l.initial.self.columns;
   holds : (before : List Change) → AllByRecursion (IsOfTable l.initial.self.flags.now) before
-      → AllByRecursion (IsOfTable l.initial.self.flags.now) l.changes.1
+      → AllByRecursion (IsOfTable l.initial.self.flags.now) l.section.changes
       → HoldSlots l.initial.self.flags.now (row_place l.initial.self.places.entries)
       (slots_seen l.initial.self.slots.items) before
-      → (done : List Change) × (done ++ l.change-iterator ≡ l.changes.1)
+      → (done : List Change) × (done ++ l.change-iterator ≡ l.section.changes)
       × HoldSlots l.initial.self.flags.now (row_place l.self.places.entries) (slots_seen l.self.slots.items)
       (before ++ done);
 }

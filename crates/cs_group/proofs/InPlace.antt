@@ -1,0 +1,162 @@
+-- Fields that are replaced where they stand, one column after another.
+use Rattle.std.proofs.Common.{◌≡◌, ◌∙◌, ℕ, ◌+◌, ◌≤◌, ◌<◌, List, [], ◌∷◌, ◌++◌, length, take}
+use Rattle.std.proofs.Common.{true, false, Some, slice_get, slice_set, refl, sym, ap, append_assoc, arith}
+use Rattle.std.proofs.Common.{length-append}
+use Rattle.std.proofs.Math.Seq.{take-append_seam}
+use Rattle.std.proofs.lemmas.List.{append-nil, map-append}
+use Rattle.cs_model.specs.declared.value.Field.{Field}
+use Rattle.cs_model.specs.declared.value.Field.TheVariants.{Undefined, Is}
+use Rattle.cs_model.specs.declared.field_ref.FieldRef.{FieldRef}
+use Rattle.cs_model.specs.Rule.{is_defined}
+use Rattle.cs_model.specs.Seen.{field_seen, fields_seen}
+use Rattle.cs_group.specs.Merge.{field_or, record_or}
+
+-- ---- a list at one place
+
+pub get_at : {A : Type 0} (front : List A) (first : A) (others : List A)
+    → slice_get (front ++ first ∷ others) (length front) ≡ Some first
+get_at [] first others = refl
+get_at (x ∷ front) first others = get_at front first others
+
+pub set_at : {A : Type 0} (front : List A) (first x : A) (others : List A)
+    → slice_set (front ++ first ∷ others) (length front) x ≡ front ++ x ∷ others
+set_at [] first x others = refl
+set_at (y ∷ front) first x others = ap (λ ys. y ∷ ys) (set_at front first x others)
+
+-- ---- some columns are done
+
+-- The fields before a column are done. What becomes of those from the column on makes the whole.
+pub record Done (items : List FieldRef) (column : ℕ) (rest : List Field → List Field) (whole : List Field) (most : ℕ)
+    : Type 0 where
+  pub front : List FieldRef
+  pub back : List FieldRef
+  pub parts : items ≡ front ++ back
+  pub at : length front ≡ column
+  pub size : length items ≡ most
+  pub made : fields_seen front ++ rest (fields_seen back) ≡ whole
+
+pub none_done : (items : List FieldRef) (rest : List Field → List Field) (whole : List Field) (most : ℕ)
+    → rest (fields_seen items) ≡ whole → length items ≡ most → Done items 0 rest whole most
+none_done items rest whole most is size =
+    record { front = []; back = items; parts = refl; at = refl; size = size; made = is }
+
+-- the field of the column
+record First (items : List FieldRef) (column : ℕ) (rest : List Field → List Field) (whole : List Field) (most : ℕ)
+    : Type 0 where
+  front : List FieldRef
+  first : FieldRef
+  others : List FieldRef
+  parts : items ≡ front ++ first ∷ others
+  at : length front ≡ column
+  size : length items ≡ most
+  made : fields_seen front ++ rest (field_seen first ∷ fields_seen others) ≡ whole
+
+first_of : (items : List FieldRef) (column : ℕ) (rest : List Field → List Field) (whole : List Field) (most : ℕ)
+    → Done items column rest whole most → column < most → First items column rest whole most
+first_of items column rest whole most d some = by d.back d.parts d.made
+  where
+    by : (back : List FieldRef) → items ≡ d.front ++ back → fields_seen d.front ++ rest (fields_seen back) ≡ whole
+        → First items column rest whole most
+    by [] parts made = absurd (omega (arith, some, d.at, d.size, ap length parts, length-append d.front []))
+    by (first ∷ others) parts made = record {
+      front = d.front;
+      first = first;
+      others = others;
+      parts = parts;
+      at = d.at;
+      size = d.size;
+      made = made;
+    }
+
+one_done : (front : List FieldRef) (x : FieldRef) (rest later : List Field → List Field) (first : Field)
+    (others whole : List Field) → rest (first ∷ others) ≡ field_seen x ∷ later others
+    → fields_seen front ++ rest (first ∷ others) ≡ whole → fields_seen (front ++ x ∷ []) ++ later others ≡ whole
+one_done front x rest later first others whole is made =
+    ap (λ fs. fs ++ later others) (map-append field_seen front (x ∷ []))
+    ∙ append_assoc (fields_seen front) (field_seen x ∷ []) (later others)
+    ∙ ap (λ fs. fields_seen front ++ fs) (sym is) ∙ made
+
+-- the column's field is replaced
+pub set_done : (items : List FieldRef) (column : ℕ) (rest later : List Field → List Field) (whole : List Field)
+    (most : ℕ) (x : FieldRef) → Done items column rest whole most → column < most
+    → ((first : FieldRef) (others : List Field) → slice_get items column ≡ Some first
+    → rest (field_seen first ∷ others) ≡ field_seen x ∷ later others)
+    → Done (slice_set items column x) (column + 1) later whole most
+set_done items column rest later whole most x d some turns =
+    let f = first_of items column rest whole most d some in
+    let there : slice_get items column ≡ Some f.first =
+    (λ i. slice_get (f.parts i) (sym f.at i)) ∙ get_at f.front f.first f.others in
+    let after : slice_set items column x ≡ f.front ++ x ∷ f.others =
+    (λ i. slice_set (f.parts i) (sym f.at i) x) ∙ set_at f.front f.first x f.others in
+    record {
+      front = f.front ++ x ∷ [];
+      back = f.others;
+      parts = after ∙ sym (append_assoc f.front (x ∷ []) f.others);
+      at = omega (arith, length-append f.front (x ∷ []), f.at);
+      size = omega (
+        arith,
+        ap length after,
+        ap length f.parts,
+        length-append f.front (x ∷ f.others),
+        length-append f.front (f.first ∷ f.others),
+        f.size,
+      );
+      made = one_done f.front x rest later (field_seen f.first) (fields_seen f.others) whole
+          (turns f.first (fields_seen f.others) there) f.made;
+    }
+
+-- the column's field stays
+pub keep_done : (items : List FieldRef) (column : ℕ) (rest later : List Field → List Field) (whole : List Field)
+    (most : ℕ) → Done items column rest whole most → column < most
+    → ((first : FieldRef) (others : List Field) → slice_get items column ≡ Some first
+    → rest (field_seen first ∷ others) ≡ field_seen first ∷ later others)
+    → Done items (column + 1) later whole most
+keep_done items column rest later whole most d some turns =
+    let f = first_of items column rest whole most d some in
+    let there : slice_get items column ≡ Some f.first =
+    (λ i. slice_get (f.parts i) (sym f.at i)) ∙ get_at f.front f.first f.others in
+    record {
+      front = f.front ++ f.first ∷ [];
+      back = f.others;
+      parts = f.parts ∙ sym (append_assoc f.front (f.first ∷ []) f.others);
+      at = omega (arith, length-append f.front (f.first ∷ []), f.at);
+      size = f.size;
+      made = one_done f.front f.first rest later (field_seen f.first) (fields_seen f.others) whole
+          (turns f.first (fields_seen f.others) there) f.made;
+    }
+
+-- nothing becomes of the columns that are left
+pub cut_done : (items : List FieldRef) (column : ℕ) (rest : List Field → List Field) (whole : List Field) (most : ℕ)
+    → Done items column rest whole most → ((back : List Field) → rest back ≡ [])
+    → fields_seen (take column items) ≡ whole
+cut_done items column rest whole most d none =
+    ap fields_seen ((λ i. take (sym d.at i) (d.parts i)) ∙ take-append_seam d.front d.back)
+    ∙ sym (append-nil (fields_seen d.front)) ∙ ap (λ fs. fields_seen d.front ++ fs) (sym (none (fields_seen d.back)))
+    ∙ d.made
+
+-- no column is left
+pub all_done : (items : List FieldRef) (column : ℕ) (rest : List Field → List Field) (whole : List Field) (most : ℕ)
+    → Done items column rest whole most → most ≤ column → rest [] ≡ [] → fields_seen items ≡ whole
+all_done items column rest whole most d over none = by d.back d.parts d.made
+  where
+    by : (back : List FieldRef) → items ≡ d.front ++ back → fields_seen d.front ++ rest (fields_seen back) ≡ whole
+        → fields_seen items ≡ whole
+    by [] parts made =
+        ap fields_seen (parts ∙ append-nil d.front) ∙ sym (append-nil (fields_seen d.front))
+        ∙ ap (λ fs. fields_seen d.front ++ fs) (sym none) ∙ made
+    by (first ∷ others) parts made =
+        absurd (omega (arith, over, d.at, d.size, ap length parts, length-append d.front (first ∷ others)))
+
+-- ---- a record, with another's fields where its own are undefined
+
+pub or_defined : (field other : Field) → is_defined field ≡ true → field_or field other ≡ field
+or_defined Undefined other e = absurd cc
+or_defined (Is value) other e = refl
+
+pub or_undefined : (field other : Field) → is_defined field ≡ false → field_or field other ≡ other
+or_undefined Undefined other e = refl
+or_undefined (Is value) other e = absurd cc
+
+pub or_none : (fields : List Field) → record_or fields [] ≡ []
+or_none [] = refl
+or_none (field ∷ fields) = refl

@@ -1,0 +1,25 @@
+-- The bytes of the changes that slots hold, slot by slot.
+use Rattle.std.proofs.Common.{◌≡◌, ◌∙◌, ◌<◌, ◌+◌, ℕ, List, ◌∷◌, ◌++◌, length, drop, get_or, Option, Some, None, sym, ap}
+use Rattle.std.proofs.lemmas.List.{drop_more}
+use Rattle.cs_model.specs.PackedChanges.{change_bytes, changes_bytes}
+use Rattle.cs_group.specs.declared.slot.Slot.{Slot}
+use Rattle.cs_group.specs.Slots.{slot_seen}
+use Rattle.cs_group.specs.Table.{slot_changes, slots_seen}
+
+abbrev pub slots_bytes : List (Option Slot) → List ℕ
+slots_bytes slots = changes_bytes (slot_changes (slots_seen slots))
+
+-- a slot from a place on
+pub from_slot : (slots read : List (Option Slot)) (i : ℕ) (item : Option Slot) → read ≡ slots → i < length read
+    → item ≡ get_or read i item → drop i slots ≡ item ∷ drop (i + 1) slots
+from_slot slots read i item same lt is =
+    ap (drop i) (sym same) ∙ drop_more read i item lt ∙ ap (λ x. x ∷ drop (i + 1) read) (sym is)
+    ∙ ap (λ r. item ∷ drop (i + 1) r) same
+
+pub some_bytes : (slots rest : List (Option Slot)) (item : Option Slot) (slot : Slot) → slots ≡ item ∷ rest
+    → item ≡ Some slot → slots_bytes slots ≡ change_bytes (slot_seen slot) ++ slots_bytes rest
+some_bytes slots rest item slot is some = ap slots_bytes (is ∙ ap (λ x. x ∷ rest) some)
+
+pub none_bytes : (slots rest : List (Option Slot)) (item : Option Slot) → slots ≡ item ∷ rest → item ≡ None
+    → slots_bytes slots ≡ slots_bytes rest
+none_bytes slots rest item is none = ap slots_bytes (is ∙ ap (λ x. x ∷ rest) none)

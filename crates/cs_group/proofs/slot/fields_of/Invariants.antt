@@ -1,0 +1,7 @@
+use Rattle.std.proofs.Common.{◌≡◌, ◌++◌}
+use Rattle.cs_model.specs.Seen.{fields_seen}
+use Rattle.cs_group.proofs.slot.fields_of.Given as goal
+
+-- the fields so far, and those that are left
+abbrev pub invariant-loop-field : goal.invariant-loop-field
+invariant-loop-field l = fields_seen l.fields.items ++ l.field-iterator ≡ l.from

@@ -1,0 +1,162 @@
+//! Where the key of a row stands in a record, and the key as a map's key.
+
+ghost use Rattle.std.specs.Prelude.{◌≡◌, ◌≤◌, ◌++◌, ℕ, IfOk, List, drop, length, take};
+ghost use Rattle.std.specs.Cmp.{partial_equiv_from_equiv};
+ghost use Rattle.std.specs.Cmp.Lexicographic.{nat_list_eq_equiv};
+ghost use Rattle.std.specs.Cmp.Rules.{hashing};
+ghost use Rattle.std.specs.Hash as fed;
+ghost use Rattle.std.proofs.Common.{rules};
+ghost use Rattle.cs_model.specs.declared.value.Field.{Field};
+ghost use Rattle.cs_model.specs.KeyBytes.{key_fields};
+ghost use Rattle.cs_model.specs.Schema.{same_bytes};
+ghost use Rattle.cs_model.specs.Seen.{change_seen};
+ghost use Rattle.cs_group.specs.Group.{changed_row};
+ghost use Rattle.cs_group.specs.Key.{IsKeyAt, Stands, bytes_of_key};
+
+use cs_model::{ChangeRef, Octets, Op, key_of_row};
+use std::alloc::{AllocError, Global};
+use std::hash::{Hash, Hasher};
+use std::marker::Model;
+
+/// The key columns of a table that stand next to each other.
+#[derive(Clone, Copy)]
+pub(crate) struct KeyColumns {
+    // the index of the first one
+    first: usize,
+    count: usize,
+}
+
+/// The key columns of a table with these key flags, if they stand next to each other.
+pub(crate) fn key_columns(flags: &[u8]) -> Option<KeyColumns>
+    ensures { Stands flags.now result }
+{
+    let first = zeros(flags);
+    let (_, rest) = flags.split_at(first);
+    let count = nonzeros(rest);
+    let (_, rest) = rest.split_at(count);
+    if zeros(rest) < rest.len() {
+        return None;
+    }
+    Some(KeyColumns { first, count })
+}
+
+// how many columns outside the key come first
+fn zeros(flags: &[u8]) -> usize
+    ensures bound { result ≤ length flags.now }
+    ensures rest { (fields : List Field) → key_fields flags.now fields
+        ≡ key_fields (drop result flags.now) (drop result fields) }
+{
+    let mut count: usize = 0;
+    for flag in flags {
+        if *flag > 0 {
+            return count;
+        }
+        count += 1;
+    }
+    count
+}
+
+// how many columns of the key come first
+fn nonzeros(flags: &[u8]) -> usize
+    ensures bound { result ≤ length flags.now }
+    ensures rest { (fields : List Field) → key_fields flags.now fields
+        ≡ take result fields ++ key_fields (drop result flags.now) (drop result fields) }
+{
+    let mut count: usize = 0;
+    for flag in flags {
+        if *flag == 0 {
+            return count;
+        }
+        count += 1;
+    }
+    count
+}
+
+/// The bytes of a key.
+#[derive(Debug, Drop)]
+pub(crate) enum KeyBytes<'a> {
+    /// They stand in a record.
+    InPlace(&'a [u8]),
+    /// They are copied from columns apart.
+    Copied(Octets),
+}
+
+/// The key of a row: its key columns' values in canonical form. Contracts see the bytes.
+#[derive(Debug, Drop)]
+pub(crate) struct Key<'a> {
+    bytes: KeyBytes<'a>,
+}
+
+impl<'a> Model for Key<'a> {
+    ghost use Rattle.std.specs.Prelude.{ℕ, List};
+    ghost use Rattle.cs_group.specs.Key.{bytes_of_key};
+
+    ghost Value = { List ℕ };
+
+    ghost view = { λ k. bytes_of_key k.bytes };
+}
+
+impl<'a> Key<'a> {
+    /// The key of the row that a change is about. `columns` are the table's key columns, if they
+    /// stand next to each other. Returns `AllocError` if memory runs out.
+    pub(crate) fn of(
+        alloc: Global,
+        flags: &[u8],
+        columns: Option<KeyColumns>,
+        change: &ChangeRef<'a>,
+    ) -> Result<Key<'a>, AllocError>
+        requires { Stands flags.now columns }
+        ensures { IfOk result (λ key. key ≡ changed_row flags.now (change_seen change.now)) }
+    {
+        let bytes = match columns {
+            Some(at) => KeyBytes::InPlace(bytes_at(at, change)),
+            None => KeyBytes::Copied(key_of_row(alloc, flags, change)?),
+        };
+        Ok(Key { bytes })
+    }
+
+    // the bytes
+    fn as_slice(&self) -> &[u8]
+        ensures { result.now ≡ self.now }
+    {
+        match &self.bytes {
+            KeyBytes::InPlace(bytes) => return bytes,
+            KeyBytes::Copied(bytes) => return bytes,
+        }
+    }
+}
+
+// the bytes of these columns in the record that identifies a change's row
+fn bytes_at<'a>(at: KeyColumns, change: &ChangeRef<'a>) -> &'a [u8]
+    ensures { (flags : List ℕ) → IsKeyAt flags at.first at.count
+        → result.now ≡ changed_row flags (change_seen change.now) }
+{
+    match change.op {
+        Op::Insert => change.after.part(at.first, at.count),
+        Op::Update | Op::Delete => change.before.part(at.first, at.count),
+    }
+}
+
+impl<'a> PartialEq for Key<'a> {
+    ghost eq = { same_bytes };
+
+    ghost laws = { partial_equiv_from_equiv nat_list_eq_equiv };
+
+    fn eq(&self, other: &Self) -> bool {
+        self.as_slice() == other.as_slice()
+    }
+}
+
+impl<'a> Eq for Key<'a> {
+    ghost laws = { nat_list_eq_equiv };
+}
+
+impl<'a> Hash for Key<'a> {
+    ghost hash_input = { λ k. fed.slice fed.u8 k };
+
+    ghost respects_eq = { Prim.search (hashing, rules) };
+
+    fn hash<H: Hasher>(&self, state: &mut H) {
+        self.as_slice().hash(state);
+    }
+}

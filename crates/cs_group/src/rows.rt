@@ -1,0 +1,137 @@
+//! What all changes of one table come to, as changes and as text.
+
+ghost use Rattle.std.specs.Prelude.{◌≡◌, ◌+◌, ◌≤◌, IfOk, length, nat_lt};
+ghost use Rattle.std.specs.List.{AllByRecursion};
+ghost use Rattle.cs_model.specs.Changeset.{IsChange, all_changes};
+ghost use Rattle.cs_model.specs.PackedChanges.{changes_bytes};
+ghost use Rattle.cs_write.specs.Buffer.{laid};
+ghost use Rattle.cs_write.specs.Lengths.{held};
+ghost use Rattle.cs_group.specs.Group.{combined};
+ghost use Rattle.cs_group.specs.Table.{HasColumnsOf, slot_changes, slots_seen};
+ghost use Rattle.cs_group.specs.Text.{rows_seen, table_text};
+
+use crate::slot::Slot;
+use crate::table::Table;
+use cs_model::laws::changes_fit;
+use cs_model::{Changes, SectionRef, Shape};
+use cs_write::{add_lengths, header_len, put_header};
+use std::alloc::{AllocError, Global};
+
+/// The rows of a table, each with the change that its changes come to, or none.
+#[derive(Drop)]
+pub(crate) struct Rows<'s, 'a> {
+    shape: &'s Shape,
+    // in the order in which the rows began
+    slots: Vec<Option<Slot<'a>>>,
+}
+
+impl<'s, 'a> Rows<'s, 'a> {
+    /// What the changes of these sections of one table come to.
+    pub(crate) fn of(
+        alloc: Global,
+        shape: &'s Shape,
+        sections: &[SectionRef<'a>],
+    ) -> Result<Rows<'s, 'a>, AllocError>
+        requires { AllByRecursion (IsChange shape.now) (all_changes sections.now) }
+        ensures shape { IfOk result (λ rows. rows.shape.now ≡ shape.now) }
+        ensures columns { IfOk result (λ rows. AllByRecursion
+            (HasColumnsOf (length shape.now.flags)) (slot_changes (slots_seen rows.slots.items))) }
+        ensures combined { IfOk result (λ rows. slot_changes (slots_seen rows.slots.items)
+            ≡ combined shape.now.flags (all_changes sections.now)) }
+    {
+        changes_fit();
+        let mut table = Table::new(alloc, &shape.flags);
+        for section in sections {
+            table.add_all(alloc, section)?;
+        }
+        let Table { slots, .. } = table;
+        Ok(Rows { shape, slots })
+    }
+
+    /// The changes, in the order in which their rows began.
+    pub(crate) fn changes(&self, alloc: Global) -> Result<Changes, AllocError>
+        requires { AllByRecursion (HasColumnsOf (length self.now.shape.now.flags))
+            (slot_changes (slots_seen self.now.slots.items)) }
+        ensures columns { IfOk result (λ made. made.0 ≡ length self.now.shape.now.flags) }
+        ensures changes { IfOk result (λ made. made.1
+            ≡ slot_changes (slots_seen self.now.slots.items)) }
+    {
+        let mut changes = Changes::new(alloc, self.shape.flags.len());
+        for slot in &self.slots {
+            let Some(slot) = slot else {
+                continue;
+            };
+            slot.push_to(&mut changes)?;
+        }
+        Ok(changes)
+    }
+
+    // whether a row has a change
+    fn any_change(&self) -> bool
+        ensures { result ≡ nat_lt 0 (length (slot_changes (slots_seen self.now.slots.items))) }
+    {
+        for slot in &self.slots {
+            if slot.is_some() {
+                return true;
+            }
+        }
+        false
+    }
+
+    // the length of the changes, in bytes
+    fn changes_len(&self) -> Option<usize>
+        ensures { result ≡ held (length
+            (changes_bytes (slot_changes (slots_seen self.now.slots.items)))) }
+    {
+        let mut len = Some(0);
+        for slot in &self.slots {
+            let Some(slot) = slot else {
+                continue;
+            };
+            len = add_lengths(len, slot.text_len());
+        }
+        len
+    }
+
+    /// The length of the table's text in bytes, 0 if no row has a change.
+    pub(crate) fn text_len(&self) -> Option<usize>
+        ensures { result ≡ held (length (table_text (rows_seen self.now))) }
+    {
+        if !self.any_change() {
+            return Some(0);
+        }
+        add_lengths(header_len(self.shape), self.changes_len())
+    }
+
+    // Writes the changes.
+    fn put_changes(&self, out: &mut [u8], at: usize) -> usize
+        requires { at + length (changes_bytes (slot_changes (slots_seen self.now.slots.items)))
+            ≤ length out.old }
+        ensures end { result ≡ at
+            + length (changes_bytes (slot_changes (slots_seen self.now.slots.items))) }
+        ensures bytes { out.new ≡ laid at
+            (changes_bytes (slot_changes (slots_seen self.now.slots.items))) out.old }
+    {
+        let mut end = at;
+        for slot in &self.slots {
+            let Some(slot) = slot else {
+                continue;
+            };
+            end = slot.put(out, end);
+        }
+        end
+    }
+
+    /// Writes the table's text: its header and the changes, or nothing if no row has a change.
+    pub(crate) fn put(&self, out: &mut [u8], at: usize) -> usize
+        requires { at + length (table_text (rows_seen self.now)) ≤ length out.old }
+        ensures end { result ≡ at + length (table_text (rows_seen self.now)) }
+        ensures bytes { out.new ≡ laid at (table_text (rows_seen self.now)) out.old }
+    {
+        if !self.any_change() {
+            return at;
+        }
+        let end = put_header(out, at, self.shape);
+        self.put_changes(out, end)
+    }
+}
