@@ -10,8 +10,8 @@ use Rattle.cs_group.specs.Adding.{first_refused, refused_earliest, sections_in}
 use Rattle.cs_group.specs.Group.{first_clash}
 use Rattle.changeset_c.specs.declared.combining.Text.{Text}
 use Rattle.changeset_c.specs.Combining.{SpellAll, texts_of, HasTextFault, HasClash}
-use Rattle.changeset_c.specs.declared.combining.Refusal.{Refusal}
-use Rattle.changeset_c.specs.declared.combining.Refusal.TheVariants.{Fault, Clash, Memory}
+use Rattle.changeset_c.specs.declared.combining.CombineError.{CombineError}
+use Rattle.changeset_c.specs.declared.combining.CombineError.TheVariants.{Fault, Clash, Memory}
 use Rattle.changeset_c.specs.Combining.{AreReadSo, IsReadSo}
 use Rattle.changeset_c.specs.Combining.{IsCutBy, ReadUntil, IsFirstClash, Refuses, ReportsFirstClash}
 use Rattle.changeset_c.specs.Kinds.{kind_number}
@@ -210,7 +210,7 @@ text_fault_told texts changesets fault index is cut fits = record {
 }
 
 pub refusal_told : (texts : List (List ℕ)) (changesets : List (List Section)) (fault : Option ParseFault)
-    (refusal : Refusal) → ReadUntil texts changesets fault → ReportsFirstClash refusal changesets
+    (refusal : CombineError) → ReadUntil texts changesets fault → ReportsFirstClash refusal changesets
     → Refuses refusal texts
 refusal_told texts changesets fault (Fault text why) read refused = absurd refused
 refusal_told texts changesets fault (Clash text section) read refused =

@@ -10,8 +10,8 @@ use Rattle.cs_write.specs.Text.{text_of}
 use Rattle.cs_write.specs.Buffer.{given}
 use Rattle.cs_group.specs.Adding.{first_refused, sections_in}
 use Rattle.cs_group.specs.Group.{first_clash, group_of}
-use Rattle.changeset_c.specs.declared.combining.Refusal.{Refusal}
-use Rattle.changeset_c.specs.declared.combining.Refusal.TheVariants.{Fault, Clash, Memory}
+use Rattle.changeset_c.specs.declared.combining.CombineError.{CombineError}
+use Rattle.changeset_c.specs.declared.combining.CombineError.TheVariants.{Fault, Clash, Memory}
 use Rattle.changeset_c.specs.declared.combining.Text.{Text}
 use Rattle.changeset_c.specs.Kinds.{kind_number}
 use Rattle.changeset_c.specs.Says.{HasFaultAt}
@@ -147,13 +147,13 @@ pub record IsFirstClash (changesets : List (List Section)) (index section : ℕ)
   pub fits : first_refused [] front ≡ None
   pub clash : first_clash (sections_in front) changeset ≡ Some section
 
-abbrev pub ReportsFirstClash : Refusal → List (List Section) → Type 0
+abbrev pub ReportsFirstClash : CombineError → List (List Section) → Type 0
 ReportsFirstClash (Fault text fault) changesets = ⊥
 ReportsFirstClash (Clash text section) changesets = IsFirstClash changesets text section
 ReportsFirstClash Memory changesets = Unit {0}
 
 -- what a refusal says of the texts
-abbrev pub Refuses : Refusal → List (List ℕ) → Type 0
+abbrev pub Refuses : CombineError → List (List ℕ) → Type 0
 Refuses (Fault text fault) texts = HasTextFault texts text fault.at (kind_number fault.kind)
 Refuses (Clash text section) texts = HasClash texts text section
 Refuses Memory texts = Unit {0}

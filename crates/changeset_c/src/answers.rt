@@ -3,15 +3,11 @@
 ghost use Rattle.changeset_c.specs.Says.{CheckSays, CanonicalSays, KeptBut};
 
 use crate::kinds::kind_number;
+use crate::results::{NO_CHANGESET, NO_MEMORY};
 use cs_parse::{ParseError, count_changes, parse};
 use cs_write::laws::text_is_no_longer;
 use cs_write::write_to;
 use std::alloc::Global;
-
-// the text spells no changeset
-const NO_CHANGESET: i64 = -1;
-// memory ran out
-const NO_MEMORY: i64 = -2;
 
 /// How many changes the text spells; or -1, with the place and the kind's number of its fault.
 pub fn check(text: &[u8], fault_at: &mut usize, fault_kind: &mut u32) -> i64

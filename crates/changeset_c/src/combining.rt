@@ -1,6 +1,6 @@
 //! Combines several texts into one, as the export `changeset_combine` does.
 
-ghost use Rattle.std.specs.Prelude.{◌≡◌, [], IfErr, IfOk, None, OnErr, OnOk, length, pos};
+ghost use Rattle.std.specs.Prelude.{◌≡◌, ℕ, List, [], IfErr, IfOk, None, OnErr, OnOk, length, pos};
 ghost use Rattle.cs_group.specs.Adding.{first_refused, sections_in};
 ghost use Rattle.cs_group.specs.Group.{group_of};
 ghost use Rattle.cs_write.specs.Buffer.{given};
@@ -9,20 +9,14 @@ ghost use Rattle.changeset_c.specs.Combining.{combined_text, texts_of};
 ghost use Rattle.changeset_c.specs.Combining.{CombineSays, KeptUnlessBad, ReadUntil, Refuses};
 ghost use Rattle.changeset_c.specs.Combining.{ReportsFirstClash, Writes};
 ghost use Rattle.changeset_c.specs.Says.{KeptBut};
-ghost use Rattle.changeset_c.specs.declared.combining.Refusal.TheVariants.{Memory};
+ghost use Rattle.changeset_c.specs.declared.combining.CombineError.TheVariants.{Memory};
 
 use crate::kinds::kind_number;
+use crate::results::{CLASH, NO_CHANGESET, NO_MEMORY};
 use cs_group::{Group, GroupError};
 use cs_model::TextChangeset;
 use cs_parse::{ParseError, ParseFault, parse_in_place};
-use std::alloc::{AllocError, AllocFailed, Global};
-
-// a text spells no changeset
-const NO_CHANGESET: i64 = -1;
-// memory ran out
-const NO_MEMORY: i64 = -2;
-// a section's table has the name of an earlier one's, and another shape
-const CLASH: i64 = -3;
+use std::alloc::{AllocError, Global};
 
 /// A text, as C passes one: a pointer and a length.
 #[derive(Clone, Copy)]
@@ -34,7 +28,7 @@ pub struct Text<'a> {
 
 /// Why texts can't be combined. `text` is the index of the first text that can't be added.
 #[derive(Clone, Copy, Debug, Drop)]
-pub enum Refusal {
+pub enum CombineError {
     /// The text has this fault.
     Fault { text: usize, fault: ParseFault },
     /// The text spells a changeset whose section with this index clashes with an earlier one.
@@ -43,19 +37,11 @@ pub enum Refusal {
     Memory,
 }
 
-impl From<AllocError> for Refusal {
+impl From<AllocError> for CombineError {
     ghost from_gives = { λ _ e. e ≡ Memory };
 
-    fn from(_e: AllocError) -> Refusal {
-        Refusal::Memory
-    }
-}
-
-impl<T: Drop> From<AllocFailed<T>> for Refusal {
-    ghost from_gives = { λ _ e. e ≡ Memory };
-
-    fn from(_e: AllocFailed<T>) -> Refusal {
-        Refusal::Memory
+    fn from(_e: AllocError) -> CombineError {
+        CombineError::Memory
     }
 }
 
@@ -81,7 +67,7 @@ fn read<'a>(
 fn grouped<'a>(
     alloc: Global,
     changesets: &'a [TextChangeset<'a>],
-) -> Result<Group<'a>, Refusal>
+) -> Result<Group<'a>, CombineError>
     ensures ok { IfOk result (λ group. group ≡ sections_in changesets.now) }
     ensures fits { OnOk result (first_refused [] changesets.now ≡ None) }
     ensures refused { IfErr result (λ e. ReportsFirstClash e changesets.now) }
@@ -90,8 +76,8 @@ fn grouped<'a>(
     for (text, changeset) in changesets.iter().enumerate() {
         match group.add_text(alloc, changeset) {
             Ok(()) => {}
-            Err(GroupError::Schema { section }) => return Err(Refusal::Clash { text, section }),
-            Err(GroupError::Memory) => return Err(Refusal::Memory),
+            Err(GroupError::Schema { section }) => return Err(CombineError::Clash { text, section }),
+            Err(GroupError::Memory) => return Err(CombineError::Memory),
         }
     }
     Ok(group)
@@ -108,19 +94,36 @@ fn written(alloc: Global, group: &Group, out: &mut [u8]) -> Result<i64, AllocErr
     i64::try_from(len).map_err(|_| AllocError)
 }
 
+// Combines the changesets of the texts before the first one with a fault. If none has one, writes
+// the text of the result if there is room for it.
+fn combine_read(
+    alloc: Global,
+    changesets: &[TextChangeset],
+    fault: Option<ParseFault>,
+    out: &mut [u8],
+) -> Result<i64, CombineError>
+    ensures ok { IfOk result (λ n. (texts : List (List ℕ)) → ReadUntil texts changesets.now fault
+        → Writes n texts out.old out.new) }
+    ensures refused { IfErr result (λ e. (texts : List (List ℕ))
+        → ReadUntil texts changesets.now fault → Refuses e texts) }
+    ensures err { OnErr result (out.new ≡ out.old) }
+{
+    let group = grouped(alloc, changesets)?;
+    if let Some(fault) = fault {
+        let text = changesets.len();
+        return Err(CombineError::Fault { text, fault });
+    }
+    Ok(written(alloc, &group, out)?)
+}
+
 // Combines the texts, and writes the text of the result if there is room for it.
-fn combined(alloc: Global, texts: &[Text], out: &mut [u8]) -> Result<i64, Refusal>
+fn combined(alloc: Global, texts: &[Text], out: &mut [u8]) -> Result<i64, CombineError>
     ensures ok { IfOk result (λ n. Writes n (texts_of texts.now) out.old out.new) }
     ensures refused { IfErr result (λ e. Refuses e (texts_of texts.now)) }
     ensures err { OnErr result (out.new ≡ out.old) }
 {
     let (changesets, fault) = read(alloc, texts)?;
-    let group = grouped(alloc, &changesets)?;
-    if let Some(fault) = fault {
-        let text = changesets.len();
-        return Err(Refusal::Fault { text, fault });
-    }
-    Ok(written(alloc, &group, out)?)
+    combine_read(alloc, &changesets, fault, out)
 }
 
 /// The length of the text of the texts' group, which is written if `out` has room for it; -1; -2;
@@ -141,14 +144,14 @@ pub fn combine(
 {
     match combined(alloc, texts, out) {
         Ok(len) => len,
-        Err(Refusal::Memory) => NO_MEMORY,
-        Err(Refusal::Fault { text, fault }) => {
+        Err(CombineError::Memory) => NO_MEMORY,
+        Err(CombineError::Fault { text, fault }) => {
             *fault_text = text;
             *fault_at = fault.at;
             *fault_kind = kind_number(fault.kind);
             NO_CHANGESET
         }
-        Err(Refusal::Clash { text, section }) => {
+        Err(CombineError::Clash { text, section }) => {
             *fault_text = text;
             *fault_at = section;
             CLASH

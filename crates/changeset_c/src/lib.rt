@@ -8,5 +8,6 @@ mod combining;
 mod exports;
 mod kinds;
 mod reading;
+mod results;
 #[cfg(test)]
 mod tests;
