@@ -1,11 +1,9 @@
 //! Where the key of a row stands in a record, and the key as a map's key.
 
-ghost use Rattle.std.specs.Prelude.{◌≡◌, ◌≤◌, ◌++◌, ℕ, IfOk, List, drop, length, take};
+ghost use Rattle.std.specs.Prelude.{◌≡◌, ◌≤◌, ◌++◌, ◌∷◌, [], ℕ, IfOk, List, drop, length, take};
 ghost use Rattle.std.specs.Cmp.{partial_equiv_from_equiv};
-ghost use Rattle.std.specs.Cmp.Lexicographic.{nat_list_eq_equiv};
-ghost use Rattle.std.specs.Cmp.Rules.{hashing};
-ghost use Rattle.std.specs.Hash as fed;
-ghost use Rattle.std.proofs.Common.{rules};
+ghost use Rattle.std.specs.Cmp.Lexicographic.{nat_list_eq_equiv, same_text};
+ghost use Rattle.std.proofs.Common.{ap, sym};
 ghost use Rattle.cs_model.specs.declared.value.Field.{Field};
 ghost use Rattle.cs_model.specs.KeyBytes.{key_fields};
 ghost use Rattle.cs_model.specs.Schema.{same_bytes};
@@ -152,11 +150,12 @@ impl<'a> Eq for Key<'a> {
 }
 
 impl<'a> Hash for Key<'a> {
-    ghost hash_input = { λ k. fed.slice fed.u8 k };
+    ghost hash_input = { λ k. k ∷ [] };
 
-    ghost respects_eq = { Prim.search (hashing, rules) };
+    ghost respects_eq = { λ k l same. ap (λ bytes. bytes ∷ []) (same_text k l (sym same)) };
 
+    // all bytes at once: a slice feeds one after another
     fn hash<H: Hasher>(&self, state: &mut H) {
-        self.as_slice().hash(state);
+        state.write(self.as_slice());
     }
 }

@@ -1,6 +1,7 @@
 //! The key that identifies a row: its table and its primary key values.
 
 ghost use Rattle.std.specs.Prelude.{◌≡◌, IfOk};
+ghost use Rattle.cs_model.specs.Key.{key_fed, keys_alike};
 ghost use Rattle.cs_model.specs.KeyBytes.{key_bytes, key_record};
 
 use crate::change::Op;
@@ -9,9 +10,10 @@ use crate::field::field_push;
 use crate::seq::{Octets, Seq};
 use crate::shape::Shape;
 use std::alloc::{AllocError, Global};
+use std::hash::{Hash, Hasher};
 
 /// The table and the primary key of a row. Keys compare by table, then by bytes, as unsigned.
-#[derive(Debug, Drop, PartialEq, Eq, PartialOrd, Ord, Hash)]
+#[derive(Debug, Drop, PartialEq, Eq, PartialOrd, Ord)]
 pub struct RowKey {
     /// The table's index in the schema, from 0.
     pub table: usize,
@@ -35,6 +37,18 @@ impl RowKey {
     {
         let bytes = key_of_row(alloc, &shape.flags, change)?;
         Ok(RowKey { table, bytes })
+    }
+}
+
+impl Hash for RowKey {
+    ghost hash_input = { key_fed };
+
+    ghost respects_eq = { keys_alike };
+
+    // all bytes at once: a slice feeds one after another
+    fn hash<H: Hasher>(&self, state: &mut H) {
+        state.write_usize(self.table);
+        state.write(&self.bytes);
     }
 }
 

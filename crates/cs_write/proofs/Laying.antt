@@ -1,5 +1,6 @@
 -- Writing texts one after another is the same as writing the joined text.
-use Rattle.std.proofs.Common.{◌≡◌, ℕ, ◌+◌, ◌≤◌, List, [], ◌++◌, length, take, drop, sym, ap, ◌∙◌, append_assoc, arith}
+use Rattle.std.proofs.Common.{◌≡◌, ℕ, zero, suc, ◌+◌, ◌≤◌, List, [], ◌∷◌, ◌++◌, length, take, drop, slice_set, refl}
+use Rattle.std.proofs.Common.{sym, ap, ◌∙◌, append_assoc, arith}
 use Rattle.std.proofs.lemmas.List.{length-append, length-take-le, take_at, drop_at, drop-drop}
 use Rattle.std.proofs.lemmas.Grind.{common_steps}
 use Rattle.cs_write.specs.Buffer.{laid}
@@ -15,6 +16,18 @@ laid_length at text out room = grind (arith, common_steps)
 pub laid_first : (text out : List ℕ) → laid 0 text out ≡ text ++ drop (length text) out
 unfolding laid
 laid_first text out = grind (arith, common_steps)
+
+set_parts : (at x : ℕ) (out : List ℕ) → at + 1 ≤ length out
+    → slice_set out at x ≡ take at out ++ x ∷ drop (suc at) out
+set_parts at x [] room = absurd (omega (arith, room))
+set_parts zero x (y ∷ out) room = refl
+set_parts (suc at) x (y ∷ out) room = ap (λ ys. y ∷ ys) (set_parts at x out (omega (arith, room)))
+
+pub laid_one : (at x : ℕ) (out : List ℕ) → at + 1 ≤ length out → slice_set out at x ≡ laid at (x ∷ []) out
+unfolding laid
+laid_one at x out room =
+    let next : suc at ≡ at + 1 = omega arith in
+    set_parts at x out room ∙ ap (λ n. take at out ++ x ∷ drop n out) next
 
 laid_more : (at : ℕ) (a b out : List ℕ) → at + length a ≤ length out → laid (at + length a) b (laid at a out)
     ≡ laid at (a ++ b) out

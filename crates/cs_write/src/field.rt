@@ -12,7 +12,7 @@ ghost use Rattle.cs_write.specs.Buffer.{laid};
 ghost use Rattle.cs_write.specs.Lengths.{held};
 
 use crate::length::{add_lengths, varint_len};
-use crate::placing::put_bytes;
+use crate::placing::{put_byte, put_bytes};
 use cs_model::{FieldRef, Op, varint_of};
 
 // the length of a type byte, a length and these bytes
@@ -54,7 +54,7 @@ fn put_counted(out: &mut [u8], at: usize, kind: u8, bytes: &[u8]) -> usize
     ensures bytes { out.new ≡ laid at (kind ∷ (varint (length bytes.now) ++ bytes.now)) out.old }
 {
     let (count, start) = varint_of(bytes.len() as u64);
-    let mut end = put_bytes(out, at, &[kind]);
+    let mut end = put_byte(out, at, kind);
     end = put_bytes(out, end, &count[start..]);
     put_bytes(out, end, bytes)
 }
@@ -65,7 +65,7 @@ fn put_typed(out: &mut [u8], at: usize, kind: u8, bytes: &[u8]) -> usize
     ensures end { result ≡ at + length (kind ∷ bytes.now) }
     ensures bytes { out.new ≡ laid at (kind ∷ bytes.now) out.old }
 {
-    let end = put_bytes(out, at, &[kind]);
+    let end = put_byte(out, at, kind);
     put_bytes(out, end, bytes)
 }
 
@@ -76,11 +76,11 @@ fn put_field(out: &mut [u8], at: usize, field: FieldRef) -> usize
     ensures bytes { out.new ≡ laid at (field_bytes (field_seen field.entry)) out.old }
 {
     match field {
-        FieldRef::Undefined => put_bytes(out, at, &[0]),
+        FieldRef::Undefined => put_byte(out, at, 0),
         FieldRef::Integer(number) => put_typed(out, at, 1, &number.to_be_bytes()),
         FieldRef::Text(bytes) => put_counted(out, at, 3, bytes),
         FieldRef::Blob(bytes) => put_counted(out, at, 4, bytes),
-        FieldRef::Null => put_bytes(out, at, &[5]),
+        FieldRef::Null => put_byte(out, at, 5),
     }
 }
 
@@ -97,11 +97,21 @@ pub fn put_fields(out: &mut [u8], at: usize, fields: &[FieldRef]) -> usize
     end
 }
 
+// two bytes
+fn put_two(out: &mut [u8], at: usize, first: u8, second: u8) -> usize
+    requires { at + 2 ≤ length out.old }
+    ensures end { result ≡ at + 2 }
+    ensures bytes { out.new ≡ laid at (first ∷ second ∷ []) out.old }
+{
+    let end = put_byte(out, at, first);
+    put_byte(out, end, second)
+}
+
 /// Writes what stands before a change's records: its operation, and whether it is indirect.
 pub fn put_operation(out: &mut [u8], at: usize, op: Op, indirect: bool) -> usize
     requires { at + 2 ≤ length out.old }
     ensures end { result ≡ at + 2 }
     ensures bytes { out.new ≡ laid at (op_byte op ∷ mark indirect ∷ []) out.old }
 {
-    put_bytes(out, at, &[op.byte(), u8::from(indirect)])
+    put_two(out, at, op.byte(), u8::from(indirect))
 }

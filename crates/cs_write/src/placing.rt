@@ -2,7 +2,7 @@
 //! and returns the index after them. It does not change the other bytes and does not allocate, so
 //! nothing fails after the first byte.
 
-ghost use Rattle.std.specs.Prelude.{◌≡◌, ◌+◌, ◌≤◌, length};
+ghost use Rattle.std.specs.Prelude.{◌≡◌, ◌+◌, ◌≤◌, ◌∷◌, [], length};
 ghost use Rattle.cs_write.specs.Buffer.{laid};
 ghost use Rattle.cs_write.specs.Groups.{group_text, groups_text};
 ghost use Rattle.cs_write.specs.Seen.{bodies, seen};
@@ -21,6 +21,16 @@ pub fn put_bytes(out: &mut [u8], at: usize, bytes: &[u8]) -> usize
     let end = at + bytes.len();
     out[at..end].copy_from_slice(bytes);
     end
+}
+
+/// Writes one byte. cs_group uses it.
+pub fn put_byte(out: &mut [u8], at: usize, byte: u8) -> usize
+    requires { at + 1 ≤ length out.old }
+    ensures end { result ≡ at + 1 }
+    ensures bytes { out.new ≡ laid at (byte ∷ []) out.old }
+{
+    out[at] = byte;
+    at + 1
 }
 
 /// Writes a header. cs_group uses it.

@@ -12,11 +12,11 @@ returns-clause-bytes c =
     let whole = c.args.kind ∷ (varint (length value) ++ value) in
     -- after each part, what is left
     let begun : LayingLaid at whole out at whole out = record { end = refl; size = refl; same = refl } in
-    let kind : LayingLaid c.put_bytes-end.result (varint (length value) ++ value) c.put_bytes-end.new.out at whole out =
-    laying_goes_on _ _ _ _ _ _ _ _ _ _ c.requires c.put_bytes-end.ensures.end c.put_bytes-end.ensures.bytes begun
+    let kind : LayingLaid c.put_byte-end.result (varint (length value) ++ value) c.put_byte-end.new.out at whole out =
+    laying_goes_on _ _ _ _ _ _ _ _ _ _ c.requires c.put_byte-end.ensures.end c.put_byte-end.ensures.bytes begun
     (grind (arith, common_steps)) in
-    let count : LayingLaid c.put_bytes-end-2.result value c.put_bytes-end-2.new.out at whole out =
-    laying_goes_on _ _ _ _ _ _ _ _ _ _ c.requires c.put_bytes-end-2.ensures.end c.put_bytes-end-2.ensures.bytes kind
+    let count : LayingLaid c.put_bytes-end.result value c.put_bytes-end.new.out at whole out =
+    laying_goes_on _ _ _ _ _ _ _ _ _ _ c.requires c.put_bytes-end.ensures.end c.put_bytes-end.ensures.bytes kind
     (grind (arith, common_steps)) in
     let last : LayingLaid c.put_bytes.result [] c.put_bytes.new.out at whole out =
     laying_goes_on _ _ _ _ _ _ _ _ _ _ c.requires c.put_bytes.ensures.end c.put_bytes.ensures.bytes count
