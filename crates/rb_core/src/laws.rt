@@ -92,7 +92,6 @@ pub fn runs_are_told()
     replays_are_pictures();
     calls_show_in_outline();
     accepting_is_step();
-    reading_is_spelling();
     progress_goes_on();
     progress_tells();
 }
@@ -179,6 +178,7 @@ pub fn tables_apply_singly()
         → HasSingleTables (empty_tables schema) subscriber }
 {
     runs_are_told();
+    reading_is_spelling();
     courses::tables_apply_singly();
 }
 
