@@ -47,7 +47,7 @@ left_run schema new old world s subscriber told found closed =
     nothing_accepted old told.0.0 world s subscriber found closed told.0.1
 
 -- a subscription of which the course says that its tables are those of single application
-empty_have_columns : (schema : List Shape) → HaveColumns (empty_tables schema)
+pub empty_have_columns : (schema : List Shape) → HaveColumns (empty_tables schema)
 empty_have_columns schema key row found = absurd (let no = sym (map.get-empty row_key_cmp key) ∙ found in cc)
 
 pub singly_run : ((mids : List World) (new : World) (s : ℕ) (subscriber : Subscriber) → Leads world_begun mids new

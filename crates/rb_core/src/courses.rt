@@ -10,7 +10,8 @@ ghost use Rattle.rb_core.specs.World.{Sender, Subscriber, World, world_begun};
 ghost use Rattle.rb_sequence.specs.Entry.{Entry};
 ghost use Rattle.rb_subscriber.specs.Accept.{AreChangesets};
 
-use rb_subscriber::laws::{accepted_apply_singly, accepting_is_step, singly_keeps_columns};
+use cs_apply::laws::rows_keep_columns;
+use rb_subscriber::laws::{accepted_apply_singly, accepting_is_step};
 
 /// After any moves from the start, a subscription has accepted one contiguous run of the sequence
 /// after its start. No number is skipped, and none comes twice. This holds at any time, because any
@@ -62,5 +63,5 @@ pub fn tables_apply_singly()
 {
     accepting_is_step();
     accepted_apply_singly();
-    singly_keeps_columns();
+    rows_keep_columns();
 }
