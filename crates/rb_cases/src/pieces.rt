@@ -1,6 +1,10 @@
 //! Cuts the changesets of a script into pieces.
 
-ghost use Rattle.std.specs.Prelude.{◌<◌};
+ghost use Rattle.std.specs.Prelude.{◌≡◌, ◌==◌, ◌<◌, IfOk, MatchOption, Some, None, map};
+ghost use Rattle.std.specs.Char.{is_ascii_hexdigit};
+ghost use Rattle.std.specs.List.{list_all, position_from};
+ghost use Rattle.rb_cases.specs.Pieces.{are_cut, digits_in, fed_parts, lines_of, pieces_in};
+ghost use Rattle.rb_cases.specs.Pieces.{space_in};
 
 use std::alloc::{AllocError, Global};
 
@@ -8,7 +12,9 @@ use std::alloc::{AllocError, Global};
 const LONGEST: usize = 65_536;
 
 /// The lines of a text. The text after the last line end is a line too, even if it is empty.
-pub fn lines(alloc: Global, text: &[u8]) -> Result<Vec<&[u8]>, AllocError> {
+pub fn lines(alloc: Global, text: &[u8]) -> Result<Vec<&[u8]>, AllocError>
+    ensures { IfOk result (λ lines. map (λ line. line.now) lines.items ≡ lines_of text.now) }
+{
     text.split(|byte| *byte == b'\n').collect(alloc)
 }
 
@@ -37,7 +43,9 @@ pub fn cut(alloc: Global, script: &[u8], most: usize) -> Result<Vec<u8>, AllocEr
 }
 
 /// How many lines `cut` makes of a line.
-pub fn count(line: &[u8], most: usize) -> usize {
+pub fn count(line: &[u8], most: usize) -> usize
+    ensures { result ≡ pieces_in (fed_parts line.now) most }
+{
     match feed(line) {
         Some((_, digits)) => digits.len().div_ceil(digits_of(most)),
         None => 1,
@@ -46,19 +54,48 @@ pub fn count(line: &[u8], most: usize) -> usize {
 
 // How many hexadecimal digits this many bytes have, at least 2.
 fn digits_of(bytes: usize) -> usize
-    ensures { 0 < result }
+    ensures value { result ≡ digits_in bytes }
+    ensures some { 0 < result }
 {
     bytes.saturating_mul(2).max(2)
 }
 
 // The part of a line before its bytes, and their digits, if it feeds any.
-fn feed(line: &[u8]) -> Option<(&[u8], &[u8])> {
-    let rest = line.strip_prefix(b"feed ")?;
-    let space = rest.iter().position(|byte| *byte == b' ')?;
+fn feed(line: &[u8]) -> Option<(&[u8], &[u8])>
+    ensures { MatchOption result (fed_parts line.now ≡ None)
+        (λ parts. fed_parts line.now ≡ Some (parts.0.now, parts.1.now)) }
+{
+    let space = space(line)?;
     let (front, digits) = line.split_at_checked(space.saturating_add(6))?;
-    let is_fed = line.len() <= LONGEST
-        && !digits.is_empty()
-        && digits.len() % 2 == 0
-        && digits.iter().all(|digit| digit.is_ascii_hexdigit());
-    is_fed.then_some((front, digits))
+    if are_fed(line, digits) {
+        return Some((front, digits));
+    }
+    None
+}
+
+// In a line that begins with `feed `, the place of the next space, counted from there.
+fn space(line: &[u8]) -> Option<usize>
+    ensures { result ≡ space_in line.now }
+{
+    let rest = line.strip_prefix(b"feed ")?;
+    first_space(rest)
+}
+
+fn first_space(bytes: &[u8]) -> Option<usize>
+    ensures { result ≡ position_from (λ byte. byte == 32) 0 bytes.now }
+{
+    bytes.iter().position(|byte| *byte == b' ')
+}
+
+// Whether the digits of a line are cut.
+fn are_fed(line: &[u8], digits: &[u8]) -> bool
+    ensures { result ≡ are_cut line.now digits.now }
+{
+    line.len() <= LONGEST && !digits.is_empty() && digits.len() % 2 == 0 && are_hexadecimal(digits)
+}
+
+fn are_hexadecimal(digits: &[u8]) -> bool
+    ensures { result ≡ list_all is_ascii_hexdigit digits.now }
+{
+    digits.iter().all(|digit| digit.is_ascii_hexdigit())
 }
