@@ -1,11 +1,12 @@
 -- Scripts cut into pieces: the lines of a text, the digits that a line feeds, and how many lines
 -- they become.
+use Rattle.std.specs.Prelude.{zero, suc, [], ◌∷◌, ◌++◌}
 use Rattle.std.specs.Prelude.{ℕ, ◌+◌, ◌*◌, ◌-◌, ◌^◌, ◌%◌, Bool, ◌&&◌, not, ◌==◌, nat_le, List}
 use Rattle.std.specs.Prelude.{length, take, drop, Option, Some, None, if◌then◌else◌, codes, max, min}
 use Rattle.std.specs.Char.{is_ascii_hexdigit}
 use Rattle.std.specs.Cmp.Lexicographic.{pointwise}
 use Rattle.std.specs.Int.{div_ceil}
-use Rattle.std.specs.List.{list_all, position_from, slice_split}
+use Rattle.std.specs.List.{flat_map, list_all, position_from, slice_split}
 
 -- the lines of a text; what comes after the last line end is a line too, even if it is empty
 abbrev pub lines_of : List ℕ → List (List ℕ)
@@ -39,3 +40,24 @@ digits_in bytes = max (min (bytes * 2) (2 ^ 64 - 1)) 2
 abbrev pub pieces_in : Option (List ℕ × List ℕ) → ℕ → ℕ
 pieces_in None most = 1
 pieces_in (Some parts) most = div_ceil (length parts.1) (digits_in most)
+
+-- the front before each `size` of the digits, each with a line end; at most so many lines
+abbrev pub pieces_text : ℕ → ℕ → List ℕ → List ℕ → List ℕ
+pieces_text zero size front digits = []
+pieces_text (suc most) size front [] = []
+pieces_text (suc most) size front (digit ∷ digits) = front ++ (take size (digit ∷ digits)
+    ++ 10 ∷ pieces_text most size front (drop size (digit ∷ digits)))
+
+-- the lines that a line becomes
+abbrev pub line_text : List ℕ → Option (List ℕ × List ℕ) → ℕ → List ℕ
+line_text line None most = line ++ 10 ∷ []
+line_text line (Some parts) most =
+    pieces_text (length parts.1) (digits_in most) parts.0 parts.1
+
+abbrev pub but_last : List ℕ → List ℕ
+but_last bytes = take (length bytes - 1) bytes
+
+-- the script with its lines cut; its last line has no line end
+abbrev pub cut_text : ℕ → List ℕ → List ℕ
+cut_text most script =
+    but_last (flat_map (λ line. line_text line (fed_parts line) most) (lines_of script))

@@ -1,10 +1,11 @@
 //! Cuts the changesets of a script into pieces.
 
-ghost use Rattle.std.specs.Prelude.{◌≡◌, ◌==◌, ◌<◌, IfOk, MatchOption, Some, None, map};
+ghost use Rattle.std.specs.Prelude.{◌≡◌, ◌==◌, ◌<◌, ◌++◌, length, IfOk, OnOk, MatchOption, Some, None};
+ghost use Rattle.std.specs.Prelude.{map};
 ghost use Rattle.std.specs.Char.{is_ascii_hexdigit};
-ghost use Rattle.std.specs.List.{list_all, position_from};
-ghost use Rattle.rb_cases.specs.Pieces.{are_cut, digits_in, fed_parts, lines_of, pieces_in};
-ghost use Rattle.rb_cases.specs.Pieces.{space_in};
+ghost use Rattle.std.specs.List.{flat_map, list_all, position_from};
+ghost use Rattle.rb_cases.specs.Pieces.{are_cut, cut_text, digits_in, fed_parts, line_text};
+ghost use Rattle.rb_cases.specs.Pieces.{lines_of, pieces_in, pieces_text, space_in};
 
 use std::alloc::{AllocError, Global};
 
@@ -20,26 +21,51 @@ pub fn lines(alloc: Global, text: &[u8]) -> Result<Vec<&[u8]>, AllocError>
 
 /// The script with a line of `feed` for each `most` bytes of a changeset. A line that feeds no
 /// bytes does not change.
-pub fn cut(alloc: Global, script: &[u8], most: usize) -> Result<Vec<u8>, AllocError> {
-    let mut all = Vec::with_capacity(alloc, script.len())?;
-    for line in script.split(|byte| *byte == b'\n') {
-        match feed(line) {
-            Some((front, digits)) => {
-                for piece in digits.chunks(digits_of(most)) {
-                    all.extend_from_slice(front)?;
-                    all.extend_from_slice(piece)?;
-                    all.push(b'\n')?;
-                }
-            }
-            None => {
-                all.extend_from_slice(line)?;
-                all.push(b'\n')?;
-            }
-        }
-    }
+pub fn cut(alloc: Global, script: &[u8], most: usize) -> Result<Vec<u8>, AllocError>
+    ensures { IfOk result (λ made. made.items ≡ cut_text most script.now) }
+{
+    let lines = lines(alloc, script)?;
+    let mut all = ended(alloc, &lines, most)?;
     // the last line has no line end
     all.pop();
     Ok(all)
+}
+
+// The lines cut, each with a line end.
+fn ended(alloc: Global, lines: &[&[u8]], most: usize) -> Result<Vec<u8>, AllocError>
+    ensures { IfOk result (λ made.
+        made.items ≡ flat_map (λ line. line_text line.now (fed_parts line.now) most) lines.now) }
+{
+    let mut all = Vec::new(alloc);
+    for line in lines {
+        add_line(&mut all, line, most)?;
+    }
+    Ok(all)
+}
+
+fn add_line(all: &mut Vec<u8>, line: &[u8], most: usize) -> Result<(), AllocError>
+    ensures { OnOk result
+        (all.new.items ≡ all.old.items ++ line_text line.now (fed_parts line.now) most) }
+{
+    if let Some((front, digits)) = feed(line) {
+        return add_pieces(all, front, digits, digits_of(most));
+    }
+    all.extend_from_slice(line)?;
+    all.push(b'\n')?;
+    Ok(())
+}
+
+fn add_pieces(all: &mut Vec<u8>, front: &[u8], digits: &[u8], size: usize) -> Result<(), AllocError>
+    requires { 0 < size }
+    ensures { OnOk result (all.new.items
+        ≡ all.old.items ++ pieces_text (length digits.now) size front.now digits.now) }
+{
+    for piece in digits.chunks(size) {
+        all.extend_from_slice(front)?;
+        all.extend_from_slice(piece)?;
+        all.push(b'\n')?;
+    }
+    Ok(())
 }
 
 /// How many lines `cut` makes of a line.
