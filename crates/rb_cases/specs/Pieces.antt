@@ -2,7 +2,8 @@
 -- they become.
 use Rattle.std.specs.Prelude.{zero, suc, [], ◌∷◌, ◌++◌}
 use Rattle.std.specs.Prelude.{ℕ, ◌+◌, ◌*◌, ◌-◌, ◌^◌, ◌%◌, Bool, ◌&&◌, not, ◌==◌, nat_le, List}
-use Rattle.std.specs.Prelude.{length, take, drop, Option, Some, None, if◌then◌else◌, codes, max, min}
+use Rattle.std.specs.Prelude.{length, take, drop, max, min, Option, Some, None, if◌then◌else◌}
+use Rattle.std.specs.Prelude.{codes}
 use Rattle.std.specs.Char.{is_ascii_hexdigit}
 use Rattle.std.specs.Cmp.Lexicographic.{pointwise}
 use Rattle.std.specs.Int.{div_ceil}

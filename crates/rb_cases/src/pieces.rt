@@ -1,7 +1,7 @@
 //! Cuts the changesets of a script into pieces.
 
-ghost use Rattle.std.specs.Prelude.{◌≡◌, ◌==◌, ◌<◌, ◌++◌, length, IfOk, OnOk, MatchOption, Some, None};
-ghost use Rattle.std.specs.Prelude.{map};
+ghost use Rattle.std.specs.Prelude.{◌≡◌, ◌==◌, ◌<◌, ◌++◌, length, map, Some, None};
+ghost use Rattle.std.specs.Prelude.{IfOk, OnOk, MatchOption};
 ghost use Rattle.std.specs.Char.{is_ascii_hexdigit};
 ghost use Rattle.std.specs.List.{flat_map, list_all, position_from};
 ghost use Rattle.rb_cases.specs.Pieces.{are_cut, cut_text, digits_in, fed_parts, line_text};

@@ -59,7 +59,8 @@ module _ (old : State) (d : ℕ) (conflict : Conflict) (new : State) where
       conflict_by_answer delivery end (accept end old.sequence delivery) known here refl given
 
   conflict_by_delivery : (found : Option Delivery) → delivery_of old d ≡ found
-      → accepted_as old found ≡ (reply.Refused (refusal.Accept (why.Conflict conflict)), new) → RefusesConflict old d conflict
+      → accepted_as old found ≡ (reply.Refused (refusal.Accept (why.Conflict conflict)), new)
+      → RefusesConflict old d conflict
   conflict_by_delivery None known given =
       absurd (let other : says refusal.NoDelivery = ap (λ (x : Reply × State). x.0) given in cc)
   conflict_by_delivery (Some delivery) known given =

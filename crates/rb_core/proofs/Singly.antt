@@ -9,7 +9,8 @@ use Rattle.cs_group.proofs.Fitting.{group_fits}
 use Rattle.cs_group.specs.Group.{group_of}
 use Rattle.rb_desk.specs.declared.delivery.Delivery.{Delivery}
 use Rattle.rb_sequence.specs.Entry.{Entry}
-use Rattle.rb_subscriber.specs.Accept.{accept, brought, AcceptsDelivery, AppliesSingly, AreChangesets, part, joined_bodies}
+use Rattle.rb_subscriber.specs.Accept.{accept, brought, AcceptsDelivery, AppliesSingly, AreChangesets, part}
+use Rattle.rb_subscriber.specs.Accept.{joined_bodies}
 use Rattle.rb_subscriber.specs.Endpoint.{Endpoint}
 use Rattle.rb_subscriber.proofs.RunLaws.{RowsKeepColumns, joined_valid}
 use Rattle.rb_core.specs.World.{Subscriber, World, world_begun, cursor, endpoint_of}
