@@ -1,6 +1,6 @@
 //! Runs each case of a folder: a script, its options, and its expected answers. A case is files and
 //! no code. Prints each answer that differs, with its line, and how many answers it compared.
-//! Theorem: none.
+//! Theorem: how a script is cut into pieces, and how the answers to them are joined.
 #![tactic(auto)]
 
 mod case;

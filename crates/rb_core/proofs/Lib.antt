@@ -22,3 +22,4 @@ pub mod ByText
 pub mod RunCuts
 pub mod Counting
 pub mod AcceptedCursor
+pub mod ConflictRuns

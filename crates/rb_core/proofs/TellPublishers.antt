@@ -1,12 +1,11 @@
 -- What the events of publishers report.
-use Rattle.std.proofs.Common.{◌≡◌, ◌↔◌, ◌⊎◌, ℕ, zero, suc, ◌+◌, inl, inr, List, [], ◌∷◌, ◌++◌, length}
+use Rattle.std.proofs.Common.{◌≡◌, ℕ, zero, suc, ◌+◌, inl, inr, List, [], ◌∷◌, ◌++◌, length}
 use Rattle.std.proofs.Common.{Option, Some, None, Result, Ok, Err, refl, sym, ap, ◌∙◌, arith}
 use Rattle.std.specs.Prelude.{slice_get, nat_le}
 use Rattle.std.proofs.lemmas.List.{length-append}
 use Rattle.cs_model.specs.Bytes.{AreBytes}
 use Rattle.cs_model.specs.Section.{Section}
 use Rattle.cs_model.specs.Schema.{refusal_of}
-use Rattle.cs_model.specs.Text.{Spells}
 use Rattle.cs_model.specs.declared.origin.Origin.TheVariants.{Sent}
 use Rattle.cs_model.specs.declared.schema.SectionFault.{SectionFault}
 use Rattle.cs_model.specs.declared.shape.Shape.{Shape}
@@ -22,7 +21,7 @@ use Rattle.rb_core.specs.declared.publisher.Publisher.{Publisher}
 use Rattle.rb_core.specs.declared.reply.Reply.{Reply}
 use Rattle.rb_core.specs.declared.reply.Reply.TheVariants as reply
 use Rattle.rb_core.specs.declared.reply.BrokerRefusal.TheVariants as refusal
-use Rattle.rb_core.specs.Moves.{with_sender, IsStaged, Streams, Sends}
+use Rattle.rb_core.specs.Moves.{with_sender, Streams, Sends}
 use Rattle.rb_core.specs.Outcome as out
 use Rattle.rb_core.specs.Outcome.{with_publisher, fed_reply}
 use Rattle.rb_core.specs.State.{State}
@@ -47,10 +46,10 @@ ProgressGoesOn = (text piece : List ℕ) → AreBytes (text ++ piece) → progre
 abbrev pub ProgressTells : Type 0
 ProgressTells = (text : List ℕ) → AreBytes text → stream.answer_at_end (progress_of text) ≡ answer_of text
 
-tell_publishers_no_bytes : AreBytes []
+pub tell_publishers_no_bytes : AreBytes []
 tell_publishers_no_bytes i = omega arith
 
-more_bytes : (stream bytes : List ℕ) → AreBytes stream → AreBytes bytes → AreBytes (stream ++ bytes)
+pub more_bytes : (stream bytes : List ℕ) → AreBytes stream → AreBytes bytes → AreBytes (stream ++ bytes)
 more_bytes [] bytes h more i = more i
 more_bytes (byte ∷ stream) bytes h more zero = h zero
 more_bytes (byte ∷ stream) bytes h more (suc i) = more_bytes stream bytes (λ j. h (suc j)) more i
@@ -118,24 +117,13 @@ stages_told : (schema : List Shape) (old : State) (world : World) (event : Event
     (before after : Publisher) (change : Sender → Sender)
     → told schema world event given ≡ say.sender_changed world p change → slice_get old.publishers p ≡ Some before
     → ((sender : Sender) → IsSender before sender → IsSender after (change sender))
-    → ((sender : Sender) → (change sender).sent ≡ sender.sent)
-    → ((sender : Sender) → IsSender before sender
-    → ((change sender).staged ≡ sender.staged) ⊎ IsStaged (change sender).staged)
-    → IsToldBy schema old world
+    → ((sender : Sender) → (change sender).sent ≡ sender.sent) → IsToldBy schema old world
     → TellingGoes schema world event (given, with_publisher old p after)
-stages_told schema old world event given p before after change is found pairs same valid h =
+stages_told schema old world event given p before after change is found pairs same h =
     let at = paired_get IsSender old.publishers world.senders p before h.senders found in
     let sender = at.0 in
     let stages : Streams world (with_sender world p (change sender)) =
-    record {
-      p = p;
-      before = sender;
-      after = change sender;
-      found = at.1;
-      sent = same sender;
-      valid = valid sender at.2;
-      kept = refl;
-    } in
+    record { p = p; before = sender; after = change sender; found = at.1; sent = same sender; kept = refl } in
     move_told schema world (with_sender world p (change sender)) event given (with_publisher old p after)
     (is ∙ ap (say.sender_set world p change) at.1) (inr (inr (inl stages)))
     (with_pair schema old world p after (change sender) (pairs sender at.2) h)
@@ -158,7 +146,7 @@ feed_tells goes schema old world p bytes (Some publisher) e more h =
       stream = takes_more publisher.stream sender.text bytes goes pair.stream more;
       staged = pair.staged;
       sent = pair.sent;
-    }) (λ sender. refl) (λ sender pair. inl refl) h
+    }) (λ sender. refl) h
 
 pub reset_tells : BeginsWithNothing
     → (schema : List Shape) (old : State) (world : World) (p : ℕ) (found : Option Publisher)
@@ -169,8 +157,7 @@ reset_tells begins schema old world p None e h =
 reset_tells begins schema old world p (Some publisher) e h =
     stages_told schema old world (event.Reset p) reply.Reset p publisher (record publisher { stream = nothing })
     say.reset refl e
-    (λ sender pair. record { stream = no_text begins; staged = pair.staged; sent = pair.sent }) (λ sender. refl)
-    (λ sender pair. inl refl) h
+    (λ sender pair. record { stream = no_text begins; staged = pair.staged; sent = pair.sent }) (λ sender. refl) h
 
 -- ---- a stream ends
 
@@ -180,23 +167,13 @@ staged_spells : ProgressTells → (progress : Progress) (text : List ℕ) (chang
 staged_spells tells progress text changeset took ok =
     ap say.staged_by_text (sym (tells text took.bytes) ∙ ap stream.answer_at_end (sym took.read) ∙ ok)
 
--- and it is a changeset
-abbrev pub ReadingSpells : Type 0
-ReadingSpells = (text : List ℕ) (changeset : List Section) → AreBytes text
-    → (answer_of text ≡ Ok changeset) ↔ Spells text changeset
-
-staged_valid : ReadingSpells → (text : List ℕ) (answer : Result (List Section) ParseFault) → AreBytes text
-    → answer_of text ≡ answer → IsStaged (say.staged_by_text answer)
-staged_valid spells text (Ok changeset) bytes is = ((spells text changeset bytes).0 is).is_changeset
-staged_valid spells text (Err fault) bytes is = tt
-
-admitted_ends : BeginsWithNothing → ProgressTells → ReadingSpells
+admitted_ends : BeginsWithNothing → ProgressTells
     → (schema : List Shape) (old : State) (world : World) (p : ℕ) (publisher : Publisher) (changeset : List Section)
     (fault : Option SectionFault)
     → stream.answer_at_end publisher.stream ≡ Ok changeset → slice_get old.publishers p ≡ Some publisher
     → IsToldBy schema old world
     → TellingGoes schema world (event.End p) (out.staged_by old p publisher (end.admitted changeset fault))
-admitted_ends begins tells spells schema old world p publisher changeset None ok e h =
+admitted_ends begins tells schema old world p publisher changeset None ok e h =
     stages_told schema old world (event.End p) reply.Staged p publisher
     (record publisher { stream = nothing; staged = Some changeset }) say.ended refl e
     (λ sender pair. record {
@@ -204,39 +181,38 @@ admitted_ends begins tells spells schema old world p publisher changeset None ok
       staged = staged_spells tells publisher.stream sender.text
           changeset pair.stream ok;
       sent = pair.sent;
-    }) (λ sender. refl)
-    (λ sender pair. inr (staged_valid spells sender.text (answer_of sender.text) pair.stream.bytes refl)) h
-admitted_ends begins tells spells schema old world p publisher changeset (Some fault) ok e h =
+    }) (λ sender. refl) h
+admitted_ends begins tells schema old world p publisher changeset (Some fault) ok e h =
     nothing_told schema world (event.End p) (reply.Refused (out.fault_refusal fault)) old refl h
 
-answered_ends : BeginsWithNothing → ProgressTells → ReadingSpells
+answered_ends : BeginsWithNothing → ProgressTells
     → (schema : List Shape) (old : State) (world : World) (p : ℕ) (publisher : Publisher)
     (answer : Result (List Section) ParseFault)
     → stream.answer_at_end publisher.stream ≡ answer → slice_get old.publishers p ≡ Some publisher
     → IsToldBy schema old world
     → TellingGoes schema world (event.End p) (out.staged_by old p publisher (end.admitted_answer old.schema answer))
-answered_ends begins tells spells schema old world p publisher (Ok changeset) is e h =
-    admitted_ends begins tells spells schema old world p publisher changeset (refusal_of old.schema changeset) is e h
-answered_ends begins tells spells schema old world p publisher (Err fault) is e h =
+answered_ends begins tells schema old world p publisher (Ok changeset) is e h =
+    admitted_ends begins tells schema old world p publisher changeset (refusal_of old.schema changeset) is e h
+answered_ends begins tells schema old world p publisher (Err fault) is e h =
     nothing_told schema world (event.End p) (reply.Fault fault) old refl h
 
-holding_ends : BeginsWithNothing → ProgressTells → ReadingSpells
+holding_ends : BeginsWithNothing → ProgressTells
     → (schema : List Shape) (old : State) (world : World) (p : ℕ) (publisher : Publisher)
     (staged : Option (List Section)) → slice_get old.publishers p ≡ Some publisher → IsToldBy schema old world
     → TellingGoes schema world (event.End p) (out.ended_by old p publisher staged)
-holding_ends begins tells spells schema old world p publisher None e h =
-    answered_ends begins tells spells schema old world p publisher (stream.answer_at_end publisher.stream) refl e h
-holding_ends begins tells spells schema old world p publisher (Some changeset) e h =
+holding_ends begins tells schema old world p publisher None e h =
+    answered_ends begins tells schema old world p publisher (stream.answer_at_end publisher.stream) refl e h
+holding_ends begins tells schema old world p publisher (Some changeset) e h =
     nothing_told schema world (event.End p) (reply.Refused refusal.Holding) old refl h
 
-pub end_tells : BeginsWithNothing → ProgressTells → ReadingSpells
+pub end_tells : BeginsWithNothing → ProgressTells
     → (schema : List Shape) (old : State) (world : World) (p : ℕ) (found : Option Publisher)
     → slice_get old.publishers p ≡ found → IsToldBy schema old world
     → TellingGoes schema world (event.End p) (out.ended_for old p found)
-end_tells begins tells spells schema old world p None e h =
+end_tells begins tells schema old world p None e h =
     nothing_told schema world (event.End p) (reply.Refused refusal.NoPublisher) old refl h
-end_tells begins tells spells schema old world p (Some publisher) e h =
-    holding_ends begins tells spells schema old world p publisher publisher.staged e h
+end_tells begins tells schema old world p (Some publisher) e h =
+    holding_ends begins tells schema old world p publisher publisher.staged e h
 
 -- ---- a publisher sends
 

@@ -16,7 +16,7 @@ use Rattle.rb_core.specs.Told.{told_by, told_from, world_told, IsToldBy}
 use Rattle.rb_core.specs.World.{World, world_begun}
 use Rattle.rb_core.proofs.Telling.{IsTold, no_move, both_courses, TellingGoes}
 use Rattle.rb_core.proofs.TellPublishers.{BeginsWithNothing, ProgressGoesOn, ProgressTells, publisher_tells, feed_tells}
-use Rattle.rb_core.proofs.TellPublishers.{ReadingSpells, reset_tells, end_tells, send_tells}
+use Rattle.rb_core.proofs.TellPublishers.{reset_tells, end_tells, send_tells}
 use Rattle.rb_core.proofs.TellSequence.{PlaceShows, CloseShows, turn_tells, close_tells}
 use Rattle.rb_core.proofs.TellSubscriptions.{SubscribeShows, ReconnectShows, UnsubscribeShows, subscribe_tells}
 use Rattle.rb_core.proofs.TellSubscriptions.{reconnect_tells, unsubscribe_tells}
@@ -34,7 +34,6 @@ pub record TellRunsLaws : Type 0 where
   pub begins : BeginsWithNothing
   pub goes : ProgressGoesOn
   pub tells : ProgressTells
-  pub spells : ReadingSpells
   pub place : PlaceShows
   pub close : CloseShows
   pub subscribe : SubscribeShows
@@ -56,7 +55,7 @@ outcome_tells laws schema old world (event.Feed p bytes) feeds good h =
 outcome_tells laws schema old world (event.Reset p) feeds good h =
     reset_tells laws.begins schema old world p (slice_get old.publishers p) refl h
 outcome_tells laws schema old world (event.End p) feeds good h =
-    end_tells laws.begins laws.tells laws.spells schema old world p (slice_get old.publishers p) refl h
+    end_tells laws.begins laws.tells schema old world p (slice_get old.publishers p) refl h
 outcome_tells laws schema old world (event.Send p) feeds good h =
     send_tells schema old world p (slice_get old.publishers p) refl h
 outcome_tells laws schema old world event.Turn feeds good h = turn_tells laws.place schema old world good h

@@ -5,6 +5,7 @@ use Rattle.std.specs.FinMap as map
 use Rattle.cs_model.specs.declared.shape.Shape.{Shape}
 use Rattle.cs_model.specs.Key.{row_key_cmp}
 use Rattle.cs_apply.specs.Columns.{HaveColumns}
+use Rattle.rb_subscriber.specs.Accept.{AreChangesets}
 use Rattle.rb_core.specs.Moves.{Leads, HasRun, HasSingleTables, StaysClosed}
 use Rattle.rb_core.specs.State.{State, empty_tables}
 use Rattle.rb_core.specs.Told.{IsToldBy}
@@ -46,16 +47,16 @@ left_run schema new old world s subscriber told found closed =
     nothing_accepted old told.0.0 world s subscriber found closed told.0.1
 
 -- a subscription of which the course says that its tables are those of single application
-empty_have_columns : (schema : List Shape) → HaveColumns (empty_tables schema)
+pub empty_have_columns : (schema : List Shape) → HaveColumns (empty_tables schema)
 empty_have_columns schema key row found = absurd (let no = sym (map.get-empty row_key_cmp key) ∙ found in cc)
 
 pub singly_run : ((mids : List World) (new : World) (s : ℕ) (subscriber : Subscriber) → Leads world_begun mids new
-    → slice_get new.subscribers s ≡ Some subscriber → HaveColumns subscriber.base
+    → slice_get new.subscribers s ≡ Some subscriber → AreChangesets new.sequence → HaveColumns subscriber.base
     → HasSingleTables subscriber.base subscriber)
     → (schema : List Shape) (new : State) (world : World) (s : ℕ) (subscriber : Subscriber)
     → IsTold schema world_begun new world → slice_get world.subscribers s ≡ Some subscriber
-    → HasSingleTables (empty_tables schema) subscriber
-singly_run law schema new world s subscriber told found =
+    → AreChangesets world.sequence → HasSingleTables (empty_tables schema) subscriber
+singly_run law schema new world s subscriber told found valid =
     let base = all_get (BeginsEmpty schema) world.subscribers s subscriber told.1.bases found in
     subst (λ t. HasSingleTables t subscriber) base
-    (law told.0.0 world s subscriber told.0.1 found (subst HaveColumns (sym base) (empty_have_columns schema)))
+    (law told.0.0 world s subscriber told.0.1 found valid (subst HaveColumns (sym base) (empty_have_columns schema)))

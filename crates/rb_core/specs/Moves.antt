@@ -1,10 +1,9 @@
 -- Moves of the abstract world: what may happen at once. Refusals, acknowledgements, returned
 -- deliveries and expiries change nothing here.
 use Rattle.std.specs.Prelude.{◌≡◌, ◌==◌, ℕ, suc, ◌<◌, ◌≤◌, ◌⊎◌, true, false, map, List, []}
-use Rattle.std.specs.Prelude.{◌∷◌, ◌++◌, length, Option, Some, None, slice_get, slice_set}
+use Rattle.std.specs.Prelude.{◌∷◌, ◌++◌, length, Some, None, slice_get, slice_set}
 use Rattle.std.specs.List.{AllByRecursion, filter}
 use Rattle.cs_model.specs.declared.origin.Origin.{Origin}
-use Rattle.cs_model.specs.Changeset.{IsChangeset}
 use Rattle.cs_model.specs.Section.{Section}
 use Rattle.cs_apply.specs.State as tables
 use Rattle.rb_desk.specs.declared.delivery.Delivery.{Delivery}
@@ -34,11 +33,6 @@ IsIn x (y ∷ rest) = (x ≡ y) ⊎ IsIn x rest
 abbrev pub IsUnused : ℕ → Subscriber → Type 0
 IsUnused number q = AllByRecursion (λ offer. offer.number ≡ number → ⊥) q.deliveries
 
--- what is staged is a changeset, if anything is
-abbrev pub IsStaged : Option (List Section) → Type 0
-IsStaged None = Unit {0}
-IsStaged (Some changeset) = IsChangeset changeset
-
 -- ---- publishers
 
 -- adds a publisher
@@ -46,15 +40,13 @@ abbrev pub AddsPublisher : World → World → Type 0
 AddsPublisher old new = new
     ≡ record old { senders = old.senders ++ record { text = []; staged = None; sent = [] } ∷ [] }
 
--- A publisher's text and staged changeset change, and nothing else. What it stages anew is a
--- changeset.
+-- a publisher's text and staged changeset change, and nothing else
 pub record Streams (old new : World) : Type 0 where
   pub p : ℕ
   pub before : Sender
   pub after : Sender
   pub found : slice_get old.senders p ≡ Some before
   pub sent : after.sent ≡ before.sent
-  pub valid : (after.staged ≡ before.staged) ⊎ IsStaged after.staged
   pub kept : new ≡ with_sender old p after
 
 -- what a publisher staged becomes its next sending, at the end of the intake

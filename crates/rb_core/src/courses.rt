@@ -8,8 +8,10 @@ ghost use Rattle.rb_core.specs.Moves.{Leads, HasRun, StaysClosed, items_of, own_
 ghost use Rattle.rb_core.specs.Moves.{HasSingleTables, IsSending};
 ghost use Rattle.rb_core.specs.World.{Sender, Subscriber, World, world_begun};
 ghost use Rattle.rb_sequence.specs.Entry.{Entry};
+ghost use Rattle.rb_subscriber.specs.Accept.{AreChangesets};
 
-use rb_subscriber::laws::{accepted_apply_singly, accepting_is_step, singly_keeps_columns};
+use cs_apply::laws::rows_keep_columns;
+use rb_subscriber::laws::{accepted_apply_singly, accepting_is_step};
 
 /// After any moves from the start, a subscription has accepted one contiguous run of the sequence
 /// after its start. No number is skipped, and none comes twice. This holds at any time, because any
@@ -51,14 +53,15 @@ pub fn sendings_come_once_in_order()
 {}
 
 /// After any moves from the start: where the changesets that a subscription accepted apply singly,
-/// without conflict, to the tables it began with, its tables are what that gives. The rows it began
-/// with have a value for each column.
+/// without conflict, to the tables it began with, its tables are what that gives. The law asks that
+/// all placed bodies are changesets and that the rows it began with have a value for each column.
 pub fn tables_apply_singly()
     ensures { (mids : List World) (new : World) (s : ℕ) (subscriber : Subscriber)
         → Leads world_begun mids new → slice_get new.subscribers s ≡ Some subscriber
-        → HaveColumns subscriber.base → HasSingleTables subscriber.base subscriber }
+        → AreChangesets new.sequence → HaveColumns subscriber.base
+        → HasSingleTables subscriber.base subscriber }
 {
     accepting_is_step();
     accepted_apply_singly();
-    singly_keeps_columns();
+    rows_keep_columns();
 }

@@ -5,12 +5,14 @@
 //! at the broker.
 
 ghost use Rattle.std.specs.Prelude.{◌≡◌, ◌++◌, ℕ, true, List, Some, None, length, slice_get};
+ghost use Rattle.cs_apply.specs.declared.conflict.Conflict.{Conflict};
 ghost use Rattle.cs_model.specs.Bytes.{AreBytes};
 ghost use Rattle.cs_model.specs.declared.shape.Shape.{Shape};
 ghost use Rattle.cs_parse.specs.Progress.{Took};
 ghost use Rattle.rb_core.specs.declared.event.Event.{Event};
 ghost use Rattle.rb_core.specs.declared.event.Event.TheVariants as event;
 ghost use Rattle.rb_core.specs.declared.publisher.Publisher.{Publisher};
+ghost use Rattle.rb_core.specs.declared.reply.BrokerRefusal.TheVariants as refusal;
 ghost use Rattle.rb_core.specs.declared.reply.Reply.{Reply};
 ghost use Rattle.rb_core.specs.declared.reply.Reply.TheVariants as reply;
 ghost use Rattle.rb_core.specs.Headline.{KeepsHeadline};
@@ -25,15 +27,19 @@ ghost use Rattle.rb_core.specs.World.{Sender, Subscriber, World, world_begun, en
 ghost use Rattle.rb_desk.specs.declared.delivery.Delivery.{Delivery};
 ghost use Rattle.rb_desk.specs.Limits.{Limits};
 ghost use Rattle.rb_sequence.specs.Entry.{Entry};
+ghost use Rattle.rb_subscriber.specs.Accept.{brought, ConflictsSingly};
+ghost use Rattle.rb_subscriber.specs.declared.refusal.AcceptRefusal.TheVariants as why;
 ghost use Rattle.rb_subscriber.specs.Endpoint.{Endpoint};
 
 use crate::courses;
+use cs_apply::laws::rows_keep_columns;
 use cs_parse::laws::{
     feeding_tells_faults, progress_goes_on, progress_tells, reading_is_spelling, refusing_is_fault,
 };
 use rb_desk::laws::{
     calls_keep_limits, calls_keep_pictures, calls_show_in_outline, replays_are_pictures,
 };
+use rb_subscriber::laws as endpoints;
 use rb_subscriber::laws::accepting_is_step;
 
 /// Every event preserves the invariant of a world (*IsWorld*).
@@ -92,7 +98,6 @@ pub fn runs_are_told()
     replays_are_pictures();
     calls_show_in_outline();
     accepting_is_step();
-    reading_is_spelling();
     progress_goes_on();
     progress_tells();
 }
@@ -179,6 +184,7 @@ pub fn tables_apply_singly()
         → HasSingleTables (empty_tables schema) subscriber }
 {
     runs_are_told();
+    reading_is_spelling();
     courses::tables_apply_singly();
 }
 
@@ -193,6 +199,29 @@ pub fn runs_keep_the_headline()
     sendings_come_once_in_order();
     nothing_after_close();
     tables_apply_singly();
+}
+
+/// In every run: if `Accept` is refused for a conflict, the changesets that the delivery would
+/// bring conflict too when they are applied one after another to its subscription's tables.
+pub fn conflicts_are_single()
+    ensures { (limits : Limits) (schema : List Shape) (events : List Event)
+        (answers : List Answer) (old : State) (d : ℕ) (conflict : Conflict) (new : State)
+        → IsRunOf limits schema events answers old
+        → outcome old (event.Accept d)
+        ≡ (reply.Refused (refusal.Accept (why.Conflict conflict)), new)
+        → (delivery : Delivery) × (subscriber : Subscriber)
+        × (delivery_of old d ≡ Some delivery)
+        × (slice_get (world_told schema events answers).subscribers delivery.sub
+        ≡ Some subscriber)
+        × ConflictsSingly subscriber.tables
+        (brought (endpoint_of subscriber) old.sequence delivery) }
+{
+    runs_are_told();
+    reading_is_spelling();
+    accepting_is_step();
+    rows_keep_columns();
+    endpoints::accepted_apply_singly();
+    endpoints::conflicts_are_single();
 }
 
 /// If the reply to `Accept` is `Accepted`, it names the delivery's subscription, and its cursor is

@@ -1,14 +1,16 @@
 -- Entries one after another: the first that isn't admitted, and the sections of all bodies.
-use Rattle.std.proofs.Common.{◌≡◌, ℕ, ◌+◌, ◌<◌, ◌≤◌, true, false, List, ◌∷◌, ◌++◌, length, drop}
-use Rattle.std.proofs.Common.{Option, Some, None, Result, Ok, Err, sym, ap, ◌∙◌, append_assoc}
+use Rattle.std.proofs.Common.{◌≡◌, ℕ, ◌+◌, ◌<◌, ◌≤◌, true, false, List, [], ◌∷◌, ◌++◌, length, take, drop, take_all}
+use Rattle.std.proofs.Common.{Option, Some, None, Result, Ok, Err, sym, ap, subst, ◌∙◌, append_assoc}
 use Rattle.std.specs.Prelude.{OnOk, IfErr, is_err, slice_index_or}
-use Rattle.std.proofs.lemmas.List.{drop_more, drop_all, append-nil}
+use Rattle.std.proofs.lemmas.List.{drop_more, drop_all, take_more, append-nil}
+use Rattle.cs_model.proofs.CallerLemmas.{all_push}
+use Rattle.cs_model.specs.Changeset.{IsChangeset}
 use Rattle.cs_model.specs.Section.{Section}
 use Rattle.cs_model.specs.declared.schema.SectionFault.{SectionFault}
 use Rattle.cs_model.specs.declared.shape.Shape.{Shape}
 use Rattle.cs_model.specs.Schema.{refusal_of}
 use Rattle.rb_sequence.specs.Entry.{Entry}
-use Rattle.rb_subscriber.specs.Accept.{joined_bodies, if_admitted, first_outside_entry}
+use Rattle.rb_subscriber.specs.Accept.{joined_bodies, if_admitted, first_outside_entry, AreChangesets}
 
 -- the entry at a place stands in front of those behind it
 pub at_front : (entries : List Entry) (i : ℕ) (entry : Entry) → i < length entries → entry
@@ -53,6 +55,20 @@ pub none_found : (schema : List Shape) (entries : List Entry) (i : ℕ) → leng
     → first_outside_entry schema entries ≡ first_outside_entry schema (drop i entries) → None
     ≡ first_outside_entry schema entries
 none_found schema entries i all so_far = sym (so_far ∙ ap (first_outside_entry schema) (drop_all i entries all))
+
+-- ---- changesets
+
+-- the entries so far and the next one
+pub valid_more : (entries : List Entry) (i : ℕ) (entry : Entry) → i < length entries → entry
+    ≡ slice_index_or entries i entry → AreChangesets (take i entries) → IsChangeset entry.item.body
+    → AreChangesets (take (i + 1) entries)
+valid_more entries i entry less is so_far valid =
+    subst AreChangesets (ap (λ (e : Entry). take i entries ++ e ∷ []) is ∙ sym (take_more entries i entry less))
+    (all_push (λ (e : Entry). IsChangeset e.item.body) (take i entries) entry so_far valid)
+
+pub bodies_valid : (entries : List Entry) (i : ℕ) → length entries ≤ i → AreChangesets (take i entries)
+    → AreChangesets entries
+bodies_valid entries i all so_far = subst AreChangesets (take_all i entries all) so_far
 
 -- ---- the sections of all bodies
 

@@ -15,7 +15,9 @@ use Rattle.rb_subscriber.specs.declared.refusal.AcceptRefusal.{AcceptRefusal}
 use Rattle.rb_subscriber.specs.declared.refusal.AcceptRefusal.TheVariants as refusal
 use Rattle.rb_subscriber.specs.Accept.{brought, joined_bodies, applied, applied_if_admitted, accept}
 use Rattle.rb_subscriber.specs.Accept.{first_outside_entry}
-use Rattle.rb_subscriber.specs.Accept.{AreChangesets, ConflictsSingly}
+use Rattle.rb_subscriber.specs.declared.refusal.AcceptError.{AcceptError}
+use Rattle.rb_subscriber.specs.declared.refusal.AcceptError.TheVariants.{Refused}
+use Rattle.rb_subscriber.specs.Accept.{AcceptAnswers, AreChangesets, ConflictsSingly, OnConflict}
 use Rattle.rb_subscriber.specs.Endpoint.{Endpoint}
 use Rattle.rb_subscriber.proofs.RunLaws.{RunContinues, joined_valid, nothing_applies}
 
@@ -98,3 +100,16 @@ conflict_singly goes group old sequence delivery conflict valid have e =
     let found = accept_conflicts old sequence delivery conflict e in
     let joined = group old.tables (joined_bodies entries) found.0 (joined_valid entries valid) have found.1 in
     joined_conflicts goes old.tables entries joined.0 joined.1
+
+-- so it is where a call refuses for a conflict, of which the bodies and the rows are known
+pub conflict_answers : (old new : Endpoint) (sequence : List Entry) (delivery : Delivery)
+    (result : Result ℕ AcceptError)
+    → ((conflict : Conflict) → AreChangesets (brought old sequence delivery) → HaveColumns old.tables
+    → accept old sequence delivery ≡ Err (refusal.Conflict conflict)
+    → ConflictsSingly old.tables (brought old sequence delivery))
+    → AcceptAnswers result (accept old sequence delivery) old new
+    → OnConflict result (AreChangesets (brought old sequence delivery) × HaveColumns old.tables)
+    → OnConflict result (ConflictsSingly old.tables (brought old sequence delivery))
+conflict_answers old new sequence delivery (Err (Refused (refusal.Conflict conflict))) law answers known =
+    law conflict known.0 known.1 answers.0
+conflict_answers old new sequence delivery result law answers known = tt

@@ -1,6 +1,7 @@
 -- What is accepted is one contiguous run, and its group leaves what its bodies leave.
-use Rattle.std.proofs.Common.{◌≡◌, ◌↔◌, ℕ, ◌+◌, ◌-◌, ◌≤◌, List, [], ◌∷◌, ◌++◌, length, take, drop, Ok}
+use Rattle.std.proofs.Common.{◌≡◌, ◌↔◌, ℕ, ◌+◌, ◌-◌, ◌≤◌, List, [], ◌∷◌, ◌++◌, length, take, drop, Result, Ok, Err}
 use Rattle.std.proofs.Common.{refl, sym, ap, subst, ◌∙◌, arith}
+use Rattle.std.specs.Prelude.{OnOk}
 use Rattle.std.proofs.Math.Seq.{take-add}
 use Rattle.std.proofs.lemmas.List.{drop-drop, take-append-le, drop-append-le, length-drop}
 use Rattle.cs_model.proofs.CallerLemmas.{all_append}
@@ -14,7 +15,8 @@ use Rattle.cs_group.specs.Group.{group_of}
 use Rattle.rb_desk.specs.declared.delivery.Delivery.{Delivery}
 use Rattle.rb_sequence.specs.Entry.{Entry}
 use Rattle.rb_subscriber.specs.Accept.{part, brought, joined_bodies, accept, accepted_entries, AppliesSingly}
-use Rattle.rb_subscriber.specs.Accept.{AreChangesets}
+use Rattle.rb_subscriber.specs.declared.refusal.AcceptError.{AcceptError}
+use Rattle.rb_subscriber.specs.Accept.{AcceptAnswers, AreChangesets}
 use Rattle.rb_subscriber.specs.Endpoint.{Endpoint}
 use Rattle.rb_subscriber.proofs.AcceptLaws.{accepted_steps}
 
@@ -97,6 +99,19 @@ tables_singly goes group old sequence delivery new tables valid have e singly =
     let other = group old.tables tables (joined_bodies entries) (joined_valid entries valid) have
     (singly_joined goes old.tables entries tables singly) in
     cc (sym (accepted_steps old sequence delivery new e).tables ∙ other)
+
+-- so it is where a call returns Ok, of which the bodies and the rows are known
+pub singly_answers : (old new : Endpoint) (sequence : List Entry) (delivery : Delivery) (result : Result ℕ AcceptError)
+    → ((tables : tables.TableState) → AreChangesets (brought old sequence delivery) → HaveColumns old.tables
+    → accept old sequence delivery ≡ Ok new → AppliesSingly old.tables (brought old sequence delivery) tables
+    → new.tables ≡ tables)
+    → AcceptAnswers result (accept old sequence delivery) old new
+    → OnOk result (AreChangesets (brought old sequence delivery) × HaveColumns old.tables)
+    → OnOk result ((tables : tables.TableState) → AppliesSingly old.tables (brought old sequence delivery) tables
+    → new.tables ≡ tables)
+singly_answers old new sequence delivery (Ok cursor) law answers known = λ tables.
+    law tables known.0 known.1 answers.0
+singly_answers old new sequence delivery (Err why) law answers known = tt
 
 -- rows keep their columns
 abbrev pub RowsKeepColumns : Type 0

@@ -95,6 +95,11 @@ AcceptAnswers (Ok cursor) accepted old new = (accepted ≡ Ok new) × (cursor �
 AcceptAnswers (Err (Refused why)) accepted old new = (accepted ≡ Err why) × (new ≡ old)
 AcceptAnswers (Err Memory) accepted old new = AsksTables accepted × (new ≡ old)
 
+-- P, if the call refuses the delivery for a conflict
+abbrev pub OnConflict : Result ℕ AcceptError → Type 0 → Type 0
+OnConflict (Err (Refused (refusal.Conflict conflict))) P = P
+OnConflict other P = Unit {0}
+
 -- ---- as a step
 
 -- An endpoint accepts a delivery. The endpoint isn't closed, the delivery is of its current link,

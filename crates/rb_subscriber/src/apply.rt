@@ -1,11 +1,12 @@
 //! The bodies of entries: which the tables don't admit, their group, and applying it to tables.
 
 ghost use Rattle.std.specs.Prelude.{◌≡◌, ◌∷◌, [], true, false, Ok, OnOk, OnErr, IfOk, IfErr};
+ghost use Rattle.std.specs.Prelude.{IfNone};
 ghost use Rattle.std.specs.Option.{option_copied};
 ghost use Rattle.cs_apply.specs.Errors.{ReportsConflict};
 ghost use Rattle.cs_apply.specs.Single.{single};
 ghost use Rattle.cs_group.specs.Group.{group_of};
-ghost use Rattle.rb_subscriber.specs.Accept.{first_outside_entry, joined_bodies};
+ghost use Rattle.rb_subscriber.specs.Accept.{AreChangesets, first_outside_entry, joined_bodies};
 
 use cs_apply::{ApplyError, Tables};
 use cs_group::combine_admitted;
@@ -14,12 +15,17 @@ use cs_model::{Changeset, Schema};
 use rb_sequence::Entry;
 use std::alloc::{AllocError, Global};
 
-/// The first entry whose body has a section that the schema doesn't admit.
+/// The first entry whose body has a section that the schema doesn't admit. If there is none, all
+/// bodies were read, and they are changesets.
 pub(crate) fn outside<'a>(schema: &Schema, entries: &'a [Entry]) -> Option<&'a Entry>
-    ensures { option_copied result ≡ first_outside_entry schema.now entries.now }
+    ensures first { option_copied result ≡ first_outside_entry schema.now entries.now }
+    ensures valid { IfNone result (AreChangesets entries.now) }
 {
     for entry in entries {
-        if schema.admits(entry.body()).is_err() {
+        let body = entry.body();
+        // for what its clause says: the body is a changeset
+        let _sections = body.iter();
+        if schema.admits(body).is_err() {
             return Some(entry);
         }
     }

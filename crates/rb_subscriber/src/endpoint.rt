@@ -1,10 +1,14 @@
 //! `Endpoint`: accepts deliveries and holds the subscriber's tables.
 
-ghost use Rattle.std.specs.Prelude.{◌≡◌, ◌≤◌, ◌-◌, true, length};
-ghost use Rattle.rb_subscriber.specs.Accept.{accept, AcceptAnswers, part};
+ghost use Rattle.std.specs.Prelude.{◌≡◌, ◌≤◌, ◌-◌, true, length, OnOk};
+ghost use Rattle.cs_apply.specs.Columns.{HaveColumns};
+ghost use Rattle.cs_apply.specs.State.{TableState};
+ghost use Rattle.rb_subscriber.specs.Accept.{accept, AcceptAnswers, AppliesSingly, AreChangesets};
+ghost use Rattle.rb_subscriber.specs.Accept.{brought, ConflictsSingly, OnConflict, part};
 ghost use Rattle.rb_subscriber.specs.Endpoint.{new_endpoint};
 
 use crate::apply::{apply, outside};
+use crate::laws::{accepted_apply_singly, conflicts_are_single};
 use crate::refusal::{AcceptError, AcceptRefusal};
 use cs_apply::{ApplyError, Tables};
 use rb_desk::Delivery;
@@ -60,11 +64,11 @@ impl Endpoint {
     /// Accepts a delivery: applies the group of its changesets, and moves the cursor to its last
     /// number, which it returns. `sequence` is all entries placed so far, at least up to the
     /// delivery's last one. If the changesets apply one after another without conflict, their group
-    /// leaves the same tables (`laws::accepted_apply_singly`).
+    /// leaves the same tables.
     ///
     /// Refuses, in this order, `Closed`, `StaleLink`, `Seen`, `Gap`, `Shape`, `Conflict`. `Memory`
-    /// may replace a conflict, but no other refusal. An error does not change the endpoint.
-    #[tactic(auto, unfolding(crate::specs::Accept::accept))]
+    /// may replace a conflict, but no other refusal. An error does not change the endpoint. A
+    /// conflict comes only if the changesets conflict too when they are applied one after another.
     pub fn accept(
         &mut self,
         alloc: Global,
@@ -72,8 +76,36 @@ impl Endpoint {
         delivery: &Delivery,
     ) -> Result<u64, AcceptError>
         requires { delivery.now.last ≤ length sequence.now }
-        ensures { AcceptAnswers result (accept self.old sequence.now delivery.now) self.old
+        ensures answers { AcceptAnswers result (accept self.old sequence.now delivery.now) self.old
             self.new }
+        ensures singly { OnOk result ((tables : TableState)
+            → AppliesSingly self.old.tables (brought self.old sequence.now delivery.now) tables
+            → self.new.tables ≡ tables) }
+        ensures conflicts { OnConflict result (ConflictsSingly self.old.tables
+            (brought self.old sequence.now delivery.now)) }
+    {
+        accepted_apply_singly();
+        conflicts_are_single();
+        self.accept_next(alloc, sequence, delivery)
+    }
+
+    // `accept`, and what the laws ask for where the tables are reached: the bodies are changesets,
+    // and each row has its columns.
+    #[tactic(auto, unfolding(crate::specs::Accept::accept))]
+    fn accept_next(
+        &mut self,
+        alloc: Global,
+        sequence: &[Entry],
+        delivery: &Delivery,
+    ) -> Result<u64, AcceptError>
+        requires { delivery.now.last ≤ length sequence.now }
+        ensures answers { AcceptAnswers result (accept self.old sequence.now delivery.now) self.old
+            self.new }
+        ensures ok { OnOk result (AreChangesets (brought self.old sequence.now delivery.now)
+            × HaveColumns self.old.tables) }
+        ensures conflict { OnConflict result
+            (AreChangesets (brought self.old sequence.now delivery.now)
+            × HaveColumns self.old.tables) }
     {
         if self.closed {
             return Err(AcceptRefusal::Closed.into());

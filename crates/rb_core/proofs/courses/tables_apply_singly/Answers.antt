@@ -5,5 +5,5 @@ pub returns : goal.returns
 returns c = λ mids new s subscriber. tables_are_single (record {
   step = c.accepting_is_step.ensures;
   single = c.accepted_apply_singly.ensures;
-  columns = c.singly_keeps_columns.ensures;
+  rows = c.rows_keep_columns.ensures;
 }) mids new s subscriber

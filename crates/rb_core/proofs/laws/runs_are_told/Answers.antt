@@ -9,7 +9,6 @@ laws_of c = record {
   begins = c.progress_goes_on.ensures.begins;
   goes = c.progress_goes_on.ensures.goes;
   tells = c.progress_tells.ensures.answer;
-  spells = c.reading_is_spelling.ensures;
   place = c.calls_show_in_outline.ensures.place;
   close = c.calls_show_in_outline.ensures.close;
   subscribe = c.calls_show_in_outline.ensures.subscribe;

@@ -24,7 +24,7 @@ returns-in-Err-Refused-clause-ok c =
     rw (← c.self.view_is)
     (refused_as w c.args.delivery c.sub-subscription.result delivery c.index_mut-end.result.now c.accept.new.self
     c.deref.result.now c.accept.result c.in-Err-Refused.field-0 c.in-Err-Refused.why known
-    c.sub-subscription.ensures here c.deref.ensures.value c.accept.ensures c.in-Err-Refused.is
+    c.sub-subscription.ensures here c.deref.ensures.value c.accept.ensures.answers c.in-Err-Refused.is
     c.in-Err-Refused.field-0-is)
 
 pub returns-clause-ok : goal.returns-clause-ok
@@ -44,4 +44,4 @@ returns-clause-ok c =
     rw (← c.self.view_is)
     (done_as w c.args.delivery c.sub-subscription.result delivery c.index_mut-end.result.now c.accept.new.self
     c.deref.result.now c.accept.result c.in-Ok.cursor known c.sub-subscription.ensures here c.deref.ensures.value
-    c.accept.ensures c.in-Ok.is)
+    c.accept.ensures.answers c.in-Ok.is)
