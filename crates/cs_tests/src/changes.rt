@@ -7,6 +7,7 @@ ghost use Rattle.cs_model.specs.Seen.{field_seen};
 use crate::fixture::{HEADER, counts, joined, read, same, shape};
 use cs_model::FieldRef::{Null, Text};
 use cs_model::*;
+use cs_parse::parse_in_place;
 use std::alloc::{AllocError, Global};
 use std::cmp::Ordering;
 use std::process::Abort;
@@ -59,28 +60,17 @@ fn update(alloc: Global) -> Result<Change, AllocError>
     })
 }
 
-// an INSERT, the UPDATE above and two more INSERTs
+// an INSERT and the UPDATE above
 fn lists(alloc: Global) -> Result<Changes, AllocError> {
     let mut changes = inserts(alloc, 1)?;
     let change = update(alloc)?;
     changes.push_change(alloc, &change)?;
-    let others = inserts(alloc, 2)?;
-    changes.append(&others)?;
     Ok(changes)
 }
 
 // the changeset of its own sections
 fn again(changeset: Changeset) -> Changeset {
     Changeset::from_seq(changeset.into_seq())
-}
-
-// A changeset followed by its copy.
-fn twice(rt: &impl Abort, alloc: Global, mut all: Changeset) -> Result<Changeset, Fail> {
-    let copy = all.copy_in(alloc)?;
-    all.append(alloc, &copy)?;
-    assert_eq!(rt; all.sections().last(), copy.sections().last());
-    counts(rt, all.sections().len(), 2);
-    Ok(all)
 }
 
 // The last section's table and changes.
@@ -99,15 +89,35 @@ fn parts(rt: &impl Abort, alloc: Global, all: Changeset) -> Result<(), Fail> {
 fn changes(rt: HostRuntime) -> Result<(), Fail> {
     let alloc = rt.alloc();
     let insert = b"\x12\0\x05\x03\x01w";
-    let wanted = joined(alloc, &[insert, UPDATED, insert, insert])?;
+    let wanted = joined(alloc, &[insert, UPDATED])?;
     let all = lists(alloc)?;
     same(&rt, all.bytes(), &wanted);
-    counts(&rt, all.len(), 4);
+    counts(&rt, all.len(), 2);
     let many = inserts(alloc, 70_000)?;
     counts(&rt, many.len(), 70_000);
     counts(&rt, many.bytes().len(), 70_000 * 6);
     let changeset = again(read(alloc, &[HEADER, UPDATED])?);
-    parts(&rt, alloc, twice(&rt, alloc, changeset)?)
+    parts(&rt, alloc, changeset)
+}
+
+// The one section of a text that is parsed in place has this change.
+fn stands(rt: &impl Abort, alloc: Global, text: &[u8], wanted: &[u8]) -> Result<(), Fail> {
+    let changeset = parse_in_place(alloc, text)?;
+    let section = changeset.iter().next().ok_or("no section")?;
+    same(rt, section.bytes(), wanted);
+    same(rt, section.name(), b"t");
+    counts(rt, section.len(), 1);
+    Ok(())
+}
+
+// A length of more bytes than it needs is copied in its shortest form.
+#[test]
+fn in_place(rt: HostRuntime) -> Result<(), Fail> {
+    let alloc = rt.alloc();
+    let text = joined(alloc, &[HEADER, INSERTED])?;
+    stands(&rt, alloc, &text, INSERTED)?;
+    let text = joined(alloc, &[HEADER, b"\x12\0\x01\0\0\0\0\0\0\0\x07\x03\x80\x01w"])?;
+    stands(&rt, alloc, &text, INSERTED)
 }
 
 // ascending order: by the table first, then by the bytes, as unsigned
