@@ -3,7 +3,7 @@
 #define NAME "record"
 #include "../common.h"
 
-enum { MOST_OF_SCRIPT = 16777216, MOST_OF_CHANGESET = 8388588 };
+enum { MOST_OF_SCRIPT = 16777216, MOST_OF_CHANGESET = 8387561 };
 static sqlite3_str *lines;
 static int entries;
 
