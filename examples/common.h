@@ -132,10 +132,12 @@ static unsigned char *end(sqlite3 *db, sqlite3_session *session, int *len) {
 }
 
 /* Runs the next transaction of the SQL, which can be a statement alone. Returns the SQL after it, or NULL if nothing
- * was left to run. A transaction without an end is an error. */
+ * was left to run: then it says whether tables were changed. A transaction without an end is an error. */
 static const char *run_transaction(sqlite3 *db, const char *sql) {
     static int count;
+    static long long version = -1;
     int is_run = 0;
+    if (version < 0) version = number(db, sqlite3_mprintf("PRAGMA schema_version"));
     while (!is_run || !sqlite3_get_autocommit(db)) {
         sqlite3_stmt *statement = NULL;
         const char *text = sql += strspn(sql, " \t\r\n");
@@ -148,6 +150,8 @@ static const char *run_transaction(sqlite3 *db, const char *sql) {
         sqlite3_finalize(statement);
         if (is_run || *sql) continue;
         if (!sqlite3_get_autocommit(db)) FAIL("the SQL ends in a transaction: COMMIT or ROLLBACK is missing");
+        if (number(db, sqlite3_mprintf("PRAGMA schema_version")) != version)
+            SAY("the SQL changes the schema, which no changeset says: new tables and columns are missing");
         return NULL;
     }
     return sql;

@@ -52,10 +52,7 @@ int main(int count, char **words) {
     copy(db, "bare", source), strip(db, "bare", 0);
     add(db, begin(db, "bare"));
     run(db, sqlite3_mprintf("DETACH bare"));
-    long long version = number(db, sqlite3_mprintf("PRAGMA schema_version"));
     for (sqlite3_session *session; session = begin(db, NULL), sql = run_transaction(db, sql);) add(db, session);
-    if (number(db, sqlite3_mprintf("PRAGMA schema_version")) != version)
-        SAY("the SQL changes the schema, which no changeset says: new tables and columns are missing");
     sqlite3_str_appendall(lines, "\nrows 0\n");
     check(db, sqlite3_str_errcode(lines));
     if (sqlite3_str_length(lines) > MOST_OF_SCRIPT)

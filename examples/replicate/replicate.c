@@ -6,7 +6,7 @@
 #include "../common.h"
 #include "broker.h"
 
-enum { PIECE = 32000, WRITE = SQLITE_OPEN_READWRITE | SQLITE_OPEN_CREATE };
+enum { PIECE = 32000 };
 struct replica {
     const char *path;
     sqlite3 *db;
@@ -16,17 +16,24 @@ struct replica {
 };
 static long long placed, changes, pieces, tick;
 
+/* a new database, without what an earlier run left beside it */
+static sqlite3 *open_new(const char *path) {
+    const char *ends[] = {"", "-wal", "-shm", "-journal"};
+    char file[40];
+    for (int i = 0; i < 4; i++) snprintf(file, sizeof file, "%s%s", path, ends[i]), remove(file);
+    return open_database(path, SQLITE_OPEN_READWRITE | SQLITE_OPEN_CREATE);
+}
+
 static void reopen(struct replica *replica) {
     if (replica->db) check(replica->db, sqlite3_close(replica->db));
-    replica->db = open_database(replica->path, WRITE);
+    replica->db = open_database(replica->path, SQLITE_OPEN_READWRITE);
     run(replica->db, sqlite3_mprintf("PRAGMA foreign_keys = 0"));
     replica->cursor = number(replica->db, sqlite3_mprintf("SELECT number FROM replica_cursor"));
 }
 
 /* Makes the file of a replica: a snapshot, which has entry 1, or the same tables without rows. */
 static void make(struct replica *replica, sqlite3 *live, int snapshot) {
-    remove(replica->path);
-    replica->db = open_database(replica->path, WRITE);
+    replica->db = open_new(replica->path);
     copy(replica->db, "main", live), strip(replica->db, "main", snapshot);
     run(replica->db, sqlite3_mprintf("CREATE TABLE replica_cursor AS SELECT %d AS number", snapshot));
     replica->subscription = atoi(ask("subscriber ", "subscribe 0"));
@@ -119,8 +126,7 @@ int main(int count, char **words) {
     const char *sql = count == 4 ? read_file(words[3]) : NULL;
     if (!sql) return fputs("./replicate PROGRAM DATABASE SQL-FILE: no SQL file is read\n", stderr), 2;
     struct replica one = {.path = "one.db"}, two = {.path = "two.db"};
-    remove("live.db");
-    sqlite3 *live = open_database("live.db", WRITE);
+    sqlite3 *live = open_new("live.db");
     copy(live, "main", open_database(words[2], SQLITE_OPEN_READONLY));
     find_tables(live);
     start(words[1]);
@@ -137,9 +143,8 @@ int main(int count, char **words) {
         place(live, session);
     printf("entries 2 to %lld: the transactions, %lld changes, fed in pieces: %lld\n", placed, changes, pieces);
     printf("one is at entry %lld, two at entry %lld\n", one.cursor, two.cursor);
-    if (placed > 1) lag(&two);
-    follow(&two);
+    if (placed > 1) lag(&two), follow(&two);
     printf("two is at entry %lld\n", two.cursor);
     compare(live, &one), compare(live, &two);
-    return 0;
+    return sqlite3_close(one.db) || sqlite3_close(two.db) || sqlite3_close(live);
 }
