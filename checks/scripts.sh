@@ -57,7 +57,9 @@ fails 'replicate/run.sh, no program' 'no program' sh examples/replicate/run.sh
 # The prover's command only exits.
 fails 'edits.sh, nothing is tried' '0 of ' sh checks/edits.sh rb_run
 fails 'edits_together.py, nothing is tried' '0 of ' python3 checks/edits_together.py rb_run
-fails 'gate-times.sh, nothing is run' 'no process' sh checks/gate-times.sh
+# other checkouts may have processes of the prover
+make "$work/bin/pgrep" '#!/bin/sh'
+fails 'gate-times.sh, nothing is run' 'no process' env PATH="$work/bin:$PATH" sh checks/gate-times.sh
 fails 'gate-times.sh, a command that fails' 'ended with status 3' sh checks/gate-times.sh sh -c 'exit 3'
 fails 'bench/run.sh, nothing is made' 'no crates' sh bench/run.sh
 fails 'bench/script.sh, nothing is made' 'script.sh: ' sh bench/script.sh
