@@ -135,7 +135,7 @@ for option in 'batch .* 1 to 256 .*16' 'window .* 1 to 64 .*4' 'timeout .* 1 to 
     need "no line of '--$option'" grep -q -e "--$option" "$out"
 done
 need "no word of what 'reset' forgets" grep -q '^ *reset P .* fault$' "$out"
-need "no word of what a fault leaves" grep -q 'reports that fault until' "$out"
+need "no word of what a fault leaves" grep -q '^fault until `reset P`' "$out"
 need "no word of what a refused turn keeps" grep -q 'keeps the next changeset in hand' "$out"
 end 'script --help'
 

@@ -41,10 +41,10 @@ Lines, each with its answer when it is done:
 
 All `table` lines come first. Numbers are decimal, and bytes hexadecimal, - for none.
 
-A refused line is answered `refused NAME` with its values. It changes nothing, except that a refused
-`turn` keeps the next changeset in hand: the next `turn` tries it first. A faulty `feed` or `end` is
-answered `fault AT KIND`. After a fault of `feed`, each `feed P` and `end P` reports that fault until
-`reset P`. A faulty or refused `end` keeps the bytes of the stream: `reset P` drops them.
+A refused line is answered `refused NAME` with its values. It changes nothing, except that a
+refused `turn` keeps the next changeset in hand: the next `turn` tries it first. A faulty `feed` or
+`end` is answered `fault AT KIND`. After a fault of `feed`, each `feed P` and `end P` reports that
+fault until `reset P`. A faulty or refused `end` keeps the bytes of the stream, until `reset P`.
 
 Statuses:
   0  all lines are answered
