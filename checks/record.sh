@@ -53,6 +53,9 @@ given "CREATE TABLE t (a TEXT COLLATE NOCASE PRIMARY KEY, b); INSERT INTO t VALU
     "DELETE FROM t; INSERT INTO t VALUES ('a', 1)"
 told 'NOCASE: in two transactions it is not' last 'row 0 030161 010000000000000001' 1
 told 'and the replicas are equal' equal
+given "CREATE TABLE t (a TEXT COLLATE NOCASE PRIMARY KEY, b); INSERT INTO t VALUES ('A', 1)" \
+    "BEGIN; UPDATE t SET a = 'a'; UPDATE t SET a = 'A'; COMMIT"
+told 'NOCASE: there and back is a conflict' says 'refused Conflict 0 3' answers
 given "CREATE TABLE t (a TEXT PRIMARY KEY, b); INSERT INTO t VALUES ('A', 1)" \
     "BEGIN; DELETE FROM t; INSERT INTO t VALUES ('a', 1); COMMIT"
 told 'BINARY: in one transaction it is not' last 'row 0 030161 010000000000000001' 1

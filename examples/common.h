@@ -145,8 +145,10 @@ static const char *run_transaction(sqlite3 *db, const char *sql) {
         is_run = statement || rc;
         count += is_run;
         while (statement && (rc = sqlite3_step(statement)) == SQLITE_ROW) {}
-        if (rc && rc != SQLITE_DONE)
-            FAIL("statement %d, `%.*s`: %s", count, (int)strcspn(text, "\n"), text, sqlite3_errmsg(db));
+        if (rc && rc != SQLITE_DONE) {
+            size_t len = strcspn(text, statement ? "\n" : ";\n"), most = statement ? (size_t)(sql - text) : 80;
+            FAIL("statement %d, `%.*s`: %s", count, (int)(len < most ? len : most), text, sqlite3_errmsg(db));
+        }
         sqlite3_finalize(statement);
         if (is_run || *sql) continue;
         if (!sqlite3_get_autocommit(db)) FAIL("the SQL ends in a transaction: COMMIT or ROLLBACK is missing");
