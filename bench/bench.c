@@ -160,6 +160,10 @@ static int combine_once(const char *who, enum keys keys, enum rows rows) {
 /* Runs one job once, for a profiler: `ours` or `sqlite`, `read`, `build`, `write`, `hot` or `apart` (combining), and
  * `integers`, `texts` or `blobs`. */
 static int run_once(const char *who, const char *what, const char *which) {
+    const char *names[] = {"ours", "sqlite", "read", "build", "write", "hot", "apart", "integers", "texts", "blobs"};
+    int known = 0;
+    for (int i = 0; i < 10; i++) known += !strcmp(i < 2 ? who : i < 7 ? what : which, names[i]);
+    if (known != 3) return fprintf(stderr, "bench: no job is called `%s %s %s`\n", who, what, which), 2;
     enum rows rows = *which == 'i' ? INTEGERS : *which == 't' ? TEXTS : BLOBS;
     if (strcmp(what, "hot") == 0 || strcmp(what, "apart") == 0)
         return combine_once(who, strcmp(what, "hot") == 0 ? HOT : APART, rows);
@@ -177,6 +181,7 @@ int main(int count, char **words) {
     mallopt(M_TRIM_THRESHOLD, -1);
     if (count == 4) return run_once(words[1], words[2], words[3]);
     if (count == 2 && strcmp(words[1], "combine") == 0) return compare_all_combining(), 0;
+    if (count > 1) return fprintf(stderr, "bench [combine | ours|sqlite JOB ROWS]\n"), 2;
     print_head("MB/s");
     compare_bytes(INTEGERS, "integer rows");
     compare_bytes(TEXTS, "100-byte text rows");

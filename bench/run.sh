@@ -3,6 +3,11 @@
 # package name. RT names the prover's command where it isn't `rt`, and UNDER one that runs the program, as a profiler.
 # With words, as `ours read integers`, the program runs one job once. With `combine` it compares combining alone.
 set -eu
+fail() {
+    echo "run.sh: $1" >&2
+    exit 1
+}
+
 cd "$(dirname "$0")/.."
 : "${RT:=rt}"
 : "${UNDER:=}"
@@ -14,6 +19,9 @@ done
 (cd crates/changeset_c && "$RT" lib >&2)
 # the toolchain's three functions between the library and malloc
 heap="$(dirname "$($RT doc)")/c/liblibc_c.a"
+for library in crates/changeset_c/out/libchangeset_c.a "$heap"; do
+    [ -e "$library" ] || fail "no $library: the command $RT has not made it"
+done
 made="$(mktemp -d)"
 trap 'rm -rf "$made"' EXIT
 gcc -O2 -Wall -Wextra -I include bench/*.c \
@@ -22,4 +30,13 @@ gcc -O2 -Wall -Wextra -I include bench/*.c \
 echo "$(nproc) processors, $(sed -n 's/^model name[^:]*: //p' /proc/cpuinfo | head -n 1)," \
     "SQLite $(dpkg-query -W -f '${Version}' libsqlite3-0), load before: $(cut -d ' ' -f 1 /proc/loadavg)"
 echo
-$UNDER "$made/bench" "$@"
+# a job alone prints no table
+if [ $# -gt 1 ]; then
+    $UNDER "$made/bench" "$@"
+    exit
+fi
+{
+    $UNDER "$made/bench" "$@" || echo "$?" >"$made/status"
+} | tee "$made/table"
+[ ! -e "$made/status" ] || fail "the comparison ends with status $(cat "$made/status")"
+grep -q '^| .* [0-9]' "$made/table" || fail 'nothing was compared'

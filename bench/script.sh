@@ -3,6 +3,11 @@
 # entries and with the subscriptions. The program is built first where it isn't; RT names the prover's command where it isn't `rt`.
 # PROGRAM names a built one.
 set -eu
+fail() {
+    echo "script.sh: $1" >&2
+    exit 1
+}
+
 cd "$(dirname "$0")/.."
 : "${RT:=rt}"
 : "${PROGRAM:=crates/rb_run/out/rb_run}"
@@ -16,12 +21,17 @@ trap 'rm -rf "$work"' EXIT
 gcc -O2 -Wall -Wextra bench/script/lines.c bench/apply/measure.c -lsqlite3 -o "$work/lines"
 [ -x "$PROGRAM" ] || (cd crates/rb_run && "$RT" run -- script </dev/null >&2)
 
-# row NAME WORDS..: one line of a table, of the script that these words make
+# row NAME WORDS..: one line of a table, of the script that these words make. Each line of it has an answer.
 row() {
     name="$1"
     shift
     "$work/lines" "$@" >"$work/script"
-    echo "$(wc -l <"$work/script") $(wc -c <"$work/script") $("$work/lines" measure "$work/script" "$PROGRAM" script --capacity 1048576)" |
+    lines="$(wc -l <"$work/script")"
+    "$PROGRAM" script --capacity 1048576 <"$work/script" >"$work/answers" || fail "$name: the program fails"
+    answers="$(wc -l <"$work/answers")"
+    [ "$lines" -gt 0 ] && [ "$answers" -eq "$lines" ] || fail "$name: $answers answers to $lines lines"
+    took="$("$work/lines" measure "$work/script" "$PROGRAM" script --capacity 1048576)" || fail "$name: nothing is measured"
+    echo "$lines $(wc -c <"$work/script") $took" |
         awk -v name="$name" '{ printf "| %s | %d | %.1f | %.0f | %.0f | %d |\n", name, $1, $2 / 1000000, $3, $3 * 1000000 / $1, $4 / 1024 }'
 }
 

@@ -6,7 +6,7 @@
 A function is proved by its own contract and those of what it calls, so an edit can only keep the function that it stands in
 from being proved. For each edit it prints `refused` and that function, or `STILL PROVED`, or why it can't be applied. It takes a
 tenth of the time of checks/edits.sh, whose verdict, by the prover's own command, is the one that counts. It needs the
-prover's command `rt`.
+prover's command `rt`, or another one that the variable RT names. The status is 1 if an edit was not refused.
 """
 import collections
 import os
@@ -48,14 +48,14 @@ def applied(source, pairs):
 
 def unproved(crate):
     """the functions that aren't proved, apart from those that only call one, and faults of the sources"""
-    run = subprocess.run(['rt', 'check', '--allow-holes'], cwd=crate, capture_output=True, text=True)
+    run = subprocess.run([os.environ.get('RT', 'rt'), 'check', '--allow-holes'], cwd=crate, capture_output=True, text=True)
     lines = (run.stdout + run.stderr).split('\n')
     open_ = [line[3:].split(': ', 1) for line in lines if re.match(r'fn \S+: (not proved|no proof: expected)', line)]
     return {name.split('::')[-1] for name, _ in open_}, [line for line in lines if re.match(r'(so far: )?src/\S+: error', line)]
 
 
 def tried(crate, edits):
-    """tries edits of different files at once"""
+    """tries edits of different files at once, and returns how many were refused"""
     kept, stands = {}, {}
     for edit in edits:
         name, pairs = edit_of(os.path.join(crate, 'on-demand', edit))
@@ -74,27 +74,39 @@ def tried(crate, edits):
         with open(path, 'w') as f:
             f.write(source)
     if faults and len(edits) > 1:
-        for edit in edits:
-            tried(crate, [edit])
-        return
+        return sum(tried(crate, [edit]) for edit in edits)
+    refused = 0
     for edit, functions in stands.items():
         found = sorted(functions & open_) or faults[:1]
+        refused += bool(found)
         print(os.path.basename(crate), edit, 'refused: ' + ', '.join(found) if found else 'STILL PROVED', flush=True)
+    return refused
 
 
 def main():
+    if len(sys.argv) < 2:
+        print('usage: python3 checks/edits_together.py NAME..', file=sys.stderr)
+        sys.exit(2)
     work = tempfile.mkdtemp()
+    count = refused = 0
     try:
         subprocess.run(['git', 'clone', '-q', TOP, work + '/clone'], check=True)
         for name in sys.argv[1:]:
             crate = os.path.join(work, 'clone', 'crates', name)
+            folder = os.path.join(crate, 'on-demand')
+            found = sorted(os.listdir(folder)) if os.path.isdir(folder) else []
+            if not found:
+                sys.exit('edits_together.py: crates/%s/on-demand has no edit' % name)
             files = collections.defaultdict(list)
-            for edit in sorted(os.listdir(os.path.join(crate, 'on-demand'))):
-                files[edit_of(os.path.join(crate, 'on-demand', edit))[0]].append(edit)
+            for edit in found:
+                files[edit_of(os.path.join(folder, edit))[0]].append(edit)
+            count += len(found)
             while any(files.values()):
-                tried(crate, [edits.pop(0) for edits in files.values() if edits])
+                refused += tried(crate, [edits.pop(0) for edits in files.values() if edits])
     finally:
         shutil.rmtree(work)
+    if refused < count:
+        sys.exit('edits_together.py: %d of %d edits were refused' % (refused, count))
 
 
 if __name__ == '__main__':

@@ -5,10 +5,10 @@
 
 It reads the recorded histories among the cases of crates/rb_cases (`recorded-..`, `sqlite-..`). Of each it combines every two
 and every three changesets in a row, and all of them, by the model and by sqlite3changegroup_add and _output of the system's
-libsqlite3. Both must come to the same changes of the same rows. The order of tables and rows and the indirect mark of a
+libsqlite3, or of the one that the variable SQLITE names. Both must come to the same changes of the same rows. The order of tables and rows and the indirect mark of a
 merged change are choices of this project, so they are not compared. With FOLDER it writes two cases for each history there:
 `grouped-NAME` accepts runs of three and shows the groups, `whole-NAME` accepts all at once. Their answers are the model's,
-and their last rows must be those of the history, which SQLite had.
+and their last rows must be those of the history, which SQLite had. The status is 1 if something differs.
 """
 import ctypes
 import ctypes.util
@@ -19,7 +19,11 @@ import sys
 import model
 
 DATA = os.path.join(os.path.dirname(os.path.abspath(__file__)), '..', 'crates', 'rb_cases', 'data')
-sqlite = ctypes.CDLL(ctypes.util.find_library('sqlite3') or 'libsqlite3.so.0')
+try:
+    sqlite = ctypes.CDLL(os.environ.get('SQLITE') or ctypes.util.find_library('sqlite3') or 'libsqlite3.so.0')
+    sqlite.sqlite3changegroup_new
+except (OSError, AttributeError) as why:
+    sys.exit('groups.py: no libsqlite3 with sessions: %s' % why)
 
 
 def sqlite_group(texts):
@@ -74,7 +78,9 @@ def script_of(tables, texts, batch):
 
 
 def main():
-    groups = 0
+    groups = others = 0
+    if len(sys.argv) > 1 and not os.path.isdir(sys.argv[1]):
+        sys.exit('groups.py: no folder %s' % sys.argv[1])
     for path in sorted(glob.glob(os.path.join(DATA, 'recorded-*.script')) + glob.glob(os.path.join(DATA, 'sqlite-*.script'))):
         name = os.path.basename(path)[:-len('.script')]
         tables, texts, rows = history(path)
@@ -85,17 +91,21 @@ def main():
             ours = changes_of(model.group([section for text in some for section in model.parse(text)]))
             if ours != changes_of(model.parse(sqlite_group(some))):
                 print('%s %d %d: another group' % (name, first, last))
+                others += 1
             groups += 1
         for batch, kind in ((3, 'grouped-'), (256, 'whole-')):
             script = script_of(tables, texts, batch)
             answers = model.answers(script, batch=batch)
             if not answers.encode().endswith(rows):
                 print('%s%s: other rows at its end' % (kind, name))
+                others += 1
             if len(sys.argv) > 1:
                 for end, what in (('script', script), ('args', b'--batch %d\n' % batch), ('answers', answers.encode())):
                     with open(os.path.join(sys.argv[1], '%s%s.%s' % (kind, name, end)), 'wb') as f:
                         f.write(what)
     print('%d groups compared' % groups)
+    if not groups or others:
+        sys.exit('groups.py: %s' % ('%d differ' % others if groups else 'no recorded history was found'))
 
 
 if __name__ == '__main__':

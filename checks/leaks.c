@@ -148,6 +148,7 @@ int main(void) {
     must(check() == CHANGESET_NONE, "too long a text is taken");
     call();
 
+    must(refusals > 0 && told > 0, "no allocation was seen, so none was refused");
     size_t left = in_use;
     printf("%ld calls of changeset_check, %ld of changeset_canonical, %ld of changeset_combine\n", checks, writes, combines);
     printf("an allocation was refused in %ld, of which %ld told it\n", refusals, told);

@@ -5,15 +5,21 @@
 cd "$(dirname "$0")/.." || exit 2
 : "${RT:=rt}"
 program=crates/rb_run/out/rb_run library=crates/changeset_c/out/libchangeset_c.a
+fail() {
+    echo "leaks.sh: $1" >&2
+    exit "$2"
+}
+
 for made in $program $library; do
-    [ -e $made ] || { echo "no $made: see README.md" >&2; exit 2; }
+    [ -e $made ] || fail "no $made: see README.md" 2
 done
 work=$(mktemp -d) || exit 2
 trap 'rm -rf "$work"' EXIT
-bad=0
+count=0 bad=0
 
 # the toolchain's three functions between the library and malloc
 heap="$(dirname "$($RT doc)")/c/liblibc_c.a"
+[ -e "$heap" ] || fail "no $heap: the command $RT names no toolchain" 2
 gcc -O2 -Wall -Wextra -I include checks/leaks.c checks/count.c $library "$heap" -o "$work/leaks" &&
     gcc -O2 -Wall -Wextra -shared -fPIC checks/count.c -o "$work/count.so" || exit 2
 
@@ -21,11 +27,12 @@ gcc -O2 -Wall -Wextra -I include checks/leaks.c checks/count.c $library "$heap" 
 told() {
     name=$1
     shift
+    count=$((count + 1))
     if "$@"; then
         echo "ok $name"
     else
         echo "FAILED $name"
-        bad=1
+        bad=$((bad + 1))
     fi
 }
 
@@ -68,6 +75,7 @@ measure() {
     echo "$1, $2 rounds, status $?: $(cat "$work/err")"
     left=$(sed -n 's/^in use \([0-9]*\),.*/\1/p' "$work/err")
     most=$(sed -n 's/.*at most \([0-9]*\),.*/\1/p' "$work/err")
+    told 'the program allocates by malloc' test "${most:-0}" -gt 0
 }
 
 # have NUMBER BEGINNING: so many answers begin so.
@@ -93,4 +101,4 @@ left_of_100=$left most_of_100=$most
 measure nothing_kept 1000
 told 'as much in use at the end of both' test -n "$left" -a "$left" = "$left_of_100"
 told 'as much in use at most' test -n "$most" -a "$most" = "$most_of_100"
-exit $bad
+[ $bad -eq 0 ] || fail "$bad of $count checks failed" 1

@@ -699,6 +699,10 @@ def options_of(words):
 
 if __name__ == '__main__':
     if len(sys.argv) < 2:
-        sys.exit(__doc__)
-    with open(sys.argv[1], 'rb') as f:
-        sys.stdout.write(answers(f.read(), **options_of(sys.argv[2:])))
+        sys.exit('usage: python3 checks/model.py NAME.script [--batch N] [--window N] [--timeout N] [--capacity N] [--intake N]')
+    try:
+        with open(sys.argv[1], 'rb') as f:
+            text = f.read()
+    except OSError as why:
+        sys.exit('model.py: %s' % why)
+    sys.stdout.write(answers(text, **options_of(sys.argv[2:])))

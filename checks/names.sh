@@ -10,9 +10,14 @@
 cd "$(dirname "$0")/.." || exit 2
 files=$(find crates \( -path '*/specs/*' -o -path '*/proofs/*' \) -name '*.antt' -not -path '*/out/*')
 types=$(find crates -path '*/src/*' -name '*.rt' -not -path '*/out/*')
-[ -n "$files" ] && [ -n "$types" ] || { echo "names.sh: no files"; exit 2; }
-list=$(
-    # each definition's name and file
+fail() {
+    echo "names.sh: $1" >&2
+    exit "$2"
+}
+
+[ -n "$files" ] && [ -n "$types" ] || fail 'no file of specs/, proofs/ or src/ was found' 2
+# each definition's name and file
+definitions=$(
     awk '
         /^(abbrev |unfoldable |pub )*(record |data )?[^ :({-][^ :({]* ([({].*)?: / && !/^(use|pub use|mod|pub mod|infix|--)/ {
             line = $0
@@ -22,7 +27,22 @@ list=$(
             if (line ~ /: goal\./ || name ~ /◌/) next
             print name, FILENAME
         }' $files |
-        sort -u |
+        sort -u
+)
+# each public type of a crate
+public=$(
+    awk '
+        /^pub (struct|enum|trait) / {
+            name = $3
+            sub(/[<({;:].*/, "", name)
+            split(FILENAME, parts, "/")
+            print name, parts[2]
+        }' $types |
+        sort -u
+)
+[ -n "$definitions" ] && [ -n "$public" ] || fail 'no definition or no public type was found' 2
+list=$(
+    echo "$definitions" |
         awk '
             function layer(file) {
                 return file ~ /(rb_desk\/specs\/Outline|rb_core\/specs\/(Outcome|Told|Moves))\.antt$/
@@ -48,17 +68,9 @@ list=$(
                     print substr(line, 2)
                 }
             }'
-    # each public type of a crate
-    awk '
-        /^pub (struct|enum|trait) / {
-            name = $3
-            sub(/[<({;:].*/, "", name)
-            split(FILENAME, parts, "/")
-            print name, parts[2]
-        }' $types |
-        sort -u |
+    echo "$public" |
         awk '{ n[$1]++; where[$1] = where[$1] " " $2 } END { for (t in n) if (n[t] > 1) print t ":" where[t] }'
 )
 [ -z "$list" ] && exit 0
 echo "$list" | sort
-exit 1
+fail "$(echo "$list" | wc -l) names mean two things" 1

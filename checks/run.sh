@@ -3,10 +3,10 @@
 #   sh checks/run.sh        needs the program as `rt run` leaves it (README.md)
 cd "$(dirname "$0")/.." || exit 2
 program=crates/rb_run/out/rb_run
-[ -x "$program" ] || { echo "no program at $program: see README.md" >&2; exit 2; }
+[ -x "$program" ] || { echo "run.sh: no program at $program: see README.md" >&2; exit 2; }
 work=$(mktemp -d) || exit 2
 trap 'rm -rf "$work"' EXIT
-out=$work/out err=$work/err why='' bad=0
+out=$work/out err=$work/err why='' count=0 bad=0
 
 # run INPUT WORDS..: runs the program to its end, and keeps what it printed and its status, which is 124 where it hangs.
 run() {
@@ -35,11 +35,12 @@ fits() {
 
 # end NAME: prints the check's line.
 end() {
+    count=$((count + 1))
     if [ -z "$why" ]; then
         echo "ok $1"
     else
         echo "FAILED $1: $why"
-        bad=1
+        bad=$((bad + 1))
     fi
     why=''
 }
@@ -133,7 +134,31 @@ for option in 'batch .* 1 to 256 .*16' 'window .* 1 to 64 .*4' 'timeout .* 1 to 
     'capacity .* 1 to 1048576 .*65536' 'intake .* 1 to 4096 .*64'; do
     need "no line of '--$option'" grep -q -e "--$option" "$out"
 done
+need "no word of what 'reset' forgets" grep -q '^ *reset P .* fault$' "$out"
+need "no word of what a fault leaves" grep -q '^fault until `reset P`' "$out"
+need "no word of what a refused turn keeps" grep -q 'keeps the next changeset in hand' "$out"
 end 'script --help'
+
+# What refused and faulty lines leave, as `script --help` says.
+
+# leaves NAME LINES ANSWERS: a script under `--capacity 1 --intake 1`
+leaves() {
+    printf '%b' "table 540201007400\npublisher\n$2" >"$work/lines"
+    run "$work/lines" script --capacity 1 --intake 1
+    need_status 0
+    need_text "$(printf '%b' "ok\npublisher 0\n$3")"
+    end "$1"
+}
+
+leaves 'a fault of feed stays until reset' 'feed 0 02\nfeed 0 54\nend 0\nreset 0\nend 0\n' \
+    'fault 0 BadMarker\nfault 0 BadMarker\nfault 0 BadMarker\nok\nstaged\n'
+leaves 'a refused end keeps the bytes' 'feed 0 5401017500\nend 0\nend 0\nreset 0\nend 0\n' \
+    'ok\nrefused UnknownTable 0\nrefused UnknownTable 0\nok\nstaged\n'
+leaves 'a faulty end keeps the bytes' 'feed 0 54\nend 0\nfeed 0 0201007400\nend 0\n' \
+    'ok\nfault 1 Truncated\nok\nstaged\n'
+leaves 'a refused turn keeps a changeset in hand' \
+    'end 0\nsend 0\nturn\nend 0\nsend 0\nend 0\nsend 0\nturn\nleft\nsend 0\nleft\nturn\nleft\n' \
+    'staged\nsent 1\nplaced 1\nstaged\nsent 2\nstaged\nrefused Full\nrefused SequenceFull\nleft 1\nsent 3\nleft 2\nrefused SequenceFull\nleft 2\n'
 
 # Where reading or writing fails, or too much comes.
 
@@ -257,4 +282,7 @@ need "only $(wc -l <"$out") answers" test "$(wc -l <"$out")" -eq 2000000
 need 'too slow' test $took -lt 10000
 end "10 MB of lines in less than 10 s ($took ms)"
 
-exit $bad
+if [ $bad -gt 0 ]; then
+    echo "run.sh: $bad of $count checks failed" >&2
+    exit 1
+fi

@@ -4,7 +4,7 @@
 #   sh refused/run.sh        needs gcc, and the program as `rt run` leaves it (README.md)
 . "$(dirname "$0")/shim.sh"
 program=crates/rb_run/out/rb_run
-[ -x "$program" ] || { echo "no program at $program: see README.md" >&2; exit 2; }
+[ -x "$program" ] || fail "no program at $program: see README.md" 2
 
 judge() {
     if [ "$1" -eq 0 ] && cmp -s "$work/out" "$work/all"; then
@@ -18,10 +18,9 @@ judge() {
 
 for script in examples/first.script refused/changes.script refused/groups.script; do
     if ! "$program" script <"$script" >"$work/all" || [ ! -s "$work/all" ]; then
-        echo "$script: fails where nothing is refused"
-        bad=$((bad + 1))
+        wrong "$script: fails where nothing is refused"
         continue
     fi
     in_turn "$script" judge "$script" "$program" script
 done
-[ $bad -eq 0 ]
+summary

@@ -1,19 +1,38 @@
 # What run.sh and tests.sh share. It goes to the repository's top and builds the shim.
+name=${0##*/}
+
+# fail WHY STATUS: ends the script
+fail() {
+    echo "$name: $1" >&2
+    exit "$2"
+}
+
 cd "$(dirname "$0")/.." || exit 2
 work=$(mktemp -d) || exit 2
 trap 'rm -rf "$work"' EXIT
-gcc -O2 -shared -fPIC -o "$work/refuse.so" refused/refuse.c -ldl || exit 2
-bad=0
+gcc -O2 -shared -fPIC -o "$work/refuse.so" refused/refuse.c -ldl || fail 'refuse.c is not compiled' 2
+bad=0 all=0 all_told=0
+
+# wrong WHAT: something isn't as it must be
+wrong() {
+    echo "$1"
+    bad=$((bad + 1))
+}
+
+# summary: the script's end
+summary() {
+    [ "$bad" -eq 0 ] || fail "$bad failures" 1
+    [ "$all_told" -gt 0 ] || fail "no refusal was reported, of $all" 1
+}
 
 # in_turn LABEL JUDGE INPUT COMMAND..: runs the command on the input once for each allocation that it asks for, which is
 # refused. JUDGE STATUS says `passed`, `told` or another word of what stands in $work/out and $work/err.
 in_turn() {
     label=$1 judge=$2 input=$3
     shift 3
-    count=$(REFUSE_TELL=1 LD_PRELOAD="$work/refuse.so" "$@" <"$input" 2>&1 >/dev/null | sed -n 's/^asked //p')
+    count=$(REFUSE_TELL=1 LD_PRELOAD="$work/refuse.so" "$@" <"$input" 2>&1 >/dev/null | sed -n 's/^asked //p' | tail -n 1)
     if [ "${count:-0}" -eq 0 ]; then
-        echo "$label: no allocation was seen, so none is refused"
-        bad=$((bad + 1))
+        wrong "$label: no allocation was seen, so none is refused"
         return
     fi
     passed=0 told=0 at=1
@@ -23,12 +42,10 @@ in_turn() {
         case $($judge $status) in
         passed) passed=$((passed + 1)) ;;
         told) told=$((told + 1)) ;;
-        *)
-            echo "$label: allocation $at: status $status: $(cat "$work/err" "$work/out" | head -c 120)"
-            bad=$((bad + 1))
-            ;;
+        *) wrong "$label: allocation $at: status $status: $(cat "$work/err" "$work/out" | head -c 120)" ;;
         esac
         at=$((at + 1))
     done
+    all=$((all + count)) all_told=$((all_told + told))
     echo "$label: $count allocations, passed $passed times, told $told times"
 }

@@ -3,7 +3,7 @@
 # handed up), and never with a failed assertion or a signal: its assertions say that what was refused is as before.
 #   sh refused/tests.sh CRATE..        needs gcc, and the test programs as `rt test` leaves them in crates/CRATE/out
 if [ $# -eq 0 ]; then
-    echo "usage: sh refused/tests.sh CRATE.." >&2
+    echo "tests.sh: usage: sh refused/tests.sh CRATE.." >&2
     exit 2
 fi
 . "$(dirname "$0")/shim.sh"
@@ -18,14 +18,17 @@ judge() {
 
 for crate in "$@"; do
     program=crates/$crate/out/${crate}_tests
-    [ -x "$program" ] || { echo "no program at $program: run rt test in crates/$crate" >&2; exit 2; }
+    [ -x "$program" ] || fail "no program at $program: run rt test in crates/$crate" 2
     tests=$("$program" --list | sed -n 's/: test$//p')
     if [ -z "$tests" ]; then
-        echo "$crate: no tests"
-        bad=$((bad + 1))
+        wrong "$crate: no tests"
     fi
     for test in $tests; do
+        if ! "$program" "$test" </dev/null >"$work/out" 2>&1; then
+            wrong "$crate $test: fails where nothing is refused"
+            continue
+        fi
         in_turn "$crate $test" judge /dev/null "$program" "$test"
     done
 done
-[ $bad -eq 0 ]
+summary

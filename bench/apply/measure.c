@@ -30,11 +30,11 @@ static int by_size(const void *one, const void *other) {
 static double milliseconds(struct timeval time) { return (double)time.tv_sec * 1000 + (double)time.tv_usec / 1000; }
 
 /* what one run of the command used */
-static struct rusage run(const char *file, char **words) {
+static struct rusage run(const char *file, const char *output, char **words) {
     pid_t child = fork();
     must(child >= 0, "fork");
     if (child == 0) {
-        must(freopen(file, "r", stdin) && freopen("/dev/null", "w", stdout), "files");
+        must(freopen(file, "r", stdin) && freopen(output, "w", stdout), "files");
         execv(words[0], words);
         _exit(127);
     }
@@ -44,11 +44,22 @@ static struct rusage run(const char *file, char **words) {
     return usage;
 }
 
+/* A command that answers nothing does nothing, so nothing is measured. */
+static void must_answer(const char *file, char **words) {
+    char name[] = "/tmp/measure-XXXXXX";
+    int output = mkstemp(name);
+    must(output >= 0, "a file for the answers");
+    run(file, name, words);
+    must(unlink(name) == 0 && lseek(output, 0, SEEK_END) > 0, "the command answers nothing");
+    close(output);
+}
+
 void measure(const char *file, char **words) {
     double took[RUNS];
     long most = 0;
+    must_answer(file, words);
     for (int i = 0; i < RUNS; i++) {
-        struct rusage usage = run(file, words);
+        struct rusage usage = run(file, "/dev/null", words);
         took[i] = milliseconds(usage.ru_utime) + milliseconds(usage.ru_stime);
         if (usage.ru_maxrss > most) most = usage.ru_maxrss;
     }

@@ -6,7 +6,8 @@
 void must(int holds, const char *what);
 
 /* Runs a command five times with `file` as its standard input, and prints the median of its processor time, in
- * milliseconds, and the most memory that it had, in kilobytes. */
+ * milliseconds, and the most memory that it had, in kilobytes. A command that fails or answers nothing ends the
+ * program. */
 void measure(const char *file, char **words);
 
 /* SQLite without its memory statistics and its locks, which a program has to ask for before it calls anything else. */

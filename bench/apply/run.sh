@@ -3,6 +3,11 @@
 # the checkout with what was proved there, to which it adds one crate, replay.in. RT names the prover's command where it
 # isn't `rt`.
 set -eu
+fail() {
+    echo "run.sh: $1" >&2
+    exit 1
+}
+
 cd "$(dirname "$0")/../.."
 : "${RT:=rt}"
 
@@ -22,8 +27,13 @@ cp bench/apply/replay.in "$work/crates/replay/src/main.rt"
 ours="$work/crates/replay/out/replay"
 gcc -O2 -Wall -Wextra bench/apply/*.c bench/fields.c -lsqlite3 -o "$work/apply"
 
+[ -x "$ours" ] || fail "no program: the command $RT has not made it"
+
 # row FILE WORDS..: the median of the time, and the peak of memory
 row() { "$work/apply" measure "$@"; }
+
+# changes COMMAND..: how many changes of the input it applies
+changes() { "$@" <"$work/input" | sed -n 's/^\([0-9]*\) changes.*/\1/p'; }
 
 echo "| rows, each inserted, updated and deleted | ours, ms | lean SQLite's, ms | ratio | SQLite's, ms | ratio | ours, MB | SQLite's, MB |"
 echo "|---|--:|--:|--:|--:|--:|--:|--:|"
@@ -31,7 +41,12 @@ for kind in integers texts blobs; do
     for rows in 1000 10000 100000 1000000; do
         [ "$kind$rows" = blobs1000000 ] && continue
         "$work/apply" make "$rows" "$kind" >"$work/input"
-        echo "$rows $kind $(row "$work/input" "$ours" apply) $(row "$work/input" "$work/apply" lean) $(row "$work/input" "$work/apply" sqlite)" |
+        applied="$(changes "$ours" apply)"
+        [ "${applied:-0}" -gt 0 ] && [ "$applied" = "$(changes "$work/apply" sqlite)" ] ||
+            fail "$rows $kind: both don't apply the same number of changes"
+        us="$(row "$work/input" "$ours" apply)" lean="$(row "$work/input" "$work/apply" lean)"
+        sqlite="$(row "$work/input" "$work/apply" sqlite)"
+        echo "$rows $kind $us $lean $sqlite" |
             awk '{ printf "| %d rows, %s | %s | %s | %.1f | %s | %.1f | %d | %d |\n", $1, $2, $3, $5, $5 / $3, $7, $7 / $3, $4 / 1024, $6 / 1024 }'
     done
 done

@@ -3,6 +3,11 @@
 # and prints a table. It works on a copy of the checkout with what was proved there, to which it adds one crate, feed.in. RT names
 # the prover's command where it isn't `rt`. With words, as `wide names`, only those inputs are measured.
 set -eu
+fail() {
+    echo "run.sh: $1" >&2
+    exit 1
+}
+
 cd "$(dirname "$0")/../.."
 : "${RT:=rt}"
 
@@ -20,6 +25,7 @@ mkdir -p "$work/crates/feed/src"
 cp bench/pieces/feed.in "$work/crates/feed/src/main.rt"
 (cd "$work/crates/feed" && "$RT" run -- 0 0 </dev/null >&2)
 ours="$work/crates/feed/out/feed"
+[ -x "$ours" ] || fail "no program: the command $RT has not made it"
 gcc -O2 -Wall -Wextra bench/pieces/pieces.c bench/apply/measure.c bench/fields.c bench/inputs.c -lsqlite3 -o "$work/pieces"
 
 # what is given back stays with the process, as in a process that runs on, for both sides
@@ -37,8 +43,8 @@ took() {
 
 # pass PIECE COMMAND..: the milliseconds of one pass, by as many as take about 400
 pass() {
-    none="$(took 0 "$@")"
-    some="$(took 1 "$@")"
+    none="$(took 0 "$@")" || fail "nothing is measured"
+    some="$(took 1 "$@")" || fail "nothing is measured"
     often="$(echo "$none $some" | awk '{ one = $3 - $1; print (one > 200 ? 1 : one < 0.4 ? 1000 : int(400 / one) + 1) }')"
     [ "$often" = 1 ] || some="$(took "$often" "$@")"
     echo "$none $some $often" | awk '{ printf "%.4f\n", ($3 - $1) / $5 }'
@@ -77,13 +83,17 @@ for kind in ${*:-integers texts blob1 blob16 wide names sections faulty}; do
     len="$(wc -c <"$work/input")"
     # SQLite takes REAL, so that there is nothing to compare with
     [ "$kind" = faulty ] && refused=refused
+    found="$("$ours" 65536 1 $refused <"$work/input")" || fail "$kind: the program fails"
+    [ -n "$found" ] || fail "$kind: the program answers nothing"
+    [ -n "$refused" ] || [ "$found" = "$("$work/pieces" sqlite 65536 1 <"$work/input")" ] ||
+        fail "$kind: SQLite doesn't find $found"
     for piece in 0 65536 1000 100 1; do
-        fed="$(pass "$piece" "$ours")"
+        fed="$(pass "$piece" "$ours")" || exit 1
         [ "$piece" = 0 ] && whole="$fed"
         sqlite= lean=
         if [ -z "$refused" ]; then
-            sqlite="$(pass "$piece" "$work/pieces" sqlite)"
-            lean="$(pass "$piece" "$work/pieces" lean)"
+            sqlite="$(pass "$piece" "$work/pieces" sqlite)" || exit 1
+            lean="$(pass "$piece" "$work/pieces" lean)" || exit 1
         fi
         row "$kind,_$([ "$piece" = 0 ] && echo whole || echo "$piece")" "$len" "$whole" "$fed" $sqlite $lean
     done

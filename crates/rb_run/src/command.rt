@@ -20,7 +20,7 @@ Lines, each with its answer when it is done:
   table HEX           ok                  a table, as a changeset's header spells it
   publisher           publisher P         a new publisher
   feed P HEX          ok                  bytes of a changeset, in pieces of any size
-  reset P             ok                  what was fed is forgotten
+  reset P             ok                  what was fed is forgotten, and so is its fault
   end P               staged              what was fed is a whole changeset
   send P              sent OWN            what is staged goes to the intake
   turn                placed N, or idle   the next changeset gets its number
@@ -39,8 +39,12 @@ Lines, each with its answer when it is done:
   rows S              rows N, N rows      the rows of a subscription
   left                left COUNT          how many changesets are sent and not placed
 
-All `table` lines come first. Numbers are decimal, and bytes hexadecimal, - for none. A line that is
-refused is answered `refused NAME` with its values, or `fault AT KIND`, and changes nothing.
+All `table` lines come first. Numbers are decimal, and bytes hexadecimal, - for none.
+
+A refused line is answered `refused NAME` with its values. It changes nothing, except that a
+refused `turn` keeps the next changeset in hand: the next `turn` tries it first. A faulty `feed` or
+`end` is answered `fault AT KIND`. After a fault of `feed`, each `feed P` and `end P` reports that
+fault until `reset P`. A faulty or refused `end` keeps the bytes of the stream, until `reset P`.
 
 Statuses:
   0  all lines are answered

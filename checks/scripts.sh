@@ -1,0 +1,146 @@
+#!/bin/sh
+# Checks that the scripts of checks/, refused/ and bench/ fail where they would test nothing. It tries each on a copy of
+# the repository with broken parts, such as a program that only exits: it must end with a status other than 0, and say why
+# on standard error. One line for each trial.
+#   sh checks/scripts.sh        needs gcc, python3, git and SQLite's library; no prover and no built program
+cd "$(dirname "$0")/.." || exit 2
+work=$(mktemp -d) || exit 2
+trap 'rm -rf "$work"' EXIT
+count=0 bad=0
+git clone -q . "$work/top" && cp -R checks refused bench examples "$work/top" && cd "$work/top" || exit 2
+program=crates/rb_run/out/rb_run
+export PROGRAM="$program" RT="$work/rt"
+
+# make FILE TEXT: an executable file
+make() {
+    mkdir -p "$(dirname "$1")" && printf '%s\n' "$2" >"$1" && chmod +x "$1"
+}
+
+exits='#!/bin/sh
+cat >/dev/null'
+
+# fails NAME WHY COMMAND..: the command fails within a minute, and a line of standard error has these words
+fails() {
+    name=$1 why=$2
+    shift 2
+    count=$((count + 1))
+    timeout 60 "$@" </dev/null >"$work/out" 2>"$work/err"
+    status=$?
+    if [ $status -ne 0 ] && [ $status -lt 124 ] && grep -q -e "$why" "$work/err"; then
+        echo "ok $name: $(grep -e "$why" "$work/err" | head -n 1)"
+    else
+        echo "FAILED $name: status $status: $(tail -n 1 "$work/err")"
+        bad=$((bad + 1))
+    fi
+}
+
+# a prover's command that only exits
+make "$work/rt" "$exits"
+
+# No operand.
+fails 'edits.sh, no NAME' usage sh checks/edits.sh
+fails 'edits_together.py, no NAME' usage python3 checks/edits_together.py
+fails 'model.py, no script' usage python3 checks/model.py
+fails 'model.py, no such script' 'No such file' python3 checks/model.py none.script
+fails 'tests.sh, no CRATE' usage sh refused/tests.sh
+fails 'groups.py, no such folder' 'no folder' python3 checks/groups.py none
+fails 'replicate/run.sh, one operand' usage sh examples/replicate/run.sh none
+
+# Nothing is built.
+fails 'run.sh, no program' 'no program' sh checks/run.sh
+fails 'leaks.sh, no program' 'no crates' sh checks/leaks.sh
+fails 'header.sh, no library' 'no crates' sh checks/header.sh
+fails 'refused/run.sh, no program' 'no program' sh refused/run.sh
+fails 'tests.sh, no program' 'no program' sh refused/tests.sh cs_tests
+fails 'replicate/run.sh, no program' 'no program' sh examples/replicate/run.sh
+
+# The prover's command only exits.
+fails 'edits.sh, nothing is tried' '0 of ' sh checks/edits.sh rb_run
+fails 'edits_together.py, nothing is tried' '0 of ' python3 checks/edits_together.py rb_run
+# other checkouts may have processes of the prover
+make "$work/bin/pgrep" '#!/bin/sh'
+fails 'gate-times.sh, nothing is run' 'no process' env PATH="$work/bin:$PATH" sh checks/gate-times.sh
+fails 'gate-times.sh, a command that fails' 'ended with status 3' sh checks/gate-times.sh sh -c 'exit 3'
+fails 'bench/run.sh, nothing is made' 'no crates' sh bench/run.sh
+fails 'bench/script.sh, nothing is made' 'script.sh: ' sh bench/script.sh
+fails 'bench/apply/run.sh, nothing is made' 'no program' sh bench/apply/run.sh
+fails 'bench/pieces/run.sh, nothing is made' 'no program' sh bench/pieces/run.sh
+
+# The program only exits.
+make "$program" "$exits"
+fails 'run.sh, a program that only exits' 'checks failed' sh checks/run.sh
+fails 'refused/run.sh, a program that only exits' '3 failures' sh refused/run.sh
+fails 'bench/script.sh, a program that only exits' '0 answers' sh bench/script.sh
+make "$program" '#!/bin/sh'
+fails 'replicate/run.sh, a program that only exits' 'the broker has ended' sh examples/replicate/run.sh
+
+# The program answers, but its malloc isn't intercepted: it has no dynamic library.
+cat >"$work/static.c" <<'END'
+#include <stdio.h>
+int main(int count, char **words) {
+    for (int byte; (byte = getchar()) != EOF;) if (byte == '\n') puts("ok");
+    if (count > 1 && words[1][0] == '-') puts("one: test\ntwo: test");
+    return 0;
+}
+END
+gcc -static "$work/static.c" -o "$program" || exit 2
+fails 'refused/run.sh, malloc is not intercepted' '3 failures' sh refused/run.sh
+grep -q 'no allocation was seen' "$work/out" || { echo 'FAILED: no word of allocations'; bad=$((bad + 1)); }
+
+# Tests: none, malloc isn't intercepted, one that fails by itself.
+tests=crates/cs_tests/out/cs_tests_tests
+make "$tests" "$exits"
+fails 'tests.sh, an empty list of tests' '1 failures' sh refused/tests.sh cs_tests
+gcc -static "$work/static.c" -o "$tests" || exit 2
+fails 'tests.sh, malloc is not intercepted' '2 failures' sh refused/tests.sh cs_tests
+make "$tests" '#!/bin/sh
+[ "$1" = --list ] && echo "one: test" && exit
+echo "assertion failed" >&2
+exit 101'
+fails 'tests.sh, a test that fails' '1 failures' sh refused/tests.sh cs_tests
+cat >"$work/careless.c" <<'END'
+#include <stdio.h>
+#include <stdlib.h>
+int main(int count, char **words) {
+    if (count > 1 && words[1][0] == '-') puts("one: test");
+    return free(malloc(8)), 0;
+}
+END
+gcc "$work/careless.c" -o "$tests" || exit 2
+fails 'tests.sh, a refusal that nothing reports' 'no refusal' sh refused/tests.sh cs_tests
+
+# A library whose exports answer 0, by a toolchain that has an empty library.
+mkdir -p "$work/kit/c" crates/changeset_c/out
+make "$work/rt" "#!/bin/sh
+[ \"\$1\" != doc ] || echo '$work/kit/page'"
+cat >"$work/none.c" <<'END'
+long changeset_check(void) { return 0; }
+long changeset_canonical(void) { return 0; }
+long changeset_combine(void) { return 0; }
+END
+gcc -c "$work/none.c" -o "$work/none.o" && ar cr crates/changeset_c/out/libchangeset_c.a "$work/none.o" || exit 2
+fails 'header.sh, no toolchain' 'no .*liblibc_c' sh checks/header.sh
+fails 'leaks.sh, no toolchain' 'no .*liblibc_c' sh checks/leaks.sh
+ar cr "$work/kit/c/liblibc_c.a"
+fails 'header.sh, exports that answer 0' 'checks failed' sh checks/header.sh
+fails 'leaks.sh, exports that answer 0' 'checks failed' sh checks/leaks.sh
+fails 'bench/run.sh, exports that answer 0' '.' sh bench/run.sh
+fails 'bench/run.sh, no such job' 'no job' sh bench/run.sh ours sing integers
+fails 'bench/run.sh, a profiler that only exits' 'nothing was compared' env UNDER=true sh bench/run.sh
+
+# No files.
+fails 'groups.py, a library without sessions' 'with sessions' env SQLITE=libc.so.6 python3 checks/groups.py
+rm -r crates/rb_cases/data
+fails 'groups.py, no histories' 'no recorded history' python3 checks/groups.py
+rm -r crates/rb_run/on-demand
+fails 'edits.sh, no edits' 'no edit' sh checks/edits.sh none
+fails 'edits_together.py, no edits' 'no edit' python3 checks/edits_together.py none
+find crates -name '*.antt' | while read -r file; do : >"$file"; done
+fails 'names.sh, no definitions' 'no definition' sh checks/names.sh
+rm -r crates
+fails 'names.sh, no files' 'no file' sh checks/names.sh
+
+if [ $bad -gt 0 ]; then
+    echo "scripts.sh: $bad of $count scripts didn't fail as they should" >&2
+    exit 1
+fi
