@@ -76,7 +76,10 @@ fn grouped<'a>(
     for (text, changeset) in changesets.iter().enumerate() {
         match group.add_text(alloc, changeset) {
             Ok(()) => {}
-            Err(GroupError::Schema { section }) => return Err(CombineError::Clash { text, section }),
+            Err(GroupError::Schema { section }) => return Err(CombineError::Clash {
+                text,
+                section,
+            }),
             Err(GroupError::Memory) => return Err(CombineError::Memory),
         }
     }

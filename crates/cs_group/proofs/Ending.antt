@@ -4,20 +4,20 @@ use Rattle.std.proofs.lemmas.List.{append-nil}
 use Rattle.cs_model.specs.declared.value.Field.{Field}
 use Rattle.cs_group.specs.Merge.{news_changed, olds_changed}
 
-olds_before : (flags : List ℕ) (after : List Field) → olds_changed flags [] after ≡ []
+pub olds_before : (flags : List ℕ) (after : List Field) → olds_changed flags [] after ≡ []
 olds_before [] after = refl
 olds_before (flag ∷ flags) after = refl
 
-olds_after : (flags : List ℕ) (before : List Field) → olds_changed flags before [] ≡ []
+pub olds_after : (flags : List ℕ) (before : List Field) → olds_changed flags before [] ≡ []
 olds_after [] before = refl
 olds_after (flag ∷ flags) [] = refl
 olds_after (flag ∷ flags) (old ∷ before) = refl
 
-news_before : (flags : List ℕ) (after : List Field) → news_changed flags [] after ≡ []
+pub news_before : (flags : List ℕ) (after : List Field) → news_changed flags [] after ≡ []
 news_before [] after = refl
 news_before (flag ∷ flags) after = refl
 
-news_after : (flags : List ℕ) (before : List Field) → news_changed flags before [] ≡ []
+pub news_after : (flags : List ℕ) (before : List Field) → news_changed flags before [] ≡ []
 news_after [] before = refl
 news_after (flag ∷ flags) [] = refl
 news_after (flag ∷ flags) (old ∷ before) = refl

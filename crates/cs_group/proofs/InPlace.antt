@@ -13,20 +13,20 @@ use Rattle.cs_group.specs.Merge.{field_or, record_or}
 
 -- ---- a list at one place
 
-pub get_at : {A : Type 0} (front : List A) (first : A) (others : List A)
+pub list_get_at : {A : Type 0} (front : List A) (first : A) (others : List A)
     → slice_get (front ++ first ∷ others) (length front) ≡ Some first
-get_at [] first others = refl
-get_at (x ∷ front) first others = get_at front first others
+list_get_at [] first others = refl
+list_get_at (x ∷ front) first others = list_get_at front first others
 
-pub set_at : {A : Type 0} (front : List A) (first x : A) (others : List A)
+pub list_set_at : {A : Type 0} (front : List A) (first x : A) (others : List A)
     → slice_set (front ++ first ∷ others) (length front) x ≡ front ++ x ∷ others
-set_at [] first x others = refl
-set_at (y ∷ front) first x others = ap (λ ys. y ∷ ys) (set_at front first x others)
+list_set_at [] first x others = refl
+list_set_at (y ∷ front) first x others = ap (λ ys. y ∷ ys) (list_set_at front first x others)
 
 -- ---- some columns are done
 
 -- The fields before a column are done. What becomes of those from the column on makes the whole.
-pub record Done (items : List FieldRef) (column : ℕ) (rest : List Field → List Field) (whole : List Field) (most : ℕ)
+pub record ColumnsDone (items : List FieldRef) (column : ℕ) (rest : List Field → List Field) (whole : List Field) (most : ℕ)
     : Type 0 where
   pub front : List FieldRef
   pub back : List FieldRef
@@ -36,12 +36,12 @@ pub record Done (items : List FieldRef) (column : ℕ) (rest : List Field → Li
   pub made : fields_seen front ++ rest (fields_seen back) ≡ whole
 
 pub none_done : (items : List FieldRef) (rest : List Field → List Field) (whole : List Field) (most : ℕ)
-    → rest (fields_seen items) ≡ whole → length items ≡ most → Done items 0 rest whole most
+    → rest (fields_seen items) ≡ whole → length items ≡ most → ColumnsDone items 0 rest whole most
 none_done items rest whole most is size =
     record { front = []; back = items; parts = refl; at = refl; size = size; made = is }
 
 -- the field of the column
-record First (items : List FieldRef) (column : ℕ) (rest : List Field → List Field) (whole : List Field) (most : ℕ)
+record ColumnFirst (items : List FieldRef) (column : ℕ) (rest : List Field → List Field) (whole : List Field) (most : ℕ)
     : Type 0 where
   front : List FieldRef
   first : FieldRef
@@ -51,12 +51,12 @@ record First (items : List FieldRef) (column : ℕ) (rest : List Field → List 
   size : length items ≡ most
   made : fields_seen front ++ rest (field_seen first ∷ fields_seen others) ≡ whole
 
-first_of : (items : List FieldRef) (column : ℕ) (rest : List Field → List Field) (whole : List Field) (most : ℕ)
-    → Done items column rest whole most → column < most → First items column rest whole most
-first_of items column rest whole most d some = by d.back d.parts d.made
+column_first : (items : List FieldRef) (column : ℕ) (rest : List Field → List Field) (whole : List Field) (most : ℕ)
+    → ColumnsDone items column rest whole most → column < most → ColumnFirst items column rest whole most
+column_first items column rest whole most d some = by d.back d.parts d.made
   where
     by : (back : List FieldRef) → items ≡ d.front ++ back → fields_seen d.front ++ rest (fields_seen back) ≡ whole
-        → First items column rest whole most
+        → ColumnFirst items column rest whole most
     by [] parts made = absurd (omega (arith, some, d.at, d.size, ap length parts, length-append d.front []))
     by (first ∷ others) parts made = record {
       front = d.front;
@@ -78,16 +78,16 @@ one_done front x rest later first others whole is made =
 
 -- the column's field is replaced
 pub set_done : (items : List FieldRef) (column : ℕ) (rest later : List Field → List Field) (whole : List Field)
-    (most : ℕ) (x : FieldRef) → Done items column rest whole most → column < most
+    (most : ℕ) (x : FieldRef) → ColumnsDone items column rest whole most → column < most
     → ((first : FieldRef) (others : List Field) → slice_get items column ≡ Some first
     → rest (field_seen first ∷ others) ≡ field_seen x ∷ later others)
-    → Done (slice_set items column x) (column + 1) later whole most
+    → ColumnsDone (slice_set items column x) (column + 1) later whole most
 set_done items column rest later whole most x d some turns =
-    let f = first_of items column rest whole most d some in
+    let f = column_first items column rest whole most d some in
     let there : slice_get items column ≡ Some f.first =
-    (λ i. slice_get (f.parts i) (sym f.at i)) ∙ get_at f.front f.first f.others in
+    (λ i. slice_get (f.parts i) (sym f.at i)) ∙ list_get_at f.front f.first f.others in
     let after : slice_set items column x ≡ f.front ++ x ∷ f.others =
-    (λ i. slice_set (f.parts i) (sym f.at i) x) ∙ set_at f.front f.first x f.others in
+    (λ i. slice_set (f.parts i) (sym f.at i) x) ∙ list_set_at f.front f.first x f.others in
     record {
       front = f.front ++ x ∷ [];
       back = f.others;
@@ -107,14 +107,14 @@ set_done items column rest later whole most x d some turns =
 
 -- the column's field stays
 pub keep_done : (items : List FieldRef) (column : ℕ) (rest later : List Field → List Field) (whole : List Field)
-    (most : ℕ) → Done items column rest whole most → column < most
+    (most : ℕ) → ColumnsDone items column rest whole most → column < most
     → ((first : FieldRef) (others : List Field) → slice_get items column ≡ Some first
     → rest (field_seen first ∷ others) ≡ field_seen first ∷ later others)
-    → Done items (column + 1) later whole most
+    → ColumnsDone items (column + 1) later whole most
 keep_done items column rest later whole most d some turns =
-    let f = first_of items column rest whole most d some in
+    let f = column_first items column rest whole most d some in
     let there : slice_get items column ≡ Some f.first =
-    (λ i. slice_get (f.parts i) (sym f.at i)) ∙ get_at f.front f.first f.others in
+    (λ i. slice_get (f.parts i) (sym f.at i)) ∙ list_get_at f.front f.first f.others in
     record {
       front = f.front ++ f.first ∷ [];
       back = f.others;
@@ -127,7 +127,7 @@ keep_done items column rest later whole most d some turns =
 
 -- nothing becomes of the columns that are left
 pub cut_done : (items : List FieldRef) (column : ℕ) (rest : List Field → List Field) (whole : List Field) (most : ℕ)
-    → Done items column rest whole most → ((back : List Field) → rest back ≡ [])
+    → ColumnsDone items column rest whole most → ((back : List Field) → rest back ≡ [])
     → fields_seen (take column items) ≡ whole
 cut_done items column rest whole most d none =
     ap fields_seen ((λ i. take (sym d.at i) (d.parts i)) ∙ take-append_seam d.front d.back)
@@ -135,9 +135,9 @@ cut_done items column rest whole most d none =
     ∙ d.made
 
 -- no column is left
-pub all_done : (items : List FieldRef) (column : ℕ) (rest : List Field → List Field) (whole : List Field) (most : ℕ)
-    → Done items column rest whole most → most ≤ column → rest [] ≡ [] → fields_seen items ≡ whole
-all_done items column rest whole most d over none = by d.back d.parts d.made
+pub columns_all_done : (items : List FieldRef) (column : ℕ) (rest : List Field → List Field) (whole : List Field) (most : ℕ)
+    → ColumnsDone items column rest whole most → most ≤ column → rest [] ≡ [] → fields_seen items ≡ whole
+columns_all_done items column rest whole most d over none = by d.back d.parts d.made
   where
     by : (back : List FieldRef) → items ≡ d.front ++ back → fields_seen d.front ++ rest (fields_seen back) ≡ whole
         → fields_seen items ≡ whole
@@ -157,6 +157,6 @@ pub or_undefined : (field other : Field) → is_defined field ≡ false → fiel
 or_undefined Undefined other e = refl
 or_undefined (Is value) other e = absurd cc
 
-pub or_none : (fields : List Field) → record_or fields [] ≡ []
-or_none [] = refl
-or_none (field ∷ fields) = refl
+pub record_or_none : (fields : List Field) → record_or fields [] ≡ []
+record_or_none [] = refl
+record_or_none (field ∷ fields) = refl

@@ -8,7 +8,8 @@ use Rattle.cs_model.specs.declared.value.Field.{Field}
 use Rattle.cs_model.specs.declared.field_ref.FieldRef.{FieldRef}
 use Rattle.cs_model.specs.Seen.{field_seen, fields_seen}
 use Rattle.cs_group.specs.Merge.{new_if_changed, news_changed, old_if_changed, olds_changed}
-use Rattle.cs_group.proofs.InPlace.{get_at, set_at}
+use Rattle.cs_group.proofs.Ending.{news_after, news_before, olds_after, olds_before}
+use Rattle.cs_group.proofs.InPlace.{list_get_at, list_set_at}
 
 -- the columns before this one are done in both records
 pub record BothDone (before after : List FieldRef) (column : ℕ) (flags : List ℕ) (olds news : List Field) : Type 0 where
@@ -52,7 +53,7 @@ here_is items front [] column x parts at is =
     absurd (none-some x (sym (past_front front) ∙ (λ i. slice_get (sym parts i) (at i)) ∙ is))
 here_is items front (first ∷ others) column x parts at is =
     let both : Some first ≡ Some x =
-    sym (get_at front first others) ∙ (λ i. slice_get (sym parts i) (at i)) ∙ is in
+    sym (list_get_at front first others) ∙ (λ i. slice_get (sym parts i) (at i)) ∙ is in
     let same : first ≡ x = cc in
     (others, ap (λ f. f ∷ others) same)
 
@@ -61,21 +62,21 @@ none_here : {A : Type 0} (items front back : List A) (column : ℕ) → items �
     → length front ≡ column → slice_get items column ≡ None → back ≡ []
 none_here items front [] column parts at is = refl
 none_here items front (first ∷ others) column parts at is =
-    absurd (none-some first (sym is ∙ (λ i. slice_get (parts i) (sym at i)) ∙ get_at front first others))
+    absurd (none-some first (sym is ∙ (λ i. slice_get (parts i) (sym at i)) ∙ list_get_at front first others))
 
 -- ---- one column more
 
-one_more : (front : List FieldRef) (x : FieldRef) (first : Field) (rest whole : List Field) → first ≡ field_seen x
+column_more : (front : List FieldRef) (x : FieldRef) (first : Field) (rest whole : List Field) → first ≡ field_seen x
     → fields_seen front ++ first ∷ rest ≡ whole → fields_seen (front ++ x ∷ []) ++ rest ≡ whole
-one_more front x first rest whole is made =
+column_more front x first rest whole is made =
     ap (λ fs. fs ++ rest) (map-append field_seen front (x ∷ []))
     ∙ append_assoc (fields_seen front) (field_seen x ∷ []) rest
     ∙ ap (λ f. fields_seen front ++ f ∷ rest) (sym is) ∙ made
 
-replaced : {A : Type 0} (items front others : List A) (column : ℕ) (first x : A) → items ≡ front ++ first ∷ others
+column_replaced : {A : Type 0} (items front others : List A) (column : ℕ) (first x : A) → items ≡ front ++ first ∷ others
     → length front ≡ column → slice_set items column x ≡ (front ++ x ∷ []) ++ others
-replaced items front others column first x parts at =
-    (λ i. slice_set (parts i) (sym at i) x) ∙ set_at front first x others ∙ sym (append_assoc front (x ∷ []) others)
+column_replaced items front others column first x parts at =
+    (λ i. slice_set (parts i) (sym at i) x) ∙ list_set_at front first x others ∙ sym (append_assoc front (x ∷ []) others)
 
 pub both_more : (before after : List FieldRef) (column flag : ℕ) (flags : List ℕ) (olds news : List Field)
     (old new x y : FieldRef) → BothDone before after column (flag ∷ flags) olds news
@@ -93,39 +94,21 @@ both_more before after column flag flags olds news old new x y d is_old is_new i
       new_front = d.new_front ++ y ∷ [];
       old_back = o.0;
       new_back = n.0;
-      old_parts = replaced before d.old_front o.0 column old x old_parts d.old_at;
-      new_parts = replaced after d.new_front n.0 column new y new_parts d.new_at;
+      old_parts = column_replaced before d.old_front o.0 column old x old_parts d.old_at;
+      new_parts = column_replaced after d.new_front n.0 column new y new_parts d.new_at;
       old_at = omega (arith, length-append d.old_front (x ∷ []), d.old_at);
       new_at = omega (arith, length-append d.new_front (y ∷ []), d.new_at);
-      old_made = one_more d.old_front x (old_if_changed flag (field_seen old) (field_seen new))
+      old_made = column_more d.old_front x (old_if_changed flag (field_seen old) (field_seen new))
           (olds_changed flags (fields_seen o.0) (fields_seen n.0)) olds (sym is_x)
           ((λ i. fields_seen d.old_front
           ++ olds_changed (flag ∷ flags) (fields_seen (sym o.1 i)) (fields_seen (sym n.1 i))) ∙ d.old_made);
-      new_made = one_more d.new_front y (new_if_changed flag (field_seen old) (field_seen new))
+      new_made = column_more d.new_front y (new_if_changed flag (field_seen old) (field_seen new))
           (news_changed flags (fields_seen o.0) (fields_seen n.0)) news (sym is_y)
           ((λ i. fields_seen d.new_front
           ++ news_changed (flag ∷ flags) (fields_seen (sym o.1 i)) (fields_seen (sym n.1 i))) ∙ d.new_made);
     }
 
 -- ---- the end
-
-olds_before : (flags : List ℕ) (after : List Field) → olds_changed flags [] after ≡ []
-olds_before [] after = refl
-olds_before (flag ∷ flags) after = refl
-
-olds_after : (flags : List ℕ) (before : List Field) → olds_changed flags before [] ≡ []
-olds_after [] before = refl
-olds_after (flag ∷ flags) [] = refl
-olds_after (flag ∷ flags) (old ∷ before) = refl
-
-news_before : (flags : List ℕ) (after : List Field) → news_changed flags [] after ≡ []
-news_before [] after = refl
-news_before (flag ∷ flags) after = refl
-
-news_after : (flags : List ℕ) (before : List Field) → news_changed flags before [] ≡ []
-news_after [] before = refl
-news_after (flag ∷ flags) [] = refl
-news_after (flag ∷ flags) (old ∷ before) = refl
 
 cut_is : (items front back : List FieldRef) (column : ℕ) (rest whole : List Field) → items ≡ front ++ back
     → length front ≡ column → rest ≡ [] → fields_seen front ++ rest ≡ whole → fields_seen (take column items) ≡ whole
@@ -134,13 +117,13 @@ cut_is items front back column rest whole parts at none made =
     ∙ sym (append-nil (fields_seen front)) ∙ ap (λ fs. fields_seen front ++ fs) (sym none) ∙ made
 
 -- both records are cut where nothing becomes of the columns that are left
-pub record IsCut (before after : List FieldRef) (column : ℕ) (olds news : List Field) : Type 0 where
+pub record AreCutBoth (before after : List FieldRef) (column : ℕ) (olds news : List Field) : Type 0 where
   pub old_is : fields_seen (take column before) ≡ olds
   pub new_is : fields_seen (take column after) ≡ news
 
 pub cut_at_old : (before after : List FieldRef) (column : ℕ) (flags : List ℕ) (olds news : List Field)
     → BothDone before after column flags olds news → slice_get before column ≡ None
-    → IsCut before after column olds news
+    → AreCutBoth before after column olds news
 cut_at_old before after column flags olds news d none =
     let over = none_here before d.old_front d.old_back column d.old_parts d.old_at none in
     let after_back = fields_seen d.new_back in
@@ -153,7 +136,7 @@ cut_at_old before after column flags olds news d none =
 
 pub cut_at_new : (before after : List FieldRef) (column : ℕ) (flags : List ℕ) (olds news : List Field)
     → BothDone before after column flags olds news → slice_get after column ≡ None
-    → IsCut before after column olds news
+    → AreCutBoth before after column olds news
 cut_at_new before after column flags olds news d none =
     let over = none_here after d.new_front d.new_back column d.new_parts d.new_at none in
     let before_back = fields_seen d.old_back in
@@ -164,9 +147,9 @@ cut_at_new before after column flags olds news d none =
           (ap (λ a. news_changed flags before_back (fields_seen a)) over ∙ news_after flags before_back) d.new_made;
     }
 
-pub cut_at_end : (before after : List FieldRef) (column : ℕ) (flags : List ℕ) (olds news : List Field)
-    → BothDone before after column flags olds news → flags ≡ [] → IsCut before after column olds news
-cut_at_end before after column flags olds news d none =
+pub both_cut_at_end : (before after : List FieldRef) (column : ℕ) (flags : List ℕ) (olds news : List Field)
+    → BothDone before after column flags olds news → flags ≡ [] → AreCutBoth before after column olds news
+both_cut_at_end before after column flags olds news d none =
     let old_back = fields_seen d.old_back in
     let new_back = fields_seen d.new_back in
     record {

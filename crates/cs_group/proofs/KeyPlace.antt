@@ -8,29 +8,29 @@ use Rattle.cs_model.specs.KeyBytes.{key_fields}
 
 -- ---- a list from one place on
 
-pub record Next {A : Type 0} (xs : List A) (i : ℕ) : Type 0 where
+pub record FromPlace {A : Type 0} (xs : List A) (i : ℕ) : Type 0 where
   pub first : A
   pub parts : drop i xs ≡ first ∷ drop (i + 1) xs
   pub front : take (i + 1) xs ≡ take i xs ++ first ∷ []
 
-pub record Over {A : Type 0} (xs : List A) (i : ℕ) : Type 0 where
+pub record PastPlace {A : Type 0} (xs : List A) (i : ℕ) : Type 0 where
   pub here : drop i xs ≡ []
   pub after : drop (i + 1) xs ≡ []
   pub front : take (i + 1) xs ≡ take i xs
 
-none_dropped : {A : Type 0} (i : ℕ) → drop {A = A} i [] ≡ []
-none_dropped zero = refl
-none_dropped (suc i) = refl
+drop_of_none : {A : Type 0} (i : ℕ) → drop {A = A} i [] ≡ []
+drop_of_none zero = refl
+drop_of_none (suc i) = refl
 
-none_taken : {A : Type 0} (i : ℕ) → take {A = A} i [] ≡ []
-none_taken zero = refl
-none_taken (suc i) = refl
+take_of_none : {A : Type 0} (i : ℕ) → take {A = A} i [] ≡ []
+take_of_none zero = refl
+take_of_none (suc i) = refl
 
-pub next_or_over : {A : Type 0} (xs : List A) (i : ℕ) → Next xs i ⊎ Over xs i
+pub next_or_over : {A : Type 0} (xs : List A) (i : ℕ) → FromPlace xs i ⊎ PastPlace xs i
 next_or_over [] i = inr (record {
-  here = none_dropped i;
-  after = none_dropped (i + 1);
-  front = none_taken (i + 1) ∙ sym (none_taken i);
+  here = drop_of_none i;
+  after = drop_of_none (i + 1);
+  front = take_of_none (i + 1) ∙ sym (take_of_none i);
 })
 next_or_over (x ∷ xs) zero = inl (record { first = x; parts = refl; front = refl })
 next_or_over (x ∷ xs) (suc i) =
@@ -50,29 +50,29 @@ next_or_over (x ∷ xs) (suc i) =
 
 -- ---- one column more
 
-no_fields : (flags : List ℕ) → key_fields flags [] ≡ []
-no_fields [] = refl
-no_fields (flag ∷ flags) = refl
+no_key_fields : (flags : List ℕ) → key_fields flags [] ≡ []
+no_key_fields [] = refl
+no_key_fields (flag ∷ flags) = refl
 
 -- a column outside the key
-pub outside : (flags : List ℕ) (i flag : ℕ) → drop i flags ≡ flag ∷ drop (i + 1) flags → flag ≡ 0
+pub column_outside : (flags : List ℕ) (i flag : ℕ) → drop i flags ≡ flag ∷ drop (i + 1) flags → flag ≡ 0
     → (fields : List Field) → key_fields (drop i flags) (drop i fields)
     ≡ key_fields (drop (i + 1) flags) (drop (i + 1) fields)
-outside flags i flag rest is fields =
+column_outside flags i flag rest is fields =
     elim (next_or_over fields i) [
       | inl n ↦
           (λ k. key_fields (rest k) (n.parts k))
           ∙ ap (λ b. cond b (key_fields (drop (i + 1) flags) (drop (i + 1) fields))
           (n.first ∷ key_fields (drop (i + 1) flags) (drop (i + 1) fields))) (eq-eqb flag 0 is)
-      | inr o ↦ ap (key_fields (drop i flags)) o.here ∙ no_fields (drop i flags)
-          ∙ sym (ap (key_fields (drop (i + 1) flags)) o.after ∙ no_fields (drop (i + 1) flags))
+      | inr o ↦ ap (key_fields (drop i flags)) o.here ∙ no_key_fields (drop i flags)
+          ∙ sym (ap (key_fields (drop (i + 1) flags)) o.after ∙ no_key_fields (drop (i + 1) flags))
     ]
 
 -- a column of the key
-pub inside : (flags : List ℕ) (i flag : ℕ) → drop i flags ≡ flag ∷ drop (i + 1) flags → (flag ≡ 0 → ⊥)
+pub column_inside : (flags : List ℕ) (i flag : ℕ) → drop i flags ≡ flag ∷ drop (i + 1) flags → (flag ≡ 0 → ⊥)
     → (fields : List Field) → take i fields ++ key_fields (drop i flags) (drop i fields)
     ≡ take (i + 1) fields ++ key_fields (drop (i + 1) flags) (drop (i + 1) fields)
-inside flags i flag rest not_zero fields =
+column_inside flags i flag rest not_zero fields =
     elim (next_or_over fields i) [
       | inl n ↦
           let others = key_fields (drop (i + 1) flags) (drop (i + 1) fields) in
@@ -81,19 +81,19 @@ inside flags i flag rest not_zero fields =
           ∙ sym (append_assoc (take i fields) (n.first ∷ []) others)
           ∙ ap (λ fs. fs ++ others) (sym n.front)
       | inr o ↦
-          (λ k. sym o.front k ++ (ap (key_fields (drop i flags)) o.here ∙ no_fields (drop i flags)
-          ∙ sym (ap (key_fields (drop (i + 1) flags)) o.after ∙ no_fields (drop (i + 1) flags))) k)
+          (λ k. sym o.front k ++ (ap (key_fields (drop i flags)) o.here ∙ no_key_fields (drop i flags)
+          ∙ sym (ap (key_fields (drop (i + 1) flags)) o.after ∙ no_key_fields (drop (i + 1) flags))) k)
     ]
 
 -- ---- all columns
 
-pub stands : (flags rest last : List ℕ) (first count more : ℕ)
+pub key_is_there : (flags rest last : List ℕ) (first count more : ℕ)
     → ((fields : List Field) → key_fields flags fields ≡ key_fields rest (drop first fields))
     → ((fields : List Field) → key_fields rest fields ≡ take count fields ++ key_fields last (drop count fields))
     → ((fields : List Field) → key_fields last fields ≡ key_fields (drop more last) (drop more fields))
     → length last ≤ more
     → (fields : List Field) → key_fields flags fields ≡ take count (drop first fields)
-stands flags rest last first count more outside_first key outside_last over fields =
+key_is_there flags rest last first count more outside_first key outside_last over fields =
     let mid = drop first fields in
     let end = drop count mid in
     let none : key_fields last end ≡ [] =

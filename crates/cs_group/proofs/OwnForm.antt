@@ -22,23 +22,23 @@ both_false : (a b : Bool) → (a || b) ≡ false → (a ≡ false) × (b ≡ fal
 both_false true b e = absurd cc
 both_false false b e = (refl, e)
 
-either_false : (a b : Bool) → a ≡ false → b ≡ false → (a || b) ≡ false
-either_false true b p q = absurd cc
-either_false false b p q = q
+shape_either_false : (a b : Bool) → a ≡ false → b ≡ false → (a || b) ≡ false
+shape_either_false true b p q = absurd cc
+shape_either_false false b p q = q
 
 -- what is apart from all of `big` is apart from all of `small`
-abbrev Fewer : List Shape → List Shape → Type 0
-Fewer small big = (shape : Shape) → has_shape big shape ≡ false → has_shape small shape ≡ false
+abbrev FewerShapes : List Shape → List Shape → Type 0
+FewerShapes small big = (shape : Shape) → has_shape big shape ≡ false → has_shape small shape ≡ false
 
-fewer_on : (small big : List Shape) (one : Shape) → Fewer small big → Fewer (one ∷ small) (one ∷ big)
+fewer_on : (small big : List Shape) (one : Shape) → FewerShapes small big → FewerShapes (one ∷ small) (one ∷ big)
 fewer_on small big one fewer shape e =
     let both = both_false (same_shape one shape) (has_shape big shape) e in
-    either_false (same_shape one shape) (has_shape small shape) both.0 (fewer shape both.1)
+    shape_either_false (same_shape one shape) (has_shape small shape) both.0 (fewer shape both.1)
 
-one_fewer : (earlier : List Shape) (one : Shape) → Fewer earlier (one ∷ earlier)
+one_fewer : (earlier : List Shape) (one : Shape) → FewerShapes earlier (one ∷ earlier)
 one_fewer earlier one shape e = (both_false (same_shape one shape) (has_shape earlier shape) e).1
 
-new_to_fewer : {A : Type 0} (shape_of : A → Shape) (small big : List Shape) (xs : List A) → Fewer small big
+new_to_fewer : {A : Type 0} (shape_of : A → Shape) (small big : List Shape) (xs : List A) → FewerShapes small big
     → AreNew shape_of big xs → AreNew shape_of small xs
 new_to_fewer shape_of small big [] fewer new = tt
 new_to_fewer shape_of small big (x ∷ xs) fewer new = (
@@ -66,10 +66,10 @@ new_tables : (earlier : List Shape) (groups : List Group) → AreNew (λ (g : Gr
 new_tables earlier [] new = tt
 new_tables earlier (group ∷ groups) new = (new.0, new_tables (group.0 ∷ earlier) groups new.1)
 
-new_left : (earlier : List Shape) (xs : List Section) → AreNew (λ (s : Section). s.shape) earlier xs
+new_shapes_left : (earlier : List Shape) (xs : List Section) → AreNew (λ (s : Section). s.shape) earlier xs
     → AreNew (λ (s : Section). s.shape) earlier (filter has_changes xs)
-new_left earlier [] new = tt
-new_left earlier (x ∷ xs) new = by (has_changes x) (new_left (x.shape ∷ earlier) xs new.1)
+new_shapes_left earlier [] new = tt
+new_shapes_left earlier (x ∷ xs) new = by (has_changes x) (new_shapes_left (x.shape ∷ earlier) xs new.1)
   where
     by : (b : Bool) → AreNew (λ (s : Section). s.shape) (x.shape ∷ earlier) (filter has_changes xs)
         → AreNew (λ (s : Section). s.shape) earlier (cond b (x ∷ filter has_changes xs) (filter has_changes xs))
@@ -88,11 +88,11 @@ none_with shape earlier (x ∷ xs) apart new =
     ∙ none_with shape (x.shape ∷ earlier) xs
     (λ other e. apart other (one_fewer earlier x.shape other e)) new.1
 
-abbrev alone : Section → Group
-alone s = (s.shape, s ∷ [])
+abbrev section_alone : Section → Group
+section_alone s = (s.shape, s ∷ [])
 
 each_alone : (earlier : List Shape) (xs : List Section) → AreNew (λ (s : Section). s.shape) earlier xs
-    → by_shape earlier xs ≡ map alone xs
+    → by_shape earlier xs ≡ map section_alone xs
 unfolding by_shape
 each_alone earlier [] new = refl
 each_alone earlier (x ∷ xs) new =
@@ -104,7 +104,7 @@ each_alone earlier (x ∷ xs) new =
     )
     ∷ each_alone (x.shape ∷ earlier) xs new.1 i)
 
-joined_again : (xs : List Section) → map joined_section (map alone xs) ≡ xs
+joined_again : (xs : List Section) → map joined_section (map section_alone xs) ≡ xs
 joined_again [] = refl
 joined_again (x ∷ xs) = (λ i. record { shape = x.shape; changes = append-nil x.changes i } ∷ joined_again xs i)
 
@@ -124,7 +124,7 @@ filtered_again (x ∷ xs) = by (has_changes x) refl (filtered_again xs)
 pub group_again : (sections : List Section) → canon (group_of sections) ≡ group_of sections
 group_again sections =
     let tables = tables_combined sections in
-    let new = new_left [] tables (new_tables [] (by_shape [] sections) (new_groups [] sections)) in
+    let new = new_shapes_left [] tables (new_tables [] (by_shape [] sections) (new_groups [] sections)) in
     ap (λ groups. filter has_changes (map joined_section groups)) (each_alone [] (filter has_changes tables) new)
     ∙ ap (filter has_changes) (joined_again (filter has_changes tables))
     ∙ filtered_again tables
@@ -141,6 +141,6 @@ tables_text (x ∷ xs) = by (has_changes x) (tables_text xs)
     by true rest = ap (λ w. section_text x ++ w) rest
     by false rest = rest
 
-pub group_text : (sections : List Section) → flat_map table_text (tables_combined sections)
+pub group_text_is : (sections : List Section) → flat_map table_text (tables_combined sections)
     ≡ text_of (group_of sections)
-group_text sections = tables_text (tables_combined sections) ∙ ap sections_text (sym (group_again sections))
+group_text_is sections = tables_text (tables_combined sections) ∙ ap sections_text (sym (group_again sections))

@@ -16,10 +16,10 @@ from_slot slots read i item same lt is =
     ap (drop i) (sym same) ∙ drop_more read i item lt ∙ ap (λ x. x ∷ drop (i + 1) read) (sym is)
     ∙ ap (λ r. item ∷ drop (i + 1) r) same
 
-pub some_bytes : (slots rest : List (Option Slot)) (item : Option Slot) (slot : Slot) → slots ≡ item ∷ rest
+pub slot_bytes_some : (slots rest : List (Option Slot)) (item : Option Slot) (slot : Slot) → slots ≡ item ∷ rest
     → item ≡ Some slot → slots_bytes slots ≡ change_bytes (slot_seen slot) ++ slots_bytes rest
-some_bytes slots rest item slot is some = ap slots_bytes (is ∙ ap (λ x. x ∷ rest) some)
+slot_bytes_some slots rest item slot is some = ap slots_bytes (is ∙ ap (λ x. x ∷ rest) some)
 
-pub none_bytes : (slots rest : List (Option Slot)) (item : Option Slot) → slots ≡ item ∷ rest → item ≡ None
+pub slot_bytes_none : (slots rest : List (Option Slot)) (item : Option Slot) → slots ≡ item ∷ rest → item ≡ None
     → slots_bytes slots ≡ slots_bytes rest
-none_bytes slots rest item is none = ap slots_bytes (is ∙ ap (λ x. x ∷ rest) none)
+slot_bytes_none slots rest item is none = ap slots_bytes (is ∙ ap (λ x. x ∷ rest) none)

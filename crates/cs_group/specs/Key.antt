@@ -12,9 +12,9 @@ IsKeyAt flags first count = (fields : List Field) → key_fields flags fields
     ≡ take count (drop first fields)
 
 -- the key columns of a table stand there; nothing is said of `None`
-abbrev pub Stands : List ℕ → Option KeyColumns → Type 0
-Stands flags None = Unit {0}
-Stands flags (Some at) = IsKeyAt flags at.first at.count
+abbrev pub KeyStands : List ℕ → Option KeyColumns → Type 0
+KeyStands flags None = Unit {0}
+KeyStands flags (Some at) = IsKeyAt flags at.first at.count
 
 -- the bytes of a key, where they stand or copied
 abbrev pub bytes_of_key : KeyBytes → List ℕ

@@ -9,7 +9,7 @@ ghost use Rattle.cs_model.specs.KeyBytes.{key_fields};
 ghost use Rattle.cs_model.specs.Schema.{same_bytes};
 ghost use Rattle.cs_model.specs.Seen.{change_seen};
 ghost use Rattle.cs_group.specs.Group.{changed_row};
-ghost use Rattle.cs_group.specs.Key.{IsKeyAt, Stands, bytes_of_key};
+ghost use Rattle.cs_group.specs.Key.{IsKeyAt, KeyStands, bytes_of_key};
 
 use cs_model::{ChangeRef, Octets, Op, key_of_row};
 use std::alloc::{AllocError, Global};
@@ -26,7 +26,7 @@ pub(crate) struct KeyColumns {
 
 /// The key columns of a table with these key flags, if they stand next to each other.
 pub(crate) fn key_columns(flags: &[u8]) -> Option<KeyColumns>
-    ensures { Stands flags.now result }
+    ensures { KeyStands flags.now result }
 {
     let first = zeros(flags);
     let (_, rest) = flags.split_at(first);
@@ -103,7 +103,7 @@ impl<'a> Key<'a> {
         columns: Option<KeyColumns>,
         change: &ChangeRef<'a>,
     ) -> Result<Key<'a>, AllocError>
-        requires { Stands flags.now columns }
+        requires { KeyStands flags.now columns }
         ensures { IfOk result (λ key. key ≡ changed_row flags.now (change_seen change.now)) }
     {
         let bytes = match columns {

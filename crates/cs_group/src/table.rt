@@ -5,7 +5,7 @@ ghost use Rattle.std.specs.List.{AllByRecursion};
 ghost use Rattle.std.specs.Option.{option_map};
 ghost use Rattle.cs_model.specs.declared.change.Change.{Change};
 ghost use Rattle.cs_model.specs.Seen.{change_seen};
-ghost use Rattle.cs_group.specs.Key.{Stands};
+ghost use Rattle.cs_group.specs.Key.{KeyStands};
 ghost use Rattle.cs_group.specs.Merge.{only_change, two_changes};
 ghost use Rattle.cs_group.specs.Slots.{slot_seen};
 ghost use Rattle.cs_group.specs.Table.{HoldSlots, IsOfTable, begun_last, put_at};
@@ -62,7 +62,8 @@ fn merge_at<'a>(
     slots: &mut Vec<Option<Slot<'a>>>,
     new: &ChangeRef<'a>,
 ) -> Result<(), AllocError>
-    ensures { OnOk result ((there : Change) → there_at (slots_seen slots.old.items) place ≡ Some there
+    ensures { OnOk result ((there : Change)
+        → there_at (slots_seen slots.old.items) place ≡ Some there
         → slots_seen slots.new.items
         ≡ put_at place (two_changes flags.now there (change_seen new.now))
         (slots_seen slots.old.items)) }
@@ -117,7 +118,7 @@ impl<'s, 'a> Table<'s, 'a> {
     /// A table with these key flags, without changes.
     pub(crate) fn new(alloc: Global, flags: &'s [u8]) -> Table<'s, 'a>
         ensures flags { result.flags.now ≡ flags.now }
-        ensures columns { Stands result.flags.now result.columns }
+        ensures columns { KeyStands result.flags.now result.columns }
         ensures none { HoldSlots flags.now (row_place result.places.entries)
             (slots_seen result.slots.items) [] }
     {
@@ -131,7 +132,7 @@ impl<'s, 'a> Table<'s, 'a> {
 
     /// Adds one more change.
     pub(crate) fn add(&mut self, alloc: Global, new: ChangeRef<'a>) -> Result<(), AllocError>
-        requires { Stands self.old.flags.now self.old.columns }
+        requires { KeyStands self.old.flags.now self.old.columns }
         ensures flags { self.new.flags.now ≡ self.old.flags.now }
         ensures columns { self.new.columns ≡ self.old.columns }
         ensures ok { OnOk result ((changes : List Change)
@@ -153,7 +154,7 @@ impl<'s, 'a> Table<'s, 'a> {
         alloc: Global,
         section: &SectionRef<'a>,
     ) -> Result<(), AllocError>
-        requires { Stands self.old.flags.now self.old.columns }
+        requires { KeyStands self.old.flags.now self.old.columns }
         ensures flags { self.new.flags.now ≡ self.old.flags.now }
         ensures columns { self.new.columns ≡ self.old.columns }
         ensures ok { OnOk result ((before : List Change)

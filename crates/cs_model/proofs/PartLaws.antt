@@ -3,7 +3,7 @@ use Rattle.std.proofs.Common.{◌≡◌, ℕ, zero, suc, ◌-◌, ◌≤◌, Lis
 use Rattle.std.proofs.Common.{arith}
 use Rattle.std.specs.List.{AllByRecursion}
 use Rattle.std.proofs.Math.Seq.{take-append_seam}
-use Rattle.std.proofs.lemmas.List.{append_assoc, length-append, take-append-drop}
+use Rattle.std.proofs.lemmas.List.{append_assoc, length-append}
 use Rattle.cs_model.specs.declared.value.Field.{Field}
 use Rattle.cs_model.specs.FieldBytes.{field_bytes}
 use Rattle.cs_model.specs.Packed.{packed, Fits, Packs}
@@ -43,15 +43,15 @@ packed_parts (suc n) (f ∷ fs) = ap (λ (w : List ℕ). field_bytes f ++ w) (pa
     ∙ sym (append_assoc (field_bytes f) (packed (take n fs)) (packed (drop n fs)))
 
 -- what stands between the two places
-pub record Between (bytes : List ℕ) (fields : List Field) (first count : ℕ) (rest after : List ℕ) : Type 0 where
+pub record PartBetween (bytes : List ℕ) (fields : List Field) (first count : ℕ) (rest after : List ℕ) : Type 0 where
   pub begins : rest ≡ packed (drop first fields)
   pub ends : after ≡ packed (drop count (drop first fields))
   pub whole : rest ≡ packed (take count (drop first fields)) ++ after
 
-pub between : (bytes : List ℕ) (fields : List Field) (first count : ℕ) (rest after : List ℕ) → Packs bytes fields
+pub part_between : (bytes : List ℕ) (fields : List Field) (first count : ℕ) (rest after : List ℕ) → Packs bytes fields
     → rest ≡ (some_in first bytes).1 → after ≡ (some_in count rest).1
-    → Between bytes fields first count rest after
-between bytes fields first count rest after packs is_rest is_after =
+    → PartBetween bytes fields first count rest after
+part_between bytes fields first count rest after packs is_rest is_after =
     let mid = drop first fields in
     let begins : rest ≡ packed mid =
     is_rest ∙ (ap (λ (w : List ℕ). (some_in first w).1) packs.parts ∙ past first fields packs.fit) in
@@ -63,15 +63,15 @@ between bytes fields first count rest after packs is_rest is_after =
       whole = begins ∙ (packed_parts count mid ∙ ap (λ (w : List ℕ). packed (take count mid) ++ w) (sym ends));
     }
 
-pub between_no_longer : (bytes : List ℕ) (fields : List Field) (first count : ℕ) (rest after : List ℕ)
-    → Between bytes fields first count rest after → length after ≤ length rest
-between_no_longer bytes fields first count rest after b =
+pub part_no_longer : (bytes : List ℕ) (fields : List Field) (first count : ℕ) (rest after : List ℕ)
+    → PartBetween bytes fields first count rest after → length after ≤ length rest
+part_no_longer bytes fields first count rest after b =
     omega (arith, ap length b.whole, length-append (packed (take count (drop first fields))) after)
 
-pub between_front : (bytes : List ℕ) (fields : List Field) (first count : ℕ) (rest after front : List ℕ) (k : ℕ)
-    → Between bytes fields first count rest after → k ≡ length rest - length after → front ≡ take k rest
+pub part_front : (bytes : List ℕ) (fields : List Field) (first count : ℕ) (rest after front : List ℕ) (k : ℕ)
+    → PartBetween bytes fields first count rest after → k ≡ length rest - length after → front ≡ take k rest
     → front ≡ packed (take count (drop first fields))
-between_front bytes fields first count rest after front k b is_k is_front =
+part_front bytes fields first count rest after front k b is_k is_front =
     let mine = packed (take count (drop first fields)) in
     let len : k ≡ length mine = omega (arith, ap length b.whole, length-append mine after) in
     is_front ∙ (ap (λ (w : List ℕ). take k w) b.whole ∙ rw len (take-append_seam mine after))

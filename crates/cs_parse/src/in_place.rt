@@ -61,7 +61,8 @@ fn section_of<'a>(
       shape = shape_seen shape.entry;
       changes = (changes_front shape.entry.flags.now bytes.now).items;
     }) }
-    ensures rest { IfOk result (λ x. x.1.now ≡ (changes_front shape.entry.flags.now bytes.now).rest) }
+    ensures rest { IfOk result (λ x. x.1.now
+        ≡ (changes_front shape.entry.flags.now bytes.now).rest) }
     ensures why { IfOk result (λ x. x.2 ≡ (changes_front shape.entry.flags.now bytes.now).why) }
 {
     let (count, rest, canonical, why) = whole_changes(shape.flags, bytes);
@@ -148,10 +149,7 @@ fn read<'a>(alloc: Global, text: &'a [u8]) -> Result<Seq<TextSection<'a>>, Parse
 /// text. The others are copied, section by section.
 ///
 /// `Memory` comes only if the text encodes a changeset. Neither error changes anything.
-pub fn parse_in_place<'a>(
-    alloc: Global,
-    text: &'a [u8],
-) -> Result<TextChangeset<'a>, ParseError>
+pub fn parse_in_place<'a>(alloc: Global, text: &'a [u8]) -> Result<TextChangeset<'a>, ParseError>
     // A changeset that is returned is the one that the text encodes.
     ensures found { IfOk result (λ changeset. Spells text.now changeset) }
     // If the text encodes a changeset, that changeset is returned, unless memory runs out.

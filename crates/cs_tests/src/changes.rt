@@ -116,7 +116,10 @@ fn in_place(rt: HostRuntime) -> Result<(), Fail> {
     let alloc = rt.alloc();
     let text = joined(alloc, &[HEADER, INSERTED])?;
     stands(&rt, alloc, &text, INSERTED)?;
-    let text = joined(alloc, &[HEADER, b"\x12\0\x01\0\0\0\0\0\0\0\x07\x03\x80\x01w"])?;
+    let text = joined(
+        alloc,
+        &[HEADER, b"\x12\0\x01\0\0\0\0\0\0\0\x07\x03\x80\x01w"],
+    )?;
     stands(&rt, alloc, &text, INSERTED)
 }
 

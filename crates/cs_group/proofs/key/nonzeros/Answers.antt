@@ -1,6 +1,6 @@
 use Rattle.std.proofs.Common.{◌∙◌, slice_index_or, arith}
 use Rattle.std.proofs.lemmas.List.{drop_more}
-use Rattle.cs_group.proofs.KeyPlace.{inside}
+use Rattle.cs_group.proofs.KeyPlace.{column_inside}
 use Rattle.cs_group.proofs.key.nonzeros.Goals as goal
 
 pub loop-flag-preserved : goal.loop-flag-preserved
@@ -10,6 +10,6 @@ loop-flag-preserved c =
     record {
       at = omega (arith, c.loop-flag.invariant.at);
       rest = λ fields. c.loop-flag.invariant.rest fields
-          ∙ inside flags i (slice_index_or flags i 0) (drop_more flags i 0 c.loop-flag-test.true)
+          ∙ column_inside flags i (slice_index_or flags i 0) (drop_more flags i 0 c.loop-flag-test.true)
           c.if-flag-eq0.false fields;
     }

@@ -21,9 +21,11 @@ loop-section-preserved c =
     let shape = c.shape.ensures in
     let so_far = c.loop-section.invariant in
     let next : take (i + 1) all ≡ take i all ++ section ∷ [] =
-    take_more all i section c.loop-section-test.true ∙ ap (λ s. take i all ++ s ∷ []) (sym c.index-sections-section.is) in
+    take_more all i section c.loop-section-test.true
+    ∙ ap (λ s. take i all ++ s ∷ []) (sym c.index-sections-section.is) in
     let rest : drop i all ≡ section ∷ drop (i + 1) all =
-    drop_more all i section c.loop-section-test.true ∙ ap (λ s. s ∷ drop (i + 1) all) (sym c.index-sections-section.is) in
+    drop_more all i section c.loop-section-test.true
+    ∙ ap (λ s. s ∷ drop (i + 1) all) (sym c.index-sections-section.is) in
     let same : differs_by (known_as now section.shape.name) section.shape ≡ false =
     ap (λ s. differs_by (known_as now s.name) s) (sym shape)
     ∙ not_is _ (sym c.if-not-branch.false ∙ c.in_ok-admit.ensures.admits) in

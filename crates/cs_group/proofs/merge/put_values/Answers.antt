@@ -3,8 +3,8 @@ use Rattle.std.specs.Global.{Vec}
 use Rattle.cs_model.specs.declared.field_ref.FieldRef.{FieldRef}
 use Rattle.cs_model.specs.Seen.{field_seen, fields_seen}
 use Rattle.cs_group.specs.Merge.{record_or}
-use Rattle.cs_group.proofs.InPlace.{Done, none_done, set_done, keep_done, cut_done, all_done}
-use Rattle.cs_group.proofs.InPlace.{or_defined, or_undefined, or_none}
+use Rattle.cs_group.proofs.InPlace.{ColumnsDone, none_done, set_done, keep_done, cut_done, columns_all_done}
+use Rattle.cs_group.proofs.InPlace.{or_defined, or_undefined, record_or_none}
 use Rattle.cs_group.proofs.merge.put_values.Goals.{then-has_value, else-has_value}
 use Rattle.cs_group.proofs.merge.put_values.Goals as goal
 
@@ -28,14 +28,14 @@ loop-i-preserved c =
     let some : i < most = omega (arith, c.loop-i-test.true, c.len-i-end.ensures) in
     elim c.if-has_value.branch [
       | then-has_value w ↦
-          subst (λ (fields : Vec FieldRef). Done fields.items (i + 1) (record_or c.next.new.self) whole most)
+          subst (λ (fields : Vec FieldRef). ColumnsDone fields.items (i + 1) (record_or c.next.new.self) whole most)
           (sym w.fields-is)
           (set_done items i (record_or c.loop-i.values) (record_or c.next.new.self) whole most value c.loop-i.invariant
           some (λ first others is. ap (λ vs. record_or vs (field_seen first ∷ others)) c.in-Some.ensures.steps
           ∙ ap (λ f. f ∷ record_or c.next.new.self others)
           (or_defined (field_seen value) (field_seen first) (sym w.if-has_value.ensures))))
       | else-has_value w ↦
-          subst (λ (fields : Vec FieldRef). Done fields.items (i + 1) (record_or c.next.new.self) whole most)
+          subst (λ (fields : Vec FieldRef). ColumnsDone fields.items (i + 1) (record_or c.next.new.self) whole most)
           (sym w.fields-is)
           (keep_done items i (record_or c.loop-i.values) (record_or c.next.new.self) whole most c.loop-i.invariant
           some (λ first others is. ap (λ vs. record_or vs (field_seen first ∷ others)) c.in-Some.ensures.steps
@@ -44,5 +44,5 @@ loop-i-preserved c =
     ]
 
 pub returns : goal.returns
-returns c = all_done c.loop-i.fields.items c.loop-i.i _ _ _ c.loop-i.invariant
-    (omega (arith, c.loop-i-test.false, c.len-i-end.ensures)) (or_none c.loop-i.values)
+returns c = columns_all_done c.loop-i.fields.items c.loop-i.i _ _ _ c.loop-i.invariant
+    (omega (arith, c.loop-i-test.false, c.len-i-end.ensures)) (record_or_none c.loop-i.values)

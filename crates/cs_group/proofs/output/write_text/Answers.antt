@@ -8,7 +8,7 @@ use Rattle.cs_write.specs.Text.{text_of}
 use Rattle.cs_group.specs.Group.{combined_section, group_of}
 use Rattle.cs_group.specs.Text.{rows_seen, table_text}
 use Rattle.cs_group.proofs.Fitting.{groups_fit}
-use Rattle.cs_group.proofs.OwnForm.{group_text}
+use Rattle.cs_group.proofs.OwnForm.{group_text_is}
 use Rattle.cs_group.proofs.output.write_text.Goals as goal
 use Rattle.cs_group.proofs.output.write_text.Goals.{In_ok-tables}
 
@@ -23,7 +23,7 @@ same_text : (c : In_ok-tables) → flat_map table_text (map rows_seen c.in_ok-ta
 same_text c =
     ap (flat_map table_text) (c.in_ok-tables.ensures
     ∙ ap (map (λ group. combined_section (joined_section group))) c.in_ok-groups.ensures)
-    ∙ group_text c.args.sections.now
+    ∙ group_text_is c.args.sections.now
 
 pub returns-clause-length : goal.returns-clause-length
 returns-clause-length c =

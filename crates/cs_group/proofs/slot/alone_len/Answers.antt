@@ -10,7 +10,8 @@ returns c =
     let after = c.bytes-2.result.now in
     let change = c.args.change.now in
     c.add_lengths-2.ensures 2 (length before + length after) (held-small 2 (omega arith))
-    (c.add_lengths.ensures (length before) (length after) (held-small (length before) (omega (arith, c.bytes.type_inv.0)))
+    (c.add_lengths.ensures (length before) (length after)
+    (held-small (length before) (omega (arith, c.bytes.type_inv.0)))
     (held-small (length after) (omega (arith, c.bytes-2.type_inv.0))))
     ∙ ap held (omega (
       arith,

@@ -13,11 +13,13 @@ returns-clause-bytes c =
     let whole = header_text shape in
     -- after each part, what is left of the header
     let begun : LayingLaid at whole out at whole out = record { end = refl; size = refl; same = refl } in
-    let letter : LayingLaid c.put_bytes-end.result (varint (length shape.flags) ++ (shape.flags ++ (shape.name ++ 0 ∷ [])))
+    let letter : LayingLaid
+    c.put_bytes-end.result (varint (length shape.flags) ++ (shape.flags ++ (shape.name ++ 0 ∷ [])))
     c.put_bytes-end.new.out at whole out =
     laying_goes_on _ _ _ _ _ _ _ _ _ _ c.requires c.put_bytes-end.ensures.end c.put_bytes-end.ensures.bytes begun
     (grind (arith, common_steps)) in
-    let count : LayingLaid c.put_bytes-end-2.result (shape.flags ++ (shape.name ++ 0 ∷ [])) c.put_bytes-end-2.new.out at whole out =
+    let count : LayingLaid c.put_bytes-end-2.result (shape.flags ++ (shape.name ++ 0 ∷ []))
+    c.put_bytes-end-2.new.out at whole out =
     laying_goes_on _ _ _ _ _ _ _ _ _ _ c.requires c.put_bytes-end-2.ensures.end c.put_bytes-end-2.ensures.bytes letter
     (grind (arith, common_steps)) in
     let flags : LayingLaid c.put_bytes-end-3.result (shape.name ++ 0 ∷ []) c.put_bytes-end-3.new.out at whole out =

@@ -1,6 +1,6 @@
 use Rattle.std.proofs.Common.{◌≡◌, take}
 use Rattle.cs_model.specs.Changeset.{all_changes}
-use Rattle.cs_group.specs.Key.{Stands}
+use Rattle.cs_group.specs.Key.{KeyStands}
 use Rattle.cs_group.specs.Table.{HoldSlots, row_place, slots_seen}
 use Rattle.cs_group.proofs.rows.Rows.of.Given as goal
 
@@ -8,7 +8,7 @@ use Rattle.cs_group.proofs.rows.Rows.of.Given as goal
 abbrev pub invariant-loop-section : goal.invariant-loop-section
 invariant-loop-section l = record {
   flags : l.table.flags.now ≡ l.fn.shape.flags;
-  columns : Stands l.table.flags.now l.table.columns;
+  columns : KeyStands l.table.flags.now l.table.columns;
   holds : HoldSlots l.fn.shape.flags (row_place l.table.places.entries) (slots_seen l.table.slots.items)
       (all_changes (take l.section-index l.sections));
 }

@@ -1,15 +1,15 @@
 use Rattle.std.proofs.Common.{length, ◌-◌, refl}
-use Rattle.cs_model.proofs.PartLaws.{between, between_front, between_no_longer}
+use Rattle.cs_model.proofs.PartLaws.{part_between, part_front, part_no_longer}
 use Rattle.cs_model.proofs.change_ref.RecordRef.part.Goals as goal
 
 pub overflow_sub-rest : goal.overflow_sub-rest
-overflow_sub-rest c = between_no_longer _ _ _ _ _ _
-    (between _ _ _ _ c.behind-rest.result.now c.behind-after.result.now c.self.invariant c.behind-rest.ensures
+overflow_sub-rest c = part_no_longer _ _ _ _ _ _
+    (part_between _ _ _ _ c.behind-rest.result.now c.behind-after.result.now c.self.invariant c.behind-rest.ensures
     c.behind-after.ensures)
 
 pub returns : goal.returns
-returns c = rw (← c.self.view_is) (between_front _ _ _ _ _ _ _
+returns c = rw (← c.self.view_is) (part_front _ _ _ _ _ _ _
     (length c.behind-rest.result.now - length c.behind-after.result.now)
-    (between _ _ _ _ c.behind-rest.result.now c.behind-after.result.now c.self.invariant c.behind-rest.ensures
+    (part_between _ _ _ _ c.behind-rest.result.now c.behind-after.result.now c.self.invariant c.behind-rest.ensures
     c.behind-after.ensures)
     refl c.split_at.ensures.front)
