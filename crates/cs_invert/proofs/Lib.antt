@@ -1,0 +1,4 @@
+pub mod Inverting
+pub mod Twice
+pub mod Ending
+pub mod Long
