@@ -1,13 +1,13 @@
 -- The inverse of a changeset is a changeset, of the same rows. Each lemma is of one column first, whose flag is
 -- tested once (`outside`: not a key column), and then of all columns.
 use Rattle.std.proofs.Common.{◌≡◌, ℕ, Bool, true, false, cond, eqb, List, [], ◌∷◌, map, refl, ap}
-use Rattle.std.specs.List.{AllByRecursion, flat_map}
+use Rattle.std.specs.List.{flat_map}
 use Rattle.cs_model.specs.declared.value.Field.{Field}
 use Rattle.cs_model.specs.declared.value.Field.TheVariants.{Undefined, Is}
 use Rattle.cs_model.specs.declared.change.Op.{Op}
 use Rattle.cs_model.specs.declared.change.Op.TheVariants.{Insert, Update, Delete}
 use Rattle.cs_model.specs.declared.change.Change.{Change}
-use Rattle.cs_model.specs.Changeset.{AreRecords, IsChangeset, IsField}
+use Rattle.cs_model.specs.Changeset.{AreRecords, IsChangeset}
 use Rattle.cs_model.specs.FieldBytes.{field_bytes}
 use Rattle.cs_model.specs.KeyBytes.{key_fields, key_record}
 use Rattle.cs_model.specs.PackedChanges.{change_of}
@@ -16,7 +16,7 @@ use Rattle.cs_group.proofs.Merging.{IsValidChange, key_in}
 use Rattle.cs_group.proofs.Through.{AreValidChanges}
 use Rattle.cs_group.proofs.Valid.{IsOldRecord, IsNewRecord, ObeysRule, old_at, new_at, key_at}
 use Rattle.cs_group.specs.Group.{changed_row}
-use Rattle.cs_invert.specs.Inverse.{inverse, inverse_by, inverse_change, inverse_new, inverse_old, inverse_section}
+use Rattle.cs_invert.specs.Inverse.{inverse, inverse_by, inverse_change, inverse_new, inverse_old}
 
 -- ---- the old record
 

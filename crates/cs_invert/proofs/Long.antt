@@ -39,8 +39,8 @@ inverse_delete_long fit n flags change made columns is op e =
     inverse_long fit n flags change made columns is (e ∙ ap (λ (o : Op). inverse_by o flags change) (sym op))
 
 pub inverse_update_long : FitLaw → (n : ℕ) (flags : List ℕ) (change : Change) (before after : List Field)
-    → n ≡ length flags → IsValidChange flags change → change.op ≡ Update → before ≡ inverse_old flags change.before change.after
-    → after ≡ inverse_new flags change.before change.after
+    → n ≡ length flags → IsValidChange flags change → change.op ≡ Update
+    → before ≡ inverse_old flags change.before change.after → after ≡ inverse_new flags change.before change.after
     → IsLongChange n (change_of Update change.indirect before after)
 inverse_update_long fit n flags change before after columns is op b a =
     inverse_long fit n flags change (change_of Update change.indirect before after) columns is

@@ -10,7 +10,7 @@ use Rattle.cs_model.specs.Section.{Section}
 use Rattle.cs_group.proofs.Merging.{IsValidChange}
 use Rattle.cs_group.proofs.Through.{AreValidChanges}
 use Rattle.cs_group.proofs.Valid.{IsOldRecord, IsNewRecord}
-use Rattle.cs_invert.specs.Inverse.{inverse, inverse_by, inverse_change, inverse_new, inverse_old, inverse_section}
+use Rattle.cs_invert.specs.Inverse.{inverse, inverse_by, inverse_change, inverse_new, inverse_old}
 
 -- ---- the columns of an UPDATE
 
