@@ -22,9 +22,9 @@ pub fn inverses_are_changesets()
     ensures { (sections : List Section) → IsChangeset sections → IsChangeset (inverse sections) }
 {}
 
-/// The law of withdrawals. If a changeset and then others that change no row of it apply without
-/// conflict, its withdrawal then applies without conflict, and leaves the tables that the others
-/// alone leave. The rows have a value for each column, as those of `Tables` do
+/// The law of withdrawals. Let a changeset apply without conflict, and then others that have no
+/// change of its rows. Then its withdrawal applies without conflict, and leaves the tables that the
+/// others alone leave. The rows have a value for each column, as those of `Tables` do
 /// (`cs_apply::laws::rows_keep_columns`).
 pub fn withdrawing_undoes()
     ensures { (old mid new : TableState) (sections others : List Section)

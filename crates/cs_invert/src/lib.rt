@@ -1,6 +1,6 @@
-//! The inverse of a changeset, as SQLite's `sqlite3changeset_invert` makes it, and the withdrawal
-//! of a changeset from tables that other changesets changed since. Theorem: a withdrawal takes back
-//! its changeset and leaves what the others did (`laws::withdrawing_undoes`).
+//! The inverse of a changeset, as SQLite's `sqlite3changeset_invert` makes it, and a changeset's
+//! withdrawal. Theorem: a withdrawal takes back its changeset, and leaves what later changesets did
+//! to other rows (`laws::withdrawing_undoes`).
 #![tactic(auto)]
 
 mod inverse;

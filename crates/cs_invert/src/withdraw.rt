@@ -11,8 +11,8 @@ use cs_model::Changeset;
 use std::alloc::Global;
 
 /// Returns a changeset's withdrawal: the inverse of the group of it alone. It takes the changeset
-/// back after others that change no row of it (`laws::withdrawing_undoes`). The inverse alone does
-/// not if the changeset has several changes of a row.
+/// back, also after others that have no change of its rows (`laws::withdrawing_undoes`). The
+/// inverse alone can conflict if the changeset has several changes of a row.
 ///
 /// Returns `Schema` with the first section whose table has the name of an earlier section's and
 /// another shape, or `Memory` if memory runs out.
