@@ -1,0 +1,5 @@
+use Rattle.cs_invert.proofs.Twice.{inverse_again}
+use Rattle.cs_invert.proofs.laws.inverting_twice.Goals as goal
+
+pub returns : goal.returns
+returns c = inverse_again

@@ -1,0 +1,38 @@
+//! Laws of inverses: public functions that do nothing. Their contracts state what holds of all
+//! changesets and tables; a caller that needs one calls it.
+
+ghost use Rattle.std.specs.Prelude.{◌≡◌, List, Ok};
+ghost use Rattle.cs_model.specs.Changeset.{IsChangeset};
+ghost use Rattle.cs_model.specs.Section.{Section};
+ghost use Rattle.cs_apply.specs.Columns.{HaveColumns};
+ghost use Rattle.cs_apply.specs.Single.{single};
+ghost use Rattle.cs_apply.specs.State.{TableState};
+ghost use Rattle.cs_invert.specs.Inverse.{AreApart, inverse, withdrawal_of};
+
+use cs_model::laws::{changes_fit, fields_again};
+
+/// The inverse of the inverse of a changeset is the changeset.
+pub fn inverting_twice()
+    ensures { (sections : List Section) → IsChangeset sections
+        → inverse (inverse sections) ≡ sections }
+{}
+
+/// The inverse of a changeset is a changeset.
+pub fn inverses_are_changesets()
+    ensures { (sections : List Section) → IsChangeset sections → IsChangeset (inverse sections) }
+{}
+
+/// The law of withdrawals. Let a changeset apply without conflict, and then others that have no
+/// change of its rows. Then its withdrawal applies without conflict, and leaves the tables that the
+/// others alone leave. The rows have a value for each column, as those of `Tables` do
+/// (`cs_apply::laws::rows_keep_columns`).
+pub fn withdrawing_undoes()
+    ensures { (old mid new : TableState) (sections others : List Section)
+        → IsChangeset sections → IsChangeset others → HaveColumns old
+        → single old sections ≡ Ok mid → single mid others ≡ Ok new → AreApart sections others
+        → (last : TableState) × (single old others ≡ Ok last)
+        × (single new (withdrawal_of sections) ≡ Ok last) }
+{
+    changes_fit();
+    fields_again();
+}

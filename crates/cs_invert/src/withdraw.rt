@@ -1,0 +1,28 @@
+//! The withdrawal of a changeset.
+
+ghost use Rattle.std.specs.Prelude.{◌≡◌, [], None, IfErr, IfOk, OnOk};
+ghost use Rattle.cs_group.specs.Adding.{ReportsClash};
+ghost use Rattle.cs_group.specs.Group.{first_clash};
+ghost use Rattle.cs_invert.specs.Inverse.{withdrawal_of};
+
+use crate::inverse::invert;
+use cs_group::{Group, GroupError};
+use cs_model::Changeset;
+use std::alloc::Global;
+
+/// Returns a changeset's withdrawal: the inverse of the group of it alone. It takes the changeset
+/// back, also after others that have no change of its rows (`laws::withdrawing_undoes`). The
+/// inverse alone can conflict if the changeset has several changes of a row.
+///
+/// Returns `Schema` with the first section whose table has the name of an earlier section's and
+/// another shape, or `Memory` if memory runs out.
+pub fn withdrawal(alloc: Global, changeset: &Changeset) -> Result<Changeset, GroupError>
+    ensures ok { IfOk result (λ made. made ≡ withdrawal_of changeset.now) }
+    ensures fits { OnOk result (first_clash [] changeset.now ≡ None) }
+    ensures refused { IfErr result (λ e. ReportsClash e (first_clash [] changeset.now)) }
+{
+    let mut group = Group::new(alloc);
+    group.add(alloc, changeset)?;
+    let combined = group.output(alloc)?;
+    Ok(invert(alloc, &combined)?)
+}
