@@ -101,7 +101,18 @@ static void compare_changes(long changes) {
     free(input.bytes);
 }
 
-static void print_combining_head(const char *unit) {
+/* Inverting, on at most so many changes. Figures are megabytes a second, or thousands of changes. */
+static void compare_inverting(struct input input, const char *what, int by_changes) {
+    check_inverted(&input);
+    int calls = by_changes && input.changes < 100000 ? (int)(100000 / input.changes) : 1;
+    char name[100];
+    snprintf(name, sizeof name, "%s, %ld changes", what, input.changes);
+    struct measured inverts = measure(ours_inverts, sqlite_inverts, &input, calls);
+    print_row("invert", name, by_changes ? (double)input.changes / 1e3 : (double)input.len / 1e6, &inverts);
+    free(input.bytes);
+}
+
+static void print_job_head(const char *unit) {
     printf("| job | input | ours, %s | SQLite's, %s | ratio | lean SQLite's, %s | ratio |\n"
            "|---|---|--:|--:|--:|--:|--:|\n",
            unit, unit, unit);
@@ -129,17 +140,31 @@ static void compare_combining(enum rows rows, const char *what, enum keys keys, 
 }
 
 static void compare_all_combining(void) {
-    print_combining_head("MB/s");
+    print_job_head("MB/s");
     for (int keys = HOT; keys <= APART; keys++) {
         compare_combining(INTEGERS, "integer rows", (enum keys)keys, 1000000000, 0);
         compare_combining(TEXTS, "100-byte text rows", (enum keys)keys, 1000000000, 0);
         compare_combining(BLOBS, "4 KB blob rows", (enum keys)keys, 1000000000, 0);
     }
     printf("\n");
-    print_combining_head("1,000 changes/s");
+    print_job_head("1,000 changes/s");
     for (int keys = HOT; keys <= APART; keys++)
         for (long changes = 1000; changes <= 1000000; changes *= 10)
             compare_combining(INTEGERS, "integer rows", (enum keys)keys, changes / COMBINED, 1);
+}
+
+static void compare_all_inverting(void) {
+    print_job_head("MB/s");
+    compare_inverting(make_input(INTEGERS, 1000000000, USUAL_BYTES), "integer rows", 0);
+    compare_inverting(make_input(TEXTS, 1000000000, USUAL_BYTES), "100-byte text rows", 0);
+    compare_inverting(make_input(BLOBS, 1000000000, USUAL_BYTES), "4 KB blob rows", 0);
+    compare_inverting(make_inserts(INTEGERS, 1000000000, USUAL_BYTES), "INSERTs of integer rows", 0);
+    compare_inverting(make_inserts(TEXTS, 1000000000, USUAL_BYTES), "INSERTs of 100-byte text rows", 0);
+    compare_inverting(make_inserts(BLOBS, 1000000000, USUAL_BYTES), "INSERTs of 4 KB blob rows", 0);
+    printf("\n");
+    print_job_head("1,000 changes/s");
+    for (long changes = 1000; changes <= 100000; changes *= 10)
+        compare_inverting(make_input(INTEGERS, changes, MOST_BYTES), "integer rows", 1);
 }
 
 static void print_head(const char *unit) {
@@ -157,20 +182,22 @@ static int combine_once(const char *who, enum keys keys, enum rows rows) {
     return 0;
 }
 
-/* Runs one job once, for a profiler: `ours` or `sqlite`, `read`, `build`, `write`, `hot` or `apart` (combining), and
- * `integers`, `texts` or `blobs`. */
+/* Runs one job once, for a profiler: `ours` or `sqlite`, `read`, `build`, `write`, `invert`, `hot` or `apart`
+ * (combining), and `integers`, `texts` or `blobs`. */
 static int run_once(const char *who, const char *what, const char *which) {
-    const char *names[] = {"ours", "sqlite", "read", "build", "write", "hot", "apart", "integers", "texts", "blobs"};
+    const char *names[] = {"ours", "sqlite", "read",     "build", "write", "invert",
+                           "hot",  "apart",  "integers", "texts", "blobs"};
     int known = 0;
-    for (int i = 0; i < 10; i++) known += !strcmp(i < 2 ? who : i < 7 ? what : which, names[i]);
+    for (int i = 0; i < 11; i++) known += !strcmp(i < 2 ? who : i < 8 ? what : which, names[i]);
     if (known != 3) return fprintf(stderr, "bench: no job is called `%s %s %s`\n", who, what, which), 2;
     enum rows rows = *which == 'i' ? INTEGERS : *which == 't' ? TEXTS : BLOBS;
     if (strcmp(what, "hot") == 0 || strcmp(what, "apart") == 0)
         return combine_once(who, strcmp(what, "hot") == 0 ? HOT : APART, rows);
     struct input input = make_input(rows, 1000000000, USUAL_BYTES);
-    int writes = strcmp(what, "write") == 0, builds = strcmp(what, "build") == 0;
-    if (strcmp(who, "ours") == 0) (writes ? ours_writes : builds ? ours_builds : ours_reads)(&input);
-    else (writes ? sqlite_writes : sqlite_reads)(&input);
+    int writes = strcmp(what, "write") == 0, builds = strcmp(what, "build") == 0, inverts = strcmp(what, "invert") == 0;
+    if (strcmp(who, "ours") == 0)
+        (inverts ? ours_inverts : writes ? ours_writes : builds ? ours_builds : ours_reads)(&input);
+    else (inverts ? sqlite_inverts : writes ? sqlite_writes : sqlite_reads)(&input);
     free(input.bytes);
     return 0;
 }
@@ -181,7 +208,8 @@ int main(int count, char **words) {
     mallopt(M_TRIM_THRESHOLD, -1);
     if (count == 4) return run_once(words[1], words[2], words[3]);
     if (count == 2 && strcmp(words[1], "combine") == 0) return compare_all_combining(), 0;
-    if (count > 1) return fprintf(stderr, "bench [combine | ours|sqlite JOB ROWS]\n"), 2;
+    if (count == 2 && strcmp(words[1], "invert") == 0) return compare_all_inverting(), 0;
+    if (count > 1) return fprintf(stderr, "bench [combine | invert | ours|sqlite JOB ROWS]\n"), 2;
     print_head("MB/s");
     compare_bytes(INTEGERS, "integer rows");
     compare_bytes(TEXTS, "100-byte text rows");
@@ -192,6 +220,8 @@ int main(int count, char **words) {
     compare_changes(10000);
     compare_changes(100000);
     compare_changes(1000000000);
+    printf("\n");
+    compare_all_inverting();
     printf("\n");
     compare_all_combining();
     return 0;

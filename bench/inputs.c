@@ -109,6 +109,13 @@ static struct input make_steps(enum rows rows, int operation, uint64_t first, lo
     return (struct input){bytes, (size_t)(at - bytes), changes};
 }
 
+struct input make_inserts(enum rows rows, long changes, size_t limit) {
+    unsigned char change[MOST_OF_A_CHANGE];
+    size_t each = (size_t)(put_step(change, rows, INSERT, 0, 0) - change);
+    long most = (long)((limit - 100) / each);
+    return make_steps(rows, INSERT, 0, changes < most ? changes : most, 0, limit);
+}
+
 void make_combined(struct input *inputs, enum rows rows, enum keys keys, long changes, size_t limit) {
     unsigned char change[MOST_OF_A_CHANGE];
     size_t each = (size_t)(put_step(change, rows, keys == HOT ? UPDATE : INSERT, 0, 1) - change);

@@ -17,6 +17,9 @@ struct input {
  * `limit` bytes. It is canonical. The caller frees its bytes. Ends the program where memory runs out. */
 struct input make_input(enum rows rows, long changes, size_t limit);
 
+/* The same with INSERTs alone. */
+struct input make_inserts(enum rows rows, long changes, size_t limit);
+
 /* Texts that are combined; after them stands the text of the result. */
 enum { COMBINED = 16 };
 

@@ -88,6 +88,35 @@ void sqlite_writes(const struct input *input) {
     sqlite3_free(again);
 }
 
+/* the inverse, by ours; the caller frees it */
+static unsigned char *inverted(const struct input *input) {
+    unsigned char *out = malloc(input->len);
+    must(out != NULL, "memory");
+    must(changeset_invert(input->bytes, input->len, out, input->len) == (int64_t)input->len, "ours_inverts");
+    return out;
+}
+
+void ours_inverts(const struct input *input) { free(inverted(input)); }
+
+/* the inverse, by SQLite; the caller frees it by sqlite3_free */
+static void *inverted_by_sqlite(const struct input *input) {
+    void *inverse;
+    int len;
+    must(sqlite3changeset_invert((int)input->len, input->bytes, &len, &inverse) == SQLITE_OK, "sqlite_inverts");
+    must((size_t)len == input->len, "sqlite_inverts");
+    return inverse;
+}
+
+void sqlite_inverts(const struct input *input) { sqlite3_free(inverted_by_sqlite(input)); }
+
+void check_inverted(const struct input *input) {
+    unsigned char *ours = inverted(input);
+    void *sqlites = inverted_by_sqlite(input);
+    must(memcmp(ours, sqlites, input->len) == 0, "other bytes");
+    free(ours);
+    sqlite3_free(sqlites);
+}
+
 /* the texts, combined by ours; the caller frees them */
 static unsigned char *combined(const struct input *inputs) {
     struct changeset_text texts[COMBINED];

@@ -1,7 +1,8 @@
 #!/bin/sh
 # Builds the static library and the comparison with SQLite, and prints its table. It installs what is missing, by
 # package name. RT names the prover's command where it isn't `rt`, and UNDER one that runs the program, as a profiler.
-# With words, as `ours read integers`, the program runs one job once. With `combine` it compares combining alone.
+# With words, as `ours read integers`, the program runs one job once. With `combine` or `invert` it compares
+# that alone.
 set -eu
 fail() {
     echo "run.sh: $1" >&2

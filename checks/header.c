@@ -16,6 +16,9 @@ static const unsigned char inserted_last[] = {'T', 2, 1, 0, 'u', 0, 18, 0, 1, 0,
                                               0,   0, 1, 1, 0,   0, 0,  0, 0, 0, 0, 6};
 /* a section of table t without changes, and one of table u with another shape */
 static const unsigned char clashing[] = {'T', 1, 1, 't', 0, 'T', 1, 1, 'u', 0};
+/* the inverse of the UPDATE */
+static const unsigned char back[] = {'T', 2, 1, 0, 'u', 0, 23, 0, 1, 0, 0, 0, 0, 0, 0, 0, 1, 1, 0, 0,
+                                     0,   0, 0, 0, 0,   6, 0,  1, 0, 0, 0, 0, 0, 0, 0, 5};
 static int bad;
 
 static void holds(const char *name, int is) {
@@ -63,6 +66,19 @@ static void combines(void) {
     holds("the text and its fault are told", index == 1 && at == 12 && kind == CHANGESET_TRUNCATED);
 }
 
+static void inverts(void) {
+    unsigned char out[64], none = 5;
+    const int64_t len = sizeof back;
+    memset(out, 0xee, sizeof out);
+    holds("a room of 0 asks for the inverse's length", changeset_invert(updated, sizeof updated, &none, 0) == len && none == 5);
+    holds("less room than that changes nothing",
+          changeset_invert(updated, sizeof updated, out, sizeof back - 1) == len && out[0] == 0xee);
+    holds("an UPDATE is inverted",
+          changeset_invert(updated, sizeof updated, out, sizeof out) == len && !memcmp(out, back, sizeof back));
+    holds("the bytes after it do not change", out[sizeof back] == 0xee && out[sizeof out - 1] == 0xee);
+    holds("a faulty text has no inverse", changeset_invert(updated, 12, out, sizeof out) == CHANGESET_NONE);
+}
+
 int main(void) {
     size_t at = 99;
     uint32_t kind = 77;
@@ -86,6 +102,7 @@ int main(void) {
     holds("the bytes after it do not change", out[sizeof canonical] == 0xee && out[sizeof out - 1] == 0xee);
     holds("a changeset without changes has an empty text", changeset_canonical(one_change, 5, out, sizeof out) == 0);
     holds("a faulty text has none", changeset_canonical(one_change, 10, out, sizeof out) == CHANGESET_NONE);
+    inverts();
     combines();
     return bad;
 }

@@ -12,7 +12,7 @@ enum { MOST = 16777216, FILL = 0xee };
 static unsigned char text[MOST + 1];
 static size_t len;
 static unsigned char out[MOST];
-static long checks, writes, combines, refusals, told, bad;
+static long checks, writes, inverts, combines, refusals, told, bad;
 
 static void must(int holds, const char *what) {
     if (!holds && ++bad <= 10) printf("%s, a text of %zu bytes\n", what, len);
@@ -30,20 +30,23 @@ static int64_t check(void) {
     return changes;
 }
 
-/* changeset_canonical's answer where the allocation of this number is refused (0: none), and how many it asked for */
-static int64_t write_again(size_t room, unsigned long number, unsigned long *count) {
+/* changeset_canonical and changeset_invert */
+typedef int64_t write_call(const unsigned char *, size_t, unsigned char *, size_t);
+
+/* a call's answer where the allocation of this number is refused (0: none), and how many it asked for */
+static int64_t write_again(write_call *call, size_t room, unsigned long number, unsigned long *count) {
     memset(out, FILL, room);
     size_t before = in_use;
     unsigned long asked_before = asked;
     refused_at = number ? asked + number : 0;
-    int64_t answer = changeset_canonical(text, len, out, room);
+    int64_t answer = call(text, len, out, room);
     refused_at = 0;
     *count = asked - asked_before;
-    must(in_use == before, "changeset_canonical leaves other bytes in use");
+    must(in_use == before, "a call leaves other bytes in use");
     size_t at = answer >= 0 && (size_t)answer <= room ? (size_t)answer : 0;
     while (at < room && out[at] == FILL) at++;
-    must(at == room, "changeset_canonical writes where it mustn't");
-    writes++;
+    must(at == room, "a call writes where it mustn't");
+    *(call == changeset_invert ? &inverts : &writes) += 1;
     return answer;
 }
 
@@ -80,22 +83,29 @@ static void combine(int64_t changes) {
     }
 }
 
-/* all calls on the text */
-static void call(void) {
+/* the call on the text with several rooms, and each of its allocations refused */
+static void write_text(write_call *call, int64_t changes) {
     unsigned long count, ignored;
-    int64_t changes = check(), answer = write_again(0, 0, &count);
+    int64_t answer = write_again(call, 0, 0, &count);
     must((changes < 0) == (answer < 0), "the exports disagree");
     size_t enough = answer > 0 ? (size_t)answer : 0, rooms[] = {0, enough ? enough - 1 : 0, enough, len};
     for (int i = 0; i < 4; i++) {
         size_t room = rooms[i] <= MOST ? rooms[i] : MOST;
-        must(write_again(room, 0, &count) == answer, "changeset_canonical answers differently");
+        must(write_again(call, room, 0, &count) == answer, "a call answers differently");
         for (unsigned long number = 1; number <= count; number++) {
-            int64_t now = write_again(room, number, &ignored);
-            must(now == answer || (answer >= 0 && now == CHANGESET_NO_MEMORY), "changeset_canonical answers wrongly without memory");
+            int64_t now = write_again(call, room, number, &ignored);
+            must(now == answer || (answer >= 0 && now == CHANGESET_NO_MEMORY), "a call answers wrongly without memory");
             refusals++;
             told += now == CHANGESET_NO_MEMORY;
         }
     }
+}
+
+/* all calls on the text */
+static void call(void) {
+    int64_t changes = check();
+    write_text(changeset_canonical, changes);
+    write_text(changeset_invert, changes);
     combine(changes);
 }
 
@@ -150,7 +160,8 @@ int main(void) {
 
     must(refusals > 0 && told > 0, "no allocation was seen, so none was refused");
     size_t left = in_use;
-    printf("%ld calls of changeset_check, %ld of changeset_canonical, %ld of changeset_combine\n", checks, writes, combines);
+    printf("%ld calls of changeset_check, %ld of changeset_canonical, %ld of changeset_invert, %ld of changeset_combine\n",
+        checks, writes, inverts, combines);
     printf("an allocation was refused in %ld, of which %ld told it\n", refusals, told);
     printf("in use at the end %zu bytes, at most %zu; %ld faults\n", left, most_in_use, bad);
     return bad != 0;

@@ -4,7 +4,7 @@
  * returns, reads nothing outside the texts, and keeps no pointer. Lengths, places and rooms are in bytes.
  *
  * Ownership: the caller owns every buffer before, during and after a call. changeset_check does not allocate.
- * changeset_canonical and changeset_combine allocate with malloc and realloc, and free all of it before they return.
+ * The other calls allocate with malloc and realloc, and free all of it before they return.
  *
  * The caller must ensure all of this, and no call checks it:
  * - No pointer is NULL, even if its length is 0; any other address serves then. So (NULL, 0) is not a way to ask for a
@@ -47,7 +47,7 @@ extern "C" {
 
 /* The text spells no changeset. */
 #define CHANGESET_NONE (-1)
-/* Memory ran out. changeset_canonical returns this only if the text spells a changeset. */
+/* Memory ran out. changeset_canonical and changeset_invert return this only if the text spells a changeset. */
 #define CHANGESET_NO_MEMORY (-2)
 /* The texts can't be combined: a section's table has the name of an earlier section's and another shape. */
 #define CHANGESET_CLASH (-3)
@@ -116,6 +116,14 @@ CHANGESET_CALL int64_t changeset_check(const unsigned char *CHANGESET_ALONE text
  */
 CHANGESET_CALL int64_t changeset_canonical(const unsigned char *CHANGESET_ALONE text, size_t len,
                                            unsigned char *CHANGESET_ALONE out, size_t room);
+
+/* Writes the canonical text of the inverse of the changeset that a text of `len` bytes spells, as
+ * sqlite3changeset_invert does: an INSERT becomes a DELETE of the same row, a DELETE becomes an INSERT, and an UPDATE
+ * exchanges its old and new values. The changes keep their order and their indirect flags. Returns what
+ * changeset_canonical returns, with the inverse's text in place of the changeset's own. The two texts are equally long.
+ */
+CHANGESET_CALL int64_t changeset_invert(const unsigned char *CHANGESET_ALONE text, size_t len,
+                                        unsigned char *CHANGESET_ALONE out, size_t room);
 
 /* One of several texts: `len` bytes. */
 struct changeset_text {

@@ -5,10 +5,9 @@ use Rattle.cs_model.specs.Text.{Spells}
 use Rattle.cs_parse.specs.declared.fault.ParseFault.{ParseFault}
 use Rattle.cs_parse.specs.Answer.{HasChangeset, HasFault}
 use Rattle.cs_parse.specs.Fault.{IsFault}
-use Rattle.cs_write.specs.Text.{text_of}
 use Rattle.cs_parse.specs.Count.{changes_in}
 use Rattle.changeset_c.specs.Kinds.{kind_number}
-use Rattle.changeset_c.specs.Says.{CheckSays, CanonicalSays, IsNumber, IsFaultAt}
+use Rattle.changeset_c.specs.Says.{CheckSays, WriteSays, IsNumber, IsFaultAt}
 
 abbrev pub EitherOf : List ℕ → Type 0
 EitherOf text = HasChangeset text ⊎ HasFault text
@@ -44,20 +43,21 @@ check_fault (negsuc zero) at kind text either says fault t =
     (refl, says.is_place ∙ ap (λ f. f.at) same, says.is_kind ∙ ap (λ f. kind_number f.kind) same)
 check_fault (negsuc (suc n)) at kind text either says fault t = absurd says
 
-pub canonical_only : (answer : ℤ) (before after text : List ℕ) → EitherOf text → CanonicalSays answer before after text
-    → (changeset : List Section) → Spells text changeset → IsNumber answer (length (text_of changeset))
-canonical_only (pos n) before after text either says changeset s =
-    says.is_length ∙ ap (λ c. length (text_of c)) (one_changeset text either says.changeset changeset says.spelled s)
-canonical_only (negsuc zero) before after text either says changeset s =
+pub write_only : (made : List Section → List ℕ) (answer : ℤ) (before after text : List ℕ) → EitherOf text
+    → WriteSays made answer before after text → (changeset : List Section) → Spells text changeset
+    → IsNumber answer (length (made changeset))
+write_only made (pos n) before after text either says changeset s =
+    says.is_length ∙ ap (λ c. length (made c)) (one_changeset text either says.changeset changeset says.spelled s)
+write_only made (negsuc zero) before after text either says changeset s =
     not_both text either changeset says.fault s says.is_fault
-canonical_only (negsuc (suc zero)) before after text either says changeset s = refl
-canonical_only (negsuc (suc (suc n))) before after text either says changeset s = absurd says
+write_only made (negsuc (suc zero)) before after text either says changeset s = refl
+write_only made (negsuc (suc (suc n))) before after text either says changeset s = absurd says
 
-pub canonical_fault : (answer : ℤ) (before after text : List ℕ) → EitherOf text → CanonicalSays answer before after text
-    → (fault : ParseFault) → IsFault text fault → answer ≡ negsuc 0
-canonical_fault (pos n) before after text either says fault t =
+pub write_fault : (made : List Section → List ℕ) (answer : ℤ) (before after text : List ℕ) → EitherOf text
+    → WriteSays made answer before after text → (fault : ParseFault) → IsFault text fault → answer ≡ negsuc 0
+write_fault made (pos n) before after text either says fault t =
     absurd (not_both text either says.changeset fault says.spelled t)
-canonical_fault (negsuc zero) before after text either says fault t = refl
-canonical_fault (negsuc (suc zero)) before after text either says fault t =
+write_fault made (negsuc zero) before after text either says fault t = refl
+write_fault made (negsuc (suc zero)) before after text either says fault t =
     absurd (not_both text either says.0.0 fault says.0.1 t)
-canonical_fault (negsuc (suc (suc n))) before after text either says fault t = absurd says
+write_fault made (negsuc (suc (suc n))) before after text either says fault t = absurd says

@@ -9,6 +9,7 @@ use Rattle.cs_write.specs.Text.{text_of}
 use Rattle.cs_parse.specs.Answer.{IsSpelled}
 use Rattle.cs_parse.specs.Count.{HasChangeCount}
 use Rattle.cs_write.specs.Buffer.{given}
+use Rattle.cs_invert.specs.Inverse.{inverse}
 use Rattle.changeset_c.specs.Kinds.{kind_number}
 
 -- the text has a fault at this place, of the kind with this number
@@ -24,13 +25,14 @@ CheckSays (pos n) at kind text = HasChangeCount text n
 CheckSays (negsuc zero) at kind text = HasFaultAt text at kind
 CheckSays (negsuc (suc n)) at kind text = ⊥
 
--- the text spells a changeset whose canonical text has length n; the buffer holds it if there was
--- room (*given*)
-pub record IsWritten (text : List ℕ) (n : ℕ) (before after : List ℕ) : Type 0 where
+-- The text spells a changeset, for which a text is made. It has length n; the buffer holds it if
+-- there was room (*given*).
+pub record IsWritten (made : List Section → List ℕ) (text : List ℕ) (n : ℕ)
+    (before after : List ℕ) : Type 0 where
   pub changeset : List Section
   pub spelled : Spells text changeset
-  pub is_length : n ≡ length (text_of changeset)
-  pub is_given : after ≡ given (text_of changeset) before
+  pub is_length : n ≡ length (made changeset)
+  pub is_given : after ≡ given (made changeset) before
 
 -- the text has a fault, and the buffer does not change
 pub record IsRefused (text before after : List ℕ) : Type 0 where
@@ -38,12 +40,25 @@ pub record IsRefused (text before after : List ℕ) : Type 0 where
   pub is_fault : IsFault text fault
   pub same : after ≡ before
 
--- what the result of `changeset_canonical` says of a text, with the buffer `before` and `after`
+-- What the result of an export says of a text, from which it makes another one into the buffer
+-- `before` and `after`.
+abbrev pub WriteSays : (List Section → List ℕ) → ℤ → List ℕ → List ℕ → List ℕ → Type 0
+WriteSays made (pos n) before after text = IsWritten made text n before after
+WriteSays made (negsuc zero) before after text = IsRefused text before after
+WriteSays made (negsuc (suc zero)) before after text = IsSpelled text × (after ≡ before)
+WriteSays made (negsuc (suc (suc n))) before after text = ⊥
+
+-- what the result of `changeset_canonical` says
 abbrev pub CanonicalSays : ℤ → List ℕ → List ℕ → List ℕ → Type 0
-CanonicalSays (pos n) before after text = IsWritten text n before after
-CanonicalSays (negsuc zero) before after text = IsRefused text before after
-CanonicalSays (negsuc (suc zero)) before after text = IsSpelled text × (after ≡ before)
-CanonicalSays (negsuc (suc (suc n))) before after text = ⊥
+CanonicalSays answer before after text = WriteSays text_of answer before after text
+
+-- the canonical text of the inverse of a changeset
+abbrev pub inverse_text : List Section → List ℕ
+inverse_text changeset = text_of (inverse changeset)
+
+-- what the result of `changeset_invert` says
+abbrev pub InvertSays : ℤ → List ℕ → List ℕ → List ℕ → Type 0
+InvertSays answer before after text = WriteSays inverse_text answer before after text
 
 -- the result is this number, or says that memory ran out
 abbrev pub IsNumber : ℤ → ℕ → Type 0

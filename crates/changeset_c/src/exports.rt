@@ -12,10 +12,12 @@ ghost use Rattle.cs_group.specs.Adding.{first_refused};
 ghost use Rattle.changeset_c.specs.Combining.{CombineSays, HasClash, HasTextFault, IsClash};
 ghost use Rattle.changeset_c.specs.Combining.{IsTextFault, KeptUnlessBad, SpellAll};
 ghost use Rattle.changeset_c.specs.Combining.{combined_text, texts_of};
-ghost use Rattle.changeset_c.specs.Says.{CheckSays, CanonicalSays, IsNumber, IsFaultAt, KeptBut};
+ghost use Rattle.changeset_c.specs.Says.{CanonicalSays, CheckSays, InvertSays, IsFaultAt, IsNumber};
+ghost use Rattle.changeset_c.specs.Says.{KeptBut, inverse_text};
 
 use crate::answers::{canonical, check};
 use crate::combining::{Text, combine};
+use crate::inverting::inverted;
 use crate::reading::texts_are_read_so;
 use cs_parse::laws::every_text;
 use std::alloc::Global;
@@ -54,6 +56,23 @@ pub extern "C" fn changeset_canonical(alloc: Global, text: &[u8], out: &mut [u8]
 {
     every_text();
     canonical(alloc, text, out)
+}
+
+/// The length of the canonical text of the inverse of what the text spells, written to the front of
+/// `out` if there is room for it. Returns -1 if the text spells no changeset. Returns -2 if it
+/// spells one and memory ran out. The rest of `out` does not change.
+#[unsafe(no_mangle)]
+pub extern "C" fn changeset_invert(alloc: Global, text: &[u8], out: &mut [u8]) -> i64
+    // The result is true of the text, and `out` is as it says.
+    ensures says { InvertSays result out.old out.new text.now }
+    // For a text that spells a changeset, the result is the length, unless memory runs out.
+    ensures only { (changeset : List Section) → Spells text.now changeset
+        → IsNumber result (length (inverse_text changeset)) }
+    // For a text with a fault, the result is -1.
+    ensures the_fault { (fault : ParseFault) → IsFault text.now fault → result ≡ negsuc 0 }
+{
+    every_text();
+    inverted(alloc, text, out)
 }
 
 /// Combines texts into one, in their order. Returns the length of the canonical text of their

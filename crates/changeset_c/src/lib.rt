@@ -6,6 +6,7 @@
 mod answers;
 mod combining;
 mod exports;
+mod inverting;
 mod kinds;
 mod reading;
 mod results;

@@ -1,10 +1,11 @@
 //! The tests that the exports need in this crate, since no other crate can call them: with enough
-//! memory the canonical text is written, and texts are combined. Their contracts state the rest.
+//! memory the canonical text is written, a text is inverted, and texts are combined. Their contracts
+//! state the rest.
 
 ghost use Rattle.std.specs.Prelude.{◌<◌};
 
 use crate::combining::Text;
-use crate::exports::{changeset_canonical, changeset_combine};
+use crate::exports::{changeset_canonical, changeset_combine, changeset_invert};
 use std::alloc::Global;
 use std::process::Abort;
 use std::test::*;
@@ -112,4 +113,22 @@ fn texts_are_combined(rt: HostRuntime) -> Result<(), Fail> {
     combines(&rt, alloc, &UPDATED, 25, (26, 7, 7, 7), &[])?;
     combines(&rt, alloc, &UPDATED[..12], 59, (-1, 1, 12, 16), &[])?;
     combines(&rt, alloc, &OTHER, 59, (-3, 1, 1, 7), &[])
+}
+
+// its inverse: the UPDATE of 6 to 5
+const BACK: [u8; 36] = [
+    0x54, 2, 1, 0, 0x74, 0, 0x17, 0, 1, 0, 0, 0, 0, 0, 0, 0, 1, 1, 0, 0, 0, 0, 0, 0, 0, 6, 0, 1, 0,
+    0, 0, 0, 0, 0, 0, 5,
+];
+
+#[test]
+fn a_text_is_inverted(rt: HostRuntime) -> Result<(), Fail> {
+    let alloc = rt.alloc();
+    let mut buffer = [9u8; 60];
+    assert_eq!(&rt; changeset_invert(alloc, &UPDATED, &mut buffer[..35]), 36);
+    begins(&rt, alloc, &buffer, &[])?;
+    assert_eq!(&rt; changeset_invert(alloc, &UPDATED, &mut buffer[..36]), 36);
+    begins(&rt, alloc, &buffer, &BACK)?;
+    assert_eq!(&rt; changeset_invert(alloc, &UPDATED[..12], &mut buffer), -1);
+    begins(&rt, alloc, &buffer, &BACK)
 }

@@ -156,11 +156,10 @@ withdrawing_rows old mid new sections others is have apart one group two =
     (f.0, f.1, g.1 ∙ ap (λ (r : Rows). Ok r) same)
 
 pub withdrawing_takes_back : Packing → (old mid new : TableState) (sections others : List Section)
-    → IsChangeset sections
-    → IsChangeset others → HaveColumns old → single old sections ≡ Ok mid → single mid others ≡ Ok new
+    → IsChangeset sections → HaveColumns old → single old sections ≡ Ok mid → single mid others ≡ Ok new
     → AreApart sections others
     → (last : TableState) × (single old others ≡ Ok last) × (single new (withdrawal_of sections) ≡ Ok last)
-withdrawing_takes_back packing old mid new sections others is also have one two apart =
+withdrawing_takes_back packing old mid new sections others is have one two apart =
     let f = rows_found old (single_from old.schema old.kept (changes_of sections) 0 old.rows) mid one in
     let g = rows_found (with old f.0) (single_from old.schema old.kept (changes_of others) 0 f.0) new
     (ap (λ (t : TableState). single t others) f.2 ∙ two) in

@@ -28,7 +28,7 @@ pub fn inverses_are_changesets()
 /// (`cs_apply::laws::rows_keep_columns`).
 pub fn withdrawing_undoes()
     ensures { (old mid new : TableState) (sections others : List Section)
-        → IsChangeset sections → IsChangeset others → HaveColumns old
+        → IsChangeset sections → HaveColumns old
         → single old sections ≡ Ok mid → single mid others ≡ Ok new → AreApart sections others
         → (last : TableState) × (single old others ≡ Ok last)
         × (single new (withdrawal_of sections) ≡ Ok last) }
