@@ -62,6 +62,13 @@ def history(path):
     return tables, texts, b'\n'.join(answers[last:])
 
 
+def histories():
+    """the recorded histories: name, tables, changesets, last rows"""
+    for kind in ('recorded', 'sqlite'):
+        for path in sorted(glob.glob(os.path.join(DATA, kind + '-*.script'))):
+            yield (os.path.basename(path)[:-len('.script')],) + history(path)
+
+
 def spans_of(count):
     return sorted({(a, min(a + n - 1, count)) for n in (2, 3) for a in range(1, count)} | {(1, count)})
 
@@ -81,9 +88,7 @@ def main():
     groups = others = 0
     if len(sys.argv) > 1 and not os.path.isdir(sys.argv[1]):
         sys.exit('groups.py: no folder %s' % sys.argv[1])
-    for path in sorted(glob.glob(os.path.join(DATA, 'recorded-*.script')) + glob.glob(os.path.join(DATA, 'sqlite-*.script'))):
-        name = os.path.basename(path)[:-len('.script')]
-        tables, texts, rows = history(path)
+    for name, tables, texts, rows in histories():
         if len(texts) < 2:
             continue
         for first, last in spans_of(len(texts)):

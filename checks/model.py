@@ -284,6 +284,22 @@ def group(sections):
     return [(name, flags, list(rows.values())) for (name, flags), rows in tables.items()]
 
 
+# ---------------------------------------------------------------- inverses
+def inverse(sections):
+    """each change inverted where it stands"""
+    return [(name, flags, [undoing(flags, change) for change in changes]) for name, flags, changes in sections]
+
+
+def undoing(flags, change):
+    op, indirect, old, new = change
+    if op == INS:
+        return (DEL, indirect, new, None)
+    if op == DEL:
+        return (INS, indirect, None, old)
+    keys = [field if key else None for field, key in zip(old, flags)]
+    return (UPD, indirect, either(keys, new), [None if key else field for field, key in zip(old, flags)])
+
+
 # ---------------------------------------------------------------- the desk
 class Refused(Exception):
     def __init__(self, name, *values):
@@ -329,6 +345,7 @@ class World:
         self.publishers, self.queue, self.hand, self.sequence = [], [], None, []
         self.closing, self.clock, self.link, self.number = None, 0, 1, 1
         self.ready, self.flight, self.subs, self.deliveries = [], [], [], []
+        self.withdrawn = set()
         self.long = False
 
     # -- helpers
@@ -433,7 +450,7 @@ class World:
                 raise Refused('UnknownTable', i)
             if known[0][1] != flags:
                 raise Refused('ShapeDiffers', i)
-        pub.staged, pub.stream = body, b''
+        pub.staged, pub.stream = ('s', body), b''
         return ['staged']
 
     def do_reset(self, p):
@@ -450,9 +467,24 @@ class World:
         if len(self.queue) == self.intake:
             raise Refused('Full')
         pub.own += 1
-        self.queue.append((p, pub.own, pub.staged))
+        self.queue.append((p, pub.own) + pub.staged)
         pub.staged = None
         return ['sent %d' % pub.own]
+
+    def do_withdraw(self, p, n):
+        pub = self.publisher_of(p)
+        if pub.staged is not None:
+            raise Refused('Holding')
+        if not 1 <= n <= self.front():
+            raise Refused('NotPlaced')
+        owner, _, _, body = self.sequence[n - 1]
+        if owner != p:
+            raise Refused('NotYours')
+        if n in self.withdrawn:
+            raise Refused('AlreadyWithdrawn')
+        self.withdrawn.add(n)
+        pub.staged = ('w%d' % n, inverse(group(body)))
+        return ['staged']
 
     def do_turn(self):
         if self.hand is None:
@@ -517,7 +549,7 @@ class World:
             raise Refused('Gap', sub.cursor + 1)
         joined = []
         for n in range(first, last + 1):
-            joined += self.sequence[n - 1][2]
+            joined += self.sequence[n - 1][3]
         try:
             sub.tables = apply(self.schema, sub.tables, group(joined))
         except Conflict as c:
@@ -583,15 +615,15 @@ class World:
     def do_entry(self, n):
         if not 1 <= n <= self.front():
             raise Refused('NotPlaced')
-        p, own, body = self.sequence[n - 1]
-        return ['entry %d %d %d s %s' % (n, p, own, canonical(body).hex() or '-')]
+        p, own, origin, body = self.sequence[n - 1]
+        return ['entry %d %d %d %s %s' % (n, p, own, origin, canonical(body).hex() or '-')]
 
     def do_combine(self, a, b):
         if not 1 <= a <= b <= self.front():
             raise Refused('NotPlaced')
         joined = []
         for n in range(a, b + 1):
-            joined += self.sequence[n - 1][2]
+            joined += self.sequence[n - 1][3]
         return ['text %s' % (canonical(group(joined)).hex() or '-')]
 
     def do_rows(self, s):
@@ -605,7 +637,7 @@ class World:
         return ['left %d' % (len(self.queue) + (self.hand is not None))]
 
     # -- script
-    FORMS = {'table': 'h', 'publisher': '', 'feed': 'nh', 'end': 'n', 'reset': 'n', 'send': 'n', 'turn': '',
+    FORMS = {'table': 'h', 'publisher': '', 'feed': 'nh', 'end': 'n', 'reset': 'n', 'send': 'n', 'withdraw': 'nn', 'turn': '',
              'subscribe': 'n', 'take': 'nn', 'takeany': 'n', 'accept': 'n', 'ack': 'n', 'nack': 'n', 'expire': 'n',
              'reconnect': 'nn', 'unsubscribe': 'n', 'close': '', 'entry': 'n', 'combine': 'nn', 'rows': 'n',
              'left': ''}
