@@ -5,3 +5,5 @@ pub mod Long
 pub mod OneBack
 pub mod KeyBack
 pub mod Withdrawing
+pub mod SameLength
+pub mod ByShape

@@ -123,8 +123,8 @@ fn exchange<'a>(
     Ok(())
 }
 
-// a column's old and new field, exchanged outside the key
-fn exchanged_fields<'a>(
+/// A column's old and new field, exchanged outside the key.
+pub(crate) fn exchanged_fields<'a>(
     flag: u8,
     old: FieldRef<'a>,
     new: FieldRef<'a>,

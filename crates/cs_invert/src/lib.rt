@@ -5,7 +5,10 @@
 
 mod inverse;
 pub mod laws;
+mod placing;
+mod text;
 mod withdraw;
 
 pub use inverse::invert;
+pub use text::write_inverse;
 pub use withdraw::withdrawal;

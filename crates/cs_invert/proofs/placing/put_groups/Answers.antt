@@ -1,0 +1,11 @@
+use Rattle.std.proofs.Common.{arith}
+use Rattle.std.proofs.lemmas.Grind.{common_steps}
+use Rattle.cs_write.proofs.Laying.{laying_goes_on, laying_ends}
+use Rattle.cs_invert.proofs.placing.put_groups.Goals as goal
+
+pub loop-shape-preserved : goal.loop-shape-preserved
+loop-shape-preserved c = laying_goes_on _ _ _ _ _ _ _ _ _ _ c.requires c.put_group-end.ensures.end
+    c.put_group-end.ensures.bytes c.loop-shape.invariant (grind (arith, common_steps))
+
+pub returns-clause-bytes : goal.returns-clause-bytes
+returns-clause-bytes c = laying_ends _ _ _ _ _ _ (grind (arith, common_steps)) c.loop-shape.invariant

@@ -1,0 +1,12 @@
+use Rattle.std.proofs.Common.{◌∙◌, ap}
+use Rattle.cs_write.specs.Seen.{seen}
+use Rattle.cs_invert.proofs.ByShape.{grouping_begins, grouping_goes_on}
+use Rattle.cs_invert.proofs.text.groups_of.Goals as goal
+
+pub loop-section-init : goal.loop-section-init
+loop-section-init c = grouping_begins _ _ _ (ap seen c.new-groups.ensures.empty)
+    (c.into_iter-section-iterator.ensures.into_iter_gives ∙ c.iter-section-items.ensures.same)
+
+pub loop-section-preserved : goal.loop-section-preserved
+loop-section-preserved c = grouping_goes_on _ _ c.in-Some.section _ _ _ c.in_ok-add_section.ensures.ok
+    c.in-Some.ensures.steps c.loop-section.invariant
