@@ -1,5 +1,5 @@
 -- The invariant of a world, part by part.
-use Rattle.std.proofs.Common.{◌≡◌, ℕ, zero, suc, ◌<◌, ◌≤◌, List, [], ◌∷◌, ◌++◌, length, map, Option, Some, None}
+use Rattle.std.proofs.Common.{◌≡◌, ℕ, zero, suc, ◌<◌, ◌≤◌, Bool, List, [], ◌∷◌, ◌++◌, length, map, Option, Some, None}
 use Rattle.std.proofs.Common.{option_map, slice_get, slice_set, refl, sym, ap, ◌∙◌, arith}
 use Rattle.std.specs.List.{AllByRecursion}
 use Rattle.std.proofs.lemmas.List.{length-append, length-map, map-set}
@@ -76,6 +76,20 @@ apart old publishers intake hand good few waiting = record {
   front = good.front;
   few = few;
   waiting = waiting;
+  members = good.members;
+  entries = good.entries;
+  deliveries = good.deliveries;
+  next = good.next;
+  are_of = good.are_of;
+}
+
+-- marks of withdrawn entries are no matter
+pub marks_changed : (old : State) (marks : List Bool) → IsWorld old → IsWorld (record old { withdrawn = marks })
+marks_changed old marks good = record {
+  picture = good.picture;
+  front = good.front;
+  few = good.few;
+  waiting = good.waiting;
   members = good.members;
   entries = good.entries;
   deliveries = good.deliveries;
