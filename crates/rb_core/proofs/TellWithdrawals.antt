@@ -16,7 +16,7 @@ use Rattle.rb_core.specs.declared.reply.Reply.TheVariants as reply
 use Rattle.rb_core.specs.Moves.{Withdraws, IsNew}
 use Rattle.rb_core.specs.Outcome as out
 use Rattle.rb_core.specs.Outcome.{entry_of}
-use Rattle.rb_core.specs.State.{State, AreNumbered, IsWorld, is_withdrawn, mark}
+use Rattle.rb_core.specs.State.{State, AreNumbered, IsWorld, is_withdrawn, with_mark}
 use Rattle.rb_core.specs.Told as say
 use Rattle.rb_core.specs.Told.{IsSender, IsToldBy}
 use Rattle.rb_core.specs.World.{Sender, World}
@@ -28,14 +28,14 @@ use Rattle.rb_core.proofs.TellPublishers.{with_pair}
 
 -- ---- the entry
 
-numbered_at : (n : ℕ) (entries : List Entry) (i : ℕ) (entry : Entry) → AreNumbered (λ (e : Entry). e.number) n entries
-    → slice_get entries i ≡ Some entry → entry.number ≡ n + i
-numbered_at n [] i entry are found = absurd (cc found)
-numbered_at n (first ∷ entries) zero entry are found =
+entry_number_at : (n : ℕ) (entries : List Entry) (i : ℕ) (entry : Entry)
+    → AreNumbered (λ (e : Entry). e.number) n entries → slice_get entries i ≡ Some entry → entry.number ≡ n + i
+entry_number_at n [] i entry are found = absurd (cc found)
+entry_number_at n (first ∷ entries) zero entry are found =
     let same : first ≡ entry = cc found in
     omega (arith, are.0, ap (λ (e : Entry). e.number) same)
-numbered_at n (first ∷ entries) (suc i) entry are found =
-    omega (arith, numbered_at (suc n) entries i entry are.1 found)
+entry_number_at n (first ∷ entries) (suc i) entry are found =
+    omega (arith, entry_number_at (suc n) entries i entry are.1 found)
 
 -- an entry that is found has a number from 1 on
 number_from_one : (n : ℕ) (entries : List Entry) (entry : Entry) → AreNumbered (λ (e : Entry). e.number) 1 entries
@@ -51,19 +51,19 @@ number_from_one (suc n) entries entry are found = omega arith
 -- the marks agree with the numbers, and so they do with one more of each
 marks_told : (flags : List Bool) (numbers : List ℕ) (n : ℕ) → 1 ≤ n
     → ((m : ℕ) → 0 < m → (get_or flags (m - 1) false ≡ false) ↔ IsNew numbers m) → (m : ℕ) → 0 < m
-    → (get_or (mark (n - 1) flags) (m - 1) false ≡ false) ↔ IsNew (n ∷ numbers) m
+    → (get_or (with_mark (n - 1) flags) (m - 1) false ≡ false) ↔ IsNew (n ∷ numbers) m
 marks_told flags numbers n some all m more =
-    elim (eqb_tells n m) as (λ w. (get_or (mark (n - 1) flags) (m - 1) false ≡ false) ↔ IsNew (n ∷ numbers) m) [
+    elim (eqb_tells n m) as (λ w. (get_or (with_mark (n - 1) flags) (m - 1) false ≡ false) ↔ IsNew (n ∷ numbers) m) [
       | inl is ↦ (
         λ none.
-            let marked : get_or (mark (n - 1) flags) (m - 1) false ≡ true =
-            subst (λ (k : ℕ). get_or (mark (n - 1) flags) (k - 1) false ≡ true) is.1 (mark_here (n - 1) flags) in
+            let marked : get_or (with_mark (n - 1) flags) (m - 1) false ≡ true =
+            subst (λ (k : ℕ). get_or (with_mark (n - 1) flags) (k - 1) false ≡ true) is.1 (mark_here (n - 1) flags) in
             let bad : true ≡ false = sym marked ∙ none in
             absurd cc,
         λ new. absurd (new.0 is.1),
       )
       | inr other ↦
-          let same : get_or (mark (n - 1) flags) (m - 1) false ≡ get_or flags (m - 1) false =
+          let same : get_or (with_mark (n - 1) flags) (m - 1) false ≡ get_or flags (m - 1) false =
           mark_other (n - 1) (m - 1) flags (λ e. other.1 (omega (arith, e, some, more))) in (
             λ none. (other.1, (all m more).0 (sym same ∙ none)),
             λ new. same ∙ (all m more).1 new.1,
@@ -99,7 +99,7 @@ entry_tells schema old world p n publisher entry e free found mine fresh good h 
       free = at.2.staged ∙ free;
       is = omega (arith, some);
       placed = there;
-      numbered = omega (arith, some, numbered_at 1 old.sequence (n - 1) entry good.entries here);
+      numbered = omega (arith, some, entry_number_at 1 old.sequence (n - 1) entry good.entries here);
       own = mine;
       new_number = (h.withdrawn n some).0 fresh;
       kept = refl;

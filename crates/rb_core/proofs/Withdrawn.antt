@@ -67,22 +67,22 @@ once_through mids new leads =
 not_there : (numbers : List ℕ) (n i : ℕ) → IsNew numbers n → slice_get numbers i ≡ Some n → ⊥
 not_there numbers n i new at = all_get (λ (m : ℕ). m ≡ n → ⊥) numbers i n new at refl
 
-same_place : (numbers : List ℕ) → AreDistinct numbers → (i j n : ℕ) → slice_get numbers i ≡ Some n
+stands_once : (numbers : List ℕ) → AreDistinct numbers → (i j n : ℕ) → slice_get numbers i ≡ Some n
     → slice_get numbers j ≡ Some n → i ≡ j
-same_place [] distinct i j n one other = absurd (cc one)
-same_place (m ∷ numbers) distinct zero zero n one other = refl
-same_place (m ∷ numbers) distinct zero (suc j) n one other =
+stands_once [] distinct i j n one other = absurd (cc one)
+stands_once (m ∷ numbers) distinct zero zero n one other = refl
+stands_once (m ∷ numbers) distinct zero (suc j) n one other =
     let same : m ≡ n = cc one in
     absurd (not_there numbers n j (subst (IsNew numbers) same distinct.0) other)
-same_place (m ∷ numbers) distinct (suc i) zero n one other =
+stands_once (m ∷ numbers) distinct (suc i) zero n one other =
     let same : m ≡ n = cc other in
     absurd (not_there numbers n i (subst (IsNew numbers) same distinct.0) one)
-same_place (m ∷ numbers) distinct (suc i) (suc j) n one other =
-    ap suc (same_place numbers distinct.1 i j n one other)
+stands_once (m ∷ numbers) distinct (suc i) (suc j) n one other =
+    ap suc (stands_once numbers distinct.1 i j n one other)
 
 pub withdrawn_at_one_place : (mids : List World) (new : World) (i j n : ℕ) → Leads world_begun mids new
     → slice_get new.withdrawn i ≡ Some n → slice_get new.withdrawn j ≡ Some n → i ≡ j
-withdrawn_at_one_place mids new i j n leads = same_place new.withdrawn (once_through mids new leads).distinct i j n
+withdrawn_at_one_place mids new i j n leads = stands_once new.withdrawn (once_through mids new leads).distinct i j n
 
 pub withdrawn_is_placed : (mids : List World) (new : World) (i n : ℕ) → Leads world_begun mids new
     → slice_get new.withdrawn i ≡ Some n → (1 ≤ n) × (n ≤ length new.sequence)

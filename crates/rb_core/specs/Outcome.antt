@@ -34,7 +34,7 @@ use Rattle.rb_core.specs.declared.reply.Reply.{Reply}
 use Rattle.rb_core.specs.declared.reply.Reply.TheVariants as reply
 use Rattle.rb_core.specs.declared.reply.BrokerRefusal.{BrokerRefusal}
 use Rattle.rb_core.specs.declared.reply.BrokerRefusal.TheVariants as refusal
-use Rattle.rb_core.specs.State.{State, empty_tables, is_withdrawn, mark}
+use Rattle.rb_core.specs.State.{State, empty_tables, is_withdrawn, with_mark}
 
 abbrev pub refused : State → BrokerRefusal → Reply × State
 refused old why = (reply.Refused why, old)
@@ -166,7 +166,7 @@ withdrawn_entry old p publisher n entry = (
   reply.Staged,
   record (with_publisher old p (record publisher {
     staged = Some (record { origin = Withdraws n; body = withdrawal_of entry.item.body });
-  })) { withdrawn = mark (n - 1) old.withdrawn },
+  })) { withdrawn = with_mark (n - 1) old.withdrawn },
 )
 
 abbrev pub withdrawn_from : State → ℕ → Publisher → ℕ → Option Entry → Reply × State

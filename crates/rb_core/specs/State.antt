@@ -65,11 +65,11 @@ abbrev pub is_withdrawn : State → ℕ → Bool
 is_withdrawn w n = get_or w.withdrawn (n - 1) false
 
 -- marks the entry at this place, from 0
-abbrev pub mark : ℕ → List Bool → List Bool
-mark zero [] = true ∷ []
-mark zero (flag ∷ flags) = true ∷ flags
-mark (suc place) [] = false ∷ mark place []
-mark (suc place) (flag ∷ flags) = flag ∷ mark place flags
+abbrev pub with_mark : ℕ → List Bool → List Bool
+with_mark zero [] = true ∷ []
+with_mark zero (flag ∷ flags) = true ∷ flags
+with_mark (suc place) [] = false ∷ with_mark place []
+with_mark (suc place) (flag ∷ flags) = flag ∷ with_mark place flags
 
 -- ---- the invariant
 

@@ -28,8 +28,8 @@ pub record Subscriber : Type 0 where
 
 -- The abstract world. It has the publishers and the intake of sent items in order. The item in hand
 -- has left the intake and has no number yet. It has the sequence, its closing number if it is
--- closed, all links ever issued, and the subscriptions. It has the numbers of the withdrawn entries,
--- the last one first. Publishers and subscriptions are numbered from 0.
+-- closed, all links ever issued, and the subscriptions. It has the numbers of the withdrawn
+-- entries, the last one first. Publishers and subscriptions are numbered from 0.
 pub record World : Type 0 where
   pub senders : List Sender
   pub intake : List Item

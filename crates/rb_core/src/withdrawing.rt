@@ -11,7 +11,7 @@ ghost use Rattle.rb_core.specs.Outcome.{entry_of};
 ghost use Rattle.rb_core.specs.declared.event.Event.TheVariants as event;
 ghost use Rattle.rb_core.specs.declared.publisher.Publisher.{Publisher};
 ghost use Rattle.rb_sequence.specs.Entry.{Entry};
-ghost use Rattle.rb_core.specs.State.{AreNumbered, IsWorld, is_withdrawn, mark};
+ghost use Rattle.rb_core.specs.State.{AreNumbered, IsWorld, is_withdrawn, with_mark};
 
 use crate::parts::Parts;
 use crate::publisher::Staged;
@@ -110,7 +110,7 @@ fn withdrawal(alloc: Global, entry: &Entry) -> Result<Changeset, AllocError>
 
 // Marks the entry at this place. Does not change the marks if memory runs out.
 fn set_mark(marks: &mut Vec<bool>, place: usize) -> Result<(), AllocError>
-    ensures ok { OnOk result (marks.new.items ≡ mark place marks.old.items) }
+    ensures ok { OnOk result (marks.new.items ≡ with_mark place marks.old.items) }
     ensures err { OnErr result (marks.new.items ≡ marks.old.items) }
 {
     if place < marks.len() {
@@ -123,7 +123,7 @@ fn set_mark(marks: &mut Vec<bool>, place: usize) -> Result<(), AllocError>
 // the same for a place without a mark
 fn add_mark(marks: &mut Vec<bool>, place: usize) -> Result<(), AllocError>
     requires { length marks.old.items ≤ place }
-    ensures ok { OnOk result (marks.new.items ≡ mark place marks.old.items) }
+    ensures ok { OnOk result (marks.new.items ≡ with_mark place marks.old.items) }
     ensures err { OnErr result (marks.new.items ≡ marks.old.items) }
 {
     let more = (place - marks.len()).checked_add(1).ok_or(AllocError)?;
@@ -137,7 +137,7 @@ fn add_mark(marks: &mut Vec<bool>, place: usize) -> Result<(), AllocError>
 fn fill(marks: &mut Vec<bool>, place: usize)
     requires few { length marks.old.items ≤ place }
     requires capacity { place < vec_capacity marks.old }
-    ensures same { mark place marks.new.items ≡ mark place marks.old.items }
+    ensures same { with_mark place marks.new.items ≡ with_mark place marks.old.items }
     ensures len { length marks.new.items ≡ place }
     ensures capacity { vec_capacity marks.new ≡ vec_capacity marks.old }
 {
