@@ -1,6 +1,6 @@
 -- Marks of withdrawn entries: how they are written, and what is read of them.
 use Rattle.std.proofs.Common.{◌≡◌, ℕ, zero, suc, ◌<◌, ◌≤◌, Bool, true, false, List, [], ◌∷◌, ◌++◌, length, slice_set}
-use Rattle.std.proofs.Common.{refl, ap, arith}
+use Rattle.std.proofs.Common.{◌-◌, refl, ap, arith}
 use Rattle.std.specs.Prelude.{get_or}
 use Rattle.rb_core.specs.State.{with_mark}
 
@@ -27,6 +27,16 @@ mark_set place [] within = absurd (omega (arith, within))
 mark_set zero (flag ∷ flags) within = refl
 mark_set (suc place) (flag ∷ flags) within =
     ap (λ (xs : List Bool). flag ∷ xs) (mark_set place flags (omega (arith, within)))
+
+-- there are no more of them than a number above the place
+pub marks_within : (place : ℕ) (flags : List Bool) (m : ℕ) → place < m → length flags ≤ m
+    → length (with_mark place flags) ≤ m
+marks_within zero [] m less few = omega (arith, less)
+marks_within zero (flag ∷ flags) m less few = omega (arith, few)
+marks_within (suc place) [] m less few =
+    omega (arith, less, marks_within place [] (m - 1) (omega (arith, less)) (omega arith))
+marks_within (suc place) (flag ∷ flags) m less few =
+    omega (arith, less, marks_within place flags (m - 1) (omega (arith, less)) (omega (arith, few)))
 
 -- ---- as they are read
 

@@ -119,6 +119,7 @@ empty_is_world limits schema picture =
       deliveries = tt;
       next = refl;
       are_of = tt;
+      marks = omega arith;
     }
 
 nothing_tells : (limits : Limits) (schema : List Shape) → IsToldBy schema (empty_world limits schema) world_begun

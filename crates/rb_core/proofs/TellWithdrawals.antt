@@ -21,7 +21,7 @@ use Rattle.rb_core.specs.Told as say
 use Rattle.rb_core.specs.Told.{IsSender, IsToldBy}
 use Rattle.rb_core.specs.World.{Sender, World}
 use Rattle.rb_core.proofs.Marks.{mark_here, mark_other}
-use Rattle.rb_core.proofs.Numbers.{none_below, found_from_one}
+use Rattle.rb_core.proofs.Numbers.{number_from_one, found_from_one}
 use Rattle.rb_core.proofs.Pairs.{paired_get}
 use Rattle.rb_core.proofs.Telling.{TellingGoes, nothing_told, move_told}
 use Rattle.rb_core.proofs.TellPublishers.{with_pair}
@@ -36,15 +36,6 @@ entry_number_at n (first ∷ entries) zero entry are found =
     omega (arith, are.0, ap (λ (e : Entry). e.number) same)
 entry_number_at n (first ∷ entries) (suc i) entry are found =
     omega (arith, entry_number_at (suc n) entries i entry are.1 found)
-
--- an entry that is found has a number from 1 on
-number_from_one : (n : ℕ) (entries : List Entry) (entry : Entry) → AreNumbered (λ (e : Entry). e.number) 1 entries
-    → find (λ (e : Entry). e.number == n) entries ≡ Some entry → 1 ≤ n
-number_from_one zero entries entry are found =
-    let none : None ≡ Some entry =
-    sym (none_below (λ (e : Entry). e.number) 1 entries zero are (omega arith)) ∙ found in
-    absurd cc
-number_from_one (suc n) entries entry are found = omega arith
 
 -- ---- what is withdrawn
 
@@ -77,7 +68,7 @@ entry_tells : (schema : List Shape) (old : State) (world : World) (p n : ℕ) (p
     → entry.item.publisher ≡ p → is_withdrawn old n ≡ false → IsWorld old → IsToldBy schema old world
     → TellingGoes schema world (event.Withdraw p n) (out.withdrawn_entry old p publisher n entry)
 entry_tells schema old world p n publisher entry e free found mine fresh good h =
-    let some : 1 ≤ n = number_from_one n old.sequence entry good.entries found in
+    let some : 1 ≤ n = number_from_one (λ (x : Entry). x.number) n old.sequence entry good.entries found in
     let here : slice_get old.sequence (n - 1) ≡ Some entry =
     sym (found_from_one (λ (x : Entry). x.number) old.sequence n good.entries some) ∙ found in
     let there : slice_get world.sequence (n - 1) ≡ Some entry =

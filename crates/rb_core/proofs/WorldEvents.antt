@@ -1,7 +1,7 @@
 -- Each event preserves the invariant of a world, by the cases of its outcome.
 use Rattle.std.proofs.Common.{◌≡◌, ◌↔◌, ℕ, Bool, true, false, cond, List, [], ◌∷◌, ◌++◌, Option, Some, None, Result, Ok}
 use Rattle.std.proofs.Common.{Err, length, nat_le, ◌≤◌, ◌+◌, slice_get, slice_set, refl, sym, ap, ◌∙◌, arith}
-use Rattle.std.specs.Prelude.{⊤, not, ◌==◌}
+use Rattle.std.specs.Prelude.{⊤, not, ◌==◌, ◌-◌}
 use Rattle.std.proofs.lemmas.Bool.{leb-false}
 use Rattle.std.proofs.lemmas.List.{length-append, length-set, map_push}
 use Rattle.cs_model.specs.Section.{Section}
@@ -36,6 +36,8 @@ use Rattle.rb_core.proofs.DeskLaws.{take_any_keeps, ack_keeps, nack_keeps, expir
 use Rattle.rb_core.proofs.DeskLaws.{unsubscribe_keeps, close_keeps, place_keeps}
 use Rattle.rb_core.proofs.Worlds.{apart, worlds_changed, same_outline, handed_over, placed_next, set_end, same_end}
 use Rattle.rb_core.proofs.Worlds.{found_end, marks_changed}
+use Rattle.rb_core.proofs.Marks.{marks_within}
+use Rattle.rb_core.proofs.Numbers.{found_within}
 
 -- an end accepts where it takes the step, and only there
 abbrev pub AcceptsBySteps : Type 0
@@ -109,17 +111,19 @@ send_keeps : (old : State) (p : ℕ) (found : Option Publisher) → IsWorld old 
 send_keeps old p None good = good
 send_keeps old p (Some publisher) good = sent_by_keeps old p publisher publisher.staged good
 
-withdraw_from_keeps : (old : State) (p n : ℕ) (publisher : Publisher) (found : Option Entry) → IsWorld old
-    → IsWorld (withdrawn_from old p publisher n found).1
-withdraw_from_keeps old p n publisher None good = good
-withdraw_from_keeps old p n publisher (Some entry) good =
+withdraw_from_keeps : (old : State) (p n : ℕ) (publisher : Publisher) (found : Option Entry)
+    → entry_of old n ≡ found → IsWorld old → IsWorld (withdrawn_from old p publisher n found).1
+withdraw_from_keeps old p n publisher None is good = good
+withdraw_from_keeps old p n publisher (Some entry) is good =
+    let within = found_within (λ (e : Entry). e.number) n old.sequence entry good.entries is in
     world_events_unless (not (entry.item.publisher == p)) _ _ good
     (λ mine. world_events_unless (is_withdrawn old n) _ _ good
-    (λ fresh. marks_changed _ _ (publisher_set old p _ good)))
+    (λ fresh. marks_changed _ _ (publisher_set old p _ good)
+    (marks_within (n - 1) old.withdrawn (length old.sequence) within good.marks)))
 
 withdraw_by_keeps : (old : State) (p n : ℕ) (publisher : Publisher) (kept : Option Staged) → IsWorld old
     → IsWorld (withdrawn_by old p publisher n kept).1
-withdraw_by_keeps old p n publisher None good = withdraw_from_keeps old p n publisher (entry_of old n) good
+withdraw_by_keeps old p n publisher None good = withdraw_from_keeps old p n publisher (entry_of old n) refl good
 withdraw_by_keeps old p n publisher (Some staged) good = good
 
 withdraw_keeps : (old : State) (p n : ℕ) (found : Option Publisher) → IsWorld old

@@ -89,7 +89,8 @@ IsOf endpoints sequence d = (d.sub < length endpoints) × (d.last ≤ length seq
 -- The invariant of a world. Its desk shows a picture, whose front is the sequence's last number.
 -- There are at most 64 publishers, and the intake has no more items than the picture's limits say.
 -- The desk's subscriptions are those of the endpoints. Entries and deliveries are numbered from 1.
--- The subscription of each delivery exists, and its numbers are placed.
+-- The subscription of each delivery exists, and its numbers are placed. There are no more marks
+-- than entries.
 pub record IsWorld (w : State) : Type 0 where
   pub picture : IsPicture w.desk
   pub front : w.desk.front ≡ length w.sequence
@@ -100,6 +101,7 @@ pub record IsWorld (w : State) : Type 0 where
   pub deliveries : AreNumbered (λ d. d.number) 1 w.deliveries
   pub next : w.desk.next_delivery ≡ suc (length w.deliveries)
   pub are_of : AllByRecursion (IsOf w.endpoints w.sequence) w.deliveries
+  pub marks : length w.withdrawn ≤ length w.sequence
 
 -- how many items are sent and have no number: the intake and the item in hand
 abbrev pub how_many_held : Option Item → ℕ

@@ -1,4 +1,4 @@
-use Rattle.std.proofs.Common.{◌≡◌, ◌<◌, ◌≤◌, ◌∷◌, [], Bool, false, List, length, ap, ◌∙◌, arith}
+use Rattle.std.proofs.Common.{◌<◌, ◌∷◌, [], Bool, false, List, length, ap, ◌∙◌, arith}
 use Rattle.std.proofs.lemmas.List.{length-append}
 use Rattle.rb_core.specs.State.{with_mark}
 use Rattle.rb_core.proofs.Marks.{mark_push}
