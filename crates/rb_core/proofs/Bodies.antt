@@ -1,5 +1,5 @@
 -- Whatever is answered: where events feed bytes, what they report as staged, sent and placed are changesets.
-use Rattle.std.proofs.Common.{◌≡◌, ◌↔◌, ℕ, List, [], ◌∷◌, Option, Some, None, Result, Ok, Err, refl}
+use Rattle.std.proofs.Common.{◌≡◌, ◌↔◌, ℕ, zero, suc, ◌-◌, List, [], ◌∷◌, Option, Some, None, Result, Ok, Err, refl}
 use Rattle.std.specs.Prelude.{IfSome, slice_get}
 use Rattle.std.specs.List.{AllByRecursion}
 use Rattle.cs_model.proofs.CallerLemmas.{all_push}
@@ -13,8 +13,13 @@ use Rattle.cs_parse.specs.Reading.{answer_of}
 use Rattle.rb_sequence.specs.declared.item.Item.{Item}
 use Rattle.rb_sequence.specs.Entry.{Entry}
 use Rattle.rb_subscriber.specs.Accept.{AreChangesets}
+use Rattle.cs_group.proofs.Fitting.{group_fits}
+use Rattle.cs_group.specs.Group.{group_of}
+use Rattle.cs_invert.proofs.Inverting.{inverse_is_changeset}
+use Rattle.cs_invert.specs.Inverse.{withdrawal_of}
 use Rattle.rb_core.specs.declared.event.Event.{Event}
 use Rattle.rb_core.specs.declared.event.Event.TheVariants as event
+use Rattle.rb_core.specs.declared.publisher.Staged.{Staged}
 use Rattle.rb_core.specs.declared.reply.Reply.{Reply}
 use Rattle.rb_core.specs.declared.reply.Reply.TheVariants as reply
 use Rattle.rb_core.specs.Run.{Answer, FeedsBytes}
@@ -24,10 +29,14 @@ use Rattle.rb_core.specs.World.{Sender, Subscriber, World, world_begun}
 use Rattle.rb_core.proofs.Moving.{all_set, all_get}
 use Rattle.rb_core.proofs.TellPublishers.{tell_publishers_no_bytes, more_bytes}
 
+-- what is staged is a changeset
+abbrev pub IsStagedBody : Staged → Type 0
+IsStagedBody staged = IsChangeset staged.body
+
 -- a publisher's text is bytes, and what it staged is a changeset
 pub record IsSound (sender : Sender) : Type 0 where
   pub bytes : AreBytes sender.text
-  pub staged : IfSome sender.staged IsChangeset
+  pub staged : IfSome sender.staged IsStagedBody
 
 abbrev pub IsBody : Item → Type 0
 IsBody item = IsChangeset item.body
@@ -50,7 +59,7 @@ ReadingSpells = (text : List ℕ) (changeset : List Section) → AreBytes text
     → (answer_of text ≡ Ok changeset) ↔ Spells text changeset
 
 staged_valid : ReadingSpells → (text : List ℕ) (answer : Result (List Section) ParseFault) → AreBytes text
-    → answer_of text ≡ answer → IfSome (staged_by_text answer) IsChangeset
+    → answer_of text ≡ answer → IfSome (staged_by_text answer) IsStagedBody
 staged_valid spells text (Ok changeset) bytes is = ((spells text changeset bytes).0 is).is_changeset
 staged_valid spells text (Err fault) bytes is = tt
 
@@ -66,10 +75,10 @@ sender_sound old p change (Some sender) e sound h = record {
   sequence = h.sequence;
 }
 
-staged_sent : (old : World) (p own : ℕ) (sender : Sender) (staged : Option (List Section)) → AreBytes sender.text
-    → IfSome staged IsChangeset → HasChangesets old → HasChangesets (say.sent_staged old p own sender staged)
+staged_sent : (old : World) (p own : ℕ) (sender : Sender) (staged : Option Staged) → AreBytes sender.text
+    → IfSome staged IsStagedBody → HasChangesets old → HasChangesets (say.sent_staged old p own sender staged)
 staged_sent old p own sender None bytes valid h = h
-staged_sent old p own sender (Some body) bytes valid h = record {
+staged_sent old p own sender (Some staged) bytes valid h = record {
   senders = all_set IsSound old.senders p _ h.senders (record { bytes = bytes; staged = tt });
   intake = all_push IsBody old.intake _ h.intake valid;
   hand = h.hand;
@@ -82,6 +91,35 @@ sent_sound old p own None e h = h
 sent_sound old p own (Some sender) e h =
     let sound = all_get IsSound old.senders p sender h.senders e in
     staged_sent old p own sender sender.staged sound.bytes sound.staged h
+
+-- the withdrawal of a changeset is one
+withdrawal_is_changeset : (body : List Section) → IsChangeset body → IsChangeset (withdrawal_of body)
+withdrawal_is_changeset body is = inverse_is_changeset (group_of body) (group_fits body is)
+
+entry_withdrawn : (old : World) (p number : ℕ) (sender : Sender) (entry : Option Entry) → IsSound sender
+    → IfSome entry (λ (e : Entry). IsChangeset e.item.body) → HasChangesets old
+    → HasChangesets (say.withdrawn_entry old p number sender entry)
+entry_withdrawn old p number sender None sound body h = h
+entry_withdrawn old p number sender (Some entry) sound body h = record {
+  senders = all_set IsSound old.senders p _ h.senders
+      (record { bytes = sound.bytes; staged = withdrawal_is_changeset entry.item.body body });
+  intake = h.intake;
+  hand = h.hand;
+  sequence = h.sequence;
+}
+
+placed_body : (sequence : List Entry) (place : ℕ) → AreChangesets sequence
+    → IfSome (slice_get sequence place) (λ (e : Entry). IsChangeset e.item.body)
+placed_body [] place bodies = tt
+placed_body (entry ∷ sequence) zero bodies = bodies.0
+placed_body (entry ∷ sequence) (suc place) bodies = placed_body sequence place bodies.1
+
+withdrawn_sound : (old : World) (p number : ℕ) (found : Option Sender) → slice_get old.senders p ≡ found
+    → HasChangesets old → HasChangesets (say.withdrawn_of old p number found)
+withdrawn_sound old p number None e h = h
+withdrawn_sound old p number (Some sender) e h =
+    entry_withdrawn old p number sender (slice_get old.sequence (number - 1))
+    (all_get IsSound old.senders p sender h.senders e) (placed_body old.sequence (number - 1) h.sequence) h
 
 -- ---- the sequence
 
@@ -135,6 +173,8 @@ told_sound spells schema old (event.End p) reply.Staged feeds h =
     }) h
 told_sound spells schema old (event.Send p) (reply.Sent own) feeds h =
     sent_sound old p own (slice_get old.senders p) refl h
+told_sound spells schema old (event.Withdraw p n) reply.Staged feeds h =
+    withdrawn_sound old p n (slice_get old.senders p) refl h
 told_sound spells schema old event.Turn (reply.Placed number) feeds h =
     let pulled = pulled_sound old old.hand old.intake h.intake h in
     placed_sound (say.pulled old) number (say.pulled old).hand pulled.hand pulled

@@ -2,6 +2,7 @@
 use Rattle.std.proofs.Common.{◌≡◌, ℕ, List, ◌++◌, Option, Some, None, Result, Ok, Err, refl, sym, ap, subst, ◌∙◌}
 use Rattle.std.specs.Prelude.{◌↔◌, slice_get}
 use Rattle.cs_model.specs.Bytes.{AreBytes}
+use Rattle.cs_model.specs.declared.origin.Origin.TheVariants.{Sent}
 use Rattle.cs_model.specs.declared.schema.SectionFault.{SectionFault}
 use Rattle.cs_model.specs.Schema.{refusal_of}
 use Rattle.cs_model.specs.Section.{Section}
@@ -120,7 +121,10 @@ feed_by_text feeding goes tells old p bytes publisher text given new found took 
 
 abbrev IsStagedText : State → ℕ → Publisher → List Section → Reply → State → Type 0
 IsStagedText old p publisher changeset given new = (given ≡ reply.Staged)
-    × (new ≡ with_publisher old p (record publisher { stream = nothing; staged = Some changeset }))
+    × (new ≡ with_publisher old p (record publisher {
+      stream = nothing;
+      staged = Some (record { origin = Sent; body = changeset });
+    }))
 
 abbrev ByTextStays : State → Reply → Reply → State → Type 0
 ByTextStays old answer given new = (given ≡ answer) × (new ≡ old)

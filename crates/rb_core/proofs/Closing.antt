@@ -41,6 +41,8 @@ closed_kept last sequence = record {
       (record { closed = h.closed; same = h.same });
   unsubscribes = λ old new move h. subst (IsClosed last sequence) (sym move.kept)
       (record { closed = h.closed; same = h.same });
+  withdraws = λ old new move h. subst (IsClosed last sequence) (sym move.kept)
+      (record { closed = h.closed; same = h.same });
 }
 
 pub nothing_placed : (old : World) (mids : List World) (new : World) (last : ℕ) → old.closing ≡ Some last
@@ -108,6 +110,7 @@ left_kept s accepted rows = record {
       (becomes s accepted rows old.subscribers move.s move.subscriber _ move.found
       (λ left. record { closed = refl; accepted_same = left.accepted_same; tables_same = left.tables_same }) h.0 h.1
       h.2);
+  withdraws = λ old new move h. subst (Left s accepted rows) (sym move.kept) (h.0, h.1, h.2);
 }
 
 pub nothing_accepted : (old : World) (mids : List World) (new : World) (s : ℕ) (q : Subscriber)

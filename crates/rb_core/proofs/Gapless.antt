@@ -150,6 +150,7 @@ runs_kept = record {
   unsubscribes = λ old new move runs.
       gapless_becomes old new move.s move.subscriber (record move.subscriber { closed = true }) runs move.found
       (λ h. record { run = h.run; placed = h.placed; deliveries = h.deliveries }) move.kept;
+  withdraws = λ old new move runs. subst AreRuns (sym move.kept) runs;
 }
 
 pub gapless : (mids : List World) (new : World) (s : ℕ) (q : Subscriber) → Leads world_begun mids new

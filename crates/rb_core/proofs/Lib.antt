@@ -1,11 +1,13 @@
 pub mod Moving
 pub mod Gapless
 pub mod Closing
+pub mod Withdrawn
 pub mod Sendings
 pub mod Bodies
 pub mod Singly
 pub mod Written
 pub mod Numbers
+pub mod Marks
 pub mod DeskLaws
 pub mod Worlds
 pub mod WorldEvents
@@ -14,6 +16,7 @@ pub mod Pairs
 pub mod Telling
 pub mod TellPublishers
 pub mod TellSequence
+pub mod TellWithdrawals
 pub mod TellSubscriptions
 pub mod TellDeliveries
 pub mod TellRuns

@@ -4,7 +4,7 @@ use Rattle.std.specs.Prelude.{slice_get, slice_set}
 use Rattle.std.specs.List.{AllByRecursion}
 use Rattle.rb_core.specs.World.{World}
 use Rattle.rb_core.specs.Moves.{IsIn, AddsPublisher, Streams, Sends, Pulls, Places, Closes, Subscribes, Delivers}
-use Rattle.rb_core.specs.Moves.{Accepts, Reconnects, Unsubscribes, Moves, Leads}
+use Rattle.rb_core.specs.Moves.{Accepts, Reconnects, Unsubscribes, Withdraws, Moves, Leads}
 
 -- ---- lists
 
@@ -56,6 +56,7 @@ pub record MovingKeeps (P : World → Type 0) : Type 0 where
   pub accepts : (old new : World) → Accepts old new → P old → P new
   pub reconnects : (old new : World) → Reconnects old new → P old → P new
   pub unsubscribes : (old new : World) → Unsubscribes old new → P old → P new
+  pub withdraws : (old new : World) → Withdraws old new → P old → P new
 
 kept_by : (P : World → Type 0) → MovingKeeps P → (old new : World) → Moves old new → P old → P new
 kept_by P keeps old new move h = elim move as (λ w. P new) [
@@ -80,7 +81,10 @@ kept_by P keeps old new move h = elim move as (λ w. P new) [
                     | inl x ↦ keeps.accepts old new x h
                     | inr m ↦ elim m as (λ w. P new) [
                       | inl x ↦ keeps.reconnects old new x h
-                      | inr x ↦ keeps.unsubscribes old new x h
+                      | inr m ↦ elim m as (λ w. P new) [
+                        | inl x ↦ keeps.unsubscribes old new x h
+                        | inr x ↦ keeps.withdraws old new x h
+                      ]
                     ]
                   ]
                 ]

@@ -5,7 +5,7 @@ use Rattle.std.specs.Option.{option_copied}
 use Rattle.std.specs.Slice.{IsItemAt}
 use Rattle.std.proofs.lemmas.Bool.{ltb-true, ltb-false}
 use Rattle.std.proofs.lemmas.Bool.Decides.{eqb_tells}
-use Rattle.std.proofs.lemmas.Option.{slice_get_past, slice_get_read}
+use Rattle.std.proofs.lemmas.Option.{slice_get_past, slice_get_read, slice_get_within}
 use Rattle.rb_core.specs.State.{AreNumbered}
 
 -- one more comes behind, under the next number
@@ -50,6 +50,20 @@ pub found_from_one : {A : Type 0} (number : A → ℕ) (xs : List A) (m : ℕ) �
     → find (λ x. number x == m) xs ≡ slice_get xs (m - 1)
 found_from_one number xs m are some =
     ap (λ (k : ℕ). find (λ x. number x == k) xs) (omega (arith, some)) ∙ found_at number 1 xs (m - 1) are
+
+-- one that is found has a number from 1 on, and its place is within the list
+pub number_from_one : {A : Type 0} (number : A → ℕ) (m : ℕ) (xs : List A) (x : A) → AreNumbered number 1 xs
+    → find (λ y. number y == m) xs ≡ Some x → 1 ≤ m
+number_from_one number zero xs x are found =
+    let none : None ≡ Some x = sym (none_below number 1 xs zero are (omega arith)) ∙ found in
+    absurd cc
+number_from_one number (suc m) xs x are found = omega arith
+
+pub found_within : {A : Type 0} (number : A → ℕ) (m : ℕ) (xs : List A) (x : A) → AreNumbered number 1 xs
+    → find (λ y. number y == m) xs ≡ Some x → m - 1 < length xs
+found_within number m xs x are found =
+    slice_get_within xs (m - 1) x
+    (sym (found_from_one number xs m are (number_from_one number m xs x are found)) ∙ found)
 
 -- ---- as the code finds it
 

@@ -159,6 +159,8 @@ sent_kept p = record {
   accepts = λ old new move h. subst (SendingsSent p) (sym move.kept) h;
   reconnects = λ old new move h. subst (SendingsSent p) (sym move.kept) h;
   unsubscribes = λ old new move h. subst (SendingsSent p) (sym move.kept) h;
+  withdraws = λ old new move h. subst (SendingsSent p) (sym move.kept)
+      (same_holds old.senders p move.p move.sender _ (own_of p (flow old)) move.found refl h);
 }
 
 -- ---- in order

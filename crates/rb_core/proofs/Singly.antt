@@ -126,6 +126,7 @@ single_kept laws = record {
   unsubscribes = λ old new move h. subst AreSingle (sym move.kept)
       (single_becomes old move.s move.subscriber _ h move.found
       (λ placed is. record { columns = is.columns; tables = is.tables }));
+  withdraws = λ old new move h. subst AreSingle (sym move.kept) h;
 }
 
 are_single : SinglyLaws → (mids : List World) (new : World) (s : ℕ) (q : Subscriber) → Leads world_begun mids new

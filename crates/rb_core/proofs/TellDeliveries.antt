@@ -142,6 +142,7 @@ offered_tells schema old world delivery picture event is shown good h =
           (all_set (AreBelow (suc delivery.number)) world.subscribers delivery.sub r later of_one);
       bases = all_set (BeginsEmpty schema) world.subscribers delivery.sub r h.bases
           (all_get (BeginsEmpty schema) world.subscribers delivery.sub q h.bases at.1);
+      withdrawn = h.withdrawn;
     })
 
 took_tells : TakeShows → (schema : List Shape) (old : State) (world : World) (s now : ℕ) (end : Endpoint)

@@ -18,6 +18,7 @@ use Rattle.rb_sequence.specs.declared.item.Item.{Item}
 use Rattle.rb_core.specs.declared.event.Event.{Event}
 use Rattle.rb_core.specs.declared.event.Event.TheVariants as event
 use Rattle.rb_core.specs.declared.publisher.Publisher.{Publisher}
+use Rattle.rb_core.specs.declared.publisher.Staged.{Staged}
 use Rattle.rb_core.specs.declared.reply.Reply.{Reply}
 use Rattle.rb_core.specs.declared.reply.Reply.TheVariants as reply
 use Rattle.rb_core.specs.declared.reply.BrokerRefusal.TheVariants as refusal
@@ -85,6 +86,7 @@ publisher_tells begins schema old world h =
       links = h.links;
       numbers = h.numbers;
       bases = h.bases;
+      withdrawn = h.withdrawn;
     } in
     either (TellingGoes schema world event.Publisher) (nat_le 64 (length old.publishers))
     (out.refused old refusal.TooMany) (reply.Publisher (length old.publishers), came)
@@ -95,7 +97,7 @@ publisher_tells begins schema old world h =
 -- ---- a publisher changes
 
 -- it becomes another, and so does what is told of it
-with_pair : (schema : List Shape) (old : State) (world : World) (p : ℕ) (publisher : Publisher) (sender : Sender)
+pub with_pair : (schema : List Shape) (old : State) (world : World) (p : ℕ) (publisher : Publisher) (sender : Sender)
     → IsSender publisher sender → IsToldBy schema old world
     → IsToldBy schema (with_publisher old p publisher) (with_sender world p sender)
 with_pair schema old world p publisher sender pair h = record {
@@ -110,6 +112,7 @@ with_pair schema old world p publisher sender pair h = record {
   links = h.links;
   numbers = h.numbers;
   bases = h.bases;
+  withdrawn = h.withdrawn;
 }
 
 -- what it sent stays as it was
@@ -163,7 +166,8 @@ reset_tells begins schema old world p (Some publisher) e h =
 
 -- what a text spells is what is staged of it
 staged_spells : ProgressTells → (progress : Progress) (text : List ℕ) (changeset : List Section) → Took progress text
-    → stream.answer_at_end progress ≡ Ok changeset → say.staged_by_text (answer_of text) ≡ Some changeset
+    → stream.answer_at_end progress ≡ Ok changeset
+    → say.staged_by_text (answer_of text) ≡ Some (record { origin = Sent; body = changeset })
 staged_spells tells progress text changeset took ok =
     ap say.staged_by_text (sym (tells text took.bytes) ∙ ap stream.answer_at_end (sym took.read) ∙ ok)
 
@@ -175,7 +179,7 @@ admitted_ends : BeginsWithNothing → ProgressTells
     → TellingGoes schema world (event.End p) (out.staged_by old p publisher (end.admitted changeset fault))
 admitted_ends begins tells schema old world p publisher changeset None ok e h =
     stages_told schema old world (event.End p) reply.Staged p publisher
-    (record publisher { stream = nothing; staged = Some changeset }) say.ended refl e
+    (record publisher { stream = nothing; staged = Some (record { origin = Sent; body = changeset }) }) say.ended refl e
     (λ sender pair. record {
       stream = no_text begins;
       staged = staged_spells tells publisher.stream sender.text
@@ -198,11 +202,11 @@ answered_ends begins tells schema old world p publisher (Err fault) is e h =
 
 holding_ends : BeginsWithNothing → ProgressTells
     → (schema : List Shape) (old : State) (world : World) (p : ℕ) (publisher : Publisher)
-    (staged : Option (List Section)) → slice_get old.publishers p ≡ Some publisher → IsToldBy schema old world
+    (staged : Option Staged) → slice_get old.publishers p ≡ Some publisher → IsToldBy schema old world
     → TellingGoes schema world (event.End p) (out.ended_by old p publisher staged)
 holding_ends begins tells schema old world p publisher None e h =
     answered_ends begins tells schema old world p publisher (stream.answer_at_end publisher.stream) refl e h
-holding_ends begins tells schema old world p publisher (Some changeset) e h =
+holding_ends begins tells schema old world p publisher (Some staged) e h =
     nothing_told schema world (event.End p) (reply.Refused refusal.Holding) old refl h
 
 pub end_tells : BeginsWithNothing → ProgressTells
@@ -216,19 +220,19 @@ end_tells begins tells schema old world p (Some publisher) e h =
 
 -- ---- a publisher sends
 
-abbrev sending : ℕ → ℕ → List Section → Item
-sending p own body = record { publisher = p; own = own; origin = Sent; body = body }
+abbrev sending : ℕ → ℕ → Staged → Item
+sending p own staged = record { publisher = p; own = own; origin = staged.origin; body = staged.body }
 
 queued_tells : (schema : List Shape) (old : State) (world : World) (p : ℕ) (publisher : Publisher)
-    (changeset : List Section) → slice_get old.publishers p ≡ Some publisher → publisher.staged ≡ Some changeset
+    (some : Staged) → slice_get old.publishers p ≡ Some publisher → publisher.staged ≡ Some some
     → IsToldBy schema old world
-    → TellingGoes schema world (event.Send p) (out.sent_item old p publisher changeset)
-queued_tells schema old world p publisher changeset e holds h =
+    → TellingGoes schema world (event.Send p) (out.sent_item old p publisher some)
+queued_tells schema old world p publisher some e holds h =
     let at = paired_get IsSender old.publishers world.senders p publisher h.senders e in
     let sender = at.0 in
     let own = publisher.sent + 1 in
-    let item = sending p own changeset in
-    let staged : sender.staged ≡ Some changeset = at.2.staged ∙ holds in
+    let item = sending p own some in
+    let staged : sender.staged ≡ Some some = at.2.staged ∙ holds in
     let after : Sender = record sender { staged = None; sent = sender.sent ++ item ∷ [] } in
     let left : Publisher = record publisher { staged = None; sent = own } in
     let pair : IsSender left after =
@@ -243,18 +247,18 @@ queued_tells schema old world p publisher changeset e holds h =
     record {
       p = p;
       sender = sender;
-      origin = Sent;
-      body = changeset;
+      origin = some.origin;
+      body = some.body;
       found = at.1;
       staged = staged;
       item = item;
-      is = ap (λ n. sending p n changeset) number;
+      is = ap (λ n. sending p n some) number;
       kept = refl;
     } in
     let is : say.sent world p own ≡ say.with_sent world p sender item = ap (say.sent_of world p own) at.1
     ∙ ap (say.sent_staged world p own sender) staged in
     move_told schema world (say.with_sent world p sender item) (event.Send p) (reply.Sent own)
-    (out.sent_item old p publisher changeset).1 is (inr (inr (inr (inl sends)))) (record {
+    (out.sent_item old p publisher some).1 is (inr (inr (inr (inl sends)))) (record {
       served = h.served;
       senders = set.senders;
       intake = ap (λ items. items ++ item ∷ []) h.intake;
@@ -266,29 +270,30 @@ queued_tells schema old world p publisher changeset e holds h =
       links = h.links;
       numbers = h.numbers;
       bases = h.bases;
+      withdrawn = h.withdrawn;
     })
 
 open_tells : (schema : List Shape) (old : State) (world : World) (p : ℕ) (publisher : Publisher)
-    (changeset : List Section) (closing : Option ℕ) → slice_get old.publishers p ≡ Some publisher → publisher.staged
-    ≡ Some changeset
+    (some : Staged) (closing : Option ℕ) → slice_get old.publishers p ≡ Some publisher → publisher.staged
+    ≡ Some some
     → IsToldBy schema old world
-    → TellingGoes schema world (event.Send p) (out.sent_while old p publisher changeset closing)
-open_tells schema old world p publisher changeset (Some last) e holds h =
+    → TellingGoes schema world (event.Send p) (out.sent_while old p publisher some closing)
+open_tells schema old world p publisher some (Some last) e holds h =
     nothing_told schema world (event.Send p) (reply.Refused refusal.Closed) old refl h
-open_tells schema old world p publisher changeset None e holds h =
+open_tells schema old world p publisher some None e holds h =
     either (TellingGoes schema world (event.Send p)) (nat_le old.desk.limits.intake (length old.intake))
-    (out.refused old refusal.Full) (out.sent_item old p publisher changeset)
+    (out.refused old refusal.Full) (out.sent_item old p publisher some)
     (nothing_told schema world (event.Send p) (reply.Refused refusal.Full) old refl h)
-    (queued_tells schema old world p publisher changeset e holds h)
+    (queued_tells schema old world p publisher some e holds h)
 
 holding_tells : (schema : List Shape) (old : State) (world : World) (p : ℕ) (publisher : Publisher)
-    (staged : Option (List Section)) → slice_get old.publishers p ≡ Some publisher → publisher.staged ≡ staged
+    (staged : Option Staged) → slice_get old.publishers p ≡ Some publisher → publisher.staged ≡ staged
     → IsToldBy schema old world
     → TellingGoes schema world (event.Send p) (out.sent_by old p publisher staged)
 holding_tells schema old world p publisher None e holds h =
     nothing_told schema world (event.Send p) (reply.Refused refusal.NothingStaged) old refl h
-holding_tells schema old world p publisher (Some changeset) e holds h =
-    open_tells schema old world p publisher changeset old.desk.closing e holds h
+holding_tells schema old world p publisher (Some some) e holds h =
+    open_tells schema old world p publisher some old.desk.closing e holds h
 
 pub send_tells : (schema : List Shape) (old : State) (world : World) (p : ℕ) (found : Option Publisher)
     → slice_get old.publishers p ≡ found → IsToldBy schema old world

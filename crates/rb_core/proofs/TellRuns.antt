@@ -17,6 +17,7 @@ use Rattle.rb_core.specs.World.{World, world_begun}
 use Rattle.rb_core.proofs.Telling.{IsTold, no_move, both_courses, TellingGoes}
 use Rattle.rb_core.proofs.TellPublishers.{BeginsWithNothing, ProgressGoesOn, ProgressTells, publisher_tells, feed_tells}
 use Rattle.rb_core.proofs.TellPublishers.{reset_tells, end_tells, send_tells}
+use Rattle.rb_core.proofs.TellWithdrawals.{withdraw_tells}
 use Rattle.rb_core.proofs.TellSequence.{PlaceShows, CloseShows, turn_tells, close_tells}
 use Rattle.rb_core.proofs.TellSubscriptions.{SubscribeShows, ReconnectShows, UnsubscribeShows, subscribe_tells}
 use Rattle.rb_core.proofs.TellSubscriptions.{reconnect_tells, unsubscribe_tells}
@@ -58,6 +59,8 @@ outcome_tells laws schema old world (event.End p) feeds good h =
     end_tells laws.begins laws.tells schema old world p (slice_get old.publishers p) refl h
 outcome_tells laws schema old world (event.Send p) feeds good h =
     send_tells schema old world p (slice_get old.publishers p) refl h
+outcome_tells laws schema old world (event.Withdraw p n) feeds good h =
+    withdraw_tells schema old world p n (slice_get old.publishers p) refl good h
 outcome_tells laws schema old world event.Turn feeds good h = turn_tells laws.place schema old world good h
 outcome_tells laws schema old world event.Close feeds good h = close_tells laws.close schema old world good h
 outcome_tells laws schema old world (event.Subscribe start) feeds good h =
@@ -116,6 +119,7 @@ empty_is_world limits schema picture =
       deliveries = tt;
       next = refl;
       are_of = tt;
+      marks = omega arith;
     }
 
 nothing_tells : (limits : Limits) (schema : List Shape) → IsToldBy schema (empty_world limits schema) world_begun
@@ -132,6 +136,7 @@ nothing_tells limits schema =
       links = tt;
       numbers = tt;
       bases = tt;
+      withdrawn = λ n some. (λ none. tt, λ new. refl);
     }
 
 pub tell_runs_are_told : TellRunsLaws

@@ -51,6 +51,7 @@ still_tells schema old world hand intake in_hand waits h = record {
   links = h.links;
   numbers = h.numbers;
   bases = h.bases;
+  withdrawn = h.withdrawn;
 }
 
 -- what is pulled is told, by what is in hand and what waits
@@ -77,6 +78,7 @@ pulled_by_tells schema old world None (item ∷ rest) in_hand waits h =
       links = h.links;
       numbers = h.numbers;
       bases = h.bases;
+      withdrawn = h.withdrawn;
     } in
     (one_move world (say.pulled_by world None (item ∷ rest)) (inr (inr (inr (inr (inl pulls))))), tells)
 
@@ -138,6 +140,7 @@ placed_tells shows schema world mid item (Ok number) front in_hand is course h =
       numbers = subst (λ n. AllByRecursion (AreBelow n) pulled.subscribers)
           (sym (ap (λ (o : Outline). o.next_delivery) kept)) h.numbers;
       bases = h.bases;
+      withdrawn = h.withdrawn;
     } in (
       subst (Course world) (sym is_new)
           (both_courses world pulled new course (one_move pulled new (inr (inr (inr (inr (inr (inl places)))))))),
@@ -198,4 +201,5 @@ close_tells shows schema old world good h =
       numbers = subst (λ n. AllByRecursion (AreBelow n) world.subscribers)
           (sym (ap (λ (o : Outline). o.next_delivery) kept)) h.numbers;
       bases = h.bases;
+      withdrawn = h.withdrawn;
     })

@@ -118,6 +118,7 @@ subscribed_tells shows schema old world start (Ok made) picture is good h =
       links = linked.links;
       numbers = all_push (AreBelow picture.next_delivery) world.subscribers q linked.numbers tt;
       bases = all_push (BeginsEmpty schema) world.subscribers q h.bases refl;
+      withdrawn = h.withdrawn;
     })
 
 pub subscribe_tells : SubscribeShows → (schema : List Shape) (old : State) (world : World) (start : ℕ) → IsWorld old
@@ -201,7 +202,7 @@ left_tells shows schema old world s end (Ok done) picture is found h =
     let leaves : Unsubscribes world new = record { s = s; subscriber = q; found = at.1; kept = refl } in
     move_told schema world new (event.Unsubscribe s) reply.Unsubscribed
     (out.unsubscribed_with old s end (Ok done) picture).1 (changed_is world s say.unsubscribed q at.1)
-    (inr (inr (inr (inr (inr (inr (inr (inr (inr (inr (inr leaves))))))))))) tells
+    (inr (inr (inr (inr (inr (inr (inr (inr (inr (inr (inr (inl leaves)))))))))))) tells
 
 unsubscribed_tells : UnsubscribeShows
     → (schema : List Shape) (old : State) (world : World) (s : ℕ) (found : Option Endpoint) → slice_get old.endpoints s

@@ -163,6 +163,7 @@ telling_with_both schema old world s q r end found base same is h = record {
       (all_get (AreBelow old.desk.next_delivery) world.subscribers s q h.numbers found));
   bases = all_set (BeginsEmpty schema) world.subscribers s r h.bases
       (base ∙ all_get (BeginsEmpty schema) world.subscribers s q h.bases found);
+  withdrawn = h.withdrawn;
 }
 
 -- ---- the desk
@@ -183,6 +184,7 @@ with_desk schema old world desk closing link delivery h = record {
   links = subst (λ n. AllByRecursion (λ (m : ℕ). m < n) world.links) (sym link) h.links;
   numbers = subst (λ n. AllByRecursion (AreBelow n) world.subscribers) (sym delivery) h.numbers;
   bases = h.bases;
+  withdrawn = h.withdrawn;
 }
 
 -- it gives a link
@@ -207,4 +209,5 @@ with_link schema old world desk link closing given next delivery h = record {
   );
   numbers = subst (λ n. AllByRecursion (AreBelow n) world.subscribers) (sym delivery) h.numbers;
   bases = h.bases;
+  withdrawn = h.withdrawn;
 }

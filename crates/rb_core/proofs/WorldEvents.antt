@@ -1,10 +1,9 @@
 -- Each event preserves the invariant of a world, by the cases of its outcome.
 use Rattle.std.proofs.Common.{◌≡◌, ◌↔◌, ℕ, Bool, true, false, cond, List, [], ◌∷◌, ◌++◌, Option, Some, None, Result, Ok}
 use Rattle.std.proofs.Common.{Err, length, nat_le, ◌≤◌, ◌+◌, slice_get, slice_set, refl, sym, ap, ◌∙◌, arith}
-use Rattle.std.specs.Prelude.{⊤}
+use Rattle.std.specs.Prelude.{⊤, not, ◌==◌, ◌-◌}
 use Rattle.std.proofs.lemmas.Bool.{leb-false}
 use Rattle.std.proofs.lemmas.List.{length-append, length-set, map_push}
-use Rattle.cs_model.specs.declared.origin.Origin.TheVariants.{Sent}
 use Rattle.cs_model.specs.Section.{Section}
 use Rattle.cs_parse.specs.declared.end.EndError.{EndError}
 use Rattle.cs_parse.specs.End.{admitted_answer}
@@ -23,19 +22,22 @@ use Rattle.rb_subscriber.specs.Endpoint.{Endpoint, new_endpoint}
 use Rattle.rb_core.specs.declared.event.Event.{Event}
 use Rattle.rb_core.specs.declared.event.Event.TheVariants as event
 use Rattle.rb_core.specs.declared.publisher.Publisher.{Publisher}
+use Rattle.rb_core.specs.declared.publisher.Staged.{Staged}
 use Rattle.rb_core.specs.declared.reply.Reply.{Reply}
 use Rattle.rb_core.specs.Outcome.{fed_by, reset_by, staged_by, ended_by, ended_for, sent_while, sent_by, sent_for}
 use Rattle.rb_core.specs.Outcome.{turned_with, subscribed_by, delivered_for, accepted_by, accepted_at, accepted_as}
 use Rattle.rb_core.specs.Outcome.{acked_by_desk, acked_at, acked_for, nacked_by_desk, nacked_for, reconnected_with}
 use Rattle.rb_core.specs.Outcome.{reconnected_for, unsubscribed_with, unsubscribed_for, delivery_of, with_endpoint}
-use Rattle.rb_core.specs.Outcome.{outcome}
+use Rattle.rb_core.specs.Outcome.{outcome, entry_of, withdrawn_from, withdrawn_by, withdrawn_for}
 use Rattle.rb_core.specs.Outcome as outcome
-use Rattle.rb_core.specs.State.{State, empty_tables, member_of_end, IsWorld}
+use Rattle.rb_core.specs.State.{State, empty_tables, member_of_end, IsWorld, is_withdrawn}
 use Rattle.rb_core.proofs.DeskLaws.{KeepsLimits, KeepsPictures, DeskShows, beside, subscribe_keeps, take_keeps}
 use Rattle.rb_core.proofs.DeskLaws.{take_any_keeps, ack_keeps, nack_keeps, expire_keeps, reconnect_keeps}
 use Rattle.rb_core.proofs.DeskLaws.{unsubscribe_keeps, close_keeps, place_keeps}
 use Rattle.rb_core.proofs.Worlds.{apart, worlds_changed, same_outline, handed_over, placed_next, set_end, same_end}
-use Rattle.rb_core.proofs.Worlds.{found_end}
+use Rattle.rb_core.proofs.Worlds.{found_end, marks_changed}
+use Rattle.rb_core.proofs.Marks.{marks_within}
+use Rattle.rb_core.proofs.Numbers.{found_within}
 
 -- an end accepts where it takes the step, and only there
 abbrev pub AcceptsBySteps : Type 0
@@ -78,35 +80,56 @@ staged_keeps : (old : State) (p : ℕ) (publisher : Publisher) (r : Result (List
 staged_keeps old p publisher (Ok changeset) good = publisher_set old p _ good
 staged_keeps old p publisher (Err error) good = good
 
-ended_by_keeps : (old : State) (p : ℕ) (publisher : Publisher) (kept : Option (List Section)) → IsWorld old
+ended_by_keeps : (old : State) (p : ℕ) (publisher : Publisher) (kept : Option Staged) → IsWorld old
     → IsWorld (ended_by old p publisher kept).1
 ended_by_keeps old p publisher None good =
     staged_keeps old p publisher (admitted_answer old.schema (stream.answer_at_end publisher.stream)) good
-ended_by_keeps old p publisher (Some changeset) good = good
+ended_by_keeps old p publisher (Some staged) good = good
 
 end_keeps : (old : State) (p : ℕ) (found : Option Publisher) → IsWorld old → IsWorld (ended_for old p found).1
 end_keeps old p None good = good
 end_keeps old p (Some publisher) good = ended_by_keeps old p publisher publisher.staged good
 
-sent_while_keeps : (old : State) (p : ℕ) (publisher : Publisher) (changeset : List Section) (closing : Option ℕ)
-    → IsWorld old → IsWorld (sent_while old p publisher changeset closing).1
-sent_while_keeps old p publisher changeset (Some last) good = good
-sent_while_keeps old p publisher changeset None good =
+sent_while_keeps : (old : State) (p : ℕ) (publisher : Publisher) (staged : Staged) (closing : Option ℕ)
+    → IsWorld old → IsWorld (sent_while old p publisher staged closing).1
+sent_while_keeps old p publisher staged (Some last) good = good
+sent_while_keeps old p publisher staged None good =
     let left : Publisher = record publisher { staged = None; sent = publisher.sent + 1 } in
-    let item : Item = record { publisher = p; own = publisher.sent + 1; origin = Sent; body = changeset } in
+    let item : Item =
+    record { publisher = p; own = publisher.sent + 1; origin = staged.origin; body = staged.body } in
     world_events_unless (nat_le old.desk.limits.intake (length old.intake)) _ _ good
     (λ room. apart old (slice_set old.publishers p left) (old.intake ++ item ∷ []) old.hand good
     (omega (arith, good.few, length-set old.publishers p left))
     (omega (arith, leb-false _ _ room, length-append old.intake (item ∷ []))))
 
-sent_by_keeps : (old : State) (p : ℕ) (publisher : Publisher) (kept : Option (List Section)) → IsWorld old
+sent_by_keeps : (old : State) (p : ℕ) (publisher : Publisher) (kept : Option Staged) → IsWorld old
     → IsWorld (sent_by old p publisher kept).1
 sent_by_keeps old p publisher None good = good
-sent_by_keeps old p publisher (Some changeset) good = sent_while_keeps old p publisher changeset old.desk.closing good
+sent_by_keeps old p publisher (Some staged) good = sent_while_keeps old p publisher staged old.desk.closing good
 
 send_keeps : (old : State) (p : ℕ) (found : Option Publisher) → IsWorld old → IsWorld (sent_for old p found).1
 send_keeps old p None good = good
 send_keeps old p (Some publisher) good = sent_by_keeps old p publisher publisher.staged good
+
+withdraw_from_keeps : (old : State) (p n : ℕ) (publisher : Publisher) (found : Option Entry)
+    → entry_of old n ≡ found → IsWorld old → IsWorld (withdrawn_from old p publisher n found).1
+withdraw_from_keeps old p n publisher None is good = good
+withdraw_from_keeps old p n publisher (Some entry) is good =
+    let within = found_within (λ (e : Entry). e.number) n old.sequence entry good.entries is in
+    world_events_unless (not (entry.item.publisher == p)) _ _ good
+    (λ mine. world_events_unless (is_withdrawn old n) _ _ good
+    (λ fresh. marks_changed _ _ (publisher_set old p _ good)
+    (marks_within (n - 1) old.withdrawn (length old.sequence) within good.marks)))
+
+withdraw_by_keeps : (old : State) (p n : ℕ) (publisher : Publisher) (kept : Option Staged) → IsWorld old
+    → IsWorld (withdrawn_by old p publisher n kept).1
+withdraw_by_keeps old p n publisher None good = withdraw_from_keeps old p n publisher (entry_of old n) refl good
+withdraw_by_keeps old p n publisher (Some staged) good = good
+
+withdraw_keeps : (old : State) (p n : ℕ) (found : Option Publisher) → IsWorld old
+    → IsWorld (withdrawn_for old p n found).1
+withdraw_keeps old p n None good = good
+withdraw_keeps old p n (Some publisher) good = withdraw_by_keeps old p n publisher publisher.staged good
 
 -- ---- the sequence
 
@@ -324,6 +347,8 @@ event_keeps keeps shows steps old (event.Feed p bytes) good = feed_keeps old p b
 event_keeps keeps shows steps old (event.Reset p) good = reset_keeps old p (slice_get old.publishers p) good
 event_keeps keeps shows steps old (event.End p) good = end_keeps old p (slice_get old.publishers p) good
 event_keeps keeps shows steps old (event.Send p) good = send_keeps old p (slice_get old.publishers p) good
+event_keeps keeps shows steps old (event.Withdraw p n) good =
+    withdraw_keeps old p n (slice_get old.publishers p) good
 event_keeps keeps shows steps old event.Turn good = turn_keeps keeps shows old good
 event_keeps keeps shows steps old event.Close good = end_sequence_keeps keeps shows old good
 event_keeps keeps shows steps old (event.Subscribe start) good = subscription_keeps keeps shows old start good

@@ -1,5 +1,5 @@
 -- The invariant of a world, part by part.
-use Rattle.std.proofs.Common.{◌≡◌, ℕ, zero, suc, ◌<◌, ◌≤◌, List, [], ◌∷◌, ◌++◌, length, map, Option, Some, None}
+use Rattle.std.proofs.Common.{◌≡◌, ℕ, zero, suc, ◌<◌, ◌≤◌, Bool, List, [], ◌∷◌, ◌++◌, length, map, Option, Some, None}
 use Rattle.std.proofs.Common.{option_map, slice_get, slice_set, refl, sym, ap, ◌∙◌, arith}
 use Rattle.std.specs.List.{AllByRecursion}
 use Rattle.std.proofs.lemmas.List.{length-append, length-map, map-set}
@@ -81,6 +81,23 @@ apart old publishers intake hand good few waiting = record {
   deliveries = good.deliveries;
   next = good.next;
   are_of = good.are_of;
+  marks = good.marks;
+}
+
+-- of the marks of withdrawn entries only the number matters
+pub marks_changed : (old : State) (marks : List Bool) → IsWorld old → length marks ≤ length old.sequence
+    → IsWorld (record old { withdrawn = marks })
+marks_changed old marks good few = record {
+  picture = good.picture;
+  front = good.front;
+  few = good.few;
+  waiting = good.waiting;
+  members = good.members;
+  entries = good.entries;
+  deliveries = good.deliveries;
+  next = good.next;
+  are_of = good.are_of;
+  marks = few;
 }
 
 -- what waits is within the limits of a later picture
@@ -103,6 +120,7 @@ worlds_changed old desk endpoints good picture front next members more = record 
   deliveries = good.deliveries;
   next = next ∙ good.next;
   are_of = still_of old.endpoints endpoints old.sequence old.sequence old.deliveries more (omega arith) good.are_of;
+  marks = good.marks;
 }
 
 -- the desk alone, where its outline stays
@@ -133,6 +151,7 @@ handed_over old desk delivery good picture hands =
       next = omega (arith, next, number, worlds_one_more old.deliveries delivery);
       are_of = all_push (IsOf old.endpoints old.sequence) old.deliveries delivery good.are_of
           (end_within old delivery.sub hands.member good hands.found, omega (arith, hands.placed, good.front));
+      marks = good.marks;
     }
 
 -- an item is placed
@@ -158,4 +177,5 @@ placed_next old desk number item good picture places =
       next = ap (λ (o : Outline). o.next_delivery) places.kept ∙ good.next;
       are_of = still_of old.endpoints old.endpoints old.sequence (old.sequence ++ entry_as number item ∷ [])
           old.deliveries (omega arith) (omega (arith, longer)) good.are_of;
+      marks = omega (arith, good.marks, longer);
     }

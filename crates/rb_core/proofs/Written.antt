@@ -9,6 +9,8 @@ use Rattle.cs_parse.specs.declared.end.EndError.{EndError}
 use Rattle.cs_parse.specs.End.{admitted_answer}
 use Rattle.cs_parse.specs.Progress as stream
 use Rattle.rb_core.specs.declared.publisher.Publisher.{Publisher}
+use Rattle.rb_core.specs.declared.publisher.Staged.{Staged}
+use Rattle.cs_model.specs.declared.origin.Origin.TheVariants.{Sent}
 use Rattle.rb_core.specs.declared.reply.Reply.TheVariants as reply
 use Rattle.rb_core.specs.declared.reply.BrokerRefusal.TheVariants as refusal
 use Rattle.rb_core.specs.Outcome.{with_publisher, with_endpoint, delivery_of, end_reply, staged_by, ended_by, ended_for}
@@ -45,7 +47,7 @@ none_staged publishers p a b flag one other tells none =
     let same : a ≡ b = cc both in
     subst (λ (q : Publisher). q.staged ≡ None) same (empty a.staged (sym tells ∙ none))
   where
-    empty : (o : Option (List Section)) → is_some o ≡ false → o ≡ None
+    empty : (o : Option Staged) → is_some o ≡ false → o ≡ None
     empty None e = refl
     empty (Some x) e = absurd (cc e)
 
@@ -65,7 +67,8 @@ end_refused old p q r error found none e same =
 
 pub end_staged : (old : State) (p : ℕ) (q r : Publisher) (changeset : List Section) → slice_get old.publishers p
     ≡ Some q → q.staged ≡ None → admitted_answer old.schema (stream.answer_at_end q.stream) ≡ Ok changeset
-    → r ≡ record q { stream = stream.nothing; staged = Some changeset } → outcome.ended old p
+    → r ≡ record q { stream = stream.nothing; staged = Some (record { origin = Sent; body = changeset }) }
+    → outcome.ended old p
     ≡ (reply.Staged, with_publisher old p r)
 end_staged old p q r changeset found none e same =
     end_found old p q found none ∙ ap (λ a. staged_by old p q a) e

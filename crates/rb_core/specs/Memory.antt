@@ -15,6 +15,7 @@ MayRunOut event.Publisher (reply.Publisher p) = Unit {0}
 MayRunOut (event.Feed p (byte ∷ bytes)) reply.Fed = Unit {0}
 MayRunOut (event.Feed p (byte ∷ bytes)) (reply.Fault fault) = Unit {0}
 MayRunOut (event.Send p) (reply.Sent own) = Unit {0}
+MayRunOut (event.Withdraw p n) reply.Staged = Unit {0}
 MayRunOut event.Turn (reply.Placed number) = Unit {0}
 MayRunOut (event.Subscribe start) (reply.Subscriber s link) = Unit {0}
 MayRunOut (event.Take s now) (reply.Delivery delivery) = Unit {0}

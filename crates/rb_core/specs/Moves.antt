@@ -4,8 +4,10 @@ use Rattle.std.specs.Prelude.{◌≡◌, ◌==◌, ℕ, suc, ◌<◌, ◌≤◌,
 use Rattle.std.specs.Prelude.{◌∷◌, ◌++◌, length, Some, None, slice_get, slice_set}
 use Rattle.std.specs.List.{AllByRecursion, filter}
 use Rattle.cs_model.specs.declared.origin.Origin.{Origin}
+use Rattle.cs_model.specs.declared.origin.Origin.TheVariants as origin
 use Rattle.cs_model.specs.Section.{Section}
 use Rattle.cs_apply.specs.State as tables
+use Rattle.cs_invert.specs.Inverse.{withdrawal_of}
 use Rattle.rb_desk.specs.declared.delivery.Delivery.{Delivery}
 use Rattle.rb_sequence.specs.declared.item.Item.{Item}
 use Rattle.rb_sequence.specs.Entry.{Entry}
@@ -40,7 +42,7 @@ abbrev pub AddsPublisher : World → World → Type 0
 AddsPublisher old new = new
     ≡ record old { senders = old.senders ++ record { text = []; staged = None; sent = [] } ∷ [] }
 
--- a publisher's text and staged changeset change, and nothing else
+-- a publisher's text and what it staged change, and nothing else
 pub record Streams (old new : World) : Type 0 where
   pub p : ℕ
   pub before : Sender
@@ -56,7 +58,7 @@ pub record Sends (old new : World) : Type 0 where
   pub origin : Origin
   pub body : List Section
   pub found : slice_get old.senders p ≡ Some sender
-  pub staged : sender.staged ≡ Some body
+  pub staged : sender.staged ≡ Some (record { origin = origin; body = body })
   pub item : Item
   pub is : item ≡ record {
     publisher = p;
@@ -68,6 +70,29 @@ pub record Sends (old new : World) : Type 0 where
       ≡ record (with_sender old p
       (record sender { staged = None; sent = sender.sent ++ item ∷ [] }))
       { intake = old.intake ++ item ∷ [] }
+
+-- A publisher that has nothing staged stages the withdrawal of an entry that it sent. The entry was
+-- not withdrawn before, and is from now on.
+pub record Withdraws (old new : World) : Type 0 where
+  pub p : ℕ
+  pub sender : Sender
+  pub place : ℕ
+  pub number : ℕ
+  pub entry : Entry
+  pub found : slice_get old.senders p ≡ Some sender
+  pub free : sender.staged ≡ None
+  pub is : number ≡ suc place
+  pub placed : slice_get old.sequence place ≡ Some entry
+  pub numbered : entry.number ≡ number
+  pub own : entry.item.publisher ≡ p
+  pub new_number : IsNew old.withdrawn number
+  pub kept : new
+      ≡ record (with_sender old p (record sender {
+        staged = Some (record {
+          origin = origin.Withdraws number;
+          body = withdrawal_of entry.item.body;
+        });
+      })) { withdrawn = number ∷ old.withdrawn }
 
 -- ---- the sequence
 
@@ -175,7 +200,8 @@ Moves old new =
     ⊎ (Streams old new ⊎ (Sends old new ⊎ (Pulls old new ⊎ (Places old new ⊎ (Closes old new
     ⊎ (Subscribes old new
     ⊎ (Delivers old new
-    ⊎ (Accepts old new ⊎ (Reconnects old new ⊎ Unsubscribes old new))))))))))
+    ⊎ (Accepts old new
+    ⊎ (Reconnects old new ⊎ (Unsubscribes old new ⊎ Withdraws old new)))))))))))
 
 -- a sequence of moves, through these worlds
 abbrev pub Leads : World → List World → World → Type 0

@@ -2,10 +2,11 @@
 -- except that a refused turn pulls the next item into the hand.
 use Rattle.std.specs.Prelude.{ℕ, ◌+◌, ⊤, true, List, [], ◌∷◌, ◌++◌, length, Option, Some}
 use Rattle.std.specs.Prelude.{None, Result, Ok, Err, ◌==◌, slice_get, slice_set, nat_le}
-use Rattle.std.specs.Prelude.{if◌then◌else◌}
+use Rattle.std.specs.Prelude.{if◌then◌else◌, ◌-◌, not}
 use Rattle.std.specs.List.{find}
 use Rattle.cs_model.specs.Section.{Section}
-use Rattle.cs_model.specs.declared.origin.Origin.TheVariants.{Sent}
+use Rattle.cs_invert.specs.Inverse.{withdrawal_of}
+use Rattle.cs_model.specs.declared.origin.Origin.TheVariants.{Sent, Withdraws}
 use Rattle.cs_model.specs.declared.schema.SectionFault.{SectionFault}
 use Rattle.cs_model.specs.declared.schema.SectionFault.TheVariants.{UnknownTable as Unknown}
 use Rattle.cs_model.specs.declared.schema.SectionFault.TheVariants.{ShapeDiffers as Differs}
@@ -28,11 +29,12 @@ use Rattle.rb_subscriber.specs.Endpoint.{Endpoint, new_endpoint}
 use Rattle.rb_core.specs.declared.event.Event.{Event}
 use Rattle.rb_core.specs.declared.event.Event.TheVariants as event
 use Rattle.rb_core.specs.declared.publisher.Publisher.{Publisher}
+use Rattle.rb_core.specs.declared.publisher.Staged.{Staged}
 use Rattle.rb_core.specs.declared.reply.Reply.{Reply}
 use Rattle.rb_core.specs.declared.reply.Reply.TheVariants as reply
 use Rattle.rb_core.specs.declared.reply.BrokerRefusal.{BrokerRefusal}
 use Rattle.rb_core.specs.declared.reply.BrokerRefusal.TheVariants as refusal
-use Rattle.rb_core.specs.State.{State, empty_tables}
+use Rattle.rb_core.specs.State.{State, empty_tables, is_withdrawn, with_mark}
 
 abbrev pub refused : State → BrokerRefusal → Reply × State
 refused old why = (reply.Refused why, old)
@@ -105,14 +107,17 @@ abbrev pub staged_by : State → ℕ → Publisher → Result (List Section) End
 staged_by old p publisher (Ok changeset) = (
   reply.Staged,
   with_publisher old p
-      (record publisher { stream = stream.nothing; staged = Some changeset }),
+      (record publisher {
+        stream = stream.nothing;
+        staged = Some (record { origin = Sent; body = changeset });
+      }),
 )
 staged_by old p publisher (Err error) = (end_reply error, old)
 
-abbrev pub ended_by : State → ℕ → Publisher → Option (List Section) → Reply × State
+abbrev pub ended_by : State → ℕ → Publisher → Option Staged → Reply × State
 ended_by old p publisher None =
     staged_by old p publisher (admitted_answer old.schema (stream.answer_at_end publisher.stream))
-ended_by old p publisher (Some changeset) = refused old refusal.Holding
+ended_by old p publisher (Some staged) = refused old refusal.Holding
 
 abbrev pub ended_for : State → ℕ → Option Publisher → Reply × State
 ended_for old p None = refused old refusal.NoPublisher
@@ -123,28 +128,28 @@ ended old p = ended_for old p (slice_get old.publishers p)
 
 -- Send: what is staged goes to the end of the intake, as the publisher's next sending. It is
 -- refused if the sequence is closed or the intake full.
-abbrev pub sent_item : State → ℕ → Publisher → List Section → Reply × State
-sent_item old p publisher changeset = (
+abbrev pub sent_item : State → ℕ → Publisher → Staged → Reply × State
+sent_item old p publisher staged = (
   reply.Sent (publisher.sent + 1),
   record (with_publisher old p (record publisher { staged = None; sent = publisher.sent + 1 })) {
     intake = old.intake ++ record {
       publisher = p;
       own = publisher.sent + 1;
-      origin = Sent;
-      body = changeset;
+      origin = staged.origin;
+      body = staged.body;
     } ∷ [];
   },
 )
 
-abbrev pub sent_while : State → ℕ → Publisher → List Section → Option ℕ → Reply × State
-sent_while old p publisher changeset (Some last) = refused old refusal.Closed
-sent_while old p publisher changeset None =
+abbrev pub sent_while : State → ℕ → Publisher → Staged → Option ℕ → Reply × State
+sent_while old p publisher staged (Some last) = refused old refusal.Closed
+sent_while old p publisher staged None =
     if nat_le old.desk.limits.intake (length old.intake) then refused old refusal.Full else
-    sent_item old p publisher changeset
+    sent_item old p publisher staged
 
-abbrev pub sent_by : State → ℕ → Publisher → Option (List Section) → Reply × State
+abbrev pub sent_by : State → ℕ → Publisher → Option Staged → Reply × State
 sent_by old p publisher None = refused old refusal.NothingStaged
-sent_by old p publisher (Some changeset) = sent_while old p publisher changeset old.desk.closing
+sent_by old p publisher (Some staged) = sent_while old p publisher staged old.desk.closing
 
 abbrev pub sent_for : State → ℕ → Option Publisher → Reply × State
 sent_for old p None = refused old refusal.NoPublisher
@@ -152,6 +157,35 @@ sent_for old p (Some publisher) = sent_by old p publisher publisher.staged
 
 abbrev pub sent : State → ℕ → Reply × State
 sent old p = sent_for old p (slice_get old.publishers p)
+
+-- Withdraw: the withdrawal of an entry that the publisher sent is staged. The entry is withdrawn
+-- from then on, whether or not the withdrawal is sent. It is refused if something is staged, or if
+-- the entry isn't placed, is another publisher's, or is withdrawn already.
+abbrev pub withdrawn_entry : State → ℕ → Publisher → ℕ → Entry → Reply × State
+withdrawn_entry old p publisher n entry = (
+  reply.Staged,
+  record (with_publisher old p (record publisher {
+    staged = Some (record { origin = Withdraws n; body = withdrawal_of entry.item.body });
+  })) { withdrawn = with_mark (n - 1) old.withdrawn },
+)
+
+abbrev pub withdrawn_from : State → ℕ → Publisher → ℕ → Option Entry → Reply × State
+withdrawn_from old p publisher n None = refused old refusal.NotPlaced
+withdrawn_from old p publisher n (Some entry) =
+    if not (entry.item.publisher == p) then refused old refusal.NotYours
+    else if is_withdrawn old n then refused old refusal.AlreadyWithdrawn
+    else withdrawn_entry old p publisher n entry
+
+abbrev pub withdrawn_by : State → ℕ → Publisher → ℕ → Option Staged → Reply × State
+withdrawn_by old p publisher n None = withdrawn_from old p publisher n (entry_of old n)
+withdrawn_by old p publisher n (Some staged) = refused old refusal.Holding
+
+abbrev pub withdrawn_for : State → ℕ → ℕ → Option Publisher → Reply × State
+withdrawn_for old p n None = refused old refusal.NoPublisher
+withdrawn_for old p n (Some publisher) = withdrawn_by old p publisher n publisher.staged
+
+abbrev pub withdrawn : State → ℕ → ℕ → Reply × State
+withdrawn old p n = withdrawn_for old p n (slice_get old.publishers p)
 
 -- ---- the sequence
 
@@ -334,6 +368,7 @@ outcome old (event.Feed p bytes) = fed old p bytes
 outcome old (event.Reset p) = reset old p
 outcome old (event.End p) = ended old p
 outcome old (event.Send p) = sent old p
+outcome old (event.Withdraw p n) = withdrawn old p n
 outcome old event.Turn = turned old
 outcome old event.Close = closed old
 outcome old (event.Subscribe start) = subscribed old start

@@ -1,7 +1,7 @@
 -- The broker's state as a value, and its invariant.
 use Rattle.std.specs.Prelude.{◌≡◌, ℕ, suc, ◌+◌, ◌<◌, ◌≤◌, true, List, [], ◌∷◌, length, map}
-use Rattle.std.specs.Prelude.{replicate, Option, Some, None, refl}
-use Rattle.std.specs.Coded.{Coded, code_by, coded×, coded_list, coded_option}
+use Rattle.std.specs.Prelude.{replicate, Option, Some, None, refl, Bool, false, zero, ◌-◌, get_or}
+use Rattle.std.specs.Coded.{Coded, code_by, coded×, coded_list, coded_option, coded_bool}
 use Rattle.std.specs.FinMap as map
 use Rattle.std.specs.List.{AllByRecursion}
 use Rattle.cs_model.specs.contracts.shape.Shape as shape
@@ -22,8 +22,9 @@ use Rattle.rb_core.specs.declared.publisher.Publisher.{Publisher}
 
 -- A world. It has the schema, the publishers, and the intake of sent items in order. The item in
 -- hand has left the intake and has no number yet. It has the sequence, the desk's picture with the
--- limits, the subscriptions' endpoints, and all deliveries in order. Publishers and subscriptions
--- are numbered from 0, entries and deliveries from 1.
+-- limits, the subscriptions' endpoints, and all deliveries in order. It has a mark for each entry
+-- up to the last withdrawn one, which says whether the entry is withdrawn. Publishers and
+-- subscriptions are numbered from 0, entries and deliveries from 1.
 pub record State : Type 0 where
   pub schema : List Shape
   pub publishers : List Publisher
@@ -33,6 +34,7 @@ pub record State : Type 0 where
   pub desk : Picture
   pub endpoints : List Endpoint
   pub deliveries : List Delivery
+  pub withdrawn : List Bool
 
 -- the world before any event
 abbrev pub empty_world : Limits → List Shape → State
@@ -45,6 +47,7 @@ empty_world limits schema = record {
   desk = empty_picture limits;
   endpoints = [];
   deliveries = [];
+  withdrawn = [];
 }
 
 -- tables without rows, all of them kept
@@ -54,6 +57,21 @@ empty_tables schema = record {
   kept = replicate (length schema) true;
   rows = map.empty;
 }
+
+-- ---- withdrawn entries
+
+-- whether the entry with this number is withdrawn; one without a mark isn't
+abbrev pub is_withdrawn : State → ℕ → Bool
+is_withdrawn w n = get_or w.withdrawn (n - 1) false
+
+-- marks the entry at this place, from 0
+abbrev pub with_mark : ℕ → List Bool → List Bool
+with_mark zero [] = true ∷ []
+with_mark zero (flag ∷ flags) = true ∷ flags
+with_mark (suc place) [] = false ∷ with_mark place []
+with_mark (suc place) (flag ∷ flags) = flag ∷ with_mark place flags
+
+-- ---- the invariant
 
 -- an endpoint as the desk sees its subscription
 abbrev pub member_of_end : Endpoint → Member
@@ -71,7 +89,8 @@ IsOf endpoints sequence d = (d.sub < length endpoints) × (d.last ≤ length seq
 -- The invariant of a world. Its desk shows a picture, whose front is the sequence's last number.
 -- There are at most 64 publishers, and the intake has no more items than the picture's limits say.
 -- The desk's subscriptions are those of the endpoints. Entries and deliveries are numbered from 1.
--- The subscription of each delivery exists, and its numbers are placed.
+-- The subscription of each delivery exists, and its numbers are placed. There are no more marks
+-- than entries.
 pub record IsWorld (w : State) : Type 0 where
   pub picture : IsPicture w.desk
   pub front : w.desk.front ≡ length w.sequence
@@ -82,6 +101,7 @@ pub record IsWorld (w : State) : Type 0 where
   pub deliveries : AreNumbered (λ d. d.number) 1 w.deliveries
   pub next : w.desk.next_delivery ≡ suc (length w.deliveries)
   pub are_of : AllByRecursion (IsOf w.endpoints w.sequence) w.deliveries
+  pub marks : length w.withdrawn ≤ length w.sequence
 
 -- how many items are sent and have no number: the intake and the item in hand
 abbrev pub how_many_held : Option Item → ℕ
@@ -96,15 +116,23 @@ abbrev pub world_code : Coded State
 world_code =
     code_by (List Shape
     × (List Publisher
-    × (List Item × (Option Item × (List Entry × (Picture × (List Endpoint × List Delivery)))))))
+    × (List Item
+    × (Option Item
+    × (List Entry × (Picture × (List Endpoint × (List Delivery × List Bool))))))))
     (coded× (coded_list shape.the_row.coded)
     (coded× (coded_list publisher.the_row.coded) (coded× (coded_list item.the_row.coded)
     (coded× (coded_option item.the_row.coded)
     (coded× (coded_list entry_code) (coded× picture_code (coded× (coded_list endpoint_code)
-    (coded_list delivery.the_row.coded))))))))
+    (coded× (coded_list delivery.the_row.coded) (coded_list coded_bool)))))))))
     (λ w. (
       w.schema,
-      (w.publishers, (w.intake, (w.hand, (w.sequence, (w.desk, (w.endpoints, w.deliveries)))))),
+      (
+        w.publishers,
+        (
+          w.intake,
+          (w.hand, (w.sequence, (w.desk, (w.endpoints, (w.deliveries, w.withdrawn))))),
+        ),
+      ),
     ))
     (λ p. record {
       schema = p.0;
@@ -114,7 +142,7 @@ world_code =
       sequence = p.1.1.1.1.0;
       desk = p.1.1.1.1.1.0;
       endpoints = p.1.1.1.1.1.1.0;
-      deliveries =
-          p.1.1.1.1.1.1.1;
+      deliveries = p.1.1.1.1.1.1.1.0;
+      withdrawn = p.1.1.1.1.1.1.1.1;
     })
     (λ _. refl)

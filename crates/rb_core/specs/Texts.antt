@@ -1,5 +1,6 @@
 -- What `Feed` and `End` reply, in terms of the text that a publisher's stream has taken.
 use Rattle.std.specs.Prelude.{◌≡◌, ℕ, List, ◌++◌, Some, None}
+use Rattle.cs_model.specs.declared.origin.Origin.TheVariants.{Sent}
 use Rattle.cs_model.specs.declared.schema.SectionFault.{SectionFault}
 use Rattle.cs_model.specs.Schema.{refusal_of}
 use Rattle.cs_model.specs.Section.{Section}
@@ -37,7 +38,10 @@ pub record EndsByText (old : State) (p : ℕ) (publisher : Publisher) (text : Li
       ≡ None
       → (given ≡ reply.Staged)
       × (new ≡ with_publisher old p
-      (record publisher { stream = nothing; staged = Some changeset }))
+      (record publisher {
+        stream = nothing;
+        staged = Some (record { origin = Sent; body = changeset });
+      }))
   pub refuses : (changeset : List Section) (fault : SectionFault) → Spells text changeset
       → refusal_of old.schema changeset ≡ Some fault
       → (given ≡ reply.Refused (fault_refusal fault)) × (new ≡ old)

@@ -1,10 +1,11 @@
 -- The world that events and replies report: what was fed, staged, sent, placed, delivered and
 -- accepted, without a look at the broker.
 use Rattle.std.specs.Prelude.{◌≡◌, ◌==◌, ℕ, suc, ◌-◌, ◌<◌, true, false, map, List, [], ◌∷◌, ◌++◌}
-use Rattle.std.specs.Prelude.{length}
+use Rattle.std.specs.Prelude.{length, ◌↔◌}
 use Rattle.std.specs.Prelude.{Option, Some, None, Result, Ok, Err, slice_get}
 use Rattle.std.specs.List.{AllByRecursion, find}
-use Rattle.cs_model.specs.declared.origin.Origin.TheVariants.{Sent}
+use Rattle.cs_invert.specs.Inverse.{withdrawal_of}
+use Rattle.cs_model.specs.declared.origin.Origin.TheVariants.{Sent, Withdraws}
 use Rattle.cs_model.specs.declared.shape.Shape.{Shape}
 use Rattle.cs_model.specs.Section.{Section}
 use Rattle.cs_parse.specs.declared.fault.ParseFault.{ParseFault}
@@ -21,11 +22,12 @@ use Rattle.rb_subscriber.specs.Accept.{part, joined_bodies}
 use Rattle.rb_core.specs.declared.event.Event.{Event}
 use Rattle.rb_core.specs.declared.event.Event.TheVariants as event
 use Rattle.rb_core.specs.declared.publisher.Publisher.{Publisher}
+use Rattle.rb_core.specs.declared.publisher.Staged.{Staged}
 use Rattle.rb_core.specs.declared.reply.Reply.{Reply}
 use Rattle.rb_core.specs.declared.reply.Reply.TheVariants as reply
-use Rattle.rb_core.specs.Moves.{with_sender, with_subscriber}
+use Rattle.rb_core.specs.Moves.{with_sender, with_subscriber, IsNew}
 use Rattle.rb_core.specs.Run.{Answer}
-use Rattle.rb_core.specs.State.{State, empty_tables}
+use Rattle.rb_core.specs.State.{State, empty_tables, is_withdrawn}
 use Rattle.rb_core.specs.World.{Sender, Subscriber, World, world_begun, endpoint_of}
 
 -- changes the publisher, or the subscription, with this number, if there is one
@@ -58,8 +60,8 @@ abbrev pub reset : Sender → Sender
 reset sender = record sender { text = [] }
 
 -- stages what the text spells, and empties the text
-abbrev pub staged_by_text : Result (List Section) ParseFault → Option (List Section)
-staged_by_text (Ok changeset) = Some changeset
+abbrev pub staged_by_text : Result (List Section) ParseFault → Option Staged
+staged_by_text (Ok changeset) = Some (record { origin = Sent; body = changeset })
 staged_by_text (Err fault) = None
 
 abbrev pub ended : Sender → Sender
@@ -71,10 +73,11 @@ with_sent old p sender item =
     record (with_sender old p (record sender { staged = None; sent = sender.sent ++ item ∷ [] }))
     { intake = old.intake ++ item ∷ [] }
 
-abbrev pub sent_staged : World → ℕ → ℕ → Sender → Option (List Section) → World
+abbrev pub sent_staged : World → ℕ → ℕ → Sender → Option Staged → World
 sent_staged old p own sender None = old
-sent_staged old p own sender (Some body) =
-    with_sent old p sender (record { publisher = p; own = own; origin = Sent; body = body })
+sent_staged old p own sender (Some staged) =
+    with_sent old p sender
+    (record { publisher = p; own = own; origin = staged.origin; body = staged.body })
 
 abbrev pub sent_of : World → ℕ → ℕ → Option Sender → World
 sent_of old p own None = old
@@ -82,6 +85,24 @@ sent_of old p own (Some sender) = sent_staged old p own sender sender.staged
 
 abbrev pub sent : World → ℕ → ℕ → World
 sent old p own = sent_of old p own (slice_get old.senders p)
+
+-- stages the withdrawal of the entry with this number, which is withdrawn from then on
+abbrev pub with_withdrawal : World → ℕ → ℕ → Sender → Entry → World
+with_withdrawal old p number sender entry = record (with_sender old p (record sender {
+  staged = Some (record { origin = Withdraws number; body = withdrawal_of entry.item.body });
+})) { withdrawn = number ∷ old.withdrawn }
+
+abbrev pub withdrawn_entry : World → ℕ → ℕ → Sender → Option Entry → World
+withdrawn_entry old p number sender None = old
+withdrawn_entry old p number sender (Some entry) = with_withdrawal old p number sender entry
+
+abbrev pub withdrawn_of : World → ℕ → ℕ → Option Sender → World
+withdrawn_of old p number None = old
+withdrawn_of old p number (Some sender) =
+    withdrawn_entry old p number sender (slice_get old.sequence (number - 1))
+
+abbrev pub withdrawn : World → ℕ → ℕ → World
+withdrawn old p number = withdrawn_of old p number (slice_get old.senders p)
 
 -- ---- the sequence
 
@@ -174,6 +195,7 @@ told schema old (event.Feed p bytes) (reply.Fault fault) = sender_changed old p 
 told schema old (event.Reset p) reply.Reset = sender_changed old p reset
 told schema old (event.End p) reply.Staged = sender_changed old p ended
 told schema old (event.Send p) (reply.Sent own) = sent old p own
+told schema old (event.Withdraw p n) reply.Staged = withdrawn old p n
 told schema old event.Turn (reply.Placed number) = placed (pulled old) number
 told schema old event.Turn (reply.Refused why) = pulled old
 told schema old event.Close (reply.Closed last) = record old { closing = Some last }
@@ -214,7 +236,7 @@ Paired R [] (y ∷ ys) = ⊥
 Paired R (x ∷ xs) [] = ⊥
 Paired R (x ∷ xs) (y ∷ ys) = R x y × Paired R xs ys
 
--- the publisher's stream has taken the text; staged changeset and number of sendings agree
+-- the publisher's stream has taken the text; what is staged and the number of sendings agree
 pub record IsSender (publisher : Publisher) (sender : Sender) : Type 0 where
   pub stream : Took publisher.stream sender.text
   pub staged : sender.staged ≡ publisher.staged
@@ -231,7 +253,8 @@ AreBelow next q = AllByRecursion (λ offer. offer.number < next) q.deliveries
 
 -- A broker's state agrees with the reported world: publishers, intake, item in hand, sequence,
 -- closing number and endpoints. Each of its deliveries was made to its subscription. All links and
--- numbers so far are below the next ones. Each subscription began with empty tables.
+-- numbers so far are below the next ones. Each subscription began with empty tables. The same
+-- entries are withdrawn.
 pub record IsToldBy (schema : List Shape) (state : State) (world : World) : Type 0 where
   pub served : state.schema ≡ schema
   pub senders : Paired IsSender state.publishers world.senders
@@ -244,3 +267,4 @@ pub record IsToldBy (schema : List Shape) (state : State) (world : World) : Type
   pub links : AllByRecursion (λ link. link < state.desk.next_link) world.links
   pub numbers : AllByRecursion (AreBelow state.desk.next_delivery) world.subscribers
   pub bases : AllByRecursion (λ q. q.base ≡ empty_tables schema) world.subscribers
+  pub withdrawn : (n : ℕ) → 0 < n → (is_withdrawn state n ≡ false) ↔ IsNew world.withdrawn n

@@ -1,17 +1,17 @@
 -- The abstract world: what was sent, placed and accepted. It has no window, no clock, no spans and
 -- no order of deliveries.
 use Rattle.std.specs.Prelude.{ℕ, ◌+◌, Bool, List, [], length, Option, None}
-use Rattle.cs_model.specs.Section.{Section}
 use Rattle.cs_apply.specs.State as tables
 use Rattle.rb_desk.specs.declared.delivery.Delivery.{Delivery}
 use Rattle.rb_sequence.specs.declared.item.Item.{Item}
 use Rattle.rb_sequence.specs.Entry.{Entry}
 use Rattle.rb_subscriber.specs.Endpoint.{Endpoint}
+use Rattle.rb_core.specs.declared.publisher.Staged.{Staged}
 
--- A publisher: the text of its stream, its staged changeset, and all that it sent, in order.
+-- A publisher: the text of its stream, what it staged, and all that it sent, in order.
 pub record Sender : Type 0 where
   pub text : List ℕ
-  pub staged : Option (List Section)
+  pub staged : Option Staged
   pub sent : List Item
 
 -- A subscription: the number after which it began, the tables that it began with, the accepted
@@ -28,8 +28,8 @@ pub record Subscriber : Type 0 where
 
 -- The abstract world. It has the publishers and the intake of sent items in order. The item in hand
 -- has left the intake and has no number yet. It has the sequence, its closing number if it is
--- closed, all links ever issued, and the subscriptions. Publishers and subscriptions are numbered
--- from 0.
+-- closed, all links ever issued, and the subscriptions. It has the numbers of the withdrawn
+-- entries, the last one first. Publishers and subscriptions are numbered from 0.
 pub record World : Type 0 where
   pub senders : List Sender
   pub intake : List Item
@@ -38,6 +38,7 @@ pub record World : Type 0 where
   pub closing : Option ℕ
   pub links : List ℕ
   pub subscribers : List Subscriber
+  pub withdrawn : List ℕ
 
 -- the world before any move
 abbrev pub world_begun : World
@@ -49,6 +50,7 @@ world_begun = record {
   closing = None;
   links = [];
   subscribers = [];
+  withdrawn = [];
 }
 
 -- the last number that a subscription has accepted

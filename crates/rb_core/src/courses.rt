@@ -2,7 +2,7 @@
 //! the desk. Each law is a public function that does nothing; its contract is the law. Call the
 //! function to use the law.
 
-ghost use Rattle.std.specs.Prelude.{◌≡◌, ℕ, true, List, Some, slice_get};
+ghost use Rattle.std.specs.Prelude.{◌≡◌, ◌≤◌, ℕ, true, length, List, Some, slice_get};
 ghost use Rattle.cs_apply.specs.Columns.{HaveColumns};
 ghost use Rattle.rb_core.specs.Moves.{Leads, HasRun, StaysClosed, items_of, own_of, IsFront};
 ghost use Rattle.rb_core.specs.Moves.{HasSingleTables, IsSending};
@@ -50,6 +50,14 @@ pub fn sendings_come_once_in_order()
         → Leads world_begun mids new → slice_get new.sequence i ≡ Some entry
         → (sender : Sender) × (slice_get new.senders entry.item.publisher ≡ Some sender)
         × IsSending sender entry.item }
+{}
+
+/// After any moves from the start, no entry is withdrawn twice, and each withdrawn entry is placed.
+pub fn withdrawn_once()
+    ensures once { (mids : List World) (new : World) (i j n : ℕ) → Leads world_begun mids new
+        → slice_get new.withdrawn i ≡ Some n → slice_get new.withdrawn j ≡ Some n → i ≡ j }
+    ensures placed { (mids : List World) (new : World) (i n : ℕ) → Leads world_begun mids new
+        → slice_get new.withdrawn i ≡ Some n → (1 ≤ n) × (n ≤ length new.sequence) }
 {}
 
 /// After any moves from the start: where the changesets that a subscription accepted apply singly,

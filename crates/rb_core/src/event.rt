@@ -17,6 +17,8 @@ pub enum Event {
     End { publisher: u64 },
     /// Sends what a publisher has staged.
     Send { publisher: u64 },
+    /// Stages the withdrawal of an entry that the publisher sent.
+    Withdraw { publisher: u64, number: u64 },
     /// Places the changeset that was sent first: it gets the next number.
     Turn,
     /// Closes the sequence: nothing more is sent or placed.

@@ -16,10 +16,11 @@ mod reply;
 mod runs;
 mod sequencing;
 mod subscribing;
+mod withdrawing;
 mod world;
 
 pub use event::Event;
-pub use publisher::Publisher;
+pub use publisher::{Publisher, Staged};
 pub use rb_desk::{Config, ConfigFault, Delivery};
 pub use rb_sequence::{Entry, Item};
 pub use reply::{BrokerRefusal, Reply};

@@ -1,4 +1,4 @@
-//! The parts of a world: schema, publishers, intake, sequence, desk, endpoints, deliveries.
+//! The parts of a world: schema, publishers, intake, sequence, desk, endpoints, deliveries, marks.
 
 ghost use Rattle.std.specs.Prelude.{◌≡◌};
 ghost use Rattle.std.specs.Arc.{arc_value};
@@ -26,6 +26,8 @@ pub(crate) struct Parts {
     pub(crate) desk: Desk,
     pub(crate) endpoints: Vec<Endpoint>,
     pub(crate) deliveries: Vec<Delivery>,
+    /// Whether the entry at each place is withdrawn. An entry past its end isn't.
+    pub(crate) withdrawn: Vec<bool>,
 }
 
 impl Model for Parts {
@@ -45,6 +47,7 @@ impl Model for Parts {
       desk = w.desk;
       endpoints = w.endpoints.items;
       deliveries = w.deliveries.items;
+      withdrawn = w.withdrawn.items;
     } };
 }
 
@@ -62,6 +65,7 @@ impl Parts {
             desk: Desk::new(alloc, config),
             endpoints: Vec::new(alloc),
             deliveries: Vec::new(alloc),
+            withdrawn: Vec::new(alloc),
         }
     }
 }

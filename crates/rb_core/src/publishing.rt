@@ -1,8 +1,7 @@
 //! Events of publishers: add, feed, reset, end, send.
 
-ghost use Rattle.std.specs.Prelude.{◌≡◌, List, Some, length, slice_get, nat_le, IfOk, OnErr};
+ghost use Rattle.std.specs.Prelude.{◌≡◌, Some, length, slice_get, nat_le, IfOk, OnErr};
 ghost use Rattle.std.specs.Prelude.{IsSome, IsSomeAnd};
-ghost use Rattle.cs_model.specs.Section.{Section};
 ghost use Rattle.cs_parse.specs.End.{admitted_answer, left_by};
 ghost use Rattle.cs_parse.specs.Progress.{answer_at_end};
 ghost use Rattle.rb_core.specs.Outcome.{end_reply};
@@ -10,9 +9,10 @@ ghost use Rattle.rb_core.specs.Memory.{MayRunOut};
 ghost use Rattle.rb_core.specs.Outcome as outcome;
 ghost use Rattle.rb_core.specs.declared.event.Event.TheVariants as event;
 ghost use Rattle.rb_core.specs.declared.publisher.Publisher.{Publisher};
+ghost use Rattle.rb_core.specs.declared.publisher.Staged.{Staged};
 
 use crate::parts::Parts;
-use crate::publisher::Publisher;
+use crate::publisher::{Publisher, Staged};
 use crate::reply::{BrokerRefusal, Reply};
 use crate::world::refused;
 use cs_model::{Changeset, Origin, Schema, SectionFault};
@@ -99,7 +99,10 @@ impl Parts {
             Ok(changeset) => changeset,
             Err(error) => return reply_for(error),
         };
-        found.staged = Some(changeset);
+        found.staged = Some(Staged {
+            origin: Origin::Sent,
+            body: changeset,
+        });
         Reply::Staged
     }
 
@@ -137,9 +140,9 @@ impl Parts {
     fn queue(&mut self, publisher: u64) -> Result<Reply, AllocError>
         requires { IsSomeAnd (slice_get self.old.publishers publisher)
             (λ found. IsSome found.staged) }
-        ensures ok { IfOk result (λ reply. (found : Publisher) (changeset : List Section)
-            → slice_get self.old.publishers publisher ≡ Some found → found.staged ≡ Some changeset
-            → outcome.sent_item self.old publisher found changeset ≡ (reply, self.new)) }
+        ensures ok { IfOk result (λ reply. (found : Publisher) (staged : Staged)
+            → slice_get self.old.publishers publisher ≡ Some found → found.staged ≡ Some staged
+            → outcome.sent_item self.old publisher found staged ≡ (reply, self.new)) }
         ensures err { OnErr result (self.new ≡ self.old) }
     {
         let p = publisher as usize;
@@ -147,13 +150,13 @@ impl Parts {
         let own = self.publishers[p].sent.checked_add(1).ok_or(AllocError)?;
         self.intake.reserve(1)?;
         let found = &mut self.publishers[p];
-        let body = found.staged.take().unwrap();
+        let staged = found.staged.take().unwrap();
         found.sent = own;
         self.intake.push_back(Item {
             publisher,
             own,
-            origin: Origin::Sent,
-            body,
+            origin: staged.origin,
+            body: staged.body,
         })?;
         Ok(Reply::Sent(own))
     }

@@ -15,7 +15,7 @@ pub enum Reply {
     Fed,
     /// The stream is empty again.
     Reset,
-    /// A changeset is staged, and the stream is empty.
+    /// A changeset is staged. After `End`, the stream is empty.
     Staged,
     /// The changeset is sent: its number among its publisher's sendings, from 1.
     Sent(u64),
@@ -53,7 +53,7 @@ pub enum Reply {
 /// If several apply, the reply is the first in this order.
 #[derive(Clone, Copy, Debug, PartialEq, Eq, Error)]
 pub enum BrokerRefusal {
-    /// `Feed`, `Reset`, `End`, `Send`: no publisher has this number.
+    /// `Feed`, `Reset`, `End`, `Send`, `Withdraw`: no publisher has this number.
     #[error("there is no such publisher")]
     NoPublisher,
     /// `Accept`, `Ack`, `Nack`: no delivery has this number.
@@ -62,7 +62,7 @@ pub enum BrokerRefusal {
     /// `Publisher`: there are 64 publishers.
     #[error("there are 64 publishers")]
     TooMany,
-    /// `End`: the publisher has a changeset staged already.
+    /// `End`, `Withdraw`: the publisher has a changeset staged already.
     #[error("a changeset is staged already")]
     Holding,
     /// `Send`: the publisher has nothing staged.
@@ -74,6 +74,15 @@ pub enum BrokerRefusal {
     /// `Send`: the intake is full.
     #[error("as many changesets wait as may")]
     Full,
+    /// `Withdraw`: no entry has this number.
+    #[error("there is no such entry")]
+    NotPlaced,
+    /// `Withdraw`: another publisher sent the entry.
+    #[error("the entry is another publisher's")]
+    NotYours,
+    /// `Withdraw`: the entry is withdrawn already.
+    #[error("the entry is withdrawn already")]
+    AlreadyWithdrawn,
     /// `End`: the first refused section, at this index, is of a table that isn't in the schema.
     #[error("section {0} is of an unknown table")]
     UnknownTable(u64),

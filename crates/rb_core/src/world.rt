@@ -130,6 +130,7 @@ impl Parts {
             Event::Reset { publisher } => Ok(self.reset(alloc, *publisher)),
             Event::End { publisher } => Ok(self.end(alloc, *publisher)),
             Event::Send { publisher } => self.send(*publisher),
+            Event::Withdraw { publisher, number } => self.withdraw(alloc, *publisher, *number),
             Event::Turn => self.turn(alloc),
             Event::Close => Ok(self.close()),
             Event::Subscribe { start } => self.subscribe(alloc, *start),

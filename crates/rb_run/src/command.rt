@@ -23,6 +23,7 @@ Lines, each with its answer when it is done:
   reset P             ok                  what was fed is forgotten, and so is its fault
   end P               staged              what was fed is a whole changeset
   send P              sent OWN            what is staged goes to the intake
+  withdraw P N        staged              the withdrawal of an entry that it sent is staged
   turn                placed N, or idle   the next changeset gets its number
   close               closed LAST         nothing is sent or placed any more
   subscribe START     subscriber S link L a new subscription, after number START

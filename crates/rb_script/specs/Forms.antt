@@ -42,13 +42,14 @@ two_words name word =
     if same_bytes name (codes "table") then option_map Table (bytes_of word) else name_and_number
     name (number_in_word word)
 
--- `take S NOW`, `reconnect S CURSOR` and `combine FIRST LAST`
+-- `take S NOW`, `reconnect S CURSOR`, `combine FIRST LAST` and `withdraw P N`
 abbrev pub two_numbers : List ℕ → ℕ → Option ℕ → Option Form
 two_numbers name s None = None
 two_numbers name s (Some n) =
     if same_bytes name (codes "take") then Some (Happens (event.Take s n))
     else if same_bytes name (codes "reconnect") then Some (Happens (event.Reconnect s n))
     else if same_bytes name (codes "combine") then Some (Combine s n)
+    else if same_bytes name (codes "withdraw") then Some (Happens (event.Withdraw s n))
     else None
 
 -- `feed P HEX`
@@ -56,7 +57,7 @@ abbrev pub fed_form : ℕ → Option (List ℕ) → Option Form
 fed_form p None = None
 fed_form p (Some bytes) = Some (Happens (event.Feed p bytes))
 
--- these three
+-- all of these
 abbrev pub number_and_word : List ℕ → Option ℕ → List ℕ → Option Form
 number_and_word name None word = None
 number_and_word name (Some n) word =

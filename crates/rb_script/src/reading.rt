@@ -133,6 +133,11 @@ fn with_numbers(name: &[u8], first: u64, last: u64) -> Option<Form>
         }))
     } else if is(name, b"combine") {
         Some(Form::Combine { first, last })
+    } else if is(name, b"withdraw") {
+        Some(Form::Happens(Event::Withdraw {
+            publisher: first,
+            number: last,
+        }))
     } else {
         None
     }

@@ -1,11 +1,18 @@
-use Rattle.std.proofs.Common.{◌≡◌, None, Some, Ok, Err, sym, ap, ◌∙◌, arith}
+use Rattle.std.proofs.Common.{◌≡◌, List, None, Some, Ok, Err, sym, ap, ◌∙◌, arith}
 use Rattle.std.specs.Prelude.{slice_get}
 use Rattle.std.proofs.lemmas.Option.{slice_get_read}
+use Rattle.cs_model.specs.declared.origin.Origin.TheVariants.{Sent}
+use Rattle.cs_model.specs.Section.{Section}
 use Rattle.cs_parse.specs.End.{admitted_answer, left_by}
 use Rattle.cs_parse.specs.Progress.{answer_at_end}
 use Rattle.rb_core.specs.contracts.parts.Parts.{the_view}
+use Rattle.rb_core.specs.declared.publisher.Staged.{Staged}
 use Rattle.rb_core.proofs.Written.{none_staged, end_refused, end_staged}
 use Rattle.rb_core.proofs.parts.Parts.end.Goals as goal
+
+-- what was fed, as it is staged
+abbrev fed_one : List Section → Staged
+fed_one body = record { origin = Sent; body = body }
 
 pub returns-in-Err : goal.returns-in-Err
 returns-in-Err c =
@@ -43,5 +50,5 @@ returns c =
     let stays = c.end_of.ensures.left ∙ ap (λ a. left_by a q.stream) c.in-Ok.is in
     rw (← c.self.view_is)
     (end_staged (the_view c.self.inside) c.args.publisher q
-    (record q { stream = c.end_of.new.stream; staged = Some c.in-Ok.changeset }) c.in-Ok.changeset here staged ends
-    (ap (λ s. record q { stream = s; staged = Some c.in-Ok.changeset }) stays))
+    (record q { stream = c.end_of.new.stream; staged = Some (fed_one c.in-Ok.changeset) }) c.in-Ok.changeset here
+    staged ends (ap (λ s. record q { stream = s; staged = Some (fed_one c.in-Ok.changeset) }) stays))
