@@ -266,7 +266,7 @@ def merged(flags, there, change):
 
 
 def group(sections):
-    """each row's changes as one; a row that came from none again stands last"""
+    """each row's changes as one, and tables that have one; a row that came from none again stands last"""
     tables = {}
     for name, flags, changes in sections:
         rows = tables.setdefault((name, flags), {})
@@ -281,7 +281,7 @@ def group(sections):
                 rows[key] = now
             else:
                 rows.pop(key, None)
-    return [(name, flags, list(rows.values())) for (name, flags), rows in tables.items()]
+    return [(name, flags, list(rows.values())) for (name, flags), rows in tables.items() if rows]
 
 
 # ---------------------------------------------------------------- inverses
