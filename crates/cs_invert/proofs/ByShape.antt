@@ -13,7 +13,7 @@ use Rattle.cs_write.specs.Text.{text_of}
 use Rattle.cs_write.proofs.GroupLaws.{by_shape-cons, by_shape-more, none_grouped}
 use Rattle.cs_write.proofs.TextLaws.{groups_are}
 use Rattle.cs_invert.specs.Inverse.{inverse, inverse_section}
-use Rattle.cs_invert.specs.Text.{inverse_group}
+use Rattle.cs_invert.specs.Text.{AreValid, inverse_group}
 use Rattle.cs_invert.proofs.SameLength.{groups_len}
 
 -- ---- the groups of an inverse
@@ -75,9 +75,6 @@ grouping_ends groups rest all none so =
 
 -- ---- the sections of groups are valid
 
-abbrev AreValid : Group → Type 0
-AreValid group = AllByRecursion IsSection group.1
-
 one_valid : (b : Bool) (section : Section) (rest : List Section) → IsSection section
     → AllByRecursion IsSection rest → AllByRecursion IsSection (cond b (section ∷ rest) rest)
 one_valid true section rest is all = (is, all)
@@ -94,7 +91,7 @@ begun_groups_valid : (b : Bool) (group : Group) (old new : List Group) → AreVa
 begun_groups_valid true group old new is olds news = olds
 begun_groups_valid false group old new is olds news = (is, news)
 
-by_shape_valid : (earlier : List Shape) (sections : List Section) → IsChangeset sections
+pub by_shape_valid : (earlier : List Shape) (sections : List Section) → IsChangeset sections
     → AllByRecursion AreValid (by_shape earlier sections)
 unfolding by_shape
 by_shape_valid earlier [] is = tt

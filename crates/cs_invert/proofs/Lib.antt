@@ -7,3 +7,4 @@ pub mod KeyBack
 pub mod Withdrawing
 pub mod SameLength
 pub mod ByShape
+pub mod KeyLeads

@@ -4,6 +4,7 @@
 #![tactic(auto)]
 
 mod inverse;
+mod key_first;
 pub mod laws;
 mod placing;
 mod text;

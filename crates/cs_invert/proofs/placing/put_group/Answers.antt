@@ -27,7 +27,7 @@ returns-clause-bytes c =
     let room : at + length (header_text shape) ≤ length out =
     omega (
       arith,
-      c.requires,
+      c.requires.room,
       ap length text,
       length-append (header_text shape) (bodies (inverse c.args.sections.now)),
     ) in

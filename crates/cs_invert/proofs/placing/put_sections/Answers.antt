@@ -4,7 +4,7 @@ use Rattle.cs_write.proofs.Laying.{laying_goes_on, laying_ends}
 use Rattle.cs_invert.proofs.placing.put_sections.Goals as goal
 
 pub loop-section-preserved : goal.loop-section-preserved
-loop-section-preserved c = laying_goes_on _ _ _ _ _ _ _ _ _ _ c.requires c.put_section-end.ensures.end
+loop-section-preserved c = laying_goes_on _ _ _ _ _ _ _ _ _ _ c.requires.room c.put_section-end.ensures.end
     c.put_section-end.ensures.bytes c.loop-section.invariant (grind (arith, common_steps))
 
 pub returns-clause-bytes : goal.returns-clause-bytes

@@ -1,4 +1,5 @@
-use Rattle.std.proofs.Common.{◌≡◌, ◌∙◌, ◌++◌, map, length, drop, sym, ap, cond, arith}
+use Rattle.std.proofs.Common.{◌≡◌, ◌∙◌, ◌++◌, [], map, length, drop, sym, ap, subst, cond, arith}
+use Rattle.std.specs.List.{AllByRecursion}
 use Rattle.std.proofs.lemmas.Bool.{le-ltb, lt-ltb}
 use Rattle.cs_write.specs.Buffer.{laid}
 use Rattle.cs_write.specs.Groups.{groups_text}
@@ -6,8 +7,8 @@ use Rattle.cs_write.specs.Seen.{seen}
 use Rattle.cs_write.specs.Text.{text_of}
 use Rattle.cs_write.proofs.Laying.{laid_first}
 use Rattle.cs_invert.specs.Inverse.{inverse}
-use Rattle.cs_invert.specs.Text.{inverse_group}
-use Rattle.cs_invert.proofs.ByShape.{inverse_text_is, inverse_text_len}
+use Rattle.cs_invert.specs.Text.{AreValid, inverse_group}
+use Rattle.cs_invert.proofs.ByShape.{by_shape_valid, inverse_text_is, inverse_text_len}
 use Rattle.cs_invert.proofs.text.write_inverse.Goals as goal
 use Rattle.cs_invert.proofs.text.write_inverse.Goals.{In_ok-len}
 
@@ -36,9 +37,14 @@ returns-then-room-len-clause-written c =
     sym (ap (λ b. cond b out (made ++ drop (length made) out))
     (lt-ltb (length out) (length made) (omega (arith, is, c.if-room-len.true))))
 
-pub put_groups-requires : goal.put_groups-requires
-put_groups-requires c =
-    let at = (goal.at.put_groups-requires c).In_ok-len in
+pub put_groups-requires-clause-valid : goal.put_groups-requires-clause-valid
+put_groups-requires-clause-valid c =
+    subst (AllByRecursion AreValid) (sym c.in_ok-groups.ensures.groups)
+    (by_shape_valid [] c.args.changeset.now c.in_ok-groups.ensures.valid)
+
+pub put_groups-requires-clause-room : goal.put_groups-requires-clause-room
+put_groups-requires-clause-room c =
+    let at = (goal.at.put_groups-requires-clause-room c).In_ok-len in
     omega (arith, inverted_len at, ap length (inverted_text at), c.if-room-len.false)
 
 pub returns-clause-length : goal.returns-clause-length
