@@ -17,12 +17,12 @@ one_more_key (flag ∷ flags) (suc i) keys within is rest = one_more_key flags i
 
 -- ---- the record
 
-front : (outside : ℕ) (old new : Field) → 0 < outside → cond (eqb outside 0) new old ≡ old
-front zero old new is = absurd (omega (arith, is))
-front (suc n) old new is = ap (λ b. cond b new old) (eqb-suc-zero n)
+key_stays : (outside : ℕ) (old new : Field) → 0 < outside → cond (eqb outside 0) new old ≡ old
+key_stays zero old new is = absurd (omega (arith, is))
+key_stays (suc n) old new is = ap (λ b. cond b new old) (eqb-suc-zero n)
 
-behind : (outside : ℕ) (old new : Field) → outside ≡ 0 → cond (eqb outside 0) new old ≡ new
-behind outside old new is = ap (λ n. cond (eqb n 0) new old) is
+other_goes : (outside : ℕ) (old new : Field) → outside ≡ 0 → cond (eqb outside 0) new old ≡ new
+other_goes outside old new is = ap (λ n. cond (eqb n 0) new old) is
 
 pub key_then_rest : (flags : List ℕ) (keys others : ℕ) (before after : List Field) → KeyFirst flags keys
     → keys + others ≡ length flags → length before ≡ length flags → length after ≡ length flags
@@ -34,11 +34,11 @@ key_then_rest (flag ∷ flags) keys others [] after first all one other = absurd
 key_then_rest (flag ∷ flags) keys others (old ∷ before) [] first all one other = absurd (omega (arith, other))
 key_then_rest (flag ∷ flags) zero zero (old ∷ before) (new ∷ after) first all one other = absurd (omega (arith, all))
 key_then_rest (flag ∷ flags) zero (suc others) (old ∷ before) (new ∷ after) first all one other =
-    (λ i. field_bytes (behind flag old new first.0 i)
+    (λ i. field_bytes (other_goes flag old new first.0 i)
     ++ key_then_rest flags zero others before after first.1 (omega (arith, all)) (omega (arith, one))
     (omega (arith, other)) i)
 key_then_rest (flag ∷ flags) (suc keys) others (old ∷ before) (new ∷ after) first all one other =
-    (λ i. field_bytes (front flag old new first.0 i)
+    (λ i. field_bytes (key_stays flag old new first.0 i)
     ++ key_then_rest flags keys others before after first.1 (omega (arith, all)) (omega (arith, one))
     (omega (arith, other)) i)
     ∙ sym (append_assoc (field_bytes old) (packed (take keys before)) (packed (take others (drop keys after))))

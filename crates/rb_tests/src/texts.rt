@@ -126,6 +126,12 @@ fn brokers_say_why(rt: HostRuntime) -> Result<(), Fail> {
         (BrokerRefusal::NothingStaged, "nothing is staged"),
         (BrokerRefusal::Closed, "the sequence is closed"),
         (BrokerRefusal::Full, "as many changesets wait as may"),
+        (BrokerRefusal::NotPlaced, "there is no such entry"),
+        (BrokerRefusal::NotYours, "the entry is another publisher's"),
+        (
+            BrokerRefusal::AlreadyWithdrawn,
+            "the entry is withdrawn already",
+        ),
         (
             BrokerRefusal::UnknownTable(7),
             "section 7 is of an unknown table",
