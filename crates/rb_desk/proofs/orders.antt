@@ -3,3 +3,4 @@ pub mod Line
 pub mod OrderLaws
 pub mod ExpireOrder
 pub mod SearchLaws
+pub mod TreeLaws

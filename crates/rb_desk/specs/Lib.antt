@@ -4,6 +4,7 @@ pub mod Picture
 pub mod Calls
 pub mod Answers
 pub mod Lanes
+pub mod Tournament
 pub mod Orders
 pub mod Shown
 pub mod Expiry

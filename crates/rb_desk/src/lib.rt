@@ -18,6 +18,7 @@ mod sub;
 mod subscribing;
 mod taking;
 mod ticket;
+mod tournament;
 
 pub use config::{Config, ConfigFault};
 pub use delivery::Delivery;

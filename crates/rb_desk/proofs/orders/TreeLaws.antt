@@ -1,0 +1,239 @@
+-- A tournament's tree: the first node is the winner of all places.
+use Rattle.std.proofs.Common.{◌≡◌, ◌≢◌, ℕ, zero, suc, ◌+◌, ◌-◌, ◌<◌, ◌≤◌, List, [], ◌∷◌, ◌++◌, length, take, drop, map}
+use Rattle.std.proofs.Common.{replicate, Option, Some, None, option_map, get_or, slice_set, refl, sym, ap, ◌∙◌, arith, subst}
+use Rattle.std.proofs.Common.{Bool, true, false, ◌==◌, eqb-true, eq-eqb}
+use Rattle.std.proofs.lemmas.Bool.{false≢true}
+use Rattle.std.proofs.lemmas.List.{drop-set-lt, drop-set-add, get_or-set_same, get_or-set_other, set-append_left}
+use Rattle.std.proofs.lemmas.List.{length-drop, length-replicate, take-append-le}
+use Rattle.std.proofs.Math.Seq.{take-length, take-append_seam}
+use Rattle.rb_desk.specs.declared.ticket.Ticket.{Ticket}
+use Rattle.rb_desk.specs.declared.tournament.Winner.{Winner}
+use Rattle.rb_desk.specs.Tournament.{joined, at_place, winner_from, leaves_from, places_at, node, IsJoined, IsTree}
+use Rattle.rb_desk.specs.Tournament.{ticket_at, tickets_of}
+
+-- ---- winners of lists
+
+joined_none : (a : Option Winner) → joined a None ≡ a
+joined_none None = refl
+joined_none (Some a) = refl
+
+joined_assoc : (a b c : Option Winner) → joined (joined a b) c ≡ joined a (joined b c)
+joined_assoc None b c = refl
+joined_assoc (Some a) None c = refl
+joined_assoc (Some a) (Some b) None = grind arith
+joined_assoc (Some a) (Some b) (Some c) = grind arith
+
+-- the winner of these winners
+abbrev pub winner_of : List (Option Winner) → Option Winner
+winner_of [] = None
+winner_of (x ∷ rest) = joined x (winner_of rest)
+
+winner_append : (xs ys : List (Option Winner)) → winner_of (xs ++ ys) ≡ joined (winner_of xs) (winner_of ys)
+winner_append [] ys = refl
+winner_append (x ∷ xs) ys = ap (joined x) (winner_append xs ys) ∙ sym (joined_assoc x (winner_of xs) (winner_of ys))
+
+winner_none : (n : ℕ) → winner_of (replicate n None) ≡ None
+winner_none zero = refl
+winner_none (suc n) = winner_none n
+
+winner_leaves : (n : ℕ) (tickets : List (Option Ticket)) → winner_of (leaves_from n tickets) ≡ winner_from n tickets
+winner_leaves n [] = refl
+winner_leaves n (ticket ∷ rest) = ap (joined (at_place n ticket)) (winner_leaves (suc n) rest)
+
+length_leaves : (n : ℕ) (tickets : List (Option Ticket)) → length (leaves_from n tickets) ≡ length tickets
+length_leaves n [] = refl
+length_leaves n (ticket ∷ rest) = ap suc (length_leaves (suc n) rest)
+
+-- ---- where the places below a node begin
+
+abbrev pub start : ℕ → ℕ → ℕ
+start zero i = i
+start (suc depth) i = start depth (i + i)
+
+start_next : (depth i : ℕ) → start depth (suc i) ≡ start depth i + places_at depth
+start_next zero i = omega arith
+start_next (suc depth) i =
+    ap (start depth) (let e : suc i + suc i ≡ suc (suc (i + i)) = omega arith in e)
+    ∙ omega (arith, start_next depth (suc (i + i)), start_next depth (i + i))
+
+start_least : (depth i : ℕ) → i ≤ start depth i
+start_least zero i = omega arith
+start_least (suc depth) i = omega (arith, start_least depth (i + i))
+
+start_one : (depth : ℕ) → start depth 1 ≡ places_at depth
+start_one zero = refl
+start_one (suc depth) = omega (arith, start_next depth 1, start_one depth)
+
+some_places : (depth : ℕ) → 0 < places_at depth
+some_places zero = omega arith
+some_places (suc depth) = omega (arith, some_places depth)
+
+-- ---- a node is the winner of the places below it
+
+abbrev none_of : {X : Type 0} → List X
+none_of = []
+
+take_none : {X : Type 0} (n : ℕ) → take n (none_of {X = X}) ≡ none_of
+take_none zero = refl
+take_none (suc n) = refl
+
+take_more : {X : Type 0} (n m : ℕ) (xs : List X) → take n xs ++ take m (drop n xs) ≡ take (n + m) xs
+take_more zero m xs = ap (λ k. take k xs) (let e : m ≡ 0 + m = omega arith in e)
+take_more {X} (suc n) m [] = take_none {X = X} m ∙ sym (take_none {X = X} (suc n + m))
+take_more (suc n) m (x ∷ xs) =
+    ap (λ l. x ∷ l) (take_more n m xs)
+    ∙ ap (λ k. take k (x ∷ xs)) (let e : suc (n + m) ≡ suc n + m = omega arith in e)
+
+take_twice : {X : Type 0} (n m at : ℕ) (xs : List X) → take n (drop at xs) ++ take m (drop (at + n) xs)
+    ≡ take (n + m) (drop at xs)
+take_twice n m zero xs = ap (λ k. take n xs ++ take m (drop k xs)) (let e : 0 + n ≡ n = omega arith in e)
+    ∙ take_more n m xs
+take_twice {X} n m (suc at) [] =
+    ap (λ k. take n none_of ++ take m (drop k none_of)) (let e : suc at + n ≡ suc (at + n) = omega arith in e)
+    ∙ ap (λ l. l ++ take m none_of) (take_none {X = X} n) ∙ take_none {X = X} m ∙ sym (take_none {X = X} (n + m))
+take_twice n m (suc at) (x ∷ xs) =
+    ap (λ k. take n (drop at xs) ++ take m (drop k (x ∷ xs))) (let e : suc at + n ≡ suc (at + n) = omega arith in e)
+    ∙ take_twice n m at xs
+
+node_alone : (nodes : List (Option Winner)) (i : ℕ) → i < length nodes → node nodes i ≡ winner_of (take 1 (drop i nodes))
+node_alone [] i h = absurd (omega (arith, h))
+node_alone (x ∷ nodes) zero h = sym (joined_none x)
+node_alone (x ∷ nodes) (suc i) h = node_alone nodes i (omega (arith, h))
+
+-- a node that is there is the same whatever stands for one that isn't
+pub node_read : (nodes : List (Option Winner)) (i : ℕ) (d : Option Winner) → i < length nodes → get_or nodes i d
+    ≡ node nodes i
+node_read [] i d h = absurd (omega (arith, h))
+node_read (x ∷ nodes) zero d h = refl
+node_read (x ∷ nodes) (suc i) d h = node_read nodes i d (omega (arith, h))
+
+abbrev pub AreJoined : List (Option Winner) → ℕ → Type 0
+AreJoined nodes room = (i : ℕ) → 1 ≤ i → i < room → IsJoined nodes i
+
+node_wins : (nodes : List (Option Winner)) (room : ℕ) → length nodes ≡ room + room → AreJoined nodes room
+    → (depth i : ℕ) → 1 ≤ i → start depth i + places_at depth ≤ room + room
+    → node nodes i ≡ winner_of (take (places_at depth) (drop (start depth i) nodes))
+node_wins nodes room long inner zero i one fits = node_alone nodes i (omega (arith, fits, long))
+node_wins nodes room long inner (suc depth) i one fits =
+    let next = start_next depth (i + i) in
+    let some = some_places depth in
+    let least = start_least depth (i + i) in
+    inner i one (omega (arith, fits, some, least))
+    ∙ (λ k. joined
+    (node_wins nodes room long inner depth (i + i) (omega (arith, one)) (omega (arith, fits, some)) k)
+    (node_wins nodes room long inner depth (suc (i + i)) (omega arith) (omega (arith, fits, next)) k))
+    ∙ ap (λ at. joined (winner_of (take (places_at depth) (drop (start depth (i + i)) nodes)))
+    (winner_of (take (places_at depth) (drop at nodes)))) next
+    ∙ sym (winner_append (take (places_at depth) (drop (start depth (i + i)) nodes)) _)
+    ∙ ap winner_of (take_twice (places_at depth) (places_at depth) (start depth (i + i)) nodes)
+
+-- ---- a tree
+
+-- the tickets that its places have are the ones that its leaves were made of
+tickets_again : (n : ℕ) (tickets : List (Option Ticket)) → map ticket_at (leaves_from n tickets) ≡ tickets
+tickets_again n [] = refl
+tickets_again n (None ∷ rest) = ap (λ l. None ∷ l) (tickets_again (suc n) rest)
+tickets_again n (Some ticket ∷ rest) = ap (λ l. Some ticket ∷ l) (tickets_again (suc n) rest)
+
+pub tickets_are : (nodes : List (Option Winner)) (room len : ℕ) (tickets : List (Option Ticket)) (pad : List (Option Winner))
+    → length tickets ≡ len → drop room nodes ≡ leaves_from 0 tickets ++ pad → tickets_of nodes room len ≡ tickets
+tickets_are nodes room len tickets pad long leaves =
+    ap (λ l. map ticket_at (take len l)) leaves
+    ∙ ap (λ n. map ticket_at (take n (leaves_from 0 tickets ++ pad))) (sym long ∙ sym (length_leaves 0 tickets))
+    ∙ ap (map ticket_at) (take-append_seam (leaves_from 0 tickets) pad)
+    ∙ tickets_again 0 tickets
+
+length_rest : (nodes : List (Option Winner)) (room : ℕ) → length nodes ≡ room + room → length (drop room nodes) ≡ room
+length_rest nodes room long = length-drop room nodes ∙ omega (arith, long)
+
+pub first_wins : (nodes : List (Option Winner)) (room len : ℕ) → IsTree nodes room len → 0 < room
+    → node nodes 1 ≡ winner_from 0 (tickets_of nodes room len)
+first_wins nodes room len tree some =
+    let depth = (tree.even some).0 in
+    let even = (tree.even some).1 in
+    let tickets = tree.leaves.0 in
+    let pad = replicate (room - len) None in
+    node_wins nodes room tree.long tree.inner depth 1 (omega arith) (omega (arith, start_one depth, even))
+    ∙ (λ k. winner_of (take (sym even k) (drop ((start_one depth ∙ sym even) k) nodes)))
+    ∙ ap winner_of (ap (λ n. take n (drop room nodes)) (sym (length_rest nodes room tree.long))
+    ∙ take-length (drop room nodes) ∙ tree.leaves.2)
+    ∙ winner_append (leaves_from 0 tickets) pad
+    ∙ ap (joined (winner_of (leaves_from 0 tickets))) (winner_none (room - len))
+    ∙ joined_none (winner_of (leaves_from 0 tickets))
+    ∙ winner_leaves 0 tickets
+    ∙ ap (winner_from 0) (sym (tickets_are nodes room len tickets pad tree.leaves.1 tree.leaves.2))
+
+-- ---- a place is set
+
+set_leaf : (n place : ℕ) (tickets : List (Option Ticket)) (ticket : Option Ticket) → place < length tickets
+    → slice_set (leaves_from n tickets) place (at_place (n + place) ticket)
+    ≡ leaves_from n (slice_set tickets place ticket)
+set_leaf n place [] ticket h = absurd (omega (arith, h))
+set_leaf n zero (x ∷ rest) ticket h =
+    ap (λ k. at_place k ticket ∷ leaves_from (suc n) rest) (let e : n + 0 ≡ n = omega arith in e)
+set_leaf n (suc place) (x ∷ rest) ticket h =
+    ap (λ l. at_place n x ∷ l)
+    (ap (λ k. slice_set (leaves_from (suc n) rest) place (at_place k ticket))
+    (let e : n + suc place ≡ suc n + place = omega arith in e)
+    ∙ set_leaf (suc n) place rest ticket (omega (arith, h)))
+
+-- the places after one was set
+pub leaves_set : (nodes : List (Option Winner)) (room place : ℕ) (tickets : List (Option Ticket))
+    (pad : List (Option Winner)) (ticket : Option Ticket) → place < length tickets
+    → drop room nodes ≡ leaves_from 0 tickets ++ pad
+    → drop room (slice_set nodes (room + place) (at_place place ticket))
+    ≡ leaves_from 0 (slice_set tickets place ticket) ++ pad
+leaves_set nodes room place tickets pad ticket h leaves =
+    drop-set-add room nodes place (at_place place ticket)
+    ∙ ap (λ l. slice_set l place (at_place place ticket)) leaves
+    ∙ set-append_left (leaves_from 0 tickets) pad place (at_place place ticket) (omega (arith, h, length_leaves 0 tickets))
+    ∙ ap (λ l. l ++ pad)
+    (ap (λ k. slice_set (leaves_from 0 tickets) place (at_place k ticket)) (let e : place ≡ 0 + place = omega arith in e)
+    ∙ set_leaf 0 place tickets ticket h)
+
+-- all nodes but one are joined
+abbrev pub AreJoinedBut : List (Option Winner) → ℕ → ℕ → Type 0
+AreJoinedBut nodes room but = (i : ℕ) → 1 ≤ i → i < room → i ≢ but → IsJoined nodes i
+
+-- a node that changes is one that only its own join and that of the node above it read
+join_kept : (nodes : List (Option Winner)) (at i : ℕ) (x : Option Winner) → i ≢ at → i + i ≢ at → suc (i + i) ≢ at
+    → IsJoined nodes i → IsJoined (slice_set nodes at x) i
+join_kept nodes at i x own left right is =
+    get_or-set_other nodes at i x None own ∙ is
+    ∙ (λ k. joined (sym (get_or-set_other nodes at (i + i) x None left) k)
+    (sym (get_or-set_other nodes at (suc (i + i)) x None right) k))
+
+-- after a place is set, only the node above it may not be joined
+pub joined_but : (nodes : List (Option Winner)) (room at above : ℕ) (x : Option Winner) → room ≤ at
+    → above + above ≤ at → at ≤ suc (above + above) → AreJoined nodes room
+    → AreJoinedBut (slice_set nodes at x) room above
+joined_but nodes room at above x low two more inner i one less other =
+    join_kept nodes at i x (λ e. absurd (omega (arith, e, low, less)))
+    (λ e. other (omega (arith, e, two, more))) (λ e. other (omega (arith, e, two, more)))
+    (inner i one less)
+
+-- once that one is joined, only the node above that may not be
+pub joined_up : (nodes : List (Option Winner)) (room at above : ℕ) (x : Option Winner) → 0 < at → at < room
+    → length nodes ≡ room + room → above + above ≤ at → at ≤ suc (above + above)
+    → x ≡ joined (node nodes (at + at)) (node nodes (suc (at + at))) → AreJoinedBut nodes room at
+    → AreJoinedBut (slice_set nodes at x) room above
+joined_up nodes room at above x some less long two more is but i one under other = by (i == at) refl
+  where
+    apart : i ≢ at → IsJoined (slice_set nodes at x) i
+    apart own =
+        join_kept nodes at i x own (λ e. other (omega (arith, e, two, more))) (λ e. other (omega (arith, e, two, more)))
+        (but i one under own)
+
+    here : IsJoined (slice_set nodes at x) at
+    here =
+        get_or-set_same nodes at x None (omega (arith, less, long)) ∙ is
+        ∙ (λ k. joined (sym (get_or-set_other nodes at (at + at) x None (λ e. absurd (omega (arith, e, some)))) k)
+        (sym (get_or-set_other nodes at (suc (at + at)) x None (λ e. absurd (omega (arith, e, some)))) k))
+
+    by : (b : Bool) → (i == at) ≡ b → IsJoined (slice_set nodes at x) i
+    by true is = subst (IsJoined (slice_set nodes at x)) (sym (eqb-true i at is)) here
+    by false is = apart (λ e. false≢true (sym is ∙ eq-eqb i at e))
+
+pub all_joined : (nodes : List (Option Winner)) (room at : ℕ) → at < 1 → AreJoinedBut nodes room at
+    → AreJoined nodes room
+all_joined nodes room at none but i one less = but i one less (λ e. absurd (omega (arith, e, none, one)))

@@ -1,0 +1,13 @@
+use Rattle.std.proofs.Common.{arith, ◌∙◌, sym, ap}
+use Rattle.rb_desk.specs.Tournament.{winner_from}
+use Rattle.rb_desk.proofs.orders.TreeLaws.{first_wins, node_read}
+use Rattle.rb_desk.proofs.tournament.Tournament.winner.Goals as goal
+
+pub returns : goal.returns
+returns c =
+    let tree = c.self.invariant in
+    c.index.ensures
+    ∙ node_read c.self.inside.nodes.items 1 _ (omega (arith, tree.long, tree.fits, c.if-self-eq0.false))
+    ∙ first_wins c.self.inside.nodes.items c.self.inside.room c.self.inside.len tree
+    (omega (arith, tree.fits, c.if-self-eq0.false))
+    ∙ ap (winner_from 0) c.self.view_is

@@ -1,0 +1,122 @@
+//! A tournament over tickets: places with and without a ticket, and which of them wins. Changing a
+//! place takes time that grows with the number of binary digits of the number of places.
+
+ghost use Rattle.std.specs.Prelude.{◌≡◌, ◌<◌, ◌+◌, ◌++◌, ◌∷◌, suc, [], length, slice_set, OnOk, OnErr};
+ghost use Rattle.rb_desk.specs.Tournament as spec;
+ghost use Rattle.rb_desk.specs.Tournament.{at_place, winner_from};
+
+use crate::ticket::Ticket;
+use std::alloc::{AllocError, Global};
+use std::marker::Model;
+
+/// Of some places: the first that has a ticket, and the place whose ticket is first in line.
+#[derive(Clone, Copy, Debug, PartialEq, Eq)]
+pub(crate) struct Winner {
+    pub(crate) first: usize,
+    pub(crate) place: usize,
+    pub(crate) ticket: Ticket,
+}
+
+/// Places, each with a ticket or without one. Contracts see what each place has.
+#[derive(Debug, Drop)]
+pub(crate) struct Tournament {
+    // node i, from 1 on, is the winner of nodes 2i and 2i + 1; the places are the nodes from `room`
+    nodes: Vec<Option<Winner>>,
+    room: usize,
+    len: usize,
+}
+
+impl Model for Tournament {
+    ghost use Rattle.std.specs.Prelude.{Option, List};
+    ghost use Rattle.std.specs.Coded.{coded_list, coded_option};
+    ghost use Rattle.rb_desk.specs.declared.ticket.Ticket.{Ticket};
+    ghost use Rattle.rb_desk.specs.contracts.ticket.Ticket as ticket;
+    ghost use Rattle.rb_desk.specs.Tournament.{IsTree, tickets_of};
+
+    ghost Value = { List (Option Ticket) };
+
+    ghost coded = { coded_list (coded_option ticket.the_row.coded) };
+
+    ghost view = { λ t. tickets_of t.nodes.items t.room t.len };
+
+    ghost invariant = { λ t. IsTree t.nodes.items t.room t.len };
+}
+
+impl Tournament {
+    /// No places. Does not allocate.
+    pub(crate) fn new(alloc: Global) -> Tournament
+        ensures { result ≡ [] }
+    {
+        Tournament {
+            nodes: Vec::new(alloc),
+            room: 0,
+            len: 0,
+        }
+    }
+
+    /// The winner of all places.
+    pub(crate) fn winner(&self) -> Option<Winner>
+        ensures { result ≡ winner_from 0 self.now }
+    {
+        if self.len == 0 {
+            return None;
+        }
+        self.nodes[1]
+    }
+
+    /// Whether another place needs no memory.
+    pub(crate) fn has_room(&self) -> bool {
+        self.len < self.room
+    }
+
+    /// Gives a place this ticket, or none.
+    pub(crate) fn set(&mut self, place: usize, ticket: Option<Ticket>)
+        requires { place < length self.old }
+        ensures { self.new ≡ slice_set self.old place ticket }
+    {
+        let at = self.room + place;
+        self.nodes[at] = leaf(place, ticket);
+        let mut i = at / 2;
+        while i > 0 {
+            rejoin(&mut self.nodes, i);
+            i /= 2;
+        }
+    }
+}
+
+// makes a node the winner of the two below it
+fn rejoin(nodes: &mut Vec<Option<Winner>>, i: usize)
+    requires { suc (i + i) < length nodes.old.items }
+    ensures { nodes.new.items ≡ slice_set nodes.old.items i
+        (spec.joined (spec.node nodes.old.items (i + i)) (spec.node nodes.old.items (suc (i + i)))) }
+{
+    nodes[i] = join(nodes[i + i], nodes[i + i + 1]);
+}
+
+// the winner of one place
+fn leaf(place: usize, ticket: Option<Ticket>) -> Option<Winner>
+    ensures { result ≡ at_place place ticket }
+{
+    let ticket = ticket?;
+    Some(Winner {
+        first: place,
+        place,
+        ticket,
+    })
+}
+
+// the winner of two neighbouring parts
+fn join(left: Option<Winner>, right: Option<Winner>) -> Option<Winner>
+    ensures { result ≡ spec.joined left right }
+{
+    let Some(a) = left else {
+        return right;
+    };
+    let Some(b) = right else {
+        return left;
+    };
+    if b.ticket.is_before(a.ticket) {
+        return Some(Winner { first: a.first, ..b });
+    }
+    left
+}
