@@ -46,6 +46,9 @@ node nodes i = get_or nodes i None
 abbrev pub IsJoined : List (Option Winner) → ℕ → Type 0
 IsJoined nodes i = node nodes i ≡ joined (node nodes (i + i)) (node nodes (suc (i + i)))
 
+abbrev pub AreJoined : List (Option Winner) → ℕ → Type 0
+AreJoined nodes room = (i : ℕ) → 1 ≤ i → i < room → IsJoined nodes i
+
 -- The nodes of a tree: after as many nodes as it has places stand the places, and each node from 1
 -- on is the winner of the two below it. A tree without places has no nodes.
 pub record IsTree (nodes : List (Option Winner)) (room len : ℕ) : Type 0 where
@@ -54,7 +57,7 @@ pub record IsTree (nodes : List (Option Winner)) (room len : ℕ) : Type 0 where
   pub even : (0 < room) → (depth : ℕ) × (room ≡ places_at depth)
   pub leaves : (tickets : List (Option Ticket)) × (length tickets ≡ len)
       × (drop room nodes ≡ leaves_from 0 tickets ++ replicate (room - len) None)
-  pub inner : (i : ℕ) → 1 ≤ i → i < room → IsJoined nodes i
+  pub inner : AreJoined nodes room
 
 -- the tickets that the places have
 abbrev pub ticket_at : Option Winner → Option Ticket

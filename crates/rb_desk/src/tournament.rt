@@ -1,9 +1,10 @@
 //! A tournament over tickets: places with and without a ticket, and which of them wins. Changing a
 //! place takes time that grows with the number of binary digits of the number of places.
 
-ghost use Rattle.std.specs.Prelude.{◌≡◌, ◌<◌, ◌+◌, ◌++◌, ◌∷◌, suc, [], length, slice_set, OnOk, OnErr};
+ghost use Rattle.std.specs.Prelude.{◌≡◌, ◌<◌, ◌≤◌, ◌+◌, ◌++◌, ◌∷◌, suc, [], length, drop};
+ghost use Rattle.std.specs.Prelude.{replicate, slice_set, None, IfOk, OnOk, OnErr};
 ghost use Rattle.rb_desk.specs.Tournament as spec;
-ghost use Rattle.rb_desk.specs.Tournament.{at_place, winner_from};
+ghost use Rattle.rb_desk.specs.Tournament.{at_place, winner_from, AreJoined, IsTree, tickets_of};
 
 use crate::ticket::Ticket;
 use std::alloc::{AllocError, Global};
@@ -64,23 +65,75 @@ impl Tournament {
         self.nodes[1]
     }
 
-    /// Whether another place needs no memory.
-    pub(crate) fn has_room(&self) -> bool {
-        self.len < self.room
-    }
-
     /// Gives a place this ticket, or none.
     pub(crate) fn set(&mut self, place: usize, ticket: Option<Ticket>)
         requires { place < length self.old }
         ensures { self.new ≡ slice_set self.old place ticket }
     {
         let at = self.room + place;
-        self.nodes[at] = leaf(place, ticket);
-        let mut i = at / 2;
-        while i > 0 {
-            rejoin(&mut self.nodes, i);
-            i /= 2;
+        put(&mut self.nodes, self.room, at, leaf(place, ticket));
+    }
+
+    /// Adds a place with this ticket, or without one.
+    pub(crate) fn push(&mut self, alloc: Global, ticket: Option<Ticket>) -> Result<(), AllocError>
+        ensures ok { OnOk result (self.new ≡ self.old ++ ticket ∷ []) }
+        ensures err { OnErr result (self.new ≡ self.old) }
+    {
+        if self.len == self.room {
+            let (nodes, room) = widened(alloc, &self.nodes, self.room)?;
+            self.nodes = nodes;
+            self.room = room;
         }
+        let place = self.len;
+        let at = self.room + place;
+        put(&mut self.nodes, self.room, at, leaf(place, ticket));
+        self.len += 1;
+        Ok(())
+    }
+}
+
+// the nodes of a tree with twice as many places, and how many these are; the first ones are the
+// places of a tree that is full
+fn widened(
+    alloc: Global,
+    nodes: &[Option<Winner>],
+    room: usize,
+) -> Result<(Vec<Option<Winner>>, usize), AllocError>
+    requires { IsTree nodes.now room room }
+    ensures { IfOk result (λ wider. IsTree wider.0.items wider.1 room × (room < wider.1)
+        × (tickets_of wider.0.items wider.1 room ≡ tickets_of nodes.now room room)) }
+{
+    let wide = if room == 0 { 1 } else { room + room };
+    let Some(many) = wide.checked_add(wide) else {
+        return Err(AllocError);
+    };
+    let mut wider = no_winners(alloc, many)?;
+    for place in 0..room {
+        put(&mut wider, wide, wide + place, nodes[room + place]);
+    }
+    Ok((wider, wide))
+}
+
+fn no_winners(alloc: Global, many: usize) -> Result<Vec<Option<Winner>>, AllocError>
+    ensures { IfOk result (λ nodes. nodes.items ≡ replicate many None) }
+{
+    vec![in alloc; None; many]
+}
+
+// sets a place, and makes the nodes above it winners again
+fn put(nodes: &mut Vec<Option<Winner>>, room: usize, at: usize, winner: Option<Winner>)
+    requires long { length nodes.old.items ≡ room + room }
+    requires place { (room ≤ at) × (at < room + room) }
+    requires inner { AreJoined nodes.old.items room }
+    ensures long { length nodes.new.items ≡ room + room }
+    ensures places { drop room nodes.new.items ≡ drop room (slice_set nodes.old.items at winner) }
+    ensures inner { AreJoined nodes.new.items room }
+{
+    nodes[at] = winner;
+    let mut i = at / 2;
+    while i > 0 {
+        rejoin(nodes, i);
+        i /= 2;
     }
 }
 

@@ -4,11 +4,12 @@ use Rattle.std.proofs.Common.{replicate, Option, Some, None, option_map, get_or,
 use Rattle.std.proofs.Common.{Bool, true, false, ◌==◌, eqb-true, eq-eqb}
 use Rattle.std.proofs.lemmas.Bool.{false≢true}
 use Rattle.std.proofs.lemmas.List.{drop-set-lt, drop-set-add, get_or-set_same, get_or-set_other, set-append_left}
-use Rattle.std.proofs.lemmas.List.{length-drop, length-replicate, take-append-le}
+use Rattle.std.proofs.lemmas.List.{drop-replicate, length-append, length-drop, length-replicate, length-set, length-take-le}
 use Rattle.std.proofs.Math.Seq.{take-length, take-append_seam}
 use Rattle.rb_desk.specs.declared.ticket.Ticket.{Ticket}
 use Rattle.rb_desk.specs.declared.tournament.Winner.{Winner}
-use Rattle.rb_desk.specs.Tournament.{joined, at_place, winner_from, leaves_from, places_at, node, IsJoined, IsTree}
+use Rattle.rb_desk.specs.Tournament.{joined, at_place, winner_from, leaves_from, places_at, node, IsJoined, AreJoined}
+use Rattle.rb_desk.specs.Tournament.{IsTree}
 use Rattle.rb_desk.specs.Tournament.{ticket_at, tickets_of}
 
 -- ---- winners of lists
@@ -106,9 +107,6 @@ pub node_read : (nodes : List (Option Winner)) (i : ℕ) (d : Option Winner) →
 node_read [] i d h = absurd (omega (arith, h))
 node_read (x ∷ nodes) zero d h = refl
 node_read (x ∷ nodes) (suc i) d h = node_read nodes i d (omega (arith, h))
-
-abbrev pub AreJoined : List (Option Winner) → ℕ → Type 0
-AreJoined nodes room = (i : ℕ) → 1 ≤ i → i < room → IsJoined nodes i
 
 node_wins : (nodes : List (Option Winner)) (room : ℕ) → length nodes ≡ room + room → AreJoined nodes room
     → (depth i : ℕ) → 1 ≤ i → start depth i + places_at depth ≤ room + room
@@ -237,3 +235,153 @@ joined_up nodes room at above x some less long two more is but i one under other
 pub all_joined : (nodes : List (Option Winner)) (room at : ℕ) → at < 1 → AreJoinedBut nodes room at
     → AreJoined nodes room
 all_joined nodes room at none but i one less = but i one less (λ e. absurd (omega (arith, e, none, one)))
+
+-- ---- whole trees
+
+-- a tree in which a place was set
+pub tree_set : (nodes new : List (Option Winner)) (room len place : ℕ) (ticket : Option Ticket)
+    → IsTree nodes room len → place < length (tickets_of nodes room len) → length new ≡ room + room
+    → drop room new ≡ drop room (slice_set nodes (room + place) (at_place place ticket)) → AreJoined new room
+    → IsTree new room len × (tickets_of new room len ≡ slice_set (tickets_of nodes room len) place ticket)
+tree_set nodes new room len place ticket tree there long places inner =
+    let tickets = tree.leaves.0 in
+    let seen = tickets_are nodes room len tickets _ tree.leaves.1 tree.leaves.2 in
+    let within : place < length tickets = omega (arith, there, ap length seen) in
+    let leaves = places ∙ leaves_set nodes room place tickets _ ticket within tree.leaves.2 in
+    let count = length-set tickets place ticket ∙ tree.leaves.1 in
+    (
+      record {
+        long = long;
+        fits = tree.fits;
+        even = tree.even;
+        leaves = (slice_set tickets place ticket, count, leaves);
+        inner = inner;
+      },
+      tickets_are new room len (slice_set tickets place ticket) _ count leaves
+          ∙ ap (λ l. slice_set l place ticket) (sym seen),
+    )
+
+leaves_more : (n : ℕ) (tickets : List (Option Ticket)) (ticket : Option Ticket)
+    → leaves_from n (tickets ++ ticket ∷ []) ≡ leaves_from n tickets ++ at_place (n + length tickets) ticket ∷ []
+leaves_more n [] ticket = ap (λ k. at_place k ticket ∷ []) (let e : n ≡ n + 0 = omega arith in e)
+leaves_more n (x ∷ rest) ticket =
+    ap (λ l. at_place n x ∷ l) (leaves_more (suc n) rest ticket
+    ∙ ap (λ k. leaves_from (suc n) rest ++ at_place k ticket ∷ [])
+    (let e : suc n + length rest ≡ n + suc (length rest) = omega arith in e))
+
+set_first : {X : Type 0} (xs : List X) (x y : X) (rest : List X) (n : ℕ) → length xs ≡ n
+    → slice_set (xs ++ x ∷ rest) n y ≡ (xs ++ y ∷ []) ++ rest
+set_first [] x y rest zero e = refl
+set_first [] x y rest (suc n) e = absurd (omega (arith, e))
+set_first (z ∷ xs) x y rest zero e = absurd (omega (arith, e))
+set_first (z ∷ xs) x y rest (suc n) e = ap (λ l. z ∷ l) (set_first xs x y rest n (omega (arith, e)))
+
+pad_first : (room len : ℕ) → len < room
+    → replicate (room - len) None ≡ None ∷ (let rest : List (Option Winner) = replicate (room - suc len) None in rest)
+pad_first room len h = ap (λ n. replicate n None) (let e : room - len ≡ suc (room - suc len) = omega (arith, h) in e)
+
+-- a tree with one place more
+pub tree_pushed : (nodes new : List (Option Winner)) (room len : ℕ) (ticket : Option Ticket)
+    → IsTree nodes room len → len < room → length new ≡ room + room
+    → drop room new ≡ drop room (slice_set nodes (room + len) (at_place len ticket)) → AreJoined new room
+    → IsTree new room (suc len) × (tickets_of new room (suc len) ≡ tickets_of nodes room len ++ ticket ∷ [])
+tree_pushed nodes new room len ticket tree less long places inner =
+    let tickets = tree.leaves.0 in
+    let count = tree.leaves.1 in
+    let leaf = at_place len ticket in
+    let pad : List (Option Winner) = replicate (room - suc len) None in
+    let leaves =
+        places ∙ drop-set-add room nodes len leaf
+        ∙ ap (λ l. slice_set l len leaf)
+        (tree.leaves.2 ∙ ap (λ l. leaves_from 0 tickets ++ l) (pad_first room len less))
+        ∙ set_first (leaves_from 0 tickets) None leaf pad len (length_leaves 0 tickets ∙ count)
+        ∙ ap (λ l. l ++ pad)
+        (sym (leaves_more 0 tickets ticket
+        ∙ ap (λ n. leaves_from 0 tickets ++ at_place n ticket ∷ [])
+        (let e : 0 + length tickets ≡ len = omega (arith, count) in e))) in
+    let more = length-append tickets (ticket ∷ []) in
+    let total : length (tickets ++ ticket ∷ []) ≡ suc len = omega (arith, more, count) in
+    (
+      record {
+        long = long;
+        fits = less;
+        even = tree.even;
+        leaves = (tickets ++ ticket ∷ [], total, leaves);
+        inner = inner;
+      },
+      tickets_are new room (suc len) (tickets ++ ticket ∷ []) pad total leaves
+          ∙ ap (λ l. l ++ ticket ∷ []) (sym (tickets_are nodes room len tickets _ count tree.leaves.2)),
+    )
+
+-- ---- a wider tree
+
+-- a tree without tickets
+pub empty_joined : (many room : ℕ) → AreJoined (replicate many None) room
+empty_joined many room i one less =
+    read many i ∙ sym (λ k. joined (read many (i + i) k) (read many (suc (i + i)) k))
+  where
+    read : (n i : ℕ) → node (replicate n None) i ≡ None
+    read zero i = refl
+    read (suc n) zero = refl
+    read (suc n) (suc i) = read n i
+
+pub drop_empty : (room : ℕ) → drop room (replicate (room + room) None)
+    ≡ (let rest : List (Option Winner) = replicate room None in rest)
+drop_empty room = drop-replicate room (room + room) None ∙ ap (λ n. replicate n None) (let e : room + room - room ≡ room = omega arith in e)
+
+-- one more of the places is set
+pub widened_more : (wider new places : List (Option Winner)) (wide place : ℕ) (d : Option Winner)
+    → place < length places → place < wide
+    → drop wide wider ≡ take place places ++ replicate (wide - place) None
+    → drop wide new ≡ drop wide (slice_set wider (wide + place) (get_or places place d))
+    → drop wide new ≡ take (suc place) places ++ replicate (wide - suc place) None
+widened_more wider new places wide place d there less before after =
+    after ∙ drop-set-add wide wider place (get_or places place d)
+    ∙ ap (λ l. slice_set l place (get_or places place d)) (before
+    ∙ ap (λ l. take place places ++ l) (pad_first wide place less))
+    ∙ set_first (take place places) None (get_or places place d) _ place (length-take-le place places (omega (arith, there)))
+    ∙ ap (λ l. l ++ replicate (wide - suc place) None) (sym (take_last places place d there))
+  where
+    take_last : {X : Type 0} (xs : List X) (n : ℕ) (d : X) → n < length xs → take (suc n) xs
+        ≡ take n xs ++ get_or xs n d ∷ []
+    take_last [] n d h = absurd (omega (arith, h))
+    take_last (x ∷ xs) zero d h = refl
+    take_last (x ∷ xs) (suc n) d h = ap (λ l. x ∷ l) (take_last xs n d (omega (arith, h)))
+
+-- with all places of a full tree set, it has the same tickets
+pub tree_widened : (nodes new : List (Option Winner)) (room wide : ℕ) → IsTree nodes room room → room < wide
+    → length new ≡ wide + wide
+    → ((0 < wide) → (depth : ℕ) × (wide ≡ places_at depth))
+    → drop wide new ≡ take room (drop room nodes) ++ replicate (wide - room) None → AreJoined new wide
+    → IsTree new wide room × (tickets_of new wide room ≡ tickets_of nodes room room)
+tree_widened nodes new room wide tree less long even places inner =
+    let tickets = tree.leaves.0 in
+    let whole : take room (drop room nodes) ≡ leaves_from 0 tickets =
+        ap (take room) tree.leaves.2
+        ∙ ap (λ n. take n (leaves_from 0 tickets ++ replicate (room - room) None))
+        (sym (length_leaves 0 tickets ∙ tree.leaves.1))
+        ∙ take-append_seam (leaves_from 0 tickets) _ in
+    let leaves = places ∙ ap (λ l. l ++ replicate (wide - room) None) whole in
+    (
+      record {
+        long = long;
+        fits = omega (arith, less);
+        even = even;
+        leaves = (tickets, tree.leaves.1, leaves);
+        inner = inner;
+      },
+      tickets_are new wide room tickets _ tree.leaves.1 leaves
+          ∙ sym (tickets_are nodes room room tickets _ tree.leaves.1 tree.leaves.2),
+    )
+
+pub twice_even : (room : ℕ) → ((0 < room) → (depth : ℕ) × (room ≡ places_at depth)) → 0 < room
+    → (depth : ℕ) × (room + room ≡ places_at depth)
+twice_even room even some = (suc (even some).0, omega (arith, (even some).1))
+
+-- a place is the node of that number after as many as there are places
+pub places_read : (nodes : List (Option Winner)) (room place : ℕ) (d : Option Winner)
+    → get_or (drop room nodes) place d ≡ get_or nodes (room + place) d
+places_read nodes zero place d = ap (λ n. get_or nodes n d) (let e : place ≡ 0 + place = omega arith in e)
+places_read [] (suc room) place d = refl
+places_read (x ∷ nodes) (suc room) place d = places_read nodes room place d
+    ∙ ap (λ n. get_or (x ∷ nodes) n d) (let e : suc (room + place) ≡ suc room + place = omega arith in e)

@@ -1,0 +1,19 @@
+use Rattle.std.proofs.Common.{IfOk, ◌≡◌, Option, None, Some, Result, Ok, Err, refl, List, replicate, ℕ}
+use Rattle.rb_desk.proofs.tournament.no_winners.Goals as goal
+
+when_ok : {V E : Type 0} {P Q : V → Type 0} (r : Result V E) → ((v : V) → P v → Q v) → IfOk r P → IfOk r Q
+when_ok (Ok v) f p = f v p
+when_ok (Err e) f p = tt
+
+-- only none is a clone of none
+abbrev IsNone : {X : Type 0} → Option X → Type 0
+IsNone None = Unit {0}
+IsNone (Some x) = ⊥
+
+none_is : {X : Type 0} (y : Option X) → IsNone y → y ≡ None
+none_is None is = refl
+none_is (Some x) is = absurd is
+
+pub returns : goal.returns
+returns c =
+    when_ok c.vec.result (λ v all. all (λ y is. none_is y is)) c.vec.ensures.items_if_clones_equal
