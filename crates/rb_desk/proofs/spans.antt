@@ -6,3 +6,5 @@ pub mod ChangeLaws
 pub mod LaneChanges
 pub mod FirstLaws
 pub mod FoundLaws
+pub mod PlaceLaws
+pub mod FindPlace

@@ -98,6 +98,9 @@ FollowOn low [] next = next ≡ low
 FollowOn low (h ∷ rest) next = (h.span.first ≡ low) × (h.span.first ≤ h.span.last)
     × FollowOn (suc h.span.last) rest next
 
+abbrev pub FollowSome : List Held → Type 0
+FollowSome held = (low : ℕ) × (next : ℕ) × FollowOn low held next
+
 -- a lane's spans follow one another after its floor
 abbrev pub AreJoined : Lane → Type 0
 AreJoined kept = FollowOn (suc kept.floor) kept.held kept.next

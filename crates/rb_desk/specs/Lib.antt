@@ -5,6 +5,7 @@ pub mod Calls
 pub mod Answers
 pub mod Lanes
 pub mod Tournament
+pub mod Taken
 pub mod Orders
 pub mod Shown
 pub mod Expiry

@@ -1,104 +1,146 @@
 //! Searches and updates on the spans that a lane stores.
 
-ghost use Rattle.std.specs.Prelude.{◌≡◌, ◌≤◌, ◌<◌, ◌+◌, suc, map, length, drop};
+ghost use Rattle.std.specs.Prelude.{◌≡◌, ◌≤◌, ◌<◌, ◌+◌, suc, map, length, drop, take};
+ghost use Rattle.std.specs.Prelude.{Some, IfOk, IfSome, OnOk, OnErr};
+ghost use Rattle.std.specs.List.{filter, AllByRecursion};
 ghost use Rattle.rb_desk.specs.Lanes as spec;
 ghost use Rattle.rb_desk.specs.Shown.{IsGiven, AreGiven};
 ghost use Rattle.rb_desk.specs.Expiry.{due_held, expired_by};
 ghost use Rattle.rb_desk.specs.Spans as spans;
-ghost use Rattle.rb_desk.specs.Lanes.{spans_of, least, restated};
+ghost use Rattle.rb_desk.specs.Lanes.{spans_of, restated, FollowSome};
+ghost use Rattle.rb_desk.specs.declared.span.Status.{Status};
+ghost use Rattle.rb_desk.specs.declared.ticket.Ticket.{Ticket};
+ghost use Rattle.rb_desk.specs.Taken as taken;
+ghost use Rattle.rb_desk.specs.Taken.{ticket_if_ready, stated_at, with_place, without_place, is_out_at, IsPassed};
 
 use crate::span::{Span, Status};
-use crate::ticket::{Held, Ticket, sooner};
+use crate::ticket::{Held, Ticket};
+use crate::tournament::Tournament;
+use std::alloc::{AllocError, Global};
 
-/// The first span that is ready.
-pub(crate) fn first_ready(lane: &[Held]) -> Option<Span>
-    ensures { result ≡ spans.first_ready (spans_of lane.now) }
+/// The ticket of a span that is ready.
+pub(crate) fn in_line(held: &Held) -> Option<Ticket>
+    ensures { result ≡ ticket_if_ready held.now }
 {
-    for held in lane {
-        if held.span.status.is_ready() {
-            return Some(held.span);
-        }
+    if held.span.status.is_ready() {
+        return Some(held.ticket);
     }
     None
 }
 
-/// The span that is in flight as this delivery.
-pub(crate) fn out_as(lane: &[Held], delivery: u64) -> Option<Span>
+/// The tickets of the spans that are ready.
+pub(crate) fn line_of(alloc: Global, lane: &[Held]) -> Result<Tournament, AllocError>
+    ensures { IfOk result (λ line. line ≡ map ticket_if_ready lane.now) }
+{
+    let mut line = Tournament::new(alloc);
+    for held in lane {
+        line.push(alloc, in_line(held))?;
+    }
+    Ok(line)
+}
+
+/// The places of the spans in flight.
+pub(crate) fn places_out(alloc: Global, lane: &[Held]) -> Result<Vec<usize>, AllocError>
+    ensures { IfOk result (λ out. out.items ≡ taken.places_out 0 lane.now) }
+{
+    let mut out = Vec::new(alloc);
+    for i in 0..lane.len() {
+        if lane[i].span.status.is_out() {
+            out.push(i)?;
+        }
+    }
+    Ok(out)
+}
+
+/// The span that is in flight as this delivery. `out` has the places of those in flight.
+pub(crate) fn out_as(lane: &[Held], out: &[usize], delivery: u64) -> Option<Span>
+    requires { out.now ≡ taken.places_out 0 lane.now }
     ensures { result ≡ spans.out_as delivery (spans_of lane.now) }
 {
-    for held in lane {
-        if held.span.status.is_out_as(delivery) {
-            return Some(held.span);
+    for place in out {
+        let span = lane[*place].span;
+        if span.status.is_out_as(delivery) {
+            return Some(span);
         }
     }
     None
 }
 
-/// How many spans are in flight.
-pub(crate) fn how_many_out(lane: &[Held]) -> u64
-    ensures { result ≡ spans.how_many_out (spans_of lane.now) }
+/// The place of the span that begins with this number.
+pub(crate) fn place_of(lane: &[Held], first: u64) -> Option<usize>
+    requires { FollowSome lane.now }
+    ensures place { (status : Status) (ticket : Ticket)
+        → restated first status ticket lane.now ≡ stated_at result status ticket lane.now }
+    ensures within { IfSome result (λ i. i < length lane.now) }
 {
-    let mut count = 0;
-    for held in lane {
-        if held.span.status.is_out() {
-            count += 1;
+    let place = lane.partition_point(|held| held.span.first < first);
+    let found = lane.get(place)?;
+    if found.span.first != first {
+        return None;
+    }
+    Some(place)
+}
+
+/// Sets the status and the ticket of the span at this place, and its ticket in the line.
+pub(crate) fn set(
+    spans: &mut Vec<Held>,
+    line: &mut Tournament,
+    place: usize,
+    status: Status,
+    ticket: Ticket,
+)
+    requires place { place < length spans.old.items }
+    requires line { line.old ≡ map ticket_if_ready spans.old.items }
+    ensures spans { spans.new.items ≡ stated_at (Some place) status ticket spans.old.items }
+    ensures line { line.new ≡ map ticket_if_ready spans.new.items }
+{
+    let found = spans[place];
+    let held = Held {
+        span: Span {
+            status,
+            ..found.span
+        },
+        ticket,
+    };
+    spans[place] = held;
+    line.set(place, in_line(&held));
+}
+
+/// Removes a place from those in flight, if it is among them.
+pub(crate) fn remove_place(out: &mut Vec<usize>, place: usize)
+    ensures { out.new.items ≡ without_place place out.old.items }
+{
+    for i in 0..out.len() {
+        if out[i] == place {
+            out.remove(i);
+            return;
         }
     }
-    count
 }
 
-/// The ready span that is first in line.
-pub(crate) fn first_in_line(lane: &[Held]) -> Option<Held>
-    ensures { result ≡ least lane.now }
+/// Adds a place to those in flight, in order, if it isn't among them.
+pub(crate) fn insert_place(out: &mut Vec<usize>, place: usize) -> Result<(), AllocError>
+    ensures ok { OnOk result (out.new.items ≡ with_place place out.old.items) }
+    ensures err { OnErr result (out.new.items ≡ out.old.items) }
 {
-    let mut first = None;
-    for held in lane {
-        if held.span.status.is_ready() {
-            first = sooner(first, Some(*held));
+    for i in 0..out.len() {
+        if out[i] == place {
+            return Ok(());
+        }
+        if place < out[i] {
+            out.insert(i, place)?;
+            return Ok(());
         }
     }
-    first
-}
-
-/// Sets the status and the ticket of the spans that begin with this number.
-pub(crate) fn restate(lane: &mut Vec<Held>, first: u64, status: Status, ticket: Ticket)
-    ensures { lane.new.items ≡ restated first status ticket lane.old.items }
-{
-    for i in 0..lane.len() {
-        let found = lane[i];
-        lane[i] = stated(found, first, status, ticket);
-    }
-}
-
-fn stated(held: Held, first: u64, status: Status, ticket: Ticket) -> Held
-    ensures { result ≡ spec.stated first status ticket held }
-{
-    if held.span.first == first {
-        return Held {
-            span: Span {
-                status,
-                ..held.span
-            },
-            ticket,
-        };
-    }
-    held
-}
-
-/// Removes the first `gone` spans.
-pub(crate) fn drop_front(lane: &mut Vec<Held>, gone: usize)
-    requires { gone ≤ length lane.old.items }
-    ensures { lane.new.items ≡ drop gone lane.old.items }
-{
-    let left = lane.len() - gone;
-    lane.rotate_left(gone);
-    lane.truncate(left);
+    out.push(place)?;
+    Ok(())
 }
 
 /// The floor after the settled spans at the front, and how many of these there are.
 pub(crate) fn risen(floor: u64, lane: &[Held]) -> (u64, usize)
     ensures gone { spec.risen floor lane.now ≡ (result.0, drop result.1 lane.now) }
     ensures many { result.1 ≤ length lane.now }
+    ensures settled { AllByRecursion IsPassed (take result.1 lane.now) }
 {
     let mut reached = floor;
     for i in 0..lane.len() {
@@ -110,13 +152,14 @@ pub(crate) fn risen(floor: u64, lane: &[Held]) -> (u64, usize)
     (reached, lane.len())
 }
 
-/// How many spans are due.
-pub(crate) fn how_many_due(lane: &[Held], timeout: u64, clock: u64) -> u64
+/// How many spans are due. `out` has the places of those in flight.
+pub(crate) fn how_many_due(lane: &[Held], out: &[usize], timeout: u64, clock: u64) -> u64
+    requires { out.now ≡ taken.places_out 0 lane.now }
     ensures { result ≡ due_held timeout clock lane.now }
 {
     let mut count = 0;
-    for held in lane {
-        if held.span.status.is_due(timeout, clock) {
+    for place in out {
+        if lane[*place].span.status.is_due(timeout, clock) {
             count += 1;
         }
     }
@@ -124,14 +167,44 @@ pub(crate) fn how_many_due(lane: &[Held], timeout: u64, clock: u64) -> u64
 }
 
 /// Makes the spans that are due ready again. Their tickets have turns after `latest`, in the order
-/// of their deliveries' numbers, which are below `next`.
-pub(crate) fn expire(lane: &mut Vec<Held>, timeout: u64, clock: u64, latest: Ticket, next: u64)
-    requires { AreGiven next latest.turn lane.old.items }
-    ensures { lane.new.items ≡ map (expired_by timeout clock latest) lane.old.items }
+/// of their deliveries' numbers, which are below `next`. `out` has the places of those in flight.
+pub(crate) fn expire(
+    spans: &mut Vec<Held>,
+    line: &mut Tournament,
+    out: &[usize],
+    timeout: u64,
+    clock: u64,
+    latest: Ticket,
+    next: u64,
+)
+    requires given { AreGiven next latest.turn spans.old.items }
+    requires line { line.old ≡ map ticket_if_ready spans.old.items }
+    requires out { out.now ≡ taken.places_out 0 spans.old.items }
+    ensures spans { spans.new.items ≡ map (expired_by timeout clock latest) spans.old.items }
+    ensures line { line.new ≡ map ticket_if_ready spans.new.items }
 {
-    for i in 0..lane.len() {
-        let found = lane[i];
-        lane[i] = expired(found, timeout, clock, latest, next);
+    for i in 0..out.len() {
+        let place = out[i];
+        let held = expired(spans[place], timeout, clock, latest, next);
+        spans[place] = held;
+        line.set(place, in_line(&held));
+    }
+}
+
+/// Keeps the places of the spans that are in flight.
+pub(crate) fn keep_out(lane: &[Held], out: &mut Vec<usize>)
+    ensures { out.new.items ≡ filter (is_out_at lane.now) out.old.items }
+{
+    out.retain(|place| is_out_at(lane, *place));
+}
+
+// whether the span at this place is in flight
+fn is_out_at(lane: &[Held], place: usize) -> bool
+    ensures { result ≡ is_out_at lane.now place }
+{
+    match lane.get(place) {
+        Some(held) => held.span.status.is_out(),
+        None => false,
     }
 }
 

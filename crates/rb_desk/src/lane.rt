@@ -1,16 +1,16 @@
 //! The spans of one subscription. Only those that were taken before are stored; the others follow
 //! from the number where they begin.
 
-ghost use Rattle.std.specs.Prelude.{◌≡◌, ◌<◌, ◌≤◌, slice_get, OnOk, OnErr};
+ghost use Rattle.std.specs.Prelude.{◌≡◌, ◌<◌, ◌≤◌, false, slice_get, OnOk, OnErr};
 ghost use Rattle.rb_desk.specs.declared.span.Status.TheVariants.{InFlight};
-ghost use Rattle.rb_desk.specs.Spans.{cut_spans, first_ready, out_as, how_many_out};
+ghost use Rattle.rb_desk.specs.Spans.{cut_spans, first_ready, out_as, how_many_out, is_out};
 ghost use Rattle.rb_desk.specs.Lanes.{AreJoined, AreLimited, HasNumbers, spans_of, lane_held};
 ghost use Rattle.rb_desk.specs.Lanes.{lane_spans, is_none_left, least, cut_lane, delivered_lane};
 ghost use Rattle.rb_desk.specs.Lanes.{returned_lane, settled_lane, pushed_lane, restated_lane};
 ghost use Rattle.rb_desk.specs.Lanes.{raised_lane, risen};
 
-use crate::held;
 use crate::span::{Span, Status};
+use crate::taken::Taken;
 use crate::ticket::{Held, Ticket, sooner};
 use std::alloc::{AllocError, Global};
 use std::marker::Model;
@@ -20,18 +20,14 @@ use std::marker::Model;
 #[derive(Debug, Drop)]
 pub(crate) struct Lane {
     floor: u64,
-    held: Vec<Held>,
+    held: Taken,
     next: u64,
     cutting: Ticket,
-    // how many are in flight, and the first in line of `held`: both follow from `held`
-    out: u64,
-    first: Option<Held>,
 }
 
 impl Model for Lane {
-    ghost use Rattle.std.specs.Prelude.{◌≡◌, suc};
-    ghost use Rattle.rb_desk.specs.Lanes.{Lane, lane_code, least, spans_of, FollowOn};
-    ghost use Rattle.rb_desk.specs.Spans.{how_many_out};
+    ghost use Rattle.std.specs.Prelude.{suc};
+    ghost use Rattle.rb_desk.specs.Lanes.{Lane, lane_code, FollowOn};
 
     ghost Value = { Lane };
 
@@ -39,13 +35,12 @@ impl Model for Lane {
 
     ghost view = { λ l. record {
       floor = l.floor;
-      held = l.held.items;
+      held = l.held;
       next = l.next;
       cutting = l.cutting;
     } };
 
-    ghost invariant = { λ l. (l.out ≡ how_many_out (spans_of l.held.items))
-        × (l.first ≡ least l.held.items) × FollowOn (suc l.floor) l.held.items l.next };
+    ghost invariant = { λ l. FollowOn (suc l.floor) l.held l.next };
 }
 
 impl Lane {
@@ -59,11 +54,9 @@ impl Lane {
     {
         Lane {
             floor: cursor,
-            held: Vec::new(alloc),
+            held: Taken::new(alloc),
             next: cursor + 1,
             cutting,
-            out: 0,
-            first: None,
         }
     }
 
@@ -79,7 +72,7 @@ impl Lane {
     pub(crate) fn out(&self) -> u64
         ensures { result ≡ how_many_out (spans_of self.now.held) }
     {
-        self.out
+        self.held.out()
     }
 
     /// Whether it has no span.
@@ -95,7 +88,7 @@ impl Lane {
         ensures value { result ≡ first_ready (lane_spans batch front self.now) }
         ensures joined { AreJoined self.now }
     {
-        match held::first_ready(&self.held) {
+        match self.held.first_ready() {
             Some(span) => Some(span),
             None => self.first_fresh(batch, front),
         }
@@ -123,7 +116,7 @@ impl Lane {
         ensures joined { AreJoined self.now }
     {
         let fresh = self.cutting.given_to(self.first_fresh(batch, front));
-        sooner(self.first, fresh)
+        sooner(self.held.first_in_line(), fresh)
     }
 
     /// The span that is in flight as this delivery.
@@ -131,7 +124,7 @@ impl Lane {
         ensures value { result ≡ out_as number (spans_of self.now.held) }
         ensures joined { AreJoined self.now }
     {
-        held::out_as(&self.held, number)
+        self.held.out_as(number)
     }
 
     /// Delivers a ready span: it is in flight as this delivery, taken at this tick.
@@ -147,7 +140,7 @@ impl Lane {
         if span.first == self.next {
             return self.push(span, status);
         }
-        self.restate(span.first, status, self.cutting);
+        self.held.deliver(span.first, status, self.cutting)?;
         Ok(())
     }
 
@@ -179,29 +172,22 @@ impl Lane {
             ticket,
         })?;
         self.next = span.last + 1;
-        self.out = held::how_many_out(&self.held);
-        self.first = held::first_in_line(&self.held);
         Ok(())
     }
 
     // sets the status and the ticket of the span that begins with this number
     fn restate(&mut self, first: u64, status: Status, ticket: Ticket)
+        requires { is_out status ≡ false }
         ensures { self.new ≡ restated_lane self.old first status ticket }
     {
-        held::restate(&mut self.held, first, status, ticket);
-        self.out = held::how_many_out(&self.held);
-        self.first = held::first_in_line(&self.held);
+        self.held.restate(first, status, ticket);
     }
 
     // raises the floor over the settled spans at the front
     fn raise(&mut self)
         ensures { self.new ≡ raised_lane self.old (risen self.old.floor self.old.held) }
     {
-        let (floor, gone) = held::risen(self.floor, &self.held);
-        self.floor = floor;
-        held::drop_front(&mut self.held, gone);
-        self.out = held::how_many_out(&self.held);
-        self.first = held::first_in_line(&self.held);
+        self.floor = self.held.raise(self.floor);
     }
 
     /// How many spans are due.
@@ -209,7 +195,7 @@ impl Lane {
         ensures value { result ≡ due_held timeout clock self.now.held }
         ensures joined { AreJoined self.now }
     {
-        held::how_many_due(&self.held, timeout, clock)
+        self.held.how_many_due(timeout, clock)
     }
 
     /// Makes the spans that are due ready again. Their tickets come after `latest`, in the order of
@@ -218,9 +204,7 @@ impl Lane {
         requires { AreGiven next latest.turn self.old.held }
         ensures { self.new ≡ expired_lane timeout clock latest self.old }
     {
-        held::expire(&mut self.held, timeout, clock, latest, next);
-        self.out = held::how_many_out(&self.held);
-        self.first = held::first_in_line(&self.held);
+        self.held.expire(timeout, clock, latest, next);
     }
 
     /// Removes all spans; the floor stays.
@@ -230,7 +214,5 @@ impl Lane {
     {
         self.held.clear();
         self.next = self.floor + 1;
-        self.out = 0;
-        self.first = None;
     }
 }

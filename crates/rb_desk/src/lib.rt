@@ -16,6 +16,7 @@ mod span;
 mod step;
 mod sub;
 mod subscribing;
+mod taken;
 mod taking;
 mod ticket;
 mod tournament;

@@ -44,7 +44,7 @@ found_among test (x ∷ xs) span found = by (test x.span.status) refl found (fou
 
 -- ---- what is out
 
-out_is_out : (number : ℕ) (status : Status) → is_out_as number status ≡ true → is_out status ≡ true
+pub out_is_out : (number : ℕ) (status : Status) → is_out_as number status ≡ true → is_out status ≡ true
 out_is_out number (Ready taken) is = is
 out_is_out number (InFlight n moment) is = refl
 out_is_out number Settled is = is

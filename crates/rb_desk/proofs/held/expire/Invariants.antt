@@ -1,8 +1,17 @@
-use Rattle.std.proofs.Common.{◌≡◌, ◌++◌, map, take, drop}
+use Rattle.std.proofs.Common.{◌≡◌, drop, map, length}
+use Rattle.std.specs.List.{AllByRecursion}
 use Rattle.rb_desk.specs.Expiry.{expired_by}
+use Rattle.rb_desk.specs.Shown.{IsGiven}
+use Rattle.rb_desk.specs.Taken.{ticket_if_ready}
+use Rattle.rb_desk.proofs.spans.PlaceLaws.{changed_at}
 use Rattle.rb_desk.proofs.held.expire.Given as goal
 
--- those seen went back where they are due, and the others are as they were
+-- with those at the places that are left, all change
 abbrev pub invariant-loop-i : goal.invariant-loop-i
-invariant-loop-i l = l.lane.items ≡ map (expired_by l.timeout l.clock l.latest) (take l.i l.initial.lane.items)
-    ++ drop l.i l.initial.lane.items
+invariant-loop-i l = record {
+  long : length l.spans.items ≡ length l.initial.spans.items;
+  spans : changed_at (expired_by l.timeout l.clock l.latest) (drop l.i l.out) l.spans.items
+      ≡ map (expired_by l.timeout l.clock l.latest) l.initial.spans.items;
+  line : l.line ≡ map ticket_if_ready l.spans.items;
+  given : AllByRecursion (λ h. IsGiven l.next h.span.status) l.spans.items;
+}

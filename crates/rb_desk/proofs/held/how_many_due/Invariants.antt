@@ -1,10 +1,12 @@
 use Rattle.std.proofs.Common.{◌≡◌, ◌+◌, ◌≤◌, drop}
 use Rattle.rb_desk.specs.Expiry.{due_held}
+use Rattle.rb_desk.proofs.spans.PlaceLaws.{at_places}
 use Rattle.rb_desk.proofs.held.how_many_due.Given as goal
 
--- those counted and those that are left are all, and no more are counted than were seen
-abbrev pub invariant-loop-held : goal.invariant-loop-held
-invariant-loop-held l = record {
-  all : l.count + due_held l.timeout l.clock (drop l.held-index l.lane) ≡ due_held l.timeout l.clock l.lane;
-  seen : l.count ≤ l.held-index;
+-- those counted and those at the places that are left are all, and no more are counted than were seen
+abbrev pub invariant-loop-place : goal.invariant-loop-place
+invariant-loop-place l = record {
+  all : l.count + due_held l.timeout l.clock (at_places l.lane (drop l.place-index l.out))
+      ≡ due_held l.timeout l.clock l.lane;
+  seen : l.count ≤ l.place-index;
 }

@@ -1,9 +1,10 @@
 use Rattle.std.proofs.Common.{◌≡◌, drop}
 use Rattle.rb_desk.specs.Spans as spans
 use Rattle.rb_desk.specs.Lanes.{spans_of}
+use Rattle.rb_desk.proofs.spans.PlaceLaws.{at_places}
 use Rattle.rb_desk.proofs.held.out_as.Given as goal
 
--- the first one of those that are left is the first one of all
-abbrev pub invariant-loop-held : goal.invariant-loop-held
-invariant-loop-held l = spans.out_as l.delivery (spans_of (drop l.held-index l.lane))
+-- the first one at the places that are left is the first one of all
+abbrev pub invariant-loop-place : goal.invariant-loop-place
+invariant-loop-place l = spans.out_as l.delivery (spans_of (at_places l.lane (drop l.place-index l.out)))
     ≡ spans.out_as l.delivery (spans_of l.lane)
