@@ -8,3 +8,4 @@ pub mod FirstLaws
 pub mod FoundLaws
 pub mod PlaceLaws
 pub mod FindPlace
+pub mod TakenLaws

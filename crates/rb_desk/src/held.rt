@@ -1,12 +1,14 @@
 //! Searches and updates on the spans that a lane stores.
 
 ghost use Rattle.std.specs.Prelude.{◌≡◌, ◌≤◌, ◌<◌, ◌+◌, suc, map, length, drop, take};
+ghost use Rattle.std.specs.Prelude.{◌++◌, ◌∷◌, [], vec_len, vec_capacity, if◌then◌else◌};
 ghost use Rattle.std.specs.Prelude.{Some, IfOk, IfSome, OnOk, OnErr};
 ghost use Rattle.std.specs.List.{filter, AllByRecursion};
 ghost use Rattle.rb_desk.specs.Lanes as spec;
 ghost use Rattle.rb_desk.specs.Shown.{IsGiven, AreGiven};
 ghost use Rattle.rb_desk.specs.Expiry.{due_held, expired_by};
 ghost use Rattle.rb_desk.specs.Spans as spans;
+ghost use Rattle.rb_desk.specs.Spans.{is_out};
 ghost use Rattle.rb_desk.specs.Lanes.{spans_of, restated, FollowSome};
 ghost use Rattle.rb_desk.specs.declared.span.Status.{Status};
 ghost use Rattle.rb_desk.specs.declared.ticket.Ticket.{Ticket};
@@ -50,6 +52,17 @@ pub(crate) fn places_out(alloc: Global, lane: &[Held]) -> Result<Vec<usize>, All
         }
     }
     Ok(out)
+}
+
+/// Adds the place of a span, if it is in flight, to places that have room for it.
+pub(crate) fn add_place(out: &mut Vec<usize>, place: usize, held: &Held)
+    requires { vec_len out.old + 1 ≤ vec_capacity out.old }
+    ensures { out.new.items
+        ≡ (if is_out held.now.span.status then out.old.items ++ place ∷ [] else out.old.items) }
+{
+    if held.span.status.is_out() {
+        out.push_reserved(place);
+    }
 }
 
 /// The span that is in flight as this delivery. `out` has the places of those in flight.

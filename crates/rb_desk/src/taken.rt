@@ -98,17 +98,23 @@ impl Taken {
         ensures ok { OnOk result (self.new ≡ self.old ++ held ∷ []) }
         ensures err { OnErr result (self.new ≡ self.old) }
     {
-        if self.passed > 16 && self.passed > self.spans.len() / 2 {
-            self.forget()?;
-        }
+        self.tidy()?;
         let alloc = *self.spans.allocator();
         self.spans.reserve(1)?;
         self.out.reserve(1)?;
         self.line.push(alloc, held::in_line(&held))?;
-        if held.span.status.is_out() {
-            self.out.push_reserved(self.spans.len());
-        }
+        held::add_place(&mut self.out, self.spans.len(), &held);
         self.spans.push_reserved(held);
+        Ok(())
+    }
+
+    // forgets the spans that the floor has passed, where they are more than the others
+    fn tidy(&mut self) -> Result<(), AllocError>
+        ensures { self.new ≡ self.old }
+    {
+        if self.passed > 16 && self.passed > self.spans.len() / 2 {
+            self.forget()?;
+        }
         Ok(())
     }
 

@@ -78,7 +78,7 @@ take_none : {X : Type 0} (n : ℕ) → take n (none_of {X = X}) ≡ none_of
 take_none zero = refl
 take_none (suc n) = refl
 
-take_more : {X : Type 0} (n m : ℕ) (xs : List X) → take n xs ++ take m (drop n xs) ≡ take (n + m) xs
+pub take_more : {X : Type 0} (n m : ℕ) (xs : List X) → take n xs ++ take m (drop n xs) ≡ take (n + m) xs
 take_more zero m xs = ap (λ k. take k xs) (let e : m ≡ 0 + m = omega arith in e)
 take_more {X} (suc n) m [] = take_none {X = X} m ∙ sym (take_none {X = X} (suc n + m))
 take_more (suc n) m (x ∷ xs) =

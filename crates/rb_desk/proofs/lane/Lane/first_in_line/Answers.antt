@@ -6,7 +6,7 @@ use Rattle.rb_desk.proofs.lane.Lane.first_in_line.Goals as goal
 
 pub returns-clause-value : goal.returns-clause-value
 returns-clause-value c =
-    let held : c.self.inside.first ≡ least c.args.self.now.held = c.self.invariant.1
+    let held : c.first_in_line.result ≡ least c.args.self.now.held = c.first_in_line.ensures
     ∙ ap (λ k. least k.held) c.self.view_is in
     let fresh : c.given_to-fresh.result
     ≡ option_map (with_birth c.args.self.now.cutting)
