@@ -24,11 +24,11 @@ IsPassed h = is_settled h.span.status ≡ true
 -- the first `passed` spans are settled; the line has the tickets of the ready ones, and `out` the
 -- places of those in flight
 pub record IsTaken (spans : List Held) (passed : ℕ) (line : List (Option Ticket)) (out : List ℕ)
-  : Type 0 where
-    pub within : passed ≤ length spans
-    pub over : AllByRecursion IsPassed (take passed spans)
-    pub in_line : line ≡ map ticket_if_ready spans
-    pub in_flight : out ≡ places_out 0 spans
+    : Type 0 where
+  pub within : passed ≤ length spans
+  pub over : AllByRecursion IsPassed (take passed spans)
+  pub in_line : line ≡ map ticket_if_ready spans
+  pub in_flight : out ≡ places_out 0 spans
 
 -- sets the status and the ticket of the span at a place, if one is given
 abbrev pub with_state : Status → Ticket → Held → Held

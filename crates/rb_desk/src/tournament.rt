@@ -169,7 +169,10 @@ fn join(left: Option<Winner>, right: Option<Winner>) -> Option<Winner>
         return left;
     };
     if b.ticket.is_before(a.ticket) {
-        return Some(Winner { first: a.first, ..b });
+        return Some(Winner {
+            first: a.first,
+            ..b
+        });
     }
     left
 }

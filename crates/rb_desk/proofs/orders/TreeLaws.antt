@@ -1,10 +1,10 @@
 -- A tournament's tree: the first node is the winner of all places.
 use Rattle.std.proofs.Common.{◌≡◌, ◌≢◌, ℕ, zero, suc, ◌+◌, ◌-◌, ◌<◌, ◌≤◌, List, [], ◌∷◌, ◌++◌, length, take, drop, map}
-use Rattle.std.proofs.Common.{replicate, Option, Some, None, option_map, get_or, slice_set, refl, sym, ap, ◌∙◌, arith, subst}
+use Rattle.std.proofs.Common.{replicate, Option, Some, None, get_or, slice_set, refl, sym, ap, ◌∙◌, arith, subst}
 use Rattle.std.proofs.Common.{Bool, true, false, ◌==◌, eqb-true, eq-eqb}
 use Rattle.std.proofs.lemmas.Bool.{false≢true}
-use Rattle.std.proofs.lemmas.List.{drop-set-lt, drop-set-add, get_or-set_same, get_or-set_other, set-append_left}
-use Rattle.std.proofs.lemmas.List.{drop-replicate, length-append, length-drop, length-replicate, length-set, length-take-le}
+use Rattle.std.proofs.lemmas.List.{drop-set-add, get_or-set_same, get_or-set_other, set-append_left}
+use Rattle.std.proofs.lemmas.List.{drop-replicate, length-append, length-drop, length-set, length-take-le}
 use Rattle.std.proofs.Math.Seq.{take-length, take-append_seam}
 use Rattle.rb_desk.specs.declared.ticket.Ticket.{Ticket}
 use Rattle.rb_desk.specs.declared.tournament.Winner.{Winner}
@@ -248,8 +248,7 @@ tree_set nodes new room len place ticket tree there long places inner =
     let seen = tickets_are nodes room len tickets _ tree.leaves.1 tree.leaves.2 in
     let within : place < length tickets = omega (arith, there, ap length seen) in
     let leaves = places ∙ leaves_set nodes room place tickets _ ticket within tree.leaves.2 in
-    let count = length-set tickets place ticket ∙ tree.leaves.1 in
-    (
+    let count = length-set tickets place ticket ∙ tree.leaves.1 in (
       record {
         long = long;
         fits = tree.fits;
@@ -291,17 +290,16 @@ tree_pushed nodes new room len ticket tree less long places inner =
     let leaf = at_place len ticket in
     let pad : List (Option Winner) = replicate (room - suc len) None in
     let leaves =
-        places ∙ drop-set-add room nodes len leaf
-        ∙ ap (λ l. slice_set l len leaf)
-        (tree.leaves.2 ∙ ap (λ l. leaves_from 0 tickets ++ l) (pad_first room len less))
-        ∙ set_first (leaves_from 0 tickets) None leaf pad len (length_leaves 0 tickets ∙ count)
-        ∙ ap (λ l. l ++ pad)
-        (sym (leaves_more 0 tickets ticket
-        ∙ ap (λ n. leaves_from 0 tickets ++ at_place n ticket ∷ [])
-        (let e : 0 + length tickets ≡ len = omega (arith, count) in e))) in
+    places ∙ drop-set-add room nodes len leaf
+    ∙ ap (λ l. slice_set l len leaf)
+    (tree.leaves.2 ∙ ap (λ l. leaves_from 0 tickets ++ l) (pad_first room len less))
+    ∙ set_first (leaves_from 0 tickets) None leaf pad len (length_leaves 0 tickets ∙ count)
+    ∙ ap (λ l. l ++ pad)
+    (sym (leaves_more 0 tickets ticket
+    ∙ ap (λ n. leaves_from 0 tickets ++ at_place n ticket ∷ [])
+    (let e : 0 + length tickets ≡ len = omega (arith, count) in e))) in
     let more = length-append tickets (ticket ∷ []) in
-    let total : length (tickets ++ ticket ∷ []) ≡ suc len = omega (arith, more, count) in
-    (
+    let total : length (tickets ++ ticket ∷ []) ≡ suc len = omega (arith, more, count) in (
       record {
         long = long;
         fits = less;
@@ -357,12 +355,11 @@ pub tree_widened : (nodes new : List (Option Winner)) (room wide : ℕ) → IsTr
 tree_widened nodes new room wide tree less long even places inner =
     let tickets = tree.leaves.0 in
     let whole : take room (drop room nodes) ≡ leaves_from 0 tickets =
-        ap (take room) tree.leaves.2
-        ∙ ap (λ n. take n (leaves_from 0 tickets ++ replicate (room - room) None))
-        (sym (length_leaves 0 tickets ∙ tree.leaves.1))
-        ∙ take-append_seam (leaves_from 0 tickets) _ in
-    let leaves = places ∙ ap (λ l. l ++ replicate (wide - room) None) whole in
-    (
+    ap (take room) tree.leaves.2
+    ∙ ap (λ n. take n (leaves_from 0 tickets ++ replicate (room - room) None))
+    (sym (length_leaves 0 tickets ∙ tree.leaves.1))
+    ∙ take-append_seam (leaves_from 0 tickets) _ in
+    let leaves = places ∙ ap (λ l. l ++ replicate (wide - room) None) whole in (
       record {
         long = long;
         fits = omega (arith, less);

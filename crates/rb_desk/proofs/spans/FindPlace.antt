@@ -1,6 +1,6 @@
 -- The place of the span that begins with a number, where spans follow one another.
-use Rattle.std.proofs.Common.{◌≡◌, ℕ, zero, suc, ◌+◌, ◌<◌, ◌≤◌, ne_eqb, eq-eqb, Bool, true, false, ◌==◌, List, [], ◌∷◌}
-use Rattle.std.proofs.Common.{◌++◌, length, take, drop, get_or, Some, None, refl, sym, ap, ◌∙◌, subst, arith, nat_lt}
+use Rattle.std.proofs.Common.{◌≡◌, ℕ, zero, suc, ◌<◌, ◌≤◌, ne_eqb, eq-eqb, Bool, true, false, ◌==◌, List, [], ◌∷◌}
+use Rattle.std.proofs.Common.{◌++◌, length, take, drop, get_or, refl, sym, ap, ◌∙◌, subst, arith, nat_lt}
 use Rattle.std.specs.List.{AllByRecursion}
 use Rattle.std.specs.List.Sorted.{IsPartitionedBy, IsPartitionPoint}
 use Rattle.std.proofs.Common.{◌≢◌, if◌then◌else◌, eqb-true}
@@ -49,7 +49,7 @@ restated_there first status ticket low next xs i d joined less is =
     let one = get_or xs i d in
     let split = split_there xs i d less in
     let others = joins_others low next (take i xs) one (drop (suc i) xs)
-        (subst (λ l. FollowOn low l next) (sym split) joined) in
+    (subst (λ l. FollowOn low l next) (sym split) joined) in
     let before = subst (λ n. AllByRecursion (Other n) (take i xs)) is others.0 in
     let after = subst (λ n. AllByRecursion (Other n) (drop (suc i) xs)) is others.1 in
     ap (restated first status ticket) (sym split)
@@ -72,8 +72,12 @@ rises : (low next : ℕ) (xs : List Held) (d : Held) → FollowOn low xs next �
 rises low next [] d joined i j le less = absurd (omega (arith, less))
 rises low next (x ∷ xs) d joined zero zero le less = omega arith
 rises low next (x ∷ xs) d joined zero (suc j) le less =
-    omega (arith, joined.1, all_read (λ h. suc x.span.last ≤ h.span.first) xs j d
-    (joins_begin (suc x.span.last) next xs joined.2) (omega (arith, less)))
+    omega (
+      arith,
+      joined.1,
+      all_read (λ h. suc x.span.last ≤ h.span.first) xs j d
+          (joins_begin (suc x.span.last) next xs joined.2) (omega (arith, less)),
+    )
 rises low next (x ∷ xs) d joined (suc i) zero le less = absurd (omega (arith, le))
 rises low next (x ∷ xs) d joined (suc i) (suc j) le less =
     rises (suc x.span.last) next xs d joined.2 i j (omega (arith, le)) (omega (arith, less))
@@ -103,8 +107,7 @@ later : (first low next : ℕ) (ys : List Held) → FollowOn low ys next
     → ((d : Held) → 0 < length ys → first < (get_or ys 0 d).span.first) → AllByRecursion (Other first) ys
 later first low next [] joined beyond = tt
 later first low next (y ∷ ys) joined beyond =
-    let one = beyond y (omega arith) in
-    (
+    let one = beyond y (omega arith) in (
       ne_eqb y.span.first first (omega (arith, one)),
       all_then (λ h. suc y.span.last ≤ h.span.first) (Other first) ys
           (λ h le. ne_eqb h.span.first first (omega (arith, le, one, joined.1)))

@@ -1,19 +1,18 @@
 -- Spans by their places: those in flight, those that a change reaches, and the one that begins with a number.
-use Rattle.std.proofs.Common.{◌≡◌, ℕ, zero, suc, ◌+◌, ◌-◌, ◌<◌, ◌≤◌, ne_eqb, eq-eqb, Bool, true, false, ◌&&◌, ◌==◌, cond}
+use Rattle.std.proofs.Common.{◌≡◌, ℕ, zero, suc, ◌+◌, ◌<◌, ◌≤◌, Bool, true, false, cond}
 use Rattle.std.proofs.Common.{List, [], ◌∷◌, ◌++◌, length, take, drop, map, get_or, slice_get, slice_set, filter, find}
-use Rattle.std.proofs.Common.{Option, Some, None, nat_lt, if◌then◌else◌, refl, sym, ap, subst, ◌∙◌, arith}
+use Rattle.std.proofs.Common.{Some, if◌then◌else◌, refl, sym, ap, subst, ◌∙◌, arith}
 use Rattle.std.specs.List.{AllByRecursion, cons_option, filter_map}
 use Rattle.std.proofs.lemmas.List.{append_assoc, length-append, length-take-le}
-use Rattle.rb_desk.specs.declared.span.Span.{Span}
 use Rattle.rb_desk.specs.declared.span.Status.{Status}
 use Rattle.rb_desk.specs.declared.ticket.Ticket.{Ticket}
 use Rattle.rb_desk.specs.declared.ticket.Held.{Held}
 use Rattle.rb_desk.specs.declared.span.Status.TheVariants.{Ready, InFlight, Settled}
-use Rattle.rb_desk.specs.Spans.{is_out, is_out_as, is_due, is_settled, how_many_out, out_as}
+use Rattle.rb_desk.specs.Spans.{is_out, is_out_as, is_due, how_many_out, out_as}
 use Rattle.rb_desk.specs.Expiry.{due_held, expired_by, by_number, turns_from}
 use Rattle.rb_desk.specs.Shown.{IsGiven}
-use Rattle.rb_desk.specs.Lanes.{restated, spans_of}
-use Rattle.rb_desk.specs.Taken.{places_out, at_place, with_state, with_place, without_place, is_out_in, is_out_at}
+use Rattle.rb_desk.specs.Lanes.{spans_of}
+use Rattle.rb_desk.specs.Taken.{places_out, at_place, is_out_in, is_out_at}
 use Rattle.rb_desk.specs.Taken.{AreWithin}
 
 -- ---- lists

@@ -1,18 +1,17 @@
 -- The spans that were taken before: what stands beside them says of those that the floor has not passed what is asked.
-use Rattle.std.proofs.Common.{◌≡◌, ℕ, zero, suc, ◌+◌, ◌<◌, ◌≤◌, ne_eqb, Bool, true, false, ◌==◌, cond, List, [], ◌∷◌, ◌++◌}
+use Rattle.std.proofs.Common.{◌≡◌, ℕ, zero, suc, ◌+◌, ◌<◌, ◌≤◌, ne_eqb, Bool, true, false, cond, List, [], ◌∷◌, ◌++◌}
 use Rattle.std.proofs.Common.{length, take, drop, map, get_or, filter, find, Option, Some, None, refl, sym, ap, subst, ◌∙◌}
 use Rattle.std.proofs.Common.{arith, eq-eqb, nat_lt, if◌then◌else◌}
 use Rattle.std.specs.List.{AllByRecursion}
 use Rattle.std.proofs.lemmas.List.{length-append, length-drop, length-map, map-append, take-append-drop, take-append-le, take-map}
 use Rattle.rb_desk.proofs.orders.TreeLaws.{take_more}
-use Rattle.rb_desk.specs.declared.span.Span.{Span}
 use Rattle.rb_desk.specs.declared.span.Status.{Status}
 use Rattle.rb_desk.specs.declared.span.Status.TheVariants.{Ready, InFlight, Settled}
 use Rattle.rb_desk.specs.declared.ticket.Ticket.{Ticket}
 use Rattle.rb_desk.specs.declared.ticket.Held.{Held}
 use Rattle.rb_desk.specs.declared.tournament.Winner.{Winner}
 use Rattle.rb_desk.specs.Spans.{first_ready, is_ready, is_out, is_out_as, is_due, is_settled, how_many_out, out_as}
-use Rattle.rb_desk.specs.Lanes.{spans_of, least, better, if_ready, earlier}
+use Rattle.rb_desk.specs.Lanes.{spans_of, least, better, earlier}
 use Rattle.rb_desk.specs.Expiry.{due_held, expired_by}
 use Rattle.rb_desk.specs.Shown.{IsGiven}
 use Rattle.rb_desk.specs.Tournament.{joined, earlier_of, winner_from}

@@ -1,4 +1,4 @@
-use Rattle.std.proofs.Common.{rules, ◌≡◌, ◌∙◌, ◌<◌, [], ap, sym, subst, length, get_or, slice_set, map, arith, refl, drop}
+use Rattle.std.proofs.Common.{◌∙◌, ◌<◌, [], ap, sym, subst, length, get_or, slice_set, map, arith, refl}
 use Rattle.std.proofs.lemmas.List.{length-map, map-set}
 use Rattle.rb_desk.specs.declared.ticket.Held.{Held}
 use Rattle.rb_desk.specs.Expiry.{expired_by}
@@ -21,8 +21,11 @@ loop-i-init c = record {
 
 pub index-requires : goal.index-requires
 index-requires c =
-    omega (arith, c.loop-i.invariant.long,
-    place_within c.args.spans.now.items c.args.out.now c.loop-i.i c.requires.out c.loop-i-test.true)
+    omega (
+      arith,
+      c.loop-i.invariant.long,
+      place_within c.args.spans.now.items c.args.out.now c.loop-i.i c.requires.out c.loop-i-test.true,
+    )
 
 pub loop-i-preserved : goal.loop-i-preserved
 loop-i-preserved c =
@@ -30,9 +33,9 @@ loop-i-preserved c =
     let place = get_or c.args.out.now c.loop-i.i 0 in
     let i = c.loop-i.invariant in
     let written = ap (slice_set c.loop-i.spans.items place) (c.expired-held.ensures ∙ ap f c.index.ensures)
-        ∙ set_is f c.loop-i.spans.items place c.index.result.now in
+    ∙ set_is f c.loop-i.spans.items place c.index.result.now in
     let line = c.set.ensures ∙ (λ k. slice_set (i.line k) place (c.in_line.ensures k))
-        ∙ sym (map-set ticket_if_ready c.loop-i.spans.items place c.expired-held.result) in
+    ∙ sym (map-set ticket_if_ready c.loop-i.spans.items place c.expired-held.result) in
     rw written (record {
       long = length_at f c.loop-i.spans.items place ∙ i.long;
       spans = sym (changed_step f c.args.out.now c.loop-i.i c.loop-i.spans.items c.loop-i-test.true) ∙ i.spans;
@@ -44,9 +47,11 @@ loop-i-preserved c =
 pub expired-held-requires : goal.expired-held-requires
 expired-held-requires c =
     let within : get_or c.args.out.now c.loop-i.i 0 < length c.loop-i.spans.items =
-    omega (arith, c.loop-i.invariant.long,
-    place_within c.args.spans.now.items c.args.out.now c.loop-i.i c.requires.out c.loop-i-test.true) in
-    (
+    omega (
+      arith,
+      c.loop-i.invariant.long,
+      place_within c.args.spans.now.items c.args.out.now c.loop-i.i c.requires.out c.loop-i-test.true,
+    ) in (
       subst (λ (h : Held). IsGiven c.args.next h.span.status) (sym c.index.ensures)
           (all_read (λ h. IsGiven c.args.next h.span.status) c.loop-i.spans.items (get_or c.args.out.now c.loop-i.i 0)
           c.index.result.now c.loop-i.invariant.given within),
@@ -55,10 +60,18 @@ expired-held-requires c =
 
 pub index_mut-requires : goal.index_mut-requires
 index_mut-requires c =
-    omega (arith, c.loop-i.invariant.long,
-    place_within c.args.spans.now.items c.args.out.now c.loop-i.i c.requires.out c.loop-i-test.true)
+    omega (
+      arith,
+      c.loop-i.invariant.long,
+      place_within c.args.spans.now.items c.args.out.now c.loop-i.i c.requires.out c.loop-i-test.true,
+    )
 
 pub set-requires : goal.set-requires
 set-requires c =
-    omega (arith, c.loop-i.invariant.long, ap length c.loop-i.invariant.line, length-map c.loop-i.spans.items ticket_if_ready,
-    place_within c.args.spans.now.items c.args.out.now c.loop-i.i c.requires.out c.loop-i-test.true)
+    omega (
+      arith,
+      c.loop-i.invariant.long,
+      ap length c.loop-i.invariant.line,
+      length-map c.loop-i.spans.items ticket_if_ready,
+      place_within c.args.spans.now.items c.args.out.now c.loop-i.i c.requires.out c.loop-i-test.true,
+    )

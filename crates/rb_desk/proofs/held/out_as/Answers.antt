@@ -1,4 +1,4 @@
-use Rattle.std.proofs.Common.{rules, ◌≡◌, ◌∙◌, ◌<◌, ◌+◌, [], ap, sym, drop, length, true, false}
+use Rattle.std.proofs.Common.{rules, ◌∙◌, [], ap, sym, true, false}
 use Rattle.rb_desk.specs.Spans as spans
 use Rattle.rb_desk.specs.Spans.{is_out_as}
 use Rattle.rb_desk.specs.Lanes.{spans_of}

@@ -1,4 +1,4 @@
-use Rattle.std.proofs.Common.{rules, of_calls, ◌≡◌, ◌∙◌, ◌<◌, arith, true, false, sym, ap}
+use Rattle.std.proofs.Common.{rules, of_calls, ◌∙◌, arith, sym, ap}
 use Rattle.std.proofs.lemmas.Bool.{ltb-false}
 use Rattle.std.proofs.lemmas.List.Sorted.{IsPartitionPoint-from_clause}
 use Rattle.rb_desk.specs.declared.ticket.Held.{Held}

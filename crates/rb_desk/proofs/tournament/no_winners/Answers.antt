@@ -1,4 +1,4 @@
-use Rattle.std.proofs.Common.{IfOk, ◌≡◌, Option, None, Some, Result, Ok, Err, refl, List, replicate, ℕ}
+use Rattle.std.proofs.Common.{IfOk, ◌≡◌, Option, None, Some, Result, Ok, Err, refl}
 use Rattle.rb_desk.proofs.tournament.no_winners.Goals as goal
 
 when_ok : {V E : Type 0} {P Q : V → Type 0} (r : Result V E) → ((v : V) → P v → Q v) → IfOk r P → IfOk r Q

@@ -1,5 +1,5 @@
-use Rattle.std.proofs.Common.{arith, ◌≡◌, ◌∙◌, ◌+◌, ◌-◌, ◌<◌, ◌++◌, ℕ, zero, sym, ap, refl, suc, drop, take, length, replicate, None}
-use Rattle.std.proofs.Common.{get_or, slice_set}
+use Rattle.std.proofs.Common.{arith, ◌≡◌, ◌∙◌, ◌+◌, ◌-◌, ◌<◌, ◌++◌, ℕ, zero, sym, ap, suc, drop, take, replicate, None}
+use Rattle.std.proofs.Common.{slice_set}
 use Rattle.std.proofs.lemmas.List.{length-replicate, length-drop}
 use Rattle.rb_desk.specs.Tournament.{places_at}
 use Rattle.rb_desk.proofs.orders.TreeLaws.{empty_joined, drop_empty, widened_more, tree_widened, twice_even, places_read}
@@ -17,8 +17,8 @@ loop-place-init c = rw c.in_ok-wider.ensures (record {
 pub loop-place-preserved : goal.loop-place-preserved
 loop-place-preserved c =
     let wide : c.args.room < c.if-room-eq0.wide = elim c.if-room-eq0.branch [
-      then-room-eq0 w ↦ rw w.wide-is (omega (arith, w.if-room-eq0))
-    | else-room-eq0 w ↦ rw w.wide-is (omega (arith, w.if-room-eq0))
+      | then-room-eq0 w ↦ rw w.wide-is (omega (arith, w.if-room-eq0))
+      | else-room-eq0 w ↦ rw w.wide-is (omega (arith, w.if-room-eq0))
     ] in
     record {
       long = c.put.ensures.long;
@@ -39,18 +39,18 @@ loop-place-preserved c =
 pub returns : goal.returns
 returns c =
     let wide : c.args.room < c.if-room-eq0.wide = elim c.if-room-eq0.branch [
-      then-room-eq0 w ↦ rw w.wide-is (omega (arith, w.if-room-eq0))
-    | else-room-eq0 w ↦ rw w.wide-is (omega (arith, w.if-room-eq0))
+      | then-room-eq0 w ↦ rw w.wide-is (omega (arith, w.if-room-eq0))
+      | else-room-eq0 w ↦ rw w.wide-is (omega (arith, w.if-room-eq0))
     ] in
     let even : (depth : ℕ) × (c.if-room-eq0.wide ≡ places_at depth) = elim c.if-room-eq0.branch [
-      then-room-eq0 w ↦ (zero, w.wide-is)
-    | else-room-eq0 w ↦ (let e = twice_even c.args.room c.requires.even (omega (arith, w.if-room-eq0)) in
-        (e.0, w.wide-is ∙ e.1))
+      | then-room-eq0 w ↦ (zero, w.wide-is)
+      | else-room-eq0 w ↦ (let e = twice_even c.args.room c.requires.even (omega (arith, w.if-room-eq0)) in
+          (e.0, w.wide-is ∙ e.1))
     ] in
     let all : c.loop-place.place ≡ c.args.room = omega (arith, c.loop-place-test.false, c.loop-place.auto) in
     let tree = tree_widened c.args.nodes.now c.loop-place.wider.items c.args.room c.if-room-eq0.wide c.requires wide
-        c.loop-place.invariant.long (λ some. even)
-        (c.loop-place.invariant.places
-        ∙ ap (λ n. take n (drop c.args.room c.args.nodes.now) ++ replicate (c.if-room-eq0.wide - n) None) all)
-        c.loop-place.invariant.inner in
+    c.loop-place.invariant.long (λ some. even)
+    (c.loop-place.invariant.places
+    ∙ ap (λ n. take n (drop c.args.room c.args.nodes.now) ++ replicate (c.if-room-eq0.wide - n) None) all)
+    c.loop-place.invariant.inner in
     (tree.0, wide, tree.1)

@@ -1,4 +1,4 @@
-use Rattle.std.proofs.Common.{◌≡◌, ◌∙◌, ◌<◌, ◌+◌, ap, sym, subst, drop, length, arith, refl}
+use Rattle.std.proofs.Common.{◌≡◌, ◌∙◌, ◌<◌, ◌+◌, ap, sym, subst, drop, length, arith}
 use Rattle.std.proofs.lemmas.List.{length-drop}
 use Rattle.rb_desk.specs.Lanes.{restated}
 use Rattle.rb_desk.specs.Taken.{with_state, with_place, places_out, at_place}
@@ -14,7 +14,7 @@ invariant_of-self-2 c =
     let passed = c.self.inside.passed in
     let rest = c.split_at.ensures.back ∙ ap (drop passed) c.deref.ensures.value in
     let less : c.in-Some.i < length (drop passed spans) =
-        subst (λ l. c.in-Some.i < length l) rest c.in-Some.ensures.within in
+    subst (λ l. c.in-Some.i < length l) rest c.in-Some.ensures.within in
     let within : passed + c.in-Some.i < length spans = omega (arith, less, length-drop passed spans) in
     rw c.set.ensures.line (taken_changed f spans c.set.new.spans.items passed c.in-Some.i c.self.inside.line
     c.self.inside.out.items _ t less c.set.ensures.spans

@@ -1,5 +1,4 @@
-use Rattle.std.proofs.Common.{◌≡◌, ◌∙◌, ap, sym, subst, drop, map, filter}
-use Rattle.std.specs.List.{AllByRecursion}
+use Rattle.std.proofs.Common.{◌∙◌, ap, sym, subst, drop, map, filter}
 use Rattle.std.proofs.lemmas.List.{drop-map}
 use Rattle.rb_desk.specs.Expiry.{expired_by}
 use Rattle.rb_desk.specs.Shown.{AreGiven}
@@ -8,7 +7,7 @@ use Rattle.rb_desk.proofs.spans.TakenLaws.{taken_expired, given_whole}
 use Rattle.rb_desk.proofs.taken.Taken.expire.Goals as goal
 
 pub expire-requires-clause-given : goal.expire-requires-clause-given
-expire-requires-clause-given c = 
+expire-requires-clause-given c =
     let given = subst (AreGiven c.args.next c.args.latest.turn) (sym c.self.view_is) c.requires in
     (given_whole c.args.next c.self.inside.passed c.self.inside.spans.items c.self.invariant.over given.0, given.1)
 

@@ -1,4 +1,4 @@
-use Rattle.std.proofs.Common.{◌≡◌, ◌∙◌, ap, sym, arith, Some}
+use Rattle.std.proofs.Common.{◌∙◌, ap, sym, arith, Some}
 use Rattle.rb_desk.specs.Lanes.{least}
 use Rattle.rb_desk.specs.declared.ticket.Held.{Held}
 use Rattle.rb_desk.proofs.spans.TakenLaws.{least_left, line_wins, read_at}

@@ -1,4 +1,4 @@
-use Rattle.std.proofs.Common.{◌≡◌, ◌∙◌, ap, sym, arith, Some}
+use Rattle.std.proofs.Common.{◌∙◌, ap, sym, arith, Some}
 use Rattle.rb_desk.specs.Lanes.{spans_of}
 use Rattle.rb_desk.specs.Spans.{first_ready}
 use Rattle.rb_desk.specs.declared.ticket.Held.{Held}

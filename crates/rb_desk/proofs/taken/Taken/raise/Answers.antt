@@ -1,4 +1,4 @@
-use Rattle.std.proofs.Common.{◌≡◌, ◌∙◌, ◌≤◌, ap, subst, drop, take, length}
+use Rattle.std.proofs.Common.{◌∙◌, ◌≤◌, ap, subst, drop, take, length}
 use Rattle.std.specs.List.{AllByRecursion}
 use Rattle.rb_desk.specs.Taken.{IsPassed}
 use Rattle.rb_desk.proofs.spans.TakenLaws.{taken_raised}

@@ -1,4 +1,4 @@
-use Rattle.std.proofs.Common.{arith, ◌≡◌, ◌∙◌, ◌+◌, ◌<◌, ◌++◌, ◌∷◌, [], refl, sym, ap, subst, suc, drop, slice_set}
+use Rattle.std.proofs.Common.{arith, ◌≡◌, ◌∙◌, ◌+◌, ◌<◌, ◌++◌, ◌∷◌, [], refl, ap, subst, suc, drop, slice_set}
 use Rattle.rb_desk.specs.Tournament.{IsTree, tickets_of}
 use Rattle.rb_desk.proofs.orders.TreeLaws.{tree_pushed}
 use Rattle.rb_desk.proofs.tournament.Tournament.push.Goals as goal
@@ -10,11 +10,14 @@ roomy : (c : After-put) → IsTree c.if-self.self-inside.nodes.items c.if-self.s
     × (tickets_of c.if-self.self-inside.nodes.items c.if-self.self-inside.room c.if-self.self-inside.len
     ≡ tickets_of c.self.inside.nodes.items c.self.inside.room c.self.inside.len)
 roomy c = elim c.if-self.branch [
-  then-self+in_ok-nodes w ↦
+  | then-self+in_ok-nodes w ↦
       let wider = w.in_ok-nodes.ensures in
-      rw (w.self-inside-is, w.if-self.true) (wider.0, wider.1,
-      wider.2 ∙ ap (λ nodes. tickets_of nodes c.self.inside.room c.self.inside.room) w.deref.ensures.value) |
-  else-self w ↦ rw w.self-inside-is (c.self.invariant, omega (arith, w.if-self, c.self.invariant.fits), refl)
+      rw (w.self-inside-is, w.if-self.true) (
+        wider.0,
+        wider.1,
+        wider.2 ∙ ap (λ nodes. tickets_of nodes c.self.inside.room c.self.inside.room) w.deref.ensures.value,
+      )
+  | else-self w ↦ rw w.self-inside-is (c.self.invariant, omega (arith, w.if-self, c.self.invariant.fits), refl)
 ]
 
 pub invariant_of-self : goal.invariant_of-self

@@ -1,4 +1,4 @@
-use Rattle.std.proofs.Common.{arith, ◌∙◌, sym, ap}
+use Rattle.std.proofs.Common.{arith, ◌∙◌, ap}
 use Rattle.rb_desk.specs.Tournament.{winner_from}
 use Rattle.rb_desk.proofs.orders.TreeLaws.{first_wins, node_read}
 use Rattle.rb_desk.proofs.tournament.Tournament.winner.Goals as goal
