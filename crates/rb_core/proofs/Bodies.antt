@@ -22,34 +22,13 @@ use Rattle.rb_core.specs.declared.event.Event.TheVariants as event
 use Rattle.rb_core.specs.declared.publisher.Staged.{Staged}
 use Rattle.rb_core.specs.declared.reply.Reply.{Reply}
 use Rattle.rb_core.specs.declared.reply.Reply.TheVariants as reply
+use Rattle.rb_core.specs.Bodies.{HasChangesets, IsBody, IsSound, IsStagedBody}
 use Rattle.rb_core.specs.Run.{Answer, FeedsBytes}
 use Rattle.rb_core.specs.Told as say
 use Rattle.rb_core.specs.Told.{told, told_by, told_from, world_told, staged_by_text}
 use Rattle.rb_core.specs.World.{Sender, Subscriber, World, world_begun}
 use Rattle.rb_core.proofs.Moving.{all_set, all_get}
 use Rattle.rb_core.proofs.TellPublishers.{tell_publishers_no_bytes, more_bytes}
-
--- what is staged is a changeset
-abbrev pub IsStagedBody : Staged → Type 0
-IsStagedBody staged = IsChangeset staged.body
-
--- a publisher's text is bytes, and what it staged is a changeset
-pub record IsSound (sender : Sender) : Type 0 where
-  pub bytes : AreBytes sender.text
-  pub staged : IfSome sender.staged IsStagedBody
-
-abbrev pub IsBody : Item → Type 0
-IsBody item = IsChangeset item.body
-
-pub record BodiesIn (s : List Sender) (i : List Item) (h : Option Item) (e : List Entry) : Type 0 where
-  pub senders : AllByRecursion IsSound s
-  pub intake : AllByRecursion IsBody i
-  pub hand : IfSome h IsBody
-  pub sequence : AreChangesets e
-
--- a world that differs from this one in other parts has them too, by computing
-abbrev pub HasChangesets : World → Type 0
-HasChangesets w = BodiesIn w.senders w.intake w.hand w.sequence
 
 -- ---- publishers
 
@@ -207,8 +186,8 @@ from_sound spells schema old (event ∷ events) (answer ∷ answers) feeds h =
     from_sound spells schema (told_by schema old event answer) events answers feeds.1
     (answer_sound spells schema old event answer feeds.0 h)
 
-pub placed_are_changesets : ReadingSpells → (schema : List Shape) (events : List Event) (answers : List Answer)
-    → AllByRecursion FeedsBytes events → AreChangesets (world_told schema events answers).sequence
-placed_are_changesets spells schema events answers feeds =
-    let begun : HasChangesets world_begun = record { senders = tt; intake = tt; hand = tt; sequence = tt } in
-    (from_sound spells schema world_begun events answers feeds begun).sequence
+pub told_are_changesets : ReadingSpells → (schema : List Shape) (events : List Event) (answers : List Answer)
+    → AllByRecursion FeedsBytes events → HasChangesets (world_told schema events answers)
+told_are_changesets spells schema events answers feeds =
+    from_sound spells schema world_begun events answers feeds
+    (record { senders = tt; intake = tt; hand = tt; sequence = tt })

@@ -7,5 +7,6 @@ pub mod World
 pub mod Moves
 pub mod Told
 pub mod Texts
+pub mod Bodies
 pub mod Headline
 pub mod Rows

@@ -15,6 +15,7 @@ ghost use Rattle.rb_core.specs.declared.publisher.Publisher.{Publisher};
 ghost use Rattle.rb_core.specs.declared.reply.BrokerRefusal.TheVariants as refusal;
 ghost use Rattle.rb_core.specs.declared.reply.Reply.{Reply};
 ghost use Rattle.rb_core.specs.declared.reply.Reply.TheVariants as reply;
+ghost use Rattle.rb_core.specs.Bodies.{HasChangesets};
 ghost use Rattle.rb_core.specs.Headline.{KeepsHeadline};
 ghost use Rattle.rb_core.specs.Moves.{Leads, HasRun, StaysClosed, items_of, own_of, IsFront};
 ghost use Rattle.rb_core.specs.Moves.{HasSingleTables, IsSending};
@@ -174,6 +175,15 @@ pub fn nothing_after_close()
     courses::nothing_after_close();
 }
 
+/// At any time of any run, what the publishers staged and sent, and what is placed, are changesets.
+pub fn bodies_are_changesets()
+    ensures { (limits : Limits) (schema : List Shape) (events : List Event)
+        (answers : List Answer) (new : State) → IsRunOf limits schema events answers new
+        → HasChangesets (world_told schema events answers) }
+{
+    reading_is_spelling();
+}
+
 /// At any time of any run: where the changesets that a subscription accepted apply singly, without
 /// conflict, to empty tables, its tables are what one thread gets that applies them so.
 pub fn tables_apply_singly()
@@ -184,7 +194,7 @@ pub fn tables_apply_singly()
         → HasSingleTables (empty_tables schema) subscriber }
 {
     runs_are_told();
-    reading_is_spelling();
+    bodies_are_changesets();
     courses::tables_apply_singly();
 }
 
@@ -217,7 +227,7 @@ pub fn conflicts_are_single()
         (brought (endpoint_of subscriber) old.sequence delivery) }
 {
     runs_are_told();
-    reading_is_spelling();
+    bodies_are_changesets();
     accepting_is_step();
     rows_keep_columns();
     endpoints::accepted_apply_singly();

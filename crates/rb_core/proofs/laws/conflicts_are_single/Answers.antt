@@ -1,5 +1,4 @@
 use Rattle.rb_core.specs.Told.{world_told}
-use Rattle.rb_core.proofs.Bodies.{placed_are_changesets}
 use Rattle.rb_core.proofs.ConflictRuns.{refuses_conflict, conflict_in_run}
 use Rattle.rb_core.proofs.laws.conflicts_are_single.Goals as goal
 
@@ -11,5 +10,5 @@ returns c = λ limits schema events answers old d conflict new run given.
       rows = c.rows_keep_columns.ensures;
     }) schema old (world_told schema events answers) d conflict
     (c.runs_are_told.ensures.told limits schema events answers old run)
-    (placed_are_changesets c.reading_is_spelling.ensures schema events answers run.feeds)
+    (c.bodies_are_changesets.ensures limits schema events answers old run).sequence
     (refuses_conflict old d conflict new given)

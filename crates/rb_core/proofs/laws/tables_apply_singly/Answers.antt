@@ -1,5 +1,4 @@
 use Rattle.rb_core.specs.Told.{world_told}
-use Rattle.rb_core.proofs.Bodies.{placed_are_changesets}
 use Rattle.rb_core.proofs.ToldLaws.{singly_run}
 use Rattle.rb_core.proofs.laws.tables_apply_singly.Goals as goal
 
@@ -7,4 +6,4 @@ pub returns : goal.returns
 returns c = λ limits schema events answers new s subscriber run found.
     singly_run c.tables_apply_singly.ensures schema new (world_told schema events answers) s subscriber
     (c.runs_are_told.ensures.told limits schema events answers new run) found
-    (placed_are_changesets c.reading_is_spelling.ensures schema events answers run.feeds)
+    (c.bodies_are_changesets.ensures limits schema events answers new run).sequence

@@ -1,0 +1,34 @@
+-- The changesets in a world: what is staged, what waits, what is in hand and what is placed.
+use Rattle.std.specs.Prelude.{ℕ, List, Option, IfSome}
+use Rattle.std.specs.List.{AllByRecursion}
+use Rattle.cs_model.specs.Bytes.{AreBytes}
+use Rattle.cs_model.specs.Changeset.{IsChangeset}
+use Rattle.rb_sequence.specs.declared.item.Item.{Item}
+use Rattle.rb_sequence.specs.Entry.{Entry}
+use Rattle.rb_subscriber.specs.Accept.{AreChangesets}
+use Rattle.rb_core.specs.declared.publisher.Staged.{Staged}
+use Rattle.rb_core.specs.World.{Sender, World}
+
+-- what is staged is a changeset
+abbrev pub IsStagedBody : Staged → Type 0
+IsStagedBody staged = IsChangeset staged.body
+
+-- the bytes fed to a publisher are bytes, and what it staged is a changeset
+pub record IsSound (sender : Sender) : Type 0 where
+  pub bytes : AreBytes sender.text
+  pub staged : IfSome sender.staged IsStagedBody
+
+-- what was sent is a changeset
+abbrev pub IsBody : Item → Type 0
+IsBody item = IsChangeset item.body
+
+-- Everything that is staged, waits in the intake, is in hand or is placed is a changeset.
+pub record BodiesIn (publishers : List Sender) (waiting : List Item) (pulled : Option Item)
+    (placed : List Entry) : Type 0 where
+  pub senders : AllByRecursion IsSound publishers
+  pub intake : AllByRecursion IsBody waiting
+  pub hand : IfSome pulled IsBody
+  pub sequence : AreChangesets placed
+
+abbrev pub HasChangesets : World → Type 0
+HasChangesets w = BodiesIn w.senders w.intake w.hand w.sequence
