@@ -1,0 +1,2 @@
+mod LinkingLemmas
+mod NodeLemmas

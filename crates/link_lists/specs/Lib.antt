@@ -1,0 +1,4 @@
+pub mod Lanes
+pub mod Linking
+pub mod Nodes
+pub mod Spelling
