@@ -1,2 +1,4 @@
+mod CutLemmas
 mod LinkingLemmas
 mod NodeLemmas
+mod SpellLemmas
