@@ -1,4 +1,5 @@
 mod CutLemmas
+mod LaneLemmas
 mod LinkingLemmas
 mod NodeLemmas
 mod SpellLemmas
