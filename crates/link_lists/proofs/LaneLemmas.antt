@@ -1,5 +1,5 @@
 -- Lanes as lists of lists: where a key stands, and one list changed by a map over all.
-use Rattle.std.proofs.Common.{◌≡◌, ◌≢◌, ℕ, zero, suc, ◌+◌, ◌<◌, ◌≤◌, ◌⊎◌, ◌||◌, Bool, true, false, not, cond, IsTrue, List, [], ◌∷◌, ◌++◌, length, map, get_or, set, eqb, filter, Option, Some, None, IsSome, slice_get, refl, sym, ap, subst, ◌∙◌, inl, inr, arith}
+use Rattle.std.proofs.Common.{◌≡◌, ◌≢◌, ℕ, zero, suc, ◌+◌, ◌<◌, ◌≤◌, ◌⊎◌, ◌||◌, Bool, true, false, not, cond, IsTrue, List, [], ◌∷◌, ◌++◌, length, map, get_or, set, eqb, filter, Option, Some, None, IsSome, slice_get, refl, sym, ap, subst, ◌∙◌, inl, inr, arith, zero-add}
 use Rattle.std.specs.List.{list_any, IsDistinct, AllByRecursion, flat_map}
 use Rattle.std.proofs.lemmas.Bool.{ne_eqb}
 use Rattle.std.proofs.lemmas.Bool.Decides.{eqb_tells}
@@ -11,7 +11,7 @@ use Rattle.link_lists.specs.Lanes.{lane_keys, StandsIn, put_after, without_key}
 use Rattle.link_lists.specs.Nodes.{Strand}
 use Rattle.link_lists.specs.Spelling.{walk, walked, first_or, ends_of, Spells, IsSpelled}
 use Rattle.link_lists.proofs.NodeLemmas.{some_within}
-use Rattle.link_lists.proofs.SpellLemmas.{Lacks, AreOnce, lacks_append, lacks_other, spelled_has, spelled_apart, walk_spelled}
+use Rattle.link_lists.proofs.SpellLemmas.{Lacks, AreOnce, lacks_append, lacks_other, spelled_has, spelled_apart, walk_spelled, once_append, apart_without}
 use Rattle.link_lists.proofs.CutLemmas.{slice_get_set}
 
 -- a list has the key: what stands before it, and what after it
@@ -169,3 +169,66 @@ left_between key (k ∷ front) back no_front no_back =
     let rest = left_between key front back no_front.1 no_back in
     ap (λ b. cond (not b) (k ∷ filter (λ other. not (eqb key other)) (front ++ key ∷ back)) (filter (λ other. not (eqb key other)) (front ++ key ∷ back))) (ne_eqb key k no_front.0)
     ∙ ap (λ ks. k ∷ ks) rest
+
+-- a key that stands in a list stands once there, and in no other list
+alone_there : (strand : Strand) (lane : List (List ℕ)) (list : ℕ) (front : List ℕ) (key : ℕ) (back : List ℕ) → IsSpelled strand lane →
+    slice_get lane list ≡ Some (front ++ key ∷ back) → Lacks key front × Lacks key back
+alone_there strand lane list front key back spelled here =
+    let parts = once_append front (key ∷ back) (spelled_apart list strand.links None (front ++ key ∷ back) (spelled.spelled list (front ++ key ∷ back) here)) in
+    ((apart_without front key back parts.1.1).0, parts.1.0.0)
+
+alone_elsewhere : (strand : Strand) (lane : List (List ℕ)) (list : ℕ) (front : List ℕ) (key : ℕ) (back : List ℕ) → IsSpelled strand lane →
+    slice_get lane list ≡ Some (front ++ key ∷ back) → (other : ℕ) (keys : List ℕ) → other ≢ list → slice_get lane other ≡ Some keys → Lacks key keys
+alone_elsewhere strand lane list front key back spelled here other keys differs there =
+    lacks_other other strand.links None keys None key _ (spelled_has list strand.links None front key back None (spelled.spelled list (front ++ key ∷ back) here))
+      (λ e. differs (sym e)) (spelled.spelled other keys there)
+
+-- so a key is put after it in this list alone
+pub put_after_one : (strand : Strand) (lane : List (List ℕ)) (list : ℕ) (front : List ℕ) (at : ℕ) (back : List ℕ) (key : ℕ) → IsSpelled strand lane →
+    slice_get lane list ≡ Some (front ++ at ∷ back) → put_after at key lane ≡ set lane list ((front ++ at ∷ []) ++ key ∷ back)
+put_after_one strand lane list front at back key spelled here =
+    let alone = alone_there strand lane list front at back spelled here in
+    mapped_one (flat_map (λ other. cond (eqb at other) (other ∷ key ∷ []) (other ∷ []))) lane list (front ++ at ∷ back) _ here
+      (put_between at key front back alone.0 alone.1)
+      (λ other keys differs there. put_same at key keys (alone_elsewhere strand lane list front at back spelled here other keys differs there))
+
+-- and it is left out of this list alone
+pub without_one : (strand : Strand) (lane : List (List ℕ)) (list : ℕ) (front : List ℕ) (key : ℕ) (back : List ℕ) → IsSpelled strand lane →
+    slice_get lane list ≡ Some (front ++ key ∷ back) → without_key key lane ≡ set lane list (front ++ back)
+without_one strand lane list front key back spelled here =
+    let alone = alone_there strand lane list front key back spelled here in
+    mapped_one (filter (λ other. not (eqb key other))) lane list (front ++ key ∷ back) _ here
+      (left_between key front back alone.0 alone.1)
+      (λ other keys differs there. left_same key keys (alone_elsewhere strand lane list front key back spelled here other keys differs there))
+
+-- no key stands twice in a lane
+lacks_joined : (key : ℕ) (xs ys : List ℕ) → Lacks key xs → Lacks key ys → Lacks key (xs ++ ys)
+lacks_joined key [] ys front back = back
+lacks_joined key (x ∷ xs) ys front back = (front.0, lacks_joined key xs ys front.1 back)
+
+lacks_all : (key : ℕ) (lane : List (List ℕ)) → ((list : ℕ) (keys : List ℕ) → slice_get lane list ≡ Some keys → Lacks key keys) → Lacks key (lane_keys lane)
+lacks_all key [] lacks = tt
+lacks_all key (keys ∷ lane) lacks = lacks_joined key keys (lane_keys lane) (lacks 0 keys refl) (lacks_all key lane (λ list ks here. lacks (suc list) ks here))
+
+once_joined : (xs ys : List ℕ) → AreOnce xs → AreOnce ys → ((key : ℕ) → HasKey key xs → Lacks key ys) → AreOnce (xs ++ ys)
+once_joined [] ys once rest apart = rest
+once_joined (x ∷ xs) ys once rest apart = (
+  lacks_joined x xs ys once.0 (apart x (record { front = []; back = xs; parts = refl })),
+  once_joined xs ys once.1 rest (λ key h. apart key (record { front = x ∷ h.front; back = h.back; parts = ap (λ ks. x ∷ ks) h.parts })),
+)
+
+once_from : (links : List (Option Link)) (n : ℕ) (lane : List (List ℕ)) →
+    ((list : ℕ) (keys : List ℕ) → slice_get lane list ≡ Some keys → Spells links (n + list) None keys None) → AreOnce (lane_keys lane)
+once_from links n [] spelled = tt
+once_from links n (keys ∷ lane) spelled =
+    let here = spelled 0 keys refl in
+    let later : (list : ℕ) (ks : List ℕ) → slice_get lane list ≡ Some ks → Spells links (n + 1 + list) None ks None =
+      λ list ks there. let e : n + suc list ≡ n + 1 + list = omega arith in subst (λ (l : ℕ). Spells links l None ks None) e (spelled (suc list) ks there)
+    in
+    once_joined keys (lane_keys lane) (spelled_apart (n + 0) links None keys here) (once_from links (n + 1) lane later) (λ key h.
+      let found = spelled_has (n + 0) links None h.front key h.back None (subst (λ (ks : List ℕ). Spells links (n + 0) None ks None) h.parts here) in
+      lacks_all key lane (λ list ks there. lacks_other (n + 1 + list) links None ks None key _ found (λ e. absurd (omega (arith, e))) (later list ks there)))
+
+pub lane_once : (strand : Strand) (lane : List (List ℕ)) → IsSpelled strand lane → AreOnce (lane_keys lane)
+lane_once strand lane spelled =
+    once_from strand.links 0 lane (λ list keys here. subst (λ (l : ℕ). Spells strand.links l None keys None) (sym (zero-add list)) (spelled.spelled list keys here))

@@ -3,3 +3,4 @@ mod LaneLemmas
 mod LinkingLemmas
 mod NodeLemmas
 mod SpellLemmas
+mod WovenLemmas
