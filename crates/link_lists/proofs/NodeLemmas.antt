@@ -8,7 +8,7 @@ use Rattle.link_lists.specs.declared.lane.Lane.TheVariants.{First, Second}
 use Rattle.link_lists.specs.declared.link.Link.{Link}
 use Rattle.link_lists.specs.declared.link.Ends.{Ends}
 use Rattle.link_lists.specs.declared.link.Node.{Node}
-use Rattle.link_lists.specs.Nodes.{nodes_seen, on_lane, with_link, without_node, IsAlike, GainsValue}
+use Rattle.link_lists.specs.Nodes.{nodes_seen, on_lane, with_link, with_slot, without_node, IsAlike, GainsValue}
 
 -- two views of the same slots have something at the same keys
 pub both_some : {A B C : Type 0} (f : A → B) (g : A → C) (xs : List (Option A)) (key : ℕ) →
@@ -114,3 +114,22 @@ module _ {T : Type 0} where
     second = record { ends = refl; others = seen_others (λ n. n.second) old new key updates.others };
     spare = omega arith;
   }
+
+  pub value_written : (slab : Slab (Node T)) (f s : List Ends) (key : ℕ) (node : Node T) (value : T) → get slab key ≡ Some node →
+      nodes_seen (with_value slab key (record node { value = value })) f s ≡ with_slot (nodes_seen slab f s) key value
+  value_written slab f s key node value found =
+      let new : Node T = record node { value = value } in
+      let slots = map-set (option_map (λ n. n.value)) slab.slots key (Some new) in
+      let first = seen_kept (λ n. n.first) slab.slots key node new found refl in
+      let second = seen_kept (λ n. n.second) slab.slots key node new found refl in
+      let len = count_kept slab.slots key node new found in
+      λ i. record {
+        slots = slots i;
+        first = record { links = first i; ends = f };
+        second = record { links = second i; ends = s };
+        spare = slab.capacity - len i;
+      }
+
+  pub value_seen : (slab : Slab (Node T)) (key : ℕ) (node : Node T) → get slab key ≡ Some node →
+      get_or (map (option_map (λ n. n.value)) slab.slots) key None ≡ Some node.value
+  value_seen slab key node found = seen_at (λ n. n.value) slab.slots key ∙ ap (option_map (λ n. n.value)) found

@@ -69,6 +69,11 @@ module _ {T : Type 0} where
   with_lane First lists lanes = record lanes { first = lists }
   with_lane Second lists lanes = record lanes { second = lists }
 
+  -- the same with this value at the key
+  abbrev pub with_value_under : Lanes T → ℕ → T → Lanes T
+  with_value_under lanes key value =
+      record lanes { slots = slice_set lanes.slots key (Some value) }
+
   -- No key stands twice in this lane, and each key that stands in it has a value.
   pub record IsLane (slots : List (Option T)) (lane : List (List ℕ)) : Type 0 where
     pub distinct : IsDistinct nat_eq (lane_keys lane)

@@ -107,6 +107,10 @@ module _ {T : Type 0} where
     pub second : KeepsLinks key old.second new.second
     pub spare : old.spare ≡ new.spare + 1
 
+  -- the nodes with this value at the key
+  abbrev pub with_slot : Nodes T → ℕ → T → Nodes T
+  with_slot nodes key value = record nodes { slots = slice_set nodes.slots key (Some value) }
+
   -- the nodes without the key's value and its links
   abbrev pub without_node : ℕ → Nodes T → Nodes T
   without_node key nodes = record {

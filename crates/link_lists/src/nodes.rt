@@ -1,6 +1,7 @@
 //! The slab of nodes, and the ends of the lists of both lanes.
 
-ghost use Rattle.std.specs.Prelude.{◌≡◌, ◌≢◌, ℕ, ◌+◌, ◌<◌, ◌≤◌, [], ◌∷◌, ◌++◌, length, slice_get, slice_set, slice_index_or, Some, None, IsSome, IfOk, OnErr, OnOk, option_copied, vec_len};
+ghost use Rattle.std.specs.Prelude.{◌≡◌, ◌≢◌, ℕ, ◌+◌, ◌<◌, ◌≤◌, [], ◌∷◌, ◌++◌, length, slice_get, slice_set, slice_index_or, Some, None, IsSome, IfOk, OnErr, OnOk, IsTrue, ◌↔◌, option_copied, vec_len};
+ghost use Rattle.std.specs.Borrow.{sem};
 ghost use Rattle.link_lists.specs.Nodes.{no_strand, strand_of, link_of, with_link, with_ends, on_lane, no_ends, with_list, without_node, IsAlike, GainsValue};
 
 use crate::lane::Lane;
@@ -42,6 +43,8 @@ fn push_ends(lists: &mut Vec<Ends>) -> Result<usize, AllocError>
 }
 
 impl<T> Nodes<T> {
+    ghost use Rattle.link_lists.specs.SlotLends.{lends_slot};
+
     pub(crate) fn new(alloc: Global) -> Nodes<T>
         ensures {
             result ≡ record { slots = []; first = no_strand; second = no_strand; spare = 0 } }
@@ -119,6 +122,21 @@ impl<T> Nodes<T> {
             Some(node) => Some(&node.value),
             None => None,
         }
+    }
+
+    pub(crate) fn has_value(&self, key: usize) -> bool
+        ensures { IsTrue result ↔ IsSome (slice_index_or self.now.slots key None) }
+    {
+        self.nodes.contains(key)
+    }
+
+    pub(crate) fn value_mut(&mut self, key: usize) -> &mut T
+        requires { IsSome (slice_index_or self.old.slots key None) }
+        ensures* writes_back { sem 𝓛 (lends_slot T.row self.entry key result) }
+        ensures value { slice_index_or self.old.slots key None ≡ Some result.now }
+    {
+        let node = &mut self.nodes[key];
+        &mut node.value
     }
 
     pub(crate) fn link(&self, lane: Lane, key: usize) -> Link

@@ -1,6 +1,8 @@
 //! The public type, and its calls.
 
 ghost use Rattle.std.specs.Prelude.{◌≡◌, ◌+◌, ◌-◌, ◌<◌, ◌≤◌, [], ◌∷◌, ◌++◌, length, slice_get, slice_set, slice_index_or, Some, None, IsSome, IfOk, OnErr, OnOk, option_copied};
+ghost use Rattle.std.specs.Borrow.{sem};
+ghost use Rattle.std.specs.Option.{option_copied_mut};
 ghost use Rattle.link_lists.specs.Lanes.{value_under, lane_of, with_lane, StandsIn, IsKeyAfter, first_key, pushed_back, put_after, without_key, AreLanes, ChangesSlot};
 
 use crate::lane::Lane;
@@ -30,6 +32,8 @@ impl<T> Model for Woven<T> {
 }
 
 impl<T> Woven<T> {
+    ghost use Rattle.link_lists.specs.ValueLends.{lends_value_under};
+
     /// No value, and no list in either lane.
     pub fn new(alloc: Global) -> Woven<T>
         ensures { result ≡ record { slots = []; first = []; second = []; spare = 0 } }
@@ -161,5 +165,17 @@ impl<T> Woven<T> {
         ensures { option_copied result ≡ value_under self.now key }
     {
         self.nodes.value(key)
+    }
+
+    /// The value under the key for writing, if there is one.
+    pub fn get_mut(&mut self, key: usize) -> Option<&mut T>
+        ensures* writes_back { sem 𝓛 (lends_value_under T.row self.entry key result) }
+        ensures value { option_copied_mut result ≡ value_under self.old key }
+    {
+        if self.nodes.has_value(key) {
+            Some(self.nodes.value_mut(key))
+        } else {
+            None
+        }
     }
 }
