@@ -16,7 +16,7 @@ pub(crate) struct Ends {
 }
 
 /// A record of the slab.
-#[derive(Drop)]
+#[derive(Debug, Drop)]
 pub(crate) struct Node<T> {
     pub(crate) value: T,
     pub(crate) first: Link,

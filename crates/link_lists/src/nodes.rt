@@ -11,7 +11,7 @@ use std::alloc::{AllocError, Global};
 use std::marker::Model;
 
 /// The nodes of both lanes. Contracts see the values, and for each lane the links and the ends.
-#[derive(Drop)]
+#[derive(Debug, Drop)]
 pub(crate) struct Nodes<T> {
     nodes: Slab<Node<T>>,
     first: Vec<Ends>,

@@ -13,7 +13,7 @@ use std::marker::Model;
 
 /// Values under keys, and two lanes of lists of these keys. Each call but `new`, `add_list` and
 /// `reserve` takes constant time and does not allocate.
-#[derive(Drop)]
+#[derive(Debug, Drop)]
 pub struct Woven<T> {
     nodes: Nodes<T>,
 }
@@ -76,10 +76,12 @@ impl<T> Woven<T> {
     pub fn insert(&mut self, value: T) -> usize
         requires { 0 < self.old.spare }
         ensures vacant { value_under self.old result ≡ None }
-        ensures free { (StandsIn result self.old.first → ⊥) × (StandsIn result self.old.second → ⊥) }
+        ensures free_first { ¬ StandsIn result self.old.first }
+        ensures free_second { ¬ StandsIn result self.old.second }
         ensures slots { ChangesSlot self.old self.new result (Some value) }
-        ensures lists { (self.new.first ≡ self.old.first) × (self.new.second ≡ self.old.second) }
         ensures spare { self.old.spare ≡ self.new.spare + 1 }
+        ensures rest {
+            self.new ≡ record self.old { slots = self.new.slots; spare = self.new.spare } }
     {
         self.nodes.alike();
         self.nodes.insert(value)
@@ -89,7 +91,7 @@ impl<T> Woven<T> {
     pub fn push_back(&mut self, lane: Lane, list: usize, key: usize)
         requires has_list { list < length (lane_of lane self.old) }
         requires has_value { IsSome (value_under self.old key) }
-        requires free { StandsIn key (lane_of lane self.old) → ⊥ }
+        requires free { ¬ StandsIn key (lane_of lane self.old) }
         ensures {
             self.new ≡ with_lane lane (pushed_back list key (lane_of lane self.old)) self.old }
     {
@@ -107,7 +109,7 @@ impl<T> Woven<T> {
     pub fn insert_after(&mut self, lane: Lane, at: usize, key: usize)
         requires stands { StandsIn at (lane_of lane self.old) }
         requires has_value { IsSome (value_under self.old key) }
-        requires free { StandsIn key (lane_of lane self.old) → ⊥ }
+        requires free { ¬ StandsIn key (lane_of lane self.old) }
         ensures {
             self.new ≡ with_lane lane (put_after at key (lane_of lane self.old)) self.old }
     {
@@ -133,8 +135,8 @@ impl<T> Woven<T> {
     /// Takes out the value under a key that stands in no list, and returns it.
     pub fn remove(&mut self, key: usize) -> T
         requires has_value { IsSome (value_under self.old key) }
-        requires free_first { StandsIn key self.old.first → ⊥ }
-        requires free_second { StandsIn key self.old.second → ⊥ }
+        requires free_first { ¬ StandsIn key self.old.first }
+        requires free_second { ¬ StandsIn key self.old.second }
         ensures value { value_under self.old key ≡ Some result }
         ensures rest { self.new ≡ record self.old {
           slots = slice_set self.old.slots key None;
