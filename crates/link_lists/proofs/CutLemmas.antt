@@ -1,9 +1,9 @@
 -- A lane with one of its lists cut in two, while links are written at the cut.
-use Rattle.std.proofs.Common.{◌≡◌, ◌≢◌, ℕ, zero, suc, ◌+◌, ◌<◌, ◌≤◌, ◌⊎◌, Bool, true, false, List, [], ◌∷◌, ◌++◌, length, map, get_or, set, Option, Some, None, IsSome, slice_get, refl, sym, ap, subst, ◌∙◌, inl, inr, arith}
+use Rattle.std.proofs.Common.{◌≡◌, ◌≢◌, ℕ, zero, suc, ◌<◌, ◌⊎◌, List, [], ◌∷◌, ◌++◌, length, map, get_or, set, Option, Some, None, slice_get, refl, sym, ap, subst, ◌∙◌, inl, inr, arith}
 use Rattle.std.specs.Option.{option_map}
 use Rattle.std.proofs.lemmas.Bool.{cases_eq}
-use Rattle.std.proofs.lemmas.List.{append_assoc, append-nil, get_or_past, get_or-set_same, get_or-set_other, set-set, set-get_or, map-set, length-set, length-map}
-use Rattle.std.proofs.lemmas.Option.{slice_get_within, get_or_from_slice_get}
+use Rattle.std.proofs.lemmas.List.{get_or-set_same, get_or-set_other, set-set, set-get_or, map-set, length-map}
+use Rattle.std.proofs.lemmas.Option.{slice_get_within}
 use Rattle.link_lists.specs.declared.link.Link.{Link}
 use Rattle.link_lists.specs.declared.link.Ends.{Ends}
 use Rattle.link_lists.specs.Nodes.{Strand, no_ends, with_link}
@@ -164,8 +164,8 @@ module _ (lists : List (List ℕ)) (list : ℕ) where
         front_spelled = spells_joined list _ None front (key ∷ []) next (spells_kept list strand.links None front (Some key) key _ no_front parts.0) (there, tt);
         back_spelled = spells_kept list strand.links before back None key _ apart.1.0 c.back_spelled;
         others = λ other keys differs at.
-          let spells = c.others other keys differs at in
-          spells_kept other strand.links None keys None key _ (lacks_other other strand.links None keys None key old found (λ e. differs (sym e)) spells) spells;
+            let spells = c.others other keys differs at in
+            spells_kept other strand.links None keys None key _ (lacks_other other strand.links None keys None key old found (λ e. differs (sym e)) spells) spells;
       }
 
   -- whatever stands before the cut
@@ -175,11 +175,11 @@ module _ (lists : List (List ℕ)) (list : ℕ) where
       elim (empty_or_last front) [
         | inl none ↦
             subst (λ (f : List ℕ). IsCut lists list f next before back (next_set list (last_or None f) next strand)) (sym none)
-              (next_at_start back after before next strand (subst (λ (f : List ℕ). IsCut lists list f after before back strand) none c))
+            (next_at_start back after before next strand (subst (λ (f : List ℕ). IsCut lists list f after before back strand) none c))
         | inr some ↦
             subst (λ (f : List ℕ). IsCut lists list f next before back (next_set list (last_or None f) next strand)) (sym some.parts)
-              (subst (λ (k : Option ℕ). IsCut lists list (some.front ++ some.last ∷ []) next before back (next_set list k next strand)) (sym (last_append None some.front (some.last ∷ [])))
-                (next_at_key some.front some.last back after before next strand (subst (λ (f : List ℕ). IsCut lists list f after before back strand) some.parts c)))
+            (subst (λ (k : Option ℕ). IsCut lists list (some.front ++ some.last ∷ []) next before back (next_set list k next strand)) (sym (last_append None some.front (some.last ∷ [])))
+            (next_at_key some.front some.last back after before next strand (subst (λ (f : List ℕ). IsCut lists list f after before back strand) some.parts c)))
       ]
 
   -- what comes before is written at the first key after the cut, or at the end
@@ -211,8 +211,8 @@ module _ (lists : List (List ℕ)) (list : ℕ) where
         front_spelled = spells_kept list strand.links None front after key _ (apart_without front key back c.apart).0 c.front_spelled;
         back_spelled = (there, spells_kept list strand.links (Some key) back None key _ c.back_once.0 c.back_spelled.1);
         others = λ other keys differs at.
-          let spells = c.others other keys differs at in
-          spells_kept other strand.links None keys None key _ (lacks_other other strand.links None keys None key old found (λ e. differs (sym e)) spells) spells;
+            let spells = c.others other keys differs at in
+            spells_kept other strand.links None keys None key _ (lacks_other other strand.links None keys None key old found (λ e. differs (sym e)) spells) spells;
       }
 
   -- a lane whose list is spelled again, whatever it is now
@@ -223,13 +223,13 @@ module _ (lists : List (List ℕ)) (list : ℕ) where
   spelled_again strand keys within ends spells others = record {
     ends = ends ∙ sym (map-set ends_of lists list keys);
     spelled = λ other ks there.
-      elim (cases_eq other list) [
-        | inl same ↦
-            let here : Some keys ≡ Some ks = sym (slice_get_set lists list keys within) ∙ ap (slice_get (set lists list keys)) (sym same) ∙ there in
-            let e : keys ≡ ks = cc in
-            subst (λ (l : ℕ). Spells strand.links l None ks None) (sym same) (subst (λ (k : List ℕ). Spells strand.links list None k None) e spells)
-        | inr differs ↦ others other ks differs (sym (slice_get_set_other lists list other keys differs) ∙ there)
-      ];
+        elim (cases_eq other list) [
+          | inl same ↦
+              let here : Some keys ≡ Some ks = sym (slice_get_set lists list keys within) ∙ ap (slice_get (set lists list keys)) (sym same) ∙ there in
+              let e : keys ≡ ks = cc in
+              subst (λ (l : ℕ). Spells strand.links l None ks None) (sym same) (subst (λ (k : List ℕ). Spells strand.links list None k None) e spells)
+          | inr differs ↦ others other ks differs (sym (slice_get_set_other lists list other keys differs) ∙ there)
+        ];
   }
 
   -- a key taken out of its list
@@ -240,7 +240,7 @@ module _ (lists : List (List ℕ)) (list : ℕ) where
       let d = next_written front back (Some key) (Some key) (first_or back None) strand c in
       let e = previous_written front back (first_or back None) (Some key) (last_or None front) _ d in
       spelled_again _ (front ++ back) e.within (e.ends ∙ ap (set (map ends_of lists) list) (sym (ends_split front back)))
-        (spells_joined list _ None front back None e.front_spelled e.back_spelled) e.others
+      (spells_joined list _ None front back None e.front_spelled e.back_spelled) e.others
 
   next_other : (front : List ℕ) (next : Option ℕ) (strand : Strand) (key : ℕ) → Lacks key front →
       get_or (next_set list (last_or None front) next strand).links key None ≡ get_or strand.links key None
@@ -249,8 +249,8 @@ module _ (lists : List (List ℕ)) (list : ℕ) where
         | inl none ↦ subst (λ (f : List ℕ). get_or (next_set list (last_or None f) next strand).links key None ≡ get_or strand.links key None) (sym none) refl
         | inr some ↦
             subst (λ (f : List ℕ). get_or (next_set list (last_or None f) next strand).links key None ≡ get_or strand.links key None) (sym some.parts)
-              (subst (λ (k : Option ℕ). get_or (next_set list k next strand).links key None ≡ get_or strand.links key None) (sym (last_append None some.front (some.last ∷ [])))
-                (get_or-set_other strand.links some.last key _ None (lacks_append key some.front (some.last ∷ []) (subst (Lacks key) some.parts lacks)).1.0))
+            (subst (λ (k : Option ℕ). get_or (next_set list k next strand).links key None ≡ get_or strand.links key None) (sym (last_append None some.front (some.last ∷ [])))
+            (get_or-set_other strand.links some.last key _ None (lacks_append key some.front (some.last ∷ []) (subst (Lacks key) some.parts lacks)).1.0))
       ]
 
   previous_other : (back : List ℕ) (previous : Option ℕ) (strand : Strand) (key : ℕ) → Lacks key back →
@@ -270,7 +270,7 @@ module _ (lists : List (List ℕ)) (list : ℕ) where
       let d = next_written front back (first_or back None) (last_or None front) (Some key) _ c in
       let e = previous_written front back (Some key) (last_or None front) (Some key) _ d in
       let there = previous_other back (Some key) _ key lacks.1 ∙ next_other front (Some key) (with_link key link strand) key lacks.0
-          ∙ get_or-set_same strand.links key (Some link) None within
+      ∙ get_or-set_same strand.links key (Some link) None within
       in
       spelled_again _ (front ++ key ∷ back) e.within (e.ends ∙ ap (set (map ends_of lists) list) (sym (ends_split front (key ∷ back))))
-        (spells_joined list _ None front (key ∷ back) None e.front_spelled (there, e.back_spelled)) e.others
+      (spells_joined list _ None front (key ∷ back) None e.front_spelled (there, e.back_spelled)) e.others

@@ -1,9 +1,8 @@
 -- Lanes as lists of lists: where a key stands, and one list changed by a map over all.
-use Rattle.std.proofs.Common.{◌≡◌, ◌≢◌, ℕ, zero, suc, ◌+◌, ◌<◌, ◌≤◌, ◌⊎◌, ◌||◌, Bool, true, false, not, cond, IsTrue, List, [], ◌∷◌, ◌++◌, length, map, get_or, set, eqb, filter, Option, Some, None, IsSome, slice_get, refl, sym, ap, subst, ◌∙◌, inl, inr, arith, zero-add}
+use Rattle.std.proofs.Common.{◌≡◌, ◌≢◌, ℕ, zero, suc, ◌+◌, ◌≤◌, ◌||◌, Bool, true, false, not, cond, List, [], ◌∷◌, ◌++◌, length, map, set, eqb, filter, Option, Some, None, slice_get, refl, sym, ap, subst, ◌∙◌, inl, inr, arith, zero-add}
 use Rattle.std.specs.List.{list_any, IsDistinct, AllByRecursion, flat_map}
 use Rattle.std.proofs.lemmas.Bool.{ne_eqb}
 use Rattle.std.proofs.lemmas.Bool.Decides.{eqb_tells}
-use Rattle.std.proofs.lemmas.List.{append_assoc, get_or_past}
 use Rattle.std.proofs.lemmas.List.Folds.{list_any-append}
 use Rattle.std.proofs.lemmas.Map.Steps.{length-le_from_distinct_below}
 use Rattle.link_lists.specs.declared.link.Link.{Link}
@@ -11,8 +10,7 @@ use Rattle.link_lists.specs.Lanes.{lane_keys, StandsIn, put_after, without_key}
 use Rattle.link_lists.specs.Nodes.{Strand}
 use Rattle.link_lists.specs.Spelling.{walk, walked, first_or, ends_of, Spells, IsSpelled}
 use Rattle.link_lists.proofs.NodeLemmas.{some_within}
-use Rattle.link_lists.proofs.SpellLemmas.{Lacks, AreOnce, lacks_append, lacks_other, spelled_has, spelled_apart, walk_spelled, once_append, apart_without}
-use Rattle.link_lists.proofs.CutLemmas.{slice_get_set}
+use Rattle.link_lists.proofs.SpellLemmas.{Lacks, AreOnce, lacks_other, spelled_has, spelled_apart, walk_spelled, once_append, apart_without}
 
 -- a list has the key: what stands before it, and what after it
 pub record HasKey (key : ℕ) (keys : List ℕ) : Type 0 where
@@ -99,9 +97,9 @@ distinct (k ∷ keys) once = (all_differ k keys once.0, distinct keys once.1)
 pub spelled_short : (links : List (Option Link)) (list : ℕ) (keys : List ℕ) → Spells links list None keys None → length keys ≤ length links
 spelled_short links list keys spells =
     length-le_from_distinct_below keys (length links) (distinct keys (spelled_apart list links None keys spells)) (λ q has.
-      let h = has_key q keys has in
-      let at = spelled_has list links None h.front q h.back None (subst (λ (ks : List ℕ). Spells links list None ks None) h.parts spells) in
-      some_within links q _ at)
+    let h = has_key q keys has in
+    let at = spelled_has list links None h.front q h.back None (subst (λ (ks : List ℕ). Spells links list None ks None) h.parts spells) in
+    some_within links q _ at)
 
 -- walks meet what is spelled
 walks_meet : (links : List (Option Link)) (fuel : ℕ) (lists : List (List ℕ)) →
@@ -117,8 +115,8 @@ pub walked_spelled : (strand : Strand) (lists : List (List ℕ)) → IsSpelled s
 walked_spelled strand lists spelled =
     ap (map (λ e. walk strand.links (length strand.links) e.first)) spelled.ends
     ∙ walks_meet strand.links (length strand.links) lists (λ list keys here.
-        let spells = spelled.spelled list keys here in
-        walk_spelled list strand.links None keys (length strand.links) spells (spelled_short strand.links list keys spells))
+    let spells = spelled.spelled list keys here in
+    walk_spelled list strand.links None keys (length strand.links) spells (spelled_short strand.links list keys spells))
 
 -- a map that changes one list alone
 mapped_one : (f : List ℕ → List ℕ) (lane : List (List ℕ)) (list : ℕ) (old new : List ℕ) → slice_get lane list ≡ Some old → f old ≡ new →
@@ -181,7 +179,7 @@ alone_elsewhere : (strand : Strand) (lane : List (List ℕ)) (list : ℕ) (front
     slice_get lane list ≡ Some (front ++ key ∷ back) → (other : ℕ) (keys : List ℕ) → other ≢ list → slice_get lane other ≡ Some keys → Lacks key keys
 alone_elsewhere strand lane list front key back spelled here other keys differs there =
     lacks_other other strand.links None keys None key _ (spelled_has list strand.links None front key back None (spelled.spelled list (front ++ key ∷ back) here))
-      (λ e. differs (sym e)) (spelled.spelled other keys there)
+    (λ e. differs (sym e)) (spelled.spelled other keys there)
 
 -- so a key is put after it in this list alone
 pub put_after_one : (strand : Strand) (lane : List (List ℕ)) (list : ℕ) (front : List ℕ) (at : ℕ) (back : List ℕ) (key : ℕ) → IsSpelled strand lane →
@@ -189,8 +187,8 @@ pub put_after_one : (strand : Strand) (lane : List (List ℕ)) (list : ℕ) (fro
 put_after_one strand lane list front at back key spelled here =
     let alone = alone_there strand lane list front at back spelled here in
     mapped_one (flat_map (λ other. cond (eqb at other) (other ∷ key ∷ []) (other ∷ []))) lane list (front ++ at ∷ back) _ here
-      (put_between at key front back alone.0 alone.1)
-      (λ other keys differs there. put_same at key keys (alone_elsewhere strand lane list front at back spelled here other keys differs there))
+    (put_between at key front back alone.0 alone.1)
+    (λ other keys differs there. put_same at key keys (alone_elsewhere strand lane list front at back spelled here other keys differs there))
 
 -- and it is left out of this list alone
 pub without_one : (strand : Strand) (lane : List (List ℕ)) (list : ℕ) (front : List ℕ) (key : ℕ) (back : List ℕ) → IsSpelled strand lane →
@@ -198,8 +196,8 @@ pub without_one : (strand : Strand) (lane : List (List ℕ)) (list : ℕ) (front
 without_one strand lane list front key back spelled here =
     let alone = alone_there strand lane list front key back spelled here in
     mapped_one (filter (λ other. not (eqb key other))) lane list (front ++ key ∷ back) _ here
-      (left_between key front back alone.0 alone.1)
-      (λ other keys differs there. left_same key keys (alone_elsewhere strand lane list front key back spelled here other keys differs there))
+    (left_between key front back alone.0 alone.1)
+    (λ other keys differs there. left_same key keys (alone_elsewhere strand lane list front key back spelled here other keys differs there))
 
 -- no key stands twice in a lane
 lacks_joined : (key : ℕ) (xs ys : List ℕ) → Lacks key xs → Lacks key ys → Lacks key (xs ++ ys)
@@ -223,11 +221,11 @@ once_from links n [] spelled = tt
 once_from links n (keys ∷ lane) spelled =
     let here = spelled 0 keys refl in
     let later : (list : ℕ) (ks : List ℕ) → slice_get lane list ≡ Some ks → Spells links (n + 1 + list) None ks None =
-      λ list ks there. let e : n + suc list ≡ n + 1 + list = omega arith in subst (λ (l : ℕ). Spells links l None ks None) e (spelled (suc list) ks there)
+    λ list ks there. let e : n + suc list ≡ n + 1 + list = omega arith in subst (λ (l : ℕ). Spells links l None ks None) e (spelled (suc list) ks there)
     in
     once_joined keys (lane_keys lane) (spelled_apart (n + 0) links None keys here) (once_from links (n + 1) lane later) (λ key h.
-      let found = spelled_has (n + 0) links None h.front key h.back None (subst (λ (ks : List ℕ). Spells links (n + 0) None ks None) h.parts here) in
-      lacks_all key lane (λ list ks there. lacks_other (n + 1 + list) links None ks None key _ found (λ e. absurd (omega (arith, e))) (later list ks there)))
+    let found = spelled_has (n + 0) links None h.front key h.back None (subst (λ (ks : List ℕ). Spells links (n + 0) None ks None) h.parts here) in
+    lacks_all key lane (λ list ks there. lacks_other (n + 1 + list) links None ks None key _ found (λ e. absurd (omega (arith, e))) (later list ks there)))
 
 pub lane_once : (strand : Strand) (lane : List (List ℕ)) → IsSpelled strand lane → AreOnce (lane_keys lane)
 lane_once strand lane spelled =

@@ -1,3 +1,4 @@
+pub mod CallerLemmas
 mod CutLemmas
 mod LaneLemmas
 mod LinkingLemmas

@@ -42,7 +42,7 @@ pub count_kept : {A : Type 0} (xs : List (Option A)) (key : ℕ) (old new : A) �
     get_or xs key None ≡ Some old → count_by is_some (set xs key (Some new)) ≡ count_by is_some xs
 count_kept {A} xs key old new found =
     let sums : count_by is_some (set xs key (Some new)) + cond {A = ℕ} (is_some (get_or xs key None)) 1 0 ≡ count_by is_some xs + 1 =
-      sum_by-set (λ (o : Option A). cond (is_some o) 1 0) xs key (Some new) None (some_within xs key old found)
+    sum_by-set (λ (o : Option A). cond (is_some o) 1 0) xs key (Some new) None (some_within xs key old found)
     in
     let one : cond {A = ℕ} (is_some (get_or xs key None)) 1 0 ≡ 1 = ap (λ (o : Option A). cond (is_some o) 1 0) found in
     omega (arith, sums, one)

@@ -1,8 +1,6 @@
 -- What links spell: lists cut in two, walks, and that no key stands twice.
-use Rattle.std.proofs.Common.{◌≡◌, ◌≢◌, ℕ, zero, suc, ◌+◌, ◌<◌, ◌≤◌, ◌⊎◌, ◌||◌, Bool, true, false, List, [], ◌∷◌, ◌++◌, length, map, get_or, set, eqb, Option, Some, None, is_some, IsSome, slice_get, refl, sym, ap, subst, ◌∙◌, inl, inr, arith, length-append}
-use Rattle.std.specs.List.{list_any, IsDistinct, AllByRecursion}
-use Rattle.std.proofs.lemmas.Bool.{cases_eq}
-use Rattle.std.proofs.lemmas.List.{append_assoc, get_or_past, get_or-set_same, get_or-set_other}
+use Rattle.std.proofs.Common.{◌≡◌, ◌≢◌, ℕ, zero, suc, ◌≤◌, List, [], ◌∷◌, ◌++◌, length, get_or, set, Option, Some, None, refl, sym, ap, subst, ◌∙◌, arith, length-append}
+use Rattle.std.proofs.lemmas.List.{append_assoc, get_or-set_other}
 use Rattle.link_lists.specs.declared.link.Link.{Link}
 use Rattle.link_lists.specs.Spelling.{walk, next_of, first_or, last_or, Spells}
 
@@ -88,11 +86,11 @@ module _ (list : ℕ) where
   lacks_other links before [] after key link found differs spells = tt
   lacks_other links before (k ∷ keys) after key link found differs spells = (
     λ same. differs (
-      let e : Some link ≡ Some (record { list = list; previous = before; next = first_or keys after }) =
+        let e : Some link ≡ Some (record { list = list; previous = before; next = first_or keys after }) =
         sym found ∙ ap (λ q. get_or links q None) same ∙ spells.0
-      in
-      cc
-    ),
+        in
+        cc
+        ),
     lacks_other links (Some k) keys after key link found differs spells.1,
   )
 
@@ -114,7 +112,7 @@ module _ (list : ℕ) where
   spelled_once links b c (x ∷ xs) (y ∷ ys) p q same =
       let head : x ≡ y = cc in
       let next : first_or xs None ≡ first_or ys None =
-        ap next_of (sym p.0) ∙ ap (λ k. next_of (get_or links k None)) head ∙ ap next_of q.0
+      ap next_of (sym p.0) ∙ ap (λ k. next_of (get_or links k None)) head ∙ ap next_of q.0
       in
       let rest = spelled_once links (Some x) (Some y) xs ys p.1 q.1 next in
       cc
@@ -125,11 +123,11 @@ module _ (list : ℕ) where
   spelled_lacks links before key whole front [] spells parts = tt
   spelled_lacks links before key whole front (k ∷ back) spells parts = (
     λ same.
-      let tail = subst (λ w. Spells links list (Some key) w None) parts spells.1 in
-      let from_k = (spells_parts links (Some key) front (k ∷ back) None tail).1 in
-      let e : key ∷ whole ≡ k ∷ back = spelled_once links before (last_or (Some key) front) (key ∷ whole) (k ∷ back) spells from_k (ap Some same) in
-      let lengths : length (front ++ k ∷ back) ≡ length back = ap length (sym parts) ∙ ap (λ xs. length (tail_of xs)) e in
-      omega (arith, lengths, length-append front (k ∷ back)),
+        let tail = subst (λ w. Spells links list (Some key) w None) parts spells.1 in
+        let from_k = (spells_parts links (Some key) front (k ∷ back) None tail).1 in
+        let e : key ∷ whole ≡ k ∷ back = spelled_once links before (last_or (Some key) front) (key ∷ whole) (k ∷ back) spells from_k (ap Some same) in
+        let lengths : length (front ++ k ∷ back) ≡ length back = ap length (sym parts) ∙ ap (λ xs. length (tail_of xs)) e in
+        omega (arith, lengths, length-append front (k ∷ back)),
     spelled_lacks links before key whole (front ++ k ∷ []) back spells (parts ∙ sym (append_assoc front (k ∷ []) back)),
   )
 

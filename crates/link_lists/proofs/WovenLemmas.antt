@@ -1,8 +1,7 @@
 -- The calls, over the strand of one lane, and over both lanes.
-use Rattle.std.proofs.Common.{◌≡◌, ◌≢◌, ℕ, zero, suc, ◌+◌, ◌<◌, ◌≤◌, ◌⊎◌, ◌||◌, Bool, true, false, not, cond, IsTrue, List, [], ◌∷◌, ◌++◌, length, map, get_or, set, eqb, filter, Option, Some, None, IsSome, is_some, Result, Ok, Err, OnOk, OnErr, slice_get, slice_index_or, refl, sym, ap, subst, ◌∙◌, inl, inr, arith}
+use Rattle.std.proofs.Common.{◌≡◌, ◌≢◌, ℕ, zero, suc, ◌+◌, ◌<◌, ◌⊎◌, List, [], ◌∷◌, ◌++◌, length, get_or, set, Option, Some, None, IsSome, is_some, Result, Ok, Err, OnOk, OnErr, slice_get, slice_index_or, refl, sym, ap, subst, ◌∙◌, inl, inr, arith}
 use Rattle.std.specs.Option.{option_map}
-use Rattle.std.specs.List.{flat_map}
-use Rattle.std.proofs.lemmas.Bool.{cases_eq, false≢true}
+use Rattle.std.proofs.lemmas.Bool.{false≢true}
 use Rattle.std.proofs.lemmas.List.{append_assoc, append-nil, get_or_past, map-append, length-map}
 use Rattle.std.proofs.lemmas.Option.{slice_get-map, slice_get-get_or, slice_get_within, same_Some}
 use Rattle.std.specs.declared.alloc.AllocError.{AllocError}
@@ -10,14 +9,13 @@ use Rattle.link_lists.specs.declared.lane.Lane.{Lane}
 use Rattle.link_lists.specs.declared.lane.Lane.TheVariants.{First, Second}
 use Rattle.link_lists.specs.declared.link.Link.{Link}
 use Rattle.link_lists.specs.declared.link.Ends.{Ends}
-use Rattle.link_lists.specs.Lanes.{Lanes, lane_of, with_lane, lane_keys, value_under, StandsIn, IsKeyAfter, first_key, pushed_back, put_after, without_key, IsLane, AreLanes, ChangesSlot}
+use Rattle.link_lists.specs.Lanes.{Lanes, lane_of, with_lane, lane_keys, value_under, StandsIn, IsKeyAfter, first_key, pushed_back, put_after, without_key, IsLane, AreLanes}
 use Rattle.link_lists.specs.Nodes.{Strand, Nodes, strand_of, on_lane, link_of, no_ends, with_list, without_link, without_node, KeepsLinks, GainsValue, IsAlike}
 use Rattle.link_lists.specs.Linking.{CanWrite, tied, placed}
 use Rattle.link_lists.specs.Spelling.{walked, lanes_seen, next_of, first_or, last_or, ends_of, Spells, IsSpelled, AreSpelled}
-use Rattle.link_lists.proofs.NodeLemmas.{some_within}
-use Rattle.link_lists.proofs.SpellLemmas.{Lacks, AreOnce, AreApart, last_append, once_append, apart_without, spells_parts, spells_kept, lacks_other, lacks_vacant, spelled_has, spelled_apart}
+use Rattle.link_lists.proofs.SpellLemmas.{Lacks, last_append, spells_parts, spells_kept, lacks_vacant, spelled_has}
 use Rattle.link_lists.proofs.CutLemmas.{empty_or_last, placed_spelled, tied_spelled}
-use Rattle.link_lists.proofs.LaneLemmas.{stands_at, stands_in, lacks_in, put_after_one, without_one, walked_spelled, lane_once, distinct}
+use Rattle.link_lists.proofs.LaneLemmas.{stands_at, lacks_in, put_after_one, without_one, walked_spelled, lane_once, distinct}
 
 -- a key's link, where it stands
 pub link_there : (strand : Strand) (lane : List (List ℕ)) (list : ℕ) (front : List ℕ) (key : ℕ) (back : List ℕ) → IsSpelled strand lane →
@@ -52,8 +50,8 @@ can_write_last strand list keys after within spells =
       | inl none ↦ subst (λ (ks : List ℕ). CanWrite list (last_or None ks) strand) (sym none) within
       | inr some ↦
           subst (λ (ks : List ℕ). CanWrite list (last_or None ks) strand) (sym some.parts)
-            (subst (λ (k : Option ℕ). CanWrite list k strand) (sym (last_append None some.front (some.last ∷ [])))
-              (ap is_some (spelled_has list strand.links None some.front some.last [] after (subst (λ (ks : List ℕ). Spells strand.links list None ks after) some.parts spells))))
+          (subst (λ (k : Option ℕ). CanWrite list k strand) (sym (last_append None some.front (some.last ∷ [])))
+          (ap is_some (spelled_has list strand.links None some.front some.last [] after (subst (λ (ks : List ℕ). Spells strand.links list None ks after) some.parts spells))))
     ]
 
 first_or_none : (keys : List ℕ) → first_or keys None ≡ first_key keys
@@ -67,14 +65,14 @@ can_write_end strand lane list ends spelled within found =
     let here : slice_get lane list ≡ Some keys = slice_get-get_or lane list [] within in
     let e : ends_of keys ≡ ends = same_Some (ends_of keys) ends (sym (ends_at strand lane list keys spelled here) ∙ found) in
     subst (λ (x : Ends). CanWrite list x.last strand) e
-      (can_write_last strand list keys None (rw (ends_many strand lane spelled) within) (spelled.spelled list keys here))
+    (can_write_last strand list keys None (rw (ends_many strand lane spelled) within) (spelled.spelled list keys here))
 
 can_write_round : (strand : Strand) (lane : List (List ℕ)) (key : ℕ) (link : Link) → IsSpelled strand lane → StandsIn key lane →
     link_of strand key ≡ Some link → CanWrite link.list link.previous strand × CanWrite link.list link.next strand
 can_write_round strand lane key link spelled stands found =
     let s = stands_at key lane stands in
     let e : record { list = s.list; previous = last_or None s.front; next = first_or s.back None } ≡ link =
-      same_Some _ link (sym (link_there strand lane s.list s.front key s.back spelled s.here) ∙ found)
+    same_Some _ link (sym (link_there strand lane s.list s.front key s.back spelled s.here) ∙ found)
     in
     let within : s.list < length strand.ends = rw (ends_many strand lane spelled) (slice_get_within lane s.list _ s.here) in
     let parts = spells_parts s.list strand.links None s.front (key ∷ s.back) None (spelled.spelled s.list _ s.here) in
@@ -94,7 +92,7 @@ strand_pushed strand lane list key ends spelled within linked absent found =
     let here : slice_get lane list ≡ Some keys = slice_get-get_or lane list [] within in
     let e : ends_of keys ≡ ends = same_Some (ends_of keys) ends (sym (ends_at strand lane list keys spelled here) ∙ found) in
     subst (λ (x : Ends). IsSpelled (placed key (record { list = list; previous = x.last; next = None }) strand) (pushed_back list key lane)) e
-      (placed_spelled lane list strand keys key [] spelled (here ∙ ap (λ ks. Some ks) (sym (append-nil keys))) linked (lacks_in key lane absent))
+    (placed_spelled lane list strand keys key [] spelled (here ∙ ap (λ ks. Some ks) (sym (append-nil keys))) linked (lacks_in key lane absent))
 
 -- a key put after another
 pub strand_put_after : (strand : Strand) (lane : List (List ℕ)) (at key : ℕ) (link : Link) → IsSpelled strand lane → StandsIn at lane →
@@ -106,12 +104,12 @@ strand_put_after strand lane at key link spelled stands linked absent found =
     let e : record { list = s.list; previous = last_or None s.front; next = first_or s.back None } ≡ link = same_Some _ link (sym there ∙ found) in
     let last : last_or None (s.front ++ at ∷ []) ≡ Some at = last_append None s.front (at ∷ []) in
     let moved : IsSpelled (placed key (record { list = s.list; previous = Some at; next = first_or s.back None }) strand) (set lane s.list ((s.front ++ at ∷ []) ++ key ∷ s.back)) =
-      subst (λ (p : Option ℕ). IsSpelled (placed key (record { list = s.list; previous = p; next = first_or s.back None }) strand) (set lane s.list ((s.front ++ at ∷ []) ++ key ∷ s.back))) last
-        (placed_spelled lane s.list strand (s.front ++ at ∷ []) key s.back spelled (s.here ∙ ap (λ ks. Some ks) (sym (append_assoc s.front (at ∷ []) s.back))) linked (lacks_in key lane absent))
+    subst (λ (p : Option ℕ). IsSpelled (placed key (record { list = s.list; previous = p; next = first_or s.back None }) strand) (set lane s.list ((s.front ++ at ∷ []) ++ key ∷ s.back))) last
+    (placed_spelled lane s.list strand (s.front ++ at ∷ []) key s.back spelled (s.here ∙ ap (λ ks. Some ks) (sym (append_assoc s.front (at ∷ []) s.back))) linked (lacks_in key lane absent))
     in
     subst (λ (l : Link). IsSpelled (placed key (record { list = l.list; previous = Some at; next = l.next }) strand) (put_after at key lane)) e
-      (subst (λ (lists : List (List ℕ)). IsSpelled (placed key (record { list = s.list; previous = Some at; next = first_or s.back None }) strand) lists)
-        (sym (put_after_one strand lane s.list s.front at s.back key spelled s.here)) moved)
+    (subst (λ (lists : List (List ℕ)). IsSpelled (placed key (record { list = s.list; previous = Some at; next = first_or s.back None }) strand) lists)
+    (sym (put_after_one strand lane s.list s.front at s.back key spelled s.here)) moved)
 
 -- a key taken out
 pub strand_without : (strand : Strand) (lane : List (List ℕ)) (key : ℕ) (link : Link) → IsSpelled strand lane → StandsIn key lane → link_of strand key ≡ Some link →
@@ -119,11 +117,11 @@ pub strand_without : (strand : Strand) (lane : List (List ℕ)) (key : ℕ) (lin
 strand_without strand lane key link spelled stands found =
     let s = stands_at key lane stands in
     let e : record { list = s.list; previous = last_or None s.front; next = first_or s.back None } ≡ link =
-      same_Some _ link (sym (link_there strand lane s.list s.front key s.back spelled s.here) ∙ found)
+    same_Some _ link (sym (link_there strand lane s.list s.front key s.back spelled s.here) ∙ found)
     in
     subst (λ (l : Link). IsSpelled (tied l.list l.previous l.next strand) (without_key key lane)) e
-      (subst (λ (lists : List (List ℕ)). IsSpelled (tied s.list (last_or None s.front) (first_or s.back None) strand) lists)
-        (sym (without_one strand lane s.list s.front key s.back spelled s.here)) (tied_spelled lane s.list strand s.front key s.back spelled s.here))
+    (subst (λ (lists : List (List ℕ)). IsSpelled (tied s.list (last_or None s.front) (first_or s.back None) strand) lists)
+    (sym (without_one strand lane s.list s.front key s.back spelled s.here)) (tied_spelled lane s.list strand s.front key s.back spelled s.here))
 
 -- a list more
 got_or_added : (lane : List (List ℕ)) (list : ℕ) (keys : List ℕ) → slice_get (lane ++ [] ∷ []) list ≡ Some keys → (slice_get lane list ≡ Some keys) ⊎ (keys ≡ [])
@@ -136,10 +134,10 @@ pub strand_listed : (strand : Strand) (lane : List (List ℕ)) → IsSpelled str
 strand_listed strand lane spelled = record {
   ends = ap (λ es. es ++ no_ends ∷ []) spelled.ends ∙ sym (map-append ends_of lane ([] ∷ []));
   spelled = λ list keys here.
-    elim (got_or_added lane list keys here) [
-      | inl old ↦ spelled.spelled list keys old
-      | inr empty ↦ subst (λ (ks : List ℕ). Spells strand.links list None ks None) (sym empty) tt
-    ];
+      elim (got_or_added lane list keys here) [
+        | inl old ↦ spelled.spelled list keys old
+        | inr empty ↦ subst (λ (ks : List ℕ). Spells strand.links list None ks None) (sym empty) tt
+      ];
 }
 
 -- other links than those of a key that stands nowhere
@@ -153,8 +151,8 @@ pub strand_kept : (old new : Strand) (lane : List (List ℕ)) (key : ℕ) → Ke
 strand_kept old new lane key keeps vacant spelled = record {
   ends = keeps.ends ∙ spelled.ends;
   spelled = λ list keys here.
-    let spells = spelled.spelled list keys here in
-    spells_others old.links new.links key list None keys None keeps.others (lacks_vacant list old.links None keys None key vacant spells) spells;
+      let spells = spelled.spelled list keys here in
+      spells_others old.links new.links key list None keys None keeps.others (lacks_vacant list old.links None keys None key vacant spells) spells;
 }
 
 pub strand_freed : (strand : Strand) (lane : List (List ℕ)) (key : ℕ) → (StandsIn key lane → ⊥) → IsSpelled strand lane → IsSpelled (without_link key strand) lane
@@ -217,9 +215,9 @@ module _ {T : Type 0} where
       StandFor new (with_lane lane (pushed_back list key (lane_of lane lanes)) lanes)
   pushed_key lane old new lanes list key ends seen spelled alike within value absent found made =
       subst (λ (l : Lanes T). list < length (lane_of lane l) → IsSome (value_under l key) → (StandsIn key (lane_of lane l) → ⊥) → StandFor new (with_lane lane (pushed_back list key (lane_of lane l)) l)) seen
-        (λ w v a. subst (λ (n : Nodes T). StandFor n (with_lane lane (pushed_back list key (lane_of lane (lanes_seen old))) (lanes_seen old))) (sym made)
-          (lane_changed lane old _ _ spelled (strand_pushed (strand_of lane old) _ list key ends (lane_spelled lane old spelled) w (alike_within lane old key alike v) a found)))
-        within value absent
+      (λ w v a. subst (λ (n : Nodes T). StandFor n (with_lane lane (pushed_back list key (lane_of lane (lanes_seen old))) (lanes_seen old))) (sym made)
+      (lane_changed lane old _ _ spelled (strand_pushed (strand_of lane old) _ list key ends (lane_spelled lane old spelled) w (alike_within lane old key alike v) a found)))
+      within value absent
 
   pub put_key : (lane : Lane) (old new : Nodes T) (lanes : Lanes T) (at key : ℕ) (link : Link) → lanes_seen old ≡ lanes → AreSpelled old → IsAlike old →
       StandsIn at (lane_of lane lanes) → IsSome (value_under lanes key) → (StandsIn key (lane_of lane lanes) → ⊥) →
@@ -227,18 +225,18 @@ module _ {T : Type 0} where
       StandFor new (with_lane lane (put_after at key (lane_of lane lanes)) lanes)
   put_key lane old new lanes at key link seen spelled alike stands value absent found made =
       subst (λ (l : Lanes T). StandsIn at (lane_of lane l) → IsSome (value_under l key) → (StandsIn key (lane_of lane l) → ⊥) → StandFor new (with_lane lane (put_after at key (lane_of lane l)) l)) seen
-        (λ s v a. subst (λ (n : Nodes T). StandFor n (with_lane lane (put_after at key (lane_of lane (lanes_seen old))) (lanes_seen old))) (sym made)
-          (lane_changed lane old _ _ spelled (strand_put_after (strand_of lane old) _ at key link (lane_spelled lane old spelled) s (alike_within lane old key alike v) a found)))
-        stands value absent
+      (λ s v a. subst (λ (n : Nodes T). StandFor n (with_lane lane (put_after at key (lane_of lane (lanes_seen old))) (lanes_seen old))) (sym made)
+      (lane_changed lane old _ _ spelled (strand_put_after (strand_of lane old) _ at key link (lane_spelled lane old spelled) s (alike_within lane old key alike v) a found)))
+      stands value absent
 
   pub taken_out : (lane : Lane) (old new : Nodes T) (lanes : Lanes T) (key : ℕ) (link : Link) → lanes_seen old ≡ lanes → AreSpelled old → StandsIn key (lane_of lane lanes) →
       link_of (strand_of lane old) key ≡ Some link → new ≡ on_lane lane (tied link.list link.previous link.next) old →
       StandFor new (with_lane lane (without_key key (lane_of lane lanes)) lanes)
   taken_out lane old new lanes key link seen spelled stands found made =
       subst (λ (l : Lanes T). StandsIn key (lane_of lane l) → StandFor new (with_lane lane (without_key key (lane_of lane l)) l)) seen
-        (λ s. subst (λ (n : Nodes T). StandFor n (with_lane lane (without_key key (lane_of lane (lanes_seen old))) (lanes_seen old))) (sym made)
-          (lane_changed lane old _ _ spelled (strand_without (strand_of lane old) _ key link (lane_spelled lane old spelled) s found)))
-        stands
+      (λ s. subst (λ (n : Nodes T). StandFor n (with_lane lane (without_key key (lane_of lane (lanes_seen old))) (lanes_seen old))) (sym made)
+      (lane_changed lane old _ _ spelled (strand_without (strand_of lane old) _ key link (lane_spelled lane old spelled) s found)))
+      stands
 
   vacant_link : (o : Option Link) (v : Option T) → is_some o ≡ is_some v → v ≡ None → o ≡ None
   vacant_link None v same none = refl
@@ -248,8 +246,8 @@ module _ {T : Type 0} where
       StandFor new (record { slots = new.slots; first = walked old.first; second = walked old.second; spare = new.spare })
   stored old new key value spelled alike vacant gains =
       stand_for new (walked old.first) (walked old.second)
-        (strand_kept old.first new.first _ key gains.first (vacant_link _ _ (alike.first key) vacant) spelled.first)
-        (strand_kept old.second new.second _ key gains.second (vacant_link _ _ (alike.second key) vacant) spelled.second)
+      (strand_kept old.first new.first _ key gains.first (vacant_link _ _ (alike.first key) vacant) spelled.first)
+      (strand_kept old.second new.second _ key gains.second (vacant_link _ _ (alike.second key) vacant) spelled.second)
 
   pub stored_free : (old : Nodes T) (lanes : Lanes T) (key : ℕ) → lanes_seen old ≡ lanes → AreSpelled old → IsAlike old → slice_index_or old.slots key None ≡ None →
       (StandsIn key lanes.first → ⊥) × (StandsIn key lanes.second → ⊥)
@@ -263,9 +261,9 @@ module _ {T : Type 0} where
       new ≡ without_node key old → StandFor new (record lanes { slots = set lanes.slots key None; spare = lanes.spare + 1 })
   freed old new lanes key seen spelled absent_first absent_second made =
       subst (λ (l : Lanes T). (StandsIn key l.first → ⊥) → (StandsIn key l.second → ⊥) → StandFor new (record l { slots = set l.slots key None; spare = l.spare + 1 })) seen
-        (λ a b. subst (λ (n : Nodes T). StandFor n (record (lanes_seen old) { slots = set old.slots key None; spare = old.spare + 1 })) (sym made)
-          (stand_for (without_node key old) _ _ (strand_freed old.first _ key a spelled.first) (strand_freed old.second _ key b spelled.second)))
-        absent_first absent_second
+      (λ a b. subst (λ (n : Nodes T). StandFor n (record (lanes_seen old) { slots = set old.slots key None; spare = old.spare + 1 })) (sym made)
+      (stand_for (without_node key old) _ _ (strand_freed old.first _ key a spelled.first) (strand_freed old.second _ key b spelled.second)))
+      absent_first absent_second
 
   lane_valued : (strand : Strand) (slots : List (Option T)) (lane : List (List ℕ)) → IsSpelled strand lane → ((key : ℕ) → is_some (link_of strand key) ≡ is_some (slice_index_or slots key None)) → IsLane slots lane
   lane_valued strand slots lane spelled alike = record {
@@ -290,20 +288,20 @@ module _ {T : Type 0} where
       slice_get (strand_of lane nodes).ends list ≡ Some ends → CanWrite list ends.last (strand_of lane nodes)
   write_last lane nodes lanes list ends seen spelled within found =
       can_write_end (strand_of lane nodes) (lane_of lane (lanes_seen nodes)) list ends (lane_spelled lane nodes spelled)
-        (subst (λ (l : Lanes T). list < length (lane_of lane l)) (sym seen) within) found
+      (subst (λ (l : Lanes T). list < length (lane_of lane l)) (sym seen) within) found
 
   pub write_round : (lane : Lane) (nodes : Nodes T) (lanes : Lanes T) (key : ℕ) (link : Link) → lanes_seen nodes ≡ lanes → AreSpelled nodes → StandsIn key (lane_of lane lanes) →
       link_of (strand_of lane nodes) key ≡ Some link → CanWrite link.list link.previous (strand_of lane nodes) × CanWrite link.list link.next (strand_of lane nodes)
   write_round lane nodes lanes key link seen spelled stands found =
       can_write_round (strand_of lane nodes) (lane_of lane (lanes_seen nodes)) key link (lane_spelled lane nodes spelled)
-        (subst (λ (l : Lanes T). StandsIn key (lane_of lane l)) (sym seen) stands) found
+      (subst (λ (l : Lanes T). StandsIn key (lane_of lane l)) (sym seen) stands) found
 
   pub after_key : (lane : Lane) (nodes : Nodes T) (lanes : Lanes T) (key : ℕ) (link : Link) → lanes_seen nodes ≡ lanes → AreSpelled nodes →
       link_of (strand_of lane nodes) key ≡ Some link → IsKeyAfter key (lane_of lane lanes) link.next
   after_key lane nodes lanes key link seen spelled found =
       subst (λ (l : Lanes T). IsKeyAfter key (lane_of lane l) link.next) seen (λ list before after here.
-        let there = link_there (strand_of lane nodes) _ list before key after (lane_spelled lane nodes spelled) here in
-        ap next_of (sym found ∙ there) ∙ first_or_none after)
+      let there = link_there (strand_of lane nodes) _ list before key after (lane_spelled lane nodes spelled) here in
+      ap next_of (sym found ∙ there) ∙ first_or_none after)
 
   pub listed_or_same : (lane : Lane) (old new : Nodes T) (lanes : Lanes T) (r : Result ℕ AllocError) → lanes_seen old ≡ lanes → AreSpelled old →
       OnOk r (new ≡ on_lane lane with_list old) → OnErr r (new ≡ old) → AreSpelled new

@@ -27,7 +27,14 @@ impl<T> Nodes<T> {
             }
             None => {
                 let ends = self.ends(lane, list);
-                self.set_ends(lane, list, Ends { first: next, ..ends });
+                self.set_ends(
+                    lane,
+                    list,
+                    Ends {
+                        first: next,
+                        ..ends
+                    },
+                );
             }
         }
     }
@@ -50,7 +57,14 @@ impl<T> Nodes<T> {
             }
             None => {
                 let ends = self.ends(lane, list);
-                self.set_ends(lane, list, Ends { last: previous, ..ends });
+                self.set_ends(
+                    lane,
+                    list,
+                    Ends {
+                        last: previous,
+                        ..ends
+                    },
+                );
             }
         }
     }

@@ -46,8 +46,7 @@ impl<T> Nodes<T> {
     ghost use Rattle.link_lists.specs.SlotLends.{lends_slot};
 
     pub(crate) fn new(alloc: Global) -> Nodes<T>
-        ensures {
-            result ≡ record { slots = []; first = no_strand; second = no_strand; spare = 0 } }
+        ensures { result ≡ record { slots = []; first = no_strand; second = no_strand; spare = 0 } }
     {
         Nodes {
             nodes: Slab::new(alloc),

@@ -16,4 +16,4 @@ returns-clause-free_second g c =
 pub returns-clause-rest : goal.returns-clause-rest
 returns-clause-rest g c =
     rw (← c.self.view_is)
-      (stored c.self.inside.nodes c.insert.new.self c.insert.result c.args.value c.self.invariant c.alike.ensures c.insert.ensures.vacant c.insert.ensures.gains).seen
+    (stored c.self.inside.nodes c.insert.new.self c.insert.result c.args.value c.self.invariant c.alike.ensures c.insert.ensures.vacant c.insert.ensures.gains).seen

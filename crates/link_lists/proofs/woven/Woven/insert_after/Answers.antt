@@ -12,10 +12,10 @@ pub invariant_of-self : goal.invariant_of-self
 invariant_of-self g c =
     let r = c.requires in
     (put_key c.args.lane c.self.inside.nodes c.place.new.self c.args.self.now c.args.at c.args.key c.link-found.result
-      c.self.view_is c.self.invariant c.alike.ensures r.stands r.has_value r.free c.link-found.ensures c.place.ensures).spelled
+    c.self.view_is c.self.invariant c.alike.ensures r.stands r.has_value r.free c.link-found.ensures c.place.ensures).spelled
 
 pub returns : goal.returns
 returns g c =
     let r = c.requires in
     (put_key c.args.lane c.self.inside.nodes c.place.new.self c.args.self.now c.args.at c.args.key c.link-found.result
-      c.self.view_is c.self.invariant c.alike.ensures r.stands r.has_value r.free c.link-found.ensures c.place.ensures).seen
+    c.self.view_is c.self.invariant c.alike.ensures r.stands r.has_value r.free c.link-found.ensures c.place.ensures).seen

@@ -9,10 +9,10 @@ pub invariant_of-self : goal.invariant_of-self
 invariant_of-self g c =
     let r = c.requires in
     (pushed_key c.args.lane c.self.inside.nodes c.place.new.self c.args.self.now c.args.list c.args.key c.ends-ends.result
-      c.self.view_is c.self.invariant c.alike.ensures r.has_list r.has_value r.free c.ends-ends.ensures c.place.ensures).spelled
+    c.self.view_is c.self.invariant c.alike.ensures r.has_list r.has_value r.free c.ends-ends.ensures c.place.ensures).spelled
 
 pub returns : goal.returns
 returns g c =
     let r = c.requires in
     (pushed_key c.args.lane c.self.inside.nodes c.place.new.self c.args.self.now c.args.list c.args.key c.ends-ends.result
-      c.self.view_is c.self.invariant c.alike.ensures r.has_list r.has_value r.free c.ends-ends.ensures c.place.ensures).seen
+    c.self.view_is c.self.invariant c.alike.ensures r.has_list r.has_value r.free c.ends-ends.ensures c.place.ensures).seen

@@ -15,9 +15,9 @@ tie-requires-clause-after g c =
 pub invariant_of-self : goal.invariant_of-self
 invariant_of-self g c =
     (taken_out c.args.lane c.self.inside.nodes c.tie.new.self c.args.self.now c.args.key c.link-link.result
-      c.self.view_is c.self.invariant c.requires c.link-link.ensures c.tie.ensures).spelled
+    c.self.view_is c.self.invariant c.requires c.link-link.ensures c.tie.ensures).spelled
 
 pub returns : goal.returns
 returns g c =
     (taken_out c.args.lane c.self.inside.nodes c.tie.new.self c.args.self.now c.args.key c.link-link.result
-      c.self.view_is c.self.invariant c.requires c.link-link.ensures c.tie.ensures).seen
+    c.self.view_is c.self.invariant c.requires c.link-link.ensures c.tie.ensures).seen
