@@ -7,20 +7,24 @@ use Rattle.link_lists.specs.Lanes.{StandsIn, IsKeyAfter, first_key}
 use Rattle.link_lists.proofs.LaneLemmas.{stands_at, stands_in}
 
 -- the first of the keys after this point of a list stands in the lane
-front_stands : (lane : List (List ℕ)) (list : ℕ) (before after : List ℕ) → slice_get lane list ≡ Some (before ++ after) →
+front_stands : (lane : List (List ℕ)) (list : ℕ) (before after : List ℕ) →
+    slice_get lane list ≡ Some (before ++ after) →
     IfSome (first_key after) (λ key. StandsIn key lane)
 front_stands lane list before [] here = tt
 front_stands lane list before (key ∷ after) here = stands_in key lane list before after here
 
 -- what `front` returns stands in the lane
-pub first_stands : (lane : List (List ℕ)) (list : ℕ) (r : Option ℕ) → list < length lane → r ≡ first_key (get_or lane list []) →
+pub first_stands : (lane : List (List ℕ)) (list : ℕ) (r : Option ℕ) → list < length lane →
+    r ≡ first_key (get_or lane list []) →
     IfSome r (λ key. StandsIn key lane)
 first_stands lane list r within is =
     rw is (front_stands lane list [] (get_or lane list []) (slice_get-get_or lane list [] within))
 
 -- what `next` returns stands in the lane
-pub next_stands : (lane : List (List ℕ)) (key : ℕ) (r : Option ℕ) → StandsIn key lane → IsKeyAfter key lane r → IfSome r (λ next. StandsIn next lane)
+pub next_stands : (lane : List (List ℕ)) (key : ℕ) (r : Option ℕ) → StandsIn key lane → IsKeyAfter key lane r →
+    IfSome r (λ next. StandsIn next lane)
 next_stands lane key r stands after =
     let s = stands_at key lane stands in
     rw (after s.list s.front s.back s.here)
-    (front_stands lane s.list (s.front ++ key ∷ []) s.back (s.here ∙ ap (λ ks. Some ks) (sym (append_assoc s.front (key ∷ []) s.back))))
+    (front_stands lane s.list (s.front ++ key ∷ []) s.back
+    (s.here ∙ ap (λ ks. Some ks) (sym (append_assoc s.front (key ∷ []) s.back))))

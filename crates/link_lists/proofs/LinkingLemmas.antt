@@ -13,40 +13,57 @@ use Rattle.link_lists.specs.Linking.{CanWrite, with_next, with_previous, next_se
 
 module _ {T : Type 0} where
   -- what a change of a lane makes of it
-  pub strand_on_lane : (lane : Lane) (change : Strand → Strand) (nodes : Nodes T) → strand_of lane (on_lane lane change nodes) ≡ change (strand_of lane nodes)
+  pub strand_on_lane : (lane : Lane) (change : Strand → Strand) (nodes : Nodes T) →
+      strand_of lane (on_lane lane change nodes) ≡ change (strand_of lane nodes)
   strand_on_lane First change nodes = refl
   strand_on_lane Second change nodes = refl
 
-  pub next_written : (lane : Lane) (nodes : Nodes T) (list key : ℕ) (next : Option ℕ) (link : Link) → link_of (strand_of lane nodes) key ≡ Some link →
-      on_lane lane (with_link key (record link { next = next })) nodes ≡ on_lane lane (next_set list (Some key) next) nodes
+  pub next_written : (lane : Lane) (nodes : Nodes T) (list key : ℕ) (next : Option ℕ) (link : Link) →
+      link_of (strand_of lane nodes) key ≡ Some link →
+      on_lane lane (with_link key (record link { next = next })) nodes ≡ on_lane lane
+      (next_set list (Some key) next) nodes
   next_written First nodes list key next link found =
-      ap (λ (o : Option Link). on_lane First (λ s. record s { links = set s.links key o }) nodes) (sym (ap (option_map (with_next next)) found))
+      ap (λ (o : Option Link). on_lane First (λ s. record s { links = set s.links key o }) nodes)
+      (sym (ap (option_map (with_next next)) found))
   next_written Second nodes list key next link found =
-      ap (λ (o : Option Link). on_lane Second (λ s. record s { links = set s.links key o }) nodes) (sym (ap (option_map (with_next next)) found))
+      ap (λ (o : Option Link). on_lane Second (λ s. record s { links = set s.links key o }) nodes)
+      (sym (ap (option_map (with_next next)) found))
 
-  pub previous_written : (lane : Lane) (nodes : Nodes T) (list key : ℕ) (previous : Option ℕ) (link : Link) → link_of (strand_of lane nodes) key ≡ Some link →
-      on_lane lane (with_link key (record link { previous = previous })) nodes ≡ on_lane lane (previous_set list (Some key) previous) nodes
+  pub previous_written : (lane : Lane) (nodes : Nodes T) (list key : ℕ) (previous : Option ℕ) (link : Link) →
+      link_of (strand_of lane nodes) key ≡ Some link →
+      on_lane lane (with_link key (record link { previous = previous })) nodes ≡ on_lane lane
+      (previous_set list (Some key) previous) nodes
   previous_written First nodes list key previous link found =
-      ap (λ (o : Option Link). on_lane First (λ s. record s { links = set s.links key o }) nodes) (sym (ap (option_map (with_previous previous)) found))
+      ap (λ (o : Option Link). on_lane First (λ s. record s { links = set s.links key o }) nodes)
+      (sym (ap (option_map (with_previous previous)) found))
   previous_written Second nodes list key previous link found =
-      ap (λ (o : Option Link). on_lane Second (λ s. record s { links = set s.links key o }) nodes) (sym (ap (option_map (with_previous previous)) found))
+      ap (λ (o : Option Link). on_lane Second (λ s. record s { links = set s.links key o }) nodes)
+      (sym (ap (option_map (with_previous previous)) found))
 
-  pub first_written : (lane : Lane) (nodes : Nodes T) (list : ℕ) (next : Option ℕ) (ends : Ends) → slice_get (strand_of lane nodes).ends list ≡ Some ends →
+  pub first_written : (lane : Lane) (nodes : Nodes T) (list : ℕ) (next : Option ℕ) (ends : Ends) →
+      slice_get (strand_of lane nodes).ends list ≡ Some ends →
       on_lane lane (with_ends list (record ends { first = next })) nodes ≡ on_lane lane (next_set list None next) nodes
   first_written First nodes list next ends found =
-      ap (λ (e : Ends). on_lane First (with_ends list (record e { first = next })) nodes) (sym (get_or_from_slice_get nodes.first.ends list ends no_ends found))
+      ap (λ (e : Ends). on_lane First (with_ends list (record e { first = next })) nodes)
+      (sym (get_or_from_slice_get nodes.first.ends list ends no_ends found))
   first_written Second nodes list next ends found =
-      ap (λ (e : Ends). on_lane Second (with_ends list (record e { first = next })) nodes) (sym (get_or_from_slice_get nodes.second.ends list ends no_ends found))
+      ap (λ (e : Ends). on_lane Second (with_ends list (record e { first = next })) nodes)
+      (sym (get_or_from_slice_get nodes.second.ends list ends no_ends found))
 
-  pub last_written : (lane : Lane) (nodes : Nodes T) (list : ℕ) (previous : Option ℕ) (ends : Ends) → slice_get (strand_of lane nodes).ends list ≡ Some ends →
-      on_lane lane (with_ends list (record ends { last = previous })) nodes ≡ on_lane lane (previous_set list None previous) nodes
+  pub last_written : (lane : Lane) (nodes : Nodes T) (list : ℕ) (previous : Option ℕ) (ends : Ends) →
+      slice_get (strand_of lane nodes).ends list ≡ Some ends →
+      on_lane lane (with_ends list (record ends { last = previous })) nodes ≡ on_lane lane
+      (previous_set list None previous) nodes
   last_written First nodes list previous ends found =
-      ap (λ (e : Ends). on_lane First (with_ends list (record e { last = previous })) nodes) (sym (get_or_from_slice_get nodes.first.ends list ends no_ends found))
+      ap (λ (e : Ends). on_lane First (with_ends list (record e { last = previous })) nodes)
+      (sym (get_or_from_slice_get nodes.first.ends list ends no_ends found))
   last_written Second nodes list previous ends found =
-      ap (λ (e : Ends). on_lane Second (with_ends list (record e { last = previous })) nodes) (sym (get_or_from_slice_get nodes.second.ends list ends no_ends found))
+      ap (λ (e : Ends). on_lane Second (with_ends list (record e { last = previous })) nodes)
+      (sym (get_or_from_slice_get nodes.second.ends list ends no_ends found))
 
 -- a key has something still after something is written at a key that had something
-pub some_set : {A : Type 0} (xs : List (Option A)) (key other : ℕ) (o : Option A) → (IsSome (get_or xs key None) → IsSome o) →
+pub some_set : {A : Type 0} (xs : List (Option A)) (key other : ℕ) (o : Option A) →
+    (IsSome (get_or xs key None) → IsSome o) →
     IsSome (get_or xs other None) → IsSome (get_or (set xs key o) other None)
 some_set xs key other o keeps found =
     elim (cases_eq other key) [
@@ -58,7 +75,8 @@ some_set xs key other o keeps found =
     ]
 
 -- what can be written can be written still after a link was
-pub write_after_link : (list : ℕ) (other : Option ℕ) (key : ℕ) (link : Link) (strand : Strand) → CanWrite list other strand → CanWrite list other (with_link key link strand)
+pub write_after_link : (list : ℕ) (other : Option ℕ) (key : ℕ) (link : Link) (strand : Strand) →
+    CanWrite list other strand → CanWrite list other (with_link key link strand)
 write_after_link list None key link strand can = can
 write_after_link list (Some other) key link strand can = some_set strand.links key other (Some link) (λ _. refl) can
 
@@ -67,9 +85,11 @@ some_mapped f None found = found
 some_mapped f (Some x) found = refl
 
 -- and after the next key was
-pub write_after_next : (list : ℕ) (other : Option ℕ) (list' : ℕ) (key next : Option ℕ) (strand : Strand) → CanWrite list other strand → CanWrite list other (next_set list' key next strand)
+pub write_after_next : (list : ℕ) (other : Option ℕ) (list' : ℕ) (key next : Option ℕ) (strand : Strand) →
+    CanWrite list other strand → CanWrite list other (next_set list' key next strand)
 write_after_next list None list' None next strand can = rw length-set can
 write_after_next list None list' (Some key) next strand can = can
 write_after_next list (Some other) list' None next strand can = can
 write_after_next list (Some other) list' (Some key) next strand can =
-    some_set strand.links key other (option_map (with_next next) (link_of strand key)) (some_mapped (with_next next) (link_of strand key)) can
+    some_set strand.links key other (option_map (with_next next) (link_of strand key))
+    (some_mapped (with_next next) (link_of strand key)) can

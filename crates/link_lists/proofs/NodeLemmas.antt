@@ -30,7 +30,8 @@ pub seen_kept : {A B : Type 0} (f : A → B) (xs : List (Option A)) (key : ℕ) 
     get_or xs key None ≡ Some old → f new ≡ f old → map (option_map f) (set xs key (Some new)) ≡ map (option_map f) xs
 seen_kept f xs key old new found same =
     map-set (option_map f) xs key (Some new)
-    ∙ ap (λ o. set (map (option_map f) xs) key o) (ap (λ b. Some b) same ∙ ap (option_map f) (sym found) ∙ sym (seen_at f xs key))
+    ∙ ap (λ o. set (map (option_map f) xs) key o) (ap (λ b. Some b) same ∙ ap (option_map f) (sym found)
+    ∙ sym (seen_at f xs key))
     ∙ set-get_or (map (option_map f) xs) key None
 
 -- a key with something lies within the list
@@ -41,7 +42,8 @@ some_within xs key x found = grind (arith, get_or_past)
 pub count_kept : {A : Type 0} (xs : List (Option A)) (key : ℕ) (old new : A) →
     get_or xs key None ≡ Some old → count_by is_some (set xs key (Some new)) ≡ count_by is_some xs
 count_kept {A} xs key old new found =
-    let sums : count_by is_some (set xs key (Some new)) + cond {A = ℕ} (is_some (get_or xs key None)) 1 0 ≡ count_by is_some xs + 1 =
+    let sums : count_by is_some (set xs key (Some new)) + cond {A = ℕ}
+    (is_some (get_or xs key None)) 1 0 ≡ count_by is_some xs + 1 =
     sum_by-set (λ (o : Option A). cond (is_some o) 1 0) xs key (Some new) None (some_within xs key old found)
     in
     let one : cond {A = ℕ} (is_some (get_or xs key None)) 1 0 ≡ 1 = ap (λ (o : Option A). cond (is_some o) 1 0) found in
@@ -54,8 +56,10 @@ module _ {T : Type 0} where
     second = both_some (λ n. n.second) (λ n. n.value) slab.slots;
   }
 
-  pub first_written : (slab : Slab (Node T)) (f s : List Ends) (key : ℕ) (node : Node T) (link : Link) → get slab key ≡ Some node →
-      nodes_seen (with_value slab key (record node { first = link })) f s ≡ on_lane First (with_link key link) (nodes_seen slab f s)
+  pub first_written : (slab : Slab (Node T)) (f s : List Ends) (key : ℕ) (node : Node T) (link : Link) →
+      get slab key ≡ Some node →
+      nodes_seen (with_value slab key (record node { first = link })) f s ≡ on_lane First (with_link key link)
+      (nodes_seen slab f s)
   first_written slab f s key node link found =
       let new : Node T = record node { first = link } in
       let slots = seen_kept (λ n. n.value) slab.slots key node new found refl in
@@ -69,8 +73,10 @@ module _ {T : Type 0} where
         spare = slab.capacity - len i;
       }
 
-  pub second_written : (slab : Slab (Node T)) (f s : List Ends) (key : ℕ) (node : Node T) (link : Link) → get slab key ≡ Some node →
-      nodes_seen (with_value slab key (record node { second = link })) f s ≡ on_lane Second (with_link key link) (nodes_seen slab f s)
+  pub second_written : (slab : Slab (Node T)) (f s : List Ends) (key : ℕ) (node : Node T) (link : Link) →
+      get slab key ≡ Some node →
+      nodes_seen (with_value slab key (record node { second = link })) f s ≡ on_lane Second (with_link key link)
+      (nodes_seen slab f s)
   second_written slab f s key node link found =
       let new : Node T = record node { second = link } in
       let slots = seen_kept (λ n. n.value) slab.slots key node new found refl in
@@ -88,9 +94,11 @@ module _ {T : Type 0} where
       slab_len new + 1 ≡ slab_len old → HasRoomFor new 1 → new.capacity ≡ old.capacity →
       nodes_seen new f s ≡ without_node key (nodes_seen old f s)
   removed old new f s key slots len room capacity =
-      let seen_slots = ap (map (option_map (λ n. n.value))) slots ∙ map-set (option_map (λ n. n.value)) old.slots key None in
+      let seen_slots = ap (map (option_map (λ n. n.value))) slots
+      ∙ map-set (option_map (λ n. n.value)) old.slots key None in
       let first = ap (map (option_map (λ n. n.first))) slots ∙ map-set (option_map (λ n. n.first)) old.slots key None in
-      let second = ap (map (option_map (λ n. n.second))) slots ∙ map-set (option_map (λ n. n.second)) old.slots key None in
+      let second = ap (map (option_map (λ n. n.second))) slots
+      ∙ map-set (option_map (λ n. n.second)) old.slots key None in
       let spare : new.capacity - slab_len new ≡ old.capacity - slab_len old + 1 = omega arith in
       λ i. record {
         slots = seen_slots i;
@@ -99,12 +107,15 @@ module _ {T : Type 0} where
         spare = spare i;
       }
 
-  seen_others : {B : Type 0} (v : Node T → B) (old new : Slab (Node T)) (key : ℕ) → ((other : ℕ) → other ≢ key → get new other ≡ get old other) →
-      (other : ℕ) → other ≢ key → get_or (map (option_map v) new.slots) other None ≡ get_or (map (option_map v) old.slots) other None
+  seen_others : {B : Type 0} (v : Node T → B) (old new : Slab (Node T)) (key : ℕ) →
+      ((other : ℕ) → other ≢ key → get new other ≡ get old other) →
+      (other : ℕ) → other ≢ key → get_or (map (option_map v) new.slots) other None ≡ get_or
+      (map (option_map v) old.slots) other None
   seen_others v old new key others other differs =
       seen_at v new.slots other ∙ ap (option_map v) (others other differs) ∙ sym (seen_at v old.slots other)
 
-  pub inserted : (old new : Slab (Node T)) (f s : List Ends) (key : ℕ) (node : Node T) → Updates old new key (Some node) →
+  pub inserted : (old new : Slab (Node T)) (f s : List Ends) (key : ℕ) (node : Node T) →
+      Updates old new key (Some node) →
       slab_len new ≡ slab_len old + 1 → 0 < old.capacity - slab_len old → new.capacity ≡ old.capacity →
       GainsValue (nodes_seen old f s) (nodes_seen new f s) key node.value
   inserted old new f s key node updates len room capacity = record {
@@ -115,7 +126,8 @@ module _ {T : Type 0} where
     spare = omega arith;
   }
 
-  pub value_written : (slab : Slab (Node T)) (f s : List Ends) (key : ℕ) (node : Node T) (value : T) → get slab key ≡ Some node →
+  pub value_written : (slab : Slab (Node T)) (f s : List Ends) (key : ℕ) (node : Node T) (value : T) →
+      get slab key ≡ Some node →
       nodes_seen (with_value slab key (record node { value = value })) f s ≡ with_slot (nodes_seen slab f s) key value
   value_written slab f s key node value found =
       let new : Node T = record node { value = value } in

@@ -55,24 +55,34 @@ tail_of (x ∷ xs) = xs
 
 module _ (list : ℕ) where
   -- a spelled list in two parts
-  pub spells_parts : (links : List (Option Link)) (before : Option ℕ) (xs ys : List ℕ) (after : Option ℕ) → Spells links list before (xs ++ ys) after →
+  pub spells_parts : (links : List (Option Link)) (before : Option ℕ) (xs ys : List ℕ) (after : Option ℕ) →
+      Spells links list before (xs ++ ys) after →
       Spells links list before xs (first_or ys after) × Spells links list (last_or before xs) ys after
   spells_parts links before [] ys after spells = (tt, spells)
   spells_parts links before (x ∷ xs) ys after spells =
-      let rest = spells_parts links (Some x) xs ys after spells.1 in
-      ((spells.0 ∙ ap (λ (n : Option ℕ). Some (record { list = list; previous = before; next = n })) (first_append xs ys after), rest.0), rest.1)
+      let rest = spells_parts links (Some x) xs ys after spells.1 in (
+        (
+          spells.0 ∙ ap (λ (n : Option ℕ). Some (record { list = list; previous = before; next = n }))
+              (first_append xs ys after),
+          rest.0,
+        ),
+        rest.1,
+      )
 
   -- and put together
-  pub spells_joined : (links : List (Option Link)) (before : Option ℕ) (xs ys : List ℕ) (after : Option ℕ) → Spells links list before xs (first_or ys after) →
+  pub spells_joined : (links : List (Option Link)) (before : Option ℕ) (xs ys : List ℕ) (after : Option ℕ) →
+      Spells links list before xs (first_or ys after) →
       Spells links list (last_or before xs) ys after → Spells links list before (xs ++ ys) after
   spells_joined links before [] ys after front back = back
   spells_joined links before (x ∷ xs) ys after front back = (
-    front.0 ∙ ap (λ (n : Option ℕ). Some (record { list = list; previous = before; next = n })) (sym (first_append xs ys after)),
+    front.0 ∙ ap (λ (n : Option ℕ). Some (record { list = list; previous = before; next = n }))
+        (sym (first_append xs ys after)),
     spells_joined links (Some x) xs ys after front.1 back,
   )
 
   -- what is written at a key that isn't one of these
-  pub spells_kept : (links : List (Option Link)) (before : Option ℕ) (keys : List ℕ) (after : Option ℕ) (key : ℕ) (o : Option Link) → Lacks key keys →
+  pub spells_kept : (links : List (Option Link)) (before : Option ℕ) (keys : List ℕ) (after : Option ℕ) (key : ℕ)
+      (o : Option Link) → Lacks key keys →
       Spells links list before keys after → Spells (set links key o) list before keys after
   spells_kept links before [] after key o lacks spells = tt
   spells_kept links before (k ∷ keys) after key o lacks spells = (
@@ -81,7 +91,8 @@ module _ (list : ℕ) where
   )
 
   -- a key whose link names another list isn't one of these
-  pub lacks_other : (links : List (Option Link)) (before : Option ℕ) (keys : List ℕ) (after : Option ℕ) (key : ℕ) (link : Link) →
+  pub lacks_other : (links : List (Option Link)) (before : Option ℕ) (keys : List ℕ) (after : Option ℕ) (key : ℕ)
+      (link : Link) →
       get_or links key None ≡ Some link → link.list ≢ list → Spells links list before keys after → Lacks key keys
   lacks_other links before [] after key link found differs spells = tt
   lacks_other links before (k ∷ keys) after key link found differs spells = (
@@ -99,12 +110,14 @@ module _ (list : ℕ) where
       get_or links key None ≡ None → Spells links list before keys after → Lacks key keys
   lacks_vacant links before [] after key found spells = tt
   lacks_vacant links before (k ∷ keys) after key found spells = (
-    λ same. let e : None ≡ Some (record { list = list; previous = before; next = first_or keys after }) = sym found ∙ ap (λ q. get_or links q None) same ∙ spells.0 in cc,
+    λ same. let e : None ≡ Some (record { list = list; previous = before; next = first_or keys after }) = sym found
+        ∙ ap (λ q. get_or links q None) same ∙ spells.0 in cc,
     lacks_vacant links (Some k) keys after key found spells.1,
   )
 
   -- what is spelled to its end from one key is one list
-  pub spelled_once : (links : List (Option Link)) (b c : Option ℕ) (xs ys : List ℕ) → Spells links list b xs None → Spells links list c ys None →
+  pub spelled_once : (links : List (Option Link)) (b c : Option ℕ) (xs ys : List ℕ) → Spells links list b xs None →
+      Spells links list c ys None →
       first_or xs None ≡ first_or ys None → xs ≡ ys
   spelled_once links b c [] [] p q same = refl
   spelled_once links b c [] (y ∷ ys) p q same = absurd cc
@@ -118,25 +131,34 @@ module _ (list : ℕ) where
       cc
 
   -- no key stands twice in it
-  pub spelled_lacks : (links : List (Option Link)) (before : Option ℕ) (key : ℕ) (whole front back : List ℕ) → Spells links list before (key ∷ whole) None →
+  pub spelled_lacks : (links : List (Option Link)) (before : Option ℕ) (key : ℕ) (whole front back : List ℕ) →
+      Spells links list before (key ∷ whole) None →
       whole ≡ front ++ back → Lacks key back
   spelled_lacks links before key whole front [] spells parts = tt
   spelled_lacks links before key whole front (k ∷ back) spells parts = (
     λ same.
         let tail = subst (λ w. Spells links list (Some key) w None) parts spells.1 in
         let from_k = (spells_parts links (Some key) front (k ∷ back) None tail).1 in
-        let e : key ∷ whole ≡ k ∷ back = spelled_once links before (last_or (Some key) front) (key ∷ whole) (k ∷ back) spells from_k (ap Some same) in
-        let lengths : length (front ++ k ∷ back) ≡ length back = ap length (sym parts) ∙ ap (λ xs. length (tail_of xs)) e in
+        let e : key ∷ whole ≡ k ∷ back = spelled_once links before (last_or (Some key) front) (key ∷ whole)
+        (k ∷ back) spells from_k (ap Some same) in
+        let lengths : length (front ++ k ∷ back) ≡ length back = ap length (sym parts)
+        ∙ ap (λ xs. length (tail_of xs)) e in
         omega (arith, lengths, length-append front (k ∷ back)),
     spelled_lacks links before key whole (front ++ k ∷ []) back spells (parts ∙ sym (append_assoc front (k ∷ []) back)),
   )
 
-  pub spelled_apart : (links : List (Option Link)) (before : Option ℕ) (keys : List ℕ) → Spells links list before keys None → AreOnce keys
+  pub spelled_apart : (links : List (Option Link)) (before : Option ℕ) (keys : List ℕ) →
+      Spells links list before keys None → AreOnce keys
   spelled_apart links before [] spells = tt
-  spelled_apart links before (k ∷ keys) spells = (spelled_lacks links before k keys [] keys spells refl, spelled_apart links (Some k) keys spells.1)
+  spelled_apart links before (k ∷ keys) spells = (
+    spelled_lacks links before k keys [] keys spells refl,
+    spelled_apart
+        links (Some k) keys spells.1,
+  )
 
   -- a walk meets what is spelled
-  pub walk_spelled : (links : List (Option Link)) (before : Option ℕ) (keys : List ℕ) (fuel : ℕ) → Spells links list before keys None → length keys ≤ fuel →
+  pub walk_spelled : (links : List (Option Link)) (before : Option ℕ) (keys : List ℕ) (fuel : ℕ) →
+      Spells links list before keys None → length keys ≤ fuel →
       walk links fuel (first_or keys None) ≡ keys
   walk_spelled links before [] zero spells enough = refl
   walk_spelled links before [] (suc fuel) spells enough = refl
@@ -146,7 +168,8 @@ module _ (list : ℕ) where
       ∙ ap (λ rest. k ∷ rest) (walk_spelled links (Some k) keys fuel spells.1 (omega arith))
 
   -- each of these keys has a link, in this list
-  pub spelled_has : (links : List (Option Link)) (before : Option ℕ) (xs : List ℕ) (key : ℕ) (ys : List ℕ) (after : Option ℕ) →
+  pub spelled_has : (links : List (Option Link)) (before : Option ℕ) (xs : List ℕ) (key : ℕ) (ys : List ℕ)
+      (after : Option ℕ) →
       Spells links list before (xs ++ key ∷ ys) after →
       get_or links key None ≡ Some (record { list = list; previous = last_or before xs; next = first_or ys after })
   spelled_has links before xs key ys after spells = (spells_parts links before xs (key ∷ ys) after spells).1.0

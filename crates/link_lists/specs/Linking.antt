@@ -40,7 +40,8 @@ previous_set list (Some key) previous strand = record strand {
 
 -- the strand where the second key comes directly after the first
 abbrev pub tied : ℕ → Option ℕ → Option ℕ → Strand → Strand
-tied list previous next strand = previous_set list next previous (next_set list previous next strand)
+tied list previous next strand =
+    previous_set list next previous (next_set list previous next strand)
 
 -- the strand where the key stands as this link says
 abbrev pub placed : ℕ → Link → Strand → Strand

@@ -26,7 +26,8 @@ pub record Nodes (T : Type 0) : Type 0 where
 abbrev pub strand_code : Coded Strand
 strand_code =
     code_by (List (Option Link) × List Ends)
-    (coded× (coded_list (coded_option link_type.the_row.coded)) (coded_list ends_type.the_row.coded))
+    (coded× (coded_list (coded_option link_type.the_row.coded))
+    (coded_list ends_type.the_row.coded))
     (λ s. (s.links, s.ends)) (λ p. record { links = p.0; ends = p.1 }) (λ _. refl)
 
 -- nodes are stored as their parts

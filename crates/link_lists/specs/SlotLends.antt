@@ -1,4 +1,5 @@
--- What nodes end as, where a `&mut` to one of their values is returned. No public clause cites this module.
+-- What nodes end as, where a `&mut` to one of their values is returned.
+-- No public clause cites this module.
 use Rattle.std.specs.Prelude.{ℕ}
 use Rattle.std.specs.Borrow.{Lends, RattleType, MutBor, Fml}
 use Rattle.link_lists.specs.Nodes.{Nodes, with_slot}

@@ -49,7 +49,8 @@ ends_of keys = record { first = first_or keys None; last = last_or None keys }
 abbrev pub Spells : List (Option Link) → ℕ → Option ℕ → List ℕ → Option ℕ → Type 0
 Spells links list before [] after = ⊤
 Spells links list before (key ∷ keys) after =
-    (slice_index_or links key None ≡ Some (record { list = list; previous = before; next = first_or keys after }))
+    (slice_index_or links key None
+    ≡ Some (record { list = list; previous = before; next = first_or keys after }))
     × Spells links list (Some key) keys after
 
 -- the strand's ends and links spell these lists

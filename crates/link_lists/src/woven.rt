@@ -47,7 +47,8 @@ impl<T> Woven<T> {
     /// memory runs out, and then changes nothing.
     pub fn add_list(&mut self, lane: Lane) -> Result<usize, AllocError>
         ensures number { IfOk result (λ list. list ≡ length (lane_of lane self.old)) }
-        ensures ok { OnOk result (self.new ≡ with_lane lane (lane_of lane self.old ++ [] ∷ []) self.old) }
+        ensures ok { OnOk result
+            (self.new ≡ with_lane lane (lane_of lane self.old ++ [] ∷ []) self.old) }
         ensures err { OnErr result (self.new ≡ self.old) }
     {
         self.nodes.add_list(lane)
@@ -79,7 +80,8 @@ impl<T> Woven<T> {
         ensures free_second { ¬ StandsIn result self.old.second }
         ensures slots { ChangesSlot self.old self.new result (Some value) }
         ensures spare { self.old.spare ≡ self.new.spare + 1 }
-        ensures rest { self.new ≡ record self.old { slots = self.new.slots; spare = self.new.spare } }
+        ensures rest { self.new
+            ≡ record self.old { slots = self.new.slots; spare = self.new.spare } }
     {
         self.nodes.alike();
         self.nodes.insert(value)
@@ -90,7 +92,8 @@ impl<T> Woven<T> {
         requires has_list { list < length (lane_of lane self.old) }
         requires has_value { IsSome (value_under self.old key) }
         requires free { ¬ StandsIn key (lane_of lane self.old) }
-        ensures { self.new ≡ with_lane lane (pushed_back list key (lane_of lane self.old)) self.old }
+        ensures { self.new
+            ≡ with_lane lane (pushed_back list key (lane_of lane self.old)) self.old }
     {
         self.nodes.alike();
         let ends = self.nodes.ends(lane, list);

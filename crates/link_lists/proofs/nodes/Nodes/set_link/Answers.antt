@@ -7,8 +7,10 @@ returns g c =
     elim c.match-lane.branch [
       | in-First w ↦
           rw (w.self-inside-is, w.in-First.is, ← c.self.view_is)
-          (first_written c.self.inside.nodes _ _ c.args.key c.index_mut-node.result.now c.args.link c.index_mut-node.ensures.value)
+          (first_written c.self.inside.nodes _ _ c.args.key c.index_mut-node.result.now c.args.link
+          c.index_mut-node.ensures.value)
       | in-Second w ↦
           rw (w.self-inside-is, w.in-Second.is, ← c.self.view_is)
-          (second_written c.self.inside.nodes _ _ c.args.key c.index_mut-node.result.now c.args.link c.index_mut-node.ensures.value)
+          (second_written c.self.inside.nodes _ _ c.args.key c.index_mut-node.result.now c.args.link
+          c.index_mut-node.ensures.value)
     ]

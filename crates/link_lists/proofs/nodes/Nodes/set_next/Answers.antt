@@ -7,7 +7,8 @@ use Rattle.link_lists.proofs.nodes.Nodes.set_next.Goals as goal
 pub returns-in-Some : goal.returns-in-Some
 returns-in-Some g c =
     c.set_link.ensures
-    ∙ next_written c.args.lane c.args.self.now c.args.list c.in-Some.key c.args.next c.link-link.result c.link-link.ensures
+    ∙ next_written c.args.lane c.args.self.now c.args.list c.in-Some.key c.args.next c.link-link.result
+    c.link-link.ensures
     ∙ ap (λ (k : Option ℕ). on_lane c.args.lane (next_set c.args.list k c.args.next) c.args.self.now) (sym c.in-Some.is)
 
 pub returns-in-None : goal.returns-in-None
