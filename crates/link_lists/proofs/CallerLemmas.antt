@@ -4,14 +4,14 @@ use Rattle.std.specs.Option.{IfSome}
 use Rattle.std.proofs.lemmas.List.{append_assoc}
 use Rattle.std.proofs.lemmas.Option.{slice_get-get_or}
 use Rattle.link_lists.specs.Lanes.{StandsIn, IsKeyAfter, first_key}
-use Rattle.link_lists.proofs.LaneLemmas.{stands_at, stands_in}
+use Rattle.link_lists.proofs.LaneLemmas.{stands_at, stands_from}
 
 -- the first of the keys after this point of a list stands in the lane
 front_stands : (lane : List (List ℕ)) (list : ℕ) (before after : List ℕ) →
     slice_get lane list ≡ Some (before ++ after) →
     IfSome (first_key after) (λ key. StandsIn key lane)
 front_stands lane list before [] here = tt
-front_stands lane list before (key ∷ after) here = stands_in key lane list before after here
+front_stands lane list before (key ∷ after) here = stands_from key lane list before after here
 
 -- what `front` returns stands in the lane
 pub first_stands : (lane : List (List ℕ)) (list : ℕ) (r : Option ℕ) → list < length lane →

@@ -6,11 +6,11 @@ use Rattle.std.proofs.lemmas.List.{get_or-set_same, get_or-set_other, set-set, s
 use Rattle.std.proofs.lemmas.Option.{slice_get_within}
 use Rattle.link_lists.specs.declared.link.Link.{Link}
 use Rattle.link_lists.specs.declared.link.Ends.{Ends}
-use Rattle.link_lists.specs.Nodes.{Strand, no_ends, with_link}
-use Rattle.link_lists.specs.Linking.{next_set, previous_set, with_next, with_previous, tied, placed}
-use Rattle.link_lists.specs.Spelling.{first_or, last_or, ends_of, Spells, IsSpelled}
+use Rattle.link_lists.specs.Nodes.{Strand, no_ends, link_set}
+use Rattle.link_lists.specs.Linking.{next_set, previous_set, with_next, with_previous, keys_tied, key_placed}
+use Rattle.link_lists.specs.Spelling.{first_or, last_or, ends_of, LinksSpell, SpellsLists}
 use Rattle.link_lists.proofs.NodeLemmas.{some_within}
-use Rattle.link_lists.proofs.SpellLemmas.{Lacks, AreApart, AreOnce, first_append, last_append, lacks_append, once_append, apart_append, apart_without, spells_parts, spells_joined, spells_kept, lacks_other, spelled_has, spelled_apart}
+use Rattle.link_lists.proofs.SpellLemmas.{Lacks, ShareNoKey, AreOnce, first_append, last_append, lacks_append, once_append, apart_append, apart_without, spells_parts, spells_joined, spells_kept, lacks_other, spelled_has, spelled_apart}
 
 -- the element at a place that was written, and at another
 pub slice_get_set : {A : Type 0} (xs : List A) (i : ℕ) (x : A) → i < length xs → slice_get (set xs i x) i ≡ Some x
@@ -42,18 +42,18 @@ empty_or_last (key ∷ keys) =
 
 -- The lane spells these lists, but for this list, which is cut between front and back. After the front comes `after`,
 -- and before the back comes `before`.
-pub record IsCut (lists : List (List ℕ)) (list : ℕ) (front : List ℕ) (after before : Option ℕ) (back : List ℕ)
+pub record IsCutLane (lists : List (List ℕ)) (list : ℕ) (front : List ℕ) (after before : Option ℕ) (back : List ℕ)
     (strand : Strand) : Type 0 where
   pub within : list < length lists
   pub front_once : AreOnce front
   pub back_once : AreOnce back
-  pub apart : AreApart front back
+  pub apart : ShareNoKey front back
   pub ends : strand.ends ≡ set (map ends_of lists) list
       (record { first = first_or front after; last = last_or before back })
-  pub front_spelled : Spells strand.links list None front after
-  pub back_spelled : Spells strand.links list before back None
+  pub front_spelled : LinksSpell strand.links list None front after
+  pub back_spelled : LinksSpell strand.links list before back None
   pub others : (other : ℕ) (keys : List ℕ) → other ≢ list → slice_get lists other ≡ Some keys →
-      Spells strand.links other None keys None
+      LinksSpell strand.links other None keys None
 
 -- the ends of a list that is there
 ends_there : (lists : List (List ℕ)) (list : ℕ) (keys : List ℕ) → slice_get lists list ≡ Some keys →
@@ -73,9 +73,9 @@ ends_split front back = let f = first_append front back None in let l = last_app
 
 module _ (lists : List (List ℕ)) (list : ℕ) where
   -- a lane can be cut before any key
-  pub cut_between : (strand : Strand) (front back : List ℕ) → IsSpelled strand lists →
+  pub cut_between : (strand : Strand) (front back : List ℕ) → SpellsLists strand lists →
       slice_get lists list ≡ Some (front ++ back) →
-      IsCut lists list front (first_or back None) (last_or None front) back strand
+      IsCutLane lists list front (first_or back None) (last_or None front) back strand
   cut_between strand front back spelled here =
       let whole = spelled.spelled list (front ++ back) here in
       let parts = spells_parts list strand.links None front back None whole in
@@ -93,9 +93,9 @@ module _ (lists : List (List ℕ)) (list : ℕ) where
       }
 
   -- and round a key, which is left out
-  pub cut_round : (strand : Strand) (front : List ℕ) (key : ℕ) (back : List ℕ) → IsSpelled strand lists →
+  pub cut_round : (strand : Strand) (front : List ℕ) (key : ℕ) (back : List ℕ) → SpellsLists strand lists →
       slice_get lists list ≡ Some (front ++ key ∷ back) →
-      IsCut lists list front (Some key) (Some key) back strand
+      IsCutLane lists list front (Some key) (Some key) back strand
   cut_round strand front key back spelled here =
       let c = cut_between strand front (key ∷ back) spelled here in
       record {
@@ -111,10 +111,10 @@ module _ (lists : List (List ℕ)) (list : ℕ) where
 
   -- a link written at a key that stands nowhere
   pub key_written : (front back : List ℕ) (after before : Option ℕ) (strand : Strand) (key : ℕ) (link : Link) →
-      IsCut lists list front after before back strand →
+      IsCutLane lists list front after before back strand →
       Lacks key front → Lacks key back → ((other : ℕ) (keys : List ℕ) → slice_get lists other ≡ Some keys →
       Lacks key keys) →
-      IsCut lists list front after before back (with_link key link strand)
+      IsCutLane lists list front after before back (link_set key link strand)
   key_written front back after before strand key link c no_front no_back nowhere = record {
     within = c.within;
     front_once = c.front_once;
@@ -147,8 +147,8 @@ module _ (lists : List (List ℕ)) (list : ℕ) where
 
   -- what comes next is written where nothing stands before the cut
   next_at_start : (back : List ℕ) (after before next : Option ℕ) (strand : Strand) →
-      IsCut lists list [] after before back strand →
-      IsCut lists list [] next before back (next_set list None next strand)
+      IsCutLane lists list [] after before back strand →
+      IsCutLane lists list [] next before back (next_set list None next strand)
   next_at_start back after before next strand c = record {
     within = c.within;
     front_once = tt;
@@ -164,8 +164,8 @@ module _ (lists : List (List ℕ)) (list : ℕ) where
 
   -- and at the last key before the cut
   next_at_key : (front : List ℕ) (key : ℕ) (back : List ℕ) (after before next : Option ℕ) (strand : Strand) →
-      IsCut lists list (front ++ key ∷ []) after before back strand →
-      IsCut lists list (front ++ key ∷ []) next before back (next_set list (Some key) next strand)
+      IsCutLane lists list (front ++ key ∷ []) after before back strand →
+      IsCutLane lists list (front ++ key ∷ []) next before back (next_set list (Some key) next strand)
   next_at_key front key back after before next strand c =
       let old : Link = record { list = list; previous = last_or None front; next = after } in
       let new : Link = record { list = list; previous = last_or None front; next = next } in
@@ -197,28 +197,28 @@ module _ (lists : List (List ℕ)) (list : ℕ) where
 
   -- whatever stands before the cut
   pub next_written : (front back : List ℕ) (after before next : Option ℕ) (strand : Strand) →
-      IsCut lists list front after before back strand →
-      IsCut lists list front next before back (next_set list (last_or None front) next strand)
+      IsCutLane lists list front after before back strand →
+      IsCutLane lists list front next before back (next_set list (last_or None front) next strand)
   next_written front back after before next strand c =
       elim (empty_or_last front) [
         | inl none ↦
-            subst (λ (f : List ℕ). IsCut lists list f next before back (next_set list (last_or None f) next strand))
+            subst (λ (f : List ℕ). IsCutLane lists list f next before back (next_set list (last_or None f) next strand))
             (sym none)
             (next_at_start back after before next strand
-            (subst (λ (f : List ℕ). IsCut lists list f after before back strand) none c))
+            (subst (λ (f : List ℕ). IsCutLane lists list f after before back strand) none c))
         | inr some ↦
-            subst (λ (f : List ℕ). IsCut lists list f next before back (next_set list (last_or None f) next strand))
+            subst (λ (f : List ℕ). IsCutLane lists list f next before back (next_set list (last_or None f) next strand))
             (sym some.parts)
-            (subst (λ (k : Option ℕ). IsCut lists list (some.front ++ some.last ∷ []) next before back
+            (subst (λ (k : Option ℕ). IsCutLane lists list (some.front ++ some.last ∷ []) next before back
             (next_set list k next strand)) (sym (last_append None some.front (some.last ∷ [])))
             (next_at_key some.front some.last back after before next strand
-            (subst (λ (f : List ℕ). IsCut lists list f after before back strand) some.parts c)))
+            (subst (λ (f : List ℕ). IsCutLane lists list f after before back strand) some.parts c)))
       ]
 
   -- what comes before is written at the first key after the cut, or at the end
   pub previous_written : (front back : List ℕ) (after before previous : Option ℕ) (strand : Strand) →
-      IsCut lists list front after before back strand →
-      IsCut lists list front after previous back (previous_set list (first_or back None) previous strand)
+      IsCutLane lists list front after before back strand →
+      IsCutLane lists list front after previous back (previous_set list (first_or back None) previous strand)
   previous_written front [] after before previous strand c = record {
     within = c.within;
     front_once = c.front_once;
@@ -257,10 +257,10 @@ module _ (lists : List (List ℕ)) (list : ℕ) where
   -- a lane whose list is spelled again, whatever it is now
   pub spelled_again : (strand : Strand) (keys : List ℕ) → list < length lists →
       strand.ends ≡ set (map ends_of lists) list (ends_of keys) →
-      Spells strand.links list None keys None →
+      LinksSpell strand.links list None keys None →
       ((other : ℕ) (ks : List ℕ) → other ≢ list → slice_get lists other ≡ Some ks →
-      Spells strand.links other None ks None) →
-      IsSpelled strand (set lists list keys)
+      LinksSpell strand.links other None ks None) →
+      SpellsLists strand (set lists list keys)
   spelled_again strand keys within ends spells others = record {
     ends = ends ∙ sym (map-set ends_of lists list keys);
     spelled = λ other ks there.
@@ -269,16 +269,16 @@ module _ (lists : List (List ℕ)) (list : ℕ) where
               let here : Some keys ≡ Some ks = sym (slice_get_set lists list keys within)
               ∙ ap (slice_get (set lists list keys)) (sym same) ∙ there in
               let e : keys ≡ ks = cc in
-              subst (λ (l : ℕ). Spells strand.links l None ks None) (sym same)
-              (subst (λ (k : List ℕ). Spells strand.links list None k None) e spells)
+              subst (λ (l : ℕ). LinksSpell strand.links l None ks None) (sym same)
+              (subst (λ (k : List ℕ). LinksSpell strand.links list None k None) e spells)
           | inr differs ↦ others other ks differs (sym (slice_get_set_other lists list other keys differs) ∙ there)
         ];
   }
 
   -- a key taken out of its list
-  pub tied_spelled : (strand : Strand) (front : List ℕ) (key : ℕ) (back : List ℕ) → IsSpelled strand lists →
+  pub tied_spelled : (strand : Strand) (front : List ℕ) (key : ℕ) (back : List ℕ) → SpellsLists strand lists →
       slice_get lists list ≡ Some (front ++ key ∷ back) →
-      IsSpelled (tied list (last_or None front) (first_or back None) strand) (set lists list (front ++ back))
+      SpellsLists (keys_tied list (last_or None front) (first_or back None) strand) (set lists list (front ++ back))
   tied_spelled strand front key back spelled here =
       let c = cut_round strand front key back spelled here in
       let d = next_written front back (Some key) (Some key) (first_or back None) strand c in
@@ -309,10 +309,11 @@ module _ (lists : List (List ℕ)) (list : ℕ) where
   previous_other (k ∷ back) previous strand key lacks = get_or-set_other strand.links k key _ None lacks.0
 
   -- a key put between two parts of a list
-  pub placed_spelled : (strand : Strand) (front : List ℕ) (key : ℕ) (back : List ℕ) → IsSpelled strand lists →
+  pub placed_spelled : (strand : Strand) (front : List ℕ) (key : ℕ) (back : List ℕ) → SpellsLists strand lists →
       slice_get lists list ≡ Some (front ++ back) →
       key < length strand.links → ((other : ℕ) (keys : List ℕ) → slice_get lists other ≡ Some keys → Lacks key keys) →
-      IsSpelled (placed key (record { list = list; previous = last_or None front; next = first_or back None }) strand)
+      SpellsLists (key_placed key (record { list = list; previous = last_or None front; next = first_or back None })
+      strand)
       (set lists list (front ++ key ∷ back))
   placed_spelled strand front key back spelled here within nowhere =
       let link : Link = record { list = list; previous = last_or None front; next = first_or back None } in
@@ -322,7 +323,7 @@ module _ (lists : List (List ℕ)) (list : ℕ) where
       let d = next_written front back (first_or back None) (last_or None front) (Some key) _ c in
       let e = previous_written front back (Some key) (last_or None front) (Some key) _ d in
       let there = previous_other back (Some key) _ key lacks.1
-      ∙ next_other front (Some key) (with_link key link strand) key lacks.0
+      ∙ next_other front (Some key) (link_set key link strand) key lacks.0
       ∙ get_or-set_same strand.links key (Some link) None within
       in
       spelled_again _ (front ++ key ∷ back) e.within

@@ -8,24 +8,24 @@ use Rattle.std.proofs.lemmas.Map.Steps.{length-le_from_distinct_below}
 use Rattle.link_lists.specs.declared.link.Link.{Link}
 use Rattle.link_lists.specs.Lanes.{lane_keys, StandsIn, put_after, without_key}
 use Rattle.link_lists.specs.Nodes.{Strand}
-use Rattle.link_lists.specs.Spelling.{walk, walked, first_or, ends_of, Spells, IsSpelled}
+use Rattle.link_lists.specs.Spelling.{walk, walked, first_or, ends_of, LinksSpell, SpellsLists}
 use Rattle.link_lists.proofs.NodeLemmas.{some_within}
 use Rattle.link_lists.proofs.SpellLemmas.{Lacks, AreOnce, lacks_other, spelled_has, spelled_apart, walk_spelled, once_append, apart_without}
 
 -- a list has the key: what stands before it, and what after it
-pub record HasKey (key : ℕ) (keys : List ℕ) : Type 0 where
+pub record KeyAmong (key : ℕ) (keys : List ℕ) : Type 0 where
   pub front : List ℕ
   pub back : List ℕ
   pub parts : keys ≡ front ++ key ∷ back
 
-pub has_key : (key : ℕ) (keys : List ℕ) → list_any (eqb key) keys ≡ true → HasKey key keys
-has_key key [] has = absurd cc
-has_key key (k ∷ keys) has =
+pub key_among : (key : ℕ) (keys : List ℕ) → list_any (eqb key) keys ≡ true → KeyAmong key keys
+key_among key [] has = absurd cc
+key_among key (k ∷ keys) has =
     elim (eqb_tells key k) [
       | inl same ↦ record { front = []; back = keys; parts = ap (λ q. q ∷ keys) (sym same.1) }
       | inr differs ↦
           let later : list_any (eqb key) keys ≡ true = sym (ap (λ b. b || list_any (eqb key) keys) differs.0) ∙ has in
-          let h = has_key key keys later in
+          let h = key_among key keys later in
           record { front = k ∷ h.front; back = h.back; parts = ap (λ ks. k ∷ ks) h.parts }
     ]
 
@@ -57,26 +57,26 @@ stands_at key (keys ∷ lane) stands =
         (list_any (eqb key) keys || list_any (eqb key) (lane_keys lane)) ≡ true →
         (StandsIn key lane → StandsAt key lane) → StandsAt key (keys ∷ lane)
     at_or_later true here either later =
-        let h = has_key key keys here in
+        let h = key_among key keys here in
         record { list = 0; front = h.front; back = h.back; here = ap (λ ks. Some ks) h.parts }
     at_or_later false here either later =
         let l = later (sym (ap (λ b. b || list_any (eqb key) (lane_keys lane)) here) ∙ either) in
         record { list = suc l.list; front = l.front; back = l.back; here = l.here }
 
-pub stands_in : (key : ℕ) (lane : List (List ℕ)) (list : ℕ) (front back : List ℕ) →
+pub stands_from : (key : ℕ) (lane : List (List ℕ)) (list : ℕ) (front back : List ℕ) →
     slice_get lane list ≡ Some (front ++ key ∷ back) → StandsIn key lane
-stands_in key [] list front back here = absurd cc
-stands_in key (keys ∷ lane) zero front back here =
+stands_from key [] list front back here = absurd cc
+stands_from key (keys ∷ lane) zero front back here =
     let e : keys ≡ front ++ key ∷ back = cc in
     list_any-append (eqb key) keys (lane_keys lane)
     ∙ ap (λ b. b || list_any (eqb key) (lane_keys lane)) (ap (list_any (eqb key)) e ∙ has_between key front back)
-stands_in key (keys ∷ lane) (suc list) front back here =
+stands_from key (keys ∷ lane) (suc list) front back here =
     list_any-append (eqb key) keys (lane_keys lane)
-    ∙ ap (λ b. list_any (eqb key) keys || b) (stands_in key lane list front back here)
+    ∙ ap (λ b. list_any (eqb key) keys || b) (stands_from key lane list front back here)
     ∙ or_true (list_any (eqb key) keys)
 
 -- a key that stands in no list is none of any list's
-lacks_absent : (key : ℕ) (keys : List ℕ) → (HasKey key keys → ⊥) → Lacks key keys
+lacks_absent : (key : ℕ) (keys : List ℕ) → (KeyAmong key keys → ⊥) → Lacks key keys
 lacks_absent key [] absent = tt
 lacks_absent key (k ∷ keys) absent = (
   λ same. absent (record { front = []; back = keys; parts = ap (λ q. q ∷ keys) (sym same) }),
@@ -88,30 +88,30 @@ lacks_absent key (k ∷ keys) absent = (
   })),
 )
 
-pub lacks_in : (key : ℕ) (lane : List (List ℕ)) → (StandsIn key lane → ⊥) → (list : ℕ) (keys : List ℕ) →
+pub absent_from : (key : ℕ) (lane : List (List ℕ)) → (StandsIn key lane → ⊥) → (list : ℕ) (keys : List ℕ) →
     slice_get lane list ≡ Some keys → Lacks key keys
-lacks_in key lane absent list keys here =
-    lacks_absent key keys (λ h. absent (stands_in key lane list h.front h.back (here ∙ ap (λ ks. Some ks) h.parts)))
+absent_from key lane absent list keys here =
+    lacks_absent key keys (λ h. absent (stands_from key lane list h.front h.back (here ∙ ap (λ ks. Some ks) h.parts)))
 
 -- no key twice, as a test says it
 all_differ : (key : ℕ) (keys : List ℕ) → Lacks key keys → AllByRecursion (λ y. eqb key y ≡ false) keys
 all_differ key [] lacks = tt
 all_differ key (k ∷ keys) lacks = (ne_eqb key k lacks.0, all_differ key keys lacks.1)
 
-pub distinct : (keys : List ℕ) → AreOnce keys → IsDistinct eqb keys
+pub distinct_keys : (keys : List ℕ) → AreOnce keys → IsDistinct eqb keys
 unfolding IsDistinct
-distinct [] once = tt
-distinct (k ∷ keys) once = (all_differ k keys once.0, distinct keys once.1)
+distinct_keys [] once = tt
+distinct_keys (k ∷ keys) once = (all_differ k keys once.0, distinct_keys keys once.1)
 
 -- a spelled list is no longer than the links are many
-pub spelled_short : (links : List (Option Link)) (list : ℕ) (keys : List ℕ) → Spells links list None keys None →
+pub spelled_short : (links : List (Option Link)) (list : ℕ) (keys : List ℕ) → LinksSpell links list None keys None →
     length keys ≤ length links
 spelled_short links list keys spells =
-    length-le_from_distinct_below keys (length links) (distinct keys (spelled_apart list links None keys spells))
+    length-le_from_distinct_below keys (length links) (distinct_keys keys (spelled_apart list links None keys spells))
     (λ q has.
-    let h = has_key q keys has in
+    let h = key_among q keys has in
     let at = spelled_has list links None h.front q h.back None
-    (subst (λ (ks : List ℕ). Spells links list None ks None) h.parts spells) in
+    (subst (λ (ks : List ℕ). LinksSpell links list None ks None) h.parts spells) in
     some_within links q _ at)
 
 -- walks meet what is spelled
@@ -124,7 +124,7 @@ walks_meet links fuel (keys ∷ lists) meets =
     let rest = walks_meet links fuel lists (λ list ks here. meets (suc list) ks here) in
     λ i. head i ∷ rest i
 
-pub walked_spelled : (strand : Strand) (lists : List (List ℕ)) → IsSpelled strand lists → walked strand ≡ lists
+pub walked_spelled : (strand : Strand) (lists : List (List ℕ)) → SpellsLists strand lists → walked strand ≡ lists
 walked_spelled strand lists spelled =
     ap (map (λ e. walk strand.links (length strand.links) e.first)) spelled.ends
     ∙ walks_meet strand.links (length strand.links) lists (λ list keys here.
@@ -156,13 +156,13 @@ mapped_one f (keys ∷ lane) (suc list) old new here changes kept =
     (λ other ks differs there. kept (suc other) ks (λ e. differs (omega arith)) there) in
     λ i. head i ∷ rest i
 
-put_same : (at key : ℕ) (keys : List ℕ) → Lacks at keys →
+put_kept : (at key : ℕ) (keys : List ℕ) → Lacks at keys →
     flat_map (λ other. cond (eqb at other) (other ∷ key ∷ []) (other ∷ [])) keys ≡ keys
-put_same at key [] lacks = refl
-put_same at key (k ∷ keys) lacks =
+put_kept at key [] lacks = refl
+put_kept at key (k ∷ keys) lacks =
     ap (λ b. cond b (k ∷ key ∷ []) (k ∷ []) ++ flat_map
     (λ other. cond (eqb at other) (other ∷ key ∷ []) (other ∷ [])) keys) (ne_eqb at k lacks.0)
-    ∙ ap (λ ks. k ∷ ks) (put_same at key keys lacks.1)
+    ∙ ap (λ ks. k ∷ ks) (put_kept at key keys lacks.1)
 
 put_between : (at key : ℕ) (front back : List ℕ) → Lacks at front → Lacks at back →
     flat_map (λ other. cond (eqb at other) (other ∷ key ∷ []) (other ∷ [])) (front ++ at ∷ back) ≡
@@ -170,7 +170,7 @@ put_between : (at key : ℕ) (front back : List ℕ) → Lacks at front → Lack
 put_between at key [] back no_front no_back =
     ap (λ b. cond b (at ∷ key ∷ []) (at ∷ []) ++ flat_map
     (λ other. cond (eqb at other) (other ∷ key ∷ []) (other ∷ [])) back) (any_refl at)
-    ∙ ap (λ ks. at ∷ key ∷ ks) (put_same at key back no_back)
+    ∙ ap (λ ks. at ∷ key ∷ ks) (put_kept at key back no_back)
 put_between at key (k ∷ front) back no_front no_back =
     ap (λ b. cond b (k ∷ key ∷ []) (k ∷ []) ++ flat_map (λ other. cond (eqb at other) (other ∷ key ∷ []) (other ∷ []))
     (front ++ at ∷ back)) (ne_eqb at k no_front.0)
@@ -196,7 +196,7 @@ left_between key (k ∷ front) back no_front no_back =
 
 -- a key that stands in a list stands once there, and in no other list
 alone_there : (strand : Strand) (lane : List (List ℕ)) (list : ℕ) (front : List ℕ) (key : ℕ) (back : List ℕ) →
-    IsSpelled strand lane →
+    SpellsLists strand lane →
     slice_get lane list ≡ Some (front ++ key ∷ back) → Lacks key front × Lacks key back
 alone_there strand lane list front key back spelled here =
     let parts = once_append front (key ∷ back) (spelled_apart list strand.links None (front ++ key ∷ back)
@@ -204,7 +204,7 @@ alone_there strand lane list front key back spelled here =
     ((apart_without front key back parts.1.1).0, parts.1.0.0)
 
 alone_elsewhere : (strand : Strand) (lane : List (List ℕ)) (list : ℕ) (front : List ℕ) (key : ℕ) (back : List ℕ) →
-    IsSpelled strand lane →
+    SpellsLists strand lane →
     slice_get lane list ≡ Some (front ++ key ∷ back) → (other : ℕ) (keys : List ℕ) → other ≢ list →
     slice_get lane other ≡ Some keys → Lacks key keys
 alone_elsewhere strand lane list front key back spelled here other keys differs there =
@@ -214,7 +214,7 @@ alone_elsewhere strand lane list front key back spelled here other keys differs 
 
 -- so a key is put after it in this list alone
 pub put_after_one : (strand : Strand) (lane : List (List ℕ)) (list : ℕ) (front : List ℕ) (at : ℕ) (back : List ℕ)
-    (key : ℕ) → IsSpelled strand lane →
+    (key : ℕ) → SpellsLists strand lane →
     slice_get lane list ≡ Some (front ++ at ∷ back) →
     put_after at key lane ≡ set lane list ((front ++ at ∷ []) ++ key ∷ back)
 put_after_one strand lane list front at back key spelled here =
@@ -222,12 +222,12 @@ put_after_one strand lane list front at back key spelled here =
     mapped_one (flat_map (λ other. cond (eqb at other) (other ∷ key ∷ []) (other ∷ []))) lane list
     (front ++ at ∷ back) _ here
     (put_between at key front back alone.0 alone.1)
-    (λ other keys differs there. put_same at key keys
+    (λ other keys differs there. put_kept at key keys
     (alone_elsewhere strand lane list front at back spelled here other keys differs there))
 
 -- and it is left out of this list alone
 pub without_one : (strand : Strand) (lane : List (List ℕ)) (list : ℕ) (front : List ℕ) (key : ℕ) (back : List ℕ) →
-    IsSpelled strand lane →
+    SpellsLists strand lane →
     slice_get lane list ≡ Some (front ++ key ∷ back) → without_key key lane ≡ set lane list (front ++ back)
 without_one strand lane list front key back spelled here =
     let alone = alone_there strand lane list front key back spelled here in
@@ -247,7 +247,7 @@ lacks_all key [] lacks = tt
 lacks_all key (keys ∷ lane) lacks = lacks_joined key keys (lane_keys lane) (lacks 0 keys refl)
     (lacks_all key lane (λ list ks here. lacks (suc list) ks here))
 
-once_joined : (xs ys : List ℕ) → AreOnce xs → AreOnce ys → ((key : ℕ) → HasKey key xs → Lacks key ys) →
+once_joined : (xs ys : List ℕ) → AreOnce xs → AreOnce ys → ((key : ℕ) → KeyAmong key xs → Lacks key ys) →
     AreOnce (xs ++ ys)
 once_joined [] ys once rest apart = rest
 once_joined (x ∷ xs) ys once rest apart = (
@@ -257,23 +257,24 @@ once_joined (x ∷ xs) ys once rest apart = (
 )
 
 once_from : (links : List (Option Link)) (n : ℕ) (lane : List (List ℕ)) →
-    ((list : ℕ) (keys : List ℕ) → slice_get lane list ≡ Some keys → Spells links (n + list) None keys None) →
+    ((list : ℕ) (keys : List ℕ) → slice_get lane list ≡ Some keys → LinksSpell links (n + list) None keys None) →
     AreOnce (lane_keys lane)
 once_from links n [] spelled = tt
 once_from links n (keys ∷ lane) spelled =
     let here = spelled 0 keys refl in
-    let later : (list : ℕ) (ks : List ℕ) → slice_get lane list ≡ Some ks → Spells links (n + 1 + list) None ks None =
+    let later : (list : ℕ) (ks : List ℕ) → slice_get lane list ≡ Some ks →
+    LinksSpell links (n + 1 + list) None ks None =
     λ list ks there. let e : n + suc list ≡ n + 1 + list = omega arith in
-    subst (λ (l : ℕ). Spells links l None ks None) e (spelled (suc list) ks there)
+    subst (λ (l : ℕ). LinksSpell links l None ks None) e (spelled (suc list) ks there)
     in
     once_joined keys (lane_keys lane) (spelled_apart (n + 0) links None keys here)
     (once_from links (n + 1) lane later) (λ key h.
     let found = spelled_has (n + 0) links None h.front key h.back None
-    (subst (λ (ks : List ℕ). Spells links (n + 0) None ks None) h.parts here) in
+    (subst (λ (ks : List ℕ). LinksSpell links (n + 0) None ks None) h.parts here) in
     lacks_all key lane (λ list ks there. lacks_other (n + 1 + list) links None ks None key _ found
     (λ e. absurd (omega (arith, e))) (later list ks there)))
 
-pub lane_once : (strand : Strand) (lane : List (List ℕ)) → IsSpelled strand lane → AreOnce (lane_keys lane)
+pub lane_once : (strand : Strand) (lane : List (List ℕ)) → SpellsLists strand lane → AreOnce (lane_keys lane)
 lane_once strand lane spelled =
-    once_from strand.links 0 lane (λ list keys here. subst (λ (l : ℕ). Spells strand.links l None keys None)
+    once_from strand.links 0 lane (λ list keys here. subst (λ (l : ℕ). LinksSpell strand.links l None keys None)
     (sym (zero-add list)) (spelled.spelled list keys here))

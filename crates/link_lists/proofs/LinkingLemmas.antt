@@ -8,7 +8,7 @@ use Rattle.link_lists.specs.declared.lane.Lane.{Lane}
 use Rattle.link_lists.specs.declared.lane.Lane.TheVariants.{First, Second}
 use Rattle.link_lists.specs.declared.link.Link.{Link}
 use Rattle.link_lists.specs.declared.link.Ends.{Ends}
-use Rattle.link_lists.specs.Nodes.{Strand, Nodes, no_ends, link_of, strand_of, on_lane, with_link, with_ends}
+use Rattle.link_lists.specs.Nodes.{Strand, Nodes, no_ends, link_under, strand_of, on_lane, link_set, with_ends}
 use Rattle.link_lists.specs.Linking.{CanWrite, with_next, with_previous, next_set, previous_set}
 
 module _ {T : Type 0} where
@@ -19,8 +19,8 @@ module _ {T : Type 0} where
   strand_on_lane Second change nodes = refl
 
   pub next_written : (lane : Lane) (nodes : Nodes T) (list key : ℕ) (next : Option ℕ) (link : Link) →
-      link_of (strand_of lane nodes) key ≡ Some link →
-      on_lane lane (with_link key (record link { next = next })) nodes ≡ on_lane lane
+      link_under (strand_of lane nodes) key ≡ Some link →
+      on_lane lane (link_set key (record link { next = next })) nodes ≡ on_lane lane
       (next_set list (Some key) next) nodes
   next_written First nodes list key next link found =
       ap (λ (o : Option Link). on_lane First (λ s. record s { links = set s.links key o }) nodes)
@@ -30,8 +30,8 @@ module _ {T : Type 0} where
       (sym (ap (option_map (with_next next)) found))
 
   pub previous_written : (lane : Lane) (nodes : Nodes T) (list key : ℕ) (previous : Option ℕ) (link : Link) →
-      link_of (strand_of lane nodes) key ≡ Some link →
-      on_lane lane (with_link key (record link { previous = previous })) nodes ≡ on_lane lane
+      link_under (strand_of lane nodes) key ≡ Some link →
+      on_lane lane (link_set key (record link { previous = previous })) nodes ≡ on_lane lane
       (previous_set list (Some key) previous) nodes
   previous_written First nodes list key previous link found =
       ap (λ (o : Option Link). on_lane First (λ s. record s { links = set s.links key o }) nodes)
@@ -76,7 +76,7 @@ some_set xs key other o keeps found =
 
 -- what can be written can be written still after a link was
 pub write_after_link : (list : ℕ) (other : Option ℕ) (key : ℕ) (link : Link) (strand : Strand) →
-    CanWrite list other strand → CanWrite list other (with_link key link strand)
+    CanWrite list other strand → CanWrite list other (link_set key link strand)
 write_after_link list None key link strand can = can
 write_after_link list (Some other) key link strand can = some_set strand.links key other (Some link) (λ _. refl) can
 
@@ -91,5 +91,5 @@ write_after_next list None list' None next strand can = rw length-set can
 write_after_next list None list' (Some key) next strand can = can
 write_after_next list (Some other) list' None next strand can = can
 write_after_next list (Some other) list' (Some key) next strand can =
-    some_set strand.links key other (option_map (with_next next) (link_of strand key))
-    (some_mapped (with_next next) (link_of strand key)) can
+    some_set strand.links key other (option_map (with_next next) (link_under strand key))
+    (some_mapped (with_next next) (link_under strand key)) can

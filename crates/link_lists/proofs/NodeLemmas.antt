@@ -8,7 +8,7 @@ use Rattle.link_lists.specs.declared.lane.Lane.TheVariants.{First, Second}
 use Rattle.link_lists.specs.declared.link.Link.{Link}
 use Rattle.link_lists.specs.declared.link.Ends.{Ends}
 use Rattle.link_lists.specs.declared.link.Node.{Node}
-use Rattle.link_lists.specs.Nodes.{nodes_seen, on_lane, with_link, with_slot, without_node, IsAlike, GainsValue}
+use Rattle.link_lists.specs.Nodes.{nodes_seen, on_lane, link_set, with_slot, without_node, IsAlike, GainsValue}
 
 -- two views of the same slots have something at the same keys
 pub both_some : {A B C : Type 0} (f : A → B) (g : A → C) (xs : List (Option A)) (key : ℕ) →
@@ -19,11 +19,11 @@ both_some f g (Some x ∷ xs) zero = refl
 both_some f g (x ∷ xs) (suc key) = both_some f g xs key
 
 -- what a view of slots has at a key
-pub seen_at : {A B : Type 0} (f : A → B) (xs : List (Option A)) (key : ℕ) →
+pub seen_under : {A B : Type 0} (f : A → B) (xs : List (Option A)) (key : ℕ) →
     get_or (map (option_map f) xs) key None ≡ option_map f (get_or xs key None)
-seen_at f [] key = refl
-seen_at f (x ∷ xs) zero = refl
-seen_at f (x ∷ xs) (suc key) = seen_at f xs key
+seen_under f [] key = refl
+seen_under f (x ∷ xs) zero = refl
+seen_under f (x ∷ xs) (suc key) = seen_under f xs key
 
 -- a view that doesn't show what was written stays
 pub seen_kept : {A B : Type 0} (f : A → B) (xs : List (Option A)) (key : ℕ) (old new : A) →
@@ -31,7 +31,7 @@ pub seen_kept : {A B : Type 0} (f : A → B) (xs : List (Option A)) (key : ℕ) 
 seen_kept f xs key old new found same =
     map-set (option_map f) xs key (Some new)
     ∙ ap (λ o. set (map (option_map f) xs) key o) (ap (λ b. Some b) same ∙ ap (option_map f) (sym found)
-    ∙ sym (seen_at f xs key))
+    ∙ sym (seen_under f xs key))
     ∙ set-get_or (map (option_map f) xs) key None
 
 -- a key with something lies within the list
@@ -58,7 +58,7 @@ module _ {T : Type 0} where
 
   pub first_written : (slab : Slab (Node T)) (f s : List Ends) (key : ℕ) (node : Node T) (link : Link) →
       get slab key ≡ Some node →
-      nodes_seen (with_value slab key (record node { first = link })) f s ≡ on_lane First (with_link key link)
+      nodes_seen (with_value slab key (record node { first = link })) f s ≡ on_lane First (link_set key link)
       (nodes_seen slab f s)
   first_written slab f s key node link found =
       let new : Node T = record node { first = link } in
@@ -75,7 +75,7 @@ module _ {T : Type 0} where
 
   pub second_written : (slab : Slab (Node T)) (f s : List Ends) (key : ℕ) (node : Node T) (link : Link) →
       get slab key ≡ Some node →
-      nodes_seen (with_value slab key (record node { second = link })) f s ≡ on_lane Second (with_link key link)
+      nodes_seen (with_value slab key (record node { second = link })) f s ≡ on_lane Second (link_set key link)
       (nodes_seen slab f s)
   second_written slab f s key node link found =
       let new : Node T = record node { second = link } in
@@ -112,14 +112,14 @@ module _ {T : Type 0} where
       (other : ℕ) → other ≢ key → get_or (map (option_map v) new.slots) other None ≡ get_or
       (map (option_map v) old.slots) other None
   seen_others v old new key others other differs =
-      seen_at v new.slots other ∙ ap (option_map v) (others other differs) ∙ sym (seen_at v old.slots other)
+      seen_under v new.slots other ∙ ap (option_map v) (others other differs) ∙ sym (seen_under v old.slots other)
 
   pub inserted : (old new : Slab (Node T)) (f s : List Ends) (key : ℕ) (node : Node T) →
       Updates old new key (Some node) →
       slab_len new ≡ slab_len old + 1 → 0 < old.capacity - slab_len old → new.capacity ≡ old.capacity →
       GainsValue (nodes_seen old f s) (nodes_seen new f s) key node.value
   inserted old new f s key node updates len room capacity = record {
-    gained = seen_at (λ n. n.value) new.slots key ∙ ap (option_map (λ n. n.value)) updates.changed;
+    gained = seen_under (λ n. n.value) new.slots key ∙ ap (option_map (λ n. n.value)) updates.changed;
     others = seen_others (λ n. n.value) old new key updates.others;
     first = record { ends = refl; others = seen_others (λ n. n.first) old new key updates.others };
     second = record { ends = refl; others = seen_others (λ n. n.second) old new key updates.others };
@@ -144,4 +144,4 @@ module _ {T : Type 0} where
 
   pub value_seen : (slab : Slab (Node T)) (key : ℕ) (node : Node T) → get slab key ≡ Some node →
       get_or (map (option_map (λ n. n.value)) slab.slots) key None ≡ Some node.value
-  value_seen slab key node found = seen_at (λ n. n.value) slab.slots key ∙ ap (option_map (λ n. n.value)) found
+  value_seen slab key node found = seen_under (λ n. n.value) slab.slots key ∙ ap (option_map (λ n. n.value)) found

@@ -2,7 +2,7 @@
 use Rattle.std.proofs.Common.{◌≡◌, ◌≢◌, ℕ, zero, suc, ◌≤◌, List, [], ◌∷◌, ◌++◌, length, get_or, set, Option, Some, None, refl, sym, ap, subst, ◌∙◌, arith, length-append}
 use Rattle.std.proofs.lemmas.List.{append_assoc, get_or-set_other}
 use Rattle.link_lists.specs.declared.link.Link.{Link}
-use Rattle.link_lists.specs.Spelling.{walk, next_of, first_or, last_or, Spells}
+use Rattle.link_lists.specs.Spelling.{walk, next_of, first_or, last_or, LinksSpell}
 
 -- the key is none of these
 abbrev pub Lacks : ℕ → List ℕ → Type 0
@@ -10,9 +10,9 @@ Lacks key [] = Unit {0}
 Lacks key (other ∷ keys) = (key ≢ other) × Lacks key keys
 
 -- no key stands in both
-abbrev pub AreApart : List ℕ → List ℕ → Type 0
-AreApart [] ys = Unit {0}
-AreApart (x ∷ xs) ys = Lacks x ys × AreApart xs ys
+abbrev pub ShareNoKey : List ℕ → List ℕ → Type 0
+ShareNoKey [] ys = Unit {0}
+ShareNoKey (x ∷ xs) ys = Lacks x ys × ShareNoKey xs ys
 
 -- no key stands twice
 abbrev pub AreOnce : List ℕ → Type 0
@@ -31,20 +31,20 @@ pub lacks_append : (key : ℕ) (xs ys : List ℕ) → Lacks key (xs ++ ys) → L
 lacks_append key [] ys lacks = (tt, lacks)
 lacks_append key (x ∷ xs) ys lacks = let rest = lacks_append key xs ys lacks.1 in ((lacks.0, rest.0), rest.1)
 
-pub once_append : (xs ys : List ℕ) → AreOnce (xs ++ ys) → AreOnce xs × (AreOnce ys × AreApart xs ys)
+pub once_append : (xs ys : List ℕ) → AreOnce (xs ++ ys) → AreOnce xs × (AreOnce ys × ShareNoKey xs ys)
 once_append [] ys once = (tt, (once, tt))
 once_append (x ∷ xs) ys once =
     let lacks = lacks_append x xs ys once.0 in
     let rest = once_append xs ys once.1 in
     ((lacks.0, rest.0), (rest.1.0, (lacks.1, rest.1.1)))
 
-pub apart_without : (xs : List ℕ) (y : ℕ) (ys : List ℕ) → AreApart xs (y ∷ ys) → Lacks y xs × AreApart xs ys
+pub apart_without : (xs : List ℕ) (y : ℕ) (ys : List ℕ) → ShareNoKey xs (y ∷ ys) → Lacks y xs × ShareNoKey xs ys
 apart_without [] y ys apart = (tt, tt)
 apart_without (x ∷ xs) y ys apart =
     let rest = apart_without xs y ys apart.1 in
     (((λ e. apart.0.0 (sym e)), rest.0), (apart.0.1, rest.1))
 
-pub apart_append : (xs xs' ys : List ℕ) → AreApart (xs ++ xs') ys → AreApart xs ys × AreApart xs' ys
+pub apart_append : (xs xs' ys : List ℕ) → ShareNoKey (xs ++ xs') ys → ShareNoKey xs ys × ShareNoKey xs' ys
 apart_append [] xs' ys apart = (tt, apart)
 apart_append (x ∷ xs) xs' ys apart = let rest = apart_append xs xs' ys apart.1 in ((apart.0, rest.0), rest.1)
 
@@ -56,8 +56,8 @@ tail_of (x ∷ xs) = xs
 module _ (list : ℕ) where
   -- a spelled list in two parts
   pub spells_parts : (links : List (Option Link)) (before : Option ℕ) (xs ys : List ℕ) (after : Option ℕ) →
-      Spells links list before (xs ++ ys) after →
-      Spells links list before xs (first_or ys after) × Spells links list (last_or before xs) ys after
+      LinksSpell links list before (xs ++ ys) after →
+      LinksSpell links list before xs (first_or ys after) × LinksSpell links list (last_or before xs) ys after
   spells_parts links before [] ys after spells = (tt, spells)
   spells_parts links before (x ∷ xs) ys after spells =
       let rest = spells_parts links (Some x) xs ys after spells.1 in (
@@ -71,8 +71,8 @@ module _ (list : ℕ) where
 
   -- and put together
   pub spells_joined : (links : List (Option Link)) (before : Option ℕ) (xs ys : List ℕ) (after : Option ℕ) →
-      Spells links list before xs (first_or ys after) →
-      Spells links list (last_or before xs) ys after → Spells links list before (xs ++ ys) after
+      LinksSpell links list before xs (first_or ys after) →
+      LinksSpell links list (last_or before xs) ys after → LinksSpell links list before (xs ++ ys) after
   spells_joined links before [] ys after front back = back
   spells_joined links before (x ∷ xs) ys after front back = (
     front.0 ∙ ap (λ (n : Option ℕ). Some (record { list = list; previous = before; next = n }))
@@ -83,7 +83,7 @@ module _ (list : ℕ) where
   -- what is written at a key that isn't one of these
   pub spells_kept : (links : List (Option Link)) (before : Option ℕ) (keys : List ℕ) (after : Option ℕ) (key : ℕ)
       (o : Option Link) → Lacks key keys →
-      Spells links list before keys after → Spells (set links key o) list before keys after
+      LinksSpell links list before keys after → LinksSpell (set links key o) list before keys after
   spells_kept links before [] after key o lacks spells = tt
   spells_kept links before (k ∷ keys) after key o lacks spells = (
     get_or-set_other links key k o None (λ e. lacks.0 (sym e)) ∙ spells.0,
@@ -93,7 +93,7 @@ module _ (list : ℕ) where
   -- a key whose link names another list isn't one of these
   pub lacks_other : (links : List (Option Link)) (before : Option ℕ) (keys : List ℕ) (after : Option ℕ) (key : ℕ)
       (link : Link) →
-      get_or links key None ≡ Some link → link.list ≢ list → Spells links list before keys after → Lacks key keys
+      get_or links key None ≡ Some link → link.list ≢ list → LinksSpell links list before keys after → Lacks key keys
   lacks_other links before [] after key link found differs spells = tt
   lacks_other links before (k ∷ keys) after key link found differs spells = (
     λ same. differs (
@@ -107,7 +107,7 @@ module _ (list : ℕ) where
 
   -- a key with no link isn't one of these
   pub lacks_vacant : (links : List (Option Link)) (before : Option ℕ) (keys : List ℕ) (after : Option ℕ) (key : ℕ) →
-      get_or links key None ≡ None → Spells links list before keys after → Lacks key keys
+      get_or links key None ≡ None → LinksSpell links list before keys after → Lacks key keys
   lacks_vacant links before [] after key found spells = tt
   lacks_vacant links before (k ∷ keys) after key found spells = (
     λ same. let e : None ≡ Some (record { list = list; previous = before; next = first_or keys after }) = sym found
@@ -116,8 +116,8 @@ module _ (list : ℕ) where
   )
 
   -- what is spelled to its end from one key is one list
-  pub spelled_once : (links : List (Option Link)) (b c : Option ℕ) (xs ys : List ℕ) → Spells links list b xs None →
-      Spells links list c ys None →
+  pub spelled_once : (links : List (Option Link)) (b c : Option ℕ) (xs ys : List ℕ) → LinksSpell links list b xs None →
+      LinksSpell links list c ys None →
       first_or xs None ≡ first_or ys None → xs ≡ ys
   spelled_once links b c [] [] p q same = refl
   spelled_once links b c [] (y ∷ ys) p q same = absurd cc
@@ -132,12 +132,12 @@ module _ (list : ℕ) where
 
   -- no key stands twice in it
   pub spelled_lacks : (links : List (Option Link)) (before : Option ℕ) (key : ℕ) (whole front back : List ℕ) →
-      Spells links list before (key ∷ whole) None →
+      LinksSpell links list before (key ∷ whole) None →
       whole ≡ front ++ back → Lacks key back
   spelled_lacks links before key whole front [] spells parts = tt
   spelled_lacks links before key whole front (k ∷ back) spells parts = (
     λ same.
-        let tail = subst (λ w. Spells links list (Some key) w None) parts spells.1 in
+        let tail = subst (λ w. LinksSpell links list (Some key) w None) parts spells.1 in
         let from_k = (spells_parts links (Some key) front (k ∷ back) None tail).1 in
         let e : key ∷ whole ≡ k ∷ back = spelled_once links before (last_or (Some key) front) (key ∷ whole)
         (k ∷ back) spells from_k (ap Some same) in
@@ -148,7 +148,7 @@ module _ (list : ℕ) where
   )
 
   pub spelled_apart : (links : List (Option Link)) (before : Option ℕ) (keys : List ℕ) →
-      Spells links list before keys None → AreOnce keys
+      LinksSpell links list before keys None → AreOnce keys
   spelled_apart links before [] spells = tt
   spelled_apart links before (k ∷ keys) spells = (
     spelled_lacks links before k keys [] keys spells refl,
@@ -158,7 +158,7 @@ module _ (list : ℕ) where
 
   -- a walk meets what is spelled
   pub walk_spelled : (links : List (Option Link)) (before : Option ℕ) (keys : List ℕ) (fuel : ℕ) →
-      Spells links list before keys None → length keys ≤ fuel →
+      LinksSpell links list before keys None → length keys ≤ fuel →
       walk links fuel (first_or keys None) ≡ keys
   walk_spelled links before [] zero spells enough = refl
   walk_spelled links before [] (suc fuel) spells enough = refl
@@ -170,6 +170,6 @@ module _ (list : ℕ) where
   -- each of these keys has a link, in this list
   pub spelled_has : (links : List (Option Link)) (before : Option ℕ) (xs : List ℕ) (key : ℕ) (ys : List ℕ)
       (after : Option ℕ) →
-      Spells links list before (xs ++ key ∷ ys) after →
+      LinksSpell links list before (xs ++ key ∷ ys) after →
       get_or links key None ≡ Some (record { list = list; previous = last_or before xs; next = first_or ys after })
   spelled_has links before xs key ys after spells = (spells_parts links before xs (key ∷ ys) after spells).1.0

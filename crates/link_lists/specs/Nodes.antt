@@ -44,12 +44,12 @@ abbrev pub no_strand : Strand
 no_strand = record { links = []; ends = [] }
 
 -- the link under a key
-abbrev pub link_of : Strand → ℕ → Option Link
-link_of strand key = slice_index_or strand.links key None
+abbrev pub link_under : Strand → ℕ → Option Link
+link_under strand key = slice_index_or strand.links key None
 
 -- the strand with this link under the key
-abbrev pub with_link : ℕ → Link → Strand → Strand
-with_link key link strand = record strand { links = slice_set strand.links key (Some link) }
+abbrev pub link_set : ℕ → Link → Strand → Strand
+link_set key link strand = record strand { links = slice_set strand.links key (Some link) }
 
 -- the strand with these ends of the list
 abbrev pub with_ends : ℕ → Ends → Strand → Strand
@@ -70,7 +70,7 @@ without_link key strand = record strand { links = slice_set strand.links key Non
 -- each key but this one keeps its link, and the ends stay
 pub record KeepsLinks (key : ℕ) (old new : Strand) : Type 0 where
   pub ends : new.ends ≡ old.ends
-  pub others : (other : ℕ) → other ≢ key → link_of new other ≡ link_of old other
+  pub others : (other : ℕ) → other ≢ key → link_under new other ≡ link_under old other
 
 module _ {T : Type 0} where
   -- a lane of the nodes
@@ -95,9 +95,9 @@ module _ {T : Type 0} where
   -- a key has a link in each lane exactly where it has a value
   pub record IsAlike (nodes : Nodes T) : Type 0 where
     pub first : (key : ℕ) →
-        is_some (link_of nodes.first key) ≡ is_some (slice_index_or nodes.slots key None)
+        is_some (link_under nodes.first key) ≡ is_some (slice_index_or nodes.slots key None)
     pub second : (key : ℕ) →
-        is_some (link_of nodes.second key) ≡ is_some (slice_index_or nodes.slots key None)
+        is_some (link_under nodes.second key) ≡ is_some (slice_index_or nodes.slots key None)
 
   -- the key has the value, and each other key what it had
   pub record GainsValue (old new : Nodes T) (key : ℕ) (value : T) : Type 0 where

@@ -46,20 +46,20 @@ abbrev pub ends_of : List ℕ → Ends
 ends_of keys = record { first = first_or keys None; last = last_or None keys }
 
 -- the links of these keys say that they stand in this list one after another, between two others
-abbrev pub Spells : List (Option Link) → ℕ → Option ℕ → List ℕ → Option ℕ → Type 0
-Spells links list before [] after = ⊤
-Spells links list before (key ∷ keys) after =
+abbrev pub LinksSpell : List (Option Link) → ℕ → Option ℕ → List ℕ → Option ℕ → Type 0
+LinksSpell links list before [] after = ⊤
+LinksSpell links list before (key ∷ keys) after =
     (slice_index_or links key None
     ≡ Some (record { list = list; previous = before; next = first_or keys after }))
-    × Spells links list (Some key) keys after
+    × LinksSpell links list (Some key) keys after
 
 -- the strand's ends and links spell these lists
-pub record IsSpelled (strand : Strand) (lists : List (List ℕ)) : Type 0 where
+pub record SpellsLists (strand : Strand) (lists : List (List ℕ)) : Type 0 where
   pub ends : strand.ends ≡ map ends_of lists
   pub spelled : (list : ℕ) (keys : List ℕ) → slice_get lists list ≡ Some keys →
-      Spells strand.links list None keys None
+      LinksSpell strand.links list None keys None
 
 -- both lanes spell the lists that walks meet
-pub record AreSpelled {T : Type 0} (nodes : Nodes T) : Type 0 where
-  pub first : IsSpelled nodes.first (walked nodes.first)
-  pub second : IsSpelled nodes.second (walked nodes.second)
+pub record BothSpelled {T : Type 0} (nodes : Nodes T) : Type 0 where
+  pub first : SpellsLists nodes.first (walked nodes.first)
+  pub second : SpellsLists nodes.second (walked nodes.second)

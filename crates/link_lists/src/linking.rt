@@ -1,8 +1,8 @@
 //! Links written so that one key comes after another.
 
 ghost use Rattle.std.specs.Prelude.{◌≡◌, ◌<◌, IsSome, None, length};
-ghost use Rattle.link_lists.specs.Nodes.{strand_of, link_of, on_lane};
-ghost use Rattle.link_lists.specs.Linking.{next_set, previous_set, tied, placed, CanWrite};
+ghost use Rattle.link_lists.specs.Nodes.{strand_of, link_under, on_lane};
+ghost use Rattle.link_lists.specs.Linking.{next_set, previous_set, keys_tied, key_placed, CanWrite};
 
 use crate::lane::Lane;
 use crate::link::{Ends, Link};
@@ -79,7 +79,7 @@ impl<T> Nodes<T> {
     )
         requires before { CanWrite list previous (strand_of lane self.old) }
         requires after { CanWrite list next (strand_of lane self.old) }
-        ensures { self.new ≡ on_lane lane (tied list previous next) self.old }
+        ensures { self.new ≡ on_lane lane (keys_tied list previous next) self.old }
     {
         self.set_next(lane, list, previous, next);
         self.set_previous(lane, list, next, previous);
@@ -87,10 +87,10 @@ impl<T> Nodes<T> {
 
     /// Puts the key between `previous` and `next` in this list.
     pub(crate) fn place(&mut self, lane: Lane, key: usize, link: Link)
-        requires has_node { IsSome (link_of (strand_of lane self.old) key) }
+        requires has_node { IsSome (link_under (strand_of lane self.old) key) }
         requires before { CanWrite link.list link.previous (strand_of lane self.old) }
         requires after { CanWrite link.list link.next (strand_of lane self.old) }
-        ensures { self.new ≡ on_lane lane (placed key link) self.old }
+        ensures { self.new ≡ on_lane lane (key_placed key link) self.old }
     {
         self.set_link(lane, key, link);
         self.set_next(lane, link.list, link.previous, Some(key));

@@ -2,7 +2,7 @@
 
 ghost use Rattle.std.specs.Prelude.{◌≡◌, ◌≢◌, ℕ, ◌+◌, ◌<◌, ◌≤◌, [], ◌∷◌, ◌++◌, length, slice_get, slice_set, slice_index_or, Some, None, IsSome, IfOk, OnErr, OnOk, IsTrue, ◌↔◌, option_copied, vec_len};
 ghost use Rattle.std.specs.Borrow.{sem};
-ghost use Rattle.link_lists.specs.Nodes.{no_strand, strand_of, link_of, with_link, with_ends, on_lane, no_ends, with_list, without_node, IsAlike, GainsValue};
+ghost use Rattle.link_lists.specs.Nodes.{no_strand, strand_of, link_under, link_set, with_ends, on_lane, no_ends, with_list, without_node, IsAlike, GainsValue};
 
 use crate::lane::Lane;
 use crate::link::{Ends, Link, Node};
@@ -139,8 +139,8 @@ impl<T> Nodes<T> {
     }
 
     pub(crate) fn link(&self, lane: Lane, key: usize) -> Link
-        requires { IsSome (link_of (strand_of lane self.now) key) }
-        ensures { link_of (strand_of lane self.now) key ≡ Some result }
+        requires { IsSome (link_under (strand_of lane self.now) key) }
+        ensures { link_under (strand_of lane self.now) key ≡ Some result }
     {
         let node = &self.nodes[key];
         match lane {
@@ -150,8 +150,8 @@ impl<T> Nodes<T> {
     }
 
     pub(crate) fn set_link(&mut self, lane: Lane, key: usize, link: Link)
-        requires { IsSome (link_of (strand_of lane self.old) key) }
-        ensures { self.new ≡ on_lane lane (with_link key link) self.old }
+        requires { IsSome (link_under (strand_of lane self.old) key) }
+        ensures { self.new ≡ on_lane lane (link_set key link) self.old }
     {
         let node = &mut self.nodes[key];
         match lane {

@@ -20,7 +20,7 @@ pub struct Woven<T> {
 
 impl<T> Model for Woven<T> {
     ghost use Rattle.link_lists.specs.Lanes.{Lanes, lanes_code};
-    ghost use Rattle.link_lists.specs.Spelling.{lanes_seen, AreSpelled};
+    ghost use Rattle.link_lists.specs.Spelling.{lanes_seen, BothSpelled};
 
     ghost Value = { Lanes T };
 
@@ -28,7 +28,7 @@ impl<T> Model for Woven<T> {
 
     ghost view = { λ w. lanes_seen w.nodes };
 
-    ghost invariant = { λ w. AreSpelled w.nodes };
+    ghost invariant = { λ w. BothSpelled w.nodes };
 }
 
 impl<T> Woven<T> {

@@ -1,4 +1,4 @@
-use Rattle.link_lists.specs.Nodes.{with_link}
+use Rattle.link_lists.specs.Nodes.{link_set}
 use Rattle.link_lists.proofs.LinkingLemmas.{strand_on_lane, write_after_link, write_after_next}
 use Rattle.link_lists.proofs.nodes.Nodes.place.Goals as goal
 
@@ -10,7 +10,7 @@ set_previous-requires g c =
       strand_on_lane,
       c.set_link.ensures,
       strand_on_lane c.args.lane
-          (with_link c.args.key link) c.args.self.now,
+          (link_set c.args.key link) c.args.self.now,
     )
     (write_after_next link.list link.next _ _ _ _ (write_after_link link.list link.next c.args.key link _
     c.requires.after))
