@@ -1,10 +1,10 @@
--- For callers: which keys stand in a lane.
+-- For callers: which keys stand in a lane, and where.
 use Rattle.std.proofs.Common.{◌≡◌, ℕ, ◌<◌, List, [], ◌∷◌, ◌++◌, length, get_or, Option, Some, slice_get, sym, ap, ◌∙◌}
 use Rattle.std.specs.Option.{IfSome}
 use Rattle.std.proofs.lemmas.List.{append_assoc}
 use Rattle.std.proofs.lemmas.Option.{slice_get-get_or}
 use Rattle.link_lists.specs.Lanes.{StandsIn, IsKeyAfter, first_key}
-use Rattle.link_lists.proofs.LaneLemmas.{stands_at, stands_from}
+pub use Rattle.link_lists.proofs.LaneLemmas.{StandsAt, stands_at, stands_from}
 
 -- the first of the keys after this point of a list stands in the lane
 front_stands : (lane : List (List ℕ)) (list : ℕ) (before after : List ℕ) →

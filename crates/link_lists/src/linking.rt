@@ -1,6 +1,6 @@
 //! Links written so that one key comes after another.
 
-ghost use Rattle.std.specs.Prelude.{◌≡◌, ◌<◌, IsSome, None, length};
+ghost use Rattle.std.specs.Prelude.{◌≡◌, IsSome, None};
 ghost use Rattle.link_lists.specs.Nodes.{strand_of, link_under, on_lane};
 ghost use Rattle.link_lists.specs.Linking.{next_set, previous_set, keys_tied, key_placed, CanWrite};
 
