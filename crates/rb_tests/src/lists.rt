@@ -51,5 +51,12 @@ fn lists(rt: HostRuntime) -> Result<(), Fail> {
     assert_eq!(rt; woven.remove(c), 30);
     has(&rt, &woven, Lane::First, &[a, b]);
     has(&rt, &woven, Lane::Second, &[a]);
+    let Some(value) = woven.get_mut(b) else {
+        panic!(rt; "a value is missing");
+    };
+    *value = 21;
+    assert_eq!(rt; woven.get(b).copied(), Some(21));
+    assert_eq!(rt; woven.get(a).copied(), Some(10));
+    assert_eq!(rt; woven.get(c).copied(), None);
     Ok(())
 }
