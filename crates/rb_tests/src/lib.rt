@@ -6,6 +6,8 @@
 #[cfg(test)]
 mod limits;
 #[cfg(test)]
+mod lists;
+#[cfg(test)]
 mod runs;
 #[cfg(test)]
 mod streams;
