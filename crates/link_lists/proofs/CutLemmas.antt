@@ -1,5 +1,6 @@
 -- A lane with one of its lists cut in two, while links are written at the cut.
-use Rattle.std.proofs.Common.{◌≡◌, ◌≢◌, ℕ, zero, suc, ◌<◌, ◌⊎◌, List, [], ◌∷◌, ◌++◌, length, map, get_or, set, Option, Some, None, slice_get, refl, sym, ap, subst, ◌∙◌, inl, inr, arith}
+use Rattle.std.proofs.Common.{◌≡◌, ◌≢◌, ℕ, zero, suc, ◌<◌, ◌⊎◌, List, [], ◌∷◌, ◌++◌, length, map, get_or, set, Option}
+use Rattle.std.proofs.Common.{Some, None, slice_get, refl, sym, ap, subst, ◌∙◌, inl, inr, arith}
 use Rattle.std.specs.Option.{option_map}
 use Rattle.std.proofs.lemmas.Bool.{cases_eq}
 use Rattle.std.proofs.lemmas.List.{get_or-set_same, get_or-set_other, set-set, set-get_or, map-set, length-map}
@@ -10,7 +11,9 @@ use Rattle.link_lists.specs.Nodes.{Strand, no_ends, link_set}
 use Rattle.link_lists.specs.Linking.{next_set, previous_set, with_next, with_previous, keys_tied, key_placed}
 use Rattle.link_lists.specs.Spelling.{first_or, last_or, ends_of, LinksSpell, SpellsLists}
 use Rattle.link_lists.proofs.NodeLemmas.{some_within}
-use Rattle.link_lists.proofs.SpellLemmas.{Lacks, ShareNoKey, AreOnce, first_append, last_append, lacks_append, once_append, apart_append, apart_without, spells_parts, spells_joined, spells_kept, lacks_other, spelled_has, spelled_apart}
+use Rattle.link_lists.proofs.SpellLemmas.{Lacks, ShareNoKey, AreOnce, first_append, last_append, lacks_append}
+use Rattle.link_lists.proofs.SpellLemmas.{once_append, apart_append, apart_without, spells_parts, spells_joined}
+use Rattle.link_lists.proofs.SpellLemmas.{spells_kept, lacks_other, spelled_has, spelled_apart}
 
 -- the element at a place that was written, and at another
 pub slice_get_set : {A : Type 0} (xs : List A) (i : ℕ) (x : A) → i < length xs → slice_get (set xs i x) i ≡ Some x

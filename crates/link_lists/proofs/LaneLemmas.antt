@@ -1,5 +1,7 @@
 -- Lanes as lists of lists: where a key stands, and one list changed by a map over all.
-use Rattle.std.proofs.Common.{◌≡◌, ◌≢◌, ℕ, zero, suc, ◌+◌, ◌≤◌, ◌||◌, Bool, true, false, not, cond, List, [], ◌∷◌, ◌++◌, length, map, set, eqb, filter, Option, Some, None, slice_get, refl, sym, ap, subst, ◌∙◌, inl, inr, arith, zero-add}
+use Rattle.std.proofs.Common.{◌≡◌, ◌≢◌, ℕ, zero, suc, ◌+◌, ◌≤◌, ◌||◌, Bool, true, false, not, cond, List, [], ◌∷◌, ◌++◌}
+use Rattle.std.proofs.Common.{length, map, set, eqb, filter, Option, Some, None, slice_get, refl, sym, ap, subst, ◌∙◌}
+use Rattle.std.proofs.Common.{inl, inr, arith, zero-add}
 use Rattle.std.specs.List.{list_any, IsDistinct, AllByRecursion, flat_map}
 use Rattle.std.proofs.lemmas.Bool.{ne_eqb}
 use Rattle.std.proofs.lemmas.Bool.Decides.{eqb_tells}
@@ -10,7 +12,8 @@ use Rattle.link_lists.specs.Lanes.{lane_keys, StandsIn, put_after, without_key}
 use Rattle.link_lists.specs.Nodes.{Strand}
 use Rattle.link_lists.specs.Spelling.{walk, walked, first_or, ends_of, LinksSpell, SpellsLists}
 use Rattle.link_lists.proofs.NodeLemmas.{some_within}
-use Rattle.link_lists.proofs.SpellLemmas.{Lacks, AreOnce, lacks_other, spelled_has, spelled_apart, walk_spelled, once_append, apart_without}
+use Rattle.link_lists.proofs.SpellLemmas.{Lacks, AreOnce, lacks_other, spelled_has, spelled_apart, walk_spelled}
+use Rattle.link_lists.proofs.SpellLemmas.{once_append, apart_without}
 
 -- a list has the key: what stands before it, and what after it
 pub record KeyAmong (key : ℕ) (keys : List ℕ) : Type 0 where

@@ -1,5 +1,6 @@
 -- Nodes in a slab: one node written, one removed, and which keys have a link.
-use Rattle.std.proofs.Common.{◌≡◌, ◌≢◌, ℕ, zero, suc, ◌+◌, ◌-◌, ◌<◌, List, [], ◌∷◌, length, map, get_or, set, Option, Some, None, is_some, cond, count_by, refl, sym, ap, ◌∙◌, arith}
+use Rattle.std.proofs.Common.{◌≡◌, ◌≢◌, ℕ, zero, suc, ◌+◌, ◌-◌, ◌<◌, List, [], ◌∷◌, length, map, get_or, set, Option}
+use Rattle.std.proofs.Common.{Some, None, is_some, cond, count_by, refl, sym, ap, ◌∙◌, arith}
 use Rattle.std.specs.Option.{option_map}
 use Rattle.std.proofs.lemmas.List.{get_or_past, map-set, set-get_or}
 use Rattle.std.proofs.lemmas.List.Sums.{sum_by-set}

@@ -1,5 +1,6 @@
 -- What links spell: lists cut in two, walks, and that no key stands twice.
-use Rattle.std.proofs.Common.{◌≡◌, ◌≢◌, ℕ, zero, suc, ◌≤◌, List, [], ◌∷◌, ◌++◌, length, get_or, set, Option, Some, None, refl, sym, ap, subst, ◌∙◌, arith, length-append}
+use Rattle.std.proofs.Common.{◌≡◌, ◌≢◌, ℕ, zero, suc, ◌≤◌, List, [], ◌∷◌, ◌++◌, length, get_or, set, Option, Some, None}
+use Rattle.std.proofs.Common.{refl, sym, ap, subst, ◌∙◌, arith, length-append}
 use Rattle.std.proofs.lemmas.List.{append_assoc, get_or-set_other}
 use Rattle.link_lists.specs.declared.link.Link.{Link}
 use Rattle.link_lists.specs.Spelling.{walk, next_of, first_or, last_or, LinksSpell}

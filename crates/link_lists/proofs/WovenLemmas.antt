@@ -1,5 +1,7 @@
 -- The calls, over the strand of one lane, and over both lanes.
-use Rattle.std.proofs.Common.{◌≡◌, ◌≢◌, ℕ, zero, suc, ◌+◌, ◌<◌, ◌⊎◌, List, [], ◌∷◌, ◌++◌, length, get_or, set, Option, Some, None, IsSome, is_some, Result, Ok, Err, OnOk, OnErr, slice_get, slice_index_or, refl, sym, ap, subst, ◌∙◌, inl, inr, arith}
+use Rattle.std.proofs.Common.{◌≡◌, ◌≢◌, ℕ, zero, suc, ◌+◌, ◌<◌, ◌⊎◌, List, [], ◌∷◌, ◌++◌, length, get_or, set, Option}
+use Rattle.std.proofs.Common.{Some, None, IsSome, is_some, Result, Ok, Err, OnOk, OnErr, slice_get, slice_index_or}
+use Rattle.std.proofs.Common.{refl, sym, ap, subst, ◌∙◌, inl, inr, arith}
 use Rattle.std.specs.Option.{option_map}
 use Rattle.std.proofs.lemmas.Bool.{false≢true}
 use Rattle.std.proofs.lemmas.List.{append_assoc, append-nil, get_or_past, map-append, length-map}
@@ -9,13 +11,17 @@ use Rattle.link_lists.specs.declared.lane.Lane.{Lane}
 use Rattle.link_lists.specs.declared.lane.Lane.TheVariants.{First, Second}
 use Rattle.link_lists.specs.declared.link.Link.{Link}
 use Rattle.link_lists.specs.declared.link.Ends.{Ends}
-use Rattle.link_lists.specs.Lanes.{Lanes, lane_of, with_lane, lane_keys, value_under, StandsIn, IsKeyAfter, first_key, pushed_back, put_after, without_key, IsLane, AreLanes}
-use Rattle.link_lists.specs.Nodes.{Strand, Nodes, strand_of, on_lane, link_under, no_ends, with_list, without_link, without_node, KeepsLinks, GainsValue, IsAlike}
+use Rattle.link_lists.specs.Lanes.{Lanes, lane_of, with_lane, lane_keys, value_under, StandsIn, IsKeyAfter, first_key}
+use Rattle.link_lists.specs.Lanes.{pushed_back, put_after, without_key, IsLane, AreLanes}
+use Rattle.link_lists.specs.Nodes.{Strand, Nodes, strand_of, on_lane, link_under, no_ends, with_list, without_link}
+use Rattle.link_lists.specs.Nodes.{without_node, KeepsLinks, GainsValue, IsAlike}
 use Rattle.link_lists.specs.Linking.{CanWrite, keys_tied, key_placed}
-use Rattle.link_lists.specs.Spelling.{walked, lanes_seen, next_of, first_or, last_or, ends_of, LinksSpell, SpellsLists, BothSpelled}
+use Rattle.link_lists.specs.Spelling.{walked, lanes_seen, next_of, first_or, last_or, ends_of, LinksSpell, SpellsLists}
+use Rattle.link_lists.specs.Spelling.{BothSpelled}
 use Rattle.link_lists.proofs.SpellLemmas.{Lacks, last_append, spells_parts, spells_kept, lacks_vacant, spelled_has}
 use Rattle.link_lists.proofs.CutLemmas.{empty_or_last, placed_spelled, tied_spelled}
-use Rattle.link_lists.proofs.LaneLemmas.{stands_at, absent_from, put_after_one, without_one, walked_spelled, lane_once, distinct_keys}
+use Rattle.link_lists.proofs.LaneLemmas.{stands_at, absent_from, put_after_one, without_one, walked_spelled, lane_once}
+use Rattle.link_lists.proofs.LaneLemmas.{distinct_keys}
 
 -- a key's link, where it stands
 pub link_there : (strand : Strand) (lane : List (List ℕ)) (list : ℕ) (front : List ℕ) (key : ℕ) (back : List ℕ) →

@@ -1,5 +1,6 @@
 -- The steps that write links. No public clause cites this module.
-use Rattle.std.specs.Prelude.{ℕ, ◌<◌, length, Option, Some, None, IsSome, option_map, slice_index_or, slice_set}
+use Rattle.std.specs.Prelude.{ℕ, ◌<◌, length, Option, Some, None, IsSome, option_map}
+use Rattle.std.specs.Prelude.{slice_index_or, slice_set}
 use Rattle.link_lists.specs.declared.link.Link.{Link}
 use Rattle.link_lists.specs.Nodes.{Strand, link_under, no_ends, link_set}
 

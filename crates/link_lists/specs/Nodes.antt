@@ -1,5 +1,6 @@
 -- Nodes as their links say, and the steps that change links. No public clause cites this module.
-use Rattle.std.specs.Prelude.{◌≡◌, ◌≢◌, ℕ, ◌+◌, ◌-◌, map, List, [], ◌∷◌, ◌++◌, Option, Some, None, is_some, option_map, slice_index_or, slice_set, refl}
+use Rattle.std.specs.Prelude.{◌≡◌, ◌≢◌, ℕ, ◌+◌, ◌-◌, map, List, [], ◌∷◌, ◌++◌, Option, Some, None}
+use Rattle.std.specs.Prelude.{is_some, option_map, slice_index_or, slice_set, refl}
 use Rattle.std.specs.Coded.{Coded, code_by, coded×, coded_ℕ, coded_list, coded_option}
 use Rattle.slab.specs.Slab.{Slab, slab_len}
 use Rattle.link_lists.specs.declared.lane.Lane.{Lane}

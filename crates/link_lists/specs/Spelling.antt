@@ -1,6 +1,7 @@
 -- What links spell: the lists of a lane, as walking along them finds them.
 -- No public clause cites this module.
-use Rattle.std.specs.Prelude.{◌≡◌, ℕ, zero, suc, List, [], ◌∷◌, map, length, Option, Some, None, slice_get, slice_index_or, ⊤}
+use Rattle.std.specs.Prelude.{◌≡◌, ℕ, zero, suc, List, [], ◌∷◌, map, length, Option, Some, None}
+use Rattle.std.specs.Prelude.{slice_get, slice_index_or, ⊤}
 use Rattle.link_lists.specs.declared.link.Link.{Link}
 use Rattle.link_lists.specs.declared.link.Ends.{Ends}
 use Rattle.link_lists.specs.Lanes.{Lanes}

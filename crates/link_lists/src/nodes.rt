@@ -1,8 +1,12 @@
 //! The slab of nodes, and the ends of the lists of both lanes.
 
-ghost use Rattle.std.specs.Prelude.{◌≡◌, ◌<◌, ◌≤◌, [], ◌∷◌, ◌++◌, length, slice_get, slice_index_or, Some, None, IsSome, IfOk, OnErr, OnOk, IsTrue, ◌↔◌, option_copied, vec_len};
+ghost use Rattle.std.specs.Prelude.{◌≡◌, ◌<◌, ◌≤◌, [], ◌∷◌, ◌++◌, length, slice_get};
+ghost use Rattle.std.specs.Prelude.{slice_index_or, Some, None, IsSome, IfOk, OnErr, OnOk, IsTrue};
+ghost use Rattle.std.specs.Prelude.{◌↔◌, option_copied, vec_len};
 ghost use Rattle.std.specs.Borrow.{sem};
-ghost use Rattle.link_lists.specs.Nodes.{no_strand, strand_of, link_under, link_set, with_ends, on_lane, no_ends, with_list, without_node, IsAlike, GainsValue};
+ghost use Rattle.link_lists.specs.Nodes.{no_strand, strand_of, link_under, link_set, with_ends};
+ghost use Rattle.link_lists.specs.Nodes.{on_lane, no_ends, with_list, without_node, IsAlike};
+ghost use Rattle.link_lists.specs.Nodes.{GainsValue};
 
 use crate::lane::Lane;
 use crate::link::{Ends, Link, Node};

@@ -1,9 +1,13 @@
 //! The public type, and its calls.
 
-ghost use Rattle.std.specs.Prelude.{◌≡◌, ◌+◌, ◌<◌, ◌≤◌, [], ◌∷◌, ◌++◌, length, slice_set, slice_index_or, Some, None, IsSome, IfOk, OnErr, OnOk, option_copied};
+ghost use Rattle.std.specs.Prelude.{◌≡◌, ◌+◌, ◌<◌, ◌≤◌, [], ◌∷◌, ◌++◌, length, slice_set};
+ghost use Rattle.std.specs.Prelude.{slice_index_or, Some, None, IsSome, IfOk, OnErr, OnOk};
+ghost use Rattle.std.specs.Prelude.{option_copied};
 ghost use Rattle.std.specs.Borrow.{sem};
 ghost use Rattle.std.specs.Option.{option_copied_mut};
-ghost use Rattle.link_lists.specs.Lanes.{value_under, lane_of, with_lane, StandsIn, IsKeyAfter, first_key, pushed_back, put_after, without_key, AreLanes, ChangesSlot};
+ghost use Rattle.link_lists.specs.Lanes.{value_under, lane_of, with_lane, StandsIn, IsKeyAfter};
+ghost use Rattle.link_lists.specs.Lanes.{first_key, pushed_back, put_after, without_key, AreLanes};
+ghost use Rattle.link_lists.specs.Lanes.{ChangesSlot};
 
 use crate::lane::Lane;
 use crate::link::Link;

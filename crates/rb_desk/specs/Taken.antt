@@ -1,4 +1,5 @@
--- The spans of a subscription that were taken before, and what is kept so that none is searched for.
+-- The spans of a subscription that were taken before, and what is kept so that none is searched
+-- for.
 use Rattle.std.specs.Prelude.{◌≡◌, ℕ, zero, suc, ◌<◌, ◌≤◌, Bool, true, false, List, [], ◌∷◌, length}
 use Rattle.std.specs.Prelude.{take, map, Option, Some, None, slice_get, ◌==◌, nat_lt, if◌then◌else◌}
 use Rattle.std.specs.List.{AllByRecursion}
@@ -34,14 +35,14 @@ pub record IsTaken (spans : List Held) (passed : ℕ) (line : List (Option Ticke
 abbrev pub with_state : Status → Ticket → Held → Held
 with_state status ticket h = record { span = record h.span { status = status }; ticket = ticket }
 
-abbrev pub at_place : {X : Type 0} → ℕ → (X → X) → List X → List X
-at_place i f [] = []
-at_place zero f (x ∷ xs) = f x ∷ xs
-at_place (suc i) f (x ∷ xs) = x ∷ at_place i f xs
+abbrev pub changed_place : {X : Type 0} → ℕ → (X → X) → List X → List X
+changed_place i f [] = []
+changed_place zero f (x ∷ xs) = f x ∷ xs
+changed_place (suc i) f (x ∷ xs) = x ∷ changed_place i f xs
 
 abbrev pub stated_at : Option ℕ → Status → Ticket → List Held → List Held
 stated_at None status ticket spans = spans
-stated_at (Some i) status ticket spans = at_place i (with_state status ticket) spans
+stated_at (Some i) status ticket spans = changed_place i (with_state status ticket) spans
 
 -- without a place, and with it in order
 abbrev pub without_place : ℕ → List ℕ → List ℕ
@@ -50,7 +51,8 @@ without_place place (p ∷ rest) = if p == place then rest else p ∷ without_pl
 
 abbrev pub with_place : ℕ → List ℕ → List ℕ
 with_place place [] = place ∷ []
-with_place place (p ∷ rest) = if p == place then p ∷ rest else if nat_lt place p then place ∷ p ∷ rest
+with_place place (p ∷ rest) = if p == place then p ∷ rest else if nat_lt place p then place ∷ p ∷
+    rest
     else p ∷ with_place place rest
 
 -- places of a list of this length; whether the span at a place is in flight

@@ -12,10 +12,10 @@ use Rattle.rb_desk.specs.Lanes.{earlier}
 abbrev pub earlier_of : Winner → Winner → Winner
 earlier_of a b = if earlier b.ticket a.ticket then record b { first = a.first } else a
 
-abbrev pub joined : Option Winner → Option Winner → Option Winner
-joined None b = b
-joined (Some a) None = Some a
-joined (Some a) (Some b) = Some (earlier_of a b)
+abbrev pub winner_of_two : Option Winner → Option Winner → Option Winner
+winner_of_two None b = b
+winner_of_two (Some a) None = Some a
+winner_of_two (Some a) (Some b) = Some (earlier_of a b)
 
 -- the winner of one place
 abbrev pub at_place : ℕ → Option Ticket → Option Winner
@@ -24,7 +24,7 @@ at_place place = option_map (λ ticket. record { first = place; place = place; t
 -- the winner of these tickets, the first of which is at place n
 abbrev pub winner_from : ℕ → List (Option Ticket) → Option Winner
 winner_from n [] = None
-winner_from n (ticket ∷ rest) = joined (at_place n ticket) (winner_from (suc n) rest)
+winner_from n (ticket ∷ rest) = winner_of_two (at_place n ticket) (winner_from (suc n) rest)
 
 -- ---- the nodes of the tree
 
@@ -43,11 +43,11 @@ abbrev pub node : List (Option Winner) → ℕ → Option Winner
 node nodes i = get_or nodes i None
 
 -- the node is the winner of the two below it
-abbrev pub IsJoined : List (Option Winner) → ℕ → Type 0
-IsJoined nodes i = node nodes i ≡ joined (node nodes (i + i)) (node nodes (suc (i + i)))
+abbrev pub WinsPair : List (Option Winner) → ℕ → Type 0
+WinsPair nodes i = node nodes i ≡ winner_of_two (node nodes (i + i)) (node nodes (suc (i + i)))
 
-abbrev pub AreJoined : List (Option Winner) → ℕ → Type 0
-AreJoined nodes room = (i : ℕ) → 1 ≤ i → i < room → IsJoined nodes i
+abbrev pub NodesWin : List (Option Winner) → ℕ → Type 0
+NodesWin nodes room = (i : ℕ) → 1 ≤ i → i < room → WinsPair nodes i
 
 -- The nodes of a tree: after as many nodes as it has places stand the places, and each node from 1
 -- on is the winner of the two below it. A tree without places has no nodes.
@@ -57,7 +57,7 @@ pub record IsTree (nodes : List (Option Winner)) (room len : ℕ) : Type 0 where
   pub even : (0 < room) → (depth : ℕ) × (room ≡ places_at depth)
   pub leaves : (tickets : List (Option Ticket)) × (length tickets ≡ len)
       × (drop room nodes ≡ leaves_from 0 tickets ++ replicate (room - len) None)
-  pub inner : AreJoined nodes room
+  pub inner : NodesWin nodes room
 
 -- the tickets that the places have
 abbrev pub ticket_at : Option Winner → Option Ticket

@@ -13,7 +13,8 @@ ghost use Rattle.rb_desk.specs.Lanes.{spans_of, restated, FollowSome};
 ghost use Rattle.rb_desk.specs.declared.span.Status.{Status};
 ghost use Rattle.rb_desk.specs.declared.ticket.Ticket.{Ticket};
 ghost use Rattle.rb_desk.specs.Taken as taken;
-ghost use Rattle.rb_desk.specs.Taken.{ticket_if_ready, stated_at, with_place, without_place, is_out_at, IsPassed};
+ghost use Rattle.rb_desk.specs.Taken.{ticket_if_ready, stated_at, with_place, without_place};
+ghost use Rattle.rb_desk.specs.Taken.{is_out_at, IsPassed};
 
 use crate::span::{Span, Status};
 use crate::ticket::{Held, Ticket};

@@ -72,7 +72,7 @@ impl Lane {
     pub(crate) fn out(&self) -> u64
         ensures { result ≡ how_many_out (spans_of self.now.held) }
     {
-        self.held.out()
+        self.held.in_flight()
     }
 
     /// Whether it has no span.

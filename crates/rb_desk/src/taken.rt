@@ -1,7 +1,8 @@
 //! The spans of a subscription that were taken before, with what finds one of them at once: the
 //! ready ones stand in a tournament, and the places of those in flight in a list.
 
-ghost use Rattle.std.specs.Prelude.{◌≡◌, ◌++◌, ◌∷◌, ◌==◌, [], true, false, map, length, OnOk, OnErr};
+ghost use Rattle.std.specs.Prelude.{◌≡◌, ◌++◌, ◌∷◌, ◌==◌, [], true, false, map, length, OnOk};
+ghost use Rattle.std.specs.Prelude.{OnErr};
 ghost use Rattle.rb_desk.specs.Expiry.{due_held, expired_by};
 ghost use Rattle.rb_desk.specs.Lanes as spec;
 ghost use Rattle.rb_desk.specs.Lanes.{spans_of, least, restated, FollowSome};
@@ -64,7 +65,7 @@ impl Taken {
     }
 
     /// How many are in flight.
-    pub(crate) fn out(&self) -> u64
+    pub(crate) fn in_flight(&self) -> u64
         ensures { result ≡ spans.how_many_out (spans_of self.now) }
     {
         self.out.len() as u64

@@ -4,7 +4,7 @@
 ghost use Rattle.std.specs.Prelude.{◌≡◌, ◌<◌, ◌≤◌, ◌+◌, ◌++◌, ◌∷◌, suc, [], length, drop};
 ghost use Rattle.std.specs.Prelude.{replicate, slice_set, None, IfOk, OnOk, OnErr};
 ghost use Rattle.rb_desk.specs.Tournament as spec;
-ghost use Rattle.rb_desk.specs.Tournament.{at_place, winner_from, AreJoined, IsTree, tickets_of};
+ghost use Rattle.rb_desk.specs.Tournament.{at_place, winner_from, NodesWin, IsTree, tickets_of};
 
 use crate::ticket::Ticket;
 use std::alloc::{AllocError, Global};
@@ -124,10 +124,10 @@ fn no_winners(alloc: Global, many: usize) -> Result<Vec<Option<Winner>>, AllocEr
 fn put(nodes: &mut Vec<Option<Winner>>, room: usize, at: usize, winner: Option<Winner>)
     requires long { length nodes.old.items ≡ room + room }
     requires place { (room ≤ at) × (at < room + room) }
-    requires inner { AreJoined nodes.old.items room }
+    requires inner { NodesWin nodes.old.items room }
     ensures long { length nodes.new.items ≡ room + room }
     ensures places { drop room nodes.new.items ≡ drop room (slice_set nodes.old.items at winner) }
-    ensures inner { AreJoined nodes.new.items room }
+    ensures inner { NodesWin nodes.new.items room }
 {
     nodes[at] = winner;
     let mut i = at / 2;
@@ -140,8 +140,8 @@ fn put(nodes: &mut Vec<Option<Winner>>, room: usize, at: usize, winner: Option<W
 // makes a node the winner of the two below it
 fn rejoin(nodes: &mut Vec<Option<Winner>>, i: usize)
     requires { suc (i + i) < length nodes.old.items }
-    ensures { nodes.new.items ≡ slice_set nodes.old.items i
-        (spec.joined (spec.node nodes.old.items (i + i)) (spec.node nodes.old.items (suc (i + i)))) }
+    ensures { nodes.new.items ≡ slice_set nodes.old.items i (spec.winner_of_two
+        (spec.node nodes.old.items (i + i)) (spec.node nodes.old.items (suc (i + i)))) }
 {
     nodes[i] = join(nodes[i + i], nodes[i + i + 1]);
 }
@@ -160,7 +160,7 @@ fn leaf(place: usize, ticket: Option<Ticket>) -> Option<Winner>
 
 // the winner of two neighbouring parts
 fn join(left: Option<Winner>, right: Option<Winner>) -> Option<Winner>
-    ensures { result ≡ spec.joined left right }
+    ensures { result ≡ spec.winner_of_two left right }
 {
     let Some(a) = left else {
         return right;

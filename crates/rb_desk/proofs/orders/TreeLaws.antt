@@ -8,17 +8,18 @@ use Rattle.std.proofs.lemmas.List.{drop-replicate, length-append, length-drop, l
 use Rattle.std.proofs.Math.Seq.{take-length, take-append_seam}
 use Rattle.rb_desk.specs.declared.ticket.Ticket.{Ticket}
 use Rattle.rb_desk.specs.declared.tournament.Winner.{Winner}
-use Rattle.rb_desk.specs.Tournament.{joined, at_place, winner_from, leaves_from, places_at, node, IsJoined, AreJoined}
+use Rattle.rb_desk.specs.Tournament.{winner_of_two, at_place, winner_from, leaves_from, places_at, node, WinsPair}
+use Rattle.rb_desk.specs.Tournament.{NodesWin}
 use Rattle.rb_desk.specs.Tournament.{IsTree}
 use Rattle.rb_desk.specs.Tournament.{ticket_at, tickets_of}
 
 -- ---- winners of lists
 
-joined_none : (a : Option Winner) → joined a None ≡ a
+joined_none : (a : Option Winner) → winner_of_two a None ≡ a
 joined_none None = refl
 joined_none (Some a) = refl
 
-joined_assoc : (a b c : Option Winner) → joined (joined a b) c ≡ joined a (joined b c)
+joined_assoc : (a b c : Option Winner) → winner_of_two (winner_of_two a b) c ≡ winner_of_two a (winner_of_two b c)
 joined_assoc None b c = refl
 joined_assoc (Some a) None c = refl
 joined_assoc (Some a) (Some b) None = grind arith
@@ -27,11 +28,12 @@ joined_assoc (Some a) (Some b) (Some c) = grind arith
 -- the winner of these winners
 abbrev pub winner_of : List (Option Winner) → Option Winner
 winner_of [] = None
-winner_of (x ∷ rest) = joined x (winner_of rest)
+winner_of (x ∷ rest) = winner_of_two x (winner_of rest)
 
-winner_append : (xs ys : List (Option Winner)) → winner_of (xs ++ ys) ≡ joined (winner_of xs) (winner_of ys)
+winner_append : (xs ys : List (Option Winner)) → winner_of (xs ++ ys) ≡ winner_of_two (winner_of xs) (winner_of ys)
 winner_append [] ys = refl
-winner_append (x ∷ xs) ys = ap (joined x) (winner_append xs ys) ∙ sym (joined_assoc x (winner_of xs) (winner_of ys))
+winner_append (x ∷ xs) ys = ap (winner_of_two x) (winner_append xs ys)
+    ∙ sym (joined_assoc x (winner_of xs) (winner_of ys))
 
 winner_none : (n : ℕ) → winner_of (replicate n None) ≡ None
 winner_none zero = refl
@@ -39,7 +41,7 @@ winner_none (suc n) = winner_none n
 
 winner_leaves : (n : ℕ) (tickets : List (Option Ticket)) → winner_of (leaves_from n tickets) ≡ winner_from n tickets
 winner_leaves n [] = refl
-winner_leaves n (ticket ∷ rest) = ap (joined (at_place n ticket)) (winner_leaves (suc n) rest)
+winner_leaves n (ticket ∷ rest) = ap (winner_of_two (at_place n ticket)) (winner_leaves (suc n) rest)
 
 length_leaves : (n : ℕ) (tickets : List (Option Ticket)) → length (leaves_from n tickets) ≡ length tickets
 length_leaves n [] = refl
@@ -96,7 +98,8 @@ take_twice n m (suc at) (x ∷ xs) =
     ap (λ k. take n (drop at xs) ++ take m (drop k (x ∷ xs))) (let e : suc at + n ≡ suc (at + n) = omega arith in e)
     ∙ take_twice n m at xs
 
-node_alone : (nodes : List (Option Winner)) (i : ℕ) → i < length nodes → node nodes i ≡ winner_of (take 1 (drop i nodes))
+node_alone : (nodes : List (Option Winner)) (i : ℕ) → i < length nodes → node nodes i
+    ≡ winner_of (take 1 (drop i nodes))
 node_alone [] i h = absurd (omega (arith, h))
 node_alone (x ∷ nodes) zero h = sym (joined_none x)
 node_alone (x ∷ nodes) (suc i) h = node_alone nodes i (omega (arith, h))
@@ -108,7 +111,7 @@ node_read [] i d h = absurd (omega (arith, h))
 node_read (x ∷ nodes) zero d h = refl
 node_read (x ∷ nodes) (suc i) d h = node_read nodes i d (omega (arith, h))
 
-node_wins : (nodes : List (Option Winner)) (room : ℕ) → length nodes ≡ room + room → AreJoined nodes room
+node_wins : (nodes : List (Option Winner)) (room : ℕ) → length nodes ≡ room + room → NodesWin nodes room
     → (depth i : ℕ) → 1 ≤ i → start depth i + places_at depth ≤ room + room
     → node nodes i ≡ winner_of (take (places_at depth) (drop (start depth i) nodes))
 node_wins nodes room long inner zero i one fits = node_alone nodes i (omega (arith, fits, long))
@@ -117,10 +120,10 @@ node_wins nodes room long inner (suc depth) i one fits =
     let some = some_places depth in
     let least = start_least depth (i + i) in
     inner i one (omega (arith, fits, some, least))
-    ∙ (λ k. joined
+    ∙ (λ k. winner_of_two
     (node_wins nodes room long inner depth (i + i) (omega (arith, one)) (omega (arith, fits, some)) k)
     (node_wins nodes room long inner depth (suc (i + i)) (omega arith) (omega (arith, fits, next)) k))
-    ∙ ap (λ at. joined (winner_of (take (places_at depth) (drop (start depth (i + i)) nodes)))
+    ∙ ap (λ at. winner_of_two (winner_of (take (places_at depth) (drop (start depth (i + i)) nodes)))
     (winner_of (take (places_at depth) (drop at nodes)))) next
     ∙ sym (winner_append (take (places_at depth) (drop (start depth (i + i)) nodes)) _)
     ∙ ap winner_of (take_twice (places_at depth) (places_at depth) (start depth (i + i)) nodes)
@@ -133,7 +136,8 @@ tickets_again n [] = refl
 tickets_again n (None ∷ rest) = ap (λ l. None ∷ l) (tickets_again (suc n) rest)
 tickets_again n (Some ticket ∷ rest) = ap (λ l. Some ticket ∷ l) (tickets_again (suc n) rest)
 
-pub tickets_are : (nodes : List (Option Winner)) (room len : ℕ) (tickets : List (Option Ticket)) (pad : List (Option Winner))
+pub tickets_are : (nodes : List (Option Winner)) (room len : ℕ) (tickets : List (Option Ticket)) (pad : List (Option
+    Winner))
     → length tickets ≡ len → drop room nodes ≡ leaves_from 0 tickets ++ pad → tickets_of nodes room len ≡ tickets
 tickets_are nodes room len tickets pad long leaves =
     ap (λ l. map ticket_at (take len l)) leaves
@@ -141,8 +145,8 @@ tickets_are nodes room len tickets pad long leaves =
     ∙ ap (map ticket_at) (take-append_seam (leaves_from 0 tickets) pad)
     ∙ tickets_again 0 tickets
 
-length_rest : (nodes : List (Option Winner)) (room : ℕ) → length nodes ≡ room + room → length (drop room nodes) ≡ room
-length_rest nodes room long = length-drop room nodes ∙ omega (arith, long)
+length_places : (nodes : List (Option Winner)) (room : ℕ) → length nodes ≡ room + room → length (drop room nodes) ≡ room
+length_places nodes room long = length-drop room nodes ∙ omega (arith, long)
 
 pub first_wins : (nodes : List (Option Winner)) (room len : ℕ) → IsTree nodes room len → 0 < room
     → node nodes 1 ≡ winner_from 0 (tickets_of nodes room len)
@@ -153,10 +157,10 @@ first_wins nodes room len tree some =
     let pad = replicate (room - len) None in
     node_wins nodes room tree.long tree.inner depth 1 (omega arith) (omega (arith, start_one depth, even))
     ∙ (λ k. winner_of (take (sym even k) (drop ((start_one depth ∙ sym even) k) nodes)))
-    ∙ ap winner_of (ap (λ n. take n (drop room nodes)) (sym (length_rest nodes room tree.long))
+    ∙ ap winner_of (ap (λ n. take n (drop room nodes)) (sym (length_places nodes room tree.long))
     ∙ take-length (drop room nodes) ∙ tree.leaves.2)
     ∙ winner_append (leaves_from 0 tickets) pad
-    ∙ ap (joined (winner_of (leaves_from 0 tickets))) (winner_none (room - len))
+    ∙ ap (winner_of_two (winner_of (leaves_from 0 tickets))) (winner_none (room - len))
     ∙ joined_none (winner_of (leaves_from 0 tickets))
     ∙ winner_leaves 0 tickets
     ∙ ap (winner_from 0) (sym (tickets_are nodes room len tickets pad tree.leaves.1 tree.leaves.2))
@@ -184,56 +188,59 @@ pub leaves_set : (nodes : List (Option Winner)) (room place : ℕ) (tickets : Li
 leaves_set nodes room place tickets pad ticket h leaves =
     drop-set-add room nodes place (at_place place ticket)
     ∙ ap (λ l. slice_set l place (at_place place ticket)) leaves
-    ∙ set-append_left (leaves_from 0 tickets) pad place (at_place place ticket) (omega (arith, h, length_leaves 0 tickets))
+    ∙ set-append_left (leaves_from 0 tickets) pad place (at_place place ticket) (omega (arith, h, length_leaves 0
+        tickets))
     ∙ ap (λ l. l ++ pad)
-    (ap (λ k. slice_set (leaves_from 0 tickets) place (at_place k ticket)) (let e : place ≡ 0 + place = omega arith in e)
+    (ap (λ k. slice_set (leaves_from 0 tickets) place (at_place k ticket)) (let e : place
+        ≡ 0 + place = omega arith in e)
     ∙ set_leaf 0 place tickets ticket h)
 
--- all nodes but one are joined
-abbrev pub AreJoinedBut : List (Option Winner) → ℕ → ℕ → Type 0
-AreJoinedBut nodes room but = (i : ℕ) → 1 ≤ i → i < room → i ≢ but → IsJoined nodes i
+-- all nodes but one are winners of the two below them
+abbrev pub NodesWinBut : List (Option Winner) → ℕ → ℕ → Type 0
+NodesWinBut nodes room but = (i : ℕ) → 1 ≤ i → i < room → i ≢ but → WinsPair nodes i
 
 -- a node that changes is one that only its own join and that of the node above it read
 join_kept : (nodes : List (Option Winner)) (at i : ℕ) (x : Option Winner) → i ≢ at → i + i ≢ at → suc (i + i) ≢ at
-    → IsJoined nodes i → IsJoined (slice_set nodes at x) i
+    → WinsPair nodes i → WinsPair (slice_set nodes at x) i
 join_kept nodes at i x own left right is =
     get_or-set_other nodes at i x None own ∙ is
-    ∙ (λ k. joined (sym (get_or-set_other nodes at (i + i) x None left) k)
+    ∙ (λ k. winner_of_two (sym (get_or-set_other nodes at (i + i) x None left) k)
     (sym (get_or-set_other nodes at (suc (i + i)) x None right) k))
 
--- after a place is set, only the node above it may not be joined
+-- after a place is set, only the node above it may not be the winner of the two below it
 pub joined_but : (nodes : List (Option Winner)) (room at above : ℕ) (x : Option Winner) → room ≤ at
-    → above + above ≤ at → at ≤ suc (above + above) → AreJoined nodes room
-    → AreJoinedBut (slice_set nodes at x) room above
+    → above + above ≤ at → at ≤ suc (above + above) → NodesWin nodes room
+    → NodesWinBut (slice_set nodes at x) room above
 joined_but nodes room at above x low two more inner i one less other =
     join_kept nodes at i x (λ e. absurd (omega (arith, e, low, less)))
     (λ e. other (omega (arith, e, two, more))) (λ e. other (omega (arith, e, two, more)))
     (inner i one less)
 
--- once that one is joined, only the node above that may not be
+-- once that one is, only the node above that may not be
 pub joined_up : (nodes : List (Option Winner)) (room at above : ℕ) (x : Option Winner) → 0 < at → at < room
     → length nodes ≡ room + room → above + above ≤ at → at ≤ suc (above + above)
-    → x ≡ joined (node nodes (at + at)) (node nodes (suc (at + at))) → AreJoinedBut nodes room at
-    → AreJoinedBut (slice_set nodes at x) room above
+    → x ≡ winner_of_two (node nodes (at + at)) (node nodes (suc (at + at))) → NodesWinBut nodes room at
+    → NodesWinBut (slice_set nodes at x) room above
 joined_up nodes room at above x some less long two more is but i one under other = by (i == at) refl
   where
-    apart : i ≢ at → IsJoined (slice_set nodes at x) i
+    apart : i ≢ at → WinsPair (slice_set nodes at x) i
     apart own =
         join_kept nodes at i x own (λ e. other (omega (arith, e, two, more))) (λ e. other (omega (arith, e, two, more)))
         (but i one under own)
 
-    here : IsJoined (slice_set nodes at x) at
+    here : WinsPair (slice_set nodes at x) at
     here =
         get_or-set_same nodes at x None (omega (arith, less, long)) ∙ is
-        ∙ (λ k. joined (sym (get_or-set_other nodes at (at + at) x None (λ e. absurd (omega (arith, e, some)))) k)
+        ∙ (λ k. winner_of_two (sym (get_or-set_other nodes at (at + at) x None (λ e. absurd (omega (arith, e, some))))
+            k)
         (sym (get_or-set_other nodes at (suc (at + at)) x None (λ e. absurd (omega (arith, e, some)))) k))
 
-    by : (b : Bool) → (i == at) ≡ b → IsJoined (slice_set nodes at x) i
-    by true is = subst (IsJoined (slice_set nodes at x)) (sym (eqb-true i at is)) here
+    by : (b : Bool) → (i == at) ≡ b → WinsPair (slice_set nodes at x) i
+    by true is = subst (WinsPair (slice_set nodes at x)) (sym (eqb-true i at is)) here
     by false is = apart (λ e. false≢true (sym is ∙ eq-eqb i at e))
 
-pub all_joined : (nodes : List (Option Winner)) (room at : ℕ) → at < 1 → AreJoinedBut nodes room at
-    → AreJoined nodes room
+pub all_joined : (nodes : List (Option Winner)) (room at : ℕ) → at < 1 → NodesWinBut nodes room at
+    → NodesWin nodes room
 all_joined nodes room at none but i one less = but i one less (λ e. absurd (omega (arith, e, none, one)))
 
 -- ---- whole trees
@@ -241,7 +248,7 @@ all_joined nodes room at none but i one less = but i one less (λ e. absurd (ome
 -- a tree in which a place was set
 pub tree_set : (nodes new : List (Option Winner)) (room len place : ℕ) (ticket : Option Ticket)
     → IsTree nodes room len → place < length (tickets_of nodes room len) → length new ≡ room + room
-    → drop room new ≡ drop room (slice_set nodes (room + place) (at_place place ticket)) → AreJoined new room
+    → drop room new ≡ drop room (slice_set nodes (room + place) (at_place place ticket)) → NodesWin new room
     → IsTree new room len × (tickets_of new room len ≡ slice_set (tickets_of nodes room len) place ticket)
 tree_set nodes new room len place ticket tree there long places inner =
     let tickets = tree.leaves.0 in
@@ -282,7 +289,7 @@ pad_first room len h = ap (λ n. replicate n None) (let e : room - len ≡ suc (
 -- a tree with one place more
 pub tree_pushed : (nodes new : List (Option Winner)) (room len : ℕ) (ticket : Option Ticket)
     → IsTree nodes room len → len < room → length new ≡ room + room
-    → drop room new ≡ drop room (slice_set nodes (room + len) (at_place len ticket)) → AreJoined new room
+    → drop room new ≡ drop room (slice_set nodes (room + len) (at_place len ticket)) → NodesWin new room
     → IsTree new room (suc len) × (tickets_of new room (suc len) ≡ tickets_of nodes room len ++ ticket ∷ [])
 tree_pushed nodes new room len ticket tree less long places inner =
     let tickets = tree.leaves.0 in
@@ -314,9 +321,9 @@ tree_pushed nodes new room len ticket tree less long places inner =
 -- ---- a wider tree
 
 -- a tree without tickets
-pub empty_joined : (many room : ℕ) → AreJoined (replicate many None) room
+pub empty_joined : (many room : ℕ) → NodesWin (replicate many None) room
 empty_joined many room i one less =
-    read many i ∙ sym (λ k. joined (read many (i + i) k) (read many (suc (i + i)) k))
+    read many i ∙ sym (λ k. winner_of_two (read many (i + i) k) (read many (suc (i + i)) k))
   where
     read : (n i : ℕ) → node (replicate n None) i ≡ None
     read zero i = refl
@@ -325,7 +332,8 @@ empty_joined many room i one less =
 
 pub drop_empty : (room : ℕ) → drop room (replicate (room + room) None)
     ≡ (let rest : List (Option Winner) = replicate room None in rest)
-drop_empty room = drop-replicate room (room + room) None ∙ ap (λ n. replicate n None) (let e : room + room - room ≡ room = omega arith in e)
+drop_empty room = drop-replicate room (room + room) None ∙ ap (λ n. replicate n None) (let e : room + room - room
+    ≡ room = omega arith in e)
 
 -- one more of the places is set
 pub widened_more : (wider new places : List (Option Winner)) (wide place : ℕ) (d : Option Winner)
@@ -337,7 +345,8 @@ widened_more wider new places wide place d there less before after =
     after ∙ drop-set-add wide wider place (get_or places place d)
     ∙ ap (λ l. slice_set l place (get_or places place d)) (before
     ∙ ap (λ l. take place places ++ l) (pad_first wide place less))
-    ∙ set_first (take place places) None (get_or places place d) _ place (length-take-le place places (omega (arith, there)))
+    ∙ set_first (take place places) None (get_or places place d) _ place (length-take-le place places (omega (arith,
+        there)))
     ∙ ap (λ l. l ++ replicate (wide - suc place) None) (sym (take_last places place d there))
   where
     take_last : {X : Type 0} (xs : List X) (n : ℕ) (d : X) → n < length xs → take (suc n) xs
@@ -350,7 +359,7 @@ widened_more wider new places wide place d there less before after =
 pub tree_widened : (nodes new : List (Option Winner)) (room wide : ℕ) → IsTree nodes room room → room < wide
     → length new ≡ wide + wide
     → ((0 < wide) → (depth : ℕ) × (wide ≡ places_at depth))
-    → drop wide new ≡ take room (drop room nodes) ++ replicate (wide - room) None → AreJoined new wide
+    → drop wide new ≡ take room (drop room nodes) ++ replicate (wide - room) None → NodesWin new wide
     → IsTree new wide room × (tickets_of new wide room ≡ tickets_of nodes room room)
 tree_widened nodes new room wide tree less long even places inner =
     let tickets = tree.leaves.0 in

@@ -11,17 +11,18 @@ use Rattle.rb_desk.specs.declared.span.Status.{Status}
 use Rattle.rb_desk.specs.declared.ticket.Ticket.{Ticket}
 use Rattle.rb_desk.specs.declared.ticket.Held.{Held}
 use Rattle.rb_desk.specs.Lanes.{FollowOn, restated, stated}
-use Rattle.rb_desk.specs.Taken.{at_place, with_state}
+use Rattle.rb_desk.specs.Taken.{changed_place, with_state}
 use Rattle.rb_desk.proofs.spans.JoinLaws.{Other, joins_begin, joins_others}
 use Rattle.rb_desk.proofs.orders.Line.{all_both, all_then}
-use Rattle.rb_desk.proofs.spans.PlaceLaws.{all_read, drop_read}
+use Rattle.rb_desk.proofs.spans.PlaceLaws.{said_at, drop_read}
 
 -- nothing is restated where no span begins so
-pub restated_none : (first : ℕ) (status : Status) (ticket : Ticket) (xs : List Held) → AllByRecursion (Other first) xs
+pub nothing_restated : (first : ℕ) (status : Status) (ticket : Ticket) (xs : List Held)
+    → AllByRecursion (Other first) xs
     → restated first status ticket xs ≡ xs
-restated_none first status ticket [] h = refl
-restated_none first status ticket (x ∷ xs) h = (λ k. (if h.0 k then with_state status ticket x else x)
-    ∷ restated_none first status ticket xs h.1 k)
+nothing_restated first status ticket [] h = refl
+nothing_restated first status ticket (x ∷ xs) h = (λ k. (if h.0 k then with_state status ticket x else x)
+    ∷ nothing_restated first status ticket xs h.1 k)
 
 restated_append : (first : ℕ) (status : Status) (ticket : Ticket) (xs ys : List Held)
     → restated first status ticket (xs ++ ys) ≡ restated first status ticket xs ++ restated first status ticket ys
@@ -30,7 +31,7 @@ restated_append first status ticket (x ∷ xs) ys =
     ap (λ l. stated first status ticket x ∷ l) (restated_append first status ticket xs ys)
 
 at_there : (f : Held → Held) (xs : List Held) (x : Held) (ys : List Held) (i : ℕ) → length xs ≡ i
-    → at_place i f (xs ++ x ∷ ys) ≡ xs ++ f x ∷ ys
+    → changed_place i f (xs ++ x ∷ ys) ≡ xs ++ f x ∷ ys
 at_there f [] x ys zero e = refl
 at_there f [] x ys (suc i) e = absurd (omega (arith, e))
 at_there f (y ∷ xs) x ys zero e = absurd (omega (arith, e))
@@ -42,10 +43,10 @@ split_there : (xs : List Held) (i : ℕ) (d : Held) → i < length xs
 split_there xs i d less = ap (λ l. take i xs ++ l) (sym (drop_read xs i d less)) ∙ take-append-drop i xs
 
 -- where the span at a place begins with the number, it alone is restated
-pub restated_there : (first : ℕ) (status : Status) (ticket : Ticket) (low next : ℕ) (xs : List Held) (i : ℕ) (d : Held)
+pub one_restated : (first : ℕ) (status : Status) (ticket : Ticket) (low next : ℕ) (xs : List Held) (i : ℕ) (d : Held)
     → FollowOn low xs next → i < length xs → (get_or xs i d).span.first ≡ first
-    → restated first status ticket xs ≡ at_place i (with_state status ticket) xs
-restated_there first status ticket low next xs i d joined less is =
+    → restated first status ticket xs ≡ changed_place i (with_state status ticket) xs
+one_restated first status ticket low next xs i d joined less is =
     let one = get_or xs i d in
     let split = split_there xs i d less in
     let others = joins_others low next (take i xs) one (drop (suc i) xs)
@@ -54,12 +55,12 @@ restated_there first status ticket low next xs i d joined less is =
     let after = subst (λ n. AllByRecursion (Other n) (drop (suc i) xs)) is others.1 in
     ap (restated first status ticket) (sym split)
     ∙ restated_append first status ticket (take i xs) (one ∷ drop (suc i) xs)
-    ∙ (λ k. restated_none first status ticket (take i xs) before k
+    ∙ (λ k. nothing_restated first status ticket (take i xs) before k
     ++ (if eq-eqb one.span.first first is k then with_state status ticket one else one)
-    ∷ restated_none first status ticket (drop (suc i) xs) after k)
+    ∷ nothing_restated first status ticket (drop (suc i) xs) after k)
     ∙ sym (at_there (with_state status ticket) (take i xs) one (drop (suc i) xs) i
     (length-take-le i xs (omega (arith, less))))
-    ∙ ap (at_place i (with_state status ticket)) split
+    ∙ ap (changed_place i (with_state status ticket)) split
 
 -- ---- where it would be
 
@@ -67,27 +68,28 @@ abbrev pub begins_below : ℕ → Held → Bool
 begins_below first h = nat_lt h.span.first first
 
 -- spans that follow one another begin later and later
-rises : (low next : ℕ) (xs : List Held) (d : Held) → FollowOn low xs next → (i j : ℕ) → i ≤ j → j < length xs
+never_falls : (low next : ℕ) (xs : List Held) (d : Held) → FollowOn low xs next → (i j : ℕ) → i ≤ j → j < length xs
     → (get_or xs i d).span.first ≤ (get_or xs j d).span.first
-rises low next [] d joined i j le less = absurd (omega (arith, less))
-rises low next (x ∷ xs) d joined zero zero le less = omega arith
-rises low next (x ∷ xs) d joined zero (suc j) le less =
+never_falls low next [] d joined i j le less = absurd (omega (arith, less))
+never_falls low next (x ∷ xs) d joined zero zero le less = omega arith
+never_falls low next (x ∷ xs) d joined zero (suc j) le less =
     omega (
       arith,
       joined.1,
-      all_read (λ h. suc x.span.last ≤ h.span.first) xs j d
+      said_at (λ h. suc x.span.last ≤ h.span.first) xs j d
           (joins_begin (suc x.span.last) next xs joined.2) (omega (arith, less)),
     )
-rises low next (x ∷ xs) d joined (suc i) zero le less = absurd (omega (arith, le))
-rises low next (x ∷ xs) d joined (suc i) (suc j) le less =
-    rises (suc x.span.last) next xs d joined.2 i j (omega (arith, le)) (omega (arith, less))
+never_falls low next (x ∷ xs) d joined (suc i) zero le less = absurd (omega (arith, le))
+never_falls low next (x ∷ xs) d joined (suc i) (suc j) le less =
+    never_falls (suc x.span.last) next xs d joined.2 i j (omega (arith, le)) (omega (arith, less))
 
 pub parts_below : (first low next : ℕ) (xs : List Held) → FollowOn low xs next → IsPartitionedBy (begins_below first) xs
 parts_below first low next xs joined i j d le less is =
-    lt-ltb _ _ (omega (arith, rises low next xs d joined i j le less, ltb-true _ _ is))
+    lt-ltb _ _ (omega (arith, never_falls low next xs d joined i j le less, ltb-true _ _ is))
 
 -- the spans from a place on follow one another too
-follow_drop : (low next : ℕ) (xs : List Held) (i : ℕ) → FollowOn low xs next → (from : ℕ) × FollowOn from (drop i xs) next
+follow_drop : (low next : ℕ) (xs : List Held) (i : ℕ) → FollowOn low xs next → (from : ℕ)
+    × FollowOn from (drop i xs) next
 follow_drop low next xs zero joined = (low, joined)
 follow_drop low next [] (suc i) joined = (low, joined)
 follow_drop low next (x ∷ xs) (suc i) joined = follow_drop (suc x.span.last) next xs i joined.2
@@ -103,10 +105,10 @@ length_left [] (suc i) less = absurd (omega (arith, less))
 length_left (x ∷ xs) (suc i) less = omega (arith, length_left xs i less)
 
 -- where the first begins later, all do
-later : (first low next : ℕ) (ys : List Held) → FollowOn low ys next
+others_later : (first low next : ℕ) (ys : List Held) → FollowOn low ys next
     → ((d : Held) → 0 < length ys → first < (get_or ys 0 d).span.first) → AllByRecursion (Other first) ys
-later first low next [] joined beyond = tt
-later first low next (y ∷ ys) joined beyond =
+others_later first low next [] joined beyond = tt
+others_later first low next (y ∷ ys) joined beyond =
     let one = beyond y (omega arith) in (
       ne_eqb y.span.first first (omega (arith, one)),
       all_then (λ h. suc y.span.last ≤ h.span.first) (Other first) ys
@@ -130,12 +132,13 @@ others_at first low next xs i joined within point not_there =
     subst (AllByRecursion (Other first)) (take-append-drop i xs)
     (all_both (Other first) (take i xs) (drop i xs)
     (below xs i within (λ k d less. point.0 k d (omega arith) less))
-    (later first (follow_drop low next xs i joined).0 next (drop i xs) (follow_drop low next xs i joined).1
+    (others_later first (follow_drop low next xs i joined).0 next (drop i xs) (follow_drop low next xs i joined).1
     (λ d some. let less = length_left xs i some in
     let up = ltb-false _ _ (point.1 i d (omega arith) less) in
     rw (read_drop xs i d) (beyond (get_or xs i d).span.first first up (not_there d less)))))
   where
-    below : (xs : List Held) (i : ℕ) → i ≤ length xs → ((k : ℕ) (d : Held) → k < i → begins_below first (get_or xs k d) ≡ true)
+    below : (xs : List Held) (i : ℕ) → i ≤ length xs → ((k : ℕ) (d : Held) → k < i
+        → begins_below first (get_or xs k d) ≡ true)
         → AllByRecursion (Other first) (take i xs)
     below xs zero le h = tt
     below [] (suc i) le h = tt

@@ -12,16 +12,16 @@ use Rattle.rb_desk.specs.Spans.{is_out, is_out_as, is_due, how_many_out, out_as}
 use Rattle.rb_desk.specs.Expiry.{due_held, expired_by, by_number, turns_from}
 use Rattle.rb_desk.specs.Shown.{IsGiven}
 use Rattle.rb_desk.specs.Lanes.{spans_of}
-use Rattle.rb_desk.specs.Taken.{places_out, at_place, is_out_in, is_out_at}
+use Rattle.rb_desk.specs.Taken.{places_out, changed_place, is_out_in, is_out_at}
 use Rattle.rb_desk.specs.Taken.{AreWithin}
 
 -- ---- lists
 
-pub all_read : {X : Type 0} (P : X → Type 0) (xs : List X) (i : ℕ) (d : X) → AllByRecursion P xs → i < length xs
+pub said_at : {X : Type 0} (P : X → Type 0) (xs : List X) (i : ℕ) (d : X) → AllByRecursion P xs → i < length xs
     → P (get_or xs i d)
-all_read P [] i d h less = absurd (omega (arith, less))
-all_read P (x ∷ xs) zero d h less = h.0
-all_read P (x ∷ xs) (suc i) d h less = all_read P xs i d h.1 (omega (arith, less))
+said_at P [] i d h less = absurd (omega (arith, less))
+said_at P (x ∷ xs) zero d h less = h.0
+said_at P (x ∷ xs) (suc i) d h less = said_at P xs i d h.1 (omega (arith, less))
 
 pub drop_read : {X : Type 0} (xs : List X) (i : ℕ) (d : X) → i < length xs → drop i xs ≡ get_or xs i d ∷ drop (suc i) xs
 drop_read [] i d less = absurd (omega (arith, less))
@@ -41,42 +41,42 @@ take_next (x ∷ xs) (suc i) d less = ap (λ l. x ∷ l) (take_next xs i d (omeg
 
 -- a change at a place is a write there
 pub set_is : {X : Type 0} (f : X → X) (xs : List X) (i : ℕ) (d : X) → slice_set xs i (f (get_or xs i d))
-    ≡ at_place i f xs
+    ≡ changed_place i f xs
 set_is f [] i d = refl
 set_is f (x ∷ xs) zero d = refl
 set_is f (x ∷ xs) (suc i) d = ap (λ l. x ∷ l) (set_is f xs i d)
 
 pub map_at : {X Y : Type 0} (g : X → Y) (f : X → X) (xs : List X) (i : ℕ) (d : X)
-    → slice_set (map g xs) i (g (f (get_or xs i d))) ≡ map g (at_place i f xs)
+    → slice_set (map g xs) i (g (f (get_or xs i d))) ≡ map g (changed_place i f xs)
 map_at g f [] i d = refl
 map_at g f (x ∷ xs) zero d = refl
 map_at g f (x ∷ xs) (suc i) d = ap (λ l. g x ∷ l) (map_at g f xs i d)
 
-pub length_at : {X : Type 0} (f : X → X) (xs : List X) (i : ℕ) → length (at_place i f xs) ≡ length xs
-length_at f [] i = refl
-length_at f (x ∷ xs) zero = refl
-length_at f (x ∷ xs) (suc i) = ap suc (length_at f xs i)
+pub length_changed : {X : Type 0} (f : X → X) (xs : List X) (i : ℕ) → length (changed_place i f xs) ≡ length xs
+length_changed f [] i = refl
+length_changed f (x ∷ xs) zero = refl
+length_changed f (x ∷ xs) (suc i) = ap suc (length_changed f xs i)
 
 -- a change after the first n leaves these, and is one of the rest
-pub drop_at : {X : Type 0} (f : X → X) (n i : ℕ) (xs : List X) → drop n (at_place (n + i) f xs)
-    ≡ at_place i f (drop n xs)
-drop_at f zero i xs = ap (λ k. at_place k f xs) (let e : 0 + i ≡ i = omega arith in e)
+pub drop_at : {X : Type 0} (f : X → X) (n i : ℕ) (xs : List X) → drop n (changed_place (n + i) f xs)
+    ≡ changed_place i f (drop n xs)
+drop_at f zero i xs = ap (λ k. changed_place k f xs) (let e : 0 + i ≡ i = omega arith in e)
 drop_at f (suc n) i [] = refl
 drop_at f (suc n) i (x ∷ xs) =
-    ap (λ k. drop (suc n) (at_place k f (x ∷ xs))) (let e : suc n + i ≡ suc (n + i) = omega arith in e)
+    ap (λ k. drop (suc n) (changed_place k f (x ∷ xs))) (let e : suc n + i ≡ suc (n + i) = omega arith in e)
     ∙ drop_at f n i xs
 
-pub take_at : {X : Type 0} (f : X → X) (n i : ℕ) (xs : List X) → take n (at_place (n + i) f xs) ≡ take n xs
+pub take_at : {X : Type 0} (f : X → X) (n i : ℕ) (xs : List X) → take n (changed_place (n + i) f xs) ≡ take n xs
 take_at f zero i xs = refl
 take_at f (suc n) i [] = refl
 take_at f (suc n) i (x ∷ xs) =
-    ap (λ k. take (suc n) (at_place k f (x ∷ xs))) (let e : suc n + i ≡ suc (n + i) = omega arith in e)
+    ap (λ k. take (suc n) (changed_place k f (x ∷ xs))) (let e : suc n + i ≡ suc (n + i) = omega arith in e)
     ∙ ap (λ l. x ∷ l) (take_at f n i xs)
 
-at_end : {X : Type 0} (f : X → X) (pre : List X) (x : X) (xs : List X)
-    → at_place (length pre) f (pre ++ x ∷ xs) ≡ pre ++ f x ∷ xs
-at_end f [] x xs = refl
-at_end f (y ∷ pre) x xs = ap (λ l. y ∷ l) (at_end f pre x xs)
+changed_after : {X : Type 0} (f : X → X) (pre : List X) (x : X) (xs : List X)
+    → changed_place (length pre) f (pre ++ x ∷ xs) ≡ pre ++ f x ∷ xs
+changed_after f [] x xs = refl
+changed_after f (y ∷ pre) x xs = ap (λ l. y ∷ l) (changed_after f pre x xs)
 
 get_end : {X : Type 0} (pre : List X) (x : X) (xs : List X) → slice_get (pre ++ x ∷ xs) (length pre) ≡ Some x
 get_end [] x xs = refl
@@ -96,7 +96,8 @@ out_length n (x ∷ xs) = by (is_out x.span.status) (out_length (suc n) xs)
   where
     by : (b : Bool) → length (places_out (suc n) xs) ≡ how_many_out (spans_of xs)
         → length (cond b (n ∷ places_out (suc n) xs) (places_out (suc n) xs))
-        ≡ length (cond b (x.span ∷ filter (λ p. is_out p.status) (spans_of xs)) (filter (λ p. is_out p.status) (spans_of xs)))
+        ≡ length (cond b (x.span ∷ filter (λ p. is_out p.status) (spans_of xs)) (filter (λ p. is_out p.status)
+            (spans_of xs)))
     by true e = ap suc e
     by false e = e
 
@@ -110,7 +111,8 @@ out_from n (x ∷ xs) = by (is_out x.span.status) (wider (places_out (suc n) xs)
     wider (p ∷ ps) h = ((omega (arith, h.0.0), omega (arith, h.0.1)), wider ps h.1)
 
     by : (b : Bool) → AllByRecursion (λ p. (n ≤ p) × (p < n + suc (length xs))) (places_out (suc n) xs)
-        → AllByRecursion (λ p. (n ≤ p) × (p < n + suc (length xs))) (cond b (n ∷ places_out (suc n) xs) (places_out (suc n) xs))
+        → AllByRecursion (λ p. (n ≤ p) × (p < n + suc (length xs))) (cond b (n ∷ places_out (suc n) xs) (places_out
+            (suc n) xs))
     by true h = ((omega arith, omega arith), h)
     by false h = h
 
@@ -126,8 +128,8 @@ abbrev pub at_places : List Held → List ℕ → List Held
 at_places lane = filter_map (slice_get lane)
 
 -- those at the places of the ones in flight are the ones in flight
-pub next_place : (n : ℕ) → n + 1 ≡ suc n
-next_place n = omega arith
+pub one_more_place : (n : ℕ) → n + 1 ≡ suc n
+one_more_place n = omega arith
 
 pub out_there : (pre xs : List Held) → at_places (pre ++ xs) (places_out (length pre) xs)
     ≡ filter (λ h. is_out h.span.status) xs
@@ -136,8 +138,10 @@ out_there pre (x ∷ xs) = by (is_out x.span.status)
     ((λ k. at_places (sym (step_in pre x xs) k) (places_out (sym (step_length pre x) k) xs))
     ∙ out_there (pre ++ x ∷ []) xs)
   where
-    by : (b : Bool) → at_places (pre ++ x ∷ xs) (places_out (suc (length pre)) xs) ≡ filter (λ h. is_out h.span.status) xs
-        → at_places (pre ++ x ∷ xs) (cond b (length pre ∷ places_out (suc (length pre)) xs) (places_out (suc (length pre)) xs))
+    by : (b : Bool) → at_places (pre ++ x ∷ xs) (places_out (suc (length pre)) xs)
+        ≡ filter (λ h. is_out h.span.status) xs
+        → at_places (pre ++ x ∷ xs) (cond b (length pre ∷ places_out (suc (length pre)) xs) (places_out (suc (length
+            pre)) xs))
         ≡ cond b (x ∷ filter (λ h. is_out h.span.status) xs) (filter (λ h. is_out h.span.status) xs)
     by true e = (λ k. cons_option (get_end pre x xs k) (e k))
     by false e = e
@@ -147,7 +151,7 @@ out_there pre (x ∷ xs) = by (is_out x.span.status)
 -- a change at each of these places
 abbrev pub changed_at : (Held → Held) → List ℕ → List Held → List Held
 changed_at f [] xs = xs
-changed_at f (p ∷ ps) xs = changed_at f ps (at_place p f xs)
+changed_at f (p ∷ ps) xs = changed_at f ps (changed_place p f xs)
 
 -- a change that leaves alone what isn't in flight changes all if it changes those in flight
 pub all_changed : (f : Held → Held) → ((h : Held) → is_out h.span.status ≡ false → f h ≡ h) → (pre xs : List Held)
@@ -160,14 +164,16 @@ all_changed f same pre (x ∷ xs) = by (is_out x.span.status) refl (λ y. all_ch
 
     rest : (y : Held) → Rest y
         → changed_at f (places_out (suc (length pre)) xs) (pre ++ y ∷ xs) ≡ pre ++ y ∷ map f xs
-    rest y later = (λ k. changed_at f (places_out (sym (step_length pre y) k) xs) (sym (step_in pre y xs) k))
-        ∙ later ∙ step_in pre y (map f xs)
+    rest y after = (λ k. changed_at f (places_out (sym (step_length pre y) k) xs) (sym (step_in pre y xs) k))
+        ∙ after ∙ step_in pre y (map f xs)
 
     by : (b : Bool) → is_out x.span.status ≡ b → ((y : Held) → Rest y)
-        → changed_at f (cond b (length pre ∷ places_out (suc (length pre)) xs) (places_out (suc (length pre)) xs)) (pre ++ x ∷ xs)
+        → changed_at f (cond b (length pre ∷ places_out (suc (length pre)) xs) (places_out (suc (length pre)) xs)) (pre
+            ++ x ∷ xs)
         ≡ pre ++ f x ∷ map f xs
-    by true is later = ap (changed_at f (places_out (suc (length pre)) xs)) (at_end f pre x xs) ∙ rest (f x) (later (f x))
-    by false is later = rest x (later x) ∙ ap (λ y. pre ++ y ∷ map f xs) (sym (same x is))
+    by true is after = ap (changed_at f (places_out (suc (length pre)) xs)) (changed_after f pre x xs)
+        ∙ rest (f x) (after (f x))
+    by false is after = rest x (after x) ∙ ap (λ y. pre ++ y ∷ map f xs) (sym (same x is))
 
 -- where a change puts none in flight, those in flight after it are among those before
 pub out_kept : (f : Held → Held) → ((h : Held) → is_out h.span.status ≡ false → is_out (f h).span.status ≡ false)
@@ -179,17 +185,17 @@ out_kept f none pre (x ∷ xs) = by (is_out x.span.status) refl (is_out (f x).sp
     ∙ out_kept f none (pre ++ f x ∷ []) xs
     ∙ ap (λ n. places_out n (map f xs)) (step_length pre (f x)))
   where
-    later : List ℕ
-    later = places_out (suc (length pre)) xs
+    after : List ℕ
+    after = places_out (suc (length pre)) xs
 
     Rest : Type 0
-    Rest = filter (is_out_at (pre ++ f x ∷ map f xs)) later ≡ places_out (suc (length pre)) (map f xs)
+    Rest = filter (is_out_at (pre ++ f x ∷ map f xs)) after ≡ places_out (suc (length pre)) (map f xs)
 
     here : is_out_at (pre ++ f x ∷ map f xs) (length pre) ≡ is_out (f x).span.status
     here = ap is_out_in (get_end pre (f x) (map f xs))
 
     by : (b : Bool) → is_out x.span.status ≡ b → (d : Bool) → is_out (f x).span.status ≡ d → Rest
-        → filter (is_out_at (pre ++ f x ∷ map f xs)) (cond b (length pre ∷ later) later)
+        → filter (is_out_at (pre ++ f x ∷ map f xs)) (cond b (length pre ∷ after) after)
         ≡ cond d (length pre ∷ places_out (suc (length pre)) (map f xs)) (places_out (suc (length pre)) (map f xs))
     by true is true now rest = (λ k. cond ((here ∙ now) k) (length pre ∷ rest k) (rest k))
     by true is false now rest = (λ k. cond ((here ∙ now) k) (length pre ∷ rest k) (rest k))
@@ -205,7 +211,8 @@ find_out t out [] = refl
 find_out t out (x ∷ xs) = by (is_out x.span.status) refl (t x.span.status) refl (find_out t out xs)
   where
     by : (b : Bool) → is_out x.span.status ≡ b → (d : Bool) → t x.span.status ≡ d
-        → find (λ p. t p.status) (spans_of (filter (λ h. is_out h.span.status) xs)) ≡ find (λ p. t p.status) (spans_of xs)
+        → find (λ p. t p.status) (spans_of (filter (λ h. is_out h.span.status) xs))
+            ≡ find (λ p. t p.status) (spans_of xs)
         → find (λ p. t p.status) (spans_of (cond b (x ∷ filter (λ h. is_out h.span.status) xs)
         (filter (λ h. is_out h.span.status) xs)))
         ≡ cond d (Some x.span) (find (λ p. t p.status) (spans_of xs))
@@ -228,7 +235,8 @@ count_out t out (x ∷ xs) = by (is_out x.span.status) refl (t x.span.status) re
         (filter (λ h. is_out h.span.status) xs)))
         ≡ length (cond d (x ∷ filter (λ h. t h.span.status) xs) (filter (λ h. t h.span.status) xs))
     by true is d now rest = (λ k. length (cond (now k) (x ∷ filter (λ h. t h.span.status)
-        (filter (λ h. is_out h.span.status) xs)) (filter (λ h. t h.span.status) (filter (λ h. is_out h.span.status) xs))))
+        (filter (λ h. is_out h.span.status) xs)) (filter (λ h. t h.span.status) (filter (λ h. is_out h.span.status)
+            xs))))
         ∙ more d rest
       where
         more : (d : Bool) → length (filter (λ h. t h.span.status) (filter (λ h. is_out h.span.status) xs))
@@ -248,13 +256,13 @@ pub places_step : (lane : List Held) (out : List ℕ) (i : ℕ) (d : Held) → i
 places_step lane out i d less within =
     ap (at_places lane) (drop_read out i 0 less)
     ∙ ap (λ o. cons_option o (at_places lane (drop (suc i) out))) (get_read lane (get_or out i 0) d within)
-    ∙ ap (λ n. get_or lane (get_or out i 0) d ∷ at_places lane (drop n out)) (sym (next_place i))
+    ∙ ap (λ n. get_or lane (get_or out i 0) d ∷ at_places lane (drop n out)) (sym (one_more_place i))
 
 -- a place among those in flight is one of the list
 pub place_within : (lane : List Held) (out : List ℕ) (i : ℕ) → out ≡ places_out 0 lane → i < length out
     → get_or out i 0 < length lane
 place_within lane out i is less =
-    all_read (λ p. p < length lane) out i 0 (subst (AreWithin (length lane)) (sym is) (out_within lane)) less
+    said_at (λ p. p < length lane) out i 0 (subst (AreWithin (length lane)) (sym is) (out_within lane)) less
 
 -- ---- those that are due
 
@@ -318,7 +326,7 @@ pub out_next : (lane : List Held) (i : ℕ) (d : Held) (t : Bool) → i < length
     → places_out 0 (take (i + 1) lane)
     ≡ (if t then places_out 0 (take i lane) ++ i ∷ [] else places_out 0 (take i lane))
 out_next lane i d t less is =
-    ap (λ n. places_out 0 (take n lane)) (next_place i)
+    ap (λ n. places_out 0 (take n lane)) (one_more_place i)
     ∙ ap (places_out 0) (take_next lane i d less)
     ∙ out_more 0 (take i lane) (get_or lane i d) t is
     ∙ ap (λ n. if t then places_out 0 (take i lane) ++ n ∷ [] else places_out 0 (take i lane))
@@ -326,10 +334,10 @@ out_next lane i d t less is =
 
 -- ---- those that expire
 
-not_due : (timeout clock : ℕ) (status : Status) → is_out status ≡ false → is_due timeout clock status ≡ false
-not_due timeout clock (Ready taken) is = refl
-not_due timeout clock (InFlight number moment) is = absurd (let e : true ≡ false = is in cc)
-not_due timeout clock Settled is = refl
+never_due : (timeout clock : ℕ) (status : Status) → is_out status ≡ false → is_due timeout clock status ≡ false
+never_due timeout clock (Ready taken) is = refl
+never_due timeout clock (InFlight number moment) is = absurd (let e : true ≡ false = is in cc)
+never_due timeout clock Settled is = refl
 
 pub expired_same : (timeout clock : ℕ) (latest : Ticket) (h : Held) → is_out h.span.status ≡ false
     → expired_by timeout clock latest h ≡ h
@@ -337,11 +345,11 @@ expired_same timeout clock latest h is =
     ap (λ t. if t then record {
       span = record h.span { status = Ready true };
       ticket = by_number (turns_from latest.front latest.turn) h;
-    } else h) (not_due timeout clock h.span.status is)
+    } else h) (never_due timeout clock h.span.status is)
 
 -- what is said of a span after a change at its place
 pub all_at_place : (P : Held → Type 0) (f : Held → Held) → ((h : Held) → P h → P (f h)) → (xs : List Held) (i : ℕ)
-    → AllByRecursion P xs → AllByRecursion P (at_place i f xs)
+    → AllByRecursion P xs → AllByRecursion P (changed_place i f xs)
 all_at_place P f step [] i h = tt
 all_at_place P f step (x ∷ xs) zero h = (step x h.0, h.1)
 all_at_place P f step (x ∷ xs) (suc i) h = (h.0, all_at_place P f step xs i h.1)
@@ -358,7 +366,7 @@ expired_given timeout clock next latest h given = by (is_due timeout clock h.spa
     by false = given
 
 pub changed_step : (f : Held → Held) (out : List ℕ) (i : ℕ) (xs : List Held) → i < length out
-    → changed_at f (drop i out) xs ≡ changed_at f (drop (i + 1) out) (at_place (get_or out i 0) f xs)
+    → changed_at f (drop i out) xs ≡ changed_at f (drop (i + 1) out) (changed_place (get_or out i 0) f xs)
 changed_step f out i xs less =
     ap (λ ps. changed_at f ps xs) (drop_read out i 0 less)
-    ∙ ap (λ n. changed_at f (drop n out) (at_place (get_or out i 0) f xs)) (sym (next_place i))
+    ∙ ap (λ n. changed_at f (drop n out) (changed_place (get_or out i 0) f xs)) (sym (one_more_place i))

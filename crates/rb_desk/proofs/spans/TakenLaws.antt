@@ -1,9 +1,11 @@
 -- The spans that were taken before: what stands beside them says of those that the floor has not passed what is asked.
 use Rattle.std.proofs.Common.{◌≡◌, ℕ, zero, suc, ◌+◌, ◌<◌, ◌≤◌, ne_eqb, Bool, true, false, cond, List, [], ◌∷◌, ◌++◌}
-use Rattle.std.proofs.Common.{length, take, drop, map, get_or, filter, find, Option, Some, None, refl, sym, ap, subst, ◌∙◌}
+use Rattle.std.proofs.Common.{length, take, drop, map, get_or, filter, find, Option, Some, None, refl, sym, ap, subst}
+use Rattle.std.proofs.Common.{◌∙◌}
 use Rattle.std.proofs.Common.{arith, eq-eqb, nat_lt, if◌then◌else◌}
 use Rattle.std.specs.List.{AllByRecursion}
-use Rattle.std.proofs.lemmas.List.{length-append, length-drop, length-map, map-append, take-append-drop, take-append-le, take-map}
+use Rattle.std.proofs.lemmas.List.{length-append, length-drop, length-map, map-append, take-append-drop, take-append-le}
+use Rattle.std.proofs.lemmas.List.{take-map}
 use Rattle.rb_desk.proofs.orders.TreeLaws.{take_more}
 use Rattle.rb_desk.specs.declared.span.Status.{Status}
 use Rattle.rb_desk.specs.declared.span.Status.TheVariants.{Ready, InFlight, Settled}
@@ -14,11 +16,12 @@ use Rattle.rb_desk.specs.Spans.{first_ready, is_ready, is_out, is_out_as, is_due
 use Rattle.rb_desk.specs.Lanes.{spans_of, least, better, earlier}
 use Rattle.rb_desk.specs.Expiry.{due_held, expired_by}
 use Rattle.rb_desk.specs.Shown.{IsGiven}
-use Rattle.rb_desk.specs.Tournament.{joined, earlier_of, winner_from}
+use Rattle.rb_desk.specs.Tournament.{winner_of_two, earlier_of, winner_from}
 use Rattle.rb_desk.specs.Tournament as tree
-use Rattle.rb_desk.specs.Taken.{is_out_at, IsTaken, ticket_if_ready, places_out, at_place, with_place, without_place, IsPassed}
+use Rattle.rb_desk.specs.Taken.{is_out_at, IsTaken, ticket_if_ready, places_out, changed_place, with_place}
+use Rattle.rb_desk.specs.Taken.{without_place, IsPassed}
 use Rattle.rb_desk.proofs.orders.Line.{all_both, all_then}
-use Rattle.rb_desk.proofs.spans.PlaceLaws.{no_held, expired_same, out_from, out_kept, out_more, length_at, take_at}
+use Rattle.rb_desk.proofs.spans.PlaceLaws.{no_held, expired_same, out_from, out_kept, out_more, length_changed, take_at}
 use Rattle.std.proofs.lemmas.Bool.{lt-ltb, le-ltb}
 
 -- ---- the winner among spans
@@ -38,9 +41,10 @@ abbrev pub WinsFrom : ℕ → List Held → Option Winner → Type 0
 WinsFrom n xs None = (first_ready (spans_of xs) ≡ None) × (least xs ≡ None)
 WinsFrom n xs (Some w) = Wins n xs w
 
-alone : (n : ℕ) (x : Held) (xs : List Held) (o : Option Winner) → is_ready x.span.status ≡ true → WinsFrom (suc n) xs o
-    → WinsFrom n (x ∷ xs) (joined (Some (record { first = n; place = n; ticket = x.ticket })) o)
-alone n x xs None ready rest = record {
+wins_first : (n : ℕ) (x : Held) (xs : List Held) (o : Option Winner) → is_ready x.span.status ≡ true
+    → WinsFrom (suc n) xs o
+    → WinsFrom n (x ∷ xs) (winner_of_two (Some (record { first = n; place = n; ticket = x.ticket })) o)
+wins_first n x xs None ready rest = record {
   at = 0;
   first = omega arith;
   within = omega arith;
@@ -51,7 +55,7 @@ alone n x xs None ready rest = record {
   in_line = (λ k. better (cond (ready k) (Some x) None) (rest.1 k));
   ticket = refl;
 }
-alone n x xs (Some w) ready rest = by (earlier w.ticket x.ticket) refl
+wins_first n x xs (Some w) ready rest = by (earlier w.ticket x.ticket) refl
   where
     first_is : first_ready (spans_of (x ∷ xs)) ≡ Some x.span
     first_is = ap (λ t. cond t (Some x.span) (first_ready (spans_of xs))) ready
@@ -112,8 +116,8 @@ wins n [] = (refl, refl)
 wins n (x ∷ xs) = by (is_ready x.span.status) refl (winner_from (suc n) (map ticket_if_ready xs)) (wins (suc n) xs)
   where
     by : (b : Bool) → is_ready x.span.status ≡ b → (o : Option Winner) → WinsFrom (suc n) xs o
-        → WinsFrom n (x ∷ xs) (joined (tree.at_place n (cond b (Some x.ticket) None)) o)
-    by true is o rest = alone n x xs o is rest
+        → WinsFrom n (x ∷ xs) (winner_of_two (tree.at_place n (cond b (Some x.ticket) None)) o)
+    by true is o rest = wins_first n x xs o is rest
     by false is o rest = passed_over n x xs o is rest
 
 -- ---- the spans that the floor has passed
@@ -195,7 +199,8 @@ module _ (passed : ℕ) (xs : List Held) (over : AllByRecursion IsPassed (take p
 
   pub due_left : (timeout clock : ℕ) → due_held timeout clock xs ≡ due_held timeout clock (drop passed xs)
   due_left timeout clock = ap (due_held timeout clock) (sym split)
-      ∙ ap length (passed_count (is_due timeout clock) (settled_due timeout clock) (take passed xs) (drop passed xs) over)
+      ∙ ap length (passed_count (is_due timeout clock) (settled_due timeout clock) (take passed xs) (drop passed xs)
+          over)
 
 -- ---- what a read finds
 
@@ -209,9 +214,10 @@ read_same [] i d e less = absurd (omega (arith, less))
 read_same (x ∷ xs) zero d e less = refl
 read_same (x ∷ xs) (suc i) d e less = read_same xs i d e (omega (arith, less))
 
-pub read_at : (xs : List Held) (n i : ℕ) (h : Held) → n ≡ 0 + i → i < length xs → h ≡ get_or xs n h
+pub span_at : (xs : List Held) (n i : ℕ) (h : Held) → n ≡ 0 + i → i < length xs → h ≡ get_or xs n h
     → h ≡ get_or xs i no_held
-read_at xs n i h e less is = is ∙ ap (λ k. get_or xs k h) (let s : n ≡ i = omega (arith, e) in s) ∙ read_same xs i h no_held less
+span_at xs n i h e less is = is ∙ ap (λ k. get_or xs k h) (let s : n ≡ i = omega (arith, e) in s)
+    ∙ read_same xs i h no_held less
 
 -- ---- changes at a place
 
@@ -224,7 +230,7 @@ absent place n (p ∷ ps) m less h =
 
 -- where a change ends a flight, its place goes
 pub out_without : (f : Held → Held) → ((h : Held) → is_out (f h).span.status ≡ false) → (n i : ℕ) (xs : List Held)
-    → i < length xs → places_out n (at_place i f xs) ≡ without_place (n + i) (places_out n xs)
+    → i < length xs → places_out n (changed_place i f xs) ≡ without_place (n + i) (places_out n xs)
 out_without f none n i [] less = absurd (omega (arith, less))
 out_without f none n zero (x ∷ xs) less =
     ap (λ t. cond t (n ∷ places_out (suc n) xs) (places_out (suc n) xs)) (none x)
@@ -240,24 +246,25 @@ out_without f none n (suc i) (x ∷ xs) less =
     by (is_out x.span.status) (out_without f none (suc n) i xs (omega (arith, less)))
     ∙ ap (λ k. without_place k (places_out n (x ∷ xs))) (let e : suc n + i ≡ n + suc i = omega arith in e)
   where
-    by : (b : Bool) → places_out (suc n) (at_place i f xs) ≡ without_place (suc n + i) (places_out (suc n) xs)
-        → cond b (n ∷ places_out (suc n) (at_place i f xs)) (places_out (suc n) (at_place i f xs))
+    by : (b : Bool) → places_out (suc n) (changed_place i f xs) ≡ without_place (suc n + i) (places_out (suc n) xs)
+        → cond b (n ∷ places_out (suc n) (changed_place i f xs)) (places_out (suc n) (changed_place i f xs))
         ≡ without_place (suc n + i) (cond b (n ∷ places_out (suc n) xs) (places_out (suc n) xs))
     by true e = ap (λ l. n ∷ l) e
         ∙ sym (ap (λ t. if t then places_out (suc n) xs else n ∷ without_place (suc n + i) (places_out (suc n) xs))
         (ne_eqb n (suc n + i) (omega arith)))
     by false e = e
 
-first_place : (place n : ℕ) (ps : List ℕ) (m : ℕ) → place < n → AllByRecursion (λ p. (n ≤ p) × (p < m)) ps
+placed_first : (place n : ℕ) (ps : List ℕ) (m : ℕ) → place < n → AllByRecursion (λ p. (n ≤ p) × (p < m)) ps
     → with_place place ps ≡ place ∷ ps
-first_place place n [] m less h = refl
-first_place place n (p ∷ ps) m less h =
-    (λ k. if ne_eqb p place (omega (arith, h.0.0, less)) k then p ∷ ps else if lt-ltb place p (omega (arith, h.0.0, less)) k
+placed_first place n [] m less h = refl
+placed_first place n (p ∷ ps) m less h =
+    (λ k. if ne_eqb p place (omega (arith, h.0.0, less)) k then p ∷ ps else if lt-ltb place p (omega (arith, h.0.0,
+        less)) k
     then place ∷ p ∷ ps else p ∷ with_place place ps)
 
 -- where a change begins a flight, its place comes
 pub out_with : (f : Held → Held) → ((h : Held) → is_out (f h).span.status ≡ true) → (n i : ℕ) (xs : List Held)
-    → i < length xs → places_out n (at_place i f xs) ≡ with_place (n + i) (places_out n xs)
+    → i < length xs → places_out n (changed_place i f xs) ≡ with_place (n + i) (places_out n xs)
 out_with f all n i [] less = absurd (omega (arith, less))
 out_with f all n zero (x ∷ xs) less =
     ap (λ t. cond t (n ∷ places_out (suc n) xs) (places_out (suc n) xs)) (all x)
@@ -268,13 +275,14 @@ out_with f all n zero (x ∷ xs) less =
         ≡ with_place n (cond b (n ∷ places_out (suc n) xs) (places_out (suc n) xs))
     by true = sym (ap (λ t. if t then n ∷ places_out (suc n) xs else if nat_lt n n then n ∷ n ∷ places_out (suc n) xs
         else n ∷ with_place n (places_out (suc n) xs)) (eq-eqb n n refl))
-    by false = sym (first_place n (suc n) (places_out (suc n) xs) (suc n + length xs) (omega arith) (out_from (suc n) xs))
+    by false = sym (placed_first n (suc n) (places_out (suc n) xs) (suc n + length xs) (omega arith) (out_from (suc n)
+        xs))
 out_with f all n (suc i) (x ∷ xs) less =
     by (is_out x.span.status) (out_with f all (suc n) i xs (omega (arith, less)))
     ∙ ap (λ k. with_place k (places_out n (x ∷ xs))) (let e : suc n + i ≡ n + suc i = omega arith in e)
   where
-    by : (b : Bool) → places_out (suc n) (at_place i f xs) ≡ with_place (suc n + i) (places_out (suc n) xs)
-        → cond b (n ∷ places_out (suc n) (at_place i f xs)) (places_out (suc n) (at_place i f xs))
+    by : (b : Bool) → places_out (suc n) (changed_place i f xs) ≡ with_place (suc n + i) (places_out (suc n) xs)
+        → cond b (n ∷ places_out (suc n) (changed_place i f xs)) (places_out (suc n) (changed_place i f xs))
         ≡ with_place (suc n + i) (cond b (n ∷ places_out (suc n) xs) (places_out (suc n) xs))
     by true e = ap (λ l. n ∷ l) e
         ∙ sym (λ k. if ne_eqb n (suc n + i) (omega arith) k then n ∷ places_out (suc n) xs
@@ -284,18 +292,20 @@ out_with f all n (suc i) (x ∷ xs) less =
 
 -- ---- what is kept after each change
 
-pub taken_changed : (f : Held → Held) (spans new : List Held) (passed i : ℕ) (line : List (Option Ticket)) (out gone : List ℕ)
-    → IsTaken spans passed line out → i < length (drop passed spans) → new ≡ at_place (passed + i) f spans
-    → gone ≡ places_out 0 (at_place (passed + i) f spans) → IsTaken new passed (map ticket_if_ready new) gone
+pub taken_changed : (f : Held → Held) (spans new : List Held) (passed i : ℕ) (line : List (Option Ticket)) (out gone :
+    List ℕ)
+    → IsTaken spans passed line out → i < length (drop passed spans) → new ≡ changed_place (passed + i) f spans
+    → gone ≡ places_out 0 (changed_place (passed + i) f spans) → IsTaken new passed (map ticket_if_ready new) gone
 taken_changed f spans new passed i line out gone taken less is places = rw is (record {
-  within = rw (length_at f spans (passed + i)) taken.within;
+  within = rw (length_changed f spans (passed + i)) taken.within;
   over = rw (take_at f passed i spans) taken.over;
   in_line = refl;
   in_flight = places;
 })
 
 pub taken_raised : (spans : List Held) (passed gone : ℕ) (line : List (Option Ticket)) (out : List ℕ)
-    → IsTaken spans passed line out → gone ≤ length (drop passed spans) → AllByRecursion IsPassed (take gone (drop passed spans))
+    → IsTaken spans passed line out → gone ≤ length (drop passed spans)
+        → AllByRecursion IsPassed (take gone (drop passed spans))
     → IsTaken spans (passed + gone) line out
 taken_raised spans passed gone line out taken le settled = record {
   within = omega (arith, le, taken.within, length-drop passed spans);

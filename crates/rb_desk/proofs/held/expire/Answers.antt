@@ -4,8 +4,9 @@ use Rattle.rb_desk.specs.declared.ticket.Held.{Held}
 use Rattle.rb_desk.specs.Expiry.{expired_by}
 use Rattle.rb_desk.specs.Shown.{IsGiven}
 use Rattle.rb_desk.specs.Taken.{ticket_if_ready}
-use Rattle.rb_desk.proofs.spans.PlaceLaws.{all_changed, expired_same, expired_given, all_at_place, changed_at, changed_step}
-use Rattle.rb_desk.proofs.spans.PlaceLaws.{all_read, set_is, length_at, place_within}
+use Rattle.rb_desk.proofs.spans.PlaceLaws.{all_changed, expired_same, expired_given, all_at_place, changed_at}
+use Rattle.rb_desk.proofs.spans.PlaceLaws.{changed_step}
+use Rattle.rb_desk.proofs.spans.PlaceLaws.{said_at, set_is, length_changed, place_within}
 use Rattle.rb_desk.proofs.held.expire.Goals as goal
 
 pub loop-i-init : goal.loop-i-init
@@ -37,7 +38,7 @@ loop-i-preserved c =
     let line = c.set.ensures ∙ (λ k. slice_set (i.line k) place (c.in_line.ensures k))
     ∙ sym (map-set ticket_if_ready c.loop-i.spans.items place c.expired-held.result) in
     rw written (record {
-      long = length_at f c.loop-i.spans.items place ∙ i.long;
+      long = length_changed f c.loop-i.spans.items place ∙ i.long;
       spans = sym (changed_step f c.args.out.now c.loop-i.i c.loop-i.spans.items c.loop-i-test.true) ∙ i.spans;
       line = line ∙ ap (map ticket_if_ready) written;
       given = all_at_place (λ h. IsGiven c.args.next h.span.status) f
@@ -53,7 +54,7 @@ expired-held-requires c =
       place_within c.args.spans.now.items c.args.out.now c.loop-i.i c.requires.out c.loop-i-test.true,
     ) in (
       subst (λ (h : Held). IsGiven c.args.next h.span.status) (sym c.index.ensures)
-          (all_read (λ h. IsGiven c.args.next h.span.status) c.loop-i.spans.items (get_or c.args.out.now c.loop-i.i 0)
+          (said_at (λ h. IsGiven c.args.next h.span.status) c.loop-i.spans.items (get_or c.args.out.now c.loop-i.i 0)
           c.index.result.now c.loop-i.invariant.given within),
       c.requires.given.1,
     )

@@ -1,7 +1,8 @@
 use Rattle.std.proofs.Common.{rules, ◌∙◌, ◌+◌, [], ap, sym, drop, get_or, arith, true, false}
 use Rattle.rb_desk.specs.Spans.{is_due}
 use Rattle.rb_desk.specs.Expiry.{due_held}
-use Rattle.rb_desk.proofs.spans.PlaceLaws.{at_places, out_there, count_out, places_step, place_within, due_is_out, due_step, no_held}
+use Rattle.rb_desk.proofs.spans.PlaceLaws.{at_places, out_there, count_out, places_step, place_within, due_is_out}
+use Rattle.rb_desk.proofs.spans.PlaceLaws.{due_step, no_held}
 use Rattle.rb_desk.proofs.held.how_many_due.Goals as goal
 use Rattle.rb_desk.proofs.held.how_many_due.Goals.{then-is_due, else-is_due}
 
@@ -23,12 +24,14 @@ bounds-lane-place c =
 
 pub offset_bounds-lane-place : goal.offset_bounds-lane-place
 offset_bounds-lane-place c =
-    let within = place_within c.args.lane.now c.args.out.now c.loop-place.place-index c.requires c.loop-place-test.true in
+    let within = place_within c.args.lane.now c.args.out.now c.loop-place.place-index c.requires c.loop-place-test.true
+        in
     search (rules, within)
 
 pub loop-place-preserved : goal.loop-place-preserved
 loop-place-preserved c =
-    let within = place_within c.args.lane.now c.args.out.now c.loop-place.place-index c.requires c.loop-place-test.true in
+    let within = place_within c.args.lane.now c.args.out.now c.loop-place.place-index c.requires c.loop-place-test.true
+        in
     let rest = at_places c.args.lane.now (drop (c.loop-place.place-index + 1) c.args.out.now) in
     let found = get_or c.args.lane.now (get_or c.args.out.now c.loop-place.place-index 0) no_held in
     let all = ap (due_held c.args.timeout c.args.clock)

@@ -6,14 +6,14 @@ when_ok (Ok v) f p = f v p
 when_ok (Err e) f p = tt
 
 -- only none is a clone of none
-abbrev IsNone : {X : Type 0} → Option X → Type 0
-IsNone None = Unit {0}
-IsNone (Some x) = ⊥
+abbrev IsNothing : {X : Type 0} → Option X → Type 0
+IsNothing None = Unit {0}
+IsNothing (Some x) = ⊥
 
-none_is : {X : Type 0} (y : Option X) → IsNone y → y ≡ None
-none_is None is = refl
-none_is (Some x) is = absurd is
+must_be_none : {X : Type 0} (y : Option X) → IsNothing y → y ≡ None
+must_be_none None is = refl
+must_be_none (Some x) is = absurd is
 
 pub returns : goal.returns
 returns c =
-    when_ok c.vec.result (λ v all. all (λ y is. none_is y is)) c.vec.ensures.items_if_clones_equal
+    when_ok c.vec.result (λ v all. all (λ y is. must_be_none y is)) c.vec.ensures.items_if_clones_equal

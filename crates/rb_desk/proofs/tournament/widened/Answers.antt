@@ -2,7 +2,8 @@ use Rattle.std.proofs.Common.{arith, ◌≡◌, ◌∙◌, ◌+◌, ◌-◌, ◌
 use Rattle.std.proofs.Common.{slice_set}
 use Rattle.std.proofs.lemmas.List.{length-replicate, length-drop}
 use Rattle.rb_desk.specs.Tournament.{places_at}
-use Rattle.rb_desk.proofs.orders.TreeLaws.{empty_joined, drop_empty, widened_more, tree_widened, twice_even, places_read}
+use Rattle.rb_desk.proofs.orders.TreeLaws.{empty_joined, drop_empty, widened_more, tree_widened, twice_even}
+use Rattle.rb_desk.proofs.orders.TreeLaws.{places_read}
 use Rattle.rb_desk.proofs.tournament.widened.Goals as goal
 use Rattle.rb_desk.proofs.tournament.widened.Goals.{then-room-eq0, else-room-eq0}
 

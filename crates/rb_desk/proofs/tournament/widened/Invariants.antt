@@ -1,5 +1,5 @@
 use Rattle.std.proofs.Common.{◌≡◌, ◌+◌, ◌-◌, ◌++◌, length, take, drop, replicate, None}
-use Rattle.rb_desk.specs.Tournament.{AreJoined}
+use Rattle.rb_desk.specs.Tournament.{NodesWin}
 use Rattle.rb_desk.proofs.tournament.widened.Given as goal
 
 -- the places seen are set, and the others are empty
@@ -7,5 +7,5 @@ abbrev pub invariant-loop-place : goal.invariant-loop-place
 invariant-loop-place l = record {
   long : length l.wider.items ≡ l.wide + l.wide;
   places : drop l.wide l.wider.items ≡ take l.place (drop l.room l.nodes) ++ replicate (l.wide - l.place) None;
-  inner : AreJoined l.wider.items l.wide;
+  inner : NodesWin l.wider.items l.wide;
 }

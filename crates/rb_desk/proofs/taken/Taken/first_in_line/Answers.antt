@@ -1,7 +1,7 @@
 use Rattle.std.proofs.Common.{◌∙◌, ap, sym, arith, Some}
 use Rattle.rb_desk.specs.Lanes.{least}
 use Rattle.rb_desk.specs.declared.ticket.Held.{Held}
-use Rattle.rb_desk.proofs.spans.TakenLaws.{least_left, line_wins, read_at}
+use Rattle.rb_desk.proofs.spans.TakenLaws.{least_left, line_wins, span_at}
 use Rattle.rb_desk.proofs.taken.Taken.first_in_line.Goals as goal
 
 pub returns-in_err-winner : goal.returns-in_err-winner
@@ -25,6 +25,7 @@ returns c =
     let w = line_wins c.self.inside.spans.items c.self.inside.passed c.self.inside.line c.self.inside.out.items _ t
     (sym c.in_ok-winner.was ∙ c.winner.ensures) in
     ap (λ (h : Held). Some h)
-    (read_at c.self.inside.spans.items c.in_ok-winner.winner.place w.best c.index.result.now w.place w.inside c.index.ensures)
+    (span_at c.self.inside.spans.items c.in_ok-winner.winner.place w.best c.index.result.now w.place w.inside
+        c.index.ensures)
     ∙ sym w.in_line ∙ least_left c.self.inside.passed c.self.inside.spans.items t.over
     ∙ ap (λ l. least l) c.self.view_is

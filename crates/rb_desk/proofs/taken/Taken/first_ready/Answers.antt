@@ -2,7 +2,7 @@ use Rattle.std.proofs.Common.{◌∙◌, ap, sym, arith, Some}
 use Rattle.rb_desk.specs.Lanes.{spans_of}
 use Rattle.rb_desk.specs.Spans.{first_ready}
 use Rattle.rb_desk.specs.declared.ticket.Held.{Held}
-use Rattle.rb_desk.proofs.spans.TakenLaws.{ready_left, line_wins, read_at}
+use Rattle.rb_desk.proofs.spans.TakenLaws.{ready_left, line_wins, span_at}
 use Rattle.rb_desk.proofs.taken.Taken.first_ready.Goals as goal
 
 pub returns-in_err-winner : goal.returns-in_err-winner
@@ -26,6 +26,7 @@ returns c =
     let w = line_wins c.self.inside.spans.items c.self.inside.passed c.self.inside.line c.self.inside.out.items _ t
     (sym c.in_ok-winner.was ∙ c.winner.ensures) in
     ap (λ (h : Held). Some h.span)
-    (read_at c.self.inside.spans.items c.in_ok-winner.winner.first w.at c.index.result.now w.first w.within c.index.ensures)
+    (span_at c.self.inside.spans.items c.in_ok-winner.winner.first w.at c.index.result.now w.first w.within
+        c.index.ensures)
     ∙ sym w.ready ∙ ready_left c.self.inside.passed c.self.inside.spans.items t.over
     ∙ ap (λ l. first_ready (spans_of l)) c.self.view_is

@@ -5,11 +5,12 @@ use Rattle.rb_desk.proofs.tournament.Tournament.push.Goals as goal
 use Rattle.rb_desk.proofs.tournament.Tournament.push.Goals.{After-put, then-self+in_ok-nodes, else-self}
 
 -- with room for another place, the tree has the same tickets
-roomy : (c : After-put) → IsTree c.if-self.self-inside.nodes.items c.if-self.self-inside.room c.if-self.self-inside.len
+has_place : (c : After-put) → IsTree c.if-self.self-inside.nodes.items c.if-self.self-inside.room
+    c.if-self.self-inside.len
     × (c.if-self.self-inside.len < c.if-self.self-inside.room)
     × (tickets_of c.if-self.self-inside.nodes.items c.if-self.self-inside.room c.if-self.self-inside.len
     ≡ tickets_of c.self.inside.nodes.items c.self.inside.room c.self.inside.len)
-roomy c = elim c.if-self.branch [
+has_place c = elim c.if-self.branch [
   | then-self+in_ok-nodes w ↦
       let wider = w.in_ok-nodes.ensures in
       rw (w.self-inside-is, w.if-self.true) (
@@ -22,7 +23,7 @@ roomy c = elim c.if-self.branch [
 
 pub invariant_of-self : goal.invariant_of-self
 invariant_of-self c =
-    let old = roomy c.before in
+    let old = has_place c.before in
     subst (λ n. IsTree c.put.new.nodes.items c.if-self.self-inside.room n)
     (let e : suc c.if-self.self-inside.len ≡ c.if-self.self-inside.len + 1 = omega arith in e)
     (tree_pushed c.if-self.self-inside.nodes.items c.put.new.nodes.items c.if-self.self-inside.room
@@ -32,7 +33,7 @@ invariant_of-self c =
 
 pub returns-clause-ok : goal.returns-clause-ok
 returns-clause-ok c =
-    let old = roomy c.before in
+    let old = has_place c.before in
     ap (tickets_of c.put.new.nodes.items c.if-self.self-inside.room)
     (let e : c.if-self.self-inside.len + 1 ≡ suc c.if-self.self-inside.len = omega arith in e)
     ∙ (tree_pushed c.if-self.self-inside.nodes.items c.put.new.nodes.items c.if-self.self-inside.room
