@@ -3,7 +3,7 @@
 use crate::joining::joined;
 use crate::pieces::{cut, lines};
 use rb_core::Config;
-use rb_script::{number, run_script};
+use rb_script::{Answering, number, run_script};
 use std::alloc::{AllocError, Global};
 use std::{fs, io};
 
@@ -42,7 +42,7 @@ impl Case {
         let script = cut(alloc, &self.script, most)?;
         let mut reader: &[u8] = &script;
         let mut written = Vec::new(alloc);
-        if let Err(fault) = run_script(alloc, &mut reader, &mut written, config) {
+        if let Err(fault) = run_script(alloc, &mut reader, &mut written, config, Answering::plain()) {
             return Ok(Err(format!(in alloc; "the script stopped: {fault}")?));
         }
         let given = lines(alloc, &written)?;
