@@ -20,7 +20,7 @@ use Rattle.rb_script.specs.Output.{ScriptPlace, first_place}
 use Rattle.rb_script.specs.Script.{lines_of, whole_lines}
 use Rattle.rb_script.specs.Streams.{AppendsFront}
 use Rattle.rb_script.specs.Ends.{AreAnswered, IsAnswered, IsReadInPart, IsOverrun, HoldsOfLines, StopsAmong, IsCutOff}
-use Rattle.rb_script.specs.Ends.{IsRefused, ScriptEnds, IsOfReader, IsOfAnswers}
+use Rattle.rb_script.specs.Ends.{IsStoppedAt, ScriptEnds, IsOfReader, IsOfAnswers}
 use Rattle.rb_script.proofs.StreamLaws.{Appends-trans, Appends-Keeps, Consumes-none, Consumes-trans, Consumes-Keeps}
 use Rattle.rb_script.proofs.StreamLaws.{stream_appends_front}
 use Rattle.rb_script.proofs.OutputLaws.{output-cons, output-append, stop-append, stops_later}
@@ -173,7 +173,7 @@ fault_kept how config (Refused line) r0 r w0 w w' h keeps =
 
 -- the flush after a refused line fails
 pub refused_unflushed : (how : Answering) (config : Limits) (line : RefusedLine) (e : ScriptFault)
-    (r0 r w0 w w' : Option (List ℕ)) → IsRefused how config line r0 r w0 w → Keeps w w' → IsOfAnswers e
+    (r0 r w0 w w' : Option (List ℕ)) → IsStoppedAt how config line r0 r w0 w → Keeps w w' → IsOfAnswers e
     → ScriptEnds {A = Unit {0}} how config (Err e) r0 r w0 w'
 refused_unflushed how config line e r0 r w0 w w' h keeps is =
     ends_by_answers how config e r0 r w0 w' is

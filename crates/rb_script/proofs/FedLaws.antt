@@ -28,10 +28,10 @@ fed-append config place (x ∷ xs) ys =
     ∙ sym (append_assoc (line_ending config place x) (fed_lines config next xs)
     (fed_lines config (place_after config next xs) ys))
 
-fed-one : (config : Limits) (place : ScriptPlace) (x : ℕ) → fed_lines config place (x ∷ [])
+fed-of_one : (config : Limits) (place : ScriptPlace) (x : ℕ) → fed_lines config place (x ∷ [])
     ≡ line_ending config place x
 unfolding fed_lines
-fed-one config place x = append-nil (line_ending config place x)
+fed-of_one config place x = append-nil (line_ending config place x)
 
 pub ending-end : (config : Limits) (place : ScriptPlace) (b : ℕ) → b ≡ 10 → line_ending config place b
     ≡ line_at config place ∷ []
@@ -103,7 +103,7 @@ fed_end : (how : Answering) (config : Limits) (n m : ℕ) (now next : ScriptPlac
     → AreFed how config n now (b ∷ []) w w' m next
 fed_end how config n m now next b w w' is quiet said stands counts =
     let x : AnsweredLine = line_at config now in
-    let all : fed_lines config now (b ∷ []) ≡ x ∷ [] = fed-one config now b ∙ ending-end config now b is in
+    let all : fed_lines config now (b ∷ []) ≡ x ∷ [] = fed-of_one config now b ∙ ending-end config now b is in
     let text : output_for how n (x ∷ []) ≡ numbered_answer how n x.answer = output-cons how n x [] quiet
     ∙ append-nil (numbered_answer how n x.answer) in
     record {
@@ -120,7 +120,7 @@ fed_byte : (how : Answering) (config : Limits) (n : ℕ) (stage : Stage) (line l
     → AreFed how config n (place_at stage line) (b ∷ []) w w n (place_at stage longer_line)
 fed_byte how config n stage line longer_line b w isnt grown =
     let now : ScriptPlace = place_at stage line in
-    let all : fed_lines config now (b ∷ []) ≡ [] = fed-one config now b ∙ ending-other config now b isnt in
+    let all : fed_lines config now (b ∷ []) ≡ [] = fed-of_one config now b ∙ ending-other config now b isnt in
     record {
       goes_on = rw all refl;
       said = rw all (Appends-none w);
@@ -172,7 +172,7 @@ line_stops how config n m place now bytes i e w0 w w' lt fed is stops =
     let x : AnsweredLine = line_at config now in
     let later : List AnsweredLine = fed_lines config (place_after config now (b ∷ [])) rest in
     let parts : fed_lines config now (b ∷ rest) ≡ x ∷ later = fed-append config now (b ∷ []) rest
-    ∙ ap (λ (t : List AnsweredLine). t ++ later) (fed-one config now b ∙ ending-end config now b is) in
+    ∙ ap (λ (t : List AnsweredLine). t ++ later) (fed-of_one config now b ∙ ending-end config now b is) in
     let all : fed_lines config place bytes ≡ early ++ x ∷ later =
     ap (fed_lines config place) (sym (split_at_byte bytes i lt)) ∙ fed-append config place before (b ∷ rest)
     ∙ ap (λ (p : ScriptPlace). early ++ fed_lines config p (b ∷ rest)) (sym fed.stands)
@@ -195,7 +195,7 @@ byte_stops how config n m place now bytes i w0 w fed =
     (stops_longer how n early later Memory w0 w (stream_appends_front w0 w (output_for how n early) fed.said))
 
 -- the number of the next line is small enough
-pub number_within : (how : Answering) (config : Limits) (n m : ℕ) (place now : ScriptPlace) (bytes : List ℕ) (i : ℕ)
+pub number_bounded : (how : Answering) (config : Limits) (n m : ℕ) (place now : ScriptPlace) (bytes : List ℕ) (i : ℕ)
     (w0 w : Option (List ℕ)) → i ≤ length bytes → AreFed how config n place (take i bytes) w0 w m now → m ≤ n + i
-number_within how config n m place now bytes i w0 w le fed =
+number_bounded how config n m place now bytes i w0 w le fed =
     omega (arith, fed.counted, fed_short config place (take i bytes), length-take i bytes)

@@ -9,7 +9,7 @@ use Rattle.rb_desk.specs.Limits.{Limits}
 use Rattle.rb_script.specs.declared.answering.Answering.{Answering}
 use Rattle.rb_script.specs.declared.lines.Stage.{Stage}
 use Rattle.rb_script.specs.declared.lines.Stage.TheVariants.{Tables}
-use Rattle.rb_script.specs.Answering.{AnsweredLine, plainly, answered_line, answered_lines, stops_after, up_to_stop}
+use Rattle.rb_script.specs.Answering.{AnsweredLine, plainly, line_with_answer, answered_lines, stops_after, up_to_stop}
 use Rattle.rb_script.specs.Answering.{numbered_answer, numbered_answers, output_for, first_stop, script_output, script_stop}
 use Rattle.rb_script.specs.Answering.{lines_reached}
 use Rattle.rb_script.specs.Feeding.{fed_lines, line_at, line_ending}
@@ -114,7 +114,7 @@ reached_are : (how : Answering) (config : Limits) (stage : Stage) (lines : List 
     → up_to_stop how (answered_lines config stage lines) ≡ answered_lines config stage (lines_reached how config stage lines)
 reached_are how config stage [] = refl
 reached_are how config stage (line ∷ lines) =
-    by (stops_after how (answered_line config stage line)) (reached_are how config (line_answer config stage line).1 lines)
+    by (stops_after how (line_with_answer config stage line)) (reached_are how config (line_answer config stage line).1 lines)
   where
     next : Stage
     next = (line_answer config stage line).1
@@ -122,11 +122,11 @@ reached_are how config stage (line ∷ lines) =
     by : (t : Bool)
         → up_to_stop how (answered_lines config next lines)
         ≡ answered_lines config next (lines_reached how config next lines)
-        → cond t (answered_line config stage line ∷ [])
-        (answered_line config stage line ∷ up_to_stop how (answered_lines config next lines))
+        → cond t (line_with_answer config stage line ∷ [])
+        (line_with_answer config stage line ∷ up_to_stop how (answered_lines config next lines))
         ≡ answered_lines config stage (cond t (line ∷ []) (line ∷ lines_reached how config next lines))
     by true later = refl
-    by false later = ap (λ (t : List AnsweredLine). answered_line config stage line ∷ t) later
+    by false later = ap (λ (t : List AnsweredLine). line_with_answer config stage line ∷ t) later
 
 pub reached_output : (how : Answering) (config : Limits) (lines : List (List ℕ)) → script_output how config lines
     ≡ numbered_answers how 1 (answered_lines config (Tables []) (lines_reached how config (Tables []) lines))

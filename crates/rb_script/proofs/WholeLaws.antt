@@ -9,7 +9,7 @@ use Rattle.std.proofs.lemmas.List.Splits.{slice_split-cons_yes, slice_split-cons
 use Rattle.rb_desk.specs.Limits.{Limits}
 use Rattle.rb_script.specs.declared.lines.Stage.{Stage}
 use Rattle.rb_script.specs.declared.lines.Stage.TheVariants.{Tables}
-use Rattle.rb_script.specs.Answering.{AnsweredLine, answered_line, answered_lines, kept_of_line}
+use Rattle.rb_script.specs.Answering.{AnsweredLine, line_with_answer, answered_lines, kept_of_line}
 use Rattle.rb_script.specs.Feeding.{fed_lines, line_at, line_ending}
 use Rattle.rb_script.specs.Lines.{line_answer, most_of_line}
 use Rattle.rb_script.specs.Output.{ScriptPlace, place_at, first_place, longer, byte_answer, place_after}
@@ -23,22 +23,22 @@ use Rattle.rb_script.proofs.ScriptLaws.{byte_answer-end, byte_answer-other}
 kept_short : (line : List ℕ) → length line ≤ suc most_of_line → kept_of_line line ≡ line
 kept_short line le = take_all (suc most_of_line) line le
 
-is_long : (line : List ℕ) → (most_of_line < length line) ⊎ (length line ≤ most_of_line)
-is_long line = by (ltb most_of_line (length line)) refl
+line_is_long : (line : List ℕ) → (most_of_line < length line) ⊎ (length line ≤ most_of_line)
+line_is_long line = by (ltb most_of_line (length line)) refl
   where
     by : (t : Bool) → ltb most_of_line (length line) ≡ t → (most_of_line < length line) ⊎ (length line ≤ most_of_line)
     by true e = inl (ltb-true most_of_line (length line) e)
     by false e = inr (ltb-false most_of_line (length line) e)
 
 kept_is : (line : List ℕ) → LineIsKept (kept_of_line line) line
-kept_is line = elim (is_long line) as (λ _. LineIsKept (kept_of_line line) line) [
+kept_is line = elim (line_is_long line) as (λ _. LineIsKept (kept_of_line line) line) [
   | inl lt ↦ inr (omega (arith, lt, length-take (suc most_of_line) line), lt)
   | inr le ↦ inl (kept_short line (omega (arith, le)))
 ]
 
 -- a byte more of a line
 kept_longer : (line : List ℕ) (b : ℕ) → longer (kept_of_line line) b ≡ kept_of_line (line ++ b ∷ [])
-kept_longer line b = elim (is_long line) as (λ _. longer (kept_of_line line) b ≡ kept_of_line (line ++ b ∷ [])) [
+kept_longer line b = elim (line_is_long line) as (λ _. longer (kept_of_line line) b ≡ kept_of_line (line ++ b ∷ [])) [
   | inl lt ↦ longer-yes (kept_of_line line) b (lt-ltb most_of_line (length (kept_of_line line))
       (omega (arith, lt, length-take (suc most_of_line) line)))
       ∙ sym (take-append-le (suc most_of_line) line (b ∷ []) lt)
@@ -53,7 +53,7 @@ answered_kept_line : (config : Limits) (stage : Stage) (line : List ℕ)
 answered_kept_line config stage line = kept_answer config stage (kept_of_line line) line (kept_is line)
 
 line_at_kept : (config : Limits) (stage : Stage) (line : List ℕ)
-    → line_at config (place_at stage (kept_of_line line)) ≡ answered_line config stage line
+    → line_at config (place_at stage (kept_of_line line)) ≡ line_with_answer config stage line
 line_at_kept config stage line =
     ap (λ (g : List ℕ × Stage). record { line = kept_of_line line; answer = g.0 }) (answered_kept_line config stage line)
 
@@ -98,7 +98,7 @@ unfolding fed_lines place_after
 lines_none config stage front = record {
   whole = refl;
   all = ap (λ (a : AnsweredLine). a ∷ []) (line_at_kept config stage front)
-      ∙ ap (λ (l : List ℕ). answered_line config stage l ∷ []) (sym (append-nil front));
+      ∙ ap (λ (l : List ℕ). line_with_answer config stage l ∷ []) (sym (append-nil front));
 }
 
 fed-cons : (config : Limits) (place : ScriptPlace) (b : ℕ) (bs : List ℕ) → fed_lines config place (b ∷ bs)
@@ -117,7 +117,7 @@ lines_end : (config : Limits) (stage : Stage) (front : List ℕ) (b : ℕ) (bs :
 lines_end config stage front b bs is test later =
     let now : ScriptPlace = place_at stage (kept_of_line front) in
     let next : ScriptPlace = place_at (line_answer config stage front).1 [] in
-    let this : AnsweredLine = answered_line config stage front in
+    let this : AnsweredLine = line_with_answer config stage front in
     let stands : (byte_answer config now b).1 ≡ next =
     ap (λ (g : List ℕ × ScriptPlace). g.1) (byte_answer-end config now b is)
     ∙ ap (λ (g : List ℕ × Stage). place_at g.1 []) (answered_kept_line config stage front) in

@@ -29,14 +29,14 @@ pub record AnsweredLine : Type 0 where
 abbrev pub kept_of_line : List ℕ → List ℕ
 kept_of_line line = take (suc most_of_line) line
 
-abbrev pub answered_line : Limits → Stage → List ℕ → AnsweredLine
-answered_line config stage line =
+abbrev pub line_with_answer : Limits → Stage → List ℕ → AnsweredLine
+line_with_answer config stage line =
     record { line = kept_of_line line; answer = (line_answer config stage line).0 }
 
 -- lines with their answers, one after another
 abbrev pub answered_lines : Limits → Stage → List (List ℕ) → List AnsweredLine
 answered_lines config stage [] = []
-answered_lines config stage (line ∷ lines) = answered_line config stage line
+answered_lines config stage (line ∷ lines) = line_with_answer config stage line
     ∷ answered_lines config (line_answer config stage line).1 lines
 
 -- whether the script stops after this line
@@ -52,7 +52,7 @@ up_to_stop how (a ∷ more) = if stops_after how a then a ∷ [] else a ∷ up_t
 abbrev pub lines_reached : Answering → Limits → Stage → List (List ℕ) → List (List ℕ)
 lines_reached how config stage [] = []
 lines_reached how config stage (line ∷ lines) =
-    if stops_after how (answered_line config stage line) then line ∷ [] else line
+    if stops_after how (line_with_answer config stage line) then line ∷ [] else line
     ∷ lines_reached how config (line_answer config stage line).1 lines
 
 -- the answer to line n as it is written, after its number if there are numbers

@@ -55,9 +55,9 @@ IsCutOff how config r0 r w0 w =
     StopsAmong (λ lines. AppendsFront w0 w (script_output how config lines)) r0 r
 
 -- The first refused one of these lines is this one, and the answers up to its own are written.
-abbrev pub IsRefused : Answering → Limits → RefusedLine → Option (List ℕ) → Option (List ℕ)
+abbrev pub IsStoppedAt : Answering → Limits → RefusedLine → Option (List ℕ) → Option (List ℕ)
     → Option (List ℕ) → Option (List ℕ) → Type 0
-IsRefused how config line r0 r w0 w =
+IsStoppedAt how config line r0 r w0 w =
     StopsAmong (λ lines. (script_stop how config lines ≡ Some line)
     × Appends w0 w (script_output how config lines)) r0 r
 
@@ -70,7 +70,7 @@ ScriptEnds how config (Err (Read why)) r0 r w0 w = IsReadInPart how config r0 r 
 ScriptEnds how config (Err (Write why)) r0 r w0 w = IsCutOff how config r0 r w0 w
 ScriptEnds how config (Err Endless) r0 r w0 w = IsOverrun how config r0 r w0 w
 ScriptEnds how config (Err Memory) r0 r w0 w = IsCutOff how config r0 r w0 w
-ScriptEnds how config (Err (Refused line)) r0 r w0 w = IsRefused how config line r0 r w0 w
+ScriptEnds how config (Err (Refused line)) r0 r w0 w = IsStoppedAt how config line r0 r w0 w
 
 -- a fault of the reader
 abbrev pub IsOfReader : ScriptFault → Type 0

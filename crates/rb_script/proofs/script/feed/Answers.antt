@@ -1,7 +1,7 @@
 use Rattle.std.proofs.Common.{arith}
 use Rattle.std.proofs.lemmas.Result.{err_from_is_err_and}
 use Rattle.rb_script.specs.Output.{place_at}
-use Rattle.rb_script.proofs.FedLaws.{fed_none, line_taken, byte_taken, line_stops, byte_stops, number_within}
+use Rattle.rb_script.proofs.FedLaws.{fed_none, line_taken, byte_taken, line_stops, byte_stops, number_bounded}
 use Rattle.rb_script.proofs.script.feed.Goals as goal
 use Rattle.rb_script.proofs.script.feed.Goals.{then-byte-eq10+in_ok-place, else-byte-eq10+in_ok-lengthen}
 
@@ -12,7 +12,7 @@ loop-byte-init g c = fed_none c.args.how c.args.config c.args.place.number
 pub answer_line-requires : goal.answer_line-requires
 answer_line-requires g c =
     let within = c.loop-byte-test.true in
-    let small = number_within c.args.how c.args.config c.args.place.number c.loop-byte.place.number
+    let small = number_bounded c.args.how c.args.config c.args.place.number c.loop-byte.place.number
     (place_at c.args.place.stage c.args.place.line.items)
     (place_at c.loop-byte.place.stage c.loop-byte.place.line.items) c.args.bytes.now c.loop-byte.byte-index _ _
     (omega (arith, within)) c.loop-byte.invariant in
