@@ -165,7 +165,13 @@ fn a_hundred_thousand_rows_are_accepted(rt: HostRuntime) -> Result<(), Fail> {
     answers.extend_from_slice(&rows)?;
     let mut reader: &[u8] = &script;
     let mut written = Vec::new(alloc);
-    run_script(alloc, &mut reader, &mut written, Config::standard(), Answering::plain())?;
+    run_script(
+        alloc,
+        &mut reader,
+        &mut written,
+        Config::standard(),
+        Answering::plain(),
+    )?;
     assert!(rt; written.as_slice() == answers.as_slice());
     Ok(())
 }

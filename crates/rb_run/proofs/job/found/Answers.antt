@@ -1,6 +1,4 @@
-use Rattle.std.proofs.Common.{map}
 use Rattle.std.proofs.lemmas.Result.{IfOk-weaker}
-use Rattle.std.specs.String.{string_bytes}
 use Rattle.rb_run.proofs.Given.{program_fails, program_matches}
 use Rattle.rb_run.proofs.job.found.Goals as goal
 
