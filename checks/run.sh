@@ -58,9 +58,14 @@ for script in crates/rb_cases/data/*.script; do
     [ ! -f "$case.args" ] || options=$(cat "$case.args")
     # each word of the options is one of the program's
     run "$script" script $options
-    need_status 0
     need 'other answers' cmp -s "$out" "$case.answers"
-    need_nothing err
+    if [ -f "$case.fault" ]; then
+        need_status 3
+        need "err is '$(head -c 200 "$err")'" test "$(cat "$err")" = "rb_run: $(cat "$case.fault")"
+    else
+        need_status 0
+        need_nothing err
+    fi
     end "case ${case##*/}"
 done
 
@@ -109,17 +114,29 @@ intake x 4096
 batch 18446744073709551617 256
 END
 
-run /dev/null --version
-need_status 0
-need_line out 'rb_run ?*'
-need_nothing err
-end '--version'
+for words in --version -V 'script --version' 'script -V'; do
+    # each word is one of the program's
+    run /dev/null $words
+    need_status 0
+    need_line out 'rb_run?*'
+    need_nothing err
+    end "$words"
+done
 
 run /dev/null --help
 need_status 0
 need 'out is empty' test -s "$out"
 need_nothing err
 end '--help'
+
+# help goes to a pipe that nobody reads
+for words in --help --version 'script --help' 'script --version'; do
+    { sleep 1; timeout 60 "$program" $words 2>"$err"; echo $? >"$work/status"; } | true
+    status=$(cat "$work/status")
+    need_status 0
+    need_nothing err
+    end "$words on a closed pipe"
+done
 
 run /dev/null script --help
 need_status 0
@@ -131,7 +148,7 @@ for line in table publisher feed reset end send turn close subscribe take takean
     need "no word of '$line'" grep -qw "$line" "$out"
 done
 for option in 'batch .* 1 to 256 .*16' 'window .* 1 to 64 .*4' 'timeout .* 1 to 1000000000 .*10' \
-    'capacity .* 1 to 1048576 .*65536' 'intake .* 1 to 4096 .*64'; do
+    'capacity .* 1 to 1048576 .*65536' 'intake .* 1 to 4096 .*64' numbers strict; do
     need "no line of '--$option'" grep -q -e "--$option" "$out"
 done
 need "no word of what 'reset' forgets" grep -q '^ *reset P .* fault$' "$out"
@@ -181,6 +198,12 @@ status=$?
 need_status 1
 need_line err 'rb_run: write fault: No space left*'
 end 'a full disk for the last line alone'
+
+timeout 60 "$program" script --strict <examples/first.script >/dev/full 2>"$err"
+status=$?
+need_status 1
+need_line err 'rb_run: write fault: No space left*'
+end 'a full disk for a strict script'
 
 timeout 60 "$program" --help >/dev/full 2>"$err"
 status=$?

@@ -61,7 +61,8 @@ fn has(rt: &impl Abort, alloc: Global, tables: &Tables, numbers: &[u8]) -> Resul
     Ok(())
 }
 
-// Applies a text in parts, and expects this conflict or none. The tables have these rows after it.
+// Applies a text in parts, and expects this conflict or none, unless memory runs out. The tables have
+// these rows after it.
 fn goes(
     rt: &impl Abort,
     alloc: Global,
@@ -72,6 +73,9 @@ fn goes(
 ) -> Result<(), Fail> {
     let changeset = read(alloc, parts)?;
     let got = tables.apply(alloc, &changeset).err();
+    if matches!(&got, Some(ApplyError::Memory)) {
+        return Err("out of memory")?;
+    }
     assert_eq!(rt; got, conflict.map(ApplyError::Conflict));
     Ok(has(rt, alloc, tables, after)?)
 }

@@ -45,6 +45,9 @@ fn fills(rt: &impl Abort, alloc: Global, changeset: &Changeset, want: &[u8]) -> 
     Ok(())
 }
 
+// Why a sink stops a test: its call has no answer for that.
+const OWN_MEMORY: &str = "the test's own memory";
+
 // A sink that takes `room` pieces and then fails. It keeps all pieces that it gets, and stops the
 // test if memory runs out.
 #[derive(Drop)]
@@ -62,12 +65,12 @@ impl<R: Abort> Sink for Kept<'_, R> {
     ghost failed = { λ s. map (λ piece. piece.items) s.failed.items };
 
     fn put(&mut self, piece: &[u8]) -> Result<(), SinkFault> {
-        let kept = piece.to_vec(self.alloc).expect(self.rt, "memory");
+        let kept = piece.to_vec(self.alloc).expect(self.rt, OWN_MEMORY);
         if self.taken.len() == self.room {
-            self.failed.push(kept).expect(self.rt, "memory");
+            self.failed.push(kept).expect(self.rt, OWN_MEMORY);
             return Err(SinkFault);
         }
-        self.taken.push(kept).expect(self.rt, "memory");
+        self.taken.push(kept).expect(self.rt, OWN_MEMORY);
         Ok(())
     }
 }

@@ -7,11 +7,8 @@ use Rattle.std.specs.Prelude.{codes}
 use Rattle.std.specs.Char.{is_ascii_hexdigit}
 use Rattle.std.specs.Cmp.Lexicographic.{pointwise}
 use Rattle.std.specs.Int.{div_ceil}
-use Rattle.std.specs.List.{flat_map, list_all, position_from, slice_split}
-
--- the lines of a text; what comes after the last line end is a line too, even if it is empty
-abbrev pub lines_of : List ℕ → List (List ℕ)
-lines_of text = slice_split (λ byte. byte == 10) text
+use Rattle.std.specs.List.{flat_map, list_all, position_from}
+use Rattle.rb_script.specs.Script.{lines_of}
 
 -- whether the digits of a line are cut: an even number of hexadecimal digits, at least two, in a
 -- line of at most 65,536 bytes

@@ -3,7 +3,7 @@
 ghost use Rattle.std.specs.Prelude.{◌≡◌, ◌≤◌, ◌++◌, drop, length, IfOk, map};
 ghost use Rattle.rb_cases.specs.Joining.{answers_kept, answers_to, piece_answer, joined_answers};
 ghost use Rattle.rb_cases.specs.Joining.{left_after, left_for_line, other_than, rows_after};
-ghost use Rattle.rb_cases.specs.Pieces.{lines_of};
+ghost use Rattle.rb_script.specs.Script.{lines_of};
 ghost use Rattle.cs_model.specs.Schema.{same_bytes};
 
 use crate::pieces::{count, lines};

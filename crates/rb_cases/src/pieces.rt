@@ -5,7 +5,8 @@ ghost use Rattle.std.specs.Prelude.{IfOk, OnOk, MatchOption};
 ghost use Rattle.std.specs.Char.{is_ascii_hexdigit};
 ghost use Rattle.std.specs.List.{flat_map, list_all, position_from};
 ghost use Rattle.rb_cases.specs.Pieces.{are_cut, cut_text, digits_in, fed_parts, line_text};
-ghost use Rattle.rb_cases.specs.Pieces.{lines_of, pieces_in, pieces_text, space_in};
+ghost use Rattle.rb_cases.specs.Pieces.{pieces_in, pieces_text, space_in};
+ghost use Rattle.rb_script.specs.Script.{lines_of};
 
 use std::alloc::{AllocError, Global};
 

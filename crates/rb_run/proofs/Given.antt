@@ -1,8 +1,14 @@
--- Words of options.
-use Rattle.std.proofs.Common.{◌≡◌, ◌∙◌, ℕ, List, ap, sym, option_map, Option, Some, None}
+-- Words of options, and commands with a version.
+use Rattle.std.proofs.Common.{◌≡◌, ◌∙◌, ℕ, List, ap, sym, option_map, Option, Some, None, true, Result, refl, subst}
 use Rattle.std.specs.Option.{option_and_then}
 use Rattle.std.proofs.lemmas.Option.{none-some}
 use Rattle.clap.specs.Matches.{first_value}
+use Rattle.clap.specs.Simple.{App, HasMatchesOf, is_simple, subcommand_of, subcommand_rows_of}
+use Rattle.clap.specs.Faults.{fault_of, is_simple_and_free}
+use Rattle.clap.specs.Kinds.{FailsBy}
+use Rattle.clap.specs.declared.error.Error.{Error}
+use Rattle.clap.specs.declared.parser.matches.ArgMatches.{ArgMatches}
+use Rattle.rb_run.specs.Program.{program, wrong_in}
 use Rattle.clap.specs.Walk.{Row, Text, first_of, rows_of}
 use Rattle.clap.specs.declared.parser.matches.Found.{Found}
 use Rattle.clap.proofs.WalkLemmas.{first_value-rows}
@@ -15,3 +21,24 @@ pub given_word : (given : Option (Text × List Row)) (found : Found) (name : Lis
 given_word None found name same = absurd (none-some _ same)
 given_word (Some given) found name same =
     ap word_or_none (ap (option_and_then (first_of name)) same ∙ sym (first_value-rows found name))
+
+-- a command that has a version
+abbrev pub versioned : App → App
+versioned a = record a { top = record a.top { has_version = true } }
+
+-- ---- the program's words
+
+program_is_simple : is_simple program ≡ true
+program_is_simple = refl
+
+program_is_free : is_simple_and_free program ≡ true
+program_is_free = refl
+
+pub program_matches : (a : App) (words : List Text) (found : ArgMatches) → a ≡ program → HasMatchesOf a words found
+    → subcommand_rows_of found ≡ subcommand_of program words
+program_matches a words found is h = (subst (λ (b : App). HasMatchesOf b words found) is h program_is_simple).1
+
+pub program_fails : {T : Type 0} (a : App) (words : List Text) (result : Result T Error) → a ≡ program
+    → (is_simple_and_free a ≡ true → FailsBy (fault_of a words) result) → FailsBy (wrong_in words) result
+program_fails a words result is h =
+    subst (λ (b : App). is_simple_and_free b ≡ true → FailsBy (fault_of b words) result) is h program_is_free

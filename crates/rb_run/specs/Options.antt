@@ -1,11 +1,13 @@
--- The limits from the options of a command line.
-use Rattle.std.specs.Prelude.{ℕ, List, [], Option, Some, None, Result, Ok, Err, codes}
+-- The limits, and how a script is answered, from the options of a command line.
+use Rattle.std.specs.Prelude.{ℕ, Bool, List, [], Option, Some, None, Result, Ok, Err, codes}
 use Rattle.std.specs.Option.{option_and_then}
 use Rattle.clap.specs.Walk.{Row, Text, first_of}
 use Rattle.rb_desk.specs.Limits.{Limits, first_out_of_range}
 use Rattle.rb_desk.specs.declared.config.ConfigFault.{ConfigFault}
 use Rattle.rb_desk.specs.declared.config.ConfigFault.TheVariants.{Batch, Window, Timeout, Capacity}
 use Rattle.rb_desk.specs.declared.config.ConfigFault.TheVariants.{Intake, Appliers}
+use Rattle.cs_model.specs.Schema.{same_bytes}
+use Rattle.rb_script.specs.declared.answering.Answering.{Answering}
 use Rattle.rb_script.specs.Words.{number_in_word}
 
 -- the number that an option's word spells, or 0, which is in no range
@@ -61,3 +63,12 @@ abbrev pub config_by : Option (Text × List Row) → Result Limits ConfigFault
 config_by found = config_of (word_of found (codes "batch")) (word_of found (codes "window"))
     (word_of found (codes "timeout")) (word_of found (codes "capacity"))
     (word_of found (codes "intake"))
+
+-- whether an option that takes no word is set
+abbrev pub is_set : Option (Text × List Row) → Text → Bool
+is_set found name = same_bytes (word_of found name) (codes "true")
+
+-- how the script is answered
+abbrev pub answering_by : Option (Text × List Row) → Answering
+answering_by found =
+    record { numbers = is_set found (codes "numbers"); strict = is_set found (codes "strict") }

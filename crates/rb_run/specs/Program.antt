@@ -4,7 +4,7 @@ use Rattle.clap.specs.Faults.{fault_of}
 use Rattle.clap.specs.Kinds.{Kinds, HasKind}
 use Rattle.clap.specs.Simple.{App, Shape, new_rule, new_shape, subcommand_of}
 use Rattle.clap.specs.Walk.{Rule, Text}
-use Rattle.clap.specs.declared.builder.action.ArgAction.TheVariants.{Set}
+use Rattle.clap.specs.declared.builder.action.ArgAction.TheVariants.{Set, SetTrue}
 use Rattle.clap.specs.Values.{kind_of}
 use Rattle.clap.specs.declared.error.kind.ErrorKind.{ErrorKind}
 use Rattle.clap.specs.declared.error.kind.ErrorKind.TheVariants.{OutOfMemory}
@@ -15,7 +15,8 @@ use Rattle.rb_run.specs.declared.ending.Ending.{Ending}
 use Rattle.rb_run.specs.declared.ending.Ending.TheVariants.{Done, Stopped, Misused}
 use Rattle.rb_run.specs.declared.job.Job.{Job}
 use Rattle.rb_run.specs.declared.job.Job.TheVariants as job
-use Rattle.rb_run.specs.Options.{config_by}
+use Rattle.rb_run.specs.Options.{answering_by, config_by}
+use Rattle.rb_script.specs.declared.answering.Answering.{Answering}
 use Rattle.rb_script.specs.declared.fault.ScriptFault.TheVariants.{Memory}
 
 -- an option that takes a number, with its usual number
@@ -27,13 +28,19 @@ limit_option name usual = record (new_rule name) {
   defaults = usual ∷ [];
 }
 
+-- an option that is set or not
+abbrev pub flag_option : Text → Rule
+flag_option name = record (new_rule name) { long = Some name; action = Some SetTrue }
+
 -- `script`, with its options
 abbrev pub script_command : Shape
 script_command = record (new_shape (codes "script")) {
+  has_version = true;
   rules = limit_option (codes "batch") (codes "16") ∷ limit_option (codes "window") (codes "4")
       ∷ limit_option (codes "timeout") (codes "10") ∷ limit_option (codes "capacity")
       (codes "65536")
-      ∷ limit_option (codes "intake") (codes "64") ∷ [];
+      ∷ limit_option (codes "intake") (codes "64") ∷ flag_option (codes "numbers")
+      ∷ flag_option (codes "strict") ∷ [];
 }
 
 -- `rb_run`, which has a version and takes a subcommand
@@ -51,36 +58,46 @@ program = record {
 abbrev pub config_in : List Text → Result Limits ConfigFault
 config_in words = config_by (subcommand_of program words)
 
+-- how the words ask for a script to be answered
+abbrev pub answering_in : List Text → Answering
+answering_in words = answering_by (subcommand_of program words)
+
 -- what is wrong with the words, or the request for help or the version; [] if nothing is
 abbrev pub wrong_in : List Text → Kinds
 wrong_in words = fault_of program words
 
--- What the words ask for. If the program takes them, a script under their limits, or a message
--- about an option; else a text to print, also if memory ran out.
+-- What the words ask for. If the program takes them, a script under their limits and in their way,
+-- or a message about an option; else a text to print, also if memory ran out.
 abbrev pub AsksFor : Job → List Text → Type 0
-AsksFor (job.Script limits) words = (wrong_in words ≡ []) × (config_in words ≡ Ok limits)
+AsksFor (job.Script limits how) words = (wrong_in words ≡ []) × (config_in words ≡ Ok limits)
+    × (how ≡ answering_in words)
 AsksFor (job.Range fault) words = (wrong_in words ≡ []) × (config_in words ≡ Err fault)
-AsksFor (job.Show e) words = HasKind (wrong_in words) e
+AsksFor (job.Print e) words = HasKind (wrong_in words) e
 
--- the status is 0 or 1, as the script or the printing ends
+-- the status is 0, 1 or 3, as the script ends
 abbrev pub HasTried : Ending → Type 0
-HasTried Done = Unit {0}
-HasTried (Stopped fault) = Unit {0}
 HasTried Misused = ⊥
+HasTried ending = Unit {0}
+
+-- the status is 0 or 1, as the printing ends
+abbrev pub HasPrinted : Ending → Type 0
+HasPrinted Done = Unit {0}
+HasPrinted (Stopped fault) = Unit {0}
+HasPrinted ending = ⊥
 
 -- How the program ends that prints a text of this kind. Out of memory stops it, help and the
 -- version are printed, and any other text means that the words are wrong.
 abbrev pub EndsShown : ErrorKind → Ending → Type 0
 EndsShown OutOfMemory ending = ending ≡ Stopped Memory
-EndsShown DisplayHelp ending = HasTried ending
-EndsShown DisplayVersion ending = HasTried ending
+EndsShown DisplayHelp ending = HasPrinted ending
+EndsShown DisplayVersion ending = HasPrinted ending
 EndsShown kind ending = ending ≡ Misused
 
 -- how the program ends that does this
 abbrev pub EndsFor : Job → Ending → Type 0
-EndsFor (job.Script limits) ending = HasTried ending
+EndsFor (job.Script limits how) ending = HasTried ending
 EndsFor (job.Range fault) ending = ending ≡ Misused
-EndsFor (job.Show e) ending = EndsShown (kind_of e) ending
+EndsFor (job.Print e) ending = EndsShown (kind_of e) ending
 
 -- the program does what the words ask for, and ends so
 abbrev pub EndsAsAsked : List Text → Ending → Type 0

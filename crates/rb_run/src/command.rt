@@ -3,7 +3,7 @@
 ghost use Rattle.std.specs.Prelude.{◌≡◌, false, IfOk};
 ghost use Rattle.clap.specs.Words.{app_of, rule_of};
 ghost use Rattle.clap.specs.declared.builder.command.Command.TheViews.{out-Command};
-ghost use Rattle.rb_run.specs.Program.{limit_option, program, script_command};
+ghost use Rattle.rb_run.specs.Program.{flag_option, limit_option, program, script_command};
 
 use clap::{Arg, ArgAction, Command};
 use std::alloc::{AllocError, Global};
@@ -51,7 +51,9 @@ Statuses:
   0  all lines are answered
   1  the script stopped, with one line on standard error: a read fault, a write fault, a script of
      more than 16777216 bytes, or out of memory
-  2  the command line is faulty";
+  2  the command line is faulty
+  3  --strict, and a line is refused or faulty: one line on standard error says its number, the line
+     and its answer, such as rb_run: line 7: take 0 3: refused Empty 0";
 
 /// The program's name, version, subcommand and options. Returns `AllocError` if memory runs out.
 pub fn program<'a>(alloc: Global) -> Result<Command<'a>, AllocError>
@@ -85,7 +87,7 @@ fn script<'a>(alloc: Global) -> Result<Command<'a>, AllocError>
         alloc,
         "timeout",
         "10",
-        "After how many ticks a delivery expires, 1 to 1000000000",
+        "After how many ticks a delivery can be expired, 1 to 1000000000",
     );
     let capacity = limit(
         alloc,
@@ -99,14 +101,27 @@ fn script<'a>(alloc: Global) -> Result<Command<'a>, AllocError>
         "64",
         "The most changesets that wait to be placed, 1 to 4096",
     );
+    let numbers = flag(
+        alloc,
+        "numbers",
+        "Write the number of its line before each answer",
+    );
+    let strict = flag(
+        alloc,
+        "strict",
+        "Stop after the first line that is refused or faulty",
+    );
     Command::new(alloc, "script")
+        .version(VERSION)
         .about("Answers the lines of a script on standard input, one after another")
         .after_help(LINES)
         .arg(batch)?
         .arg(window)?
         .arg(timeout)?
         .arg(capacity)?
-        .arg(intake)
+        .arg(intake)?
+        .arg(numbers)?
+        .arg(strict)
 }
 
 // an option that takes a number
@@ -119,5 +134,16 @@ fn limit<'a>(alloc: Global, name: &'a str, usual: &'a str, help: &'a str) -> Arg
         .action(ArgAction::Set)
         .value_name("N")
         .default_value(usual)
+        .help(help)
+}
+
+// an option that is set or not
+fn flag<'a>(alloc: Global, name: &'a str, help: &'a str) -> Arg<'a>
+    ensures rule { rule_of result ≡ flag_option name.now }
+    ensures local { result.global ≡ false }
+{
+    Arg::new(alloc, name)
+        .long(name)
+        .action(ArgAction::SetTrue)
         .help(help)
 }

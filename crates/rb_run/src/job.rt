@@ -5,20 +5,21 @@ ghost use Rattle.clap.specs.Words.{FailsBy, subcommand_of, subcommand_rows_of};
 ghost use Rattle.rb_run.specs.Program.{AsksFor, program, wrong_in};
 
 use crate::command::program;
-use crate::options::config;
+use crate::options::{answering, config};
 use clap::{ArgMatches, Error};
 use rb_core::{Config, ConfigFault};
+use rb_script::Answering;
 use std::alloc::Global;
 
 /// What a command line asks for.
 #[derive(Debug, Drop)]
 pub enum Job {
-    /// Answers a script under these limits.
-    Script(Config),
+    /// Answers a script under these limits, in this way.
+    Script(Config, Answering),
     /// Says which option's word isn't a number in its range.
     Range(ConfigFault),
     /// Prints help, the version or what is wrong with the words; or memory ran out.
-    Show(Error),
+    Print(Error),
 }
 
 impl Job {
@@ -27,9 +28,9 @@ impl Job {
         ensures { AsksFor result (map string_bytes words.now) }
     {
         match found(alloc, words) {
-            Err(shown) => Job::Show(shown),
+            Err(shown) => Job::Print(shown),
             Ok(found) => match config(&found) {
-                Ok(config) => Job::Script(config),
+                Ok(config) => Job::Script(config, answering(&found)),
                 Err(fault) => Job::Range(fault),
             },
         }

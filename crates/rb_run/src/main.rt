@@ -10,7 +10,7 @@ mod options;
 
 ghost use Rattle.std.specs.Prelude.{map, string_bytes};
 ghost use Rattle.clap.specs.Values.{kind_of};
-ghost use Rattle.rb_run.specs.Program.{EndsAsAsked, EndsFor, EndsShown, HasTried};
+ghost use Rattle.rb_run.specs.Program.{EndsAsAsked, EndsFor, EndsShown, HasPrinted, HasTried};
 
 use clap::Error;
 use clap::error::ErrorKind;
@@ -18,18 +18,20 @@ use ending::Ending;
 use job::Job;
 use options::range;
 use rb_core::Config;
-use rb_script::{ScriptFault, run_script};
+use rb_script::{Answering, ScriptFault, run_script};
 use std::alloc::Global;
-use std::io::BufWriter;
+use std::io::{BufWriter, Write};
 use std::process::ExitCode;
 use std::{env, io};
 
 fn main(rt: HostRuntime) -> ExitCode {
     let ending = run(&rt);
-    if let Ending::Stopped(fault) = &ending {
-        // if even this fails, nothing is left to do
-        let _ = eprintln!(rt; "rb_run: {fault}");
-    }
+    // if even this fails, nothing is left to do
+    let _ = match &ending {
+        Ending::Stopped(fault) => eprintln!(rt; "rb_run: {fault}"),
+        Ending::Refused(line) => eprintln!(rt; "rb_run: {line}"),
+        Ending::Done | Ending::Misused => Ok(()),
+    };
     ExitCode::from(ending.status())
 }
 
@@ -64,39 +66,57 @@ fn done(rt: &HostRuntime, job: Job) -> Ending
     ensures { EndsFor job result }
 {
     match job {
-        Job::Script(config) => scripted(rt, rt.alloc(), config),
+        Job::Script(config, how) => scripted(rt, rt.alloc(), config, how),
         Job::Range(fault) => {
             let _ = eprintln!(rt; "rb_run: {}", range(fault));
             Ending::Misused
         }
-        Job::Show(shown) => printed(rt, &shown),
+        Job::Print(text) => printed(rt, &text),
     }
 }
 
 // Prints help, the version, or what is wrong with the command line.
-fn printed(rt: &HostRuntime, shown: &Error) -> Ending
-    ensures { EndsShown (kind_of shown.now) result }
+fn printed(rt: &HostRuntime, text: &Error) -> Ending
+    ensures { EndsShown (kind_of text.now) result }
 {
-    if shown.kind() == ErrorKind::OutOfMemory {
+    if text.kind() == ErrorKind::OutOfMemory {
         return Ending::Stopped(ScriptFault::Memory);
     }
-    let printed = shown.print(rt);
-    if shown.use_stderr() {
+    if text.use_stderr() {
+        let _ = text.print(rt);
         return Ending::Misused;
     }
-    match printed {
-        Ok(()) => Ending::Done,
-        Err(why) => Ending::Stopped(ScriptFault::Write(why)),
+    told(rt, rt.alloc(), text)
+}
+
+// Prints help or the version, in one write. Nobody misses what a closed pipe doesn't take.
+fn told(rt: &HostRuntime, alloc: Global, text: &Error) -> Ending
+    ensures { HasPrinted result }
+{
+    let Ok(text) = format!(in alloc; "{text}") else {
+        return Ending::Stopped(ScriptFault::Memory);
+    };
+    match write_out(rt, text.as_bytes()) {
+        Err(why) if why.kind() != io::ErrorKind::BrokenPipe => {
+            Ending::Stopped(ScriptFault::Write(why))
+        }
+        _ => Ending::Done,
     }
 }
 
+fn write_out(rt: &HostRuntime, text: &[u8]) -> io::Result<()> {
+    let mut out = rt.stdout();
+    out.write_all(text)?;
+    out.flush()
+}
+
 // Answers the script from standard input on standard output.
-fn scripted(rt: &HostRuntime, alloc: Global, config: Config) -> Ending
+fn scripted(rt: &HostRuntime, alloc: Global, config: Config, how: Answering) -> Ending
     ensures { HasTried result }
 {
     let mut reader = rt.stdin();
     let Ok(mut writer) = BufWriter::with_capacity(alloc, 65_536, rt.stdout()) else {
         return Ending::Stopped(ScriptFault::Memory);
     };
-    Ending::of(run_script(alloc, &mut reader, &mut writer, config))
+    Ending::of(run_script(alloc, &mut reader, &mut writer, config, how))
 }

@@ -1,12 +1,13 @@
-//! Reads the limits from the options of a command line.
+//! Reads the limits, and how a script is answered, from the options of a command line.
 
 ghost use Rattle.std.specs.Prelude.{◌≡◌};
 ghost use Rattle.clap.specs.Words.{subcommand_rows_of};
-ghost use Rattle.rb_run.specs.Options.{config_by, config_of, range_text, value_of, word_of};
+ghost use Rattle.rb_run.specs.Options.{answering_by, config_by, config_of, is_set, range_text};
+ghost use Rattle.rb_run.specs.Options.{value_of, word_of};
 
 use clap::ArgMatches;
 use rb_core::{Config, ConfigFault};
-use rb_script::number;
+use rb_script::{Answering, number};
 
 /// The limits from the options of the subcommand, or the first option whose word isn't a number in
 /// its range.
@@ -19,6 +20,23 @@ pub fn config(found: &ArgMatches) -> Result<Config, ConfigFault>
     let capacity = word(found, "capacity");
     let intake = word(found, "intake");
     config_from(batch, window, timeout, capacity, intake)
+}
+
+/// How the options of the subcommand say that a script is answered.
+pub fn answering(found: &ArgMatches) -> Answering
+    ensures { result ≡ answering_by (subcommand_rows_of found.now) }
+{
+    Answering {
+        numbers: flag(found, "numbers"),
+        strict: flag(found, "strict"),
+    }
+}
+
+// whether an option of the subcommand is set
+fn flag(found: &ArgMatches, name: &str) -> bool
+    ensures { result ≡ is_set (subcommand_rows_of found.now) name.now }
+{
+    word(found, name) == "true"
 }
 
 // the word of an option of the subcommand, or none

@@ -1,8 +1,13 @@
 pub mod Numbers
 pub mod StreamLaws
 pub mod ScriptLaws
-pub mod EndLaws
+pub mod OutputLaws
+pub mod FedLaws
 pub mod LineLaws
+pub mod WholeLaws
+pub mod EndLaws
+pub mod PlainLaws
+pub mod RefusalLaws
 pub mod RunLaws
 pub mod FeedLaws
 pub mod RowTexts

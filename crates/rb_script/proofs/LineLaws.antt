@@ -34,13 +34,13 @@ line_stays config stage kept (b ∷ bs) fits =
     )
 
 -- what is kept is the line, or both are too long
-abbrev LineIsKept : List ℕ → List ℕ → Type 0
+abbrev pub LineIsKept : List ℕ → List ℕ → Type 0
 LineIsKept kept line = (kept ≡ line) ⊎ ((most_of_line < length kept) × (most_of_line < length line))
 
-longer-yes : (kept : List ℕ) (b : ℕ) → ltb most_of_line (length kept) ≡ true → longer kept b ≡ kept
+pub longer-yes : (kept : List ℕ) (b : ℕ) → ltb most_of_line (length kept) ≡ true → longer kept b ≡ kept
 longer-yes kept b e = ap (λ (t : Bool). cond t kept (kept ++ b ∷ [])) e
 
-longer-not : (kept : List ℕ) (b : ℕ) → ltb most_of_line (length kept) ≡ false → longer kept b ≡ kept ++ b ∷ []
+pub longer-not : (kept : List ℕ) (b : ℕ) → ltb most_of_line (length kept) ≡ false → longer kept b ≡ kept ++ b ∷ []
 longer-not kept b e = ap (λ (t : Bool). cond t kept (kept ++ b ∷ [])) e
 
 grown-long : (kept line : List ℕ) → most_of_line < length kept → line_grown kept line ≡ kept
@@ -72,7 +72,7 @@ line_too_long config stage (b ∷ bs) long =
     ap (λ (t : Bool). cond t (line_of (codes "refused LineTooLong"), stage)
     (form_answer config stage (form_of (b ∷ bs)))) (lt-ltb _ _ long)
 
-kept_answer : (config : Limits) (stage : Stage) (kept line : List ℕ) → LineIsKept kept line
+pub kept_answer : (config : Limits) (stage : Stage) (kept line : List ℕ) → LineIsKept kept line
     → line_answer config stage kept ≡ line_answer config stage line
 kept_answer config stage kept line (inl e) = ap (line_answer config stage) e
 kept_answer config stage kept line (inr long) = line_too_long config stage kept long.0

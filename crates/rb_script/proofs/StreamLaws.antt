@@ -103,3 +103,30 @@ on_err (Err e) P h = h
 
 pub stream_appends_front : (w w' : Option (List ℕ)) (bs : List ℕ) → Appends w w' bs → AppendsFront w w' bs
 stream_appends_front w w' bs p = (bs, [], sym (append-nil bs), p)
+
+pub front_none : (w : Option (List ℕ)) (bs : List ℕ) → AppendsFront w w bs
+front_none w bs = ([], bs, refl, Appends-none w)
+
+pub front_longer : (w w' : Option (List ℕ)) (bs more : List ℕ) → AppendsFront w w' bs → AppendsFront w w' (bs ++ more)
+front_longer w w' bs more h = (
+  h.0,
+  h.1 ++ more,
+  ap (λ (t : List ℕ). t ++ more) h.2 ∙ append_assoc h.0 h.1 more,
+  h.3,
+)
+
+pub front_later : (w0 w w' : Option (List ℕ)) (said later : List ℕ) → Appends w0 w said → AppendsFront w w' later
+    → AppendsFront w0 w' (said ++ later)
+front_later w0 w w' said later before h = (
+  said ++ h.0,
+  h.1,
+  ap (λ (t : List ℕ). said ++ t) h.2 ∙ sym (append_assoc said h.0 h.1),
+  Appends-trans w0 w w' said h.0 before h.3,
+)
+
+pub err_later : {T E : Type 0} (r : Result T E) (w0 w w' : Option (List ℕ)) (said later : List ℕ)
+    → Appends w0 w said → OnErr r (AppendsFront w w' later) → OnErr r (AppendsFront w0 w' (said ++ later))
+err_later (Ok x) w0 w w' said later before h = tt
+err_later (Err e) w0 w w' said later before h = front_later w0 w w' said later before h
+
+pub ruleset fronts = (front_none, front_longer, front_later, Appends-none, Appends-trans)

@@ -5,5 +5,8 @@ pub mod Replies
 pub mod Lines
 pub mod Output
 pub mod Streams
-pub mod Ends
 pub mod Script
+pub mod Refusing
+pub mod Answering
+pub mod Feeding
+pub mod Ends

@@ -1,7 +1,7 @@
 -- A script as its lines, and the events and replies in them.
 use Rattle.std.specs.Prelude.{◌≢◌, ℕ, List, [], ◌∷◌, ◌++◌, length, nat_lt, Option, Some, None, Ok}
-use Rattle.std.specs.Prelude.{if◌then◌else◌}
-use Rattle.std.specs.List.{AllByRecursion}
+use Rattle.std.specs.Prelude.{◌==◌, if◌then◌else◌}
+use Rattle.std.specs.List.{AllByRecursion, slice_split}
 use Rattle.rb_desk.specs.Limits.{Limits}
 use Rattle.rb_core.specs.declared.event.Event.{Event}
 use Rattle.rb_core.specs.Outcome.{outcome}
@@ -15,6 +15,19 @@ use Rattle.rb_script.specs.Lines.{most_of_line, line_answer, world_of}
 -- a line contains no line end
 abbrev pub IsLine : List ℕ → Type 0
 IsLine line = AllByRecursion (λ byte. byte ≢ 10) line
+
+-- the lines of a text; what comes after the last line end is a line too, even if it is empty
+abbrev pub lines_of : List ℕ → List (List ℕ)
+lines_of text = slice_split (λ byte. byte == 10) text
+
+-- those of them that have a line end: all but the last
+abbrev pub without_last : List (List ℕ) → List (List ℕ)
+without_last [] = []
+without_last (line ∷ []) = []
+without_last (line ∷ next ∷ lines) = line ∷ without_last (next ∷ lines)
+
+abbrev pub whole_lines : List ℕ → List (List ℕ)
+whole_lines text = without_last (lines_of text)
 
 -- lines, each with a line end
 abbrev pub ended_lines : List (List ℕ) → List ℕ

@@ -3,14 +3,16 @@
 ghost use Rattle.std.specs.Prelude.{◌≡◌};
 ghost use Rattle.rb_script.specs.declared.fault.ScriptFault.TheVariants.{Memory};
 
+use crate::answering::RefusedLine;
 use std::alloc::AllocError;
 use std::io;
 use thiserror::Error;
 
 /// Why `run_script` stopped, with the system's reason if there is one. After `Read` and `Endless`,
 /// the answers to all whole lines before are written. After `Write` and `Memory`, a prefix of the
-/// answers is written, whose last one may be cut.
-#[derive(Clone, Copy, Debug, Error)]
+/// answers is written, whose last one may be cut. After `Refused`, the answers up to that line's
+/// own are written.
+#[derive(Debug, Drop, Error)]
 pub enum ScriptFault {
     /// The reader failed.
     #[error("read fault: {0}")]
@@ -24,6 +26,9 @@ pub enum ScriptFault {
     /// Memory ran out.
     #[error("out of memory")]
     Memory,
+    /// The answering is strict, and this is the first line that is refused or faulty.
+    #[error("{0}")]
+    Refused(RefusedLine),
 }
 
 impl From<AllocError> for ScriptFault {

@@ -1,7 +1,7 @@
 //! Laws of scripts: what the answers to their lines are. Each law is a public function that does
 //! nothing; its contract is the law. Call the function to use the law.
 
-ghost use Rattle.std.specs.Prelude.{◌≡◌, ◌++◌, ◌∷◌, [], ℕ, List, Some, slice_get};
+ghost use Rattle.std.specs.Prelude.{◌≡◌, ◌++◌, ◌∷◌, [], ℕ, List, Some, None, slice_get};
 ghost use Rattle.std.specs.List.{AllByRecursion};
 ghost use Rattle.cs_model.specs.declared.shape.Shape.{Shape};
 ghost use Rattle.rb_desk.specs.IsPicture.{AreInRange};
@@ -12,11 +12,16 @@ ghost use Rattle.rb_core.specs.Run.{FeedsBytes, Run};
 ghost use Rattle.rb_core.specs.State.{empty_world};
 ghost use Rattle.rb_core.specs.Told.{world_told};
 ghost use Rattle.rb_core.specs.World.{Subscriber};
+ghost use Rattle.rb_script.specs.declared.lines.Stage.{Stage};
 ghost use Rattle.rb_script.specs.declared.lines.Stage.TheVariants.{Tables};
-ghost use Rattle.rb_script.specs.Lines.{world_of};
-ghost use Rattle.rb_script.specs.Output.{answers};
+ghost use Rattle.rb_script.specs.declared.answering.Answering.{Answering};
+ghost use Rattle.rb_script.specs.Answering.{answered_lines, lines_reached, numbered_answers};
+ghost use Rattle.rb_script.specs.Answering.{is_refusal, plainly, script_output, script_stop};
+ghost use Rattle.rb_script.specs.Lines.{line_answer, world_of};
+ghost use Rattle.rb_script.specs.Output.{answers, first_place, written};
+ghost use Rattle.rb_script.specs.Refusing.{line_refused};
 ghost use Rattle.rb_script.specs.Script.{IsLine, ended_lines, lines_answers, lines_events};
-ghost use Rattle.rb_script.specs.Script.{lines_replies, stage_after};
+ghost use Rattle.rb_script.specs.Script.{lines_of, lines_replies, stage_after, whole_lines};
 
 use rb_core::laws::{accepted_is_gapless, runs_keep_the_headline};
 
@@ -75,3 +80,45 @@ pub fn scripts_keep_the_headline()
     scripts_feed_bytes();
     runs_keep_the_headline();
 }
+
+/// Without numbers, and if every line is answered, the output is the answers that the other laws
+/// speak of, and no line stops the script.
+pub fn plain_output_is_the_answers()
+    ensures all { (config : Limits) (input : List ℕ)
+        → script_output plainly config (lines_of input) ≡ answers config input }
+    ensures whole { (config : Limits) (input : List ℕ)
+        → script_output plainly config (whole_lines input) ≡ written config first_place input }
+    ensures none { (config : Limits) (lines : List (List ℕ))
+        → script_stop plainly config lines ≡ None }
+{}
+
+/// A script's lines are found again in it. The last line has no line end.
+pub fn lines_are_found()
+    ensures { (lines : List (List ℕ)) (last : List ℕ) → AllByRecursion IsLine lines → IsLine last
+        → lines_of (ended_lines lines ++ last) ≡ lines ++ last ∷ [] }
+{}
+
+/// The headline of a script, however it is answered: what is written is the answers to the lines
+/// that are reached, and of what these tell every run's headline holds.
+pub fn answerings_keep_the_headline()
+    ensures { (how : Answering) (config : Limits) (lines : List (List ℕ)) (last : List ℕ)
+        → AreInRange config → AllByRecursion IsLine lines → IsLine last
+        → (reached : List (List ℕ))
+        × (reached ≡ lines_reached how config (Tables []) (lines ++ last ∷ []))
+        × (script_output how config (lines_of (ended_lines lines ++ last))
+        ≡ numbered_answers how 1 (answered_lines config (Tables []) reached))
+        × ((schema : List Shape) × KeepsHeadline schema (lines_events reached)
+        (lines_replies config (Tables []) reached)
+        (world_of config (stage_after config (Tables []) reached))) }
+{
+    lines_are_found();
+    scripts_are_runs();
+    scripts_feed_bytes();
+    runs_keep_the_headline();
+}
+
+/// An answer begins with `refused` or `fault` exactly if its line is refused or faulty.
+pub fn refusals_begin_so()
+    ensures { (config : Limits) (stage : Stage) (line : List ℕ)
+        → is_refusal (line_answer config stage line).0 ≡ line_refused config stage line }
+{}

@@ -3,10 +3,12 @@
 //! its lines and the replies to them are a run of the world, so each law of runs holds for scripts.
 #![tactic(auto)]
 
+mod answering;
 mod fault;
 mod forms;
 pub mod laws;
 mod lines;
+mod output;
 mod reading;
 mod replies;
 mod script;
@@ -14,6 +16,7 @@ mod streams;
 mod texts;
 mod words;
 
+pub use answering::{Answering, RefusedLine};
 pub use fault::ScriptFault;
 pub use script::{MOST_OF_SCRIPT, run_script};
 pub use words::number;

@@ -1,17 +1,21 @@
 //! Runs a script from a reader to a writer.
 
-ghost use Rattle.std.specs.Prelude.{◌≡◌, ◌<◌, ◌≤◌, ◌^◌, ℕ, List, length, take, replicate, vec_len};
-ghost use Rattle.std.specs.Prelude.{Ok, Err, OnOk, OnErr, IfErr, IfOk};
+ghost use Rattle.std.specs.Prelude.{◌≡◌, ◌+◌, ◌-◌, ◌<◌, ◌≤◌, ◌^◌, ◌∷◌, [], ℕ, List, length, take};
+ghost use Rattle.std.specs.Prelude.{false, vec_len, Ok, Err, OnOk, OnErr, IfErr, IfOk};
 ghost use Rattle.std.specs.Io.KnownBytes.{Appends, Consumes, Keeps, IsAtEnd};
+ghost use Rattle.rb_script.specs.declared.lines.Stage.TheVariants.{Tables};
 ghost use Rattle.rb_script.specs.Lines.{line_answer};
-ghost use Rattle.rb_script.specs.Output.{place_at, written, place_after, longer};
-ghost use Rattle.rb_script.specs.Streams.{AppendsFront};
-ghost use Rattle.rb_script.specs.Ends.{ScriptEnds, IsOfReader, IsOfAnswers};
+ghost use Rattle.rb_script.specs.Output.{place_at, longer};
+ghost use Rattle.rb_script.specs.Answering.{numbered_answer, stops_after};
+ghost use Rattle.rb_script.specs.Feeding.{AreFed, StopsIn, fed_lines, line_at};
+ghost use Rattle.rb_script.specs.Ends.{ScriptEnds, IsOfReader};
 
+use crate::answering::{Answering, RefusedLine};
 use crate::fault::ScriptFault;
 use crate::lines::{MOST_OF_LINE, Stage, answer};
-use crate::streams::{flush, read_some, write_whole};
-use cs_model::Schema;
+use crate::output::{hand_on, refuses, write_answer};
+use crate::streams::read_some;
+use cs_model::{Schema, Seq};
 use rb_core::Config;
 use std::alloc::{AllocError, Global};
 use std::io::{Read, Write};
@@ -22,9 +26,20 @@ pub const MOST_OF_SCRIPT: usize = 16_777_216;
 // how many bytes a read asks for
 const PIECE: usize = 65_536;
 
+// How far a script has come.
+#[derive(Drop)]
+struct Place {
+    stage: Stage,
+    // the number of the line that is read
+    number: u64,
+    // what is read of it
+    line: Vec<u8>,
+}
+
 /// Reads lines from `reader` and writes their answers to `writer`, in order. Each line has one
 /// answer line, but an empty line has none and `rows` has several. The last line may have no line
-/// end.
+/// end. `how` says whether the answers are numbered, and whether the script stops after the first
+/// line that is refused or faulty.
 ///
 /// Before each read, all whole lines so far are answered and the writer is flushed.
 ///
@@ -33,21 +48,29 @@ const PIECE: usize = 65_536;
 ///
 /// Returns `Write` if the writer fails or accepts no byte, and `Memory` if memory runs out. A
 /// prefix of the answers is written then, whose last one may be cut.
+///
+/// Returns `Refused` after a refused or faulty line, if `how` is strict. The answers up to its own
+/// are written then, and nothing after that.
 pub fn run_script<R: Read, W: Write>(
     alloc: Global,
     reader: &mut R,
     writer: &mut W,
     config: Config,
+    how: Answering,
 ) -> Result<(), ScriptFault>
     // The output is the answers to the input: to all of it or, after a fault, to as much as the
     // fault allows.
-    ensures { ScriptEnds config result (R.remaining reader.old) (R.remaining reader.new)
+    ensures { ScriptEnds how config result (R.remaining reader.old) (R.remaining reader.new)
         (W.contents writer.old) (W.contents writer.new) }
 {
-    let answered = answer_all(alloc, reader, writer, config);
+    let answered = answer_all(alloc, reader, writer, config, how);
     let handed_on = hand_on(writer);
     match answered {
         Ok(()) => handed_on,
+        Err(ScriptFault::Refused(line)) => match handed_on {
+            Ok(()) => Err(ScriptFault::Refused(line)),
+            Err(fault) => Err(fault),
+        },
         Err(fault) => Err(fault),
     }
 }
@@ -58,37 +81,29 @@ fn answer_all<R: Read, W: Write>(
     reader: &mut R,
     writer: &mut W,
     config: Config,
+    how: Answering,
 ) -> Result<(), ScriptFault>
-    ensures { ScriptEnds config result (R.remaining reader.old) (R.remaining reader.new)
+    ensures { ScriptEnds how config result (R.remaining reader.old) (R.remaining reader.new)
         (W.contents writer.old) (W.contents writer.new) }
 {
     let mut buffer = zeros(alloc, PIECE)?;
     let piece = buffer.as_mut_slice();
-    let mut stage = Stage::Tables(Schema::empty(alloc));
-    let mut line = Vec::new(alloc);
+    let mut place = first_place(alloc);
     let mut count = 0;
     for _ in 0..=MOST_OF_SCRIPT {
         // the caller has its answers before the next read waits
         hand_on(writer)?;
         let read = read_piece(reader, piece)?;
         if read == 0 {
-            answer_to(alloc, config, stage, &line, writer)?;
+            answer_line(alloc, config, how, place, writer)?;
             return Ok(());
         }
         if MOST_OF_SCRIPT - count < read {
-            feed(
-                alloc,
-                config,
-                stage,
-                line,
-                &piece[..MOST_OF_SCRIPT - count],
-                writer,
-            )?;
+            let within = &piece[..MOST_OF_SCRIPT - count];
+            feed(alloc, config, how, place, within, writer)?;
             return Err(ScriptFault::Endless);
         }
-        let next = feed(alloc, config, stage, line, &piece[..read], writer)?;
-        stage = next.0;
-        line = next.1;
+        place = feed(alloc, config, how, place, &piece[..read], writer)?;
         count += read;
     }
     // each pass reads at least one byte
@@ -99,6 +114,18 @@ fn zeros(alloc: Global, n: usize) -> Result<Vec<u8>, AllocError>
     ensures { IfOk result (λ bytes. vec_len bytes ≡ n) }
 {
     vec![in alloc; 0u8; n]
+}
+
+// before the first line
+fn first_place(alloc: Global) -> Place
+    ensures place { place_at result.stage result.line.items ≡ place_at (Tables []) [] }
+    ensures number { result.number ≡ 1 }
+{
+    Place {
+        stage: Stage::Tables(Schema::empty(alloc)),
+        number: 1,
+        line: Vec::new(alloc),
+    }
 }
 
 fn read_piece<R: Read>(reader: &mut R, piece: &mut [u8]) -> Result<usize, ScriptFault>
@@ -117,45 +144,33 @@ fn read_piece<R: Read>(reader: &mut R, piece: &mut [u8]) -> Result<usize, Script
     }
 }
 
-fn hand_on<W: Write>(writer: &mut W) -> Result<(), ScriptFault>
-    ensures kept { Keeps (W.contents writer.old) (W.contents writer.new) }
-    ensures fault { IfErr result IsOfAnswers }
-{
-    match flush(writer) {
-        Ok(()) => Ok(()),
-        Err(why) => Err(ScriptFault::Write(why)),
-    }
-}
-
-// Answers the lines that end in these bytes. Returns the stage after them and the start of the next
-// line.
+// Answers the lines that end in these bytes. Returns the place after them.
 fn feed<W: Write>(
     alloc: Global,
     config: Config,
-    stage: Stage,
-    line: Vec<u8>,
+    how: Answering,
+    place: Place,
     bytes: &[u8],
     writer: &mut W,
-) -> Result<(Stage, Vec<u8>), ScriptFault>
-    ensures ok { IfOk result (λ next. Appends (W.contents writer.old) (W.contents writer.new)
-        (written config (place_at stage line.items) bytes.now)
-        × (place_at next.0 next.1.items
-        ≡ place_after config (place_at stage line.items) bytes.now)) }
-    ensures err { OnErr result (AppendsFront (W.contents writer.old) (W.contents writer.new)
-        (written config (place_at stage line.items) bytes.now)) }
-    ensures faults { IfErr result IsOfAnswers }
+) -> Result<Place, ScriptFault>
+    requires { place.number + length bytes.now < 2 ^ 64 }
+    ensures ok { IfOk result (λ next. AreFed how config place.number
+        (place_at place.stage place.line.items) bytes.now
+        (W.contents writer.old) (W.contents writer.new)
+        next.number (place_at next.stage next.line.items)) }
+    ensures err { IfErr result (λ fault. StopsIn how place.number
+        (fed_lines config (place_at place.stage place.line.items) bytes.now) fault
+        (W.contents writer.old) (W.contents writer.new)) }
 {
-    let mut stage = stage;
-    let mut line = line;
+    let mut place = place;
     for byte in bytes {
         if *byte == b'\n' {
-            stage = answer_to(alloc, config, stage, &line, writer)?;
-            line.clear();
+            place = answer_line(alloc, config, how, place, writer)?;
         } else {
-            lengthen(&mut line, *byte)?;
+            lengthen(&mut place.line, *byte)?;
         }
     }
-    Ok((stage, line))
+    Ok(place)
 }
 
 // Appends a byte to a line. A line that is too long already does not change.
@@ -168,24 +183,57 @@ fn lengthen(line: &mut Vec<u8>, byte: u8) -> Result<(), AllocError>
     Ok(())
 }
 
-// Answers a line, and returns the stage after it.
-fn answer_to<W: Write>(
+// Answers the line at a place, and returns the place after it.
+fn answer_line<W: Write>(
     alloc: Global,
     config: Config,
-    stage: Stage,
-    line: &[u8],
+    how: Answering,
+    place: Place,
     writer: &mut W,
-) -> Result<Stage, ScriptFault>
-    ensures ok { IfOk result (λ next. Appends (W.contents writer.old) (W.contents writer.new)
-        (line_answer config stage line.now).0
-        × (next ≡ (line_answer config stage line.now).1)) }
-    ensures err { OnErr result (AppendsFront (W.contents writer.old) (W.contents writer.new)
-        (line_answer config stage line.now).0) }
-    ensures faults { IfErr result IsOfAnswers }
+) -> Result<Place, ScriptFault>
+    requires { place.number + 1 < 2 ^ 64 }
+    ensures ok { IfOk result (λ next. (stops_after how
+        (line_at config (place_at place.stage place.line.items)) ≡ false)
+        × Appends (W.contents writer.old) (W.contents writer.new)
+        (numbered_answer how place.number (line_answer config place.stage place.line.items).0)
+        × (place_at next.stage next.line.items
+        ≡ place_at (line_answer config place.stage place.line.items).1 [])
+        × (next.number ≡ place.number + 1)) }
+    ensures err { IfErr result (λ fault. StopsIn how place.number
+        (line_at config (place_at place.stage place.line.items) ∷ []) fault
+        (W.contents writer.old) (W.contents writer.new)) }
 {
-    let (text, next) = answer(alloc, config, stage, line)?;
-    match write_whole(writer, &text) {
-        Ok(()) => Ok(next),
-        Err(why) => Err(ScriptFault::Write(why)),
+    let Place {
+        stage,
+        number,
+        mut line,
+    } = place;
+    let (text, stage) = answer(alloc, config, stage, &line)?;
+    write_answer(alloc, how, number, &text, writer)?;
+    if how.strict && refuses(&text) {
+        return Err(ScriptFault::Refused(refused(number, line, text)));
+    }
+    line.clear();
+    Ok(Place {
+        stage,
+        number: number + 1,
+        line,
+    })
+}
+
+// the line with its answer, without the answer's line end
+fn refused(number: u64, line: Vec<u8>, answer: Vec<u8>) -> RefusedLine
+    ensures { result ≡ record {
+      number = number;
+      line = line.items;
+      answer = take (vec_len answer - 1) answer.items;
+    } }
+{
+    let mut answer = answer;
+    answer.pop();
+    RefusedLine {
+        number,
+        line: Seq::from_vec(line),
+        answer: Seq::from_vec(answer),
     }
 }

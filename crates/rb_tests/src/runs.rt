@@ -5,7 +5,7 @@ ghost use Rattle.std.specs.Prelude.{◌<◌};
 
 use cs_model::{Octets, Schema, Seq, Shape};
 use rb_core::{BrokerRefusal, Config, Event, Reply, World, run};
-use rb_script::run_script;
+use rb_script::{Answering, run_script};
 use rb_subscriber::AcceptRefusal;
 use std::alloc::{AllocError, Global};
 use std::process::Abort;
@@ -165,7 +165,13 @@ fn a_hundred_thousand_rows_are_accepted(rt: HostRuntime) -> Result<(), Fail> {
     answers.extend_from_slice(&rows)?;
     let mut reader: &[u8] = &script;
     let mut written = Vec::new(alloc);
-    run_script(alloc, &mut reader, &mut written, Config::standard())?;
+    run_script(
+        alloc,
+        &mut reader,
+        &mut written,
+        Config::standard(),
+        Answering::plain(),
+    )?;
     assert!(rt; written.as_slice() == answers.as_slice());
     Ok(())
 }

@@ -1,7 +1,7 @@
 //! Readers and writers that fail, are interrupted, or wait for answers.
 
 use rb_core::Config;
-use rb_script::{ScriptFault, run_script};
+use rb_script::{Answering, ScriptFault, run_script};
 use std::alloc::Global;
 use std::cell::Cell;
 use std::io;
@@ -214,14 +214,26 @@ fn stops(rt: HostRuntime) -> Result<(), Fail> {
     let mut failing = Failing {
         rest: b"publisher\nturn\ntur",
     };
-    let read = run_script(alloc, &mut failing, &mut written, config);
+    let read = run_script(
+        alloc,
+        &mut failing,
+        &mut written,
+        config,
+        Answering::plain(),
+    );
     stopped(&rt, alloc, read, "read fault: timed out")?;
     assert!(rt; written.as_slice() == b"publisher 0\nidle\n".as_slice());
     let mut script: &[u8] = b"publisher\n";
-    let full = run_script(alloc, &mut script, &mut Full, config);
+    let full = run_script(alloc, &mut script, &mut Full, config, Answering::plain());
     stopped(&rt, alloc, full, "write fault: write zero")?;
     let mut nothing = Vec::new(alloc);
-    let endless = run_script(alloc, &mut Unending, &mut nothing, config);
+    let endless = run_script(
+        alloc,
+        &mut Unending,
+        &mut nothing,
+        config,
+        Answering::plain(),
+    );
     stopped(
         &rt,
         alloc,
@@ -240,7 +252,13 @@ fn what_is_interrupted_is_tried_again(rt: HostRuntime) -> Result<(), Fail> {
     let script: &[u8] = b"publisher\nturn\n";
     let mut reader = Hasty::new(script);
     let mut writer = Hasty::new(Vec::new(alloc));
-    run_script(alloc, &mut reader, &mut writer, Config::standard())?;
+    run_script(
+        alloc,
+        &mut reader,
+        &mut writer,
+        Config::standard(),
+        Answering::plain(),
+    )?;
     assert!(rt; writer.inner.as_slice() == b"publisher 0\nidle\n".as_slice());
     Ok(())
 }
@@ -259,7 +277,13 @@ fn lines_are_answered_before_the_next_read(rt: HostRuntime) -> Result<(), Fail> 
         lines: 0,
         answered: &answered,
     };
-    run_script(alloc, &mut reader, &mut writer, Config::standard())?;
+    run_script(
+        alloc,
+        &mut reader,
+        &mut writer,
+        Config::standard(),
+        Answering::plain(),
+    )?;
     assert_eq!(rt; answered.get(), 4);
     // the answer to a last line without a line end is flushed too
     let last: [&[u8]; 1] = [b"turn"];
@@ -269,7 +293,13 @@ fn lines_are_answered_before_the_next_read(rt: HostRuntime) -> Result<(), Fail> 
         answered: &rest,
     };
     let mut reader: &[u8] = last[0];
-    run_script(alloc, &mut reader, &mut writer, Config::standard())?;
+    run_script(
+        alloc,
+        &mut reader,
+        &mut writer,
+        Config::standard(),
+        Answering::plain(),
+    )?;
     assert_eq!(rt; rest.get(), 1);
     Ok(())
 }
@@ -281,7 +311,13 @@ fn write_faults_carry_their_reason(rt: HostRuntime) -> Result<(), Fail> {
     for (writes, flushes) in [(true, 9), (false, 0), (false, 2)] {
         let mut script: &[u8] = b"turn";
         let mut writer = Broken { writes, flushes };
-        let run = run_script(alloc, &mut script, &mut writer, Config::standard());
+        let run = run_script(
+            alloc,
+            &mut script,
+            &mut writer,
+            Config::standard(),
+            Answering::plain(),
+        );
         stopped(&rt, alloc, run, "write fault: timed out")?;
     }
     Ok(())
@@ -296,7 +332,13 @@ fn answers_are_handed_on_behind_a_fault(rt: HostRuntime) -> Result<(), Fail> {
         answered: &answered,
     };
     let mut reader = Turning { begun: false };
-    let run = run_script(alloc, &mut reader, &mut writer, Config::standard());
+    let run = run_script(
+        alloc,
+        &mut reader,
+        &mut writer,
+        Config::standard(),
+        Answering::plain(),
+    );
     stopped(&rt, alloc, run, "script too long: more than 16777216 bytes")?;
     assert_eq!(rt; answered.get(), 257);
     Ok(())

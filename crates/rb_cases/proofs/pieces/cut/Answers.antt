@@ -1,7 +1,8 @@
 use Rattle.std.proofs.Common.{◌≡◌, ◌-◌, ℕ, List, ◌∙◌, ap, length, rules, sym, take}
 use Rattle.std.proofs.lemmas.List.Folds.{flat_map-map}
 use Rattle.std.specs.List.{flat_map}
-use Rattle.rb_cases.specs.Pieces.{but_last, fed_parts, line_text, lines_of}
+use Rattle.rb_cases.specs.Pieces.{but_last, fed_parts, line_text}
+use Rattle.rb_script.specs.Script.{lines_of}
 use Rattle.rb_cases.proofs.pieces.cut.Goals as goal
 
 pub returns : goal.returns

@@ -9,6 +9,7 @@ invariant-loop g l = record {
   as_far : l.counter ≤ l.count;
   within : l.count ≤ 16777216;
   room : length l.piece ≡ 65536;
-  so_far : EndProgress l.config (g.R.Read.remaining l.fn.reader) (g.R.Read.remaining l.reader)
-      (g.W.Write.contents l.fn.writer) (g.W.Write.contents l.writer) (place_at l.stage l.line.items) l.count;
+  so_far : EndProgress l.how l.config (g.R.Read.remaining l.fn.reader) (g.R.Read.remaining l.reader)
+      (g.W.Write.contents l.fn.writer) (g.W.Write.contents l.writer) l.place.number
+      (place_at l.place.stage l.place.line.items) l.count;
 }
