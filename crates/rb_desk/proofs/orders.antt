@@ -4,3 +4,4 @@ pub mod OrderLaws
 pub mod ExpireOrder
 pub mod SearchLaws
 pub mod TreeLaws
+pub mod WaitingLaws

@@ -8,6 +8,7 @@ pub mod Tournament
 pub mod Taken
 pub mod Orders
 pub mod Shown
+pub mod Waiting
 pub mod Expiry
 pub mod Steps
 pub mod IsPicture

@@ -5,6 +5,7 @@ ghost use Rattle.rb_desk.specs.Picture.{empty_picture};
 
 use crate::config::Config;
 use crate::sub::Sub;
+use crate::tournament::Tournament;
 use std::alloc::Global;
 use std::marker::Model;
 
@@ -21,13 +22,16 @@ pub struct Desk {
     // how many tickets were drawn, placements not counted
     pub(crate) turn: u64,
     pub(crate) subs: Vec<Sub>,
+    // the tickets of the subscriptions: they follow from `subs`
+    pub(crate) line: Tournament,
 }
 
 impl Model for Desk {
-    ghost use Rattle.std.specs.Prelude.{◌≤◌, length};
+    ghost use Rattle.std.specs.Prelude.{◌≡◌, ◌≤◌, length, map};
     ghost use Rattle.std.specs.List.{AllByRecursion};
     ghost use Rattle.rb_desk.specs.Picture.{Picture, picture_code};
     ghost use Rattle.rb_desk.specs.Shown.{shown, IsWithin, Belongs};
+    ghost use Rattle.rb_desk.specs.Waiting.{sub_ticket};
 
     ghost Value = { Picture };
 
@@ -38,7 +42,8 @@ impl Model for Desk {
 
     ghost invariant = { λ d. IsWithin d.config d.front
         × AllByRecursion (Belongs d.front d.turn d.next_delivery) d.subs.items
-        × (length d.subs.items ≤ 1024) };
+        × (length d.subs.items ≤ 1024)
+        × (d.line ≡ map (sub_ticket d.config.window) d.subs.items) };
 }
 
 impl Desk {
@@ -55,6 +60,7 @@ impl Desk {
             next_delivery: 1,
             turn: 0,
             subs: Vec::new(alloc),
+            line: Tournament::new(alloc),
         }
     }
 

@@ -8,6 +8,7 @@ ghost use Rattle.rb_desk.specs.Lanes.{AreJoined, AreLimited, HasNumbers, spans_o
 ghost use Rattle.rb_desk.specs.Lanes.{lane_spans, is_none_left, least, cut_lane, delivered_lane};
 ghost use Rattle.rb_desk.specs.Lanes.{returned_lane, settled_lane, pushed_lane, restated_lane};
 ghost use Rattle.rb_desk.specs.Lanes.{raised_lane, risen};
+ghost use Rattle.rb_desk.specs.Waiting.{lane_ticket};
 
 use crate::span::{Span, Status};
 use crate::taken::Taken;
@@ -117,6 +118,17 @@ impl Lane {
     {
         let fresh = self.cutting.given_to(self.first_fresh(batch, front));
         sooner(self.held.first_in_line(), fresh)
+    }
+
+    /// The ticket of the span that is first in line, or would be once the next number is placed.
+    pub(crate) fn ticket(&self) -> Ticket
+        ensures { result ≡ lane_ticket self.now }
+    {
+        let fresh = self.cutting.of_span(self.next);
+        match self.held.first_in_line() {
+            Some(held) if !fresh.is_before(held.ticket) => held.ticket,
+            _ => fresh,
+        }
     }
 
     /// The span that is in flight as this delivery.

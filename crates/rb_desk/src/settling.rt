@@ -10,7 +10,7 @@ ghost use Rattle.rb_desk.specs.Answers.{DeskAnswers};
 
 use crate::desk::Desk;
 use crate::refusal::{DeskError, DeskRefusal};
-use crate::sub::{Sub, numbered};
+use crate::sub::{Sub, numbered, stand, stand_all};
 use crate::subscribing::after;
 use crate::ticket::Ticket;
 use std::alloc::AllocError;
@@ -44,7 +44,9 @@ impl Desk {
         if cursor < span.last {
             return Err(DeskRefusal::NotAccepted { cursor });
         }
-        Ok(self.subs[s].settle(span.first))
+        let floor = self.subs[s].settle(span.first);
+        stand(&self.subs, &mut self.line, self.config.window(), s);
+        Ok(floor)
     }
 
     /// Negatively acknowledges a delivery: its numbers are ready again, after all that are ready.
@@ -67,6 +69,7 @@ impl Desk {
         let front = self.front;
         let turn = after(self.turn)?;
         self.subs[s].give_back(span.first, Ticket { front, turn });
+        stand(&self.subs, &mut self.line, self.config.window(), s);
         self.turn = turn;
         Ok(())
     }
@@ -92,6 +95,7 @@ impl Desk {
             turn: self.turn,
         };
         expire_all(&mut self.subs, timeout, clock, latest, next);
+        stand_all(&self.subs, &mut self.line, self.config.window());
         self.clock = clock;
         self.turn = turn;
         Ok(many)

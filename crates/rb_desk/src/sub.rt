@@ -1,12 +1,16 @@
 //! One subscription of a desk: its numbers, its link and its lane.
 
-ghost use Rattle.std.specs.Prelude.{◌≡◌, ◌≤◌, slice_get, OnSome, OnOk, OnErr};
+ghost use Rattle.std.specs.Prelude.{◌≡◌, ◌<◌, ◌≤◌, length, map, slice_get, slice_set, Some};
+ghost use Rattle.std.specs.Prelude.{OnSome, OnOk, OnErr};
+ghost use Rattle.rb_desk.specs.declared.sub.Sub.{Sub};
+ghost use Rattle.rb_desk.specs.Waiting.{sub_ticket};
 ghost use Rattle.std.specs.Option.{option_copied, option_map};
 ghost use Rattle.rb_desk.specs.Lanes.{AreJoined, AreLimited, HasNumbers, settled_lane};
 
 use crate::lane::Lane;
 use crate::span::Span;
 use crate::ticket::{Held, Ticket};
+use crate::tournament::Tournament;
 use std::alloc::{AllocError, Global};
 
 /// A subscription: the number after which it began, the greatest number delivered, its current
@@ -25,6 +29,7 @@ impl Sub {
     ghost use Rattle.rb_desk.specs.Shown.{AreGiven, new_sub, next_to_deliver, sub_out_as};
     ghost use Rattle.rb_desk.specs.Shown.{delivered_sub, returned_sub, settled_sub};
     ghost use Rattle.rb_desk.specs.Shown.{reconnected_sub, closed_sub};
+    ghost use Rattle.rb_desk.specs.Waiting.{sub_ticket};
 
     /// A subscription after this number, under this link. The numbers after it are cut with this
     /// ticket.
@@ -99,6 +104,17 @@ impl Sub {
         Some((sub, held))
     }
 
+    /// Its ticket among the subscriptions, if it is open and its window has room: that of the span
+    /// that is first in line, or would be once the next number is placed.
+    pub(crate) fn ticket(&self, window: u64) -> Option<Ticket>
+        ensures { result ≡ sub_ticket window self.now }
+    {
+        if self.closed || self.lane.out() >= window {
+            return None;
+        }
+        Some(self.lane.ticket())
+    }
+
     /// How many spans are due.
     pub(crate) fn how_many_due(&self, timeout: u64, clock: u64) -> u64
         ensures value { result ≡ due_in timeout clock self.now }
@@ -137,6 +153,26 @@ impl Sub {
     {
         self.closed = true;
         self.lane.clear();
+    }
+}
+
+/// Gives a subscription that changed its ticket among the others.
+pub(crate) fn stand(subs: &[Sub], line: &mut Tournament, window: u64, s: usize)
+    requires here { s < length subs.now }
+    requires line { length line.old ≡ length subs.now }
+    ensures { (sub : Sub) → slice_get subs.now s ≡ Some sub
+        → line.new ≡ slice_set line.old s (sub_ticket window sub) }
+{
+    line.set(s, subs[s].ticket(window));
+}
+
+/// Gives all subscriptions their tickets.
+pub(crate) fn stand_all(subs: &[Sub], line: &mut Tournament, window: u64)
+    requires { length line.old ≡ length subs.now }
+    ensures { line.new ≡ map (sub_ticket window) subs.now }
+{
+    for s in 0..subs.len() {
+        line.set(s, subs[s].ticket(window));
     }
 }
 

@@ -6,7 +6,7 @@ ghost use Rattle.rb_desk.specs.Answers.{DeskAnswers, OnlyMemory, call_refusal};
 
 use crate::desk::Desk;
 use crate::refusal::{DeskError, DeskRefusal};
-use crate::sub::{Sub, numbered};
+use crate::sub::{Sub, numbered, stand};
 use crate::ticket::Ticket;
 use std::alloc::Global;
 
@@ -29,6 +29,7 @@ impl Desk {
         let turn = after(self.turn)?;
         self.subs.reserve(1)?;
         let made = Sub::behind(alloc, start, link, Ticket { front, turn });
+        self.line.push(alloc, made.ticket(self.config.window()))?;
         self.subs.push_reserved(made);
         self.next_link = next_link;
         self.turn = turn;
@@ -78,6 +79,7 @@ impl Desk {
         let turn = after(self.turn)?;
         let front = self.front;
         self.subs[s].reconnect(alloc, cursor, link, Ticket { front, turn });
+        stand(&self.subs, &mut self.line, self.config.window(), s);
         self.next_link = next_link;
         self.turn = turn;
         Ok(link)
@@ -102,6 +104,7 @@ impl Desk {
             return Err(DeskRefusal::Closed);
         }
         self.subs[s].close();
+        stand(&self.subs, &mut self.line, self.config.window(), s);
         Ok(())
     }
 }

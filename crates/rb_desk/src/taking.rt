@@ -1,21 +1,22 @@
 //! Calls that deliver numbers to subscriptions.
 
-ghost use Rattle.std.specs.Prelude.{◌≡◌, ◌<◌, ℕ, length, IfSome};
+ghost use Rattle.std.specs.Prelude.{◌≡◌, ◌<◌, ℕ, length, map, IfSome};
 ghost use Rattle.rb_desk.specs.Calls.{take, take_any};
 ghost use Rattle.rb_desk.specs.Answers.{DeskAnswers, call_refusal};
 ghost use Rattle.std.specs.Option.{option_map};
 ghost use Rattle.rb_desk.specs.Lanes.{AreLimited, HasNumbers};
 ghost use Rattle.rb_desk.specs.Shown.{why_none, WhenDelivered, first_to_deliver, span_to_deliver};
-ghost use Rattle.rb_desk.specs.Shown.{goes_first, IsJoinedAt, FindsToTake};
+ghost use Rattle.rb_desk.specs.Shown.{IsJoinedAt, FindsToTake};
+ghost use Rattle.rb_desk.specs.Waiting.{sub_ticket, BelongAll};
 
 use crate::config::Config;
 use crate::delivery::Delivery;
 use crate::desk::Desk;
 use crate::refusal::{DeskError, DeskRefusal};
 use crate::span::Span;
-use crate::sub::{Sub, numbered};
+use crate::sub::{Sub, numbered, stand};
 use crate::subscribing::after;
-use crate::ticket::Held;
+use crate::tournament::Tournament;
 
 impl Desk {
     /// Delivers a subscription's ready span with the lowest numbers; it is in flight from now on.
@@ -45,6 +46,8 @@ impl Desk {
         )?;
         deliver(
             &mut self.subs,
+            &mut self.line,
+            self.config.window(),
             &mut self.next_delivery,
             &mut self.clock,
             sub,
@@ -80,12 +83,15 @@ impl Desk {
     {
         let front = self.front;
         let window = self.config.window();
-        let Some((sub, span)) = first_to_deliver(&self.subs, window, self.config.batch(), front)
+        let batch = self.config.batch();
+        let Some((sub, span)) = first_to_deliver(&self.subs, &self.line, window, batch, front)
         else {
             return Err(DeskRefusal::Empty { front }.into());
         };
         deliver(
             &mut self.subs,
+            &mut self.line,
+            self.config.window(),
             &mut self.next_delivery,
             &mut self.clock,
             sub,
@@ -100,7 +106,8 @@ impl Desk {
     {
         let front = self.front;
         let window = self.config.window();
-        match first_to_deliver(&self.subs, window, self.config.batch(), front) {
+        let batch = self.config.batch();
+        match first_to_deliver(&self.subs, &self.line, window, batch, front) {
             Some(_) => None,
             None => Some(DeskRefusal::Empty { front }),
         }
@@ -142,15 +149,19 @@ fn to_take(
 // Delivers a span of the subscription with this number: it is in flight as the next delivery.
 fn deliver(
     subs: &mut Vec<Sub>,
+    line: &mut Tournament,
+    window: u64,
     next_delivery: &mut u64,
     clock: &mut u64,
     sub: u64,
     span: Span,
     now: u64,
 ) -> Result<Delivery, DeskError>
-    requires { (sub < length subs.old.items) × HasNumbers span }
-    ensures { WhenDelivered result subs.old.items sub span next_delivery.old clock.old now
+    requires span { (sub < length subs.old.items) × HasNumbers span }
+    requires line { line.old ≡ map (sub_ticket window) subs.old.items }
+    ensures delivered { WhenDelivered result subs.old.items sub span next_delivery.old clock.old now
         subs.new.items next_delivery.new clock.new }
+    ensures line { line.new ≡ map (sub_ticket window) subs.new.items }
 {
     let number = *next_delivery;
     let next = after(number)?;
@@ -158,37 +169,34 @@ fn deliver(
     let found = &mut subs[sub as usize];
     let link = found.link;
     found.deliver(span, number, taken)?;
+    stand(subs, line, window, sub as usize);
     *next_delivery = next;
     *clock = taken;
     Ok(Delivery::of(number, sub, link, span))
 }
 
 // the span to deliver before all others, and its subscription's number
-fn first_to_deliver(subs: &[Sub], window: u64, batch: u64, front: u64) -> Option<(u64, Span)>
-    requires { AreLimited batch front }
+fn first_to_deliver(
+    subs: &[Sub],
+    line: &Tournament,
+    window: u64,
+    batch: u64,
+    front: u64,
+) -> Option<(u64, Span)>
+    requires limits { AreLimited batch front }
+    requires line { line.now ≡ map (sub_ticket window) subs.now }
+    requires belong { BelongAll front subs.now }
     ensures value { result ≡ option_map span_to_deliver
         (first_to_deliver window batch front 0 subs.now) }
     ensures joined { IfSome result (λ c. IsJoinedAt subs.now c.0) }
 {
-    let mut first: Option<(u64, Held)> = None;
-    for i in 0..subs.len() {
-        first = goes_first(
-            first,
-            subs[i].next_to_deliver(i as u64, window, batch, front),
-        );
+    let winner = line.winner()?;
+    // the ticket of numbers that aren't placed yet
+    if front < winner.ticket.front {
+        return None;
     }
-    let (sub, held) = first?;
-    Some((sub, held.span))
-}
-
-// the one that is first in line; `first` if both have the same ticket
-fn goes_first(first: Option<(u64, Held)>, second: Option<(u64, Held)>) -> Option<(u64, Held)>
-    ensures { result ≡ goes_first first second }
-{
-    match second {
-        Some((_, held)) if held.is_before(first.map(|(_, other)| other)) => second,
-        _ => first,
-    }
+    let held = subs[winner.place].lane.first_in_line(batch, front)?;
+    Some((winner.place as u64, held.span))
 }
 
 // why nothing is delivered

@@ -1,9 +1,11 @@
-use Rattle.std.proofs.Common.{◌≡◌, ◌∙◌, max, Err, ap, refl, slice_set}
+use Rattle.std.proofs.Common.{◌≡◌, ◌∙◌, max, Err, ap, sym, refl, slice_set, map}
 use Rattle.std.proofs.lemmas.Result.{err_from_is_err_and}
 use Rattle.std.proofs.lemmas.Option.{get_or_from_slice_get}
 use Rattle.std.proofs.lemmas.List.{set-get_or}
 use Rattle.rb_desk.specs.declared.sub.Sub.{Sub}
 use Rattle.rb_desk.specs.Shown.{delivered_sub}
+use Rattle.rb_desk.specs.Waiting.{sub_ticket}
+use Rattle.rb_desk.proofs.orders.WaitingLaws.{stood}
 use Rattle.rb_desk.proofs.taking.deliver.Goals as goal
 
 pub returns-in_err-deliver : goal.returns-in_err-deliver
@@ -12,10 +14,13 @@ returns-in_err-deliver c =
     let back : slice_set c.args.subs.now.items c.args.sub c.deliver.new.self ≡ c.args.subs.now.items =
     ap (slice_set c.args.subs.now.items c.args.sub) (c.in_err-deliver.ensures.err ∙ c.index_mut-found.ensures.value)
     ∙ set-get_or c.args.subs.now.items c.args.sub c.index_mut-found.result.now in
-    rw (memory.1 ∙ ap Err memory.2) (refl, back, refl, refl)
+    rw (memory.1 ∙ ap Err memory.2) (record {
+      delivered = (refl, back, refl, refl);
+      line = c.requires.line ∙ ap (map (sub_ticket c.args.window)) (sym back);
+    })
 
-pub returns : goal.returns
-returns c found here =
+pub returns-clause-delivered : goal.returns-clause-delivered
+returns-clause-delivered c found here =
     let same : c.index_mut-found.result.now ≡ found = c.index_mut-found.ensures.value
     ∙ get_or_from_slice_get c.args.subs.now.items c.args.sub found c.index_mut-found.result.now here in
     let clock : c.max-taken.result ≡ max c.args.clock.now c.args.now = c.max-taken.ensures in
@@ -34,3 +39,8 @@ returns c found here =
       next_is = c.in_ok-next.ensures;
       clock_is = clock;
     }
+
+pub returns-clause-line : goal.returns-clause-line
+returns-clause-line c =
+    stood c.args.window c.args.sub c.args.subs.now.items _ c.deliver.new.self c.args.line.now c.stand.new.line c.requires.line
+    c.requires.span.0 c.deref.ensures.value c.stand.ensures

@@ -1,28 +1,74 @@
-use Rattle.std.proofs.Common.{◌≡◌, ◌∙◌, ◌+◌, Option, Some, drop, slice_get, ap, refl, option_map, ℕ}
-use Rattle.std.proofs.lemmas.Option.{slice_get_read}
+use Rattle.std.proofs.Common.{rules, ◌≡◌, ◌∙◌, ◌<◌, ◌≤◌, ℕ, arith, ap, sym, subst, Option, Some, None, option_map, map, length}
+use Rattle.std.proofs.Common.{slice_get, refl}
+use Rattle.std.proofs.lemmas.Option.{slice_get_within, get_or_from_slice_get}
+use Rattle.rb_desk.specs.declared.sub.Sub.{Sub}
 use Rattle.rb_desk.specs.declared.ticket.Held.{Held}
-use Rattle.rb_desk.specs.Shown.{goes_first, next_to_deliver, first_to_deliver, IsJoinedAt}
-use Rattle.rb_desk.proofs.spans.FirstLaws.{first_one_more, ahead_joined, own_joined}
+use Rattle.rb_desk.specs.Lanes.{AreJoined, lane_held, least}
+use Rattle.rb_desk.specs.Shown.{first_to_deliver, span_to_deliver}
+use Rattle.rb_desk.specs.Tournament.{winner_from}
+use Rattle.rb_desk.specs.Waiting.{sub_ticket}
+use Rattle.rb_desk.proofs.orders.WaitingLaws.{all_say, WinSays, found_first, Found}
 use Rattle.rb_desk.proofs.taking.first_to_deliver.Goals as goal
 
-pub loop-i-preserved : goal.loop-i-preserved
-loop-i-preserved c =
-    let numbered : Option Held → Option (ℕ × Held) = λ o. option_map (λ h. (c.loop-i.i, h)) o in
-    let step = c.goes_first-first.ensures
-    ∙ ap (goes_first c.loop-i.first)
-    (c.next_to_deliver.ensures.value
-    ∙ ap (λ sub. numbered (next_to_deliver c.args.window c.args.batch c.args.front sub)) c.index-subs-i.is) in
-    let found : slice_get c.args.subs.now c.loop-i.i ≡ Some c.index-subs-i.result =
-    slice_get_read c.args.subs.now _ c.loop-i.i c.index-subs-i.result refl c.loop-i-test.true c.index-subs-i.is in
-    record {
-      first = ap
-          (λ o. goes_first o (first_to_deliver c.args.window c.args.batch c.args.front (c.loop-i.i + 1)
-          (drop (c.loop-i.i + 1) c.args.subs.now))) step
-          ∙ first_one_more c.args.window c.args.batch c.args.front c.loop-i.i c.args.subs.now c.loop-i.first
-          c.index-subs-i.result c.loop-i-test.true ∙ c.loop-i.invariant.first;
-      joined = rw c.goes_first-first.ensures
-          (ahead_joined (λ c'. IsJoinedAt c.args.subs.now c'.0) c.loop-i.first c.next_to_deliver.result
-          c.loop-i.invariant.joined
-          (own_joined c.args.subs.now c.loop-i.i c.index-subs-i.result _ c.next_to_deliver.result found
-          c.next_to_deliver.ensures.value c.next_to_deliver.ensures.joined));
-    }
+pub returns-in_err-winner-clause-value : goal.returns-in_err-winner-clause-value
+returns-in_err-winner-clause-value c =
+    let says = all_say c.args.window c.args.batch c.args.front c.requires.belong.0 c.requires.belong.1 0
+    c.args.subs.now c.requires.limits.0 c.requires.belong.2 in
+    let none : WinSays c.args.front (first_to_deliver c.args.window c.args.batch c.args.front 0 c.args.subs.now) None =
+    subst (WinSays c.args.front (first_to_deliver c.args.window c.args.batch c.args.front 0 c.args.subs.now))
+    (sym (sym c.in_err-winner.was ∙ c.winner.ensures ∙ ap (winner_from 0) c.requires.line)) says in
+    c.from_residual.ensures ∙ sym (ap (option_map span_to_deliver) none)
+
+pub returns-then-front-winner-clause-value : goal.returns-then-front-winner-clause-value
+returns-then-front-winner-clause-value c =
+    let says = all_say c.args.window c.args.batch c.args.front c.requires.belong.0 c.requires.belong.1 0
+    c.args.subs.now c.requires.limits.0 c.requires.belong.2 in
+    let won : WinSays c.args.front (first_to_deliver c.args.window c.args.batch c.args.front 0 c.args.subs.now)
+    (Some c.in_ok-winner.winner) =
+    subst (WinSays c.args.front (first_to_deliver c.args.window c.args.batch c.args.front 0 c.args.subs.now))
+    (sym (sym c.in_ok-winner.was ∙ c.winner.ensures ∙ ap (winner_from 0) c.requires.line)) says in
+    sym (ap (option_map span_to_deliver) (won.1 c.if-front-winner.true))
+
+pub bounds-subs-winner : goal.bounds-subs-winner
+bounds-subs-winner c =
+    let f = found_first c.args.window c.args.batch c.args.front c.requires.belong.0 c.requires.belong.1 c.args.subs.now
+    c.in_ok-winner.winner c.requires.limits.0 c.requires.belong.2
+    (sym (sym c.in_ok-winner.was ∙ c.winner.ensures ∙ ap (winner_from 0) c.requires.line)) c.if-front-winner.false in
+    slice_get_within c.args.subs.now c.in_ok-winner.winner.place f.sub f.there
+
+pub offset_bounds-subs-winner : goal.offset_bounds-subs-winner
+offset_bounds-subs-winner c =
+    let f = found_first c.args.window c.args.batch c.args.front c.requires.belong.0 c.requires.belong.1 c.args.subs.now
+    c.in_ok-winner.winner c.requires.limits.0 c.requires.belong.2
+    (sym (sym c.in_ok-winner.was ∙ c.winner.ensures ∙ ap (winner_from 0) c.requires.line)) c.if-front-winner.false in
+    let within = slice_get_within c.args.subs.now c.in_ok-winner.winner.place f.sub f.there in
+    search (rules, within)
+
+pub returns-in_err-held-clause-value : goal.returns-in_err-held-clause-value
+returns-in_err-held-clause-value c =
+    let f = found_first c.args.window c.args.batch c.args.front c.requires.belong.0 c.requires.belong.1 c.args.subs.now
+    c.in_ok-winner.winner c.requires.limits.0 c.requires.belong.2
+    (sym (sym c.in_ok-winner.was ∙ c.winner.ensures ∙ ap (winner_from 0) c.requires.line)) c.if-front-winner.false in
+    let same = get_or_from_slice_get c.args.subs.now c.in_ok-winner.winner.place f.sub c.index-subs-winner.result f.there in
+    let none : None ≡ Some f.held = sym c.in_err-held.was ∙ c.first_in_line.ensures.value
+    ∙ ap (λ (sub : Sub). least (lane_held c.args.batch c.args.front sub.lane)) same ∙ f.in_line in
+    absurd (let e = none in cc)
+
+pub returns-clause-value : goal.returns-clause-value
+returns-clause-value c =
+    let f = found_first c.args.window c.args.batch c.args.front c.requires.belong.0 c.requires.belong.1 c.args.subs.now
+    c.in_ok-winner.winner c.requires.limits.0 c.requires.belong.2
+    (sym (sym c.in_ok-winner.was ∙ c.winner.ensures ∙ ap (winner_from 0) c.requires.line)) c.if-front-winner.false in
+    let same = get_or_from_slice_get c.args.subs.now c.in_ok-winner.winner.place f.sub c.index-subs-winner.result f.there in
+    let found : Some c.in_ok-held.held ≡ Some f.held = sym c.in_ok-held.was ∙ c.first_in_line.ensures.value
+    ∙ ap (λ (sub : Sub). least (lane_held c.args.batch c.args.front sub.lane)) same ∙ f.in_line in
+    ap (option_map (λ (h : Held). (c.in_ok-winner.winner.place, h.span))) found
+    ∙ sym (ap (option_map span_to_deliver) f.first)
+
+pub returns-clause-joined : goal.returns-clause-joined
+returns-clause-joined c =
+    let f = found_first c.args.window c.args.batch c.args.front c.requires.belong.0 c.requires.belong.1 c.args.subs.now
+    c.in_ok-winner.winner c.requires.limits.0 c.requires.belong.2
+    (sym (sym c.in_ok-winner.was ∙ c.winner.ensures ∙ ap (winner_from 0) c.requires.line)) c.if-front-winner.false in
+    let same = get_or_from_slice_get c.args.subs.now c.in_ok-winner.winner.place f.sub c.index-subs-winner.result f.there in
+    (f.sub, f.there, subst (λ (sub : Sub). AreJoined sub.lane) same c.in_ok-held.ensures.joined)

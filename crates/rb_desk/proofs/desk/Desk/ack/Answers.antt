@@ -9,6 +9,7 @@ use Rattle.rb_desk.proofs.spans.FoundLaws.{out_as_held}
 use Rattle.rb_desk.proofs.calls.OpenLaws.{IsOpen}
 use Rattle.rb_desk.proofs.calls.HandLaws.{settled_as, settled_floor, belongs_settled}
 use Rattle.rb_desk.proofs.calls.KnownLaws.{few_set}
+use Rattle.rb_desk.proofs.orders.WaitingLaws.{stood_as}
 use Rattle.rb_desk.proofs.desk.Desk.ack.Goals as goal
 
 pub returns-in_default-out_as-clause-answer : goal.returns-in_default-out_as-clause-answer
@@ -53,13 +54,16 @@ invariant_of-self c =
     } in
     let same : c.index_mut.result.now ≡ c.in-Some.found.now = c.index_mut.ensures.value
     ∙ get_or_from_slice_get c.self.inside.subs.items c.args.sub c.in-Some.found.now c.index_mut.result.now here in
-    let made : c.settle.new.self ≡ settled_sub c.in-Some.found.now span.first = c.settle.ensures.sub
+    let made : c.settle-floor.new.self ≡ settled_sub c.in-Some.found.now span.first = c.settle-floor.ensures.sub
     ∙ ap (λ sub. settled_sub sub span.first) same in
     rw made (
       c.self.invariant.0,
       belongs_settled c.self.inside.config c.self.inside.front c.self.inside.turn
           c.self.inside.next_delivery c.self.inside.subs.items c.args.sub c.in-Some.found.now found span.first,
       few_set c.self.inside.subs.items c.args.sub _ c.self.invariant.2,
+      stood_as c.window.result c.self.inside.config.window c.args.sub c.self.inside.subs.items _ _ _ c.self.inside.line
+          _ c.window.ensures c.self.invariant.3 (slice_get_within c.self.inside.subs.items c.args.sub
+          c.in-Some.found.now here) c.deref-2.ensures.value made c.stand.ensures,
     )
 
 pub returns-clause-answer : goal.returns-clause-answer
@@ -80,16 +84,16 @@ returns-clause-answer c =
     } in
     let same : c.index_mut.result.now ≡ c.in-Some.found.now = c.index_mut.ensures.value
     ∙ get_or_from_slice_get c.self.inside.subs.items c.args.sub c.in-Some.found.now c.index_mut.result.now here in
-    let made : c.settle.new.self ≡ settled_sub c.in-Some.found.now span.first = c.settle.ensures.sub
+    let made : c.settle-floor.new.self ≡ settled_sub c.in-Some.found.now span.first = c.settle-floor.ensures.sub
     ∙ ap (λ sub. settled_sub sub span.first) same in
     let shows = settled_as c.self.inside.config c.self.inside.front c.self.inside.turn c.self.inside.next_delivery
     c.self.inside.subs.items c.args.sub c.in-Some.found.now found c.self.inside.closing c.self.inside.clock
     c.self.inside.next_link c.args.delivery span running.1 in
-    let floor : c.settle.result
+    let floor : c.settle-floor.result
     ≡ (raised c.in-Some.found.now.lane.floor
     (with_status span.first Settled
     (spans_of (sub_held c.self.inside.config.batch c.self.inside.front c.in-Some.found.now)))).0 =
-    c.settle.ensures.floor ∙ ap (λ sub. (settled_lane sub.lane span.first).floor) same
+    c.settle-floor.ensures.floor ∙ ap (λ sub. (settled_lane sub.lane span.first).floor) same
     ∙ sym (settled_floor c.self.inside.config c.self.inside.front c.self.inside.turn c.self.inside.next_delivery
     c.self.inside.subs.items c.args.sub c.in-Some.found.now found span
     (out_as_held c.args.delivery c.in-Some.found.now.lane span running.1).0) in

@@ -7,6 +7,7 @@ use Rattle.rb_desk.specs.Expiry.{expired_sub, by_number, turns_from, all_due}
 use Rattle.rb_desk.proofs.orders.ExpireOrder.{belongs_turned_back}
 use Rattle.rb_desk.proofs.calls.ExpireCall.{expire_is}
 use Rattle.rb_desk.proofs.calls.KnownLaws.{few_map}
+use Rattle.rb_desk.specs.Waiting.{sub_ticket}
 use Rattle.rb_desk.proofs.desk.Desk.expire.Goals as goal
 
 pub invariant_of-self : goal.invariant_of-self
@@ -16,6 +17,8 @@ invariant_of-self c =
       belongs_turned_back c.self.inside.front c.self.inside.turn c.self.inside.next_delivery
           c.timeout-timeout.result c.max-clock.result c.self.inside.subs.items c.self.invariant.1,
       few_map c.self.inside.subs.items _ c.self.invariant.2,
+      c.stand_all.ensures ∙ (λ k. map (sub_ticket (c.window.ensures k))
+          ((c.deref-2.ensures.value ∙ c.expire_all.ensures) k)),
     )
 
 pub returns-clause-ok : goal.returns-clause-ok

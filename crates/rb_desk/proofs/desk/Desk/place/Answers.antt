@@ -12,6 +12,7 @@ invariant_of-self c =
       belongs_placed c.self.inside.front c.self.inside.turn
           c.self.inside.next_delivery c.self.inside.subs.items c.self.invariant.1,
       c.self.invariant.2,
+      c.self.invariant.3,
     )
 
 pub returns-clause-number : goal.returns-clause-number

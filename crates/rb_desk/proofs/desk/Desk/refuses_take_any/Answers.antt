@@ -15,7 +15,7 @@ returns-in-Some c now =
     let searched : option_map span_to_deliver
     (first_to_deliver d.config.window d.config.batch d.front 0 d.subs.items) ≡ Some (found.0, found.1) =
     sym (λ i. option_map span_to_deliver
-    (first_to_deliver (c.window-window.ensures i) (c.batch.ensures.value i) d.front 0 (c.deref.ensures.value i)))
+    (first_to_deliver (c.window-window.ensures i) (c.batch-batch.ensures.value i) d.front 0 (c.deref.ensures.value i)))
     ∙ sym c.first_to_deliver.ensures.value ∙ c.in-Some.is in
     let g = any_goes_first d.config d.front d.turn d.next_delivery d.subs.items found.0 found.1 c.self.invariant.0.0
     c.self.invariant.1 searched
@@ -32,8 +32,12 @@ returns-in-None c now =
     let searched : option_map span_to_deliver
     (first_to_deliver d.config.window d.config.batch d.front 0 d.subs.items) ≡ None =
     sym (λ i. option_map span_to_deliver
-    (first_to_deliver (c.window-window.ensures i) (c.batch.ensures.value i) d.front 0 (c.deref.ensures.value i)))
+    (first_to_deliver (c.window-window.ensures i) (c.batch-batch.ensures.value i) d.front 0 (c.deref.ensures.value i)))
     ∙ sym c.first_to_deliver.ensures.value ∙ c.in-None.is in
     rw (← c.self.view_is)
     (why_of (take_any picture now) (Err (Empty d.front)) _
     (none_taken d.config d.front d.clock d.next_link d.next_delivery now d.closing d.subs.items searched))
+
+pub first_to_deliver-requires-clause-belong : goal.first_to_deliver-requires-clause-belong
+first_to_deliver-requires-clause-belong c =
+    rw c.deref.ensures.value (c.self.inside.turn, c.self.inside.next_delivery, c.self.invariant.1)

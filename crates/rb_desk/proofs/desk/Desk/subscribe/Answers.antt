@@ -1,8 +1,9 @@
 use Rattle.std.proofs.Common.{◌≡◌, ◌∙◌, suc, Ok, ap, sym, ◌++◌, ◌∷◌, [], length, length-append, arith}
-use Rattle.std.proofs.lemmas.List.{length-map}
+use Rattle.std.proofs.lemmas.List.{length-map, map-append}
 use Rattle.rb_desk.specs.Answers.{call_refusal}
 use Rattle.rb_desk.specs.Calls.{subscribe}
 use Rattle.rb_desk.specs.Shown.{shown, shown_sub, new_sub}
+use Rattle.rb_desk.specs.Waiting.{sub_ticket}
 use Rattle.rb_desk.proofs.calls.CallLaws.{subscribe_kept, subscribe_goes}
 use Rattle.rb_desk.proofs.calls.CuttingLaws.{subscribed_shown, belongs_subscribed}
 use Rattle.rb_desk.proofs.desk.Desk.subscribe.Goals as goal
@@ -33,6 +34,14 @@ invariant_of-self-2 c =
         length-append c.self.inside.subs.items (new_sub c.args.start c.self.inside.next_link
             (record { front = c.self.inside.front; turn = suc c.self.inside.turn }) ∷ []),
       ),
+      c.in_ok-push.ensures.ok
+          ∙ (λ i. c.self.invariant.3 i ++ (c.ticket.ensures ∙ (λ i. sub_ticket (c.window.ensures i)
+          ((c.behind-made.ensures
+          ∙ ap (λ turn. new_sub c.args.start c.self.inside.next_link
+          (record { front = c.self.inside.front; turn = turn })) c.in_ok-turn.ensures) i))) i ∷ [])
+          ∙ sym (map-append (sub_ticket c.self.inside.config.window) c.self.inside.subs.items
+          (new_sub c.args.start c.self.inside.next_link
+          (record { front = c.self.inside.front; turn = suc c.self.inside.turn }) ∷ [])),
     )
 
 pub returns : goal.returns

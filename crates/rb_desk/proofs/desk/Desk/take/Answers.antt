@@ -1,7 +1,8 @@
-use Rattle.std.proofs.Common.{◌<◌, suc, length, List, subst, arith}
+use Rattle.std.proofs.Common.{◌<◌, ◌∙◌, suc, length, map, List, ap, sym, subst, arith}
 use Rattle.std.proofs.lemmas.Option.{slice_get_within}
 use Rattle.rb_desk.specs.declared.sub.Sub.{Sub}
 use Rattle.rb_desk.specs.Shown.{Belongs, IsToTake}
+use Rattle.rb_desk.specs.Waiting.{sub_ticket}
 use Rattle.rb_desk.proofs.calls.CallLaws.{taken}
 use Rattle.rb_desk.proofs.calls.KnownLaws.{all_get}
 use Rattle.rb_desk.proofs.spans.FoundLaws.{may_go_first}
@@ -19,15 +20,18 @@ deliver-requires c =
     let may = may_go_first d.config.batch d.front t.sub.lane c.in_ok-span.span t.first in
     let next = (all_get (Belongs d.front d.turn d.next_delivery) d.subs.items c.args.sub t.sub c.self.invariant.1
     t.found).is_next in
-    let within : c.args.sub < length d.subs.items = slice_get_within d.subs.items c.args.sub t.sub t.found in (
-      within,
-      omega (
-        arith,
-        may_go_span d.config.batch d.front (suc t.sub.lane.floor) t.sub.lane c.in_ok-span.span c.self.invariant.0.0 next
-            t.joined may,
-        c.self.invariant.0,
-      ),
-    )
+    let within : c.args.sub < length d.subs.items = slice_get_within d.subs.items c.args.sub t.sub t.found in record {
+      span = (
+        within,
+        omega (
+          arith,
+          may_go_span d.config.batch d.front (suc t.sub.lane.floor) t.sub.lane c.in_ok-span.span c.self.invariant.0.0 next
+              t.joined may,
+          c.self.invariant.0,
+        ),
+      );
+      line = c.self.invariant.3 ∙ ap (λ w. map (sub_ticket w) d.subs.items) (sym c.window.ensures);
+    }
 
 pub invariant_of-self : goal.invariant_of-self
 invariant_of-self c =
@@ -40,9 +44,10 @@ invariant_of-self c =
     c.in_ok-span.span t c.self.invariant.0.0 c.self.invariant.1 in (
       c.self.invariant.0,
       delivered_belongs d.config d.front d.turn d.next_delivery d.subs.items c.args.sub t.sub found c.in_ok-span.span
-          d.clock c.args.now _ _ _ c.deliver.result may c.deliver.ensures,
+          d.clock c.args.now _ _ _ c.deliver.result may c.deliver.ensures.delivered,
       delivered_few d.config d.front d.turn d.next_delivery d.subs.items c.args.sub t.sub found c.in_ok-span.span
-          d.clock c.args.now _ _ _ c.deliver.result c.deliver.ensures c.self.invariant.2,
+          d.clock c.args.now _ _ _ c.deliver.result c.deliver.ensures.delivered c.self.invariant.2,
+      c.deliver.ensures.line ∙ ap (λ w. map (sub_ticket w) c.deliver.new.subs.items) c.window.ensures,
     )
 
 pub returns : goal.returns
@@ -57,4 +62,4 @@ returns c =
     let call = taken d.config d.front d.closing d.clock d.next_link d.next_delivery d.subs.items c.args.sub t.sub
     t.found c.args.link c.args.cursor c.args.now t.linked t.is_open t.room c.in_ok-span.span t.first in
     rw (← c.self.view_is, call) (delivered_answers d.config d.front d.turn d.next_delivery d.subs.items c.args.sub t.sub
-    found d.closing d.next_link c.in_ok-span.span d.clock c.args.now _ _ _ c.deliver.result may c.deliver.ensures)
+    found d.closing d.next_link c.in_ok-span.span d.clock c.args.now _ _ _ c.deliver.result may c.deliver.ensures.delivered)

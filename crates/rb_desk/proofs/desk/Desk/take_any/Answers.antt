@@ -1,7 +1,8 @@
-use Rattle.std.proofs.Common.{◌≡◌, ◌∙◌, ◌<◌, suc, length, Some, None, sym, refl, subst, arith, List, option_map}
+use Rattle.std.proofs.Common.{◌≡◌, ◌∙◌, ◌<◌, suc, length, Some, None, ap, map, sym, refl, subst, arith, List, option_map}
 use Rattle.std.proofs.lemmas.Option.{slice_get_within}
 use Rattle.rb_desk.specs.declared.sub.Sub.{Sub}
 use Rattle.rb_desk.specs.Shown.{Belongs, IsJoinedAt, first_to_deliver, span_to_deliver}
+use Rattle.rb_desk.specs.Waiting.{sub_ticket}
 use Rattle.rb_desk.proofs.calls.KnownLaws.{all_get}
 use Rattle.rb_desk.proofs.spans.LaneChanges.{may_go_span}
 use Rattle.rb_desk.proofs.calls.HandLaws.{delivered_belongs, delivered_few, delivered_answers}
@@ -14,7 +15,7 @@ returns-in_default c =
     (first_to_deliver c.self.inside.config.window c.self.inside.config.batch c.self.inside.front 0
     c.self.inside.subs.items)
     ≡ None = sym (λ i. option_map span_to_deliver
-    (first_to_deliver (c.window-window.ensures i) (c.batch.ensures.value i) c.self.inside.front 0
+    (first_to_deliver (c.window-window.ensures i) (c.batch-batch.ensures.value i) c.self.inside.front 0
     (c.deref.ensures.value i))) ∙ sym c.first_to_deliver.ensures.value ∙ c.in_default.is in
     rw c.into.ensures (
       rw (← c.self.view_is) (none_taken c.self.inside.config c.self.inside.front c.self.inside.clock
@@ -30,7 +31,7 @@ deliver-requires c =
     c.self.inside.subs.items)
     ≡ Some (c.in-Some.sub, c.in-Some.span) =
     sym (λ i. option_map span_to_deliver
-    (first_to_deliver (c.window-window.ensures i) (c.batch.ensures.value i) c.self.inside.front 0
+    (first_to_deliver (c.window-window.ensures i) (c.batch-batch.ensures.value i) c.self.inside.front 0
     (c.deref.ensures.value i))) ∙ sym c.first_to_deliver.ensures.value ∙ c.in-Some.is in
     let g = any_goes_first c.self.inside.config c.self.inside.front c.self.inside.turn c.self.inside.next_delivery
     c.self.inside.subs.items c.in-Some.sub c.in-Some.span c.self.invariant.0.0 c.self.invariant.1 searched
@@ -39,7 +40,8 @@ deliver-requires c =
     (all_get (Belongs c.self.inside.front c.self.inside.turn c.self.inside.next_delivery) c.self.inside.subs.items
     c.in-Some.sub g.sub g.opened.belong g.opened.found).is_next in
     let within : c.in-Some.sub < length c.self.inside.subs.items =
-    slice_get_within c.self.inside.subs.items c.in-Some.sub g.sub g.opened.found in (
+    slice_get_within c.self.inside.subs.items c.in-Some.sub g.sub g.opened.found in record {
+      span = (
       within,
       omega (
         arith,
@@ -48,7 +50,9 @@ deliver-requires c =
             c.self.inside.turn c.self.inside.next_delivery c.self.inside.subs.items c.in-Some.sub c.in-Some.span g),
         c.self.invariant.0,
       ),
-    )
+    );
+      line = c.self.invariant.3 ∙ ap (λ w. map (sub_ticket w) c.self.inside.subs.items) (sym c.window.ensures);
+    }
 
 pub invariant_of-self : goal.invariant_of-self
 invariant_of-self c =
@@ -57,7 +61,7 @@ invariant_of-self c =
     c.self.inside.subs.items)
     ≡ Some (c.in-Some.sub, c.in-Some.span) =
     sym (λ i. option_map span_to_deliver
-    (first_to_deliver (c.window-window.ensures i) (c.batch.ensures.value i) c.self.inside.front 0
+    (first_to_deliver (c.window-window.ensures i) (c.batch-batch.ensures.value i) c.self.inside.front 0
     (c.deref.ensures.value i))) ∙ sym c.first_to_deliver.ensures.value ∙ c.in-Some.is in
     let g = any_goes_first c.self.inside.config c.self.inside.front c.self.inside.turn c.self.inside.next_delivery
     c.self.inside.subs.items c.in-Some.sub c.in-Some.span c.self.invariant.0.0 c.self.invariant.1 searched
@@ -67,10 +71,11 @@ invariant_of-self c =
           c.self.inside.next_delivery c.self.inside.subs.items c.in-Some.sub g.sub g.opened c.in-Some.span
           c.self.inside.clock c.args.now _ _ _ c.deliver.result (goes_may c.self.inside.config c.self.inside.front
           c.self.inside.turn c.self.inside.next_delivery c.self.inside.subs.items c.in-Some.sub c.in-Some.span g)
-          c.deliver.ensures,
+          c.deliver.ensures.delivered,
       delivered_few c.self.inside.config c.self.inside.front c.self.inside.turn c.self.inside.next_delivery
           c.self.inside.subs.items c.in-Some.sub g.sub g.opened c.in-Some.span c.self.inside.clock c.args.now _ _ _
-          c.deliver.result c.deliver.ensures c.self.invariant.2,
+          c.deliver.result c.deliver.ensures.delivered c.self.invariant.2,
+      c.deliver.ensures.line ∙ ap (λ w. map (sub_ticket w) c.deliver.new.subs.items) c.window.ensures,
     )
 
 pub returns : goal.returns
@@ -80,7 +85,7 @@ returns c =
     c.self.inside.subs.items)
     ≡ Some (c.in-Some.sub, c.in-Some.span) =
     sym (λ i. option_map span_to_deliver
-    (first_to_deliver (c.window-window.ensures i) (c.batch.ensures.value i) c.self.inside.front 0
+    (first_to_deliver (c.window-window.ensures i) (c.batch-batch.ensures.value i) c.self.inside.front 0
     (c.deref.ensures.value i))) ∙ sym c.first_to_deliver.ensures.value ∙ c.in-Some.is in
     let g = any_goes_first c.self.inside.config c.self.inside.front c.self.inside.turn c.self.inside.next_delivery
     c.self.inside.subs.items c.in-Some.sub c.in-Some.span c.self.invariant.0.0 c.self.invariant.1 searched
@@ -92,4 +97,8 @@ returns c =
     c.self.inside.next_delivery c.self.inside.subs.items c.in-Some.sub g.sub g.opened c.self.inside.closing
     c.self.inside.next_link c.in-Some.span c.self.inside.clock c.args.now _ _ _ c.deliver.result
     (goes_may c.self.inside.config c.self.inside.front c.self.inside.turn c.self.inside.next_delivery
-    c.self.inside.subs.items c.in-Some.sub c.in-Some.span g) c.deliver.ensures)
+    c.self.inside.subs.items c.in-Some.sub c.in-Some.span g) c.deliver.ensures.delivered)
+
+pub first_to_deliver-requires-clause-belong : goal.first_to_deliver-requires-clause-belong
+first_to_deliver-requires-clause-belong c =
+    rw c.deref.ensures.value (c.self.inside.turn, c.self.inside.next_delivery, c.self.invariant.1)
