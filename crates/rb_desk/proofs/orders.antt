@@ -5,3 +5,5 @@ pub mod ExpireOrder
 pub mod SearchLaws
 pub mod TreeLaws
 pub mod WaitingLaws
+pub mod MomentLaws
+pub mod DueLaws

@@ -22,16 +22,17 @@ pub struct Desk {
     // how many tickets were drawn, placements not counted
     pub(crate) turn: u64,
     pub(crate) subs: Vec<Sub>,
-    // the tickets of the subscriptions: they follow from `subs`
+    // the tickets of the subscriptions, and their earliest moments: they follow from `subs`
     pub(crate) line: Tournament,
+    pub(crate) moments: Tournament,
 }
 
 impl Model for Desk {
-    ghost use Rattle.std.specs.Prelude.{◌≡◌, ◌≤◌, length, map};
+    ghost use Rattle.std.specs.Prelude.{◌≤◌, length};
     ghost use Rattle.std.specs.List.{AllByRecursion};
     ghost use Rattle.rb_desk.specs.Picture.{Picture, picture_code};
     ghost use Rattle.rb_desk.specs.Shown.{shown, IsWithin, Belongs};
-    ghost use Rattle.rb_desk.specs.Waiting.{sub_ticket};
+    ghost use Rattle.rb_desk.specs.Waiting.{AreWaiting};
 
     ghost Value = { Picture };
 
@@ -43,7 +44,7 @@ impl Model for Desk {
     ghost invariant = { λ d. IsWithin d.config d.front
         × AllByRecursion (Belongs d.front d.turn d.next_delivery) d.subs.items
         × (length d.subs.items ≤ 1024)
-        × (d.line ≡ map (sub_ticket d.config.window) d.subs.items) };
+        × AreWaiting d.config.window d.subs.items d.line d.moments };
 }
 
 impl Desk {
@@ -61,6 +62,7 @@ impl Desk {
             turn: 0,
             subs: Vec::new(alloc),
             line: Tournament::new(alloc),
+            moments: Tournament::new(alloc),
         }
     }
 

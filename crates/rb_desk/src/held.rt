@@ -13,11 +13,12 @@ ghost use Rattle.rb_desk.specs.Lanes.{spans_of, restated, FollowSome};
 ghost use Rattle.rb_desk.specs.declared.span.Status.{Status};
 ghost use Rattle.rb_desk.specs.declared.ticket.Ticket.{Ticket};
 ghost use Rattle.rb_desk.specs.Taken as taken;
+ghost use Rattle.rb_desk.specs.Waiting as waiting;
 ghost use Rattle.rb_desk.specs.Taken.{ticket_if_ready, stated_at, with_place, without_place};
 ghost use Rattle.rb_desk.specs.Taken.{is_out_at, IsPassed};
 
 use crate::span::{Span, Status};
-use crate::ticket::{Held, Ticket};
+use crate::ticket::{Held, Ticket, first_ticket};
 use crate::tournament::Tournament;
 use std::alloc::{AllocError, Global};
 
@@ -164,6 +165,18 @@ pub(crate) fn risen(floor: u64, lane: &[Held]) -> (u64, usize)
         reached = lane[i].span.last;
     }
     (reached, lane.len())
+}
+
+/// The earliest moment at which a span in flight was taken. `out` has the places of those.
+pub(crate) fn earliest(lane: &[Held], out: &[usize]) -> Option<Ticket>
+    requires { out.now ≡ taken.places_out 0 lane.now }
+    ensures { result ≡ waiting.earliest lane.now }
+{
+    let mut first = None;
+    for place in out {
+        first = first_ticket(first, lane[*place].span.status.moment());
+    }
+    first
 }
 
 /// How many spans are due. `out` has the places of those in flight.

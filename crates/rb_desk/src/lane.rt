@@ -8,7 +8,7 @@ ghost use Rattle.rb_desk.specs.Lanes.{AreJoined, AreLimited, HasNumbers, spans_o
 ghost use Rattle.rb_desk.specs.Lanes.{lane_spans, is_none_left, least, cut_lane, delivered_lane};
 ghost use Rattle.rb_desk.specs.Lanes.{returned_lane, settled_lane, pushed_lane, restated_lane};
 ghost use Rattle.rb_desk.specs.Lanes.{raised_lane, risen};
-ghost use Rattle.rb_desk.specs.Waiting.{lane_ticket};
+ghost use Rattle.rb_desk.specs.Waiting.{earliest, lane_ticket};
 
 use crate::span::{Span, Status};
 use crate::taken::Taken;
@@ -129,6 +129,14 @@ impl Lane {
             Some(held) if !fresh.is_before(held.ticket) => held.ticket,
             _ => fresh,
         }
+    }
+
+    /// The earliest moment at which a span in flight was taken.
+    pub(crate) fn earliest(&self) -> Option<Ticket>
+        ensures value { result ≡ earliest self.now.held }
+        ensures joined { AreJoined self.now }
+    {
+        self.held.earliest()
     }
 
     /// The span that is in flight as this delivery.

@@ -1,18 +1,19 @@
 //! Calls that end a delivery: acknowledge, negatively acknowledge, expire.
 
-ghost use Rattle.std.specs.Prelude.{◌≡◌, ◌+◌, suc, map, IfOk, OnOk, OnErr};
+ghost use Rattle.std.specs.Prelude.{◌≡◌, ◌+◌, ◌<◌, suc, map, IfOk, OnErr};
 ghost use Rattle.std.specs.List.{AllByRecursion};
 ghost use Rattle.rb_desk.specs.Calls.{ack, nack, expire};
-ghost use Rattle.rb_desk.specs.Lanes.{AreJoined};
 ghost use Rattle.rb_desk.specs.Shown.{AreGiven};
 ghost use Rattle.rb_desk.specs.Expiry.{all_due, expired_sub, by_number, turns_from};
 ghost use Rattle.rb_desk.specs.Answers.{DeskAnswers};
+ghost use Rattle.rb_desk.specs.Waiting.{AreWaiting, FirstPast};
 
 use crate::desk::Desk;
 use crate::refusal::{DeskError, DeskRefusal};
-use crate::sub::{Sub, numbered, stand, stand_all};
+use crate::sub::{Sub, numbered, stand};
 use crate::subscribing::after;
 use crate::ticket::Ticket;
+use crate::tournament::Tournament;
 use std::alloc::AllocError;
 
 impl Desk {
@@ -45,7 +46,13 @@ impl Desk {
             return Err(DeskRefusal::NotAccepted { cursor });
         }
         let floor = self.subs[s].settle(span.first);
-        stand(&self.subs, &mut self.line, self.config.window(), s);
+        stand(
+            &self.subs,
+            &mut self.line,
+            &mut self.moments,
+            self.config.window(),
+            s,
+        );
         Ok(floor)
     }
 
@@ -69,7 +76,13 @@ impl Desk {
         let front = self.front;
         let turn = after(self.turn)?;
         self.subs[s].give_back(span.first, Ticket { front, turn });
-        stand(&self.subs, &mut self.line, self.config.window(), s);
+        stand(
+            &self.subs,
+            &mut self.line,
+            &mut self.moments,
+            self.config.window(),
+            s,
+        );
         self.turn = turn;
         Ok(())
     }
@@ -87,15 +100,22 @@ impl Desk {
     {
         let clock = self.clock.max(now);
         let timeout = self.config.timeout();
-        let many = how_many_due(&self.subs, timeout, clock)?;
         let next = self.next_delivery;
         let turn = turn_behind(self.turn, next)?;
         let latest = Ticket {
             front: self.front,
             turn: self.turn,
         };
-        expire_all(&mut self.subs, timeout, clock, latest, next);
-        stand_all(&self.subs, &mut self.line, self.config.window());
+        let many = expire_due(
+            &mut self.subs,
+            &mut self.line,
+            &mut self.moments,
+            self.config.window(),
+            timeout,
+            clock,
+            latest,
+            next,
+        );
         self.clock = clock;
         self.turn = turn;
         Ok(many)
@@ -112,29 +132,45 @@ fn turn_behind(turn: u64, next: u64) -> Result<u64, AllocError>
     }
 }
 
-// how many spans are due
-fn how_many_due(subs: &[Sub], timeout: u64, clock: u64) -> Result<u64, AllocError>
-    ensures value { IfOk result (λ many. many ≡ all_due timeout clock subs.now) }
-    ensures joined { OnOk result (AllByRecursion (λ sub. AreJoined sub.lane) subs.now) }
-{
-    let mut many: u64 = 0;
-    for i in 0..subs.len() {
-        match many.checked_add(subs[i].how_many_due(timeout, clock)) {
-            None => return Err(AllocError),
-            Some(sum) => many = sum,
-        }
-    }
-    Ok(many)
-}
-
-// makes the spans that are due ready again
-fn expire_all(subs: &mut Vec<Sub>, timeout: u64, clock: u64, latest: Ticket, next: u64)
-    requires { AllByRecursion (λ sub. AreGiven next latest.turn sub.lane.held) subs.old.items }
-    ensures { subs.new.items
+// Makes the spans that are due ready again, and returns how many there are. It goes to the
+// subscription whose delivery was taken first, as long as that one is due.
+fn expire_due(
+    subs: &mut Vec<Sub>,
+    line: &mut Tournament,
+    moments: &mut Tournament,
+    window: u64,
+    timeout: u64,
+    clock: u64,
+    latest: Ticket,
+    next: u64,
+) -> u64
+    requires waiting { AreWaiting window subs.old.items line.old moments.old }
+    requires given { AllByRecursion (λ sub. AreGiven next latest.turn sub.lane.held) subs.old.items }
+    requires few { all_due timeout clock subs.old.items < 18446744073709551616 }
+    ensures many { result ≡ all_due timeout clock subs.old.items }
+    ensures subs { subs.new.items
         ≡ map (expired_sub timeout clock (by_number (turns_from latest.front latest.turn)))
         subs.old.items }
+    ensures waiting { AreWaiting window subs.new.items line.new moments.new }
 {
-    for i in 0..subs.len() {
-        subs[i].expire(timeout, clock, latest, next);
+    let mut many = 0;
+    let mut past = first_past(moments, timeout, clock);
+    while let Some(s) = past {
+        many += subs[s].how_many_due(timeout, clock);
+        subs[s].expire(timeout, clock, latest, next);
+        stand(subs, line, moments, window, s);
+        past = first_past(moments, timeout, clock);
     }
+    many
+}
+
+// the place whose moment is the earliest, if that is past
+fn first_past(moments: &Tournament, timeout: u64, clock: u64) -> Option<usize>
+    ensures { FirstPast timeout clock moments.now result }
+{
+    let winner = moments.winner()?;
+    if timeout <= clock.saturating_sub(winner.ticket.front) {
+        return Some(winner.place);
+    }
+    None
 }

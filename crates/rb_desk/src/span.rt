@@ -2,6 +2,9 @@
 
 ghost use Rattle.std.specs.Prelude.{◌≡◌};
 ghost use Rattle.rb_desk.specs.Spans.{is_ready, is_out, is_out_as, is_settled, is_due};
+ghost use Rattle.rb_desk.specs.Waiting.{moment_of};
+
+use crate::ticket::Ticket;
 
 /// The numbers from `first` to `last`, and their status.
 #[derive(Clone, Copy, Debug, PartialEq, Eq)]
@@ -62,6 +65,20 @@ impl Status {
             Status::Ready { taken: _ } => false,
             Status::InFlight { number, moment: _ } => number == delivery,
             Status::Settled => false,
+        }
+    }
+
+    /// The moment at which they were taken, if they are in flight, as a place in an order.
+    pub(crate) fn moment(self) -> Option<Ticket>
+        ensures { result ≡ moment_of self }
+    {
+        match self {
+            Status::Ready { taken: _ } => None,
+            Status::InFlight { number: _, moment } => Some(Ticket {
+                front: moment,
+                turn: 0,
+            }),
+            Status::Settled => None,
         }
     }
 

@@ -1,9 +1,9 @@
 //! One subscription of a desk: its numbers, its link and its lane.
 
-ghost use Rattle.std.specs.Prelude.{◌≡◌, ◌<◌, ◌≤◌, length, map, slice_get, slice_set, Some};
+ghost use Rattle.std.specs.Prelude.{◌≡◌, ◌<◌, ◌≤◌, length, slice_get, Some};
 ghost use Rattle.std.specs.Prelude.{OnSome, OnOk, OnErr};
 ghost use Rattle.rb_desk.specs.declared.sub.Sub.{Sub};
-ghost use Rattle.rb_desk.specs.Waiting.{sub_ticket};
+ghost use Rattle.rb_desk.specs.Waiting.{Stands};
 ghost use Rattle.std.specs.Option.{option_copied, option_map};
 ghost use Rattle.rb_desk.specs.Lanes.{AreJoined, AreLimited, HasNumbers, settled_lane};
 
@@ -156,24 +156,22 @@ impl Sub {
     }
 }
 
-/// Gives a subscription that changed its ticket among the others.
-pub(crate) fn stand(subs: &[Sub], line: &mut Tournament, window: u64, s: usize)
+/// Gives a subscription that changed its ticket and its moment among the others.
+pub(crate) fn stand(
+    subs: &[Sub],
+    line: &mut Tournament,
+    moments: &mut Tournament,
+    window: u64,
+    s: usize,
+)
     requires here { s < length subs.now }
     requires line { length line.old ≡ length subs.now }
+    requires moments { length moments.old ≡ length subs.now }
     ensures { (sub : Sub) → slice_get subs.now s ≡ Some sub
-        → line.new ≡ slice_set line.old s (sub_ticket window sub) }
+        → Stands window s sub line.old moments.old line.new moments.new }
 {
     line.set(s, subs[s].ticket(window));
-}
-
-/// Gives all subscriptions their tickets.
-pub(crate) fn stand_all(subs: &[Sub], line: &mut Tournament, window: u64)
-    requires { length line.old ≡ length subs.now }
-    ensures { line.new ≡ map (sub_ticket window) subs.now }
-{
-    for s in 0..subs.len() {
-        line.set(s, subs[s].ticket(window));
-    }
+    moments.set(s, subs[s].lane.earliest());
 }
 
 /// The subscription with this number.

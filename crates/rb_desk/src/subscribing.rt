@@ -1,6 +1,6 @@
 //! Calls that make, continue and close subscriptions.
 
-ghost use Rattle.std.specs.Prelude.{◌≡◌, suc, OnErr};
+ghost use Rattle.std.specs.Prelude.{◌≡◌, ◌++◌, ◌∷◌, [], suc, OnOk, OnErr};
 ghost use Rattle.rb_desk.specs.Calls.{subscribe, reconnect, unsubscribe};
 ghost use Rattle.rb_desk.specs.Answers.{DeskAnswers, OnlyMemory, call_refusal};
 
@@ -8,7 +8,8 @@ use crate::desk::Desk;
 use crate::refusal::{DeskError, DeskRefusal};
 use crate::sub::{Sub, numbered, stand};
 use crate::ticket::Ticket;
-use std::alloc::Global;
+use crate::tournament::Tournament;
+use std::alloc::{AllocError, Global};
 
 impl Desk {
     /// Adds a subscription to the numbers after `start`. Returns its number, from 0, and its link.
@@ -29,7 +30,9 @@ impl Desk {
         let turn = after(self.turn)?;
         self.subs.reserve(1)?;
         let made = Sub::behind(alloc, start, link, Ticket { front, turn });
-        self.line.push(alloc, made.ticket(self.config.window()))?;
+        let ticket = made.ticket(self.config.window());
+        let moment = made.lane.earliest();
+        push_both(alloc, &mut self.line, &mut self.moments, ticket, moment)?;
         self.subs.push_reserved(made);
         self.next_link = next_link;
         self.turn = turn;
@@ -79,7 +82,13 @@ impl Desk {
         let turn = after(self.turn)?;
         let front = self.front;
         self.subs[s].reconnect(alloc, cursor, link, Ticket { front, turn });
-        stand(&self.subs, &mut self.line, self.config.window(), s);
+        stand(
+            &self.subs,
+            &mut self.line,
+            &mut self.moments,
+            self.config.window(),
+            s,
+        );
         self.next_link = next_link;
         self.turn = turn;
         Ok(link)
@@ -104,7 +113,13 @@ impl Desk {
             return Err(DeskRefusal::Closed);
         }
         self.subs[s].close();
-        stand(&self.subs, &mut self.line, self.config.window(), s);
+        stand(
+            &self.subs,
+            &mut self.line,
+            &mut self.moments,
+            self.config.window(),
+            s,
+        );
         Ok(())
     }
 }
@@ -117,4 +132,24 @@ pub(crate) fn after(n: u64) -> Result<u64, DeskError>
         Some(next) => Ok(next),
         None => Err(DeskError::Memory),
     }
+}
+
+// adds a place to both, or to none
+fn push_both(
+    alloc: Global,
+    line: &mut Tournament,
+    moments: &mut Tournament,
+    ticket: Option<Ticket>,
+    moment: Option<Ticket>,
+) -> Result<(), AllocError>
+    ensures ok { OnOk result ((line.new ≡ line.old ++ ticket ∷ [])
+        × (moments.new ≡ moments.old ++ moment ∷ [])) }
+    ensures err { OnErr result ((line.new ≡ line.old) × (moments.new ≡ moments.old)) }
+{
+    line.push(alloc, ticket)?;
+    if let Err(e) = moments.push(alloc, moment) {
+        line.pop();
+        return Err(e);
+    }
+    Ok(())
 }

@@ -7,6 +7,7 @@ ghost use Rattle.rb_desk.specs.Expiry.{due_held, expired_by};
 ghost use Rattle.rb_desk.specs.Lanes as spec;
 ghost use Rattle.rb_desk.specs.Lanes.{spans_of, least, restated, FollowSome};
 ghost use Rattle.rb_desk.specs.Shown.{AreGiven};
+ghost use Rattle.rb_desk.specs.Waiting.{earliest};
 ghost use Rattle.rb_desk.specs.Spans as spans;
 ghost use Rattle.rb_desk.specs.Spans.{is_out};
 
@@ -182,6 +183,13 @@ impl Taken {
         let (reached, gone) = held::risen(floor, rest);
         self.passed += gone;
         reached
+    }
+
+    /// The earliest moment at which one in flight was taken.
+    pub(crate) fn earliest(&self) -> Option<Ticket>
+        ensures { result ≡ earliest self.now }
+    {
+        held::earliest(&self.spans, &self.out)
     }
 
     /// How many are due.

@@ -7,7 +7,7 @@ ghost use Rattle.std.specs.Option.{option_map};
 ghost use Rattle.rb_desk.specs.Lanes.{AreLimited, HasNumbers};
 ghost use Rattle.rb_desk.specs.Shown.{why_none, WhenDelivered, first_to_deliver, span_to_deliver};
 ghost use Rattle.rb_desk.specs.Shown.{IsJoinedAt, FindsToTake};
-ghost use Rattle.rb_desk.specs.Waiting.{sub_ticket, BelongAll};
+ghost use Rattle.rb_desk.specs.Waiting.{sub_ticket, AreWaiting, BelongAll};
 
 use crate::config::Config;
 use crate::delivery::Delivery;
@@ -47,6 +47,7 @@ impl Desk {
         deliver(
             &mut self.subs,
             &mut self.line,
+            &mut self.moments,
             self.config.window(),
             &mut self.next_delivery,
             &mut self.clock,
@@ -91,6 +92,7 @@ impl Desk {
         deliver(
             &mut self.subs,
             &mut self.line,
+            &mut self.moments,
             self.config.window(),
             &mut self.next_delivery,
             &mut self.clock,
@@ -150,6 +152,7 @@ fn to_take(
 fn deliver(
     subs: &mut Vec<Sub>,
     line: &mut Tournament,
+    moments: &mut Tournament,
     window: u64,
     next_delivery: &mut u64,
     clock: &mut u64,
@@ -158,10 +161,10 @@ fn deliver(
     now: u64,
 ) -> Result<Delivery, DeskError>
     requires span { (sub < length subs.old.items) × HasNumbers span }
-    requires line { line.old ≡ map (sub_ticket window) subs.old.items }
+    requires waiting { AreWaiting window subs.old.items line.old moments.old }
     ensures delivered { WhenDelivered result subs.old.items sub span next_delivery.old clock.old now
         subs.new.items next_delivery.new clock.new }
-    ensures line { line.new ≡ map (sub_ticket window) subs.new.items }
+    ensures waiting { AreWaiting window subs.new.items line.new moments.new }
 {
     let number = *next_delivery;
     let next = after(number)?;
@@ -169,7 +172,7 @@ fn deliver(
     let found = &mut subs[sub as usize];
     let link = found.link;
     found.deliver(span, number, taken)?;
-    stand(subs, line, window, sub as usize);
+    stand(subs, line, moments, window, sub as usize);
     *next_delivery = next;
     *clock = taken;
     Ok(Delivery::of(number, sub, link, span))

@@ -3,6 +3,7 @@
 ghost use Rattle.std.specs.Prelude.{◌≡◌};
 ghost use Rattle.std.specs.Option.{option_map};
 ghost use Rattle.rb_desk.specs.Lanes.{goes_before, earlier, birth, with_birth, better};
+ghost use Rattle.rb_desk.specs.Waiting.{first_ticket};
 
 use crate::span::Span;
 
@@ -67,6 +68,22 @@ impl Held {
             Some(held) => self.ticket.is_before(held.ticket),
         }
     }
+}
+
+/// The earlier ticket; `first` if both are the same.
+pub(crate) fn first_ticket(first: Option<Ticket>, second: Option<Ticket>) -> Option<Ticket>
+    ensures { result ≡ first_ticket first second }
+{
+    let Some(a) = first else {
+        return second;
+    };
+    let Some(b) = second else {
+        return first;
+    };
+    if b.is_before(a) {
+        return second;
+    }
+    first
 }
 
 /// The one that is first in line; `first` if both have the same ticket.

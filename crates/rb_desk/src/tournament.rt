@@ -2,7 +2,8 @@
 //! place takes time that grows with the number of binary digits of the number of places.
 
 ghost use Rattle.std.specs.Prelude.{◌≡◌, ◌<◌, ◌≤◌, ◌+◌, ◌++◌, ◌∷◌, suc, [], length, drop};
-ghost use Rattle.std.specs.Prelude.{replicate, slice_set, None, IfOk, OnOk, OnErr};
+ghost use Rattle.std.specs.Prelude.{replicate, slice_set, List, Option, None, IfOk, OnOk, OnErr};
+ghost use Rattle.rb_desk.specs.declared.ticket.Ticket.{Ticket};
 ghost use Rattle.rb_desk.specs.Tournament as spec;
 ghost use Rattle.rb_desk.specs.Tournament.{at_place, winner_from, NodesWin, IsTree, tickets_of};
 
@@ -89,6 +90,20 @@ impl Tournament {
         put(&mut self.nodes, self.room, at, leaf(place, ticket));
         self.len += 1;
         Ok(())
+    }
+}
+
+impl Tournament {
+    /// Removes the last place.
+    pub(crate) fn pop(&mut self)
+        ensures { (rest : List (Option Ticket)) (ticket : Option Ticket)
+            → self.old ≡ rest ++ ticket ∷ [] → self.new ≡ rest }
+    {
+        if self.len > 0 {
+            let at = self.room + (self.len - 1);
+            put(&mut self.nodes, self.room, at, None);
+            self.len -= 1;
+        }
     }
 }
 

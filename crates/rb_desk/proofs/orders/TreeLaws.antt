@@ -4,7 +4,7 @@ use Rattle.std.proofs.Common.{replicate, Option, Some, None, get_or, slice_set, 
 use Rattle.std.proofs.Common.{Bool, true, false, ◌==◌, eqb-true, eq-eqb}
 use Rattle.std.proofs.lemmas.Bool.{false≢true}
 use Rattle.std.proofs.lemmas.List.{drop-set-add, get_or-set_same, get_or-set_other, set-append_left}
-use Rattle.std.proofs.lemmas.List.{drop-replicate, length-append, length-drop, length-set, length-take-le}
+use Rattle.std.proofs.lemmas.List.{append_assoc, drop-replicate, length-append, length-drop, length-set, length-take-le}
 use Rattle.std.proofs.Math.Seq.{take-length, take-append_seam}
 use Rattle.rb_desk.specs.declared.ticket.Ticket.{Ticket}
 use Rattle.rb_desk.specs.declared.tournament.Winner.{Winner}
@@ -391,3 +391,51 @@ places_read nodes zero place d = ap (λ n. get_or nodes n d) (let e : place ≡ 
 places_read [] (suc room) place d = refl
 places_read (x ∷ nodes) (suc room) place d = places_read nodes room place d
     ∙ ap (λ n. get_or (x ∷ nodes) n d) (let e : suc (room + place) ≡ suc room + place = omega arith in e)
+
+-- a tree without its last place
+pub tree_popped : (nodes new : List (Option Winner)) (room len : ℕ) (rest : List (Option Ticket)) (ticket : Option Ticket)
+    → IsTree nodes room (suc len) → tickets_of nodes room (suc len) ≡ rest ++ ticket ∷ [] → length new ≡ room + room
+    → drop room new ≡ drop room (slice_set nodes (room + len) None) → NodesWin new room
+    → IsTree new room len × (tickets_of new room len ≡ rest)
+tree_popped nodes new room len rest ticket tree last long places inner =
+    let tickets = tree.leaves.0 in
+    let pad : List (Option Winner) = replicate (room - suc len) None in
+    let is : tickets ≡ rest ++ ticket ∷ [] =
+        sym (tickets_are nodes room (suc len) tickets pad tree.leaves.1 tree.leaves.2) ∙ last in
+    let count : length rest ≡ len =
+        omega (arith, ap length is, length-append rest (ticket ∷ []), tree.leaves.1) in
+    let leaves =
+        places ∙ drop-set-add room nodes len None
+        ∙ ap (λ l. slice_set l len None)
+        (tree.leaves.2 ∙ ap (λ l. leaves_from 0 l ++ pad) is
+        ∙ ap (λ l. l ++ pad) (leaves_more 0 rest ticket)
+        ∙ append_assoc (leaves_from 0 rest) (at_place (0 + length rest) ticket ∷ []) pad)
+        ∙ set_first (leaves_from 0 rest) (at_place (0 + length rest) ticket) None pad len (length_leaves 0 rest ∙ count)
+        ∙ append_assoc (leaves_from 0 rest) (None ∷ []) pad
+        ∙ ap (λ l. leaves_from 0 rest ++ l) (sym (pad_first room len tree.fits)) in
+    (
+      record {
+        long = long;
+        fits = omega (arith, tree.fits);
+        even = tree.even;
+        leaves = (rest, count, leaves);
+        inner = inner;
+      },
+      tickets_are new room len rest (replicate (room - len) None) count leaves,
+    )
+
+-- the tickets of a tree before its last place, and the last one
+pub last_of : (nodes : List (Option Winner)) (room len : ℕ) → IsTree nodes room (suc len)
+    → (rest : List (Option Ticket)) × (ticket : Option Ticket) × (tickets_of nodes room (suc len) ≡ rest ++ ticket ∷ [])
+last_of nodes room len tree =
+    let cut = cut_last tree.leaves.0 len tree.leaves.1 in
+    (cut.0, cut.1, tickets_are nodes room (suc len) tree.leaves.0 _ tree.leaves.1 tree.leaves.2 ∙ cut.2)
+  where
+    cut_last : {X : Type 0} (xs : List X) (n : ℕ) → length xs ≡ suc n
+        → (rest : List X) × (x : X) × (xs ≡ rest ++ x ∷ [])
+    cut_last [] n e = absurd (omega (arith, e))
+    cut_last (x ∷ []) n e = ([], x, refl)
+    cut_last (x ∷ y ∷ xs) zero e = absurd (omega (arith, e))
+    cut_last (x ∷ y ∷ xs) (suc n) e =
+        let c = cut_last (y ∷ xs) n (omega (arith, e)) in
+        (x ∷ c.0, c.1, ap (λ l. x ∷ l) c.2)

@@ -135,14 +135,14 @@ WinSays front r (Some w) =
     (w.ticket.front ≤ front → (h : Held) × (r ≡ Some (w.place, h)) × (h.ticket ≡ w.ticket))
     × (front < w.ticket.front → r ≡ None)
 
-earlier_fronts : (a b : Ticket) → earlier a b ≡ true → a.front ≤ b.front
+pub earlier_fronts : (a b : Ticket) → earlier a b ≡ true → a.front ≤ b.front
 earlier_fronts a b is = by (nat_lt b.front a.front) refl
   where
     by : (t : Bool) → nat_lt b.front a.front ≡ t → a.front ≤ b.front
     by true less = absurd (let e : true ≡ false = sym is ∙ later_front a b (ltb-true b.front a.front less) in cc)
     by false le = ltb-false b.front a.front le
 
-not_earlier : (a b : Ticket) → earlier a b ≡ false → b.front ≤ a.front
+pub not_earlier : (a b : Ticket) → earlier a b ≡ false → b.front ≤ a.front
 not_earlier a b is = by (nat_lt a.front b.front) refl
   where
     sooner_front : (a b : Ticket) → a.front < b.front → earlier a b ≡ true
@@ -211,23 +211,6 @@ all_say window batch front turn number s (sub ∷ subs) one belong =
     (sub_says window batch front turn number sub one belong.0)
     (all_say window batch front turn number (suc s) subs one belong.1)
 
--- ---- the line after a change
-
--- after a subscription changed and was given its ticket, the line has the tickets of all
-pub stood : (window s : ℕ) (subs now : List Sub) (sub : Sub) (line new : List (Option Ticket))
-    → line ≡ map (sub_ticket window) subs → s < length subs → now ≡ slice_set subs s sub
-    → ((found : Sub) → slice_get now s ≡ Some found → new ≡ slice_set line s (sub_ticket window found))
-    → new ≡ map (sub_ticket window) (slice_set subs s sub)
-stood window s subs now sub line new was less is given =
-    given sub (ap (λ l. slice_get l s) is ∙ set_there subs s sub less)
-    ∙ ap (λ l. slice_set l s (sub_ticket window sub)) was
-    ∙ sym (map-set (sub_ticket window) subs s sub)
-  where
-    set_there : (xs : List Sub) (i : ℕ) (x : Sub) → i < length xs → slice_get (slice_set xs i x) i ≡ Some x
-    set_there [] i x h = absurd (omega (arith, h))
-    set_there (y ∷ xs) zero x h = refl
-    set_there (y ∷ xs) (suc i) x h = set_there xs i x (omega (arith, h))
-
 -- ---- what the search reads
 
 -- where the winner is placed, its subscription's first in line is the span to deliver
@@ -264,13 +247,3 @@ stood_next f (x ∷ subs) [] i d less same = absurd (omega (arith, same))
 stood_next f (x ∷ subs) (t ∷ line) zero d less same = refl
 stood_next f (x ∷ subs) (t ∷ line) (suc i) d less same =
     ap (λ l. f x ∷ l) (stood_next f subs line i d (omega (arith, less)) (omega (arith, same)))
-
--- the same in a call, which reads the window and says what the subscription has become
-pub stood_as : (read window s : ℕ) (subs now : List Sub) (sub made : Sub) (line new : List (Option Ticket))
-    → read ≡ window → line ≡ map (sub_ticket window) subs → s < length subs → now ≡ slice_set subs s sub → sub ≡ made
-    → ((found : Sub) → slice_get now s ≡ Some found → new ≡ slice_set line s (sub_ticket read found))
-    → new ≡ map (sub_ticket window) (slice_set subs s made)
-stood_as read window s subs now sub made line new w was less is become given =
-    stood window s subs now sub line new was less is
-    (λ found there. given found there ∙ ap (λ w. slice_set line s (sub_ticket w found)) w)
-    ∙ ap (λ sub. map (sub_ticket window) (slice_set subs s sub)) become

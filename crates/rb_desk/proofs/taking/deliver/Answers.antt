@@ -1,11 +1,11 @@
-use Rattle.std.proofs.Common.{◌≡◌, ◌∙◌, max, Err, ap, sym, refl, slice_set, map}
+use Rattle.std.proofs.Common.{◌≡◌, ◌∙◌, max, Err, ap, sym, refl, slice_set, subst}
 use Rattle.std.proofs.lemmas.Result.{err_from_is_err_and}
 use Rattle.std.proofs.lemmas.Option.{get_or_from_slice_get}
 use Rattle.std.proofs.lemmas.List.{set-get_or}
 use Rattle.rb_desk.specs.declared.sub.Sub.{Sub}
 use Rattle.rb_desk.specs.Shown.{delivered_sub}
-use Rattle.rb_desk.specs.Waiting.{sub_ticket}
-use Rattle.rb_desk.proofs.orders.WaitingLaws.{stood}
+use Rattle.rb_desk.specs.Waiting.{AreWaiting}
+use Rattle.rb_desk.proofs.orders.DueLaws.{waiting_as}
 use Rattle.rb_desk.proofs.taking.deliver.Goals as goal
 
 pub returns-in_err-deliver : goal.returns-in_err-deliver
@@ -16,7 +16,8 @@ returns-in_err-deliver c =
     ∙ set-get_or c.args.subs.now.items c.args.sub c.index_mut-found.result.now in
     rw (memory.1 ∙ ap Err memory.2) (record {
       delivered = (refl, back, refl, refl);
-      line = c.requires.line ∙ ap (map (sub_ticket c.args.window)) (sym back);
+      waiting = subst (λ subs. AreWaiting c.args.window subs c.args.line.now c.args.moments.now) (sym back)
+          c.requires.waiting;
     })
 
 pub returns-clause-delivered : goal.returns-clause-delivered
@@ -40,7 +41,8 @@ returns-clause-delivered c found here =
       clock_is = clock;
     }
 
-pub returns-clause-line : goal.returns-clause-line
-returns-clause-line c =
-    stood c.args.window c.args.sub c.args.subs.now.items _ c.deliver.new.self c.args.line.now c.stand.new.line c.requires.line
-    c.requires.span.0 c.deref.ensures.value c.stand.ensures
+pub returns-clause-waiting : goal.returns-clause-waiting
+returns-clause-waiting c =
+    waiting_as c.args.window c.args.window c.args.sub c.args.subs.now.items _ c.deliver.new.self c.deliver.new.self
+    c.args.line.now c.args.moments.now _ _ refl c.requires.waiting c.requires.span.0 c.deref.ensures.value refl
+    c.stand.ensures

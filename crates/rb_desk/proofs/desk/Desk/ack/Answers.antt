@@ -9,7 +9,7 @@ use Rattle.rb_desk.proofs.spans.FoundLaws.{out_as_held}
 use Rattle.rb_desk.proofs.calls.OpenLaws.{IsOpen}
 use Rattle.rb_desk.proofs.calls.HandLaws.{settled_as, settled_floor, belongs_settled}
 use Rattle.rb_desk.proofs.calls.KnownLaws.{few_set}
-use Rattle.rb_desk.proofs.orders.WaitingLaws.{stood_as}
+use Rattle.rb_desk.proofs.orders.DueLaws.{waiting_as}
 use Rattle.rb_desk.proofs.desk.Desk.ack.Goals as goal
 
 pub returns-in_default-out_as-clause-answer : goal.returns-in_default-out_as-clause-answer
@@ -61,9 +61,9 @@ invariant_of-self c =
       belongs_settled c.self.inside.config c.self.inside.front c.self.inside.turn
           c.self.inside.next_delivery c.self.inside.subs.items c.args.sub c.in-Some.found.now found span.first,
       few_set c.self.inside.subs.items c.args.sub _ c.self.invariant.2,
-      stood_as c.window.result c.self.inside.config.window c.args.sub c.self.inside.subs.items _ _ _ c.self.inside.line
-          _ c.window.ensures c.self.invariant.3 (slice_get_within c.self.inside.subs.items c.args.sub
-          c.in-Some.found.now here) c.deref-2.ensures.value made c.stand.ensures,
+      waiting_as c.window.result c.self.inside.config.window c.args.sub c.self.inside.subs.items _ _ _ c.self.inside.line
+          c.self.inside.moments _ _ c.window.ensures c.self.invariant.3 (slice_get_within c.self.inside.subs.items
+          c.args.sub c.in-Some.found.now here) c.deref-2.ensures.value made c.stand.ensures,
     )
 
 pub returns-clause-answer : goal.returns-clause-answer

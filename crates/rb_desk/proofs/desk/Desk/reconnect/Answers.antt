@@ -5,7 +5,7 @@ use Rattle.rb_desk.specs.Shown.{Belongs, reconnected_sub}
 use Rattle.rb_desk.proofs.calls.CallLaws.{reconnect_ok, reconnect_bad, ok_call, memory_answers}
 use Rattle.rb_desk.proofs.calls.KnownLaws.{few_set, all_get}
 use Rattle.rb_desk.proofs.calls.CuttingLaws.{reconnected_shown, belongs_reconnected}
-use Rattle.rb_desk.proofs.orders.WaitingLaws.{stood_as}
+use Rattle.rb_desk.proofs.orders.DueLaws.{waiting_as}
 use Rattle.rb_desk.proofs.desk.Desk.reconnect.Goals as goal
 
 pub returns-in_err-next_link : goal.returns-in_err-next_link
@@ -66,9 +66,9 @@ invariant_of-self c =
           c.self.inside.next_delivery c.args.sub c.args.cursor c.self.inside.subs.items c.in-Some.found.now
           (omega (arith, offered, c.if-offered-cursor.false)) c.self.invariant.1 here,
       few_set c.self.inside.subs.items c.args.sub _ c.self.invariant.2,
-      stood_as c.window.result c.self.inside.config.window c.args.sub c.self.inside.subs.items _ _ _ c.self.inside.line
-          _ c.window.ensures c.self.invariant.3 (slice_get_within c.self.inside.subs.items c.args.sub
-          c.in-Some.found.now here) c.deref-2.ensures.value made c.stand.ensures,
+      waiting_as c.window.result c.self.inside.config.window c.args.sub c.self.inside.subs.items _ _ _ c.self.inside.line
+          c.self.inside.moments _ _ c.window.ensures c.self.invariant.3 (slice_get_within c.self.inside.subs.items
+          c.args.sub c.in-Some.found.now here) c.deref-2.ensures.value made c.stand.ensures,
     )
 
 pub returns : goal.returns

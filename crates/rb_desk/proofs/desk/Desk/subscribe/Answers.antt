@@ -1,9 +1,12 @@
-use Rattle.std.proofs.Common.{◌≡◌, ◌∙◌, suc, Ok, ap, sym, ◌++◌, ◌∷◌, [], length, length-append, arith}
+use Rattle.std.proofs.Common.{◌≡◌, ◌∙◌, suc, Ok, ap, sym, subst, ◌++◌, ◌∷◌, [], length, length-append, arith}
 use Rattle.std.proofs.lemmas.List.{length-map, map-append}
 use Rattle.rb_desk.specs.Answers.{call_refusal}
 use Rattle.rb_desk.specs.Calls.{subscribe}
 use Rattle.rb_desk.specs.Shown.{shown, shown_sub, new_sub}
-use Rattle.rb_desk.specs.Waiting.{sub_ticket}
+use Rattle.rb_desk.specs.declared.sub.Sub.{Sub}
+use Rattle.rb_desk.specs.Lanes.{AreJoined}
+use Rattle.rb_desk.specs.Waiting.{sub_moment, sub_ticket}
+use Rattle.rb_desk.proofs.orders.DueLaws.{waiting_more}
 use Rattle.rb_desk.proofs.calls.CallLaws.{subscribe_kept, subscribe_goes}
 use Rattle.rb_desk.proofs.calls.CuttingLaws.{subscribed_shown, belongs_subscribed}
 use Rattle.rb_desk.proofs.desk.Desk.subscribe.Goals as goal
@@ -23,6 +26,11 @@ invariant_of-self-2 c =
     ++ (c.behind-made.ensures
     ∙ ap (λ turn. new_sub c.args.start c.self.inside.next_link
     (record { front = c.self.inside.front; turn = turn })) c.in_ok-turn.ensures) i ∷ []) in
+    let new : c.behind-made.result ≡ new_sub c.args.start c.self.inside.next_link
+        (record { front = c.self.inside.front; turn = suc c.self.inside.turn }) =
+        c.behind-made.ensures
+        ∙ ap (λ turn. new_sub c.args.start c.self.inside.next_link (record { front = c.self.inside.front; turn = turn }))
+        c.in_ok-turn.ensures in
     rw (made, c.in_ok-turn.ensures) (
       c.self.invariant.0,
       belongs_subscribed c.self.inside.front c.self.inside.turn c.self.inside.next_link
@@ -34,14 +42,14 @@ invariant_of-self-2 c =
         length-append c.self.inside.subs.items (new_sub c.args.start c.self.inside.next_link
             (record { front = c.self.inside.front; turn = suc c.self.inside.turn }) ∷ []),
       ),
-      c.in_ok-push.ensures.ok
-          ∙ (λ i. c.self.invariant.3 i ++ (c.ticket.ensures ∙ (λ i. sub_ticket (c.window.ensures i)
-          ((c.behind-made.ensures
-          ∙ ap (λ turn. new_sub c.args.start c.self.inside.next_link
-          (record { front = c.self.inside.front; turn = turn })) c.in_ok-turn.ensures) i))) i ∷ [])
-          ∙ sym (map-append (sub_ticket c.self.inside.config.window) c.self.inside.subs.items
-          (new_sub c.args.start c.self.inside.next_link
-          (record { front = c.self.inside.front; turn = suc c.self.inside.turn }) ∷ [])),
+      waiting_more c.self.inside.config.window c.self.inside.subs.items (new_sub c.args.start c.self.inside.next_link
+          (record { front = c.self.inside.front; turn = suc c.self.inside.turn })) c.self.inside.line
+          c.self.inside.moments _ _ c.self.invariant.3
+          (c.in_ok-push_both.ensures.ok.0 ∙ ap (λ t. c.self.inside.line ++ t ∷ []) (c.ticket-ticket.ensures
+          ∙ (λ i. sub_ticket (c.window.ensures i) (new i))))
+          (c.in_ok-push_both.ensures.ok.1 ∙ ap (λ t. c.self.inside.moments ++ t ∷ []) (c.earliest-moment.ensures.value
+          ∙ ap sub_moment new))
+          (subst (λ (sub : Sub). AreJoined sub.lane) new c.earliest-moment.ensures.joined),
     )
 
 pub returns : goal.returns

@@ -2,7 +2,7 @@ use Rattle.std.proofs.Common.{◌<◌, ◌∙◌, suc, length, map, List, ap, sy
 use Rattle.std.proofs.lemmas.Option.{slice_get_within}
 use Rattle.rb_desk.specs.declared.sub.Sub.{Sub}
 use Rattle.rb_desk.specs.Shown.{Belongs, IsToTake}
-use Rattle.rb_desk.specs.Waiting.{sub_ticket}
+use Rattle.rb_desk.specs.Waiting.{AreWaiting}
 use Rattle.rb_desk.proofs.calls.CallLaws.{taken}
 use Rattle.rb_desk.proofs.calls.KnownLaws.{all_get}
 use Rattle.rb_desk.proofs.spans.FoundLaws.{may_go_first}
@@ -30,7 +30,8 @@ deliver-requires c =
           c.self.invariant.0,
         ),
       );
-      line = c.self.invariant.3 ∙ ap (λ w. map (sub_ticket w) d.subs.items) (sym c.window.ensures);
+      waiting = subst (λ w. AreWaiting w d.subs.items c.self.inside.line c.self.inside.moments) (sym c.window.ensures)
+          c.self.invariant.3;
     }
 
 pub invariant_of-self : goal.invariant_of-self
@@ -47,7 +48,8 @@ invariant_of-self c =
           d.clock c.args.now _ _ _ c.deliver.result may c.deliver.ensures.delivered,
       delivered_few d.config d.front d.turn d.next_delivery d.subs.items c.args.sub t.sub found c.in_ok-span.span
           d.clock c.args.now _ _ _ c.deliver.result c.deliver.ensures.delivered c.self.invariant.2,
-      c.deliver.ensures.line ∙ ap (λ w. map (sub_ticket w) c.deliver.new.subs.items) c.window.ensures,
+      subst (λ w. AreWaiting w c.deliver.new.subs.items c.deliver.new.line c.deliver.new.moments) c.window.ensures
+          c.deliver.ensures.waiting,
     )
 
 pub returns : goal.returns

@@ -2,7 +2,7 @@ use Rattle.std.proofs.Common.{◌≡◌, ◌∙◌, ◌<◌, suc, length, Some, 
 use Rattle.std.proofs.lemmas.Option.{slice_get_within}
 use Rattle.rb_desk.specs.declared.sub.Sub.{Sub}
 use Rattle.rb_desk.specs.Shown.{Belongs, IsJoinedAt, first_to_deliver, span_to_deliver}
-use Rattle.rb_desk.specs.Waiting.{sub_ticket}
+use Rattle.rb_desk.specs.Waiting.{AreWaiting}
 use Rattle.rb_desk.proofs.calls.KnownLaws.{all_get}
 use Rattle.rb_desk.proofs.spans.LaneChanges.{may_go_span}
 use Rattle.rb_desk.proofs.calls.HandLaws.{delivered_belongs, delivered_few, delivered_answers}
@@ -51,7 +51,8 @@ deliver-requires c =
         c.self.invariant.0,
       ),
     );
-      line = c.self.invariant.3 ∙ ap (λ w. map (sub_ticket w) c.self.inside.subs.items) (sym c.window.ensures);
+      waiting = subst (λ w. AreWaiting w c.self.inside.subs.items c.self.inside.line c.self.inside.moments) (sym c.window.ensures)
+          c.self.invariant.3;
     }
 
 pub invariant_of-self : goal.invariant_of-self
@@ -75,7 +76,8 @@ invariant_of-self c =
       delivered_few c.self.inside.config c.self.inside.front c.self.inside.turn c.self.inside.next_delivery
           c.self.inside.subs.items c.in-Some.sub g.sub g.opened c.in-Some.span c.self.inside.clock c.args.now _ _ _
           c.deliver.result c.deliver.ensures.delivered c.self.invariant.2,
-      c.deliver.ensures.line ∙ ap (λ w. map (sub_ticket w) c.deliver.new.subs.items) c.window.ensures,
+      subst (λ w. AreWaiting w c.deliver.new.subs.items c.deliver.new.line c.deliver.new.moments) c.window.ensures
+          c.deliver.ensures.waiting,
     )
 
 pub returns : goal.returns

@@ -6,7 +6,7 @@ use Rattle.rb_desk.specs.Shown.{closed_sub}
 use Rattle.rb_desk.proofs.calls.CallLaws.{unsubscribe_kept}
 use Rattle.rb_desk.proofs.calls.CuttingLaws.{unsubscribed_shown, belongs_unsubscribed}
 use Rattle.rb_desk.proofs.calls.KnownLaws.{few_set}
-use Rattle.rb_desk.proofs.orders.WaitingLaws.{stood_as}
+use Rattle.rb_desk.proofs.orders.DueLaws.{waiting_as}
 use Rattle.rb_desk.proofs.desk.Desk.unsubscribe.Goals as goal
 
 pub index_mut-requires : goal.index_mut-requires
@@ -28,9 +28,9 @@ invariant_of-self c =
           c.args.sub c.self.inside.subs.items c.in-Some.found.now c.self.invariant.1 here
           (subst (λ (sub : Sub). AreJoined sub.lane) same c.close.ensures.joined),
       few_set c.self.inside.subs.items c.args.sub _ c.self.invariant.2,
-      stood_as c.window.result c.self.inside.config.window c.args.sub c.self.inside.subs.items _ _ _ c.self.inside.line
-          _ c.window.ensures c.self.invariant.3 (slice_get_within c.self.inside.subs.items c.args.sub
-          c.in-Some.found.now here) c.deref-2.ensures.value made c.stand.ensures,
+      waiting_as c.window.result c.self.inside.config.window c.args.sub c.self.inside.subs.items _ _ _ c.self.inside.line
+          c.self.inside.moments _ _ c.window.ensures c.self.invariant.3 (slice_get_within c.self.inside.subs.items
+          c.args.sub c.in-Some.found.now here) c.deref-2.ensures.value made c.stand.ensures,
     )
 
 pub returns-clause-answer : goal.returns-clause-answer
