@@ -188,11 +188,15 @@ pub leaves_set : (nodes : List (Option Winner)) (room place : ℕ) (tickets : Li
 leaves_set nodes room place tickets pad ticket h leaves =
     drop-set-add room nodes place (at_place place ticket)
     ∙ ap (λ l. slice_set l place (at_place place ticket)) leaves
-    ∙ set-append_left (leaves_from 0 tickets) pad place (at_place place ticket) (omega (arith, h, length_leaves 0
-        tickets))
+    ∙ set-append_left (leaves_from 0 tickets) pad place (at_place place ticket) (omega (
+      arith,
+      h,
+      length_leaves 0
+          tickets,
+    ))
     ∙ ap (λ l. l ++ pad)
     (ap (λ k. slice_set (leaves_from 0 tickets) place (at_place k ticket)) (let e : place
-        ≡ 0 + place = omega arith in e)
+    ≡ 0 + place = omega arith in e)
     ∙ set_leaf 0 place tickets ticket h)
 
 -- all nodes but one are winners of the two below them
@@ -232,7 +236,7 @@ joined_up nodes room at above x some less long two more is but i one under other
     here =
         get_or-set_same nodes at x None (omega (arith, less, long)) ∙ is
         ∙ (λ k. winner_of_two (sym (get_or-set_other nodes at (at + at) x None (λ e. absurd (omega (arith, e, some))))
-            k)
+        k)
         (sym (get_or-set_other nodes at (suc (at + at)) x None (λ e. absurd (omega (arith, e, some)))) k))
 
     by : (b : Bool) → (i == at) ≡ b → WinsPair (slice_set nodes at x) i
@@ -345,8 +349,10 @@ widened_more wider new places wide place d there less before after =
     after ∙ drop-set-add wide wider place (get_or places place d)
     ∙ ap (λ l. slice_set l place (get_or places place d)) (before
     ∙ ap (λ l. take place places ++ l) (pad_first wide place less))
-    ∙ set_first (take place places) None (get_or places place d) _ place (length-take-le place places (omega (arith,
-        there)))
+    ∙ set_first (take place places) None (get_or places place d) _ place (length-take-le place places (omega (
+      arith,
+      there,
+    )))
     ∙ ap (λ l. l ++ replicate (wide - suc place) None) (sym (take_last places place d there))
   where
     take_last : {X : Type 0} (xs : List X) (n : ℕ) (d : X) → n < length xs → take (suc n) xs

@@ -97,7 +97,7 @@ out_length n (x ∷ xs) = by (is_out x.span.status) (out_length (suc n) xs)
     by : (b : Bool) → length (places_out (suc n) xs) ≡ how_many_out (spans_of xs)
         → length (cond b (n ∷ places_out (suc n) xs) (places_out (suc n) xs))
         ≡ length (cond b (x.span ∷ filter (λ p. is_out p.status) (spans_of xs)) (filter (λ p. is_out p.status)
-            (spans_of xs)))
+        (spans_of xs)))
     by true e = ap suc e
     by false e = e
 
@@ -112,7 +112,7 @@ out_from n (x ∷ xs) = by (is_out x.span.status) (wider (places_out (suc n) xs)
 
     by : (b : Bool) → AllByRecursion (λ p. (n ≤ p) × (p < n + suc (length xs))) (places_out (suc n) xs)
         → AllByRecursion (λ p. (n ≤ p) × (p < n + suc (length xs))) (cond b (n ∷ places_out (suc n) xs) (places_out
-            (suc n) xs))
+        (suc n) xs))
     by true h = ((omega arith, omega arith), h)
     by false h = h
 
@@ -141,7 +141,7 @@ out_there pre (x ∷ xs) = by (is_out x.span.status)
     by : (b : Bool) → at_places (pre ++ x ∷ xs) (places_out (suc (length pre)) xs)
         ≡ filter (λ h. is_out h.span.status) xs
         → at_places (pre ++ x ∷ xs) (cond b (length pre ∷ places_out (suc (length pre)) xs) (places_out (suc (length
-            pre)) xs))
+        pre)) xs))
         ≡ cond b (x ∷ filter (λ h. is_out h.span.status) xs) (filter (λ h. is_out h.span.status) xs)
     by true e = (λ k. cons_option (get_end pre x xs k) (e k))
     by false e = e
@@ -169,7 +169,7 @@ all_changed f same pre (x ∷ xs) = by (is_out x.span.status) refl (λ y. all_ch
 
     by : (b : Bool) → is_out x.span.status ≡ b → ((y : Held) → Rest y)
         → changed_at f (cond b (length pre ∷ places_out (suc (length pre)) xs) (places_out (suc (length pre)) xs)) (pre
-            ++ x ∷ xs)
+        ++ x ∷ xs)
         ≡ pre ++ f x ∷ map f xs
     by true is after = ap (changed_at f (places_out (suc (length pre)) xs)) (changed_after f pre x xs)
         ∙ rest (f x) (after (f x))
@@ -212,7 +212,7 @@ find_out t out (x ∷ xs) = by (is_out x.span.status) refl (t x.span.status) ref
   where
     by : (b : Bool) → is_out x.span.status ≡ b → (d : Bool) → t x.span.status ≡ d
         → find (λ p. t p.status) (spans_of (filter (λ h. is_out h.span.status) xs))
-            ≡ find (λ p. t p.status) (spans_of xs)
+        ≡ find (λ p. t p.status) (spans_of xs)
         → find (λ p. t p.status) (spans_of (cond b (x ∷ filter (λ h. is_out h.span.status) xs)
         (filter (λ h. is_out h.span.status) xs)))
         ≡ cond d (Some x.span) (find (λ p. t p.status) (spans_of xs))
@@ -236,7 +236,7 @@ count_out t out (x ∷ xs) = by (is_out x.span.status) refl (t x.span.status) re
         ≡ length (cond d (x ∷ filter (λ h. t h.span.status) xs) (filter (λ h. t h.span.status) xs))
     by true is d now rest = (λ k. length (cond (now k) (x ∷ filter (λ h. t h.span.status)
         (filter (λ h. is_out h.span.status) xs)) (filter (λ h. t h.span.status) (filter (λ h. is_out h.span.status)
-            xs))))
+        xs))))
         ∙ more d rest
       where
         more : (d : Bool) → length (filter (λ h. t h.span.status) (filter (λ h. is_out h.span.status) xs))

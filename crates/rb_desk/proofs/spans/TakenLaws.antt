@@ -200,7 +200,7 @@ module _ (passed : ℕ) (xs : List Held) (over : AllByRecursion IsPassed (take p
   pub due_left : (timeout clock : ℕ) → due_held timeout clock xs ≡ due_held timeout clock (drop passed xs)
   due_left timeout clock = ap (due_held timeout clock) (sym split)
       ∙ ap length (passed_count (is_due timeout clock) (settled_due timeout clock) (take passed xs) (drop passed xs)
-          over)
+      over)
 
 -- ---- what a read finds
 
@@ -258,8 +258,11 @@ placed_first : (place n : ℕ) (ps : List ℕ) (m : ℕ) → place < n → AllBy
     → with_place place ps ≡ place ∷ ps
 placed_first place n [] m less h = refl
 placed_first place n (p ∷ ps) m less h =
-    (λ k. if ne_eqb p place (omega (arith, h.0.0, less)) k then p ∷ ps else if lt-ltb place p (omega (arith, h.0.0,
-        less)) k
+    (λ k. if ne_eqb p place (omega (arith, h.0.0, less)) k then p ∷ ps else if lt-ltb place p (omega (
+      arith,
+      h.0.0,
+      less,
+    )) k
     then place ∷ p ∷ ps else p ∷ with_place place ps)
 
 -- where a change begins a flight, its place comes
@@ -305,7 +308,7 @@ taken_changed f spans new passed i line out gone taken less is places = rw is (r
 
 pub taken_raised : (spans : List Held) (passed gone : ℕ) (line : List (Option Ticket)) (out : List ℕ)
     → IsTaken spans passed line out → gone ≤ length (drop passed spans)
-        → AllByRecursion IsPassed (take gone (drop passed spans))
+    → AllByRecursion IsPassed (take gone (drop passed spans))
     → IsTaken spans (passed + gone) line out
 taken_raised spans passed gone line out taken le settled = record {
   within = omega (arith, le, taken.within, length-drop passed spans);

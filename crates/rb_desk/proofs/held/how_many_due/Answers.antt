@@ -25,13 +25,13 @@ bounds-lane-place c =
 pub offset_bounds-lane-place : goal.offset_bounds-lane-place
 offset_bounds-lane-place c =
     let within = place_within c.args.lane.now c.args.out.now c.loop-place.place-index c.requires c.loop-place-test.true
-        in
+    in
     search (rules, within)
 
 pub loop-place-preserved : goal.loop-place-preserved
 loop-place-preserved c =
     let within = place_within c.args.lane.now c.args.out.now c.loop-place.place-index c.requires c.loop-place-test.true
-        in
+    in
     let rest = at_places c.args.lane.now (drop (c.loop-place.place-index + 1) c.args.out.now) in
     let found = get_or c.args.lane.now (get_or c.args.out.now c.loop-place.place-index 0) no_held in
     let all = ap (due_held c.args.timeout c.args.clock)

@@ -19,22 +19,22 @@ bounds-lane-place c =
 pub offset_bounds-lane-place : goal.offset_bounds-lane-place
 offset_bounds-lane-place c =
     let within = place_within c.args.lane.now c.args.out.now c.loop-place.place-index c.requires c.loop-place-test.true
-        in
+    in
     search (rules, within)
 
 pub returns-then-is_out_as : goal.returns-then-is_out_as
 returns-then-is_out_as c =
     let within = place_within c.args.lane.now c.args.out.now c.loop-place.place-index c.requires c.loop-place-test.true
-        in
+    in
     sym (found_step c.args.delivery c.args.lane.now c.args.out.now c.loop-place.place-index _ true
-        c.loop-place-test.true
+    c.loop-place-test.true
     within (sym c.is_out_as.ensures ∙ c.if-is_out_as.true))
     ∙ c.loop-place.invariant
 
 pub loop-place-preserved : goal.loop-place-preserved
 loop-place-preserved c =
     let within = place_within c.args.lane.now c.args.out.now c.loop-place.place-index c.requires c.loop-place-test.true
-        in
+    in
     sym (found_step c.args.delivery c.args.lane.now c.args.out.now c.loop-place.place-index _ false
     c.loop-place-test.true within (sym c.is_out_as.ensures ∙ c.if-is_out_as.false))
     ∙ c.loop-place.invariant

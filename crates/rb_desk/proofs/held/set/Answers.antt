@@ -7,7 +7,7 @@ use Rattle.rb_desk.proofs.held.set.Goals as goal
 pub returns-clause-spans : goal.returns-clause-spans
 returns-clause-spans c =
     ap (λ h. slice_set c.args.spans.now.items c.args.place (with_state c.args.status c.args.ticket h))
-        c.index-found.ensures
+    c.index-found.ensures
     ∙ set_is (with_state c.args.status c.args.ticket) c.args.spans.now.items c.args.place c.index-found.result.now
 
 pub returns-clause-line : goal.returns-clause-line

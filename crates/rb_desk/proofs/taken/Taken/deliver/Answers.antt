@@ -20,7 +20,7 @@ invariant_of-self-2 c =
     c.self.inside.out.items _ t less c.set.ensures.spans
     (c.in_ok-insert_place.ensures.ok ∙ ap (with_place (passed + c.in-Some.i)) t.in_flight
     ∙ ap (λ k. with_place k (places_out 0 spans)) (let e : passed + c.in-Some.i
-        ≡ 0 + (passed + c.in-Some.i) = omega arith in e)
+    ≡ 0 + (passed + c.in-Some.i) = omega arith in e)
     ∙ sym (out_with f (λ h. c.requires.status) 0 (passed + c.in-Some.i) spans within)))
 
 pub returns-clause-ok : goal.returns-clause-ok

@@ -26,6 +26,6 @@ returns c =
     (sym c.in_ok-winner.was ∙ c.winner.ensures) in
     ap (λ (h : Held). Some h)
     (span_at c.self.inside.spans.items c.in_ok-winner.winner.place w.best c.index.result.now w.place w.inside
-        c.index.ensures)
+    c.index.ensures)
     ∙ sym w.in_line ∙ least_left c.self.inside.passed c.self.inside.spans.items t.over
     ∙ ap (λ l. least l) c.self.view_is

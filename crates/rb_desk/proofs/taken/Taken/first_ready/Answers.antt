@@ -27,6 +27,6 @@ returns c =
     (sym c.in_ok-winner.was ∙ c.winner.ensures) in
     ap (λ (h : Held). Some h.span)
     (span_at c.self.inside.spans.items c.in_ok-winner.winner.first w.at c.index.result.now w.first w.within
-        c.index.ensures)
+    c.index.ensures)
     ∙ sym w.ready ∙ ready_left c.self.inside.passed c.self.inside.spans.items t.over
     ∙ ap (λ l. first_ready (spans_of l)) c.self.view_is
