@@ -60,11 +60,12 @@ pub record AreWaiting (window : ℕ) (subs : List Sub) (line moments : List (Opt
     pub joined : AllByRecursion (λ sub. AreJoined sub.lane) subs
 
 -- a subscription that changed has its ticket and its moment again
-pub record Stands (window s : ℕ) (sub : Sub) (line moments new_line new_moments : List (Option Ticket))
-  : Type 0 where
-    pub in_line : new_line ≡ slice_set line s (sub_ticket window sub)
-    pub in_flight : new_moments ≡ slice_set moments s (sub_moment sub)
-    pub joins : AreJoined sub.lane
+pub record StandsAgain (window s : ℕ) (sub : Sub) (line moments new_line new_moments : List (Option
+    Ticket))
+    : Type 0 where
+  pub in_line : new_line ≡ slice_set line s (sub_ticket window sub)
+  pub in_flight : new_moments ≡ slice_set moments s (sub_moment sub)
+  pub joins : AreJoined sub.lane
 
 -- the place of a moment that is past, or none is
 abbrev pub FirstPast : ℕ → ℕ → List (Option Ticket) → Option ℕ → Type 0

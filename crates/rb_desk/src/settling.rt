@@ -145,7 +145,8 @@ fn expire_due(
     next: u64,
 ) -> u64
     requires waiting { AreWaiting window subs.old.items line.old moments.old }
-    requires given { AllByRecursion (λ sub. AreGiven next latest.turn sub.lane.held) subs.old.items }
+    requires given { AllByRecursion (λ sub. AreGiven next latest.turn sub.lane.held)
+        subs.old.items }
     requires few { all_due timeout clock subs.old.items < 18446744073709551616 }
     ensures many { result ≡ all_due timeout clock subs.old.items }
     ensures subs { subs.new.items

@@ -3,13 +3,13 @@
 ghost use Rattle.std.specs.Prelude.{◌≡◌, ◌<◌, ◌≤◌, length, slice_get, Some};
 ghost use Rattle.std.specs.Prelude.{OnSome, OnOk, OnErr};
 ghost use Rattle.rb_desk.specs.declared.sub.Sub.{Sub};
-ghost use Rattle.rb_desk.specs.Waiting.{Stands};
-ghost use Rattle.std.specs.Option.{option_copied, option_map};
-ghost use Rattle.rb_desk.specs.Lanes.{AreJoined, AreLimited, HasNumbers, settled_lane};
+ghost use Rattle.rb_desk.specs.Waiting.{StandsAgain};
+ghost use Rattle.std.specs.Option.{option_copied};
+ghost use Rattle.rb_desk.specs.Lanes.{AreJoined, HasNumbers, settled_lane};
 
 use crate::lane::Lane;
 use crate::span::Span;
-use crate::ticket::{Held, Ticket};
+use crate::ticket::Ticket;
 use crate::tournament::Tournament;
 use std::alloc::{AllocError, Global};
 
@@ -26,7 +26,7 @@ pub(crate) struct Sub {
 
 impl Sub {
     ghost use Rattle.rb_desk.specs.Expiry.{due_in, expired_sub, by_number, turns_from};
-    ghost use Rattle.rb_desk.specs.Shown.{AreGiven, new_sub, next_to_deliver, sub_out_as};
+    ghost use Rattle.rb_desk.specs.Shown.{AreGiven, new_sub, sub_out_as};
     ghost use Rattle.rb_desk.specs.Shown.{delivered_sub, returned_sub, settled_sub};
     ghost use Rattle.rb_desk.specs.Shown.{reconnected_sub, closed_sub};
     ghost use Rattle.rb_desk.specs.Waiting.{sub_ticket};
@@ -82,26 +82,6 @@ impl Sub {
             return None;
         }
         self.lane.out_as(delivery)
-    }
-
-    /// The span that is first in line, with the subscription's number, if the window has room.
-    pub(crate) fn next_to_deliver(
-        &self,
-        sub: u64,
-        window: u64,
-        batch: u64,
-        front: u64,
-    ) -> Option<(u64, Held)>
-        requires { AreLimited batch front }
-        ensures value { result ≡ option_map (λ h. (sub, h))
-            (next_to_deliver window batch front self.now) }
-        ensures joined { OnSome result (AreJoined self.now.lane) }
-    {
-        if self.closed || self.lane.out() >= window {
-            return None;
-        }
-        let held = self.lane.first_in_line(batch, front)?;
-        Some((sub, held))
     }
 
     /// Its ticket among the subscriptions, if it is open and its window has room: that of the span
@@ -168,7 +148,7 @@ pub(crate) fn stand(
     requires line { length line.old ≡ length subs.now }
     requires moments { length moments.old ≡ length subs.now }
     ensures { (sub : Sub) → slice_get subs.now s ≡ Some sub
-        → Stands window s sub line.old moments.old line.new moments.new }
+        → StandsAgain window s sub line.old moments.old line.new moments.new }
 {
     line.set(s, subs[s].ticket(window));
     moments.set(s, subs[s].lane.earliest());

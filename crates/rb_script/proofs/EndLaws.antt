@@ -311,7 +311,8 @@ all_answered how config r0 r r' w0 w w' number now count so_far read end within 
     ∙ ap (λ (t : List ℕ). output_for how 1 early ++ t)
     (output-cons how number x [] quiet ∙ append-nil (numbered_answer how number x.answer)) in
     let whole : Appends w0 w' (output_for how 1 (early ++ x ∷ [])) =
-    rw text (Appends-trans w0 w w' (output_for how 1 early) (numbered_answer how number x.answer) so_far.fed.said said) in (
+    rw text (Appends-trans w0 w w' (output_for how 1 early) (numbered_answer how number x.answer) so_far.fed.said said)
+    in (
       input,
       subst (λ (t : List ℕ). Consumes r0 r' t) (append-nil input) (Consumes-trans r0 r r' input [] so_far.read read),
       end,

@@ -1,5 +1,6 @@
 -- The lines that end in bytes: more bytes, a line's end, a byte of a line.
-use Rattle.std.proofs.Common.{◌≡◌, ℕ, ◌+◌, ◌<◌, ◌≤◌, suc, Bool, true, false, cond, eqb, List, [], ◌∷◌, ◌++◌, length, take, drop}
+use Rattle.std.proofs.Common.{◌≡◌, ℕ, ◌+◌, ◌<◌, ◌≤◌, suc, Bool, true, false, cond, eqb, List, [], ◌∷◌, ◌++◌, length}
+use Rattle.std.proofs.Common.{take, drop}
 use Rattle.std.proofs.Common.{Option, Some, None, refl, sym, ap, subst, ◌∙◌, append_assoc, arith, length-append, ◌≢◌}
 use Rattle.std.proofs.Common.{inl, inr, get_or, drop-cons, take-append-drop, length-take}
 use Rattle.std.proofs.lemmas.Bool.Decides.{eqb_tells}

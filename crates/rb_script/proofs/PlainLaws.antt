@@ -10,7 +10,8 @@ use Rattle.rb_script.specs.declared.answering.Answering.{Answering}
 use Rattle.rb_script.specs.declared.lines.Stage.{Stage}
 use Rattle.rb_script.specs.declared.lines.Stage.TheVariants.{Tables}
 use Rattle.rb_script.specs.Answering.{AnsweredLine, plainly, line_with_answer, answered_lines, stops_after, up_to_stop}
-use Rattle.rb_script.specs.Answering.{numbered_answer, numbered_answers, output_for, first_stop, script_output, script_stop}
+use Rattle.rb_script.specs.Answering.{numbered_answer, numbered_answers, output_for, first_stop, script_output}
+use Rattle.rb_script.specs.Answering.{script_stop}
 use Rattle.rb_script.specs.Answering.{lines_reached}
 use Rattle.rb_script.specs.Feeding.{fed_lines, line_at, line_ending}
 use Rattle.rb_script.specs.Lines.{line_answer}
@@ -70,7 +71,8 @@ pub plain_whole : (config : Limits) (input : List ℕ) → script_output plainly
 plain_whole config input = ap (output_for plainly 1) (sym (whole_is config input))
     ∙ plain_output 1 (fed_lines config first_place input) ∙ fed_alone config first_place input
 
-pub plain_all : (config : Limits) (input : List ℕ) → script_output plainly config (lines_of input) ≡ answers config input
+pub plain_all : (config : Limits) (input : List ℕ) → script_output plainly config (lines_of input)
+    ≡ answers config input
 plain_all config input =
     let xs : List AnsweredLine = fed_lines config first_place input in
     let last : AnsweredLine = line_at config (place_after config first_place input) in
@@ -111,10 +113,12 @@ lines_again (line ∷ lines) last fits ends =
 -- ---- the lines up to the one at which a script stops
 
 reached_are : (how : Answering) (config : Limits) (stage : Stage) (lines : List (List ℕ))
-    → up_to_stop how (answered_lines config stage lines) ≡ answered_lines config stage (lines_reached how config stage lines)
+    → up_to_stop how (answered_lines config stage lines)
+    ≡ answered_lines config stage (lines_reached how config stage lines)
 reached_are how config stage [] = refl
 reached_are how config stage (line ∷ lines) =
-    by (stops_after how (line_with_answer config stage line)) (reached_are how config (line_answer config stage line).1 lines)
+    by (stops_after how (line_with_answer config stage line)) (reached_are how config (line_answer config stage line).1
+    lines)
   where
     next : Stage
     next = (line_answer config stage line).1

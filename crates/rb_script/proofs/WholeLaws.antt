@@ -1,5 +1,6 @@
 -- The lines that end in an input, byte by byte, are its lines with line ends; with what comes after them they are all.
-use Rattle.std.proofs.Common.{◌≡◌, ◌≢◌, ℕ, ◌<◌, ◌≤◌, suc, Bool, true, false, cond, eqb, ltb, List, [], ◌∷◌, ◌++◌, length}
+use Rattle.std.proofs.Common.{◌≡◌, ◌≢◌, ℕ, ◌<◌, ◌≤◌, suc, Bool, true, false, cond, eqb, ltb, List, [], ◌∷◌, ◌++◌}
+use Rattle.std.proofs.Common.{length}
 use Rattle.std.proofs.Common.{refl, sym, ap, ◌∙◌, append_assoc, arith, length-append, ◌⊎◌, inl, inr, length-take}
 use Rattle.std.specs.List.{onto_first}
 use Rattle.std.proofs.lemmas.Bool.{lt-ltb, le-ltb, ltb-true, ltb-false}
@@ -55,7 +56,8 @@ answered_kept_line config stage line = kept_answer config stage (kept_of_line li
 line_at_kept : (config : Limits) (stage : Stage) (line : List ℕ)
     → line_at config (place_at stage (kept_of_line line)) ≡ line_with_answer config stage line
 line_at_kept config stage line =
-    ap (λ (g : List ℕ × Stage). record { line = kept_of_line line; answer = g.0 }) (answered_kept_line config stage line)
+    ap (λ (g : List ℕ × Stage). record { line = kept_of_line line; answer = g.0 }) (answered_kept_line config stage
+    line)
 
 -- ---- lines after the start of one
 
@@ -150,7 +152,8 @@ lines_go_on config stage front b bs isnt test later =
     ap (λ (g : List ℕ × ScriptPlace). g.1) (byte_answer-other config now b isnt)
     ∙ ap (λ (l : List ℕ). place_at stage l) (kept_longer front b) in
     let fed : fed_lines config now (b ∷ bs) ≡ fed_lines config next bs = fed-cons config now b bs
-    ∙ ap (λ (t : List AnsweredLine). t ++ fed_lines config (byte_answer config now b).1 bs) (ending-other config now b isnt)
+    ∙ ap (λ (t : List AnsweredLine). t ++ fed_lines config (byte_answer config now b).1 bs) (ending-other config now b
+    isnt)
     ∙ ap (λ (p : ScriptPlace). fed_lines config p bs) stands in
     let after : place_after config now (b ∷ bs) ≡ place_after config next bs = after-cons config now b bs
     ∙ ap (λ (p : ScriptPlace). place_after config p bs) stands in

@@ -1,12 +1,12 @@
 -- Which subscription has a delivery that is due, and what is left when each has expired its own.
-use Rattle.std.proofs.Common.{◌≡◌, ℕ, zero, suc, ◌+◌, ◌-◌, ◌<◌, ◌≤◌, Bool, true, false, nat_le, List, [], ◌∷◌, ◌++◌, ◌*◌, length, map, filter}
+use Rattle.std.proofs.Common.{◌≡◌, ℕ, zero, suc, ◌+◌, ◌<◌, ◌≤◌, Bool, true, false, List, [], ◌∷◌, ◌++◌, ◌*◌, length}
+use Rattle.std.proofs.Common.{map, filter}
 use Rattle.std.proofs.Common.{Option, Some, None, IfSome, slice_get, slice_set, refl, sym, ap, subst, ◌∙◌, arith, cond}
 use Rattle.std.proofs.Common.{if◌then◌else◌}
 use Rattle.std.specs.List.{AllByRecursion}
 use Rattle.std.proofs.lemmas.List.{map-append, map-set}
 use Rattle.rb_desk.proofs.orders.Line.{all_both}
-use Rattle.rb_desk.specs.declared.span.Status.{Status}
-use Rattle.rb_desk.specs.declared.span.Status.TheVariants.{Ready, InFlight, Settled}
+use Rattle.rb_desk.specs.declared.span.Status.TheVariants.{Ready}
 use Rattle.rb_desk.specs.declared.sub.Sub.{Sub}
 use Rattle.rb_desk.specs.declared.ticket.Held.{Held}
 use Rattle.rb_desk.specs.declared.ticket.Ticket.{Ticket}
@@ -16,7 +16,7 @@ use Rattle.rb_desk.specs.Lanes.{earlier, AreJoined, FollowOn}
 use Rattle.rb_desk.specs.Expiry.{due_held, due_in, all_due, expired_held, expired_sub}
 use Rattle.rb_desk.specs.Shown.{Belongs, IsGiven, AreGiven}
 use Rattle.rb_desk.specs.Tournament.{winner_of_two, at_place, winner_from, earlier_of}
-use Rattle.rb_desk.specs.Waiting.{earliest, sub_moment, sub_ticket, is_past, FirstPast, AreWaiting, Stands}
+use Rattle.rb_desk.specs.Waiting.{earliest, sub_moment, sub_ticket, is_past, FirstPast, AreWaiting, StandsAgain}
 use Rattle.rb_desk.proofs.orders.MomentLaws.{past_later, some_due, none_due, undue_held, undue_same, expired_undue}
 use Rattle.rb_desk.proofs.orders.WaitingLaws.{earlier_fronts, not_earlier}
 
@@ -96,7 +96,8 @@ module _ (timeout clock : ℕ) (ticket : Held → Ticket) where
   pub none_left : (sub : Sub) → due_in timeout clock (expired_sub timeout clock ticket sub) ≡ 0
   none_left sub = by sub.closed
     where
-      by : (b : Bool) → (if b then 0 else due_held timeout clock (map (expired_held timeout clock ticket) sub.lane.held)) ≡ 0
+      by : (b : Bool) → (if b then 0 else due_held timeout clock (map (expired_held timeout clock ticket)
+          sub.lane.held)) ≡ 0
       by true = refl
       by false = undue_held timeout clock (map (expired_held timeout clock ticket) sub.lane.held)
           (expired_undue timeout clock ticket sub.lane.held)
@@ -118,8 +119,7 @@ module _ (timeout clock : ℕ) (ticket : Held → Ticket) where
   all_expired [] h = (refl, refl)
   all_expired (sub ∷ subs) h =
       let rest = all_expired subs h.1 in
-      let undue = none_due timeout clock sub.lane.held h.0 in
-      (
+      let undue = none_due timeout clock sub.lane.held h.0 in (
         (λ k. ap (λ held. record sub { lane = record sub.lane { held = held } })
             (undue_same timeout clock ticket sub.lane.held undue) k ∷ rest.0 k),
         omega (arith, rest.1, by sub.closed (undue_held timeout clock sub.lane.held undue)),
@@ -172,8 +172,12 @@ pub past_has_due : (timeout clock : ℕ) (subs : List Sub) (s : ℕ) → ((t : T
     × (slice_get (map sub_moment subs) s ≡ Some (Some t)) × (is_past timeout clock t ≡ true))
     → (sub : Sub) × (slice_get subs s ≡ Some sub) × (1 ≤ due_held timeout clock sub.lane.held)
 past_has_due timeout clock [] s past = absurd (let e : None ≡ Some (Some past.0) = past.1 in cc)
-past_has_due timeout clock (sub ∷ subs) zero past =
-    (sub, refl, some_due timeout clock sub.lane.held past.0 (let e : earliest sub.lane.held ≡ Some past.0 = inner past.1 in e) past.2)
+past_has_due timeout clock (sub ∷ subs) zero past = (
+  sub,
+  refl,
+  some_due timeout clock sub.lane.held past.0 (let e : earliest sub.lane.held
+      ≡ Some past.0 = inner past.1 in e) past.2,
+)
   where
     inner : {X : Type 0} {a b : X} → Some a ≡ Some b → a ≡ b
     inner e = cc
@@ -188,8 +192,9 @@ all_stand P [] s sub h p = tt
 all_stand P (x ∷ subs) zero sub h p = (p, h.1)
 all_stand P (x ∷ subs) (suc s) sub h p = (h.0, all_stand P subs s sub h.1 p)
 
-pub waiting_after : (window s : ℕ) (subs : List Sub) (sub : Sub) (line moments new_line new_moments : List (Option Ticket))
-    → AreWaiting window subs line moments → Stands window s sub line moments new_line new_moments
+pub waiting_after : (window s : ℕ) (subs : List Sub) (sub : Sub) (line moments new_line new_moments : List (Option
+    Ticket))
+    → AreWaiting window subs line moments → StandsAgain window s sub line moments new_line new_moments
     → AreWaiting window (slice_set subs s sub) new_line new_moments
 waiting_after window s subs sub line moments new_line new_moments old stands = record {
   in_line = stands.in_line ∙ ap (λ l. slice_set l s (sub_ticket window sub)) old.in_line
@@ -211,8 +216,11 @@ HasDue timeout clock moments s = (t : Ticket) × (slice_get moments s ≡ Some (
 pub due_part : (timeout clock : ℕ) (subs : List Sub) (s : ℕ) (sub : Sub) → slice_get subs s ≡ Some sub
     → due_in timeout clock sub ≤ all_due timeout clock subs
 due_part timeout clock subs s sub is =
-    omega (arith, due_after timeout clock subs s sub (expired_sub timeout clock (λ h. h.ticket) sub) is,
-    none_left timeout clock (λ h. h.ticket) sub)
+    omega (
+      arith,
+      due_after timeout clock subs s sub (expired_sub timeout clock (λ h. h.ticket) sub) is,
+      none_left timeout clock (λ h. h.ticket) sub,
+    )
 
 pub set_there : (xs : List Sub) (i : ℕ) (x : Sub) → i < length xs → slice_get (slice_set xs i x) i ≡ Some x
 set_there [] i x h = absurd (omega (arith, h))
@@ -220,14 +228,15 @@ set_there (y ∷ xs) zero x h = refl
 set_there (y ∷ xs) (suc i) x h = set_there xs i x (omega (arith, h))
 
 -- in a call, which reads the window and says what the subscription has become
-pub waiting_as : (read window s : ℕ) (subs now : List Sub) (sub made : Sub) (line moments new_line new_moments : List (Option Ticket))
+pub waiting_as : (read window s : ℕ) (subs now : List Sub) (sub made : Sub) (line moments new_line new_moments : List
+    (Option Ticket))
     → read ≡ window → AreWaiting window subs line moments → s < length subs → now ≡ slice_set subs s sub → sub ≡ made
-    → ((found : Sub) → slice_get now s ≡ Some found → Stands read s found line moments new_line new_moments)
+    → ((found : Sub) → slice_get now s ≡ Some found → StandsAgain read s found line moments new_line new_moments)
     → AreWaiting window (slice_set subs s made) new_line new_moments
 waiting_as read window s subs now sub made line moments new_line new_moments same old less is become given =
     subst (λ sub. AreWaiting window (slice_set subs s sub) new_line new_moments) become
     (waiting_after window s subs sub line moments new_line new_moments old
-    (subst (λ w. Stands w s sub line moments new_line new_moments) same
+    (subst (λ w. StandsAgain w s sub line moments new_line new_moments) same
     (given sub (ap (λ l. slice_get l s) is ∙ set_there subs s sub less))))
 
 -- one subscription more
@@ -270,5 +279,10 @@ few_due timeout clock front turn number (sub ∷ subs) belong joined le =
   where
     by : (b : Bool) → (if b then 0 else due_held timeout clock sub.lane.held) ≤ 1048577
     by true = omega arith
-    by false = omega (arith, due_at_most timeout clock sub.lane.held,
-        count_joined (suc sub.lane.floor) sub.lane.next sub.lane.held joined.0, belong.0.is_next, le)
+    by false = omega (
+      arith,
+      due_at_most timeout clock sub.lane.held,
+      count_joined (suc sub.lane.floor) sub.lane.next sub.lane.held joined.0,
+      belong.0.is_next,
+      le,
+    )

@@ -1,22 +1,19 @@
 -- The earliest moments of deliveries in flight, and which spans are due.
-use Rattle.std.proofs.Common.{◌≡◌, ℕ, zero, suc, ◌+◌, ◌-◌, ◌<◌, ◌≤◌, Bool, true, false, nat_le, nat_lt, List, [], ◌∷◌, ◌++◌}
-use Rattle.std.proofs.Common.{length, take, drop, map, filter, Option, Some, None, IfSome, slice_get, slice_set, refl, sym, ap}
+use Rattle.std.proofs.Common.{◌≡◌, ℕ, ◌-◌, ◌≤◌, Bool, true, false, List, [], ◌∷◌, ◌++◌}
+use Rattle.std.proofs.Common.{length, take, drop, map, filter, Option, Some, None, IfSome, refl, sym, ap}
 use Rattle.std.proofs.Common.{subst, ◌∙◌, arith, cond, if◌then◌else◌}
 use Rattle.std.specs.List.{AllByRecursion}
-use Rattle.std.proofs.lemmas.Bool.{leb-true, leb-false, le-leb, lt-leb, ltb-true, ltb-false}
+use Rattle.std.proofs.lemmas.Bool.{leb-false, lt-leb}
 use Rattle.std.proofs.lemmas.List.{take-append-drop}
 use Rattle.rb_desk.specs.declared.span.Status.{Status}
 use Rattle.rb_desk.specs.declared.span.Status.TheVariants.{Ready, InFlight, Settled}
-use Rattle.rb_desk.specs.declared.sub.Sub.{Sub}
 use Rattle.rb_desk.specs.declared.ticket.Held.{Held}
 use Rattle.rb_desk.specs.declared.ticket.Ticket.{Ticket}
-use Rattle.rb_desk.specs.declared.tournament.Winner.{Winner}
 use Rattle.rb_desk.specs.Spans.{is_out, is_due, is_settled}
 use Rattle.rb_desk.specs.Lanes.{earlier}
-use Rattle.rb_desk.specs.Expiry.{due_held, due_in, all_due, expired_held, expired_sub}
+use Rattle.rb_desk.specs.Expiry.{due_held, expired_held}
 use Rattle.rb_desk.specs.Taken.{IsPassed}
-use Rattle.rb_desk.specs.Tournament.{winner_of_two, at_place, winner_from, earlier_of}
-use Rattle.rb_desk.specs.Waiting.{moment_of, first_ticket, earliest, sub_moment, is_past, FirstPast}
+use Rattle.rb_desk.specs.Waiting.{moment_of, first_ticket, earliest, is_past}
 use Rattle.rb_desk.proofs.orders.WaitingLaws.{earlier_fronts, not_earlier}
 
 -- ---- the earliest of some spans
@@ -72,7 +69,8 @@ module _ (timeout clock : ℕ) where
       ap (is_past timeout clock) (let e : record { front = moment; turn = 0 } ≡ t = cc in e)
   past_is_due Settled t is = absurd (let e : None ≡ Some t = is in cc)
 
-  pub past_later : (a b : Ticket) → a.front ≤ b.front → is_past timeout clock a ≡ false → is_past timeout clock b ≡ false
+  pub past_later : (a b : Ticket) → a.front ≤ b.front → is_past timeout clock a ≡ false → is_past timeout clock b
+      ≡ false
   past_later a b le is = lt-leb timeout (clock - b.front) (omega (arith, le, leb-false timeout (clock - a.front) is))
 
   -- where the earliest moment is past, a span is due
@@ -124,7 +122,8 @@ module _ (timeout clock : ℕ) where
         where
           never : (status : Status) → moment_of status ≡ None → is_due timeout clock status ≡ false
           never (Ready taken) e = refl
-          never (InFlight number moment) e = absurd (let f : Some (record { front = moment; turn = 0 }) ≡ None = e in cc)
+          never (InFlight number moment) e = absurd (let f : Some (record { front = moment; turn = 0 })
+              ≡ None = e in cc)
           never Settled e = refl
       own (Some a) e p = past_is_due x.span.status a e ∙ p
 
@@ -151,7 +150,8 @@ module _ (timeout clock : ℕ) where
   undue_held (x ∷ xs) h = ap (λ b. length (cond b (x ∷ filter (λ h. is_due timeout clock h.span.status) xs)
       (filter (λ h. is_due timeout clock h.span.status) xs))) h.0 ∙ undue_held xs h.1
 
-  pub undue_same : (ticket : Held → Ticket) (xs : List Held) → Undue xs → map (expired_held timeout clock ticket) xs ≡ xs
+  pub undue_same : (ticket : Held → Ticket) (xs : List Held) → Undue xs → map (expired_held timeout clock ticket) xs
+      ≡ xs
   undue_same ticket [] h = refl
   undue_same ticket (x ∷ xs) h = (λ k. (if h.0 k then record {
     span = record x.span { status = Ready true };

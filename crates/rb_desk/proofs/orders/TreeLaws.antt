@@ -399,7 +399,8 @@ places_read (x ∷ nodes) (suc room) place d = places_read nodes room place d
     ∙ ap (λ n. get_or (x ∷ nodes) n d) (let e : suc (room + place) ≡ suc room + place = omega arith in e)
 
 -- a tree without its last place
-pub tree_popped : (nodes new : List (Option Winner)) (room len : ℕ) (rest : List (Option Ticket)) (ticket : Option Ticket)
+pub tree_popped : (nodes new : List (Option Winner)) (room len : ℕ) (rest : List (Option Ticket)) (ticket : Option
+    Ticket)
     → IsTree nodes room (suc len) → tickets_of nodes room (suc len) ≡ rest ++ ticket ∷ [] → length new ≡ room + room
     → drop room new ≡ drop room (slice_set nodes (room + len) None) → NodesWin new room
     → IsTree new room len × (tickets_of new room len ≡ rest)
@@ -407,19 +408,18 @@ tree_popped nodes new room len rest ticket tree last long places inner =
     let tickets = tree.leaves.0 in
     let pad : List (Option Winner) = replicate (room - suc len) None in
     let is : tickets ≡ rest ++ ticket ∷ [] =
-        sym (tickets_are nodes room (suc len) tickets pad tree.leaves.1 tree.leaves.2) ∙ last in
+    sym (tickets_are nodes room (suc len) tickets pad tree.leaves.1 tree.leaves.2) ∙ last in
     let count : length rest ≡ len =
-        omega (arith, ap length is, length-append rest (ticket ∷ []), tree.leaves.1) in
+    omega (arith, ap length is, length-append rest (ticket ∷ []), tree.leaves.1) in
     let leaves =
-        places ∙ drop-set-add room nodes len None
-        ∙ ap (λ l. slice_set l len None)
-        (tree.leaves.2 ∙ ap (λ l. leaves_from 0 l ++ pad) is
-        ∙ ap (λ l. l ++ pad) (leaves_more 0 rest ticket)
-        ∙ append_assoc (leaves_from 0 rest) (at_place (0 + length rest) ticket ∷ []) pad)
-        ∙ set_first (leaves_from 0 rest) (at_place (0 + length rest) ticket) None pad len (length_leaves 0 rest ∙ count)
-        ∙ append_assoc (leaves_from 0 rest) (None ∷ []) pad
-        ∙ ap (λ l. leaves_from 0 rest ++ l) (sym (pad_first room len tree.fits)) in
-    (
+    places ∙ drop-set-add room nodes len None
+    ∙ ap (λ l. slice_set l len None)
+    (tree.leaves.2 ∙ ap (λ l. leaves_from 0 l ++ pad) is
+    ∙ ap (λ l. l ++ pad) (leaves_more 0 rest ticket)
+    ∙ append_assoc (leaves_from 0 rest) (at_place (0 + length rest) ticket ∷ []) pad)
+    ∙ set_first (leaves_from 0 rest) (at_place (0 + length rest) ticket) None pad len (length_leaves 0 rest ∙ count)
+    ∙ append_assoc (leaves_from 0 rest) (None ∷ []) pad
+    ∙ ap (λ l. leaves_from 0 rest ++ l) (sym (pad_first room len tree.fits)) in (
       record {
         long = long;
         fits = omega (arith, tree.fits);
@@ -431,9 +431,9 @@ tree_popped nodes new room len rest ticket tree last long places inner =
     )
 
 -- the tickets of a tree before its last place, and the last one
-pub last_of : (nodes : List (Option Winner)) (room len : ℕ) → IsTree nodes room (suc len)
+pub last_place : (nodes : List (Option Winner)) (room len : ℕ) → IsTree nodes room (suc len)
     → (rest : List (Option Ticket)) × (ticket : Option Ticket) × (tickets_of nodes room (suc len) ≡ rest ++ ticket ∷ [])
-last_of nodes room len tree =
+last_place nodes room len tree =
     let cut = cut_last tree.leaves.0 len tree.leaves.1 in
     (cut.0, cut.1, tickets_are nodes room (suc len) tree.leaves.0 _ tree.leaves.1 tree.leaves.2 ∙ cut.2)
   where

@@ -1,23 +1,23 @@
 -- The first in line among the subscriptions, told from their tickets.
-use Rattle.std.proofs.Common.{◌≡◌, ℕ, zero, suc, ◌+◌, ◌<◌, ◌≤◌, Bool, true, false, not, ◌&&◌, nat_lt, nat_le, ◌⊎◌, inl, inr}
-use Rattle.std.proofs.Common.{List, [], ◌∷◌, map, length, Option, Some, None, option_map, slice_get, slice_set, refl, sym}
+use Rattle.std.proofs.Common.{◌≡◌, ℕ, zero, suc, ◌<◌, ◌≤◌, Bool, true, false, not, ◌&&◌, nat_lt, nat_le}
+use Rattle.std.proofs.Common.{List, [], ◌∷◌, map, length, Option, Some, None, option_map, slice_get, slice_set, refl}
+use Rattle.std.proofs.Common.{sym}
 use Rattle.std.proofs.Common.{ap, subst, ◌∙◌, ◌++◌, arith, if◌then◌else◌, cond, take, drop, get_or}
 use Rattle.std.specs.List.{AllByRecursion}
 use Rattle.std.proofs.lemmas.Bool.{lt-leb, ltb-true, ltb-false}
-use Rattle.std.proofs.lemmas.List.{map-set}
 use Rattle.rb_desk.specs.declared.span.Span.{Span}
 use Rattle.rb_desk.specs.declared.sub.Sub.{Sub}
 use Rattle.rb_desk.specs.declared.ticket.Held.{Held}
 use Rattle.rb_desk.specs.declared.ticket.Ticket.{Ticket}
 use Rattle.rb_desk.specs.declared.tournament.Winner.{Winner}
 use Rattle.rb_desk.specs.Spans.{cut_spans, how_many_out, is_ready}
-use Rattle.rb_desk.specs.Lanes.{Lane, lane_held, birth, with_birth, better, if_ready, earlier, least, spans_of}
-use Rattle.rb_desk.specs.Shown.{Belongs, IsDrawn, IsKnown, goes_first, next_to_deliver, first_to_deliver}
+use Rattle.rb_desk.specs.Lanes.{lane_held, birth, with_birth, better, earlier, least, spans_of}
+use Rattle.rb_desk.specs.Shown.{Belongs, IsKnown, goes_first, next_to_deliver, first_to_deliver}
 use Rattle.rb_desk.specs.Tournament.{winner_of_two, at_place, winner_from, earlier_of}
 use Rattle.rb_desk.specs.Waiting.{sooner_ticket, lane_ticket, sub_ticket}
 use Rattle.rb_desk.proofs.spans.FirstLaws.{first_goes, goes_open}
 use Rattle.rb_desk.proofs.spans.LaneLaws.{first_in_line_is}
-use Rattle.rb_desk.proofs.spans.CutLaws.{cut_none, cut_some, cut_ends}
+use Rattle.rb_desk.proofs.spans.CutLaws.{cut_none, cut_some}
 
 -- ---- one subscription
 
@@ -41,8 +41,8 @@ least_drawn front turn number (x ∷ held) h known is =
     by false o e is rest = rest h (e ∙ is)
 
 -- A ticket that was drawn by now is the one of this span; with a later one there is no span.
-abbrev pub Says : ℕ → Option Held → Ticket → Type 0
-Says front o ticket = (ticket.front ≤ front → (h : Held) × (o ≡ Some h) × (h.ticket ≡ ticket))
+abbrev pub TicketSays : ℕ → Option Held → Ticket → Type 0
+TicketSays front o ticket = (ticket.front ≤ front → (h : Held) × (o ≡ Some h) × (h.ticket ≡ ticket))
     × (front < ticket.front → o ≡ None)
 
 -- the first of the spans never taken, if it is placed
@@ -68,7 +68,7 @@ later_front a b less = grind arith
 
 lane_says : (cutting : Ticket) (next front : ℕ) (o : Option Held) (p : Option Span)
     → ((h : Held) → o ≡ Some h → h.ticket.front ≤ front) → cutting.front ≤ front → FreshIs front next p
-    → Says front (better o (option_map (with_birth cutting) p)) (sooner_ticket o (birth cutting next))
+    → TicketSays front (better o (option_map (with_birth cutting) p)) (sooner_ticket o (birth cutting next))
 lane_says cutting next front None None drawn c fresh =
     let born = ap (λ (t : Ticket). t.front) (born_high cutting next front c fresh) in
     (λ le. absurd (omega (arith, le, born, fresh)), λ lt. refl)
@@ -88,7 +88,7 @@ lane_says cutting next front (Some h) (Some p) drawn c fresh =
     by : (t : Bool)
         → (if earlier (birth cutting p.first) h.ticket then Some (with_birth cutting p) else Some h)
         ≡ (if t then Some (with_birth cutting p) else Some h)
-        → Says front (if earlier (birth cutting p.first) h.ticket then Some (with_birth cutting p) else Some h)
+        → TicketSays front (if earlier (birth cutting p.first) h.ticket then Some (with_birth cutting p) else Some h)
         (if t then birth cutting next else h.ticket)
     by true e = (
       λ le. (with_birth cutting p, e, ap (birth cutting) fresh.0),
@@ -108,19 +108,19 @@ fresh_of batch next front one = by (nat_lt front next) refl
 -- a subscription without a ticket has no span to deliver
 abbrev pub SubSays : ℕ → Option Held → Option Ticket → Type 0
 SubSays front o None = o ≡ None
-SubSays front o (Some ticket) = Says front o ticket
+SubSays front o (Some ticket) = TicketSays front o ticket
 
 sub_says : (window batch front turn number : ℕ) (sub : Sub) → 1 ≤ batch → Belongs front turn number sub
     → SubSays front (next_to_deliver window batch front sub) (sub_ticket window sub)
 sub_says window batch front turn number sub one belong =
     by (not sub.closed && nat_lt (how_many_out (spans_of sub.lane.held)) window)
-    (subst (λ o. Says front o (lane_ticket sub.lane)) (sym (first_in_line_is batch front sub.lane one))
+    (subst (λ o. TicketSays front o (lane_ticket sub.lane)) (sym (first_in_line_is batch front sub.lane one))
     (lane_says sub.lane.cutting sub.lane.next front (least sub.lane.held)
     (slice_get (cut_spans batch sub.lane.next front) 0)
     (λ h is. least_drawn front turn number sub.lane.held h belong.are_known is) belong.is_drawn.0
     (fresh_of batch sub.lane.next front one)))
   where
-    by : (t : Bool) → Says front (least (lane_held batch front sub.lane)) (lane_ticket sub.lane)
+    by : (t : Bool) → TicketSays front (least (lane_held batch front sub.lane)) (lane_ticket sub.lane)
         → SubSays front (if t then least (lane_held batch front sub.lane) else None)
         (if t then Some (lane_ticket sub.lane) else None)
     by true says = says
@@ -214,19 +214,19 @@ all_say window batch front turn number s (sub ∷ subs) one belong =
 -- ---- what the search reads
 
 -- where the winner is placed, its subscription's first in line is the span to deliver
-pub record Found (window batch front : ℕ) (subs : List Sub) (w : Winner) : Type 0 where
+pub record ToDeliver (window batch front : ℕ) (subs : List Sub) (w : Winner) : Type 0 where
   pub sub : Sub
   pub held : Held
   pub there : slice_get subs w.place ≡ Some sub
   pub first : first_to_deliver window batch front 0 subs ≡ Some (w.place, held)
   pub in_line : least (lane_held batch front sub.lane) ≡ Some held
 
-pub found_first : (window batch front turn number : ℕ) (subs : List Sub) (w : Winner) → 1 ≤ batch
+pub winner_delivers : (window batch front turn number : ℕ) (subs : List Sub) (w : Winner) → 1 ≤ batch
     → AllByRecursion (Belongs front turn number) subs → winner_from 0 (map (sub_ticket window) subs) ≡ Some w
-    → w.ticket.front ≤ front → Found window batch front subs w
-found_first window batch front turn number subs w one belong is le =
+    → w.ticket.front ≤ front → ToDeliver window batch front subs w
+winner_delivers window batch front turn number subs w one belong is le =
     let says = subst (WinSays front (first_to_deliver window batch front 0 subs)) is
-        (all_say window batch front turn number 0 subs one belong) in
+    (all_say window batch front turn number 0 subs one belong) in
     let h = says.0 le in
     let goes = first_goes window batch front 0 subs (w.place, h.0) h.1 in
     record {

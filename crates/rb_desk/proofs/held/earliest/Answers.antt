@@ -1,5 +1,4 @@
-use Rattle.std.proofs.Common.{rules, ◌≡◌, ◌∙◌, ◌+◌, [], ap, sym, drop, get_or}
-use Rattle.rb_desk.specs.declared.ticket.Held.{Held}
+use Rattle.std.proofs.Common.{rules, ◌∙◌, ◌+◌, [], ap, sym, drop, get_or}
 use Rattle.rb_desk.specs.Waiting.{earliest, first_ticket, moment_of}
 use Rattle.rb_desk.proofs.orders.MomentLaws.{earliest_out, first_assoc}
 use Rattle.rb_desk.proofs.spans.PlaceLaws.{at_places, out_there, places_step, place_within, no_held}
@@ -16,12 +15,14 @@ bounds-lane-place c =
 
 pub offset_bounds-lane-place : goal.offset_bounds-lane-place
 offset_bounds-lane-place c =
-    let within = place_within c.args.lane.now c.args.out.now c.loop-place.place-index c.requires c.loop-place-test.true in
+    let within = place_within c.args.lane.now c.args.out.now c.loop-place.place-index c.requires c.loop-place-test.true
+    in
     search (rules, within)
 
 pub loop-place-preserved : goal.loop-place-preserved
 loop-place-preserved c =
-    let within = place_within c.args.lane.now c.args.out.now c.loop-place.place-index c.requires c.loop-place-test.true in
+    let within = place_within c.args.lane.now c.args.out.now c.loop-place.place-index c.requires c.loop-place-test.true
+    in
     let found = get_or c.args.lane.now (get_or c.args.out.now c.loop-place.place-index 0) no_held in
     let rest = earliest (at_places c.args.lane.now (drop (c.loop-place.place-index + 1) c.args.out.now)) in
     ap (λ o. first_ticket o rest) (c.first_ticket-first.ensures ∙ ap (first_ticket c.loop-place.first) c.moment.ensures)

@@ -43,7 +43,8 @@ answer_line-requires g c =
 
 pub returns-in_err-answer_line : goal.returns-in_err-answer_line
 returns-in_err-answer_line g c =
-    let p = err_from_is_err_and c.from_residual-in_err-answer_line.result c.from_residual-in_err-answer_line.ensures.1 in
+    let p = err_from_is_err_and c.from_residual-in_err-answer_line.result c.from_residual-in_err-answer_line.ensures.1
+    in
     let so_far = goes_on_handed c.args.how c.args.config _ _ _ _ _ c.loop.place.number
     (place_at c.loop.place.stage c.loop.place.line.items) c.loop.count c.loop.invariant.so_far
     c.in_ok-hand_on.ensures.kept in

@@ -1,4 +1,4 @@
-use Rattle.std.proofs.Common.{◌≡◌, ◌∙◌, ◌<◌, max, map, subst, ap, sym, arith}
+use Rattle.std.proofs.Common.{◌≡◌, ◌∙◌, max, map, subst, ap, sym, arith}
 use Rattle.rb_desk.specs.Shown.{shown}
 use Rattle.rb_desk.specs.Expiry.{expired_sub, by_number, turns_from, all_due}
 use Rattle.rb_desk.specs.Waiting.{AreWaiting}
@@ -47,6 +47,10 @@ returns-clause-ok c =
 
 pub expire_due-many-requires-clause-few : goal.expire_due-many-requires-clause-few
 expire_due-many-requires-clause-few c =
-    omega (arith, few_due c.timeout-timeout.result c.max-clock.result c.self.inside.front c.self.inside.turn
-    c.self.inside.next_delivery c.self.inside.subs.items c.self.invariant.1 c.self.invariant.3.joined
-    (omega (arith, c.self.invariant.0)), c.self.invariant.2)
+    omega (
+      arith,
+      few_due c.timeout-timeout.result c.max-clock.result c.self.inside.front c.self.inside.turn
+          c.self.inside.next_delivery c.self.inside.subs.items c.self.invariant.1 c.self.invariant.3.joined
+          (omega (arith, c.self.invariant.0)),
+      c.self.invariant.2,
+    )

@@ -1,5 +1,5 @@
 use Rattle.std.proofs.Common.{◌≡◌, ◌∙◌, suc, Ok, ap, sym, subst, ◌++◌, ◌∷◌, [], length, length-append, arith}
-use Rattle.std.proofs.lemmas.List.{length-map, map-append}
+use Rattle.std.proofs.lemmas.List.{length-map}
 use Rattle.rb_desk.specs.Answers.{call_refusal}
 use Rattle.rb_desk.specs.Calls.{subscribe}
 use Rattle.rb_desk.specs.Shown.{shown, shown_sub, new_sub}
@@ -27,10 +27,10 @@ invariant_of-self-2 c =
     ∙ ap (λ turn. new_sub c.args.start c.self.inside.next_link
     (record { front = c.self.inside.front; turn = turn })) c.in_ok-turn.ensures) i ∷ []) in
     let new : c.behind-made.result ≡ new_sub c.args.start c.self.inside.next_link
-        (record { front = c.self.inside.front; turn = suc c.self.inside.turn }) =
-        c.behind-made.ensures
-        ∙ ap (λ turn. new_sub c.args.start c.self.inside.next_link (record { front = c.self.inside.front; turn = turn }))
-        c.in_ok-turn.ensures in
+    (record { front = c.self.inside.front; turn = suc c.self.inside.turn }) =
+    c.behind-made.ensures
+    ∙ ap (λ turn. new_sub c.args.start c.self.inside.next_link (record { front = c.self.inside.front; turn = turn }))
+    c.in_ok-turn.ensures in
     rw (made, c.in_ok-turn.ensures) (
       c.self.invariant.0,
       belongs_subscribed c.self.inside.front c.self.inside.turn c.self.inside.next_link

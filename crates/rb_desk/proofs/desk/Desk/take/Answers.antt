@@ -1,4 +1,4 @@
-use Rattle.std.proofs.Common.{◌<◌, ◌∙◌, suc, length, map, List, ap, sym, subst, arith}
+use Rattle.std.proofs.Common.{◌<◌, suc, length, List, sym, subst, arith}
 use Rattle.std.proofs.lemmas.Option.{slice_get_within}
 use Rattle.rb_desk.specs.declared.sub.Sub.{Sub}
 use Rattle.rb_desk.specs.Shown.{Belongs, IsToTake}
@@ -25,7 +25,8 @@ deliver-requires c =
         within,
         omega (
           arith,
-          may_go_span d.config.batch d.front (suc t.sub.lane.floor) t.sub.lane c.in_ok-span.span c.self.invariant.0.0 next
+          may_go_span d.config.batch d.front (suc t.sub.lane.floor) t.sub.lane c.in_ok-span.span c.self.invariant.0.0
+              next
               t.joined may,
           c.self.invariant.0,
         ),
@@ -64,4 +65,5 @@ returns c =
     let call = taken d.config d.front d.closing d.clock d.next_link d.next_delivery d.subs.items c.args.sub t.sub
     t.found c.args.link c.args.cursor c.args.now t.linked t.is_open t.room c.in_ok-span.span t.first in
     rw (← c.self.view_is, call) (delivered_answers d.config d.front d.turn d.next_delivery d.subs.items c.args.sub t.sub
-    found d.closing d.next_link c.in_ok-span.span d.clock c.args.now _ _ _ c.deliver.result may c.deliver.ensures.delivered)
+    found d.closing d.next_link c.in_ok-span.span d.clock c.args.now _ _ _ c.deliver.result may
+    c.deliver.ensures.delivered)

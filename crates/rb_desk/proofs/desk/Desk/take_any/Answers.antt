@@ -1,4 +1,4 @@
-use Rattle.std.proofs.Common.{◌≡◌, ◌∙◌, ◌<◌, suc, length, Some, None, ap, map, sym, refl, subst, arith, List, option_map}
+use Rattle.std.proofs.Common.{◌≡◌, ◌∙◌, ◌<◌, suc, length, Some, None, sym, refl, subst, arith, List, option_map}
 use Rattle.std.proofs.lemmas.Option.{slice_get_within}
 use Rattle.rb_desk.specs.declared.sub.Sub.{Sub}
 use Rattle.rb_desk.specs.Shown.{Belongs, IsJoinedAt, first_to_deliver, span_to_deliver}
@@ -42,16 +42,17 @@ deliver-requires c =
     let within : c.in-Some.sub < length c.self.inside.subs.items =
     slice_get_within c.self.inside.subs.items c.in-Some.sub g.sub g.opened.found in record {
       span = (
-      within,
-      omega (
-        arith,
-        may_go_span c.self.inside.config.batch c.self.inside.front (suc g.sub.lane.floor) g.sub.lane
-            c.in-Some.span c.self.invariant.0.0 next g.opened.joins (goes_may c.self.inside.config c.self.inside.front
-            c.self.inside.turn c.self.inside.next_delivery c.self.inside.subs.items c.in-Some.sub c.in-Some.span g),
-        c.self.invariant.0,
-      ),
-    );
-      waiting = subst (λ w. AreWaiting w c.self.inside.subs.items c.self.inside.line c.self.inside.moments) (sym c.window.ensures)
+        within,
+        omega (
+          arith,
+          may_go_span c.self.inside.config.batch c.self.inside.front (suc g.sub.lane.floor) g.sub.lane
+              c.in-Some.span c.self.invariant.0.0 next g.opened.joins (goes_may c.self.inside.config c.self.inside.front
+              c.self.inside.turn c.self.inside.next_delivery c.self.inside.subs.items c.in-Some.sub c.in-Some.span g),
+          c.self.invariant.0,
+        ),
+      );
+      waiting = subst (λ w. AreWaiting w c.self.inside.subs.items c.self.inside.line c.self.inside.moments) (sym
+          c.window.ensures)
           c.self.invariant.3;
     }
 

@@ -28,7 +28,8 @@ invariant_of-self c =
           c.args.sub c.self.inside.subs.items c.in-Some.found.now c.self.invariant.1 here
           (subst (λ (sub : Sub). AreJoined sub.lane) same c.close.ensures.joined),
       few_set c.self.inside.subs.items c.args.sub _ c.self.invariant.2,
-      waiting_as c.window.result c.self.inside.config.window c.args.sub c.self.inside.subs.items _ _ _ c.self.inside.line
+      waiting_as c.window.result c.self.inside.config.window c.args.sub c.self.inside.subs.items _ _ _
+          c.self.inside.line
           c.self.inside.moments _ _ c.window.ensures c.self.invariant.3 (slice_get_within c.self.inside.subs.items
           c.args.sub c.in-Some.found.now here) c.deref-2.ensures.value made c.stand.ensures,
     )
