@@ -69,7 +69,7 @@ fails 'bench/pieces/run.sh, nothing is made' 'no program' sh bench/pieces/run.sh
 # The program only exits.
 make "$program" "$exits"
 fails 'run.sh, a program that only exits' 'checks failed' sh checks/run.sh
-fails 'refused/run.sh, a program that only exits' '3 failures' sh refused/run.sh
+fails 'refused/run.sh, a program that only exits' '4 failures' sh refused/run.sh
 fails 'bench/script.sh, a program that only exits' '0 answers' sh bench/script.sh
 make "$program" '#!/bin/sh'
 fails 'replicate/run.sh, a program that only exits' 'the broker has ended' sh examples/replicate/run.sh
@@ -84,7 +84,7 @@ int main(int count, char **words) {
 }
 END
 gcc -static "$work/static.c" -o "$program" || exit 2
-fails 'refused/run.sh, malloc is not intercepted' '3 failures' sh refused/run.sh
+fails 'refused/run.sh, malloc is not intercepted' '4 failures' sh refused/run.sh
 grep -q 'no allocation was seen' "$work/out" || { echo 'FAILED: no word of allocations'; bad=$((bad + 1)); }
 
 # Tests: none, malloc isn't intercepted, one that fails by itself.
@@ -117,6 +117,7 @@ cat >"$work/none.c" <<'END'
 long changeset_check(void) { return 0; }
 long changeset_canonical(void) { return 0; }
 long changeset_combine(void) { return 0; }
+long changeset_invert(void) { return 0; }
 END
 gcc -c "$work/none.c" -o "$work/none.o" && ar cr crates/changeset_c/out/libchangeset_c.a "$work/none.o" || exit 2
 fails 'header.sh, no toolchain' 'no .*liblibc_c' sh checks/header.sh
