@@ -1,0 +1,4 @@
+pub mod ItemLaws
+pub mod Views
+pub mod RuleLaws
+pub mod PopLaws

@@ -1,0 +1,95 @@
+-- The rule of an intake: what holds, between any two steps of any threads, of the items that wait
+-- and of what the passes know.
+use Rattle.std.specs.Prelude.{◌≡◌, ℕ, suc, ◌<◌, ◌≤◌, List, [], ◌∷◌, ◌++◌, Option, Some, None}
+use Rattle.std.specs.List.{AllByRecursion}
+use mathlib.Core.Option.{some}
+use lib.ListN.{get_elem?}
+use Rattle.rb_sequence.specs.declared.item.Item.{Item}
+use Rattle.rb_sequence.specs.Items.{own_of, AreNumbered}
+use Rattle.rb_intake.specs.declared.known.Known.{Known}
+use Rattle.rb_intake.specs.declared.known.Known.TheVariants.{Starts, Makes, Sends, Pulls, Spent}
+
+-- What happened to an intake: all items that were sent, in the order in which they came in, and
+-- those of them that were pulled. The numbers of the passes: the sequencer's, the maker's, and that
+-- of each publisher that may still send. How many publishers were made.
+pub record History : Type 0 where
+  pub sent : List Item
+  pub pulled : List Item
+  pub reader : ℕ
+  pub maker : ℕ
+  pub made : ℕ
+  pub pass_of : ℕ → Option ℕ
+
+-- a publisher whose pass was joined sends nothing more, and what it sent is known
+abbrev pub HasEnded : History → ℕ × List Item → Type 0
+HasEnded h e = (h.pass_of e.0 ≡ None) × (e.0 < h.made) × (e.1 ≡ own_of e.0 h.sent)
+
+-- what the pass with this number knows is so
+abbrev pub IsSo : History → ℕ → Known → Type 0
+IsSo h pass Starts = (pass ≡ h.reader) × (pass ≡ h.maker) × (h.made ≡ 0) × (h.sent ≡ [])
+IsSo h pass (Makes n) = (pass ≡ h.maker) × (n ≡ h.made)
+IsSo h pass (Sends p items) = (h.pass_of p ≡ Some pass) × (items ≡ own_of p h.sent) × (p < h.made)
+IsSo h pass (Pulls items ended) = (pass ≡ h.reader) × (items ≡ h.pulled)
+    × AllByRecursion (HasEnded h) ended
+IsSo h pass Spent = Unit {0}
+
+-- What was sent is what was pulled, then what waits. Each publisher's own numbers count from 1.
+-- Nobody sends under a number that wasn't given out. What each pass knows is so.
+pub record Fits (h : History) (waiting : List Item) (views : List Known) : Type 0 where
+  pub waits : h.sent ≡ h.pulled ++ waiting
+  pub numbered : (p : ℕ) → AreNumbered 1 (own_of p h.sent)
+  pub later : (p : ℕ) → h.made ≤ p → (h.pass_of p ≡ None) × (own_of p h.sent ≡ [])
+  pub known : (pass : ℕ) (v : Known) → get_elem? views pass ≡ some v → IsSo h pass v
+
+abbrev pub Holds : List Item → List Known → Type 0
+Holds waiting views = (h : History) × Fits h waiting views
+
+-- ---- what the kinds of step do to what a pass knows
+
+-- one more publisher is made, which has sent nothing
+abbrev pub made_one : Known → Known
+made_one (Makes n) = Makes (suc n)
+made_one v = v
+
+abbrev pub newcomer : Known → Known
+newcomer (Makes n) = Sends n []
+newcomer v = Spent
+
+-- the first pass becomes the sequencer's, and another the maker's
+abbrev pub begun : Known → Known
+begun v = Pulls [] []
+
+abbrev pub maker : Known → Known
+maker v = Makes 0
+
+-- an item is sent, or pulled
+abbrev pub sent_one : Known → Item → Known
+sent_one (Sends p items) x = Sends p (items ++ x ∷ [])
+sent_one v x = v
+
+abbrev pub pulled_one : Known → Item → Known
+pulled_one (Pulls items ended) x = Pulls (items ++ x ∷ []) ended
+pulled_one v x = v
+
+-- the sequencer's pass joins a publisher's
+abbrev pub joined : Known → Known → Known
+joined (Pulls items ended) (Sends p sent) = Pulls items (ended ++ (p, sent) ∷ [])
+joined v w = v
+
+-- ---- what a pass knows, in parts
+
+abbrev pub sent_in : Known → List Item
+sent_in (Sends p items) = items
+sent_in v = []
+
+abbrev pub pulled_in : Known → List Item
+pulled_in (Pulls items ended) = items
+pulled_in v = []
+
+abbrev pub ended_in : Known → List (ℕ × List Item)
+ended_in (Pulls items ended) = ended
+ended_in v = []
+
+-- what a joined publisher sent was pulled or waits
+abbrev pub IsPulledOr : List Item → List Item → ℕ × List Item → Type 0
+IsPulledOr pulled waiting e = e.1 ≡ own_of e.0 (pulled ++ waiting)

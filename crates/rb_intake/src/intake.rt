@@ -1,0 +1,126 @@
+//! `Intake`: the queue between publishers and the sequencer.
+
+ghost use Rattle.std.specs.Prelude.{◌≡◌, ◌<◌, ◌++◌, ◌∷◌, [], ℕ, suc, length, IfOk, IfErr, OnOk};
+ghost use Rattle.std.specs.Prelude.{OnErr, MatchOption};
+ghost use Rattle.rb_sequence.specs.Items.{own_of, AreNumbered};
+ghost use Rattle.rb_intake.specs.Passes.{IsAllPulled};
+
+use crate::passes::{MakerPass, PublisherPass, SequencerPass};
+use crate::rule::{Begin, Make, Pop, Push, Queue, TakeIn};
+use rb_sequence::Item;
+use std::alloc::{AllocError, Global};
+use std::marker::Model;
+use std::sync::Wait;
+
+/// A queue of items on their way from publishers to the sequencer, shared by all threads. Who may do
+/// what with it is settled by passes.
+#[derive(Drop)]
+pub struct Intake {
+    queue: Queue,
+}
+
+impl Model for Intake {
+    ghost use Rattle.crossbeam_queue.specs.Passes.{ruled_capacity};
+    ghost use Rattle.rb_intake.specs.Passes.{IntakeSeen, intake_code};
+
+    ghost Value = { IntakeSeen };
+
+    ghost coded = { intake_code };
+
+    ghost view = { λ i. record {
+      queue = i.queue.table.shared.table_id;
+      capacity = ruled_capacity i.queue;
+    } };
+}
+
+impl Intake {
+    /// An intake in which at most `capacity` items wait, with the passes of the sequencer and of the
+    /// maker of publishers. Returns `AllocError` if memory runs out.
+    pub fn new(
+        alloc: Global,
+        capacity: usize,
+    ) -> Result<(Intake, SequencerPass, MakerPass), AllocError>
+        requires { 0 < capacity }
+        ensures intake { IfOk result (λ r. r.0.capacity ≡ capacity) }
+        ensures sequencer { IfOk result (λ r. r.1
+            ≡ record { queue = r.0.queue; pulled = []; ended = [] }) }
+        ensures maker { IfOk result (λ r. r.2 ≡ record { queue = r.0.queue; made = 0 }) }
+    {
+        let (queue, mut seat) = Queue::ruled(alloc, capacity)?;
+        let maker = queue.another::<Begin>(&mut seat);
+        let intake = Intake { queue };
+        Ok((
+            intake,
+            SequencerPass { seat },
+            MakerPass {
+                made: 0,
+                seat: maker,
+            },
+        ))
+    }
+
+    /// A pass for one more publisher, which has sent nothing.
+    pub fn publisher(&self, maker: &mut MakerPass) -> PublisherPass
+        requires queue { maker.old.queue ≡ self.now.queue }
+        requires few { suc maker.old.made < 18446744073709551616 }
+        ensures pass { result ≡ record {
+          queue = self.now.queue;
+          publisher = maker.old.made;
+          sent = [];
+        } }
+        ensures maker { maker.new ≡ record maker.old { made = suc maker.old.made } }
+    {
+        let publisher = maker.made;
+        let seat = self.queue.another::<Make>(&mut maker.seat);
+        maker.made += 1;
+        PublisherPass {
+            publisher,
+            count: 0,
+            seat,
+        }
+    }
+
+    /// Sends an item: it waits after those that wait.
+    ///
+    /// Returns the item if the intake was full at one moment of the call.
+    pub fn push<R: Wait>(&self, rt: &R, pass: &mut PublisherPass, item: Item) -> Result<(), Item>
+        requires queue { pass.old.queue ≡ self.now.queue }
+        requires publisher { item.publisher ≡ pass.old.publisher }
+        requires own { item.own ≡ suc (length pass.old.sent) }
+        ensures ok { OnOk result (pass.new
+            ≡ record pass.old { sent = pass.old.sent ++ item ∷ [] }) }
+        ensures err { OnErr result (pass.new ≡ pass.old) }
+        ensures full { IfErr result (λ back. back ≡ item) }
+    {
+        let own = item.own;
+        self.queue.push_as::<Push, R>(rt, &mut pass.seat, item)?;
+        pass.count = own;
+        Ok(())
+    }
+
+    /// Pulls the item that waits first. Each publisher's own numbers count from 1 in what was
+    /// pulled.
+    ///
+    /// Returns `None` if the intake was empty at one moment of the call. What the publishers sent
+    /// whose passes were joined is all pulled then.
+    pub fn pop<R: Wait>(&self, rt: &R, pass: &mut SequencerPass) -> Option<Item>
+        requires queue { pass.old.queue ≡ self.now.queue }
+        ensures item { MatchOption result ((pass.new ≡ pass.old) × IsAllPulled pass.new)
+            (λ item. pass.new ≡ record pass.old { pulled = pass.old.pulled ++ item ∷ [] }) }
+        ensures numbered { (p : ℕ) → AreNumbered 1 (own_of p pass.new.pulled) }
+    {
+        self.queue.pop_as::<Pop, R>(rt, &mut pass.seat)
+    }
+
+    /// Takes in the pass of a publisher that sends nothing more.
+    pub fn join(&self, pass: &mut SequencerPass, publisher: PublisherPass)
+        requires queue { pass.old.queue ≡ self.now.queue }
+        requires publisher { publisher.queue ≡ self.now.queue }
+        ensures { pass.new ≡ record pass.old {
+          ended = pass.old.ended ++ (publisher.publisher, publisher.sent) ∷ [];
+        } }
+    {
+        self.queue
+            .absorb::<TakeIn>(&mut pass.seat, publisher.seat);
+    }
+}
