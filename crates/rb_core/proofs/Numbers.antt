@@ -6,7 +6,7 @@ use Rattle.std.specs.Slice.{IsItemAt}
 use Rattle.std.proofs.lemmas.Bool.{ltb-true, ltb-false}
 use Rattle.std.proofs.lemmas.Bool.Decides.{eqb_tells}
 use Rattle.std.proofs.lemmas.Option.{slice_get_past, slice_get_read, slice_get_within}
-use Rattle.rb_core.specs.State.{AreNumbered}
+use Rattle.rb_sequence.specs.Items.{AreNumbered}
 
 -- one more comes behind, under the next number
 pub numbered_push : {A : Type 0} (number : A → ℕ) (n : ℕ) (xs : List A) (x : A) → AreNumbered number n xs → number x ≡ n

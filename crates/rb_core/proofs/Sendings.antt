@@ -9,7 +9,8 @@ use Rattle.rb_desk.proofs.pictures.PictureLaws.{get_set, get_set_other}
 use Rattle.rb_sequence.specs.declared.item.Item.{Item}
 use Rattle.rb_sequence.specs.Entry.{Entry}
 use Rattle.rb_core.specs.World.{Sender, World, world_begun}
-use Rattle.rb_core.specs.Moves.{Leads, items_of, own_of}
+use Rattle.rb_core.specs.Moves.{Leads, items_of}
+use Rattle.rb_sequence.specs.Items.{own_of}
 use Rattle.rb_core.specs.Moves.{IsFront, IsIn, IsSending}
 use Rattle.rb_core.proofs.Moving.{MovingKeeps, kept_through}
 

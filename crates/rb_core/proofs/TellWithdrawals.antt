@@ -16,7 +16,8 @@ use Rattle.rb_core.specs.declared.reply.Reply.TheVariants as reply
 use Rattle.rb_core.specs.Moves.{Withdraws, IsNew}
 use Rattle.rb_core.specs.Outcome as out
 use Rattle.rb_core.specs.Outcome.{entry_of}
-use Rattle.rb_core.specs.State.{State, AreNumbered, IsWorld, is_withdrawn, with_mark}
+use Rattle.rb_core.specs.State.{State, IsWorld, is_withdrawn, with_mark}
+use Rattle.rb_sequence.specs.Items.{AreNumbered}
 use Rattle.rb_core.specs.Told as say
 use Rattle.rb_core.specs.Told.{IsSender, IsToldBy}
 use Rattle.rb_core.specs.World.{Sender, World}

@@ -3,7 +3,8 @@ use Rattle.std.specs.Prelude.{◌≡◌, ℕ, true, List, take, Some, slice_get}
 use Rattle.cs_model.specs.declared.shape.Shape.{Shape}
 use Rattle.rb_sequence.specs.Entry.{Entry}
 use Rattle.rb_core.specs.declared.event.Event.{Event}
-use Rattle.rb_core.specs.Moves.{HasRun, HasSingleTables, StaysClosed, items_of, own_of, IsFront}
+use Rattle.rb_core.specs.Moves.{HasRun, HasSingleTables, StaysClosed, items_of, IsFront}
+use Rattle.rb_sequence.specs.Items.{own_of}
 use Rattle.rb_core.specs.Moves.{IsSending}
 use Rattle.rb_core.specs.Run.{Answer}
 use Rattle.rb_core.specs.State.{State, empty_tables}

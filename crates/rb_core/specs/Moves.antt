@@ -1,8 +1,8 @@
 -- Moves of the abstract world: what may happen at once. Refusals, acknowledgements, returned
 -- deliveries and expiries change nothing here.
-use Rattle.std.specs.Prelude.{◌≡◌, ◌==◌, ℕ, suc, ◌<◌, ◌≤◌, ◌⊎◌, true, false, map, List, []}
+use Rattle.std.specs.Prelude.{◌≡◌, ℕ, suc, ◌<◌, ◌≤◌, ◌⊎◌, true, false, map, List, []}
 use Rattle.std.specs.Prelude.{◌∷◌, ◌++◌, length, Some, None, slice_get, slice_set}
-use Rattle.std.specs.List.{AllByRecursion, filter}
+use Rattle.std.specs.List.{AllByRecursion}
 use Rattle.cs_model.specs.declared.origin.Origin.{Origin}
 use Rattle.cs_model.specs.declared.origin.Origin.TheVariants as origin
 use Rattle.cs_model.specs.Section.{Section}
@@ -226,12 +226,9 @@ pub record StaysClosed (q r : Subscriber) : Type 0 where
   pub accepted : r.accepted ≡ q.accepted
   pub tables : r.tables ≡ q.tables
 
--- the items of entries, and those of one publisher
+-- the items of entries
 abbrev pub items_of : List Entry → List Item
 items_of entries = map (λ entry. entry.item) entries
-
-abbrev pub own_of : ℕ → List Item → List Item
-own_of p items = filter (λ item. item.publisher == p) items
 
 -- an item is a publisher's sending: what it sent under the item's own number, which counts from 1
 abbrev pub IsSending : Sender → Item → Type 0

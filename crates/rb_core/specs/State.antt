@@ -16,6 +16,7 @@ use Rattle.rb_desk.specs.Picture.{Picture, empty_picture, picture_code}
 use Rattle.rb_sequence.specs.contracts.item.Item as item
 use Rattle.rb_sequence.specs.declared.item.Item.{Item}
 use Rattle.rb_sequence.specs.Entry.{Entry, entry_code}
+use Rattle.rb_sequence.specs.Items.{AreNumbered}
 use Rattle.rb_subscriber.specs.Endpoint.{Endpoint, endpoint_code}
 use Rattle.rb_core.specs.contracts.publisher.Publisher as publisher
 use Rattle.rb_core.specs.declared.publisher.Publisher.{Publisher}
@@ -76,11 +77,6 @@ with_mark (suc place) (flag ∷ flags) = flag ∷ with_mark place flags
 -- an endpoint as the desk sees its subscription
 abbrev pub member_of_end : Endpoint → Member
 member_of_end e = record { start = e.start; link = e.link; closed = e.closed }
-
--- the items are numbered from n
-abbrev pub AreNumbered : {A : Type 0} → (A → ℕ) → ℕ → List A → Type 0
-AreNumbered number n [] = Unit {0}
-AreNumbered number n (x ∷ rest) = (number x ≡ n) × AreNumbered number (suc n) rest
 
 -- the delivery's subscription exists, and its numbers are placed
 abbrev pub IsOf : List Endpoint → List Entry → Delivery → Type 0

@@ -4,7 +4,8 @@
 
 ghost use Rattle.std.specs.Prelude.{◌≡◌, ◌≤◌, ℕ, true, length, List, Some, slice_get};
 ghost use Rattle.cs_apply.specs.Columns.{HaveColumns};
-ghost use Rattle.rb_core.specs.Moves.{Leads, HasRun, StaysClosed, items_of, own_of, IsFront};
+ghost use Rattle.rb_core.specs.Moves.{Leads, HasRun, StaysClosed, items_of, IsFront};
+ghost use Rattle.rb_sequence.specs.Items.{own_of};
 ghost use Rattle.rb_core.specs.Moves.{HasSingleTables, IsSending};
 ghost use Rattle.rb_core.specs.World.{Sender, Subscriber, World, world_begun};
 ghost use Rattle.rb_sequence.specs.Entry.{Entry};

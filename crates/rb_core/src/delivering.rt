@@ -6,7 +6,8 @@ ghost use Rattle.rb_core.specs.Outcome.{delivery_of};
 ghost use Rattle.rb_core.specs.Memory.{MayRunOut};
 ghost use Rattle.rb_core.specs.Outcome as outcome;
 ghost use Rattle.rb_core.specs.declared.event.Event.TheVariants as event;
-ghost use Rattle.rb_core.specs.State.{AreNumbered, IsOf, IsWorld};
+ghost use Rattle.rb_core.specs.State.{IsOf, IsWorld};
+ghost use Rattle.rb_sequence.specs.Items.{AreNumbered};
 
 use crate::parts::Parts;
 use crate::reply::{BrokerRefusal, Reply};

@@ -3,7 +3,8 @@
 ghost use Rattle.std.specs.Prelude.{◌≡◌, ℕ, true, List, Some, IfOk, slice_get, take};
 ghost use Rattle.std.specs.List.{AllByRecursion};
 ghost use Rattle.cs_model.specs.Bytes.{AreBytes};
-ghost use Rattle.rb_core.specs.Moves.{HasRun, HasSingleTables, StaysClosed, items_of, own_of};
+ghost use Rattle.rb_core.specs.Moves.{HasRun, HasSingleTables, StaysClosed, items_of};
+ghost use Rattle.rb_sequence.specs.Items.{own_of};
 ghost use Rattle.rb_core.specs.Moves.{IsFront, IsSending};
 ghost use Rattle.rb_core.specs.Run.{Run, FeedsBytes};
 ghost use Rattle.rb_core.specs.State.{empty_tables, empty_world};

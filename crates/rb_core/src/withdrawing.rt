@@ -11,7 +11,8 @@ ghost use Rattle.rb_core.specs.Outcome.{entry_of};
 ghost use Rattle.rb_core.specs.declared.event.Event.TheVariants as event;
 ghost use Rattle.rb_core.specs.declared.publisher.Publisher.{Publisher};
 ghost use Rattle.rb_sequence.specs.Entry.{Entry};
-ghost use Rattle.rb_core.specs.State.{AreNumbered, IsWorld, is_withdrawn, with_mark};
+ghost use Rattle.rb_core.specs.State.{IsWorld, is_withdrawn, with_mark};
+ghost use Rattle.rb_sequence.specs.Items.{AreNumbered};
 
 use crate::parts::Parts;
 use crate::publisher::Staged;

@@ -161,7 +161,8 @@ impl Config {
 
     /// The most changesets that wait to be placed, 1 to 4,096.
     pub fn intake(&self) -> u64
-        ensures { result ≡ self.now.intake }
+        ensures value { result ≡ self.now.intake }
+        ensures range { (1 ≤ result) × (result ≤ 4096) }
     {
         self.intake
     }

@@ -4,7 +4,14 @@ use Rattle.std.proofs.lemmas.Bool.Decides.{eqb_tells}
 use Rattle.std.proofs.lemmas.List.Elements.{filter-append}
 use Rattle.std.proofs.lemmas.List.{append-nil}
 use Rattle.rb_sequence.specs.declared.item.Item.{Item}
-use Rattle.rb_sequence.specs.Items.{own_of, AreNumbered}
+use Rattle.rb_sequence.specs.Items.{own_of, AreNumbered, CountsUp}
+
+-- own numbers count up from 1, or from n
+abbrev pub CountsFrom : ℕ → List Item → Type 0
+CountsFrom n items = AreNumbered (λ (item : Item). item.own) n items
+
+abbrev pub Counts : List Item → Type 0
+Counts items = CountsFrom 1 items
 
 pub own_append : (p : ℕ) (items more : List Item) → own_of p (items ++ more) ≡ own_of p items ++ own_of p more
 own_append p items more = filter-append (λ (i : Item). i.publisher == p) items more
@@ -29,17 +36,17 @@ own_other p items x isnt = own_append p items (x ∷ [])
       | inr other ↦ other.0
     ]
 
-pub numbered_more : (n : ℕ) (items : List Item) (x : Item) → AreNumbered n items → x.own ≡ n + length items
-    → AreNumbered n (items ++ x ∷ [])
+pub numbered_more : (n : ℕ) (items : List Item) (x : Item) → CountsFrom n items → x.own ≡ n + length items
+    → CountsFrom n (items ++ x ∷ [])
 numbered_more n [] x all own = (omega (arith, own), tt)
 numbered_more n (first ∷ items) x all own = (all.0, numbered_more (suc n) items x all.1 (omega (arith, own)))
 
-pub numbered_front : (n : ℕ) (items more : List Item) → AreNumbered n (items ++ more) → AreNumbered n items
+pub numbered_front : (n : ℕ) (items more : List Item) → CountsFrom n (items ++ more) → CountsFrom n items
 numbered_front n [] more all = tt
 numbered_front n (item ∷ items) more all = (all.0, numbered_front (suc n) items more all.1)
 
 -- what was pulled is numbered, if all that was sent is
-pub numbered_pulled : (p : ℕ) (sent pulled waiting : List Item) → sent ≡ pulled ++ waiting → AreNumbered 1 (own_of p sent)
-    → AreNumbered 1 (own_of p pulled)
+pub numbered_pulled : (p : ℕ) (sent pulled waiting : List Item) → sent ≡ pulled ++ waiting → CountsUp p sent
+    → CountsUp p pulled
 numbered_pulled p sent pulled waiting is all = numbered_front 1 (own_of p pulled) (own_of p waiting)
-    (subst (λ xs. AreNumbered 1 xs) (ap (own_of p) is ∙ own_append p pulled waiting) all)
+    (subst Counts (ap (own_of p) is ∙ own_append p pulled waiting) all)

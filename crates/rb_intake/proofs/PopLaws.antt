@@ -6,7 +6,7 @@ use Rattle.std.proofs.lemmas.List.{append-nil}
 use Rattle.atomic_table.specs.Seated.{TableId}
 use Rattle.crossbeam_queue.specs.Fifo.{Held}
 use Rattle.rb_sequence.specs.declared.item.Item.{Item}
-use Rattle.rb_sequence.specs.Items.{own_of, AreNumbered}
+use Rattle.rb_sequence.specs.Items.{own_of, CountsUp}
 use Rattle.rb_intake.specs.declared.known.Known.{Known}
 use Rattle.rb_intake.specs.declared.known.Known.TheVariants.{Pulls}
 use Rattle.rb_intake.specs.Passes.{SequencerKnows, IsAllPulled}
@@ -29,7 +29,7 @@ pub pop_tells : (before after : TableId) (old new : Known) (result : Option Item
     → old ≡ Pulls (pulled_in old) (ended_in old)
     → MatchOption result
     ((new ≡ old) × Held 0 (λ items. AllByRecursion (IsPulledOr (pulled_in old) items) (ended_in old)))
-    (λ item. (new ≡ pulled_one old item) × ((p : ℕ) → AreNumbered 1 (own_of p (pulled_in new))))
+    (λ item. (new ≡ pulled_one old item) × ((p : ℕ) → CountsUp p (pulled_in new)))
     → Popped after new (seen_by before old) result
 pop_tells before after old new None same is told =
     let items = no_items told.1.0 told.1.1 in

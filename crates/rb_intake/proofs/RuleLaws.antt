@@ -7,13 +7,13 @@ use lib.ListN.{get_elem?}
 use Rattle.crossbeam_queue.specs.Fifo.{Pushes, Pops, Forks, Merges, Learns}
 use Rattle.crossbeam_queue.proofs.Lists.{at_set}
 use Rattle.rb_sequence.specs.declared.item.Item.{Item}
-use Rattle.rb_sequence.specs.Items.{own_of, AreNumbered}
+use Rattle.rb_sequence.specs.Items.{own_of, CountsUp}
 use Rattle.rb_intake.specs.declared.known.Known.{Known}
 use Rattle.rb_intake.specs.declared.known.Known.TheVariants.{Starts, Makes, Sends, Pulls, Spent}
 use Rattle.rb_intake.specs.Rule.{History, HasEnded, IsSo, Fits, Holds, made_one, newcomer, begun, maker, sent_one}
 use Rattle.rb_intake.specs.Rule.{pulled_one, joined, pulled_in, ended_in, IsPulledOr}
 use Rattle.rb_intake.proofs.Views.{Each, each_set, each_more, with_one, here, elsewhere, all_weaker, all_more}
-use Rattle.rb_intake.proofs.ItemLaws.{own_append, own_more, own_other, numbered_more, numbered_pulled}
+use Rattle.rb_intake.proofs.ItemLaws.{Counts, own_append, own_more, own_other, numbered_more, numbered_pulled}
 
 -- ---- the first pass
 
@@ -135,13 +135,13 @@ push_others h pass p x mine below is j (Pulls items ended) isnt was = (
 push_others h pass p x mine below is j Spent isnt was = tt
 
 numbered_after : (h : History) (p : ℕ) (x : Item) → x.publisher ≡ p → x.own ≡ suc (length (own_of p h.sent))
-    → ((q : ℕ) → AreNumbered 1 (own_of q h.sent)) → (q : ℕ) → AreNumbered 1 (own_of q (h.sent ++ x ∷ []))
-numbered_after h p x is own all q = elim (eqb_tells p q) as (λ w. AreNumbered 1 (own_of q (h.sent ++ x ∷ []))) [
+    → ((q : ℕ) → CountsUp q h.sent) → (q : ℕ) → CountsUp q (h.sent ++ x ∷ [])
+numbered_after h p x is own all q = elim (eqb_tells p q) as (λ w. CountsUp q (h.sent ++ x ∷ [])) [
   | inl same ↦
-      subst (AreNumbered 1) (sym (own_more q h.sent x (is ∙ same.1)))
+      subst Counts (sym (own_more q h.sent x (is ∙ same.1)))
       (numbered_more 1 (own_of q h.sent) x (all q)
       (let at = own ∙ ap (λ r. suc (length (own_of r h.sent))) same.1 in omega (arith, at)))
-  | inr other ↦ subst (AreNumbered 1) (sym (own_other q h.sent x (λ e. other.1 (sym is ∙ e)))) (all q)
+  | inr other ↦ subst Counts (sym (own_other q h.sent x (λ e. other.1 (sym is ∙ e)))) (all q)
 ]
 
 pub pushes : (room pass : ℕ) (v : Known) (x : Item) (p : ℕ) (items : List Item) → v ≡ Sends p items → x.publisher ≡ p
@@ -177,7 +177,7 @@ pull_others h pass x reader j (Pulls items ended) isnt was = absurd (isnt (was.0
 pull_others h pass x reader j Spent isnt was = tt
 
 pub pulls : (pass : ℕ) (v : Known) (items : List Item) (ended : List (ℕ × List Item)) → v ≡ Pulls items ended
-    → Pops Holds pass v (λ x w. (w ≡ pulled_one v x) × ((p : ℕ) → AreNumbered 1 (own_of p (pulled_in w))))
+    → Pops Holds pass v (λ x w. (w ≡ pulled_one v x) × ((p : ℕ) → CountsUp p (pulled_in w)))
 pulls pass v items ended is x waiting views kept at =
     let h : History = kept.0 in
     let so : IsSo h pass (Pulls items ended) = kept.1.known pass (Pulls items ended) (at ∙ ap some is) in

@@ -5,7 +5,7 @@ use Rattle.std.specs.List.{AllByRecursion}
 use mathlib.Core.Option.{some}
 use lib.ListN.{get_elem?}
 use Rattle.rb_sequence.specs.declared.item.Item.{Item}
-use Rattle.rb_sequence.specs.Items.{own_of, AreNumbered}
+use Rattle.rb_sequence.specs.Items.{own_of, CountsUp}
 use Rattle.rb_intake.specs.declared.known.Known.{Known}
 use Rattle.rb_intake.specs.declared.known.Known.TheVariants.{Starts, Makes, Sends, Pulls, Spent}
 
@@ -37,7 +37,7 @@ IsSo h pass Spent = Unit {0}
 -- Nobody sends under a number that wasn't given out. What each pass knows is so.
 pub record Fits (h : History) (waiting : List Item) (views : List Known) : Type 0 where
   pub waits : h.sent ≡ h.pulled ++ waiting
-  pub numbered : (p : ℕ) → AreNumbered 1 (own_of p h.sent)
+  pub numbered : (p : ℕ) → CountsUp p h.sent
   pub later : (p : ℕ) → h.made ≤ p → (h.pass_of p ≡ None) × (own_of p h.sent ≡ [])
   pub known : (pass : ℕ) (v : Known) → get_elem? views pass ≡ some v → IsSo h pass v
 

@@ -2,7 +2,7 @@
 
 ghost use Rattle.std.specs.Prelude.{◌≡◌, ◌<◌, ◌++◌, ◌∷◌, [], ℕ, suc, length, IfOk, IfErr, OnOk};
 ghost use Rattle.std.specs.Prelude.{OnErr, MatchOption};
-ghost use Rattle.rb_sequence.specs.Items.{own_of, AreNumbered};
+ghost use Rattle.rb_sequence.specs.Items.{CountsUp};
 ghost use Rattle.rb_intake.specs.Passes.{IsAllPulled};
 
 use crate::passes::{MakerPass, PublisherPass, SequencerPass};
@@ -107,7 +107,7 @@ impl Intake {
         requires queue { pass.old.queue ≡ self.now.queue }
         ensures item { MatchOption result ((pass.new ≡ pass.old) × IsAllPulled pass.new)
             (λ item. pass.new ≡ record pass.old { pulled = pass.old.pulled ++ item ∷ [] }) }
-        ensures numbered { (p : ℕ) → AreNumbered 1 (own_of p pass.new.pulled) }
+        ensures numbered { (p : ℕ) → CountsUp p pass.new.pulled }
     {
         self.queue.pop_as::<Pop, R>(rt, &mut pass.seat)
     }

@@ -95,7 +95,7 @@ impl Model for SequencerPass {
     ghost use Rattle.rb_intake.specs.Passes.{SequencerKnows, sequencer_code};
     ghost use Rattle.rb_intake.specs.Rule.{pulled_in, ended_in};
     ghost use Rattle.rb_intake.specs.declared.known.Known.TheVariants.{Pulls};
-    ghost use Rattle.rb_sequence.specs.Items.{own_of, AreNumbered};
+    ghost use Rattle.rb_sequence.specs.Items.{CountsUp};
 
     ghost Value = { SequencerKnows };
 
@@ -109,5 +109,5 @@ impl Model for SequencerPass {
 
     ghost invariant = { λ p. (p.seat.me.1 ≡ [])
         × (known p.seat ≡ Pulls (pulled_in (known p.seat)) (ended_in (known p.seat)))
-        × ((q : ℕ) → AreNumbered 1 (own_of q (pulled_in (known p.seat)))) };
+        × ((q : ℕ) → CountsUp q (pulled_in (known p.seat))) };
 }

@@ -73,11 +73,11 @@ pub(crate) struct Pop;
 
 impl Outcome<Item, Known> for Pop {
     ghost use Rattle.std.specs.Prelude.{◌≡◌, ℕ};
-    ghost use Rattle.rb_sequence.specs.Items.{own_of, AreNumbered};
+    ghost use Rattle.rb_sequence.specs.Items.{CountsUp};
     ghost use Rattle.rb_intake.specs.Rule.{pulled_one, pulled_in};
 
     ghost then = { λ v item w. (w ≡ pulled_one v item)
-        × ((p : ℕ) → AreNumbered 1 (own_of p (pulled_in w))) };
+        × ((p : ℕ) → CountsUp p (pulled_in w)) };
 }
 
 impl Lesson<Item, Known> for Pop {

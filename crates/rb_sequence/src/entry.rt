@@ -76,6 +76,14 @@ impl Entry {
         &self.item.body
     }
 
+    /// The item that it was made from, without a copy.
+    pub fn into_item(self) -> Item
+        ensures { result ≡ self.item }
+    {
+        let Entry { item, .. } = self;
+        item
+    }
+
     /// The canonical text of its body.
     pub fn text(&self) -> &Bytes
         ensures { result.now ≡ text_of self.now.item.body }

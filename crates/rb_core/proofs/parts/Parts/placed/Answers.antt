@@ -1,6 +1,7 @@
 use Rattle.std.proofs.Common.{◌≡◌, ◌∙◌, ◌==◌, find, ap, sym, arith, subst}
 use Rattle.rb_sequence.specs.Entry.{Entry}
-use Rattle.rb_core.specs.State.{State, AreNumbered}
+use Rattle.rb_core.specs.State.{State}
+use Rattle.rb_sequence.specs.Items.{AreNumbered}
 use Rattle.rb_core.proofs.Numbers.{none_below, found_by_place}
 use Rattle.rb_core.proofs.parts.Parts.placed.Goals as goal
 

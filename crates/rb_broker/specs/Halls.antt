@@ -1,0 +1,29 @@
+-- What a new broker's parts share, and what stands for it before a broker is opened.
+use Rattle.std.specs.Prelude.{ℕ, [], refl}
+use Rattle.std.specs.Coded.{Coded, code_by, coded×}
+use Rattle.atomic_table.specs.Seated.{TableId, table_id_coded}
+use Rattle.rb_sequence.specs.Cells.{Cells, cells_code}
+
+-- a broker that was opened: the cells of its sequence, and the queue of its intake
+pub record Parts : Type 0 where
+  pub cells : Cells
+  pub queue : TableId
+
+abbrev pub parts_code : Coded Parts
+parts_code = code_by (Cells × TableId) (coded× cells_code table_id_coded)
+    (λ o. (o.cells, o.queue)) (λ p. record { cells = p.0; queue = p.1 }) (λ _. refl)
+
+-- no broker's
+abbrev pub no_cells : Cells
+no_cells = record { capacity = 0; shelves = record { tag = []; buckets = [] }; closing = 0 }
+
+abbrev pub no_queue : TableId
+no_queue = record {
+  words = 0;
+  slots = 0;
+  views_name = 0;
+  atom = 0;
+  block = 0;
+  offset = 0;
+  slot_names = [];
+}

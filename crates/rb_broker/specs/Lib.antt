@@ -1,0 +1,4 @@
+pub mod Halls
+pub mod Placing
+pub mod Publishers
+pub mod Refusing

@@ -1,0 +1,75 @@
+-- A publisher of a broker, and what it stages.
+use Rattle.std.specs.Prelude.{◌≡◌, ℕ, List, Option, Some, None, refl}
+use Rattle.std.specs.Coded.{Coded, code_by, coded×, coded_list, coded_option, coded_ℕ}
+use Rattle.cs_model.specs.contracts.origin.Origin as origin
+use Rattle.cs_model.specs.contracts.shape.Shape as shape
+use Rattle.cs_model.specs.declared.origin.Origin.{Origin}
+use Rattle.cs_model.specs.declared.origin.Origin.TheVariants.{Sent, Withdraws}
+use Rattle.cs_model.specs.declared.shape.Shape.{Shape}
+use Rattle.cs_model.specs.Section.{Section, section_code}
+use Rattle.cs_invert.specs.Inverse.{withdrawal_of}
+use Rattle.cs_parse.specs.Progress.{Progress, progress_code}
+use Rattle.rb_sequence.specs.Cells.{Cells, Seen, IsTold, seen_code}
+use Rattle.rb_sequence.specs.contracts.item.Item as item
+use Rattle.rb_sequence.specs.declared.item.Item.{Item}
+
+-- A publisher: its number, the tables of its broker, its stream, what it sent, in order, and the
+-- numbers of the entries that it withdrew, rising.
+pub record PublisherState : Type 0 where
+  pub number : ℕ
+  pub schema : List Shape
+  pub stream : Progress
+  pub sent : List Item
+  pub withdrawn : List ℕ
+
+-- A staged set: the number of the publisher that staged it, why it is sent, the changeset, and what
+-- shows the entry that it withdraws.
+pub record StagedBy : Type 0 where
+  pub publisher : ℕ
+  pub origin : Origin
+  pub body : List Section
+  pub withdraws : Option Seen
+
+-- What was fed withdraws nothing. A withdrawal of entry n shows the entry that the cell of n holds;
+-- its publisher sent that, and its body is that entry's withdrawal.
+abbrev pub WithdrawsShown : Cells → Origin → Option Seen → ℕ → List Section → Type 0
+WithdrawsShown cells Sent shown p body = shown ≡ None
+WithdrawsShown cells (Withdraws n) None p body = ⊥
+WithdrawsShown cells (Withdraws n) (Some told) p body = IsTold cells told × (told.number ≡ n)
+    × (told.entry.item.publisher ≡ p) × (body ≡ withdrawal_of told.entry.item.body)
+
+abbrev pub IsStaged : Cells → StagedBy → Type 0
+IsStaged cells s = WithdrawsShown cells s.origin s.withdraws s.publisher s.body
+
+-- the item that a staged set becomes
+abbrev pub item_of : StagedBy → ℕ → Item
+item_of s own =
+    record { publisher = s.publisher; own = own; origin = s.origin; body = s.body }
+
+-- they are stored as their parts
+abbrev pub publisher_code : Coded PublisherState
+publisher_code = code_by (ℕ × (List Shape × (Progress × (List Item × List ℕ))))
+    (coded× coded_ℕ (coded× (coded_list shape.the_row.coded) (coded× progress_code
+    (coded× (coded_list item.the_row.coded) (coded_list coded_ℕ)))))
+    (λ p. (p.number, (p.schema, (p.stream, (p.sent, p.withdrawn)))))
+    (λ p. record {
+      number = p.0;
+      schema = p.1.0;
+      stream = p.1.1.0;
+      sent = p.1.1.1.0;
+      withdrawn = p.1.1.1.1;
+    })
+    (λ _. refl)
+
+abbrev pub staged_code : Coded StagedBy
+staged_code = code_by (ℕ × (Origin × (List Section × Option Seen)))
+    (coded× coded_ℕ (coded× origin.the_row.coded
+    (coded× (coded_list section_code) (coded_option seen_code))))
+    (λ s. (s.publisher, (s.origin, (s.body, s.withdraws))))
+    (λ p. record {
+      publisher = p.0;
+      origin = p.1.0;
+      body = p.1.1.0;
+      withdraws = p.1.1.1;
+    })
+    (λ _. refl)

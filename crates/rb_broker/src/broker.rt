@@ -1,0 +1,177 @@
+//! `Broker`: what all threads share. Its lock holds the desk.
+
+ghost use Rattle.std.specs.Prelude.{◌≡◌, ◌<◌, ◌++◌, ◌∷◌, [], ℕ, IfOk, IfErr, OnOk, OnErr, MatchOption};
+ghost use Rattle.cs_parse.specs.Progress.{nothing};
+ghost use Rattle.rb_intake.specs.Passes.{IsAllPulled};
+ghost use Rattle.rb_sequence.specs.Items.{CountsUp};
+ghost use Rattle.rb_broker.specs.Placing.{ShowsEntry};
+
+use crate::hall::Hall;
+use crate::locked::Locked;
+use crate::opened::Opened;
+use crate::publisher::Publisher;
+use crate::refusal::{PlaceRefusal, RefusedItem};
+use cs_model::Schema;
+use cs_parse::PieceParser;
+use rb_desk::Config;
+use rb_intake::{Intake, MakerPass, PublisherPass, SequencerPass};
+use rb_sequence::{Entry, Item, Sequence, Told};
+use std::alloc::{AllocError, Global};
+use std::collections::BTreeSet;
+use std::marker::PhantomData;
+use std::sync::{Arc, Mutex, Wait};
+
+/// The most publishers of a broker.
+pub const MOST_PUBLISHERS: u64 = 64;
+
+// the pass that makes publishers of this broker
+#[derive(Drop)]
+struct Maker<L: Hall> {
+    pass: MakerPass,
+    of: PhantomData<L>,
+    ghost queue: { pass.queue ≡ L.queue },
+}
+
+/// A broker. Threads share it by reference.
+#[derive(Drop)]
+pub struct Broker<L: Hall> {
+    config: Config,
+    schema: Arc<Schema>,
+    sequence: Sequence,
+    intake: Intake,
+    // a pass is of one thread: it stands in a lock that nobody takes
+    maker: Mutex<Maker<L>>,
+    locked: Mutex<Locked<L>>,
+    ghost cells: { sequence ≡ L.cells },
+    ghost queue: { intake.queue ≡ L.queue },
+}
+
+/// Why `Broker::publisher` makes no publisher.
+#[derive(Clone, Copy, Debug, PartialEq, Eq)]
+pub enum AddRefusal {
+    /// There are 64 publishers.
+    TooMany,
+    /// Memory ran out.
+    Memory,
+}
+
+impl<L: Hall> Broker<L> {
+    /// Starts a broker that was opened, in a hall of its own, with the pass for its sequencer.
+    pub fn start(opened: Opened) -> (Broker<L>, SequencerPass)
+        requires cells { opened.cells ≡ L.cells }
+        requires queue { opened.queue ≡ L.queue }
+        ensures { result.1 ≡ record { queue = L.queue; pulled = []; ended = [] } }
+    {
+        let Opened {
+            config,
+            schema,
+            sequence,
+            intake,
+            sequencer,
+            maker,
+            desk,
+        } = opened;
+        let broker = Broker {
+            config,
+            schema,
+            sequence,
+            intake,
+            maker: Mutex::new(Maker {
+                pass: maker,
+                of: PhantomData,
+            }),
+            locked: Mutex::new(Locked {
+                desk,
+                of: PhantomData,
+            }),
+        };
+        (broker, sequencer)
+    }
+
+    /// Its limits.
+    pub fn config(&self) -> Config {
+        self.config
+    }
+
+    /// Its sequence, which anyone reads without waiting.
+    pub fn sequence(&self) -> &Sequence
+        ensures { result.now ≡ L.cells }
+    {
+        &self.sequence
+    }
+
+    /// Makes a publisher, with an empty stream. No other has its number.
+    ///
+    /// Refuses `TooMany` if there are 64 publishers, and `Memory`.
+    pub fn publisher(&mut self, alloc: Global) -> Result<Publisher<L>, AddRefusal>
+        ensures number { IfOk result (λ p. p.number < 64) }
+        ensures new { IfOk result (λ p. (p.stream ≡ nothing) × (p.sent ≡ []) × (p.withdrawn ≡ [])) }
+    {
+        let Ok(schema) = Arc::try_clone(&self.schema) else {
+            return Err(AddRefusal::Memory);
+        };
+        let maker = self.maker.get_mut();
+        if maker.pass.made() >= MOST_PUBLISHERS {
+            return Err(AddRefusal::TooMany);
+        }
+        Ok(Publisher {
+            schema,
+            stream: PieceParser::new(alloc),
+            pass: self.intake.publisher(&mut maker.pass),
+            withdrawn: BTreeSet::new(alloc),
+            of: PhantomData,
+        })
+    }
+
+    /// Sends an item under a publisher's pass. `Publisher::send` calls it.
+    pub(crate) fn push<R: Wait>(
+        &self,
+        rt: &R,
+        pass: &mut PublisherPass,
+        item: Item,
+    ) -> Result<(), Item>
+        requires queue { pass.old.queue ≡ L.queue }
+        requires publisher { item.publisher ≡ pass.old.publisher }
+        requires own { item.own ≡ suc (length pass.old.sent) }
+        ensures ok { OnOk result (pass.new
+            ≡ record pass.old { sent = pass.old.sent ++ item ∷ [] }) }
+        ensures err { OnErr result (pass.new ≡ pass.old) }
+        ensures full { IfErr result (λ back. back ≡ item) }
+    {
+        self.intake.push(rt, pass, item)
+    }
+
+    /// Pulls the item that waits first. `Sequencer::turn` calls it.
+    pub fn pull<R: Wait>(&self, rt: &R, pass: &mut SequencerPass) -> Option<Item>
+        requires { pass.old.queue ≡ L.queue }
+        ensures item { MatchOption result ((pass.new ≡ pass.old) × IsAllPulled pass.new)
+            (λ item. pass.new ≡ record pass.old { pulled = pass.old.pulled ++ item ∷ [] }) }
+        ensures numbered { (p : ℕ) → CountsUp p pass.new.pulled }
+    {
+        self.intake.pop(rt, pass)
+    }
+
+    /// Places an item under this number, in one hold of the lock: its cell is set, and the desk has
+    /// placed the number. Its text is written before the hold. `Sequencer::turn` calls it.
+    ///
+    /// Each refusal hands the item back.
+    pub fn place_next<R: Wait>(
+        &self,
+        rt: &R,
+        alloc: Global,
+        item: Item,
+        number: u64,
+    ) -> Result<Told, RefusedItem>
+        ensures ok { IfOk result (λ told. ShowsEntry L.cells told
+            (record { number = number; item = item })) }
+        ensures err { IfErr result (λ refused. refused.item ≡ item) }
+    {
+        let Ok(text) = item.text(alloc) else {
+            let why = PlaceRefusal::Memory;
+            return Err(RefusedItem { why, item });
+        };
+        let entry = Entry::new(number, item, text);
+        let mut locked = self.locked.lock(rt);
+        locked.place(rt, alloc, &self.sequence, entry)
+    }
+}

@@ -1,0 +1,62 @@
+//! `Opened`: the parts of a new broker, before its hall has a name.
+
+ghost use Rattle.std.specs.Prelude.{◌≡◌, IfOk};
+
+use cs_model::Schema;
+use rb_desk::{Config, Desk};
+use rb_intake::{Intake, MakerPass, SequencerPass};
+use rb_sequence::Sequence;
+use std::alloc::{AllocError, Global};
+use std::marker::Model;
+use std::sync::Arc;
+
+/// The parts of a new broker. Contracts see the cells of its sequence and the queue of its intake.
+/// `Broker::start` makes the broker of it, in a hall that has these.
+#[derive(Drop)]
+pub struct Opened {
+    pub(crate) config: Config,
+    pub(crate) schema: Arc<Schema>,
+    pub(crate) sequence: Sequence,
+    pub(crate) intake: Intake,
+    pub(crate) sequencer: SequencerPass,
+    pub(crate) maker: MakerPass,
+    pub(crate) desk: Desk,
+}
+
+impl Model for Opened {
+    ghost use Rattle.std.specs.Prelude.{◌≡◌, []};
+    ghost use Rattle.rb_broker.specs.Halls.{Parts, parts_code};
+    ghost use Rattle.rb_desk.specs.Picture.{empty_picture};
+
+    ghost Value = { Parts };
+
+    ghost coded = { parts_code };
+
+    ghost view = { λ o. record { cells = o.sequence; queue = o.intake.queue } };
+
+    ghost invariant = { λ o. (o.sequencer
+        ≡ record { queue = o.intake.queue; pulled = []; ended = [] })
+        × (o.maker ≡ record { queue = o.intake.queue; made = 0 })
+        × (o.desk ≡ empty_picture o.config) × (o.sequence.capacity ≡ o.config.capacity) };
+}
+
+impl Opened {
+    /// A broker with these limits, for changesets of these tables. Returns `AllocError` if memory
+    /// runs out.
+    pub fn new(alloc: Global, config: Config, schema: Schema) -> Result<Opened, AllocError>
+        ensures { IfOk result (λ o. o.cells.capacity ≡ config.capacity) }
+    {
+        let schema = Arc::new(alloc, schema)?;
+        let sequence = Sequence::new(alloc, config.capacity())?;
+        let (intake, sequencer, maker) = Intake::new(alloc, config.intake() as usize)?;
+        Ok(Opened {
+            config,
+            schema,
+            sequence,
+            intake,
+            sequencer,
+            maker,
+            desk: Desk::new(alloc, config),
+        })
+    }
+}

@@ -1,0 +1,214 @@
+//! `Publisher`: a stream of bytes that becomes staged changesets, and their way into the intake.
+
+ghost use Rattle.std.specs.Prelude.{◌≡◌, ◌++◌, ◌∷◌, [], suc, length, true, IfOk, IfErr, OnOk, OnErr};
+ghost use Rattle.std.specs.Prelude.{None};
+ghost use Rattle.std.specs.List.{list_any};
+ghost use Rattle.cs_model.specs.declared.origin.Origin.TheVariants.{Sent, Withdraws};
+ghost use Rattle.cs_parse.specs.End.{admitted_answer, left_by};
+ghost use Rattle.cs_parse.specs.Progress.{FeedAnswers, answer_at_end, nothing};
+ghost use Rattle.cs_invert.specs.Inverse.{withdrawal_of};
+ghost use Rattle.rb_broker.specs.Publishers.{item_of};
+ghost use Rattle.rb_broker.specs.Refusing.{SendsNothing};
+
+use crate::broker::Broker;
+use crate::hall::Hall;
+use crate::refusal::{SendRefusal, WithdrawRefusal};
+use crate::staged::StagedSet;
+use cs_group::combine_admitted;
+use cs_invert::invert;
+use cs_model::{Changeset, Origin, Schema};
+use cs_parse::{EndError, ParseError, PieceParser};
+use rb_intake::PublisherPass;
+use rb_sequence::{Entry, Item, Sequence};
+use std::alloc::{AllocError, Global};
+use std::collections::BTreeSet;
+use std::marker::{Model, PhantomData};
+use std::sync::{Arc, Wait};
+
+/// A publisher of a broker. It is of one thread at a time.
+#[derive(Drop)]
+pub struct Publisher<L: Hall> {
+    pub(crate) schema: Arc<Schema>,
+    pub(crate) stream: PieceParser,
+    pub(crate) pass: PublisherPass,
+    pub(crate) withdrawn: BTreeSet<u64>,
+    pub(crate) of: PhantomData<L>,
+}
+
+impl<L: Hall> Model for Publisher<L> {
+    ghost use Rattle.std.specs.Prelude.{◌≡◌};
+    ghost use Rattle.std.specs.Arc.{arc_value};
+    ghost use Rattle.rb_broker.specs.Publishers.{PublisherState, publisher_code};
+
+    ghost Value = { PublisherState };
+
+    ghost coded = { publisher_code };
+
+    ghost view = { λ p. record {
+      number = p.pass.publisher;
+      schema = arc_value p.schema;
+      stream = p.stream;
+      sent = p.pass.sent;
+      withdrawn = p.withdrawn.keys;
+    } };
+
+    ghost invariant = { λ p. p.pass.queue ≡ L.queue };
+}
+
+impl<L: Hall> Publisher<L> {
+    /// Its number, from 0.
+    pub fn number(&self) -> u64
+        ensures { result ≡ self.now.number }
+    {
+        self.pass.publisher()
+    }
+
+    /// How many sets it sent.
+    pub fn sent(&self) -> u64
+        ensures { result ≡ length self.now.sent }
+    {
+        self.pass.sent()
+    }
+
+    /// Feeds the next piece of a changeset. Any cut is fine.
+    ///
+    /// Returns `Fault` with the piece that contains a fault's byte, and for each later piece until
+    /// `reset`. `Memory` does not change the stream.
+    pub fn feed(&mut self, alloc: Global, piece: &[u8]) -> Result<(), ParseError>
+        ensures stream { FeedAnswers result self.old.stream piece.now self.new.stream }
+        ensures same { self.new ≡ record self.old { stream = self.new.stream } }
+    {
+        self.stream.feed(alloc, piece)
+    }
+
+    /// Empties the stream.
+    pub fn reset(&mut self, alloc: Global)
+        ensures { self.new ≡ record self.old { stream = nothing } }
+    {
+        self.stream = PieceParser::new(alloc);
+    }
+
+    /// Ends the stream. If the broker's tables admit the changeset that it spells, stages it and
+    /// begins an empty stream. Does not allocate.
+    ///
+    /// Returns the stream's fault, or the first section that the tables refuse. The stream stays
+    /// then.
+    pub fn end(&mut self, alloc: Global) -> Result<StagedSet<L>, EndError>
+        ensures set { IfOk result (λ set. set ≡ record {
+          publisher = self.old.number;
+          origin = Sent;
+          body = set.body;
+          withdraws = None;
+        }) }
+        ensures answer { EndsWith result (admitted_answer self.old.schema
+            (answer_at_end self.old.stream)) }
+        ensures left { self.new ≡ record self.old {
+          stream = left_by (admitted_answer self.old.schema (answer_at_end self.old.stream))
+              self.old.stream;
+        } }
+    {
+        let body = self.stream.end(alloc, &self.schema)?;
+        Ok(StagedSet {
+            publisher: self.pass.publisher(),
+            origin: Origin::Sent,
+            body,
+            withdraws: None,
+            of: PhantomData,
+        })
+    }
+
+    /// Sends a set that this publisher staged: it waits in the intake. Returns its number among the
+    /// publisher's sendings, from 1.
+    ///
+    /// Refuses `Closed` if the sequence is closed, and `Full` if the intake is full. Both hand the
+    /// set back.
+    pub fn send<R: Wait>(
+        &mut self,
+        rt: &R,
+        broker: &Broker<L>,
+        set: StagedSet<L>,
+    ) -> Result<u64, SendRefusal<L>>
+        requires { set.publisher ≡ self.old.number }
+        ensures own { IfOk result (λ own. own ≡ suc (length self.old.sent)) }
+        ensures ok { IfOk result (λ own. self.new
+            ≡ record self.old { sent = self.old.sent ++ item_of set own ∷ [] }) }
+        ensures err { OnErr result (self.new ≡ self.old) }
+        ensures back { IfErr result (SendsNothing L.cells set) }
+    {
+        if let Some(last) = broker.sequence().closing() {
+            return Err(SendRefusal::Closed(last, set));
+        }
+        // 2^64 sendings never happen
+        let Some(own) = self.pass.sent().checked_add(1) else {
+            return Err(SendRefusal::Full(set));
+        };
+        let StagedSet {
+            publisher,
+            origin,
+            body,
+            withdraws,
+            of,
+        } = set;
+        let item = Item {
+            publisher,
+            own,
+            origin,
+            body,
+        };
+        match broker.push(rt, &mut self.pass, item) {
+            Ok(()) => Ok(own),
+            Err(item) => Err(SendRefusal::Full(StagedSet {
+                publisher,
+                origin,
+                body: item.body,
+                withdraws,
+                of,
+            })),
+        }
+    }
+
+    /// Stages the withdrawal of entry `number`, which this publisher sent.
+    ///
+    /// Refuses `NotPlaced`, `NotYours`, and `AlreadyWithdrawn` if an earlier call withdrew the entry.
+    pub fn withdraw(
+        &mut self,
+        alloc: Global,
+        sequence: &Sequence,
+        number: u64,
+    ) -> Result<StagedSet<L>, WithdrawRefusal>
+        requires { sequence.now ≡ L.cells }
+        ensures set { IfOk result (λ set. (set.publisher ≡ self.old.number)
+            × (set.origin ≡ Withdraws number)) }
+        ensures ok { OnOk result (self.new
+            ≡ record self.old { withdrawn = with_number number self.old.withdrawn }) }
+        ensures err { OnErr result (self.new ≡ self.old) }
+        ensures why { result ≡ Err WithdrawRefusal.AlreadyWithdrawn
+            → has_number number self.old.withdrawn ≡ true }
+        ensures once { OnOk result (has_number number self.old.withdrawn ≡ false) }
+    {
+        let told = sequence.tell(number).ok_or(WithdrawRefusal::NotPlaced)?;
+        let entry = sequence.get_told(&told);
+        if entry.publisher() != self.pass.publisher() {
+            return Err(WithdrawRefusal::NotYours);
+        }
+        if self.withdrawn.contains(&number) {
+            return Err(WithdrawRefusal::AlreadyWithdrawn);
+        }
+        let body = withdrawal(alloc, entry)?;
+        self.withdrawn.insert(number)?;
+        Ok(StagedSet {
+            publisher: self.pass.publisher(),
+            origin: Origin::Withdraws(number),
+            body,
+            withdraws: Some(told),
+            of: PhantomData,
+        })
+    }
+}
+
+// the withdrawal of an entry's changeset
+fn withdrawal(alloc: Global, entry: &Entry) -> Result<Changeset, AllocError>
+    ensures { IfOk result (λ made. made ≡ withdrawal_of entry.now.item.body) }
+{
+    invert(alloc, &combine_admitted(alloc, &[entry.body()])?)
+}

@@ -1,0 +1,58 @@
+//! Why the broker's calls refuse, and what they hand back.
+
+use crate::hall::Hall;
+use crate::staged::StagedSet;
+use rb_sequence::{Item, ToldLast};
+use thiserror::Error;
+
+/// Why `Broker::place_next` places no item. The broker is as before.
+#[derive(Clone, Copy, Debug, PartialEq, Eq, Error)]
+pub enum PlaceRefusal {
+    /// The sequence is closed.
+    #[error("the sequence is closed")]
+    Closed,
+    /// The sequence has reached its capacity.
+    #[error("the sequence is full")]
+    SequenceFull,
+    /// The next number isn't the one that was asked for, or its cell is set.
+    #[error("the cell is set")]
+    Occupied,
+    /// Memory ran out.
+    #[error("out of memory")]
+    Memory,
+}
+
+/// An item that `Broker::place_next` did not place, and why.
+#[derive(Debug, Drop)]
+pub struct RefusedItem {
+    /// Why it isn't placed.
+    pub why: PlaceRefusal,
+    /// The item, as it was.
+    pub item: Item,
+}
+
+/// Why `Publisher::send` sends nothing. The publisher is as before, and the set comes back.
+#[derive(Drop)]
+pub enum SendRefusal<L: Hall> {
+    /// The sequence is closed. The token shows its last number.
+    Closed(ToldLast, StagedSet<L>),
+    /// The intake is full.
+    Full(StagedSet<L>),
+}
+
+/// Why `Publisher::withdraw` stages nothing. The publisher is as before.
+#[derive(Clone, Copy, Debug, PartialEq, Eq, Error)]
+pub enum WithdrawRefusal {
+    /// No entry has this number.
+    #[error("there is no such entry")]
+    NotPlaced,
+    /// Another publisher sent the entry.
+    #[error("the entry is another publisher's")]
+    NotYours,
+    /// The publisher withdrew the entry already.
+    #[error("the entry is withdrawn already")]
+    AlreadyWithdrawn,
+    /// Memory ran out.
+    #[error("out of memory")]
+    Memory,
+}
