@@ -12,10 +12,10 @@ use Rattle.rb_broker.specs.declared.refusal.PlaceRefusal.TheVariants.{Occupied, 
 use Rattle.rb_broker.specs.declared.refusal.RefusedItem.{RefusedItem}
 
 -- the token shows that the cell of the entry's number holds the entry
-pub record ShowsEntry (cells : Cells) (told : Seen) (entry : Entry) : Type 0 where
+pub record ShowsEntry (cells : Cells) (told : Seen) (e : Entry) : Type 0 where
   pub here : IsTold cells told
-  pub number : told.number ≡ entry.number
-  pub entry : told.entry ≡ entry
+  pub number : told.number ≡ e.number
+  pub entry : told.entry ≡ e
 
 -- why an item isn't placed under this number, by what the desk's `prepare` returns
 abbrev pub IsWhy : Result ℕ DeskRefusal → ℕ → PlaceRefusal → Type 0

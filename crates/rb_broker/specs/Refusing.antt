@@ -1,13 +1,31 @@
--- Why a publisher's calls refuse, and what they hand back.
-use Rattle.std.specs.Prelude.{◌≡◌, ℕ, List, true}
+-- What a publisher's calls hand back, and the entries that it withdrew.
+use Rattle.std.specs.Prelude.{◌≡◌, ℕ, List, [], Bool, None, Result, Ok, Err}
 use Rattle.std.specs.List.{list_any}
-use Rattle.std.specs.Ordering.{nat_cmp, is_at}
-use Rattle.rb_sequence.specs.Cells.{Cells, IsToldLast}
+use Rattle.std.specs.Ordering.{nat_cmp}
+use Rattle.std.specs.BTreeMap.{is_at}
+use Rattle.std.specs.BTreeSet.{insert_key}
+use Rattle.cs_model.specs.declared.origin.Origin.TheVariants.{Sent}
+use Rattle.cs_model.specs.Section.{Section}
+use Rattle.cs_parse.specs.declared.end.EndError.{EndError}
+use Rattle.rb_sequence.specs.Cells.{Cells, IsToldLast, SeenLast}
 use Rattle.rb_broker.specs.Publishers.{StagedBy}
 use Rattle.rb_broker.specs.declared.refusal.SendRefusal.{SendRefusal}
 use Rattle.rb_broker.specs.declared.refusal.SendRefusal.TheVariants as send
 
 -- the set comes back; a closed sequence shows its last number
-abbrev pub SendsNothing : Cells → StagedBy → SendRefusal → Type 0
+abbrev pub SendsNothing : {L : Type 0} → Cells → StagedBy → SendRefusal L → Type 0
 SendsNothing cells set (send.Closed last back) = IsToldLast cells last × (back ≡ set)
 SendsNothing cells set (send.Full back) = back ≡ set
+
+-- the set that this publisher was fed, or the stream's error
+abbrev pub EndsWith : ℕ → Result StagedBy EndError → Result (List Section) EndError → Type 0
+EndsWith p (Ok set) answer = (answer ≡ Ok set.body)
+    × (set ≡ record { publisher = p; origin = Sent; body = set.body; withdraws = None })
+EndsWith p (Err error) answer = answer ≡ Err error
+
+-- the numbers of withdrawn entries with one more, and whether one is among them
+abbrev pub with_number : ℕ → List ℕ → List ℕ
+with_number n numbers = insert_key nat_cmp numbers n
+
+abbrev pub has_number : ℕ → List ℕ → Bool
+has_number n numbers = list_any (is_at (nat_cmp n)) numbers

@@ -1,14 +1,14 @@
 //! `Publisher`: a stream of bytes that becomes staged changesets, and their way into the intake.
 
 ghost use Rattle.std.specs.Prelude.{◌≡◌, ◌++◌, ◌∷◌, [], suc, length, true, IfOk, IfErr, OnOk, OnErr};
-ghost use Rattle.std.specs.Prelude.{None};
-ghost use Rattle.std.specs.List.{list_any};
-ghost use Rattle.cs_model.specs.declared.origin.Origin.TheVariants.{Sent, Withdraws};
+ghost use Rattle.std.specs.Prelude.{Err, false};
+ghost use Rattle.cs_model.specs.declared.origin.Origin.TheVariants.{Withdraws};
 ghost use Rattle.cs_parse.specs.End.{admitted_answer, left_by};
 ghost use Rattle.cs_parse.specs.Progress.{FeedAnswers, answer_at_end, nothing};
 ghost use Rattle.cs_invert.specs.Inverse.{withdrawal_of};
 ghost use Rattle.rb_broker.specs.Publishers.{item_of};
-ghost use Rattle.rb_broker.specs.Refusing.{SendsNothing};
+ghost use Rattle.rb_broker.specs.declared.refusal.WithdrawRefusal.TheVariants.{AlreadyWithdrawn};
+ghost use Rattle.rb_broker.specs.Refusing.{EndsWith, SendsNothing, has_number, with_number};
 
 use crate::broker::Broker;
 use crate::hall::Hall;
@@ -94,13 +94,7 @@ impl<L: Hall> Publisher<L> {
     /// Returns the stream's fault, or the first section that the tables refuse. The stream stays
     /// then.
     pub fn end(&mut self, alloc: Global) -> Result<StagedSet<L>, EndError>
-        ensures set { IfOk result (λ set. set ≡ record {
-          publisher = self.old.number;
-          origin = Sent;
-          body = set.body;
-          withdraws = None;
-        }) }
-        ensures answer { EndsWith result (admitted_answer self.old.schema
+        ensures answer { EndsWith self.old.number result (admitted_answer self.old.schema
             (answer_at_end self.old.stream)) }
         ensures left { self.new ≡ record self.old {
           stream = left_by (admitted_answer self.old.schema (answer_at_end self.old.stream))
@@ -182,7 +176,7 @@ impl<L: Hall> Publisher<L> {
         ensures ok { OnOk result (self.new
             ≡ record self.old { withdrawn = with_number number self.old.withdrawn }) }
         ensures err { OnErr result (self.new ≡ self.old) }
-        ensures why { result ≡ Err WithdrawRefusal.AlreadyWithdrawn
+        ensures why { result ≡ Err AlreadyWithdrawn
             → has_number number self.old.withdrawn ≡ true }
         ensures once { OnOk result (has_number number self.old.withdrawn ≡ false) }
     {
@@ -194,8 +188,12 @@ impl<L: Hall> Publisher<L> {
         if self.withdrawn.contains(&number) {
             return Err(WithdrawRefusal::AlreadyWithdrawn);
         }
-        let body = withdrawal(alloc, entry)?;
-        self.withdrawn.insert(number)?;
+        let Ok(body) = withdrawal(alloc, entry) else {
+            return Err(WithdrawRefusal::Memory);
+        };
+        if self.withdrawn.insert(number).is_err() {
+            return Err(WithdrawRefusal::Memory);
+        }
         Ok(StagedSet {
             publisher: self.pass.publisher(),
             origin: Origin::Withdraws(number),
