@@ -1,17 +1,27 @@
 -- What a new broker's parts share, and what stands for it before a broker is opened.
-use Rattle.std.specs.Prelude.{ℕ, [], refl}
-use Rattle.std.specs.Coded.{Coded, code_by, coded×}
+use Rattle.std.specs.Prelude.{ℕ, List, [], refl}
+use Rattle.std.specs.Coded.{Coded, code_by, coded×, coded_list}
+use Rattle.cs_model.specs.contracts.shape.Shape as shape
+use Rattle.cs_model.specs.declared.shape.Shape.{Shape}
+use Rattle.rb_desk.specs.Limits.{Limits, limits_code}
 use Rattle.atomic_table.specs.Seated.{TableId, table_id_coded}
 use Rattle.rb_sequence.specs.Cells.{Cells, cells_code}
 
--- a broker that was opened: the cells of its sequence, and the queue of its intake
+-- a broker that was opened: its limits, its tables, the cells of its sequence, and the queue of its
+-- intake
 pub record Parts : Type 0 where
+  pub limits : Limits
+  pub schema : List Shape
   pub cells : Cells
   pub queue : TableId
 
 abbrev pub parts_code : Coded Parts
-parts_code = code_by (Cells × TableId) (coded× cells_code table_id_coded)
-    (λ o. (o.cells, o.queue)) (λ p. record { cells = p.0; queue = p.1 }) (λ _. refl)
+parts_code = code_by (Limits × (List Shape × (Cells × TableId)))
+    (coded× limits_code (coded× (coded_list shape.the_row.coded)
+    (coded× cells_code table_id_coded)))
+    (λ o. (o.limits, (o.schema, (o.cells, o.queue))))
+    (λ p. record { limits = p.0; schema = p.1.0; cells = p.1.1.0; queue = p.1.1.1 })
+    (λ _. refl)
 
 -- no broker's
 abbrev pub no_cells : Cells

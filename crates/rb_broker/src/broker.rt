@@ -2,6 +2,7 @@
 
 ghost use Rattle.std.specs.Prelude.{◌≡◌, ◌<◌, ◌++◌, ◌∷◌, [], ℕ, suc, length, IfOk, IfErr, OnOk, OnErr};
 ghost use Rattle.std.specs.Prelude.{MatchOption};
+ghost use Rattle.std.specs.Arc.{arc_value};
 ghost use Rattle.cs_parse.specs.Progress.{nothing};
 ghost use Rattle.rb_intake.specs.Passes.{IsAllPulled};
 ghost use Rattle.rb_sequence.specs.Items.{CountsUp};
@@ -61,7 +62,9 @@ impl<L: Hall> Broker<L> {
     pub fn start(opened: Opened) -> (Broker<L>, SequencerPass)
         requires cells { opened.cells ≡ L.cells }
         requires queue { opened.queue ≡ L.queue }
-        ensures { result.1 ≡ record { queue = L.queue; pulled = []; ended = [] } }
+        ensures pass { result.1 ≡ record { queue = L.queue; pulled = []; ended = [] } }
+        ensures limits { result.0.config ≡ opened.limits }
+        ensures schema { arc_value result.0.schema ≡ opened.schema }
     {
         let Opened {
             config,
@@ -90,7 +93,9 @@ impl<L: Hall> Broker<L> {
     }
 
     /// Its limits.
-    pub fn config(&self) -> Config {
+    pub fn config(&self) -> Config
+        ensures { result ≡ self.now.config }
+    {
         self.config
     }
 
@@ -106,6 +111,7 @@ impl<L: Hall> Broker<L> {
     /// Refuses `TooMany` if there are 64 publishers, and `Memory`.
     pub fn publisher(&mut self, alloc: Global) -> Result<Publisher<L>, AddRefusal>
         ensures number { IfOk result (λ p. p.number < 64) }
+        ensures schema { IfOk result (λ p. p.schema ≡ arc_value self.old.schema) }
         ensures new { IfOk result (λ p. (p.stream ≡ nothing) × (p.sent ≡ []) × (p.withdrawn ≡ [])) }
     {
         let Ok(schema) = Arc::try_clone(&self.schema) else {

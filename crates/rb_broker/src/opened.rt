@@ -10,8 +10,9 @@ use std::alloc::{AllocError, Global};
 use std::marker::Model;
 use std::sync::Arc;
 
-/// The parts of a new broker. Contracts see the cells of its sequence and the queue of its intake.
-/// `Broker::start` makes the broker of it, in a hall that has these.
+/// The parts of a new broker. Contracts see its limits, its tables, the cells of its sequence and
+/// the queue of its intake. `Broker::start` makes the broker of it, in a hall that has these cells
+/// and this queue.
 #[derive(Drop)]
 pub struct Opened {
     pub(crate) config: Config,
@@ -25,6 +26,7 @@ pub struct Opened {
 
 impl Model for Opened {
     ghost use Rattle.std.specs.Prelude.{◌≡◌, []};
+    ghost use Rattle.std.specs.Arc.{arc_value};
     ghost use Rattle.rb_broker.specs.Halls.{Parts, parts_code};
     ghost use Rattle.rb_desk.specs.Picture.{empty_picture};
 
@@ -32,7 +34,12 @@ impl Model for Opened {
 
     ghost coded = { parts_code };
 
-    ghost view = { λ o. record { cells = o.sequence; queue = o.intake.queue } };
+    ghost view = { λ o. record {
+      limits = o.config;
+      schema = arc_value o.schema;
+      cells = o.sequence;
+      queue = o.intake.queue;
+    } };
 
     ghost invariant = { λ o. (o.sequencer
         ≡ record { queue = o.intake.queue; pulled = []; ended = [] })
@@ -44,7 +51,8 @@ impl Opened {
     /// A broker with these limits, for changesets of these tables. Returns `AllocError` if memory
     /// runs out.
     pub fn new(alloc: Global, config: Config, schema: Schema) -> Result<Opened, AllocError>
-        ensures { IfOk result (λ o. o.cells.capacity ≡ config.capacity) }
+        ensures limits { IfOk result (λ o. o.limits ≡ config) }
+        ensures schema { IfOk result (λ o. o.schema ≡ schema) }
     {
         let schema = Arc::new(alloc, schema)?;
         let sequence = Sequence::new(alloc, config.capacity())?;

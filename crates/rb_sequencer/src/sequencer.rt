@@ -1,0 +1,137 @@
+//! `Sequencer`: the item in hand, and the tokens of what is placed.
+
+ghost use Rattle.std.specs.Prelude.{◌≡◌, ◌++◌, ◌∷◌, [], ℕ, suc, length, Some, None, IsSome};
+ghost use Rattle.std.specs.Option.{option_copied};
+ghost use Rattle.std.specs.List.{AllByRecursion};
+ghost use Rattle.rb_sequence.specs.Cells.{IsTold};
+ghost use Rattle.rb_sequence.specs.Items.{CountsUp, own_of};
+ghost use Rattle.rb_sequencer.specs.Turns.{AreInCells, Turns, PlacesHand, FillsHand, in_hand};
+ghost use Rattle.rb_sequencer.specs.Turns.{items_placed, token_of};
+
+use crate::turn::Turn;
+use rb_broker::{Broker, Hall, PlaceRefusal, RefusedItem};
+use rb_intake::SequencerPass;
+use rb_sequence::{Item, Told};
+use std::alloc::Global;
+use std::marker::{Model, PhantomData};
+use std::sync::Wait;
+
+/// The sequencer of a broker. It is of one thread. A broker has one, since its pass is the only one.
+#[derive(Drop)]
+pub struct Sequencer<L: Hall> {
+    pass: SequencerPass,
+    hand: Option<Item>,
+    told: Vec<Told>,
+    of: PhantomData<L>,
+}
+
+impl<L: Hall> Model for Sequencer<L> {
+    ghost use Rattle.std.specs.Prelude.{◌≡◌, ◌++◌, ℕ};
+    ghost use Rattle.rb_sequence.specs.Items.{CountsUp};
+    ghost use Rattle.rb_sequencer.specs.Turns.{AreInCells, SequencerState, in_hand, items_placed};
+    ghost use Rattle.rb_sequencer.specs.Turns.{sequencer_code};
+
+    ghost Value = { SequencerState };
+
+    ghost coded = { sequencer_code };
+
+    ghost view = { λ s. record {
+      pulled = s.pass.pulled;
+      placed = s.told.items;
+      hand = s.hand;
+      ended = s.pass.ended;
+    } };
+
+    ghost invariant = { λ s. (s.pass.queue ≡ L.queue)
+        × (s.pass.pulled ≡ items_placed s.told.items ++ in_hand s.hand)
+        × AreInCells L.cells 1 s.told.items
+        × ((p : ℕ) → CountsUp p s.pass.pulled) };
+}
+
+impl<L: Hall> Sequencer<L> {
+    /// The sequencer of the broker that `Broker::start` made with this pass.
+    pub fn new(alloc: Global, pass: SequencerPass) -> Sequencer<L>
+        requires queue { pass.queue ≡ L.queue }
+        requires none { pass.pulled ≡ [] }
+        ensures { result ≡ record { pulled = []; placed = []; hand = None; ended = pass.ended } }
+    {
+        Sequencer {
+            pass,
+            hand: None,
+            told: Vec::new(alloc),
+            of: PhantomData,
+        }
+    }
+
+    /// The item in hand: pulled, and not placed yet. What was pulled is what was placed, then this.
+    pub fn hand(&self) -> Option<&Item>
+        ensures hand { option_copied result ≡ self.now.hand }
+        ensures pulled { self.now.pulled ≡ items_placed self.now.placed ++ in_hand self.now.hand }
+    {
+        self.hand.as_ref()
+    }
+
+    /// How many items it placed: the entries with the numbers from 1 to this one. Each stands in its
+    /// cell, and each publisher's own numbers count from 1.
+    pub fn placed(&self) -> u64
+        ensures count { result ≡ length self.now.placed }
+        ensures cells { AreInCells L.cells 1 self.now.placed }
+        ensures numbered { (p : ℕ) → CountsUp p self.now.pulled }
+    {
+        self.told.len() as u64
+    }
+
+    /// The token of the entry with this number, if it is placed.
+    pub fn told(&self, number: u64) -> Option<&Told>
+        ensures { option_copied result ≡ token_of self.now.placed number }
+    {
+        let place = number.checked_sub(1)?;
+        self.told.get(place as usize)
+    }
+
+    /// Takes one turn. If the hand is empty, pulls the next item. Then places the item in hand.
+    ///
+    /// Returns `Idle` if nothing waits. `Refused` leaves the item in hand: the sequence is closed or
+    /// full, its cell is set, or memory ran out.
+    pub fn turn<R: Wait>(&mut self, rt: &R, alloc: Global, broker: &Broker<L>) -> Turn
+        ensures { Turns L.cells self.old self.new result }
+    {
+        self.take_up(rt, broker);
+        if self.hand.is_none() {
+            return Turn::Idle;
+        }
+        self.place(rt, alloc, broker)
+    }
+
+    // fills an empty hand from the intake
+    fn take_up<R: Wait>(&mut self, rt: &R, broker: &Broker<L>)
+        ensures { FillsHand self.old self.new }
+    {
+        if self.hand.is_none() {
+            self.hand = broker.pull(rt, &mut self.pass);
+        }
+    }
+
+    // places the item in hand
+    fn place<R: Wait>(&mut self, rt: &R, alloc: Global, broker: &Broker<L>) -> Turn
+        requires { IsSome self.old.hand }
+        ensures { PlacesHand L.cells self.old self.new result }
+    {
+        if self.told.reserve(1).is_err() {
+            return Turn::Refused(PlaceRefusal::Memory);
+        }
+        let number = self.told.len() as u64 + 1;
+        let item = self.hand.take().unwrap();
+        match broker.place_next(rt, alloc, item, number) {
+            Ok(told) => {
+                let shown = told.again();
+                self.told.push_reserved(told);
+                Turn::Placed(shown)
+            }
+            Err(RefusedItem { why, item }) => {
+                self.hand = Some(item);
+                Turn::Refused(why)
+            }
+        }
+    }
+}
