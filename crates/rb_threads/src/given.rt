@@ -1,0 +1,59 @@
+//! What the tests are given: a table, changesets of one INSERT, items and brokers.
+
+ghost use Rattle.std.specs.Prelude.{◌≡◌, IfOk};
+
+use cs_model::{Octets, Schema, Seq, Shape};
+use cs_parse::{ParseError, parse};
+use rb_broker::Opened;
+use rb_desk::Config;
+use rb_sequence::{Entry, Item};
+use cs_model::Origin;
+use std::alloc::{AllocError, Global};
+use std::test::Fail;
+
+/// An INSERT of (key, 'x') into a table `t` of two columns, the first of which is its key.
+pub fn insert(key: u64) -> [u8; 20] {
+    let k = key.to_be_bytes();
+    [
+        0x54, 2, 1, 0, 0x74, 0, 0x12, 0, 1, k[0], k[1], k[2], k[3], k[4], k[5], k[6], k[7], 3, 1,
+        0x78,
+    ]
+}
+
+fn octets(alloc: Global, bytes: &[u8]) -> Result<Octets, AllocError> {
+    Ok(Seq::from_vec(Vec::from_slice(alloc, bytes)?))
+}
+
+/// The table.
+pub fn schema(alloc: Global) -> Result<Schema, Fail> {
+    let name = octets(alloc, b"t")?;
+    let flags = octets(alloc, &[1, 0])?;
+    let mut shapes = Vec::new(alloc);
+    shapes.push(Shape { name, flags })?;
+    Ok(Schema::new(shapes)?)
+}
+
+/// A broker of the table, for this many entries and waiting items.
+pub fn opened(alloc: Global, capacity: u64, intake: u64) -> Result<Opened, Fail> {
+    let config = Config::new(16, 4, 10, capacity, intake, 1)?;
+    Ok(Opened::new(alloc, config, schema(alloc)?)?)
+}
+
+/// The entry with this number, whose key is its number.
+pub fn entry(alloc: Global, number: u64) -> Result<Entry, Fail>
+    ensures { IfOk result (λ e. e.number ≡ number) }
+{
+    let body = match parse(alloc, &insert(number)) {
+        Ok(body) => body,
+        Err(ParseError::Memory) => return Err(AllocError.into()),
+        Err(ParseError::Fault(fault)) => return Err(fault.into()),
+    };
+    let item = Item {
+        publisher: 0,
+        own: number,
+        origin: Origin::Sent,
+        body,
+    };
+    let text = item.text(alloc)?;
+    Ok(Entry::new(number, item, text))
+}

@@ -1,0 +1,12 @@
+//! Tests of the broker with threads, from outside. Each loop that waits counts its turns, and fails
+//! if they are too many. Theorem: none.
+#![tactic(auto)]
+
+#[cfg(test)]
+mod cells;
+#[cfg(test)]
+mod given;
+#[cfg(test)]
+mod rows;
+#[cfg(test)]
+mod threads;

@@ -1,0 +1,1 @@
+//! Histories of one thread on the broker: a full intake, a withdrawal.
