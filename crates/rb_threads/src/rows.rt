@@ -1,1 +1,165 @@
-//! Histories of one thread on the broker: a full intake, a withdrawal.
+//! Histories of one thread on the broker: a full intake, a withdrawal, a full sequence.
+
+ghost use Rattle.std.specs.Prelude.{◌≡◌, IfOk};
+
+use crate::given::{insert, opened};
+use cs_model::Origin;
+use rb_broker::{Broker, Hall, Opened, PlaceRefusal, Publisher, SendRefusal, StagedSet};
+use rb_broker::WithdrawRefusal;
+use rb_sequence::Told;
+use rb_sequencer::{Sequencer, Turn};
+use std::alloc::Global;
+use std::marker::Brand;
+use std::process::Abort;
+use std::sync::Wait;
+use std::test::Fail;
+
+// (1, 'x') is inserted, and becomes (1, 'y')
+const CHANGED: [u8; 38] = [
+    0x54, 2, 1, 0, 0x74, 0, 0x12, 0, 1, 0, 0, 0, 0, 0, 0, 0, 1, 3, 1, 0x78, 0x17, 0, 1, 0, 0, 0, 0,
+    0, 0, 0, 1, 3, 1, 0x78, 0, 3, 1, 0x79,
+];
+
+// the DELETE of (1, 'y')
+const TAKEN_BACK: [u8; 20] = [
+    0x54, 2, 1, 0, 0x74, 0, 0x09, 0, 1, 0, 0, 0, 0, 0, 0, 0, 1, 3, 1, 0x79,
+];
+
+#[test]
+fn full_intake(rt: HostRuntime) -> Result<(), Fail> {
+    let opened = opened(rt.alloc(), 2, 1)?;
+    fills_the_intake::<Brand, _>(&rt, rt.alloc(), opened)
+}
+
+#[test]
+fn withdrawal(rt: HostRuntime) -> Result<(), Fail> {
+    let opened = opened(rt.alloc(), 4, 4)?;
+    withdraws::<Brand, _>(&rt, rt.alloc(), opened)
+}
+
+// stages what is fed
+fn stage<L: Hall>(
+    alloc: Global,
+    publisher: &mut Publisher<L>,
+    bytes: &[u8],
+) -> Result<StagedSet<L>, Fail>
+    ensures { IfOk result (λ set. set.publisher ≡ publisher.new.number) }
+{
+    publisher.feed(alloc, bytes)?;
+    Ok(publisher.end(alloc)?)
+}
+
+// One turn. If memory runs out, the item is in hand, and the next turn places it.
+fn turn<L: Hall, R: Wait + Abort>(
+    rt: &R,
+    alloc: Global,
+    broker: &Broker<L>,
+    sequencer: &mut Sequencer<L>,
+) -> Option<Turn> {
+    let first = sequencer.turn(rt, alloc, broker);
+    if let Turn::Refused(PlaceRefusal::Memory) = first {
+        assert!(rt; sequencer.hand().is_some());
+        return Some(sequencer.turn(rt, alloc, broker));
+    }
+    Some(first)
+}
+
+// the number that a turn placed
+fn placed(turn: Option<Turn>) -> Option<u64> {
+    match turn? {
+        Turn::Placed(told) => Some(told.number()),
+        Turn::Idle | Turn::Refused(_) => None,
+    }
+}
+
+fn fills_the_intake<L: Hall, R: Wait + Abort>(
+    rt: &R,
+    alloc: Global,
+    opened: Opened,
+) -> Result<(), Fail>
+    requires cells { opened.cells ≡ L.cells }
+    requires queue { opened.queue ≡ L.queue }
+{
+    let (mut broker, pass) = Broker::<L>::start(opened);
+    let mut sequencer = Sequencer::new(alloc, pass);
+    let Ok(mut publisher) = broker.publisher(alloc) else {
+        return Err(Fail::new("no publisher"));
+    };
+    let set = stage(alloc, &mut publisher, &insert(1))?;
+    assert_eq!(rt; publisher.send(rt, &broker, set).ok(), Some(1));
+    let set = stage(alloc, &mut publisher, &insert(2))?;
+    let Err(SendRefusal::Full(set)) = publisher.send(rt, &broker, set) else {
+        return Err(Fail::new("the intake is full"));
+    };
+    assert_eq!(rt; placed(turn(rt, alloc, &broker, &mut sequencer)), Some(1));
+    assert_eq!(rt; publisher.send(rt, &broker, set).ok(), Some(2));
+    assert_eq!(rt; placed(turn(rt, alloc, &broker, &mut sequencer)), Some(2));
+    assert!(rt; matches!(sequencer.turn(rt, alloc, &broker), Turn::Idle));
+    fills_the_sequence(rt, alloc, &broker, &mut publisher, &mut sequencer)
+}
+
+// The sequence is full: the item stays in hand.
+fn fills_the_sequence<L: Hall, R: Wait + Abort>(
+    rt: &R,
+    alloc: Global,
+    broker: &Broker<L>,
+    publisher: &mut Publisher<L>,
+    sequencer: &mut Sequencer<L>,
+) -> Result<(), Fail> {
+    let set = stage(alloc, publisher, &insert(3))?;
+    assert_eq!(rt; publisher.send(rt, broker, set).ok(), Some(3));
+    for _ in 0..2 {
+        let full = turn(rt, alloc, broker, sequencer);
+        assert!(rt; matches!(full, Some(Turn::Refused(PlaceRefusal::SequenceFull))));
+        assert_eq!(rt; sequencer.hand().map(|item| item.own), Some(3));
+    }
+    assert_eq!(rt; sequencer.placed(), 2);
+    assert!(rt; sequencer.told(0).is_none() && sequencer.told(3).is_none());
+    assert_eq!(rt; sequencer.told(2).map(|told| told.number()), Some(2));
+    Ok(())
+}
+
+fn withdraws<L: Hall, R: Wait + Abort>(rt: &R, alloc: Global, opened: Opened) -> Result<(), Fail>
+    requires cells { opened.cells ≡ L.cells }
+    requires queue { opened.queue ≡ L.queue }
+{
+    let (mut broker, pass) = Broker::<L>::start(opened);
+    let mut sequencer = Sequencer::new(alloc, pass);
+    let Ok(mut publisher) = broker.publisher(alloc) else {
+        return Err(Fail::new("no publisher"));
+    };
+    let Ok(mut other) = broker.publisher(alloc) else {
+        return Err(Fail::new("no publisher"));
+    };
+    let set = stage(alloc, &mut publisher, &CHANGED)?;
+    assert_eq!(rt; publisher.send(rt, &broker, set).ok(), Some(1));
+    assert_eq!(rt; placed(turn(rt, alloc, &broker, &mut sequencer)), Some(1));
+    let stranger = other.withdraw(alloc, broker.sequence(), 1);
+    assert_eq!(rt; stranger.err(), Some(WithdrawRefusal::NotYours));
+    takes_back(rt, alloc, &broker, &mut publisher, &mut sequencer)
+}
+
+fn takes_back<L: Hall, R: Wait + Abort>(
+    rt: &R,
+    alloc: Global,
+    broker: &Broker<L>,
+    publisher: &mut Publisher<L>,
+    sequencer: &mut Sequencer<L>,
+) -> Result<(), Fail> {
+    let sequence = broker.sequence();
+    let set = publisher.withdraw(alloc, sequence, 1)?;
+    assert_eq!(rt; set.withdraws().map(Told::number), Some(1));
+    assert_eq!(rt; publisher.send(rt, broker, set).ok(), Some(2));
+    assert_eq!(rt; placed(turn(rt, alloc, broker, sequencer)), Some(2));
+    let Some(entry) = sequence.get(2) else {
+        return Err(Fail::new("entry 2 is placed"));
+    };
+    let text: &[u8] = entry.text();
+    assert!(rt; text == TAKEN_BACK.as_slice());
+    assert_eq!(rt; entry.origin(), Origin::Withdraws(1));
+    let again = publisher.withdraw(alloc, sequence, 1);
+    assert_eq!(rt; again.err(), Some(WithdrawRefusal::AlreadyWithdrawn));
+    let missing = publisher.withdraw(alloc, sequence, 3);
+    assert_eq!(rt; missing.err(), Some(WithdrawRefusal::NotPlaced));
+    Ok(())
+}
