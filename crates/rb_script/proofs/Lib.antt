@@ -12,3 +12,5 @@ pub mod RunLaws
 pub mod FeedLaws
 pub mod RowTexts
 pub mod HexTexts
+pub mod RowLines
+pub mod ShowLaws

@@ -6,17 +6,27 @@
 mod answering;
 mod fault;
 mod forms;
+mod header;
 pub mod laws;
 mod lines;
+mod literals;
+mod objects;
 mod output;
 mod reading;
 mod replies;
+mod row_form;
 mod script;
+mod show_fault;
+mod showing;
 mod streams;
+mod tables;
 mod texts;
 mod words;
 
 pub use answering::{Answering, RefusedLine};
 pub use fault::ScriptFault;
+pub use row_form::RowForm;
 pub use script::{MOST_OF_SCRIPT, run_script};
+pub use show_fault::ShowFault;
+pub use showing::show;
 pub use words::number;

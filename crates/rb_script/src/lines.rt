@@ -3,19 +3,17 @@
 ghost use Rattle.std.specs.Prelude.{◌≡◌, ◌++◌, ◌∷◌, [], codes, IfOk, IfSome, Some, None, length};
 ghost use Rattle.std.specs.Prelude.{map as list_map, string_bytes, ◌<◌};
 ghost use Rattle.cs_model.specs.Schema.{table_refusal};
-ghost use Rattle.cs_parse.specs.Reading.{answer_of};
 ghost use Rattle.rb_core.specs.Outcome.{outcome};
 ghost use Rattle.rb_script.specs.Lines.{line_answer, form_answer, line_of, world_of, event_answer};
 ghost use Rattle.rb_script.specs.Lines.{entry_answer, rows_answer, left_answer, with_line_end};
 ghost use Rattle.rb_script.specs.Lines.{combine_answer, table_answer, table_added};
-ghost use Rattle.rb_script.specs.Lines.{header_of_answer};
 
 use crate::forms::Form;
+use crate::header::header_in;
 use crate::reading::form;
 use crate::replies::{text_of, text_of_desk_refusal};
 use crate::texts::{text_of_changeset, text_of_entry, text_of_rows};
 use cs_model::{CopyIn, Schema, SchemaError, Shape, TableFault};
-use cs_parse::{ParseError, parse};
 use rb_core::{Config, Event, World};
 use rb_desk::DeskRefusal;
 use std::alloc::{AllocError, Global};
@@ -167,7 +165,7 @@ fn table(alloc: Global, stage: Stage, bytes: &[u8]) -> Result<(Vec<u8>, Stage), 
 {
     match stage {
         Stage::Running(world) => Ok((text_line(alloc, "refused Line")?, Stage::Running(world))),
-        Stage::Tables(schema) => match header(alloc, bytes)? {
+        Stage::Tables(schema) => match header_in(alloc, bytes)? {
             None => Ok((text_line(alloc, "refused BadShape")?, Stage::Tables(schema))),
             Some(shape) => add_table(alloc, schema, shape),
         },
@@ -190,15 +188,4 @@ fn add_table(
         Err(SchemaError::Memory) => return Err(AllocError),
     };
     Ok((text_line(alloc, text)?, Stage::Tables(schema)))
-}
-
-// the shape, if the text is exactly one header
-fn header(alloc: Global, bytes: &[u8]) -> Result<Option<Shape>, AllocError>
-    ensures { IfOk result (λ shape. shape ≡ header_of_answer (answer_of bytes.now)) }
-{
-    match parse(alloc, bytes) {
-        Ok(changeset) => Ok(changeset.into_header()),
-        Err(ParseError::Fault(_)) => Ok(None),
-        Err(ParseError::Memory) => Err(AllocError),
-    }
 }

@@ -18,8 +18,8 @@ pub fn form(alloc: Global, line: &[u8]) -> Result<Option<Form>, AllocError>
     form_of_parts(alloc, &words)
 }
 
-// the words between single spaces
-fn parts(alloc: Global, line: &[u8]) -> Result<Vec<&[u8]>, AllocError>
+/// The words between single spaces. Returns `AllocError` if memory runs out.
+pub fn parts(alloc: Global, line: &[u8]) -> Result<Vec<&[u8]>, AllocError>
     ensures { IfOk result (λ words. map (λ word. word.now) words.items ≡ words_of line.now) }
 {
     line.split(|byte| *byte == b' ').collect(alloc)
