@@ -6,26 +6,26 @@ use Rattle.std.specs.List.{AllByRecursion}
 use Rattle.std.proofs.lemmas.Bool.{le-leb}
 use Rattle.std.proofs.lemmas.List.{map-append, map-set, length-map}
 use Rattle.std.proofs.lemmas.Option.{slice_get-map}
-use Rattle.rb_desk.specs.declared.ticket.Ticket.{Ticket}
-use Rattle.rb_desk.specs.declared.ticket.Held.{Held}
-use Rattle.rb_desk.specs.declared.span.Span.{Span}
-use Rattle.rb_desk.specs.declared.span.Status.{Status}
-use Rattle.rb_desk.specs.declared.span.Status.TheVariants.{Ready, InFlight, Settled}
-use Rattle.rb_desk.specs.declared.sub.Sub.{Sub}
-use Rattle.rb_desk.specs.Spans.{fresh, cut_spans, is_ready}
-use Rattle.rb_desk.specs.Lanes.{FollowOn, cut_lane, ticketed, with_birth, birth, spans_of, lane_held, earlier}
-use Rattle.rb_desk.specs.Orders.{order, all_at, ready_at, out_at, out_at_status}
+use Rattle.rb_deliveries.specs.declared.ticket.Ticket.{Ticket}
+use Rattle.rb_deliveries.specs.declared.ticket.Held.{Held}
+use Rattle.rb_deliveries.specs.declared.span.Span.{Span}
+use Rattle.rb_deliveries.specs.declared.span.Status.{Status}
+use Rattle.rb_deliveries.specs.declared.span.Status.TheVariants.{Ready, InFlight, Settled}
+use Rattle.rb_deliveries.specs.declared.sub.Sub.{Sub}
+use Rattle.rb_deliveries.specs.Spans.{fresh, cut_spans, is_ready}
+use Rattle.rb_deliveries.specs.Lanes.{FollowOn, cut_lane, ticketed, with_birth, birth, spans_of, lane_held, earlier}
+use Rattle.rb_deliveries.specs.Orders.{order, all_at, ready_at, out_at, out_at_status}
 use Rattle.rb_desk.specs.Limits.{Limits}
 use Rattle.rb_desk.specs.Picture.{Picture, Subscription}
 use Rattle.rb_desk.specs.Calls.{named, subscribed_picture, reconnected_picture, unsubscribed_picture}
-use Rattle.rb_desk.specs.Shown.{shown, shown_sub, sub_held, IsDrawn, IsGiven, IsKnown, Belongs, new_sub}
-use Rattle.rb_desk.specs.Shown.{reconnected_sub, closed_sub}
-use Rattle.rb_desk.proofs.spans.CutLaws.{cut_ends, cut_induction}
-use Rattle.rb_desk.proofs.spans.LaneLaws.{lane_spans_is, joins_reach}
-use Rattle.rb_desk.proofs.orders.Line.{all_both, all_then}
-use Rattle.rb_desk.proofs.calls.KnownLaws.{all_set, all_get}
-use Rattle.rb_desk.proofs.orders.OrderLaws.{tagged_ready, tagged_out, order_cleared, order_replaced, order_pushed}
-use Rattle.rb_desk.proofs.orders.OrderLaws.{all_earlier}
+use Rattle.rb_desk.specs.Shown.{shown, shown_sub}
+use Rattle.rb_deliveries.specs.Subs.{sub_held, IsDrawn, IsGiven, IsKnown, Belongs, new_sub, reconnected_sub, closed_sub}
+use Rattle.rb_deliveries.proofs.spans.CutLaws.{cut_ends, cut_induction}
+use Rattle.rb_deliveries.proofs.spans.LaneLaws.{lane_spans_is, joins_reach}
+use Rattle.rb_deliveries.proofs.orders.Line.{all_both, all_then}
+use Rattle.rb_deliveries.proofs.subs.KnownLaws.{all_set, all_get}
+use Rattle.rb_deliveries.proofs.orders.OrderLaws.{tagged_ready, tagged_out, order_cleared, order_replaced, order_pushed}
+use Rattle.rb_deliveries.proofs.orders.OrderLaws.{all_earlier}
 
 -- ---- tickets
 

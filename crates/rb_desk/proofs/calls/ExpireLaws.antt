@@ -6,27 +6,28 @@ use Rattle.std.specs.Prelude.{⊤}
 use Rattle.std.specs.List.{AllByRecursion, cons_option}
 use Rattle.std.proofs.lemmas.List.Elements.{filter_map-append}
 use Rattle.std.proofs.lemmas.Option.{slice_get-map}
-use Rattle.rb_desk.specs.Expiry.{expired_held, expired_sub}
-use Rattle.rb_desk.specs.declared.ticket.Ticket.{Ticket}
-use Rattle.rb_desk.specs.declared.ticket.Held.{Held}
-use Rattle.rb_desk.specs.declared.span.Span.{Span}
-use Rattle.rb_desk.specs.declared.span.Status.{Status}
-use Rattle.rb_desk.specs.declared.span.Status.TheVariants.{Ready, InFlight, Settled}
-use Rattle.rb_desk.specs.declared.sub.Sub.{Sub}
-use Rattle.rb_desk.specs.Spans.{cut_spans, beginning, is_due, gone_back}
-use Rattle.rb_desk.specs.Lanes.{Lane, FollowOn, spans_of, lane_held}
-use Rattle.rb_desk.specs.Orders.{order, ready_at, out_at, out_at_status}
+use Rattle.rb_deliveries.specs.Expiry.{expired_held, expired_sub}
+use Rattle.rb_deliveries.specs.declared.ticket.Ticket.{Ticket}
+use Rattle.rb_deliveries.specs.declared.ticket.Held.{Held}
+use Rattle.rb_deliveries.specs.declared.span.Span.{Span}
+use Rattle.rb_deliveries.specs.declared.span.Status.{Status}
+use Rattle.rb_deliveries.specs.declared.span.Status.TheVariants.{Ready, InFlight, Settled}
+use Rattle.rb_deliveries.specs.declared.sub.Sub.{Sub}
+use Rattle.rb_deliveries.specs.Spans.{cut_spans, beginning, is_due, gone_back}
+use Rattle.rb_deliveries.specs.Lanes.{Lane, FollowOn, spans_of, lane_held}
+use Rattle.rb_deliveries.specs.Orders.{order, ready_at, out_at, out_at_status}
 use Rattle.rb_desk.specs.Limits.{Limits}
 use Rattle.rb_desk.specs.Picture.{Subscription}
 use Rattle.rb_desk.specs.Calls.{expires, expired_at, goes_back, is_due_of, span_is_due}
-use Rattle.rb_desk.specs.Shown.{shown, shown_sub, sub_held}
-use Rattle.rb_desk.proofs.spans.CutLaws.{CutIsFresh, cut_fresh}
-use Rattle.rb_desk.proofs.spans.LaneLaws.{lane_spans_is}
-use Rattle.rb_desk.proofs.orders.Line.{all_first, all_then}
-use Rattle.rb_desk.proofs.orders.OrderLaws.{Leaves, expired_order}
-use Rattle.rb_desk.proofs.calls.KnownLaws.{all_get}
+use Rattle.rb_desk.specs.Shown.{shown, shown_sub}
+use Rattle.rb_deliveries.specs.Subs.{sub_held}
+use Rattle.rb_deliveries.proofs.spans.CutLaws.{CutIsFresh, cut_fresh}
+use Rattle.rb_deliveries.proofs.spans.LaneLaws.{lane_spans_is}
+use Rattle.rb_deliveries.proofs.orders.Line.{all_first, all_then}
+use Rattle.rb_deliveries.proofs.orders.OrderLaws.{Leaves, expired_order}
+use Rattle.rb_deliveries.proofs.subs.KnownLaws.{all_get}
 use Rattle.rb_desk.proofs.calls.CuttingLaws.{cut_out, same_picture}
-use Rattle.rb_desk.proofs.spans.JoinLaws.{joins_lane}
+use Rattle.rb_deliveries.proofs.spans.JoinLaws.{joins_lane}
 
 -- a subscription of which the spans that are due went back, whatever their tickets are
 pub record ExpiresNow (timeout clock : ℕ) (old new : Sub) : Type 0 where
