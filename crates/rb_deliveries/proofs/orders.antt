@@ -7,3 +7,5 @@ pub mod TreeLaws
 pub mod WaitingLaws
 pub mod MomentLaws
 pub mod DueLaws
+pub mod ExpireLines
+pub mod ExpireOrder

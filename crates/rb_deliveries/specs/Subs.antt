@@ -1,5 +1,5 @@
--- What is stored of one subscription: its spans, what a call changes of it, and which of its spans is
--- delivered next.
+-- What is stored of one subscription: its spans, what a call changes of it, and which of its spans
+-- is delivered next.
 use Rattle.std.specs.Prelude.{◌≡◌, ℕ, suc, ◌+◌, ◌<◌, ◌≤◌, max, true, false, not, ◌&&◌, nat_lt, None}
 use Rattle.std.specs.Prelude.{List, [], ◌∷◌, ◌++◌, ◌⊎◌, Option, Some, slice_get, if◌then◌else◌}
 use Rattle.std.specs.List.{AllByRecursion}

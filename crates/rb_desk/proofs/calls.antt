@@ -7,5 +7,5 @@ pub mod AnyLaws
 pub mod CuttingLaws
 pub mod PlaceLaws
 pub mod ExpireLaws
-pub mod ExpireOrder
+pub mod ExpireShown
 pub mod ExpireCall

@@ -1,18 +1,19 @@
 -- The order of the spans of all subscriptions: how a change to one lane, or to each, changes it.
-use Rattle.std.proofs.Common.{◌≡◌, ℕ, zero, suc, ◌+◌, ◌≤◌, ne_eqb, eq-eqb, Bool, true, false, not, ◌==◌, ◌&&◌}
+use Rattle.std.proofs.Common.{◌≡◌, ℕ, zero, suc, ◌+◌, ◌-◌, ◌≤◌, ne_eqb, eq-eqb, Bool, true, false, not, ◌==◌, ◌&&◌}
 use Rattle.std.proofs.Common.{cond, List, [], ◌∷◌, ◌++◌, length, map, Option, Some, None, IfSome, filter, filter_map}
 use Rattle.std.proofs.Common.{slice_get, slice_set, append_assoc, append-nil, refl, sym, ap, ◌∙◌, subst, arith}
 use Rattle.std.specs.Prelude.{⊤}
 use Rattle.std.specs.List.{AllByRecursion, cons_option}
-use Rattle.std.proofs.lemmas.List.Elements.{filter-append}
+use Rattle.std.proofs.lemmas.List.Elements.{filter-append, filter_map-append}
 use Rattle.std.proofs.lemmas.Option.{slice_get_within}
 use Rattle.rb_deliveries.specs.declared.ticket.Ticket.{Ticket}
 use Rattle.rb_deliveries.specs.declared.ticket.Held.{Held}
 use Rattle.rb_deliveries.specs.declared.span.Status.{Status}
 use Rattle.rb_deliveries.specs.declared.span.Status.TheVariants.{Ready, InFlight, Settled}
-use Rattle.rb_deliveries.specs.Spans.{is_ready}
-use Rattle.rb_deliveries.specs.Lanes.{earlier}
+use Rattle.rb_deliveries.specs.Spans.{cut_spans, is_ready}
+use Rattle.rb_deliveries.specs.Lanes.{Lane, ticketed, lane_held, earlier}
 use Rattle.rb_deliveries.specs.Orders.{in_line, ready_at, out_at, out_at_status, all_at, order}
+use Rattle.rb_deliveries.proofs.spans.CutLaws.{cut_induction}
 use Rattle.rb_deliveries.proofs.orders.Line.{all_both, all_first, all_second, all_then, filter_all, filter_none, Before}
 use Rattle.rb_deliveries.proofs.orders.Line.{line_filter, line_more, line_appends}
 
@@ -352,3 +353,19 @@ pub all_earlier : (at : At) (t : Ticket) (lanes : List (List Held))
     → AllByRecursion (λ lane. AllByRecursion (λ h. (s : ℕ) → IfSome (at s h) (λ e. earlier e.0 t ≡ true)) lane) lanes
     → AllByRecursion (λ e. earlier e.0 t ≡ true) (all_at at 0 lanes)
 all_earlier at t lanes h = earlier_from at t 0 lanes h
+
+-- ---- what is out of a lane
+
+-- no span of a cutting is out
+pub cut_out : (batch front a s : ℕ) (t : Ticket) → 1 ≤ batch
+    → filter_map (out_at s) (ticketed t (cut_spans batch a front)) ≡ []
+cut_out batch front a s t one = cut_induction batch front (λ a spans. filter_map (out_at s) (ticketed t spans) ≡ []) one
+    (λ a h. refl) (λ a h rest. rest) (suc front - a) a (omega arith)
+
+-- a lane has only spans out that were taken before
+pub lane_out : (batch front s : ℕ) (kept : Lane) → 1 ≤ batch → filter_map (out_at s) (lane_held batch front kept)
+    ≡ filter_map (out_at s) kept.held
+lane_out batch front s kept one =
+    filter_map-append (out_at s) kept.held _
+    ∙ ap (λ l. filter_map (out_at s) kept.held ++ l) (cut_out batch front kept.next s kept.cutting one)
+    ∙ append-nil _

@@ -159,3 +159,17 @@ joins_expired low next timeout clock ticket (h ∷ rest) j =
         ∷ map (expired_held timeout clock ticket) rest) next
     by true more = (j.0, j.1, more)
     by false more = (j.0, j.1, more)
+
+-- what holds of each span that begins and ends between two numbers holds of a cutting
+pub cutting_all : (batch b : ℕ) (cutting : Ticket) (P : Held → Type 0) → 1 ≤ batch → (low : ℕ)
+    → ((x end : ℕ) → low ≤ x → x ≤ end → end ≤ b → P (with_birth cutting (fresh x end)))
+    → AllByRecursion P (ticketed cutting (cut_spans batch low b))
+cutting_all batch b cutting P one low =
+    cut_induction batch b
+    (λ low spans. ((x end : ℕ) → low ≤ x → x ≤ end → end ≤ b → P (with_birth cutting (fresh x end)))
+    → AllByRecursion P (ticketed cutting spans)) one
+    (λ a h each. tt)
+    (λ a h rest each. (
+      each a (cut_ends batch a b) (omega arith) (omega arith) (omega arith),
+      rest (λ x end l m n. each x end (omega arith) m n),
+    )) (suc b - low) low (omega arith)

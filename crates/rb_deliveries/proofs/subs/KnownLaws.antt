@@ -69,7 +69,7 @@ out_before number s first (InFlight n moment) given = grind arith
 out_before number s first Settled given = tt
 
 -- a drawn ticket is earlier than that of the next turn
-drawn_before : (front turn : ℕ) (t : Ticket) → IsDrawn front turn t
+pub drawn_before : (front turn : ℕ) (t : Ticket) → IsDrawn front turn t
     → earlier t (record { front = front; turn = suc turn }) ≡ true
 drawn_before front turn t drawn = let f = drawn.0 in let n = drawn.1 in grind arith
 
@@ -83,7 +83,7 @@ ready_before front turn s h drawn = by (is_ready h.span.status)
     by false = tt
 
 -- the ticket of a span never taken was drawn, where its first number is placed
-known_birth_drawn : (front turn first : ℕ) (cutting : Ticket) → IsDrawn front turn cutting → first ≤ front
+pub known_birth_drawn : (front turn first : ℕ) (cutting : Ticket) → IsDrawn front turn cutting → first ≤ front
     → IsDrawn front turn (birth cutting first)
 known_birth_drawn front turn first cutting drawn le = by (nat_le first cutting.front)
   where

@@ -9,7 +9,7 @@ use Rattle.rb_desk.specs.Shown.{shown}
 use Rattle.rb_deliveries.specs.Subs.{Belongs}
 use Rattle.rb_deliveries.specs.Expiry.{turns_from, by_number, expired_sub, all_due}
 use Rattle.rb_desk.proofs.calls.ExpireLaws.{ExpireFollows}
-use Rattle.rb_desk.proofs.calls.ExpireOrder.{turned_back_shown, expired_count}
+use Rattle.rb_desk.proofs.calls.ExpireShown.{turned_back_shown, expired_count}
 
 -- what belongs and follows one another follows up to the front
 follow : (front turn number : ℕ) (subs : List Sub) → AllByRecursion (Belongs front turn number) subs

@@ -20,8 +20,8 @@ use Rattle.rb_deliveries.specs.Subs.{sub_held, IsKnown, Belongs}
 use Rattle.rb_deliveries.proofs.spans.CutLaws.{grown_behind, cut_grows}
 use Rattle.rb_deliveries.proofs.spans.LaneLaws.{lane_spans_is}
 use Rattle.rb_deliveries.proofs.orders.Line.{all_then}
-use Rattle.rb_deliveries.proofs.orders.OrderLaws.{OrderGrows, order_grown}
-use Rattle.rb_desk.proofs.calls.CuttingLaws.{before_placement, ready_earlier, cut_out, same_picture}
+use Rattle.rb_deliveries.proofs.orders.OrderLaws.{OrderGrows, order_grown, cut_out}
+use Rattle.rb_desk.proofs.calls.CuttingLaws.{before_placement, ready_earlier, same_picture}
 
 -- ---- spans that were taken before
 

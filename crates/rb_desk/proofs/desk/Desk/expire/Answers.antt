@@ -1,7 +1,7 @@
 use Rattle.std.proofs.Common.{◌≡◌, ◌∙◌, max, map, ap, sym}
 use Rattle.rb_desk.specs.Shown.{shown}
 use Rattle.rb_deliveries.specs.Expiry.{expired_sub, by_number, turns_from, all_due}
-use Rattle.rb_desk.proofs.calls.ExpireOrder.{belongs_turned_back}
+use Rattle.rb_deliveries.proofs.subs.ExpiredLaws.{belongs_turned_back}
 use Rattle.rb_desk.proofs.calls.ExpireCall.{expire_is}
 use Rattle.rb_deliveries.proofs.subs.KnownLaws.{few_map}
 use Rattle.rb_desk.proofs.desk.Desk.expire.Goals as goal
