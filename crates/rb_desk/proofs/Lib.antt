@@ -1,7 +1,3 @@
--- The spans of one subscription: how numbers are cut, and what a call changes.
-pub mod spans
--- The ready order and the in-flight order, computed from tickets.
-pub mod orders
 -- Each call returns what its definition says, and the desk shows the picture after it.
 pub mod calls
 -- Every call preserves the invariant of a picture; no number is issued twice; the front and the floors rise.

@@ -1,10 +1,11 @@
 -- Each call returns what its definition says, and the desk shows the picture after it.
 pub mod CallLaws
-pub mod KnownLaws
 pub mod OpenLaws
 pub mod HandLaws
+pub mod SearchLaws
 pub mod AnyLaws
 pub mod CuttingLaws
 pub mod PlaceLaws
 pub mod ExpireLaws
+pub mod ExpireShown
 pub mod ExpireCall

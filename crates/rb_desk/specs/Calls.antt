@@ -3,13 +3,14 @@ use Rattle.std.specs.Prelude.{ℕ, suc, max, ⊤, Bool, true, false, not, ◌&&�
 use Rattle.std.specs.Prelude.{◌++◌, length, map, Option, Some, None, Result, Ok, Err, slice_get}
 use Rattle.std.specs.Prelude.{slice_set, ◌==◌, nat_lt, nat_le, if◌then◌else◌}
 use Rattle.std.specs.List.{filter, find}
-use Rattle.rb_desk.specs.declared.span.Span.{Span}
-use Rattle.rb_desk.specs.declared.span.Status.TheVariants.{Ready, InFlight, Settled}
+use Rattle.rb_deliveries.specs.declared.span.Span.{Span}
+use Rattle.rb_deliveries.specs.declared.span.Status.TheVariants.{Ready, InFlight, Settled}
 use Rattle.rb_desk.specs.declared.delivery.Delivery.{Delivery}
 use Rattle.rb_desk.specs.declared.refusal.DeskRefusal.{DeskRefusal}
 use Rattle.rb_desk.specs.declared.refusal.DeskRefusal.TheVariants as refusal
-use Rattle.rb_desk.specs.Spans.{cut_spans, first_ready, out_as, beginning, how_many_out, is_due}
-use Rattle.rb_desk.specs.Spans.{with_status, gone_back, raised, last_takes, grown_spans}
+use Rattle.rb_deliveries.specs.Spans.{cut_spans, first_ready, out_as, beginning, how_many_out}
+use Rattle.rb_deliveries.specs.Spans.{is_due, with_status, gone_back, raised, last_takes}
+use Rattle.rb_deliveries.specs.Spans.{grown_spans}
 use Rattle.rb_desk.specs.Picture.{Picture, Subscription}
 
 -- a refused call

@@ -2,12 +2,12 @@
 use Rattle.std.specs.Prelude.{◌≡◌, ℕ, suc, ◌+◌, ◌<◌, ◌≤◌, Bool, true, false, List, [], ◌∷◌, length}
 use Rattle.std.specs.Prelude.{IfSome, Option, Some, None, slice_get, ◌==◌}
 use Rattle.std.specs.List.{filter, AllByRecursion}
-use Rattle.rb_desk.specs.declared.span.Span.{Span}
-use Rattle.rb_desk.specs.declared.span.Status.{Status}
-use Rattle.rb_desk.specs.declared.span.Status.TheVariants.{Ready, InFlight, Settled}
+use Rattle.rb_deliveries.specs.declared.span.Span.{Span}
+use Rattle.rb_deliveries.specs.declared.span.Status.{Status}
+use Rattle.rb_deliveries.specs.declared.span.Status.TheVariants.{Ready, InFlight, Settled}
 use Rattle.rb_desk.specs.Limits.{Limits, first_out_of_range}
-use Rattle.rb_desk.specs.Spans.{is_ready, is_fresh, is_out, is_out_as, is_settled, beginning}
-use Rattle.rb_desk.specs.Spans.{how_many_out}
+use Rattle.rb_deliveries.specs.Spans.{is_ready, is_fresh, is_out, is_out_as, is_settled, beginning}
+use Rattle.rb_deliveries.specs.Spans.{how_many_out}
 use Rattle.rb_desk.specs.Picture.{Picture, Subscription}
 use Rattle.rb_desk.specs.Calls.{is_span}
 

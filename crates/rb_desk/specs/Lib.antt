@@ -1,15 +1,8 @@
 pub mod Limits
-pub mod Spans
 pub mod Picture
 pub mod Calls
 pub mod Answers
-pub mod Lanes
-pub mod Tournament
-pub mod Taken
-pub mod Orders
 pub mod Shown
-pub mod Waiting
-pub mod Expiry
 pub mod Steps
 pub mod IsPicture
 pub mod Rows

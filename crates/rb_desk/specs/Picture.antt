@@ -1,8 +1,8 @@
 -- The desk's state as a value: a picture, with its subscriptions and orders.
 use Rattle.std.specs.Prelude.{ℕ, Bool, List, [], Option, None, refl}
 use Rattle.std.specs.Coded.{Coded, code_by, coded×, coded_list, coded_ℕ, coded_bool, coded_option}
-use Rattle.rb_desk.specs.contracts.span.Span as span
-use Rattle.rb_desk.specs.declared.span.Span.{Span}
+use Rattle.rb_deliveries.specs.contracts.span.Span as span
+use Rattle.rb_deliveries.specs.declared.span.Span.{Span}
 use Rattle.rb_desk.specs.Limits.{Limits, limits_code}
 
 -- A subscription: the number after which it began, the floor, the greatest number delivered, the

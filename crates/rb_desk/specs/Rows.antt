@@ -5,7 +5,7 @@ use Rattle.rb_desk.specs.declared.step.Step.TheVariants.{Subscribe, Take, Ack, N
 use Rattle.rb_desk.specs.declared.step.Step.TheVariants.{Place, Close}
 use Rattle.rb_desk.specs.Limits.{Limits}
 use Rattle.rb_desk.specs.Picture.{Picture}
-use Rattle.rb_desk.specs.Spans.{cut_spans}
+use Rattle.rb_deliveries.specs.Spans.{cut_spans}
 use Rattle.rb_desk.specs.Calls.{subscribe, take, take_any, ack, nack, expire, reconnect, prepare}
 use Rattle.rb_desk.specs.Calls.{place, close}
 use Rattle.rb_desk.specs.Steps.{after_step, replay}

@@ -2,7 +2,7 @@
 
 ghost use Rattle.std.specs.Prelude.{◌≡◌};
 
-use crate::span::Span;
+use rb_deliveries::Span;
 use std::fmt;
 
 /// The numbers `first` to `last` of the sequence, delivered to a subscription. Only a desk makes

@@ -4,8 +4,7 @@ ghost use Rattle.std.specs.Prelude.{◌≡◌};
 ghost use Rattle.rb_desk.specs.Picture.{empty_picture};
 
 use crate::config::Config;
-use crate::sub::Sub;
-use crate::tournament::Tournament;
+use rb_deliveries::Deliveries;
 use std::alloc::Global;
 use std::marker::Model;
 
@@ -21,30 +20,27 @@ pub struct Desk {
     pub(crate) next_delivery: u64,
     // how many tickets were drawn, placements not counted
     pub(crate) turn: u64,
-    pub(crate) subs: Vec<Sub>,
-    // the tickets of the subscriptions, and their earliest moments: they follow from `subs`
-    pub(crate) line: Tournament,
-    pub(crate) moments: Tournament,
+    pub(crate) deliveries: Deliveries,
 }
 
 impl Model for Desk {
-    ghost use Rattle.std.specs.Prelude.{◌≤◌, length};
+    ghost use Rattle.std.specs.Prelude.{◌≡◌, ◌≤◌, length};
     ghost use Rattle.std.specs.List.{AllByRecursion};
     ghost use Rattle.rb_desk.specs.Picture.{Picture, picture_code};
-    ghost use Rattle.rb_desk.specs.Shown.{shown, IsWithin, Belongs};
-    ghost use Rattle.rb_desk.specs.Waiting.{AreWaiting};
+    ghost use Rattle.rb_desk.specs.Shown.{shown, IsWithin};
+    ghost use Rattle.rb_deliveries.specs.Subs.{Belongs};
 
     ghost Value = { Picture };
 
     ghost coded = { picture_code };
 
     ghost view = { λ d. shown d.config d.front d.closing d.clock d.next_link d.next_delivery
-        d.subs.items };
+        d.deliveries.subs };
 
     ghost invariant = { λ d. IsWithin d.config d.front
-        × AllByRecursion (Belongs d.front d.turn d.next_delivery) d.subs.items
-        × (length d.subs.items ≤ 1024)
-        × AreWaiting d.config.window d.subs.items d.line d.moments };
+        × AllByRecursion (Belongs d.front d.turn d.next_delivery) d.deliveries.subs
+        × (length d.deliveries.subs ≤ 1024)
+        × (d.deliveries.window ≡ d.config.window) };
 }
 
 impl Desk {
@@ -60,9 +56,7 @@ impl Desk {
             next_link: 1,
             next_delivery: 1,
             turn: 0,
-            subs: Vec::new(alloc),
-            line: Tournament::new(alloc),
-            moments: Tournament::new(alloc),
+            deliveries: Deliveries::new(alloc, config.window()),
         }
     }
 

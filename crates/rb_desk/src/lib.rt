@@ -6,24 +6,17 @@
 mod config;
 mod delivery;
 mod desk;
-mod held;
-mod lane;
 pub mod laws;
 mod placing;
 mod refusal;
 mod settling;
-mod span;
 mod step;
-mod sub;
 mod subscribing;
-mod taken;
 mod taking;
-mod ticket;
-mod tournament;
 
 pub use config::{Config, ConfigFault};
 pub use delivery::Delivery;
 pub use desk::Desk;
+pub use rb_deliveries::{Span, Status};
 pub use refusal::{DeskError, DeskRefusal};
-pub use span::{Span, Status};
 pub use step::Step;

@@ -67,6 +67,6 @@ impl Desk {
     pub fn made(&self) -> u64
         ensures { result ≡ length self.now.subscriptions }
     {
-        self.subs.len() as u64
+        self.deliveries.len()
     }
 }

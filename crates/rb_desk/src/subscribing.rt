@@ -1,15 +1,13 @@
 //! Calls that make, continue and close subscriptions.
 
-ghost use Rattle.std.specs.Prelude.{◌≡◌, ◌++◌, ◌∷◌, [], suc, OnOk, OnErr};
+ghost use Rattle.std.specs.Prelude.{◌≡◌, suc, OnErr};
 ghost use Rattle.rb_desk.specs.Calls.{subscribe, reconnect, unsubscribe};
 ghost use Rattle.rb_desk.specs.Answers.{DeskAnswers, OnlyMemory, call_refusal};
 
 use crate::desk::Desk;
 use crate::refusal::{DeskError, DeskRefusal};
-use crate::sub::{Sub, numbered, stand};
-use crate::ticket::Ticket;
-use crate::tournament::Tournament;
-use std::alloc::{AllocError, Global};
+use rb_deliveries::Ticket;
+use std::alloc::Global;
 
 impl Desk {
     /// Adds a subscription to the numbers after `start`. Returns its number, from 0, and its link.
@@ -24,16 +22,12 @@ impl Desk {
             return Err(why.into());
         }
         let front = self.front;
-        let sub = self.subs.len() as u64;
+        let sub = self.deliveries.len();
         let link = self.next_link;
         let next_link = after(link)?;
         let turn = after(self.turn)?;
-        self.subs.reserve(1)?;
-        let made = Sub::behind(alloc, start, link, Ticket { front, turn });
-        let ticket = made.ticket(self.config.window());
-        let moment = made.lane.earliest();
-        push_both(alloc, &mut self.line, &mut self.moments, ticket, moment)?;
-        self.subs.push_reserved(made);
+        let ticket = Ticket { front, turn };
+        self.deliveries.add_subscriber(alloc, start, link, ticket)?;
         self.next_link = next_link;
         self.turn = turn;
         Ok((sub, link))
@@ -49,7 +43,7 @@ impl Desk {
         if front < start {
             return Some(DeskRefusal::StartAhead { front });
         }
-        if self.subs.len() >= 1_024 {
+        if self.deliveries.len() >= 1_024 {
             return Some(DeskRefusal::TooMany);
         }
         None
@@ -65,14 +59,13 @@ impl Desk {
     pub fn reconnect(&mut self, alloc: Global, sub: u64, cursor: u64) -> Result<u64, DeskError>
         ensures { DeskAnswers result (reconnect self.old sub cursor) self.old self.new }
     {
-        let s = sub as usize;
-        let Some(found) = numbered(&self.subs, sub) else {
+        let Some(found) = self.deliveries.get(sub) else {
             return Err(DeskRefusal::NoSuch.into());
         };
         if found.closed {
             return Err(DeskRefusal::Closed.into());
         }
-        let floor = found.lane.floor();
+        let floor = found.floor();
         let offered = found.offered;
         if cursor < floor || offered < cursor {
             return Err(DeskRefusal::BadCursor { floor, offered }.into());
@@ -81,14 +74,8 @@ impl Desk {
         let next_link = after(link)?;
         let turn = after(self.turn)?;
         let front = self.front;
-        self.subs[s].reconnect(alloc, cursor, link, Ticket { front, turn });
-        stand(
-            &self.subs,
-            &mut self.line,
-            &mut self.moments,
-            self.config.window(),
-            s,
-        );
+        let ticket = Ticket { front, turn };
+        self.deliveries.reconnect(alloc, sub, cursor, link, ticket);
         self.next_link = next_link;
         self.turn = turn;
         Ok(link)
@@ -102,8 +89,7 @@ impl Desk {
         ensures answer { unsubscribe self.old sub link ≡ (result, self.new) }
         ensures err { OnErr result (self.new ≡ self.old) }
     {
-        let s = sub as usize;
-        let Some(found) = numbered(&self.subs, sub) else {
+        let Some(found) = self.deliveries.get(sub) else {
             return Err(DeskRefusal::NoSuch);
         };
         if found.link != link {
@@ -112,14 +98,7 @@ impl Desk {
         if found.closed {
             return Err(DeskRefusal::Closed);
         }
-        self.subs[s].close();
-        stand(
-            &self.subs,
-            &mut self.line,
-            &mut self.moments,
-            self.config.window(),
-            s,
-        );
+        self.deliveries.close(sub);
         Ok(())
     }
 }
@@ -132,24 +111,4 @@ pub(crate) fn after(n: u64) -> Result<u64, DeskError>
         Some(next) => Ok(next),
         None => Err(DeskError::Memory),
     }
-}
-
-// adds a place to both, or to none
-fn push_both(
-    alloc: Global,
-    line: &mut Tournament,
-    moments: &mut Tournament,
-    ticket: Option<Ticket>,
-    moment: Option<Ticket>,
-) -> Result<(), AllocError>
-    ensures ok { OnOk result ((line.new ≡ line.old ++ ticket ∷ [])
-        × (moments.new ≡ moments.old ++ moment ∷ [])) }
-    ensures err { OnErr result ((line.new ≡ line.old) × (moments.new ≡ moments.old)) }
-{
-    line.push(alloc, ticket)?;
-    if let Err(e) = moments.push(alloc, moment) {
-        line.pop();
-        return Err(e);
-    }
-    Ok(())
 }

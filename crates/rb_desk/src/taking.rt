@@ -1,22 +1,17 @@
 //! Calls that deliver numbers to subscriptions.
 
-ghost use Rattle.std.specs.Prelude.{◌≡◌, ◌<◌, ℕ, length, map, IfSome};
+ghost use Rattle.std.specs.Prelude.{◌≡◌, ◌<◌, ℕ, length};
 ghost use Rattle.rb_desk.specs.Calls.{take, take_any};
 ghost use Rattle.rb_desk.specs.Answers.{DeskAnswers, call_refusal};
-ghost use Rattle.std.specs.Option.{option_map};
-ghost use Rattle.rb_desk.specs.Lanes.{AreLimited, HasNumbers};
-ghost use Rattle.rb_desk.specs.Shown.{why_none, WhenDelivered, first_to_deliver, span_to_deliver};
-ghost use Rattle.rb_desk.specs.Shown.{IsJoinedAt, FindsToTake};
-ghost use Rattle.rb_desk.specs.Waiting.{sub_ticket, AreWaiting, BelongAll};
+ghost use Rattle.rb_desk.specs.Shown.{why_none, WhenDelivered, FindsToTake};
+ghost use Rattle.rb_deliveries.specs.Lanes.{AreLimited, HasNumbers};
 
 use crate::config::Config;
 use crate::delivery::Delivery;
 use crate::desk::Desk;
 use crate::refusal::{DeskError, DeskRefusal};
-use crate::span::Span;
-use crate::sub::{Sub, numbered, stand};
 use crate::subscribing::after;
-use crate::tournament::Tournament;
+use rb_deliveries::{Deliveries, Span};
 
 impl Desk {
     /// Delivers a subscription's ready span with the lowest numbers; it is in flight from now on.
@@ -39,16 +34,13 @@ impl Desk {
             self.config,
             self.front,
             self.closing,
-            &self.subs,
+            &self.deliveries,
             sub,
             link,
             cursor,
         )?;
         deliver(
-            &mut self.subs,
-            &mut self.line,
-            &mut self.moments,
-            self.config.window(),
+            &mut self.deliveries,
             &mut self.next_delivery,
             &mut self.clock,
             sub,
@@ -66,7 +58,7 @@ impl Desk {
             self.config,
             self.front,
             self.closing,
-            &self.subs,
+            &self.deliveries,
             sub,
             link,
             cursor,
@@ -83,17 +75,12 @@ impl Desk {
         ensures { DeskAnswers result (take_any self.old now) self.old self.new }
     {
         let front = self.front;
-        let window = self.config.window();
         let batch = self.config.batch();
-        let Some((sub, span)) = first_to_deliver(&self.subs, &self.line, window, batch, front)
-        else {
+        let Some((sub, span)) = self.deliveries.first_to_deliver(batch, front) else {
             return Err(DeskRefusal::Empty { front }.into());
         };
         deliver(
-            &mut self.subs,
-            &mut self.line,
-            &mut self.moments,
-            self.config.window(),
+            &mut self.deliveries,
             &mut self.next_delivery,
             &mut self.clock,
             sub,
@@ -107,9 +94,8 @@ impl Desk {
         ensures { (now : ℕ) → result ≡ call_refusal (take_any self.now now).0 }
     {
         let front = self.front;
-        let window = self.config.window();
         let batch = self.config.batch();
-        match first_to_deliver(&self.subs, &self.line, window, batch, front) {
+        match self.deliveries.first_to_deliver(batch, front) {
             Some(_) => None,
             None => Some(DeskRefusal::Empty { front }),
         }
@@ -122,15 +108,16 @@ fn to_take(
     config: Config,
     front: u64,
     closing: Option<u64>,
-    subs: &[Sub],
+    deliveries: &Deliveries,
     sub: u64,
     link: u64,
     cursor: u64,
 ) -> Result<Span, DeskRefusal>
     requires { AreLimited config.batch front }
-    ensures { FindsToTake result config front closing subs.now sub link cursor }
+    ensures { FindsToTake result config front closing deliveries.now.subs sub link
+        cursor }
 {
-    let Some(found) = numbered(subs, sub) else {
+    let Some(found) = deliveries.get(sub) else {
         return Err(DeskRefusal::NoSuch);
     };
     if found.link != link {
@@ -139,67 +126,36 @@ fn to_take(
     if found.closed {
         return Err(DeskRefusal::Closed);
     }
-    if found.lane.out() >= config.window() {
+    if found.out() >= config.window() {
         return Err(DeskRefusal::WindowFull);
     }
-    match found.lane.first_ready(config.batch(), front) {
+    match found.first_ready(config.batch(), front) {
         Some(span) => Ok(span),
-        None => Err(none_ready(closing, front, found.lane.is_empty(front), cursor)),
+        None => Err(none_ready(closing, front, found.is_empty(front), cursor)),
     }
 }
 
 // Delivers a span of the subscription with this number: it is in flight as the next delivery.
 fn deliver(
-    subs: &mut Vec<Sub>,
-    line: &mut Tournament,
-    moments: &mut Tournament,
-    window: u64,
+    deliveries: &mut Deliveries,
     next_delivery: &mut u64,
     clock: &mut u64,
     sub: u64,
     span: Span,
     now: u64,
 ) -> Result<Delivery, DeskError>
-    requires span { (sub < length subs.old.items) × HasNumbers span }
-    requires waiting { AreWaiting window subs.old.items line.old moments.old }
-    ensures delivered { WhenDelivered result subs.old.items sub span next_delivery.old clock.old now
-        subs.new.items next_delivery.new clock.new }
-    ensures waiting { AreWaiting window subs.new.items line.new moments.new }
+    requires { (sub < length deliveries.old.subs) × HasNumbers span }
+    ensures delivered { WhenDelivered result deliveries.old.subs sub span next_delivery.old
+        clock.old now deliveries.new.subs next_delivery.new clock.new }
+    ensures window { deliveries.new.window ≡ deliveries.old.window }
 {
     let number = *next_delivery;
     let next = after(number)?;
     let taken = (*clock).max(now);
-    let found = &mut subs[sub as usize];
-    let link = found.link;
-    found.deliver(span, number, taken)?;
-    stand(subs, line, moments, window, sub as usize);
+    let link = deliveries.deliver(sub, span, number, taken)?;
     *next_delivery = next;
     *clock = taken;
     Ok(Delivery::of(number, sub, link, span))
-}
-
-// the span to deliver before all others, and its subscription's number
-fn first_to_deliver(
-    subs: &[Sub],
-    line: &Tournament,
-    window: u64,
-    batch: u64,
-    front: u64,
-) -> Option<(u64, Span)>
-    requires limits { AreLimited batch front }
-    requires line { line.now ≡ map (sub_ticket window) subs.now }
-    requires belong { BelongAll front subs.now }
-    ensures value { result ≡ option_map span_to_deliver
-        (first_to_deliver window batch front 0 subs.now) }
-    ensures joined { IfSome result (λ c. IsJoinedAt subs.now c.0) }
-{
-    let winner = line.winner()?;
-    // the ticket of numbers that aren't placed yet
-    if front < winner.ticket.front {
-        return None;
-    }
-    let held = subs[winner.place].lane.first_in_line(batch, front)?;
-    Some((winner.place as u64, held.span))
 }
 
 // why nothing is delivered

@@ -2,19 +2,20 @@
 use Rattle.std.proofs.Common.{◌≡◌, ℕ, ◌≤◌, max, List, Option, Some, None, Ok, option_map, slice_get, refl, sym, ap}
 use Rattle.std.proofs.Common.{subst, ◌∙◌, arith}
 use Rattle.std.specs.List.{AllByRecursion}
-use Rattle.rb_desk.specs.declared.span.Span.{Span}
-use Rattle.rb_desk.specs.declared.ticket.Held.{Held}
-use Rattle.rb_desk.specs.declared.sub.Sub.{Sub}
+use Rattle.rb_deliveries.specs.declared.span.Span.{Span}
+use Rattle.rb_deliveries.specs.declared.ticket.Held.{Held}
+use Rattle.rb_deliveries.specs.declared.sub.Sub.{Sub}
 use Rattle.rb_desk.specs.declared.refusal.DeskRefusal.TheVariants as refusal
 use Rattle.rb_desk.specs.Limits.{Limits}
-use Rattle.rb_desk.specs.Lanes.{AreJoined, least, lane_held}
+use Rattle.rb_deliveries.specs.Lanes.{AreJoined, least, lane_held}
 use Rattle.rb_desk.specs.Calls.{take_any, refused_call, delivered_picture, delivery_from}
-use Rattle.rb_desk.specs.Shown.{Belongs, IsDeliverable, IsJoinedAt, first_to_deliver, span_to_deliver, shown, shown_sub}
-use Rattle.rb_desk.proofs.calls.KnownLaws.{all_get}
-use Rattle.rb_desk.proofs.spans.FoundLaws.{may_go_least}
+use Rattle.rb_desk.specs.Shown.{shown, shown_sub}
+use Rattle.rb_deliveries.specs.Subs.{Belongs, IsDeliverable, IsJoinedAt, first_to_deliver, span_to_deliver}
+use Rattle.rb_deliveries.proofs.subs.KnownLaws.{all_get}
+use Rattle.rb_deliveries.proofs.spans.FoundLaws.{may_go_least}
 use Rattle.rb_desk.proofs.calls.OpenLaws.{IsOpen}
-use Rattle.rb_desk.proofs.orders.SearchLaws.{take_any_none, take_any_some}
-use Rattle.rb_desk.proofs.spans.FirstLaws.{tagged_to_go, candidates_are, first_goes, goes_open, none_some}
+use Rattle.rb_desk.proofs.calls.SearchLaws.{take_any_none, take_any_some}
+use Rattle.rb_deliveries.proofs.spans.FirstLaws.{tagged_to_go, candidates_are, first_goes, goes_open, none_some}
 
 -- the span that goes first, with its subscription
 pub record AnyGoes (lim : Limits) (front turn number : ℕ) (subs : List Sub) (s : ℕ) (span : Span) : Type 0 where
@@ -88,7 +89,7 @@ pub any_taken : (lim : Limits) (front turn clock next_link number now : ℕ) (cl
 any_taken lim front turn clock next_link number now closing subs s span g =
     let own = all_get (Belongs front turn number) subs s g.sub g.opened.belong g.opened.found in
     take_any_some lim front clock next_link number now s closing subs g.sub g.held g.opened.one
-    (candidates_are lim front 0 subs ∙ ap (option_map tagged_to_go) g.first) g.opened.found own.is_next
+    (candidates_are lim.window lim.batch front 0 subs ∙ ap (option_map tagged_to_go) g.first) g.opened.found own.is_next
     g.opened.joins g.opened.is_open g.leads
     ∙ ap (λ (span : Span). (
       Ok (delivery_from (shown lim front closing clock next_link number subs) s (shown_sub lim.batch front g.sub)
@@ -108,4 +109,5 @@ pub none_taken : (lim : Limits) (front clock next_link number now : ℕ) (closin
     ≡ refused_call (shown lim front closing clock next_link number subs) (refusal.Empty front)
 none_taken lim front clock next_link number now closing subs h =
     take_any_none lim front clock next_link number now closing subs
-    (candidates_are lim front 0 subs ∙ no_candidate (first_to_deliver lim.window lim.batch front 0 subs) h)
+    (candidates_are lim.window lim.batch front 0 subs ∙ no_candidate (first_to_deliver lim.window lim.batch front 0
+    subs) h)

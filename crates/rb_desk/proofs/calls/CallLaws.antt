@@ -9,26 +9,28 @@ use Rattle.std.specs.List.{AllByRecursion}
 use Rattle.std.proofs.lemmas.List.Folds.{find-append}
 use Rattle.std.proofs.lemmas.List.Elements.{filter-append}
 use Rattle.std.proofs.lemmas.Bool.{ltb-true, ltb-false, leb-false, lt-ltb, le-ltb, lt-leb, false≢true}
-use Rattle.rb_desk.specs.declared.span.Span.{Span}
-use Rattle.rb_desk.specs.declared.span.Status.TheVariants.{Settled}
-use Rattle.rb_desk.specs.declared.sub.Sub.{Sub}
-use Rattle.rb_desk.specs.declared.ticket.Held.{Held}
+use Rattle.rb_deliveries.specs.declared.span.Span.{Span}
+use Rattle.rb_deliveries.specs.declared.span.Status.TheVariants.{Settled}
+use Rattle.rb_deliveries.specs.declared.sub.Sub.{Sub}
+use Rattle.rb_deliveries.specs.declared.ticket.Held.{Held}
 use Rattle.rb_desk.specs.declared.refusal.DeskRefusal.{DeskRefusal}
 use Rattle.rb_desk.specs.declared.refusal.DeskRefusal.TheVariants as refusal
 use Rattle.rb_desk.specs.declared.refusal.DeskError.{DeskError}
 use Rattle.rb_desk.specs.declared.refusal.DeskError.TheVariants.{Memory}
-use Rattle.rb_desk.specs.Spans.{cut_spans, first_ready, is_out, how_many_out, is_out_as, out_as, raised, with_status}
+use Rattle.rb_deliveries.specs.Spans.{cut_spans, first_ready, is_out, how_many_out, is_out_as, out_as, raised}
+use Rattle.rb_deliveries.specs.Spans.{with_status}
 use Rattle.rb_desk.specs.Picture.{Picture, Subscription}
 use Rattle.rb_desk.specs.Calls.{subscribe, subscribed_picture, settled_span, prepare, next_place, delivery_from}
 use Rattle.rb_desk.specs.Calls.{delivered_picture, is_drained, none_ready, has_room, refused_call, reconnect}
 use Rattle.rb_desk.specs.Calls.{reconnected_by, reconnected_picture, unsubscribe, unsubscribed_by, unsubscribed_picture}
 use Rattle.rb_desk.specs.Calls.{take, delivered_from, delivered_span, ack, acked_by, acked_span, nack, nacked_by}
 use Rattle.rb_desk.specs.Calls.{nacked_span}
-use Rattle.rb_desk.specs.Shown.{shown, shown_sub, sub_held, sub_out_as, why_none, FindsToTake}
+use Rattle.rb_desk.specs.Shown.{shown, shown_sub, why_none, FindsToTake}
+use Rattle.rb_deliveries.specs.Subs.{sub_held, sub_out_as}
 use Rattle.rb_desk.specs.Limits.{Limits}
-use Rattle.rb_desk.specs.Lanes.{Lane, spans_of, lane_held, lane_spans, is_none_left}
-use Rattle.rb_desk.proofs.spans.CutLaws.{CutIsFresh, cut_fresh, cut_none, cut_some}
-use Rattle.rb_desk.proofs.spans.LaneLaws.{lane_spans_is}
+use Rattle.rb_deliveries.specs.Lanes.{Lane, spans_of, lane_held, lane_spans, is_none_left}
+use Rattle.rb_deliveries.proofs.spans.CutLaws.{CutIsFresh, cut_fresh, cut_none, cut_some}
+use Rattle.rb_deliveries.proofs.spans.LaneLaws.{lane_spans_is}
 use Rattle.rb_desk.specs.Answers.{DeskAnswers, call_refusal}
 
 -- a subscription that is kept is shown

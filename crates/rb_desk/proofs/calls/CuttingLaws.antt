@@ -6,26 +6,26 @@ use Rattle.std.specs.List.{AllByRecursion}
 use Rattle.std.proofs.lemmas.Bool.{le-leb}
 use Rattle.std.proofs.lemmas.List.{map-append, map-set, length-map}
 use Rattle.std.proofs.lemmas.Option.{slice_get-map}
-use Rattle.rb_desk.specs.declared.ticket.Ticket.{Ticket}
-use Rattle.rb_desk.specs.declared.ticket.Held.{Held}
-use Rattle.rb_desk.specs.declared.span.Span.{Span}
-use Rattle.rb_desk.specs.declared.span.Status.{Status}
-use Rattle.rb_desk.specs.declared.span.Status.TheVariants.{Ready, InFlight, Settled}
-use Rattle.rb_desk.specs.declared.sub.Sub.{Sub}
-use Rattle.rb_desk.specs.Spans.{fresh, cut_spans, is_ready}
-use Rattle.rb_desk.specs.Lanes.{FollowOn, cut_lane, ticketed, with_birth, birth, spans_of, lane_held, earlier}
-use Rattle.rb_desk.specs.Orders.{order, all_at, ready_at, out_at, out_at_status}
+use Rattle.rb_deliveries.specs.declared.ticket.Ticket.{Ticket}
+use Rattle.rb_deliveries.specs.declared.ticket.Held.{Held}
+use Rattle.rb_deliveries.specs.declared.span.Span.{Span}
+use Rattle.rb_deliveries.specs.declared.span.Status.{Status}
+use Rattle.rb_deliveries.specs.declared.span.Status.TheVariants.{Ready, InFlight, Settled}
+use Rattle.rb_deliveries.specs.declared.sub.Sub.{Sub}
+use Rattle.rb_deliveries.specs.Spans.{fresh, cut_spans, is_ready}
+use Rattle.rb_deliveries.specs.Lanes.{FollowOn, cut_lane, ticketed, with_birth, birth, spans_of, lane_held, earlier}
+use Rattle.rb_deliveries.specs.Orders.{order, all_at, ready_at, out_at, out_at_status}
 use Rattle.rb_desk.specs.Limits.{Limits}
 use Rattle.rb_desk.specs.Picture.{Picture, Subscription}
 use Rattle.rb_desk.specs.Calls.{named, subscribed_picture, reconnected_picture, unsubscribed_picture}
-use Rattle.rb_desk.specs.Shown.{shown, shown_sub, sub_held, IsDrawn, IsGiven, IsKnown, Belongs, new_sub}
-use Rattle.rb_desk.specs.Shown.{reconnected_sub, closed_sub}
-use Rattle.rb_desk.proofs.spans.CutLaws.{cut_ends, cut_induction}
-use Rattle.rb_desk.proofs.spans.LaneLaws.{lane_spans_is, joins_reach}
-use Rattle.rb_desk.proofs.orders.Line.{all_both, all_then}
-use Rattle.rb_desk.proofs.calls.KnownLaws.{all_set, all_get}
-use Rattle.rb_desk.proofs.orders.OrderLaws.{tagged_ready, tagged_out, order_cleared, order_replaced, order_pushed}
-use Rattle.rb_desk.proofs.orders.OrderLaws.{all_earlier}
+use Rattle.rb_desk.specs.Shown.{shown, shown_sub}
+use Rattle.rb_deliveries.specs.Subs.{sub_held, IsDrawn, IsGiven, IsKnown, Belongs, new_sub, reconnected_sub, closed_sub}
+use Rattle.rb_deliveries.proofs.spans.CutLaws.{cut_ends, cut_induction}
+use Rattle.rb_deliveries.proofs.spans.LaneLaws.{lane_spans_is, joins_reach, cutting_all}
+use Rattle.rb_deliveries.proofs.orders.Line.{all_both, all_then}
+use Rattle.rb_deliveries.proofs.subs.KnownLaws.{all_set, all_get}
+use Rattle.rb_deliveries.proofs.orders.OrderLaws.{tagged_ready, tagged_out, order_cleared, order_replaced, order_pushed}
+use Rattle.rb_deliveries.proofs.orders.OrderLaws.{all_earlier, cut_out}
 
 -- ---- tickets
 
@@ -53,20 +53,6 @@ birth_drawn front turn first cutting h le = by (nat_le first cutting.front)
     by false = (le, omega arith)
 
 -- ---- what holds of each span
-
--- what holds of each span that begins and ends between two numbers holds of a cutting
-pub cutting_all : (batch b : ℕ) (cutting : Ticket) (P : Held → Type 0) → 1 ≤ batch → (low : ℕ)
-    → ((x end : ℕ) → low ≤ x → x ≤ end → end ≤ b → P (with_birth cutting (fresh x end)))
-    → AllByRecursion P (ticketed cutting (cut_spans batch low b))
-cutting_all batch b cutting P one low =
-    cut_induction batch b
-    (λ low spans. ((x end : ℕ) → low ≤ x → x ≤ end → end ≤ b → P (with_birth cutting (fresh x end)))
-    → AllByRecursion P (ticketed cutting spans)) one
-    (λ a h each. tt)
-    (λ a h rest each. (
-      each a (cut_ends batch a b) (omega arith) (omega arith) (omega arith),
-      rest (λ x end l m n. each x end (omega arith) m n),
-    )) (suc b - low) low (omega arith)
 
 -- what holds of those that were taken before and of the cutting's holds of each of a subscription
 pub sub_all : (batch front : ℕ) (P : Held → Type 0) (sub : Sub) → AllByRecursion P sub.lane.held
@@ -161,12 +147,6 @@ cut_ready batch front a s t one le =
         (named s (fresh a (cut_ends batch a front) ∷ cut_spans batch (suc (cut_ends batch a front)) front))
     some a h rest = by a (cut_ends batch a front) (cut_spans batch (suc (cut_ends batch a front)) front)
         (nat_le a t.front) (le-leb a t.front (omega arith)) rest
-
--- and none is out
-pub cut_out : (batch front a s : ℕ) (t : Ticket) → 1 ≤ batch
-    → filter_map (out_at s) (ticketed t (cut_spans batch a front)) ≡ []
-cut_out batch front a s t one = cut_induction batch front (λ a spans. filter_map (out_at s) (ticketed t spans) ≡ []) one
-    (λ a h. refl) (λ a h rest. rest) (suc front - a) a (omega arith)
 
 -- ---- the three calls
 

@@ -1,14 +1,15 @@
 -- The whole call of expire: its result, and what is shown after it.
 use Rattle.std.proofs.Common.{◌≡◌, ℕ, ◌≤◌, max, List, [], ◌∷◌, Option, map, sym}
 use Rattle.std.specs.List.{AllByRecursion}
-use Rattle.rb_desk.specs.declared.sub.Sub.{Sub}
+use Rattle.rb_deliveries.specs.declared.sub.Sub.{Sub}
 use Rattle.rb_desk.specs.Limits.{Limits}
-use Rattle.rb_desk.specs.Lanes.{AreJoined}
+use Rattle.rb_deliveries.specs.Lanes.{AreJoined}
 use Rattle.rb_desk.specs.Calls.{expire}
-use Rattle.rb_desk.specs.Shown.{Belongs, shown}
-use Rattle.rb_desk.specs.Expiry.{turns_from, by_number, expired_sub, all_due}
+use Rattle.rb_desk.specs.Shown.{shown}
+use Rattle.rb_deliveries.specs.Subs.{Belongs}
+use Rattle.rb_deliveries.specs.Expiry.{turns_from, by_number, expired_sub, all_due}
 use Rattle.rb_desk.proofs.calls.ExpireLaws.{ExpireFollows}
-use Rattle.rb_desk.proofs.orders.ExpireOrder.{turned_back_shown, expired_count}
+use Rattle.rb_desk.proofs.calls.ExpireShown.{turned_back_shown, expired_count}
 
 -- what belongs and follows one another follows up to the front
 follow : (front turn number : ℕ) (subs : List Sub) → AllByRecursion (Belongs front turn number) subs

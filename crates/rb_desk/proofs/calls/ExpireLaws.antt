@@ -1,32 +1,33 @@
 -- What a desk shows after expired spans are returned.
 use Rattle.std.proofs.Common.{◌≡◌, ℕ, suc, ◌+◌, ◌-◌, ◌≤◌, ne_eqb, eq-eqb, Bool, true, false, not, cond, List, [], ◌∷◌}
-use Rattle.std.proofs.Common.{◌++◌, map, Option, Some, option_map, filter, filter_map, slice_get, nat_le, append-nil}
+use Rattle.std.proofs.Common.{◌++◌, map, Option, Some, option_map, filter, filter_map, slice_get, nat_le}
 use Rattle.std.proofs.Common.{refl, sym, ap, ◌∙◌, arith}
 use Rattle.std.specs.Prelude.{⊤}
 use Rattle.std.specs.List.{AllByRecursion, cons_option}
-use Rattle.std.proofs.lemmas.List.Elements.{filter_map-append}
 use Rattle.std.proofs.lemmas.Option.{slice_get-map}
-use Rattle.rb_desk.specs.Expiry.{expired_held, expired_sub}
-use Rattle.rb_desk.specs.declared.ticket.Ticket.{Ticket}
-use Rattle.rb_desk.specs.declared.ticket.Held.{Held}
-use Rattle.rb_desk.specs.declared.span.Span.{Span}
-use Rattle.rb_desk.specs.declared.span.Status.{Status}
-use Rattle.rb_desk.specs.declared.span.Status.TheVariants.{Ready, InFlight, Settled}
-use Rattle.rb_desk.specs.declared.sub.Sub.{Sub}
-use Rattle.rb_desk.specs.Spans.{cut_spans, beginning, is_due, gone_back}
-use Rattle.rb_desk.specs.Lanes.{Lane, FollowOn, spans_of, lane_held}
-use Rattle.rb_desk.specs.Orders.{order, ready_at, out_at, out_at_status}
+use Rattle.rb_deliveries.specs.Expiry.{expired_held, expired_sub}
+use Rattle.rb_deliveries.specs.declared.ticket.Ticket.{Ticket}
+use Rattle.rb_deliveries.specs.declared.ticket.Held.{Held}
+use Rattle.rb_deliveries.specs.declared.span.Span.{Span}
+use Rattle.rb_deliveries.specs.declared.span.Status.{Status}
+use Rattle.rb_deliveries.specs.declared.span.Status.TheVariants.{Ready, InFlight, Settled}
+use Rattle.rb_deliveries.specs.declared.sub.Sub.{Sub}
+use Rattle.rb_deliveries.specs.Spans.{cut_spans, beginning, is_due, gone_back}
+use Rattle.rb_deliveries.specs.Lanes.{Lane, FollowOn, spans_of, lane_held}
+use Rattle.rb_deliveries.specs.Orders.{order, ready_at, out_at, out_at_status}
 use Rattle.rb_desk.specs.Limits.{Limits}
 use Rattle.rb_desk.specs.Picture.{Subscription}
 use Rattle.rb_desk.specs.Calls.{expires, expired_at, goes_back, is_due_of, span_is_due}
-use Rattle.rb_desk.specs.Shown.{shown, shown_sub, sub_held}
-use Rattle.rb_desk.proofs.spans.CutLaws.{CutIsFresh, cut_fresh}
-use Rattle.rb_desk.proofs.spans.LaneLaws.{lane_spans_is}
-use Rattle.rb_desk.proofs.orders.Line.{all_first, all_then}
-use Rattle.rb_desk.proofs.orders.OrderLaws.{Leaves, expired_order}
-use Rattle.rb_desk.proofs.calls.KnownLaws.{all_get}
-use Rattle.rb_desk.proofs.calls.CuttingLaws.{cut_out, same_picture}
-use Rattle.rb_desk.proofs.spans.JoinLaws.{joins_lane}
+use Rattle.rb_desk.specs.Shown.{shown, shown_sub}
+use Rattle.rb_deliveries.specs.Subs.{sub_held}
+use Rattle.rb_deliveries.proofs.spans.CutLaws.{CutIsFresh, cut_fresh}
+use Rattle.rb_deliveries.proofs.spans.LaneLaws.{lane_spans_is}
+use Rattle.rb_deliveries.proofs.orders.Line.{all_first, all_then}
+use Rattle.rb_deliveries.proofs.orders.OrderLaws.{Leaves, expired_order, lane_out}
+use Rattle.rb_deliveries.proofs.orders.ExpireOrder.{ExpireReports}
+use Rattle.rb_deliveries.proofs.subs.KnownLaws.{all_get}
+use Rattle.rb_desk.proofs.calls.CuttingLaws.{same_picture}
+use Rattle.rb_deliveries.proofs.spans.JoinLaws.{joins_lane}
 
 -- a subscription of which the spans that are due went back, whatever their tickets are
 pub record ExpiresNow (timeout clock : ℕ) (old new : Sub) : Type 0 where
@@ -148,10 +149,6 @@ each_begins low next (x ∷ rest) j =
           (each_begins (suc x.span.last) next rest j.2),
     )
 
--- so whether a span is due is told by its name
-abbrev pub ExpireReports : (ℕ × ℕ → Bool) → ℕ → ℕ → ℕ → Held → Type 0
-ExpireReports due timeout clock s h = due (s, h.span.first) ≡ is_due timeout clock h.span.status
-
 -- spans of which those that are due went back are out as before, without those
 spans_leave : (due : ℕ × ℕ → Bool) (timeout clock s : ℕ) (held held' : List Held)
     → AllByRecursion (ExpireReports due timeout clock s) held → spans_of held' ≡ gone_back timeout clock (spans_of held)
@@ -188,14 +185,6 @@ spans_leave due timeout clock s held held' tells spans = seen held' ∙ ap (filt
         ≡ filter (λ e. not (due e.1)) (filter_map (out_at s) held)
     left [] tells = refl
     left (h ∷ held) tells = one h.span h.span.status tells.0 _ _ (left held tells.1)
-
--- a lane has only spans out that were taken before
-pub lane_out : (batch front s : ℕ) (kept : Lane) → 1 ≤ batch → filter_map (out_at s) (lane_held batch front kept)
-    ≡ filter_map (out_at s) kept.held
-lane_out batch front s kept one =
-    filter_map-append (out_at s) kept.held _
-    ∙ ap (λ l. filter_map (out_at s) kept.held ++ l) (cut_out batch front kept.next s kept.cutting one)
-    ∙ append-nil _
 
 -- what is out of a subscription, where its open lane's spans are told by their names
 sub_leaves : (batch front : ℕ) (due : ℕ × ℕ → Bool) (timeout clock s : ℕ) (old new : Sub) → 1 ≤ batch

@@ -2,30 +2,31 @@
 use Rattle.std.proofs.Common.{◌≡◌, ℕ, suc, max, Bool, true, false, ◌==◌, cond, List, [], ◌∷◌, ◌++◌, Option, Some}
 use Rattle.std.proofs.Common.{length, ◌≤◌, Result, Ok, Err, filter_map, slice_get, slice_set, refl, sym, ap, ◌∙◌, arith}
 use Rattle.std.specs.List.{AllByRecursion}
-use Rattle.rb_desk.specs.declared.span.Span.{Span}
-use Rattle.rb_desk.specs.declared.span.Status.{Status}
-use Rattle.rb_desk.specs.declared.span.Status.TheVariants.{Ready, InFlight, Settled}
-use Rattle.rb_desk.specs.declared.ticket.Ticket.{Ticket}
-use Rattle.rb_desk.specs.declared.ticket.Held.{Held}
-use Rattle.rb_desk.specs.declared.sub.Sub.{Sub}
+use Rattle.rb_deliveries.specs.declared.span.Span.{Span}
+use Rattle.rb_deliveries.specs.declared.span.Status.{Status}
+use Rattle.rb_deliveries.specs.declared.span.Status.TheVariants.{Ready, InFlight, Settled}
+use Rattle.rb_deliveries.specs.declared.ticket.Ticket.{Ticket}
+use Rattle.rb_deliveries.specs.declared.ticket.Held.{Held}
+use Rattle.rb_deliveries.specs.declared.sub.Sub.{Sub}
 use Rattle.rb_desk.specs.declared.delivery.Delivery.{Delivery}
 use Rattle.rb_desk.specs.declared.refusal.DeskError.{DeskError}
-use Rattle.rb_desk.specs.Spans.{out_as, is_ready, is_out, raised, with_status}
-use Rattle.rb_desk.specs.Lanes.{Lane, spans_of, lane_held, pushed_lane, restated_lane, delivered_lane, settled_lane}
-use Rattle.rb_desk.specs.Orders.{order, ready_at, out_at}
+use Rattle.rb_deliveries.specs.Spans.{out_as, is_ready, is_out, raised, with_status}
+use Rattle.rb_deliveries.specs.Lanes.{Lane, spans_of, lane_held, pushed_lane, restated_lane, delivered_lane}
+use Rattle.rb_deliveries.specs.Lanes.{settled_lane}
+use Rattle.rb_deliveries.specs.Orders.{order, ready_at, out_at}
 use Rattle.rb_desk.specs.Limits.{Limits}
 use Rattle.rb_desk.specs.Answers.{DeskAnswers}
 use Rattle.rb_desk.specs.Calls.{delivery_from, delivered_picture, nacked_picture, settled_span, without_span}
-use Rattle.rb_desk.specs.Shown.{sub_held, shown_sub, shown, Belongs, delivered_sub, WhenDelivered}
-use Rattle.rb_desk.specs.Shown.{returned_sub, settled_sub, IsHeld, IsDeliverable}
-use Rattle.rb_desk.proofs.orders.Line.{all_then}
-use Rattle.rb_desk.proofs.orders.OrderLaws.{tagged_ready, tagged_out, order_same, order_without, order_with}
-use Rattle.rb_desk.proofs.spans.ChangeLaws.{Changes, stands_same, stands_new, stands_left}
-use Rattle.rb_desk.proofs.spans.LaneChanges.{may_go_span, may_go_ready, restated_changes, handed_changes, settled_spans}
-use Rattle.rb_desk.proofs.spans.LaneChanges.{settled_stands}
-use Rattle.rb_desk.proofs.calls.KnownLaws.{all_set, few_set, held_open, out_earlier, ready_earlier, known_belongs_later}
-use Rattle.rb_desk.proofs.calls.KnownLaws.{sub_handed, sub_returned, sub_settled}
-use Rattle.rb_desk.proofs.spans.FoundLaws.{out_as_held}
+use Rattle.rb_desk.specs.Shown.{shown_sub, shown, WhenDelivered}
+use Rattle.rb_deliveries.specs.Subs.{sub_held, Belongs, delivered_sub, returned_sub, settled_sub, IsHeld, IsDeliverable}
+use Rattle.rb_deliveries.proofs.orders.Line.{all_then}
+use Rattle.rb_deliveries.proofs.orders.OrderLaws.{tagged_ready, tagged_out, order_same, order_without, order_with}
+use Rattle.rb_deliveries.proofs.spans.ChangeLaws.{Changes, stands_same, stands_new, stands_left}
+use Rattle.rb_deliveries.proofs.spans.LaneChanges.{may_go_span, may_go_ready, restated_changes, handed_changes}
+use Rattle.rb_deliveries.proofs.spans.LaneChanges.{settled_spans, settled_stands}
+use Rattle.rb_deliveries.proofs.subs.KnownLaws.{all_set, few_set, held_open, out_earlier, ready_earlier}
+use Rattle.rb_deliveries.proofs.subs.KnownLaws.{known_belongs_later, sub_handed, sub_returned, sub_settled}
+use Rattle.rb_deliveries.proofs.spans.FoundLaws.{out_as_held}
 use Rattle.rb_desk.proofs.calls.OpenLaws.{IsOpen, lanes, lane_found, belongs, shown_changed, spans_changed}
 use Rattle.rb_desk.proofs.calls.OpenLaws.{out_not_ready, ready_not_out, settled_not_ready, settled_not_out}
 use Rattle.rb_desk.proofs.calls.OpenLaws.{not_ready_at, not_out_at, stood_not_ready, stood_not_out}

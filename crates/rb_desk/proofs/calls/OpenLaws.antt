@@ -4,20 +4,21 @@ use Rattle.std.proofs.Common.{slice_set, refl, sym, ap, ◌∙◌}
 use Rattle.std.specs.List.{AllByRecursion}
 use Rattle.std.proofs.lemmas.List.{map-set}
 use Rattle.std.proofs.lemmas.Option.{slice_get-map}
-use Rattle.rb_desk.specs.declared.span.Span.{Span}
-use Rattle.rb_desk.specs.declared.span.Status.{Status}
-use Rattle.rb_desk.specs.declared.span.Status.TheVariants.{Ready, InFlight, Settled}
-use Rattle.rb_desk.specs.declared.ticket.Ticket.{Ticket}
-use Rattle.rb_desk.specs.declared.ticket.Held.{Held}
-use Rattle.rb_desk.specs.declared.sub.Sub.{Sub}
-use Rattle.rb_desk.specs.Spans.{is_ready, is_out, is_settled, with_status}
-use Rattle.rb_desk.specs.Lanes.{FollowOn, spans_of, lane_held}
-use Rattle.rb_desk.specs.Orders.{order, ready_at, out_at, out_at_status}
+use Rattle.rb_deliveries.specs.declared.span.Span.{Span}
+use Rattle.rb_deliveries.specs.declared.span.Status.{Status}
+use Rattle.rb_deliveries.specs.declared.span.Status.TheVariants.{Ready, InFlight, Settled}
+use Rattle.rb_deliveries.specs.declared.ticket.Ticket.{Ticket}
+use Rattle.rb_deliveries.specs.declared.ticket.Held.{Held}
+use Rattle.rb_deliveries.specs.declared.sub.Sub.{Sub}
+use Rattle.rb_deliveries.specs.Spans.{is_ready, is_out, is_settled, with_status}
+use Rattle.rb_deliveries.specs.Lanes.{FollowOn, spans_of, lane_held}
+use Rattle.rb_deliveries.specs.Orders.{order, ready_at, out_at, out_at_status}
 use Rattle.rb_desk.specs.Limits.{Limits}
 use Rattle.rb_desk.specs.Picture.{Subscription}
-use Rattle.rb_desk.specs.Shown.{sub_held, shown_sub, shown, Belongs, IsToTake}
-use Rattle.rb_desk.proofs.spans.ChangeLaws.{Changes, changed_spans}
-use Rattle.rb_desk.proofs.calls.KnownLaws.{all_get, held_open}
+use Rattle.rb_desk.specs.Shown.{shown_sub, shown, IsToTake}
+use Rattle.rb_deliveries.specs.Subs.{sub_held, Belongs}
+use Rattle.rb_deliveries.proofs.spans.ChangeLaws.{Changes, changed_spans}
+use Rattle.rb_deliveries.proofs.subs.KnownLaws.{all_get, held_open}
 
 -- subscription s of those that a desk keeps is this one, and open
 pub record IsOpen (batch front turn number : ℕ) (subs : List Sub) (s : ℕ) (sub : Sub) : Type 0 where

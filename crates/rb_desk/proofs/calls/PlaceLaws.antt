@@ -5,22 +5,23 @@ use Rattle.std.proofs.Common.{sym, ap, ◌∙◌, arith}
 use Rattle.std.specs.List.{AllByRecursion, cons_option}
 use Rattle.std.proofs.lemmas.Bool.{le-ltb}
 use Rattle.std.proofs.lemmas.List.Elements.{filter_map-append}
-use Rattle.rb_desk.specs.declared.ticket.Ticket.{Ticket}
-use Rattle.rb_desk.specs.declared.ticket.Held.{Held}
-use Rattle.rb_desk.specs.declared.span.Span.{Span}
-use Rattle.rb_desk.specs.declared.sub.Sub.{Sub}
-use Rattle.rb_desk.specs.Spans.{fresh, cut_spans, is_fresh, takes_one_more, last_takes, last_with, grown_spans}
-use Rattle.rb_desk.specs.Lanes.{Lane, ticketed, with_birth, birth, spans_of, lane_held}
-use Rattle.rb_desk.specs.Orders.{in_line, all_at, ready_at, out_at}
+use Rattle.rb_deliveries.specs.declared.ticket.Ticket.{Ticket}
+use Rattle.rb_deliveries.specs.declared.ticket.Held.{Held}
+use Rattle.rb_deliveries.specs.declared.span.Span.{Span}
+use Rattle.rb_deliveries.specs.declared.sub.Sub.{Sub}
+use Rattle.rb_deliveries.specs.Spans.{fresh, cut_spans, is_fresh, takes_one_more, last_takes, last_with, grown_spans}
+use Rattle.rb_deliveries.specs.Lanes.{Lane, ticketed, with_birth, birth, spans_of, lane_held}
+use Rattle.rb_deliveries.specs.Orders.{in_line, all_at, ready_at, out_at}
 use Rattle.rb_desk.specs.Limits.{Limits}
 use Rattle.rb_desk.specs.Picture.{Subscription}
 use Rattle.rb_desk.specs.Calls.{place, grown_subscription, begun_spans}
-use Rattle.rb_desk.specs.Shown.{shown, shown_sub, sub_held, IsKnown, Belongs}
-use Rattle.rb_desk.proofs.spans.CutLaws.{grown_behind, cut_grows}
-use Rattle.rb_desk.proofs.spans.LaneLaws.{lane_spans_is}
-use Rattle.rb_desk.proofs.orders.Line.{all_then}
-use Rattle.rb_desk.proofs.orders.OrderLaws.{OrderGrows, order_grown}
-use Rattle.rb_desk.proofs.calls.CuttingLaws.{before_placement, ready_earlier, cut_out, same_picture}
+use Rattle.rb_desk.specs.Shown.{shown, shown_sub}
+use Rattle.rb_deliveries.specs.Subs.{sub_held, IsKnown, Belongs}
+use Rattle.rb_deliveries.proofs.spans.CutLaws.{grown_behind, cut_grows}
+use Rattle.rb_deliveries.proofs.spans.LaneLaws.{lane_spans_is}
+use Rattle.rb_deliveries.proofs.orders.Line.{all_then}
+use Rattle.rb_deliveries.proofs.orders.OrderLaws.{OrderGrows, order_grown, cut_out}
+use Rattle.rb_desk.proofs.calls.CuttingLaws.{before_placement, ready_earlier, same_picture}
 
 -- ---- spans that were taken before
 

@@ -6,8 +6,8 @@ use Rattle.std.proofs.lemmas.Bool.{ltb-false}
 use Rattle.std.proofs.lemmas.List.{length-map, map-append}
 use Rattle.rb_desk.specs.declared.delivery.Delivery.{Delivery}
 use Rattle.rb_desk.specs.declared.refusal.DeskRefusal.{DeskRefusal}
-use Rattle.rb_desk.specs.declared.span.Span.{Span}
-use Rattle.rb_desk.specs.Spans.{cut_spans, is_ready, first_ready, out_as, beginning, grown_spans}
+use Rattle.rb_deliveries.specs.declared.span.Span.{Span}
+use Rattle.rb_deliveries.specs.Spans.{cut_spans, is_ready, first_ready, out_as, beginning, grown_spans}
 use Rattle.rb_desk.specs.Picture.{Picture, Subscription}
 use Rattle.rb_desk.specs.Calls.{has_room, subscribe, subscribed_picture, take, delivered_from, delivered_span, take_any}
 use Rattle.rb_desk.specs.Calls.{delivered_any_from, delivered_any_of, delivered_any_span, may_deliver, ack, acked_by}

@@ -10,19 +10,19 @@ use Rattle.std.proofs.Math.Dec.{eqb-suc-suc}
 use Rattle.rb_desk.specs.declared.config.ConfigFault.{ConfigFault}
 use Rattle.rb_desk.specs.declared.config.ConfigFault.TheVariants.{Batch}
 use Rattle.rb_desk.specs.declared.refusal.DeskRefusal.{DeskRefusal}
-use Rattle.rb_desk.specs.declared.span.Span.{Span}
-use Rattle.rb_desk.specs.declared.span.Status.{Status}
+use Rattle.rb_deliveries.specs.declared.span.Span.{Span}
+use Rattle.rb_deliveries.specs.declared.span.Status.{Status}
 use Rattle.rb_desk.specs.Limits.{Limits}
-use Rattle.rb_desk.specs.Spans.{cut_spans, is_ready, is_out, is_out_as, is_settled, beginning, how_many_out}
+use Rattle.rb_deliveries.specs.Spans.{cut_spans, is_ready, is_out, is_out_as, is_settled, beginning, how_many_out}
 use Rattle.rb_desk.specs.Picture.{Picture, Subscription, empty_picture}
 use Rattle.rb_desk.specs.Calls.{named, with_subscription, without_subscription, subscribe, subscribed_picture}
 use Rattle.rb_desk.specs.Calls.{reconnect, reconnected_picture, reconnected_by, unsubscribe, unsubscribed_picture}
 use Rattle.rb_desk.specs.Calls.{unsubscribed_by, close, last_number}
 use Rattle.rb_desk.specs.IsPicture.{AreInRange, Partition, IsGoodSpan, StartsUnsettled, IsGoodSubscription, how_often}
 use Rattle.rb_desk.specs.IsPicture.{one_if, span_there, stands_there, links_of, IsPicture}
-use Rattle.rb_desk.proofs.spans.CutLaws.{CutIsFresh, cut_fresh, cut_induction}
-use Rattle.rb_desk.proofs.orders.Line.{all_both, all_then, filter_none}
-use Rattle.rb_desk.proofs.calls.KnownLaws.{all_get}
+use Rattle.rb_deliveries.proofs.spans.CutLaws.{CutIsFresh, cut_fresh, cut_induction}
+use Rattle.rb_deliveries.proofs.orders.Line.{all_both, all_then, filter_none}
+use Rattle.rb_deliveries.proofs.subs.KnownLaws.{all_get}
 use Rattle.rb_desk.proofs.pictures.PictureLaws.{count_cons, often_append, often_without_all, often_named, links_none}
 use Rattle.rb_desk.proofs.pictures.PictureLaws.{links_set, links_append, out_set, out_append, all_later, changed_keeps}
 

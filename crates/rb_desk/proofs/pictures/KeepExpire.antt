@@ -6,16 +6,16 @@ use Rattle.std.specs.List.{AllByRecursion}
 use Rattle.std.proofs.lemmas.Bool.{false≢true}
 use Rattle.std.proofs.lemmas.Option.{slice_get-map}
 use Rattle.std.proofs.lemmas.List.{length-map}
-use Rattle.rb_desk.specs.declared.span.Span.{Span}
-use Rattle.rb_desk.specs.declared.span.Status.{Status}
-use Rattle.rb_desk.specs.declared.span.Status.TheVariants.{Ready, InFlight, Settled}
-use Rattle.rb_desk.specs.Spans.{is_ready, is_fresh, is_out, is_out_as, is_settled, is_due, beginning, gone_back}
+use Rattle.rb_deliveries.specs.declared.span.Span.{Span}
+use Rattle.rb_deliveries.specs.declared.span.Status.{Status}
+use Rattle.rb_deliveries.specs.declared.span.Status.TheVariants.{Ready, InFlight, Settled}
+use Rattle.rb_deliveries.specs.Spans.{is_ready, is_fresh, is_out, is_out_as, is_settled, is_due, beginning, gone_back}
 use Rattle.rb_desk.specs.Picture.{Picture, Subscription}
 use Rattle.rb_desk.specs.Calls.{expire, expired_at, expires, goes_back, is_due_of, span_is_due}
 use Rattle.rb_desk.specs.IsPicture.{Partition, IsGoodSpan, StartsUnsettled, IsGoodSubscription, one_if, span_there}
 use Rattle.rb_desk.specs.IsPicture.{stands_there, IsPicture}
-use Rattle.rb_desk.proofs.orders.Line.{all_then}
-use Rattle.rb_desk.proofs.calls.KnownLaws.{all_mapped}
+use Rattle.rb_deliveries.proofs.orders.Line.{all_then}
+use Rattle.rb_deliveries.proofs.subs.KnownLaws.{all_mapped}
 use Rattle.rb_desk.proofs.pictures.PictureLaws.{count_cons, often_append, often_filter}
 use Rattle.rb_desk.proofs.pictures.KeepCut.{either_way}
 use Rattle.rb_desk.proofs.pictures.KeepPlace.{links_mapped, out_mapped}

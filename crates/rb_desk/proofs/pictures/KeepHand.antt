@@ -5,12 +5,12 @@ use Rattle.std.proofs.Common.{ltb-true, refl, sym, ap, ◌∙◌, ◌⊎◌, inl
 use Rattle.std.specs.List.{AllByRecursion}
 use Rattle.std.proofs.lemmas.Bool.{false≢true, cases_eq}
 use Rattle.rb_desk.proofs.pictures.PictureLaws.{NoFloorFalls}
-use Rattle.rb_desk.specs.declared.span.Span.{Span}
-use Rattle.rb_desk.specs.declared.span.Status.{Status}
-use Rattle.rb_desk.specs.declared.span.Status.TheVariants.{Ready, InFlight, Settled}
+use Rattle.rb_deliveries.specs.declared.span.Span.{Span}
+use Rattle.rb_deliveries.specs.declared.span.Status.{Status}
+use Rattle.rb_deliveries.specs.declared.span.Status.TheVariants.{Ready, InFlight, Settled}
 use Rattle.rb_desk.specs.declared.delivery.Delivery.{Delivery}
 use Rattle.rb_desk.specs.declared.refusal.DeskRefusal.TheVariants as refusal
-use Rattle.rb_desk.specs.Spans.{is_ready, is_out, is_out_as, beginning, first_ready, how_many_out, with_status}
+use Rattle.rb_deliveries.specs.Spans.{is_ready, is_out, is_out_as, beginning, first_ready, how_many_out, with_status}
 use Rattle.rb_desk.specs.Picture.{Picture, Subscription}
 use Rattle.rb_desk.specs.Calls.{has_room, delivered_picture, is_span, without_span, take, delivered_from}
 use Rattle.rb_desk.specs.Calls.{delivered_span, take_any, delivered_any_from, delivered_any_of, delivered_any_span}
@@ -22,7 +22,7 @@ use Rattle.rb_desk.proofs.pictures.PictureLaws.{links_as_before, count_cons}
 use Rattle.rb_desk.proofs.pictures.StandLaws.{own_name, found_good, open_part, order_here, goes_others, goes_mine}
 use Rattle.rb_desk.proofs.pictures.StandLaws.{comes_others, comes_mine}
 use Rattle.rb_desk.proofs.calls.OpenLaws.{ready_not_out}
-use Rattle.rb_desk.proofs.orders.Line.{all_then, filter_none}
+use Rattle.rb_deliveries.proofs.orders.Line.{all_then, filter_none}
 use Rattle.rb_desk.proofs.pictures.PartLaws.{part_ends, all_found, found_passes, found_begins, restated_part}
 use Rattle.rb_desk.proofs.pictures.PartLaws.{restated_count, restated_all, restated_unsettled}
 

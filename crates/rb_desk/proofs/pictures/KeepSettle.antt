@@ -6,12 +6,12 @@ use Rattle.std.specs.List.{AllByRecursion}
 use Rattle.std.specs.Prelude.{⊤}
 use Rattle.std.proofs.lemmas.Bool.{false≢true, cases_eq}
 use Rattle.rb_desk.proofs.pictures.PictureLaws.{NoFloorFalls}
-use Rattle.rb_desk.specs.declared.span.Span.{Span}
-use Rattle.rb_desk.specs.declared.span.Status.{Status}
-use Rattle.rb_desk.specs.declared.span.Status.TheVariants.{Ready, InFlight, Settled}
+use Rattle.rb_deliveries.specs.declared.span.Span.{Span}
+use Rattle.rb_deliveries.specs.declared.span.Status.{Status}
+use Rattle.rb_deliveries.specs.declared.span.Status.TheVariants.{Ready, InFlight, Settled}
 use Rattle.rb_desk.specs.declared.refusal.DeskRefusal.TheVariants as refusal
-use Rattle.rb_desk.specs.Spans.{is_ready, is_out, is_out_as, is_fresh, beginning, out_as, how_many_out, with_status}
-use Rattle.rb_desk.specs.Spans.{raised}
+use Rattle.rb_deliveries.specs.Spans.{is_ready, is_out, is_out_as, is_fresh, beginning, out_as, how_many_out}
+use Rattle.rb_deliveries.specs.Spans.{with_status, raised}
 use Rattle.rb_desk.specs.Picture.{Picture, Subscription}
 use Rattle.rb_desk.specs.Calls.{without_span, nacked_picture, settled_span, nack, nacked_by, nacked_span, ack, acked_by}
 use Rattle.rb_desk.specs.Calls.{acked_span, refused_call}

@@ -4,12 +4,12 @@ use Rattle.std.proofs.Common.{◌≡◌, ℕ, suc, ◌+◌, ◌<◌, ◌≤◌, 
 use Rattle.std.proofs.Common.{None, filter, find, eq-eqb, ne_eqb, eqb-true, refl, sym, ap, subst, ◌∙◌, arith}
 use Rattle.std.specs.List.{AllByRecursion}
 use Rattle.std.proofs.lemmas.Bool.{false≢true}
-use Rattle.rb_desk.specs.declared.span.Span.{Span}
-use Rattle.rb_desk.specs.declared.span.Status.{Status}
-use Rattle.rb_desk.specs.declared.span.Status.TheVariants.{Ready, InFlight, Settled}
-use Rattle.rb_desk.specs.Spans.{is_settled, beginning, with_status, raised}
+use Rattle.rb_deliveries.specs.declared.span.Span.{Span}
+use Rattle.rb_deliveries.specs.declared.span.Status.{Status}
+use Rattle.rb_deliveries.specs.declared.span.Status.TheVariants.{Ready, InFlight, Settled}
+use Rattle.rb_deliveries.specs.Spans.{is_settled, beginning, with_status, raised}
 use Rattle.rb_desk.specs.IsPicture.{Partition, StartsUnsettled, IsGoodSpan, one_if, span_there}
-use Rattle.rb_desk.proofs.orders.Line.{all_then}
+use Rattle.rb_deliveries.proofs.orders.Line.{all_then}
 use Rattle.rb_desk.proofs.pictures.PictureLaws.{count_cons}
 
 -- ---- where they begin and end

@@ -6,16 +6,16 @@ use Rattle.std.proofs.Common.{◌∙◌, ◌⊎◌, inl, inr, arith}
 use Rattle.std.specs.List.{AllByRecursion}
 use Rattle.std.proofs.lemmas.Bool.{false≢true, cases_eq}
 use Rattle.std.proofs.lemmas.List.{length-set}
-use Rattle.rb_desk.specs.declared.span.Span.{Span}
-use Rattle.rb_desk.specs.declared.span.Status.{Status}
-use Rattle.rb_desk.specs.declared.span.Status.TheVariants.{Ready, InFlight, Settled}
-use Rattle.rb_desk.specs.Spans.{is_ready, is_out, is_out_as, beginning}
+use Rattle.rb_deliveries.specs.declared.span.Span.{Span}
+use Rattle.rb_deliveries.specs.declared.span.Status.{Status}
+use Rattle.rb_deliveries.specs.declared.span.Status.TheVariants.{Ready, InFlight, Settled}
+use Rattle.rb_deliveries.specs.Spans.{is_ready, is_out, is_out_as, beginning}
 use Rattle.rb_desk.specs.Picture.{Picture, Subscription}
 use Rattle.rb_desk.specs.Calls.{is_span, without_span, without_subscription, named}
 use Rattle.rb_desk.specs.IsPicture.{IsPicture, IsGoodSubscription, IsGoodSpan, WasOffered, how_often, one_if}
 use Rattle.rb_desk.specs.IsPicture.{span_there, stands_there, links_of, out_in}
-use Rattle.rb_desk.proofs.orders.Line.{all_then}
-use Rattle.rb_desk.proofs.calls.KnownLaws.{all_set}
+use Rattle.rb_deliveries.proofs.orders.Line.{all_then}
+use Rattle.rb_deliveries.proofs.subs.KnownLaws.{all_set}
 
 -- ---- lists
 

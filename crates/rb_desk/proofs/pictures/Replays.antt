@@ -10,12 +10,12 @@ use Rattle.std.proofs.lemmas.Option.{slice_get-map, slice_get_cases, slice_get_w
 use Rattle.rb_desk.proofs.pictures.PictureLaws.{NoFloorFalls}
 use Rattle.rb_desk.specs.declared.delivery.Delivery.{Delivery}
 use Rattle.rb_desk.specs.declared.refusal.DeskRefusal.{DeskRefusal}
-use Rattle.rb_desk.specs.declared.span.Span.{Span}
+use Rattle.rb_deliveries.specs.declared.span.Span.{Span}
 use Rattle.rb_desk.specs.declared.step.Step.{Step}
 use Rattle.rb_desk.specs.declared.step.Step.TheVariants.{Subscribe, Take, TakeAny, Ack, Nack, Expire, Reconnect}
 use Rattle.rb_desk.specs.declared.step.Step.TheVariants.{Unsubscribe, Place, Close}
 use Rattle.rb_desk.specs.Limits.{Limits}
-use Rattle.rb_desk.specs.Spans.{cut_spans, first_ready, out_as, beginning, grown_spans}
+use Rattle.rb_deliveries.specs.Spans.{cut_spans, first_ready, out_as, beginning, grown_spans}
 use Rattle.rb_desk.specs.Picture.{Picture, Subscription, empty_picture}
 use Rattle.rb_desk.specs.Calls.{subscribe, subscribed_picture, take, delivered_from, delivered_span, has_room, take_any}
 use Rattle.rb_desk.specs.Calls.{delivered_any_from, delivered_any_of, delivered_any_span, may_deliver, ack, acked_by}

@@ -2,14 +2,14 @@
 use Rattle.std.proofs.Common.{◌≡◌, ℕ, suc, ◌+◌, Bool, true, false, cond, ◌==◌, ◌&&◌, List, [], ◌∷◌, ◌++◌, Some, None}
 use Rattle.std.proofs.Common.{slice_get, eq-eqb, ne_eqb, refl, sym, ap, ◌∙◌, ◌⊎◌, inl, inr, arith}
 use Rattle.std.proofs.lemmas.Bool.{cases_eq}
-use Rattle.rb_desk.specs.declared.span.Span.{Span}
-use Rattle.rb_desk.specs.declared.span.Status.{Status}
-use Rattle.rb_desk.specs.Spans.{beginning, with_status}
+use Rattle.rb_deliveries.specs.declared.span.Span.{Span}
+use Rattle.rb_deliveries.specs.declared.span.Status.{Status}
+use Rattle.rb_deliveries.specs.Spans.{beginning, with_status}
 use Rattle.rb_desk.specs.Picture.{Picture, Subscription}
 use Rattle.rb_desk.specs.Calls.{is_span, without_span}
 use Rattle.rb_desk.specs.IsPicture.{IsPicture, IsGoodSubscription, Partition, how_often, one_if, span_there}
 use Rattle.rb_desk.specs.IsPicture.{stands_there}
-use Rattle.rb_desk.proofs.calls.KnownLaws.{all_get}
+use Rattle.rb_deliveries.proofs.subs.KnownLaws.{all_get}
 use Rattle.rb_desk.proofs.pictures.PictureLaws.{often_without, often_pushed}
 use Rattle.rb_desk.proofs.pictures.PartLaws.{restated_there, restated_other}
 

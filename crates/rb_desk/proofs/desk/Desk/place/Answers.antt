@@ -10,7 +10,7 @@ invariant_of-self c =
     rw next (
       omega (arith, c.self.invariant.0, room),
       belongs_placed c.self.inside.front c.self.inside.turn
-          c.self.inside.next_delivery c.self.inside.subs.items c.self.invariant.1,
+          c.self.inside.next_delivery c.self.inside.deliveries.subs c.self.invariant.1,
       c.self.invariant.2,
       c.self.invariant.3,
     )
@@ -25,5 +25,5 @@ returns-clause-picture c =
     let next : c.self.inside.front + 1 ≡ suc c.self.inside.front = omega arith in
     rw (← c.self.view_is, next)
     (placed_shown c.self.inside.config c.self.inside.front c.self.inside.turn c.self.inside.clock
-    c.self.inside.next_link c.self.inside.next_delivery c.self.inside.closing c.self.inside.subs.items
+    c.self.inside.next_link c.self.inside.next_delivery c.self.inside.closing c.self.inside.deliveries.subs
     c.self.invariant.0.0 c.self.invariant.1)

@@ -1,0 +1,84 @@
+use Rattle.std.proofs.Common.{◌≡◌, ◌∙◌, ap, sym, subst, Some, None, option_map, arith}
+use Rattle.std.proofs.lemmas.Option.{slice_get_within, get_or_from_slice_get}
+use Rattle.rb_deliveries.specs.declared.sub.Sub.{Sub}
+use Rattle.rb_deliveries.specs.declared.ticket.Held.{Held}
+use Rattle.rb_deliveries.specs.Lanes.{AreJoined, lane_held, least}
+use Rattle.rb_deliveries.specs.Subs.{first_to_deliver, span_to_deliver}
+use Rattle.rb_deliveries.specs.Tournament.{winner_from}
+use Rattle.rb_deliveries.specs.Waiting.{BelongAll}
+use Rattle.rb_deliveries.proofs.orders.WaitingLaws.{all_say, WinSays, winner_delivers}
+use Rattle.rb_deliveries.proofs.deliveries.Deliveries.first_to_deliver.Goals as goal
+
+pub returns-in_err-winner-clause-value : goal.returns-in_err-winner-clause-value
+returns-in_err-winner-clause-value c =
+    let d = c.self.inside in
+    let belong : BelongAll c.args.front d.subs.items = rw (← c.self.view_is) at c.requires.belong in
+    let says =
+    all_say d.window c.args.batch c.args.front belong.0 belong.1 0 d.subs.items c.requires.limits.0 belong.2 in
+    let none : WinSays c.args.front (first_to_deliver d.window c.args.batch c.args.front 0 d.subs.items) None =
+    subst (WinSays c.args.front (first_to_deliver d.window c.args.batch c.args.front 0 d.subs.items))
+    (sym (sym c.in_err-winner.was ∙ c.winner.ensures ∙ ap (winner_from 0) c.self.invariant.in_line)) says in
+    rw (← c.self.view_is) (c.from_residual.ensures ∙ sym (ap (option_map span_to_deliver) none))
+
+pub returns-then-front-winner-clause-value : goal.returns-then-front-winner-clause-value
+returns-then-front-winner-clause-value c =
+    let d = c.self.inside in
+    let belong : BelongAll c.args.front d.subs.items = rw (← c.self.view_is) at c.requires.belong in
+    let says =
+    all_say d.window c.args.batch c.args.front belong.0 belong.1 0 d.subs.items c.requires.limits.0 belong.2 in
+    let won : WinSays c.args.front (first_to_deliver d.window c.args.batch c.args.front 0 d.subs.items)
+    (Some c.in_ok-winner.winner) =
+    subst (WinSays c.args.front (first_to_deliver d.window c.args.batch c.args.front 0 d.subs.items))
+    (sym (sym c.in_ok-winner.was ∙ c.winner.ensures ∙ ap (winner_from 0) c.self.invariant.in_line)) says in
+    rw (← c.self.view_is) (sym (ap (option_map span_to_deliver) (won.1 c.if-front-winner.true)))
+
+pub index-requires : goal.index-requires
+index-requires c =
+    let d = c.self.inside in
+    let belong : BelongAll c.args.front d.subs.items = rw (← c.self.view_is) at c.requires.belong in
+    let f = winner_delivers d.window c.args.batch c.args.front belong.0 belong.1 d.subs.items c.in_ok-winner.winner
+    c.requires.limits.0 belong.2
+    (sym (sym c.in_ok-winner.was ∙ c.winner.ensures ∙ ap (winner_from 0) c.self.invariant.in_line))
+    c.if-front-winner.false in
+    omega (arith, slice_get_within d.subs.items c.in_ok-winner.winner.place f.sub f.there, d.subs.ok)
+
+pub returns-in_err-held-clause-value : goal.returns-in_err-held-clause-value
+returns-in_err-held-clause-value c =
+    let d = c.self.inside in
+    let belong : BelongAll c.args.front d.subs.items = rw (← c.self.view_is) at c.requires.belong in
+    let f = winner_delivers d.window c.args.batch c.args.front belong.0 belong.1 d.subs.items c.in_ok-winner.winner
+    c.requires.limits.0 belong.2
+    (sym (sym c.in_ok-winner.was ∙ c.winner.ensures ∙ ap (winner_from 0) c.self.invariant.in_line))
+    c.if-front-winner.false in
+    let same = c.index.ensures ∙ get_or_from_slice_get d.subs.items c.in_ok-winner.winner.place f.sub
+    c.index.result.now f.there in
+    let none : None ≡ Some f.held = sym c.in_err-held.was ∙ c.first_in_line.ensures.value
+    ∙ ap (λ (sub : Sub). least (lane_held c.args.batch c.args.front sub.lane)) same ∙ f.in_line in
+    absurd (let e = none in cc)
+
+pub returns-clause-value : goal.returns-clause-value
+returns-clause-value c =
+    let d = c.self.inside in
+    let belong : BelongAll c.args.front d.subs.items = rw (← c.self.view_is) at c.requires.belong in
+    let f = winner_delivers d.window c.args.batch c.args.front belong.0 belong.1 d.subs.items c.in_ok-winner.winner
+    c.requires.limits.0 belong.2
+    (sym (sym c.in_ok-winner.was ∙ c.winner.ensures ∙ ap (winner_from 0) c.self.invariant.in_line))
+    c.if-front-winner.false in
+    let same = c.index.ensures ∙ get_or_from_slice_get d.subs.items c.in_ok-winner.winner.place f.sub
+    c.index.result.now f.there in
+    let found : Some c.in_ok-held.held ≡ Some f.held = sym c.in_ok-held.was ∙ c.first_in_line.ensures.value
+    ∙ ap (λ (sub : Sub). least (lane_held c.args.batch c.args.front sub.lane)) same ∙ f.in_line in
+    rw (← c.self.view_is) (ap (option_map (λ (h : Held). (c.in_ok-winner.winner.place, h.span))) found
+    ∙ sym (ap (option_map span_to_deliver) f.first))
+
+pub returns-clause-joined : goal.returns-clause-joined
+returns-clause-joined c =
+    let d = c.self.inside in
+    let belong : BelongAll c.args.front d.subs.items = rw (← c.self.view_is) at c.requires.belong in
+    let f = winner_delivers d.window c.args.batch c.args.front belong.0 belong.1 d.subs.items c.in_ok-winner.winner
+    c.requires.limits.0 belong.2
+    (sym (sym c.in_ok-winner.was ∙ c.winner.ensures ∙ ap (winner_from 0) c.self.invariant.in_line))
+    c.if-front-winner.false in
+    let same = c.index.ensures ∙ get_or_from_slice_get d.subs.items c.in_ok-winner.winner.place f.sub
+    c.index.result.now f.there in
+    rw (← c.self.view_is) (f.sub, f.there, subst (λ (sub : Sub). AreJoined sub.lane) same c.in_ok-held.ensures.joined)

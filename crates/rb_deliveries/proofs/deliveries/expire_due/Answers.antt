@@ -1,0 +1,112 @@
+use Rattle.std.proofs.Common.{◌≡◌, ◌∙◌, None, ap, sym, subst, arith, map, slice_get}
+use Rattle.std.proofs.Common.{slice_set}
+use Rattle.std.proofs.lemmas.Option.{get_or_from_slice_get, slice_get_within}
+use Rattle.rb_deliveries.specs.declared.sub.Sub.{Sub}
+use Rattle.rb_deliveries.specs.declared.ticket.Held.{Held}
+use Rattle.rb_deliveries.specs.declared.ticket.Ticket.{Ticket}
+use Rattle.rb_deliveries.specs.Expiry.{due_in, due_held, expired_sub, expired_held, by_number, turns_from}
+use Rattle.std.specs.List.{AllByRecursion}
+use Rattle.rb_deliveries.specs.Subs.{AreGiven, IsGiven}
+use Rattle.rb_deliveries.proofs.subs.KnownLaws.{all_get}
+use Rattle.rb_deliveries.specs.Waiting.{FirstPast}
+use Rattle.rb_deliveries.proofs.orders.DueLaws.{past_has_due, map_expired, none_left, due_after, sum_after, all_expired}
+use Rattle.rb_deliveries.proofs.orders.DueLaws.{waiting_after, given_expired, all_given, due_part, set_there, HasDue}
+use Rattle.rb_deliveries.proofs.orders.MomentLaws.{undue_held, expired_undue}
+use Rattle.rb_deliveries.proofs.deliveries.expire_due.Goals as goal
+
+pub overflow_add-many : goal.overflow_add-many
+overflow_add-many c =
+    let i = c.loop-past.invariant in
+    let f = past_has_due c.args.timeout c.args.clock c.loop-past.subs.items c.in-Some.s
+    (subst (λ ts. HasDue c.args.timeout c.args.clock ts c.in-Some.s) i.waiting.in_flight
+    (subst (FirstPast c.args.timeout c.args.clock c.loop-past.moments) c.in-Some.is i.past)) in
+    let same = c.index.ensures ∙ get_or_from_slice_get c.loop-past.subs.items c.in-Some.s f.0 c.index.result.now f.1 in
+    omega (
+      arith,
+      c.how_many_due-many.ensures.value,
+      ap (due_in c.args.timeout c.args.clock) same,
+      due_part c.args.timeout c.args.clock c.loop-past.subs.items c.in-Some.s f.0 f.1,
+      i.many,
+      c.requires.few,
+    )
+
+pub index_mut-requires : goal.index_mut-requires
+index_mut-requires c =
+    let i = c.loop-past.invariant in
+    let f = past_has_due c.args.timeout c.args.clock c.loop-past.subs.items c.in-Some.s
+    (subst (λ ts. HasDue c.args.timeout c.args.clock ts c.in-Some.s) i.waiting.in_flight
+    (subst (FirstPast c.args.timeout c.args.clock c.loop-past.moments) c.in-Some.is i.past)) in
+    omega (arith, slice_get_within c.loop-past.subs.items c.in-Some.s f.0 f.1, c.loop-past.subs.ok)
+
+pub loop-past-smaller : goal.loop-past-smaller
+loop-past-smaller c =
+    let i = c.loop-past.invariant in
+    let f = past_has_due c.args.timeout c.args.clock c.loop-past.subs.items c.in-Some.s
+    (subst (λ ts. HasDue c.args.timeout c.args.clock ts c.in-Some.s) i.waiting.in_flight
+    (subst (FirstPast c.args.timeout c.args.clock c.loop-past.moments) c.in-Some.is i.past)) in
+    let same = c.index_mut.ensures.value
+    ∙ get_or_from_slice_get c.loop-past.subs.items c.in-Some.s f.0 c.index_mut.result.now f.1 in
+    let tickets : Held → Ticket = by_number (turns_from c.args.latest.front c.args.latest.turn) in
+    let made : c.expire.new.self ≡ expired_sub c.args.timeout c.args.clock tickets f.0 =
+    c.expire.ensures ∙ ap (expired_sub c.args.timeout c.args.clock tickets) same in
+    let left = undue_held c.args.timeout c.args.clock
+    (map (expired_held c.args.timeout c.args.clock tickets) f.0.lane.held)
+    (expired_undue c.args.timeout c.args.clock tickets f.0.lane.held) in
+    let sum = sum_after c.args.timeout c.args.clock c.loop-past.subs.items c.in-Some.s f.0 c.expire.new.self f.1 in
+    omega (arith, sum, f.2, left, ap (λ (sub : Sub). due_held c.args.timeout c.args.clock sub.lane.held) made)
+
+pub loop-past-preserved : goal.loop-past-preserved
+loop-past-preserved c =
+    let i = c.loop-past.invariant in
+    let f = past_has_due c.args.timeout c.args.clock c.loop-past.subs.items c.in-Some.s
+    (subst (λ ts. HasDue c.args.timeout c.args.clock ts c.in-Some.s) i.waiting.in_flight
+    (subst (FirstPast c.args.timeout c.args.clock c.loop-past.moments) c.in-Some.is i.past)) in
+    let within = slice_get_within c.loop-past.subs.items c.in-Some.s f.0 f.1 in
+    let read = c.index.ensures ∙ get_or_from_slice_get c.loop-past.subs.items c.in-Some.s f.0 c.index.result.now f.1 in
+    let same = c.index_mut.ensures.value
+    ∙ get_or_from_slice_get c.loop-past.subs.items c.in-Some.s f.0 c.index_mut.result.now f.1 in
+    let tickets : Held → Ticket = by_number (turns_from c.args.latest.front c.args.latest.turn) in
+    let made : c.expire.new.self ≡ expired_sub c.args.timeout c.args.clock tickets f.0 =
+    c.expire.ensures ∙ ap (expired_sub c.args.timeout c.args.clock tickets) same in
+    let given = all_get (λ (sub : Sub). AreGiven c.args.next c.args.latest.turn sub.lane.held) c.loop-past.subs.items
+    c.in-Some.s f.0 i.given f.1 in
+    record {
+      subs = ap (λ sub. map (expired_sub c.args.timeout c.args.clock tickets)
+          (slice_set c.loop-past.subs.items c.in-Some.s sub)) made
+          ∙ map_expired c.args.timeout c.args.clock tickets c.loop-past.subs.items c.in-Some.s f.0 f.1 ∙ i.subs;
+      many = omega (
+        arith,
+        i.many,
+        c.how_many_due-many.ensures.value,
+        ap (due_in c.args.timeout c.args.clock) read,
+        due_after c.args.timeout c.args.clock c.loop-past.subs.items c.in-Some.s f.0 c.expire.new.self f.1,
+        ap (due_in c.args.timeout c.args.clock) made,
+        none_left c.args.timeout c.args.clock tickets f.0,
+      );
+      waiting = waiting_after c.args.window c.in-Some.s c.loop-past.subs.items c.expire.new.self c.loop-past.line
+          c.loop-past.moments c.stand.new.line c.stand.new.moments i.waiting
+          (c.stand.ensures c.expire.new.self (ap (λ l. slice_get l c.in-Some.s) c.deref.ensures.value
+          ∙ set_there c.loop-past.subs.items c.in-Some.s c.expire.new.self within));
+      given = all_given c.args.next c.args.latest.turn c.loop-past.subs.items c.in-Some.s c.expire.new.self i.given (
+        subst (λ (sub : Sub). AllByRecursion (λ h. IsGiven c.args.next h.span.status) sub.lane.held) (sym made)
+            (given_expired c.args.timeout c.args.clock tickets c.args.next c.args.latest.turn f.0.lane.held given.0),
+        given.1,
+      );
+      past = c.first_past-past-in-Some.ensures;
+    }
+
+pub returns-clause-many : goal.returns-clause-many
+returns-clause-many c =
+    let i = c.loop-past.invariant in
+    let tickets : Held → Ticket = by_number (turns_from c.args.latest.front c.args.latest.turn) in
+    let none = subst (λ ts. FirstPast c.args.timeout c.args.clock ts None) i.waiting.in_flight
+    (subst (FirstPast c.args.timeout c.args.clock c.loop-past.moments) c.in_default.is i.past) in
+    omega (arith, i.many, (all_expired c.args.timeout c.args.clock tickets c.loop-past.subs.items none).1)
+
+pub returns-clause-subs : goal.returns-clause-subs
+returns-clause-subs c =
+    let i = c.loop-past.invariant in
+    let tickets : Held → Ticket = by_number (turns_from c.args.latest.front c.args.latest.turn) in
+    let none = subst (λ ts. FirstPast c.args.timeout c.args.clock ts None) i.waiting.in_flight
+    (subst (FirstPast c.args.timeout c.args.clock c.loop-past.moments) c.in_default.is i.past) in
+    sym (all_expired c.args.timeout c.args.clock tickets c.loop-past.subs.items none).0 ∙ i.subs

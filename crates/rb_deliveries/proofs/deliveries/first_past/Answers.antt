@@ -1,0 +1,29 @@
+use Rattle.std.proofs.Common.{◌≡◌, ◌∙◌, ◌-◌, ap, sym, subst, arith, slice_get}
+use Rattle.std.proofs.lemmas.Bool.{le-leb, lt-leb}
+use Rattle.rb_deliveries.proofs.orders.DueLaws.{winner_is_least, IsLeast, none_past, none_past_yet}
+use Rattle.rb_deliveries.proofs.deliveries.first_past.Goals as goal
+
+pub returns-in_err-winner : goal.returns-in_err-winner
+returns-in_err-winner c =
+    let none = subst (IsLeast 0 c.args.moments.now) (sym (sym c.in_err-winner.was ∙ c.winner.ensures))
+    (winner_is_least 0 c.args.moments.now) in
+    rw c.from_residual.ensures (none_past c.args.timeout c.args.clock c.args.moments.now none)
+
+pub returns-then-timeout-saturating_sub : goal.returns-then-timeout-saturating_sub
+returns-then-timeout-saturating_sub c =
+    let least = subst (IsLeast 0 c.args.moments.now) (sym (sym c.in_ok-winner.was ∙ c.winner.ensures))
+    (winner_is_least 0 c.args.moments.now) in (
+      c.in_ok-winner.winner.ticket,
+      ap (slice_get c.args.moments.now) (let e : c.in_ok-winner.winner.place ≡ least.0 = omega (arith, least.1) in e)
+          ∙ least.2,
+      le-leb c.args.timeout (c.args.clock - c.in_ok-winner.winner.ticket.front)
+          (omega (arith, c.if-timeout-saturating_sub.true, c.saturating_sub.ensures)),
+    )
+
+pub returns : goal.returns
+returns c =
+    let least = subst (IsLeast 0 c.args.moments.now) (sym (sym c.in_ok-winner.was ∙ c.winner.ensures))
+    (winner_is_least 0 c.args.moments.now) in
+    none_past_yet c.args.timeout c.args.clock c.in_ok-winner.winner.ticket
+    (lt-leb c.args.timeout (c.args.clock - c.in_ok-winner.winner.ticket.front)
+    (omega (arith, c.if-timeout-saturating_sub.false, c.saturating_sub.ensures))) c.args.moments.now least.3

@@ -1,0 +1,8 @@
+use Rattle.std.proofs.Common.{◌∙◌, ap, sym, arith}
+use Rattle.rb_deliveries.proofs.spans.LaneLaws.{joins_pushed}
+use Rattle.rb_deliveries.proofs.lane.Lane.push.Goals as goal
+
+pub invariant_of-self-2 : goal.invariant_of-self-2
+invariant_of-self-2 c = rw c.in_ok-push.ensures.ok
+    (joins_pushed _ _ _ c.self.inside.held _ c.self.invariant
+    (c.requires.first ∙ sym (ap (λ k. k.next) c.self.view_is)) c.requires.span.0 (omega arith))

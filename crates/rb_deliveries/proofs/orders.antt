@@ -1,0 +1,11 @@
+-- The orders computed from tickets, and the tournaments that find the first in them at once.
+pub mod Line
+pub mod OrderLaws
+pub mod CandidateLaws
+pub mod NodeLaws
+pub mod TreeLaws
+pub mod WaitingLaws
+pub mod MomentLaws
+pub mod DueLaws
+pub mod ExpireLines
+pub mod ExpireOrder

@@ -1,0 +1,273 @@
+-- Which subscription has a delivery that is due, and what is left when each has expired its own.
+use Rattle.std.proofs.Common.{◌≡◌, ℕ, zero, suc, ◌+◌, ◌<◌, ◌≤◌, Bool, true, false, List, [], ◌∷◌, ◌*◌, length}
+use Rattle.std.proofs.Common.{map, filter}
+use Rattle.std.proofs.Common.{Option, Some, None, IfSome, slice_get, slice_set, refl, sym, ap, subst, ◌∙◌, arith, cond}
+use Rattle.std.proofs.Common.{if◌then◌else◌}
+use Rattle.std.specs.List.{AllByRecursion}
+use Rattle.std.proofs.lemmas.List.{map-set}
+use Rattle.rb_deliveries.specs.declared.span.Status.TheVariants.{Ready}
+use Rattle.rb_deliveries.specs.declared.sub.Sub.{Sub}
+use Rattle.rb_deliveries.specs.declared.ticket.Held.{Held}
+use Rattle.rb_deliveries.specs.declared.ticket.Ticket.{Ticket}
+use Rattle.rb_deliveries.specs.declared.tournament.Winner.{Winner}
+use Rattle.rb_deliveries.specs.Spans.{is_due}
+use Rattle.rb_deliveries.specs.Lanes.{earlier, AreJoined, FollowOn}
+use Rattle.rb_deliveries.specs.Expiry.{due_held, due_in, all_due, expired_held, expired_sub}
+use Rattle.rb_deliveries.specs.Subs.{Belongs, IsGiven, AreGiven}
+use Rattle.rb_deliveries.specs.Tournament.{winner_of_two, at_place, winner_from, earlier_of}
+use Rattle.rb_deliveries.specs.Waiting.{earliest, sub_moment, sub_ticket, is_past, FirstPast, AreWaiting, StandsAgain}
+use Rattle.rb_deliveries.proofs.orders.MomentLaws.{past_later, some_due, none_due, undue_held, undue_same}
+use Rattle.rb_deliveries.proofs.orders.MomentLaws.{expired_undue}
+use Rattle.rb_deliveries.proofs.orders.WaitingLaws.{earlier_fronts, not_earlier}
+
+-- ---- the earliest of all
+
+-- the winner has a ticket of this list, and no other has a smaller front
+abbrev pub IsLeast : ℕ → List (Option Ticket) → Option Winner → Type 0
+IsLeast n ts None = AllByRecursion (λ o. o ≡ None) ts
+IsLeast n ts (Some w) = (i : ℕ) × (w.place ≡ n + i) × (slice_get ts i ≡ Some (Some w.ticket))
+    × AllByRecursion (λ o. IfSome o (λ (t : Ticket). w.ticket.front ≤ t.front)) ts
+
+all_none : (front : ℕ) (ts : List (Option Ticket)) → AllByRecursion (λ o. o ≡ None) ts
+    → AllByRecursion (λ o. IfSome o (λ (t : Ticket). front ≤ t.front)) ts
+all_none front [] h = tt
+all_none front (t ∷ ts) h =
+    (subst (λ o. IfSome o (λ (t : Ticket). front ≤ t.front)) (sym h.0) tt, all_none front ts h.1)
+
+all_lower : (a b : ℕ) → a ≤ b → (ts : List (Option Ticket))
+    → AllByRecursion (λ o. IfSome o (λ (t : Ticket). b ≤ t.front)) ts
+    → AllByRecursion (λ o. IfSome o (λ (t : Ticket). a ≤ t.front)) ts
+all_lower a b le [] h = tt
+all_lower a b le (None ∷ ts) h = (tt, all_lower a b le ts h.1)
+all_lower a b le (Some t ∷ ts) h = (omega (arith, le, h.0), all_lower a b le ts h.1)
+
+least_of_two : (n : ℕ) (a : Ticket) (ts : List (Option Ticket)) (o : Option Winner) → IsLeast (suc n) ts o
+    → IsLeast n (Some a ∷ ts) (winner_of_two (at_place n (Some a)) o)
+least_of_two n a ts None h = (0, omega arith, refl, (omega arith, all_none a.front ts h))
+least_of_two n a ts (Some w) h = by (earlier w.ticket a) refl
+  where
+    mine : Winner
+    mine = record { first = n; place = n; ticket = a }
+
+    by : (t : Bool) → earlier w.ticket a ≡ t → IsLeast n (Some a ∷ ts) (Some (earlier_of mine w))
+    by true is = subst (λ v. IsLeast n (Some a ∷ ts) (Some v))
+        (sym (ap (λ t. if t then record w { first = n } else mine) is))
+        (suc h.0, omega (arith, h.1), h.2, (earlier_fronts w.ticket a is, h.3))
+    by false is = subst (λ v. IsLeast n (Some a ∷ ts) (Some v))
+        (sym (ap (λ t. if t then record w { first = n } else mine) is))
+        (0, omega arith, refl, (omega arith, all_lower a.front w.ticket.front (not_earlier w.ticket a is) ts h.3))
+
+least_behind : (n : ℕ) (ts : List (Option Ticket)) (o : Option Winner) → IsLeast (suc n) ts o → IsLeast n (None ∷ ts) o
+least_behind n ts None h = (refl, h)
+least_behind n ts (Some w) h = (suc h.0, omega (arith, h.1), h.2, (tt, h.3))
+
+pub winner_is_least : (n : ℕ) (ts : List (Option Ticket)) → IsLeast n ts (winner_from n ts)
+winner_is_least n [] = tt
+winner_is_least n (None ∷ ts) = least_behind n ts (winner_from (suc n) ts) (winner_is_least (suc n) ts)
+winner_is_least n (Some a ∷ ts) = least_of_two n a ts (winner_from (suc n) ts) (winner_is_least (suc n) ts)
+
+-- ---- what is past
+
+pub none_past : (timeout clock : ℕ) (ts : List (Option Ticket)) → AllByRecursion (λ o. o ≡ None) ts
+    → FirstPast timeout clock ts None
+none_past timeout clock [] h = tt
+none_past timeout clock (t ∷ ts) h =
+    (subst (λ o. IfSome o (λ t. is_past timeout clock t ≡ false)) (sym h.0) tt, none_past timeout clock ts h.1)
+
+pub none_past_yet : (timeout clock : ℕ) (w : Ticket) → is_past timeout clock w ≡ false → (ts : List (Option Ticket))
+    → AllByRecursion (λ o. IfSome o (λ (t : Ticket). w.front ≤ t.front)) ts → FirstPast timeout clock ts None
+none_past_yet timeout clock w is [] h = tt
+none_past_yet timeout clock w is (None ∷ ts) h = (tt, none_past_yet timeout clock w is ts h.1)
+none_past_yet timeout clock w is (Some t ∷ ts) h =
+    (past_later timeout clock w t h.0 is, none_past_yet timeout clock w is ts h.1)
+
+-- ---- one subscription expires its own
+
+module _ (timeout clock : ℕ) (ticket : Held → Ticket) where
+  expires : Sub → Sub
+  expires = expired_sub timeout clock ticket
+
+  pub expired_twice : (sub : Sub) → expired_sub timeout clock ticket (expired_sub timeout clock ticket sub)
+      ≡ expired_sub timeout clock ticket sub
+  expired_twice sub = ap (λ held. record sub { lane = record sub.lane { held = held } })
+      (undue_same timeout clock ticket (map (expired_held timeout clock ticket) sub.lane.held)
+      (expired_undue timeout clock ticket sub.lane.held))
+
+  pub none_left : (sub : Sub) → due_in timeout clock (expired_sub timeout clock ticket sub) ≡ 0
+  none_left sub = by sub.closed
+    where
+      by : (b : Bool) → (if b then 0 else due_held timeout clock (map (expired_held timeout clock ticket)
+          sub.lane.held)) ≡ 0
+      by true = refl
+      by false = undue_held timeout clock (map (expired_held timeout clock ticket) sub.lane.held)
+          (expired_undue timeout clock ticket sub.lane.held)
+
+  pub map_expired : (subs : List Sub) (s : ℕ) (sub : Sub) → slice_get subs s ≡ Some sub
+      → map (expired_sub timeout clock ticket) (slice_set subs s (expired_sub timeout clock ticket sub))
+      ≡ map (expired_sub timeout clock ticket) subs
+  map_expired [] s sub is = refl
+  map_expired (x ∷ subs) zero sub is =
+      let same : x ≡ sub = cc in
+      ap (λ y. y ∷ map (expired_sub timeout clock ticket) subs) (expired_twice sub
+      ∙ ap (expired_sub timeout clock ticket) (sym same))
+  map_expired (x ∷ subs) (suc s) sub is =
+      ap (λ l. expired_sub timeout clock ticket x ∷ l) (map_expired subs s sub is)
+
+  -- where nothing is past, all is as it would be after expiring
+  pub all_expired : (subs : List Sub) → FirstPast timeout clock (map sub_moment subs) None
+      → (map (expired_sub timeout clock ticket) subs ≡ subs) × (all_due timeout clock subs ≡ 0)
+  all_expired [] h = (refl, refl)
+  all_expired (sub ∷ subs) h =
+      let rest = all_expired subs h.1 in
+      let undue = none_due timeout clock sub.lane.held h.0 in (
+        (λ k. ap (λ held. record sub { lane = record sub.lane { held = held } })
+            (undue_same timeout clock ticket sub.lane.held undue) k ∷ rest.0 k),
+        omega (arith, rest.1, by sub.closed (undue_held timeout clock sub.lane.held undue)),
+      )
+    where
+      by : (b : Bool) → due_held timeout clock sub.lane.held ≡ 0
+          → (if b then 0 else due_held timeout clock sub.lane.held) ≡ 0
+      by true e = refl
+      by false e = e
+
+  pub given_expired : (next turn : ℕ) (held : List Held) → AllByRecursion (λ h. IsGiven next h.span.status) held
+      → AllByRecursion (λ h. IsGiven next h.span.status) (map (expired_held timeout clock ticket) held)
+  given_expired next turn [] h = tt
+  given_expired next turn (x ∷ held) h = (by (is_due timeout clock x.span.status), given_expired next turn held h.1)
+    where
+      by : (b : Bool) → IsGiven next (if b then record {
+        span = record x.span { status = Ready true };
+        ticket = ticket x;
+      } else x).span.status
+      by true = tt
+      by false = h.0
+
+-- ---- sums over subscriptions
+
+pub due_after : (timeout clock : ℕ) (subs : List Sub) (s : ℕ) (sub new : Sub) → slice_get subs s ≡ Some sub
+    → all_due timeout clock (slice_set subs s new) + due_in timeout clock sub
+    ≡ all_due timeout clock subs + due_in timeout clock new
+due_after timeout clock [] s sub new is = absurd (let e : None ≡ Some sub = is in cc)
+due_after timeout clock (x ∷ subs) zero sub new is =
+    let same : x ≡ sub = cc in
+    omega (arith, ap (due_in timeout clock) same)
+due_after timeout clock (x ∷ subs) (suc s) sub new is = omega (arith, due_after timeout clock subs s sub new is)
+
+-- how many spans are due, closed subscriptions counted too
+abbrev pub sum_due : ℕ → ℕ → List Sub → ℕ
+sum_due timeout clock [] = 0
+sum_due timeout clock (sub ∷ subs) = due_held timeout clock sub.lane.held + sum_due timeout clock subs
+
+pub sum_after : (timeout clock : ℕ) (subs : List Sub) (s : ℕ) (sub new : Sub) → slice_get subs s ≡ Some sub
+    → sum_due timeout clock (slice_set subs s new) + due_held timeout clock sub.lane.held
+    ≡ sum_due timeout clock subs + due_held timeout clock new.lane.held
+sum_after timeout clock [] s sub new is = absurd (let e : None ≡ Some sub = is in cc)
+sum_after timeout clock (x ∷ subs) zero sub new is =
+    let same : x ≡ sub = cc in
+    omega (arith, ap (λ (sub : Sub). due_held timeout clock sub.lane.held) same)
+sum_after timeout clock (x ∷ subs) (suc s) sub new is = omega (arith, sum_after timeout clock subs s sub new is)
+
+-- the subscription whose moment is past has a span that is due
+pub past_has_due : (timeout clock : ℕ) (subs : List Sub) (s : ℕ) → ((t : Ticket)
+    × (slice_get (map sub_moment subs) s ≡ Some (Some t)) × (is_past timeout clock t ≡ true))
+    → (sub : Sub) × (slice_get subs s ≡ Some sub) × (1 ≤ due_held timeout clock sub.lane.held)
+past_has_due timeout clock [] s past = absurd (let e : None ≡ Some (Some past.0) = past.1 in cc)
+past_has_due timeout clock (sub ∷ subs) zero past = (
+  sub,
+  refl,
+  some_due timeout clock sub.lane.held past.0 (let e : earliest sub.lane.held
+      ≡ Some past.0 = inner past.1 in e) past.2,
+)
+  where
+    inner : {X : Type 0} {a b : X} → Some a ≡ Some b → a ≡ b
+    inner e = cc
+past_has_due timeout clock (sub ∷ subs) (suc s) past =
+    let rest = past_has_due timeout clock subs s past in (rest.0, rest.1, rest.2)
+
+-- ---- what stands after a change
+
+all_stand : (P : Sub → Type 0) (subs : List Sub) (s : ℕ) (sub : Sub) → AllByRecursion P subs → P sub
+    → AllByRecursion P (slice_set subs s sub)
+all_stand P [] s sub h p = tt
+all_stand P (x ∷ subs) zero sub h p = (p, h.1)
+all_stand P (x ∷ subs) (suc s) sub h p = (h.0, all_stand P subs s sub h.1 p)
+
+pub waiting_after : (window s : ℕ) (subs : List Sub) (sub : Sub) (line moments new_line new_moments : List (Option
+    Ticket))
+    → AreWaiting window subs line moments → StandsAgain window s sub line moments new_line new_moments
+    → AreWaiting window (slice_set subs s sub) new_line new_moments
+waiting_after window s subs sub line moments new_line new_moments old stands = record {
+  in_line = stands.in_line ∙ ap (λ l. slice_set l s (sub_ticket window sub)) old.in_line
+      ∙ sym (map-set (sub_ticket window) subs s sub);
+  in_flight = stands.in_flight ∙ ap (λ l. slice_set l s (sub_moment sub)) old.in_flight
+      ∙ sym (map-set sub_moment subs s sub);
+  joined = all_stand (λ sub. AreJoined sub.lane) subs s sub old.joined stands.joins;
+}
+
+pub all_given : (next turn : ℕ) (subs : List Sub) (s : ℕ) (sub : Sub)
+    → AllByRecursion (λ sub. AreGiven next turn sub.lane.held) subs → AreGiven next turn sub.lane.held
+    → AllByRecursion (λ sub. AreGiven next turn sub.lane.held) (slice_set subs s sub)
+all_given next turn subs s sub h p = all_stand (λ sub. AreGiven next turn sub.lane.held) subs s sub h p
+
+abbrev pub HasDue : ℕ → ℕ → List (Option Ticket) → ℕ → Type 0
+HasDue timeout clock moments s = (t : Ticket) × (slice_get moments s ≡ Some (Some t))
+    × (is_past timeout clock t ≡ true)
+
+pub due_part : (timeout clock : ℕ) (subs : List Sub) (s : ℕ) (sub : Sub) → slice_get subs s ≡ Some sub
+    → due_in timeout clock sub ≤ all_due timeout clock subs
+due_part timeout clock subs s sub is =
+    omega (
+      arith,
+      due_after timeout clock subs s sub (expired_sub timeout clock (λ h. h.ticket) sub) is,
+      none_left timeout clock (λ h. h.ticket) sub,
+    )
+
+pub set_there : (xs : List Sub) (i : ℕ) (x : Sub) → i < length xs → slice_get (slice_set xs i x) i ≡ Some x
+set_there [] i x h = absurd (omega (arith, h))
+set_there (y ∷ xs) zero x h = refl
+set_there (y ∷ xs) (suc i) x h = set_there xs i x (omega (arith, h))
+
+-- in a call, which says what the subscription has become
+pub waiting_as : (window s : ℕ) (subs now : List Sub) (sub : Sub) (line moments new_line new_moments : List (Option
+    Ticket))
+    → AreWaiting window subs line moments → s < length subs → now ≡ slice_set subs s sub
+    → ((found : Sub) → slice_get now s ≡ Some found → StandsAgain window s found line moments new_line new_moments)
+    → AreWaiting window (slice_set subs s sub) new_line new_moments
+waiting_as window s subs now sub line moments new_line new_moments old less is given =
+    waiting_after window s subs sub line moments new_line new_moments old
+    (given sub (ap (λ l. slice_get l s) is ∙ set_there subs s sub less))
+
+-- ---- how many can be due
+
+-- spans that follow one another are no more than their numbers
+count_joined : (low next : ℕ) (held : List Held) → FollowOn low held next → length held + low ≤ next
+count_joined low next [] joined = omega (arith, joined)
+count_joined low next (x ∷ held) joined =
+    omega (arith, joined.0, joined.1, count_joined (suc x.span.last) next held joined.2)
+
+due_at_most : (timeout clock : ℕ) (held : List Held) → due_held timeout clock held ≤ length held
+due_at_most timeout clock [] = omega arith
+due_at_most timeout clock (x ∷ held) = by (is_due timeout clock x.span.status) (due_at_most timeout clock held)
+  where
+    by : (b : Bool) → length (filter (λ h. is_due timeout clock h.span.status) held) ≤ length held
+        → length (cond b (x ∷ filter (λ h. is_due timeout clock h.span.status) held)
+        (filter (λ h. is_due timeout clock h.span.status) held)) ≤ suc (length held)
+    by true le = omega (arith, le)
+    by false le = omega (arith, le)
+
+pub few_due : (timeout clock front turn number : ℕ) (subs : List Sub)
+    → AllByRecursion (Belongs front turn number) subs → AllByRecursion (λ sub. AreJoined sub.lane) subs
+    → front ≤ 1048576 → all_due timeout clock subs ≤ 1048577 * length subs
+few_due timeout clock front turn number [] belong joined le = omega arith
+few_due timeout clock front turn number (sub ∷ subs) belong joined le =
+    omega (arith, few_due timeout clock front turn number subs belong.1 joined.1 le, by sub.closed)
+  where
+    by : (b : Bool) → (if b then 0 else due_held timeout clock sub.lane.held) ≤ 1048577
+    by true = omega arith
+    by false = omega (
+      arith,
+      due_at_most timeout clock sub.lane.held,
+      count_joined (suc sub.lane.floor) sub.lane.next sub.lane.held joined.0,
+      belong.0.is_next,
+      le,
+    )

@@ -1,0 +1,323 @@
+-- A tournament's tree: the first node is the winner of all places, and what a call changes in the tree.
+use Rattle.std.proofs.Common.{◌≡◌, ◌≢◌, ℕ, zero, suc, ◌+◌, ◌-◌, ◌<◌, ◌≤◌, List, [], ◌∷◌, ◌++◌, length, take, drop, map}
+use Rattle.std.proofs.Common.{replicate, Option, Some, None, get_or, slice_set, refl, sym, ap, ◌∙◌, arith, subst}
+use Rattle.std.proofs.Common.{Bool, true, false, ◌==◌, eqb-true, eq-eqb}
+use Rattle.std.proofs.lemmas.Bool.{false≢true}
+use Rattle.std.proofs.lemmas.List.{drop-set-add, get_or-set_same, get_or-set_other, set-append_left}
+use Rattle.std.proofs.lemmas.List.{append_assoc, drop-replicate, length-append, length-drop, length-set, length-take-le}
+use Rattle.std.proofs.Math.Seq.{take-length, take-append_seam}
+use Rattle.rb_deliveries.specs.declared.ticket.Ticket.{Ticket}
+use Rattle.rb_deliveries.specs.declared.tournament.Winner.{Winner}
+use Rattle.rb_deliveries.specs.Tournament.{winner_of_two, at_place, winner_from, leaves_from, places_at, node, WinsPair}
+use Rattle.rb_deliveries.specs.Tournament.{NodesWin, IsTree, ticket_at, tickets_of}
+use Rattle.rb_deliveries.proofs.orders.NodeLaws.{joined_none, winner_of, winner_append, winner_none, winner_leaves}
+use Rattle.rb_deliveries.proofs.orders.NodeLaws.{length_leaves, start_one, node_wins}
+
+-- ---- a tree
+
+-- the tickets that its places have are the ones that its leaves were made of
+tickets_again : (n : ℕ) (tickets : List (Option Ticket)) → map ticket_at (leaves_from n tickets) ≡ tickets
+tickets_again n [] = refl
+tickets_again n (None ∷ rest) = ap (λ l. None ∷ l) (tickets_again (suc n) rest)
+tickets_again n (Some ticket ∷ rest) = ap (λ l. Some ticket ∷ l) (tickets_again (suc n) rest)
+
+pub tickets_are : (nodes : List (Option Winner)) (room len : ℕ) (tickets : List (Option Ticket)) (pad : List (Option
+    Winner))
+    → length tickets ≡ len → drop room nodes ≡ leaves_from 0 tickets ++ pad → tickets_of nodes room len ≡ tickets
+tickets_are nodes room len tickets pad long leaves =
+    ap (λ l. map ticket_at (take len l)) leaves
+    ∙ ap (λ n. map ticket_at (take n (leaves_from 0 tickets ++ pad))) (sym long ∙ sym (length_leaves 0 tickets))
+    ∙ ap (map ticket_at) (take-append_seam (leaves_from 0 tickets) pad)
+    ∙ tickets_again 0 tickets
+
+length_places : (nodes : List (Option Winner)) (room : ℕ) → length nodes ≡ room + room → length (drop room nodes) ≡ room
+length_places nodes room long = length-drop room nodes ∙ omega (arith, long)
+
+pub first_wins : (nodes : List (Option Winner)) (room len : ℕ) → IsTree nodes room len → 0 < room
+    → node nodes 1 ≡ winner_from 0 (tickets_of nodes room len)
+first_wins nodes room len tree some =
+    let depth = (tree.even some).0 in
+    let even = (tree.even some).1 in
+    let tickets = tree.leaves.0 in
+    let pad = replicate (room - len) None in
+    node_wins nodes room tree.long tree.inner depth 1 (omega arith) (omega (arith, start_one depth, even))
+    ∙ (λ k. winner_of (take (sym even k) (drop ((start_one depth ∙ sym even) k) nodes)))
+    ∙ ap winner_of (ap (λ n. take n (drop room nodes)) (sym (length_places nodes room tree.long))
+    ∙ take-length (drop room nodes) ∙ tree.leaves.2)
+    ∙ winner_append (leaves_from 0 tickets) pad
+    ∙ ap (winner_of_two (winner_of (leaves_from 0 tickets))) (winner_none (room - len))
+    ∙ joined_none (winner_of (leaves_from 0 tickets))
+    ∙ winner_leaves 0 tickets
+    ∙ ap (winner_from 0) (sym (tickets_are nodes room len tickets pad tree.leaves.1 tree.leaves.2))
+
+-- ---- a place is set
+
+set_leaf : (n place : ℕ) (tickets : List (Option Ticket)) (ticket : Option Ticket) → place < length tickets
+    → slice_set (leaves_from n tickets) place (at_place (n + place) ticket)
+    ≡ leaves_from n (slice_set tickets place ticket)
+set_leaf n place [] ticket h = absurd (omega (arith, h))
+set_leaf n zero (x ∷ rest) ticket h =
+    ap (λ k. at_place k ticket ∷ leaves_from (suc n) rest) (let e : n + 0 ≡ n = omega arith in e)
+set_leaf n (suc place) (x ∷ rest) ticket h =
+    ap (λ l. at_place n x ∷ l)
+    (ap (λ k. slice_set (leaves_from (suc n) rest) place (at_place k ticket))
+    (let e : n + suc place ≡ suc n + place = omega arith in e)
+    ∙ set_leaf (suc n) place rest ticket (omega (arith, h)))
+
+-- the places after one was set
+pub leaves_set : (nodes : List (Option Winner)) (room place : ℕ) (tickets : List (Option Ticket))
+    (pad : List (Option Winner)) (ticket : Option Ticket) → place < length tickets
+    → drop room nodes ≡ leaves_from 0 tickets ++ pad
+    → drop room (slice_set nodes (room + place) (at_place place ticket))
+    ≡ leaves_from 0 (slice_set tickets place ticket) ++ pad
+leaves_set nodes room place tickets pad ticket h leaves =
+    drop-set-add room nodes place (at_place place ticket)
+    ∙ ap (λ l. slice_set l place (at_place place ticket)) leaves
+    ∙ set-append_left (leaves_from 0 tickets) pad place (at_place place ticket) (omega (
+      arith,
+      h,
+      length_leaves 0
+          tickets,
+    ))
+    ∙ ap (λ l. l ++ pad)
+    (ap (λ k. slice_set (leaves_from 0 tickets) place (at_place k ticket)) (let e : place
+    ≡ 0 + place = omega arith in e)
+    ∙ set_leaf 0 place tickets ticket h)
+
+-- all nodes but one are winners of the two below them
+abbrev pub NodesWinBut : List (Option Winner) → ℕ → ℕ → Type 0
+NodesWinBut nodes room but = (i : ℕ) → 1 ≤ i → i < room → i ≢ but → WinsPair nodes i
+
+-- a node that changes is one that only its own join and that of the node above it read
+join_kept : (nodes : List (Option Winner)) (at i : ℕ) (x : Option Winner) → i ≢ at → i + i ≢ at → suc (i + i) ≢ at
+    → WinsPair nodes i → WinsPair (slice_set nodes at x) i
+join_kept nodes at i x own left right is =
+    get_or-set_other nodes at i x None own ∙ is
+    ∙ (λ k. winner_of_two (sym (get_or-set_other nodes at (i + i) x None left) k)
+    (sym (get_or-set_other nodes at (suc (i + i)) x None right) k))
+
+-- once that one is, only the node above that may not be
+pub joined_up : (nodes : List (Option Winner)) (room at above : ℕ) (x : Option Winner) → 0 < at → at < room
+    → length nodes ≡ room + room → above + above ≤ at → at ≤ suc (above + above)
+    → x ≡ winner_of_two (node nodes (at + at)) (node nodes (suc (at + at))) → NodesWinBut nodes room at
+    → NodesWinBut (slice_set nodes at x) room above
+joined_up nodes room at above x some less long two more is but i one under other = by (i == at) refl
+  where
+    apart : i ≢ at → WinsPair (slice_set nodes at x) i
+    apart own =
+        join_kept nodes at i x own (λ e. other (omega (arith, e, two, more))) (λ e. other (omega (arith, e, two, more)))
+        (but i one under own)
+
+    here : WinsPair (slice_set nodes at x) at
+    here =
+        get_or-set_same nodes at x None (omega (arith, less, long)) ∙ is
+        ∙ (λ k. winner_of_two (sym (get_or-set_other nodes at (at + at) x None (λ e. absurd (omega (arith, e, some))))
+        k)
+        (sym (get_or-set_other nodes at (suc (at + at)) x None (λ e. absurd (omega (arith, e, some)))) k))
+
+    by : (b : Bool) → (i == at) ≡ b → WinsPair (slice_set nodes at x) i
+    by true is = subst (WinsPair (slice_set nodes at x)) (sym (eqb-true i at is)) here
+    by false is = apart (λ e. false≢true (sym is ∙ eq-eqb i at e))
+
+pub all_joined : (nodes : List (Option Winner)) (room at : ℕ) → at < 1 → NodesWinBut nodes room at
+    → NodesWin nodes room
+all_joined nodes room at none but i one less = but i one less (λ e. absurd (omega (arith, e, none, one)))
+
+-- ---- whole trees
+
+-- a tree in which a place was set
+pub tree_set : (nodes new : List (Option Winner)) (room len place : ℕ) (ticket : Option Ticket)
+    → IsTree nodes room len → place < length (tickets_of nodes room len) → length new ≡ room + room
+    → drop room new ≡ drop room (slice_set nodes (room + place) (at_place place ticket)) → NodesWin new room
+    → IsTree new room len × (tickets_of new room len ≡ slice_set (tickets_of nodes room len) place ticket)
+tree_set nodes new room len place ticket tree there long places inner =
+    let tickets = tree.leaves.0 in
+    let seen = tickets_are nodes room len tickets _ tree.leaves.1 tree.leaves.2 in
+    let within : place < length tickets = omega (arith, there, ap length seen) in
+    let leaves = places ∙ leaves_set nodes room place tickets _ ticket within tree.leaves.2 in
+    let count = length-set tickets place ticket ∙ tree.leaves.1 in (
+      record {
+        long = long;
+        fits = tree.fits;
+        even = tree.even;
+        leaves = (slice_set tickets place ticket, count, leaves);
+        inner = inner;
+      },
+      tickets_are new room len (slice_set tickets place ticket) _ count leaves
+          ∙ ap (λ l. slice_set l place ticket) (sym seen),
+    )
+
+leaves_more : (n : ℕ) (tickets : List (Option Ticket)) (ticket : Option Ticket)
+    → leaves_from n (tickets ++ ticket ∷ []) ≡ leaves_from n tickets ++ at_place (n + length tickets) ticket ∷ []
+leaves_more n [] ticket = ap (λ k. at_place k ticket ∷ []) (let e : n ≡ n + 0 = omega arith in e)
+leaves_more n (x ∷ rest) ticket =
+    ap (λ l. at_place n x ∷ l) (leaves_more (suc n) rest ticket
+    ∙ ap (λ k. leaves_from (suc n) rest ++ at_place k ticket ∷ [])
+    (let e : suc n + length rest ≡ n + suc (length rest) = omega arith in e))
+
+set_first : {X : Type 0} (xs : List X) (x y : X) (rest : List X) (n : ℕ) → length xs ≡ n
+    → slice_set (xs ++ x ∷ rest) n y ≡ (xs ++ y ∷ []) ++ rest
+set_first [] x y rest zero e = refl
+set_first [] x y rest (suc n) e = absurd (omega (arith, e))
+set_first (z ∷ xs) x y rest zero e = absurd (omega (arith, e))
+set_first (z ∷ xs) x y rest (suc n) e = ap (λ l. z ∷ l) (set_first xs x y rest n (omega (arith, e)))
+
+pad_first : (room len : ℕ) → len < room
+    → replicate (room - len) None ≡ None ∷ (let rest : List (Option Winner) = replicate (room - suc len) None in rest)
+pad_first room len h = ap (λ n. replicate n None) (let e : room - len ≡ suc (room - suc len) = omega (arith, h) in e)
+
+-- a tree with one place more
+pub tree_pushed : (nodes new : List (Option Winner)) (room len : ℕ) (ticket : Option Ticket)
+    → IsTree nodes room len → len < room → length new ≡ room + room
+    → drop room new ≡ drop room (slice_set nodes (room + len) (at_place len ticket)) → NodesWin new room
+    → IsTree new room (suc len) × (tickets_of new room (suc len) ≡ tickets_of nodes room len ++ ticket ∷ [])
+tree_pushed nodes new room len ticket tree less long places inner =
+    let tickets = tree.leaves.0 in
+    let count = tree.leaves.1 in
+    let leaf = at_place len ticket in
+    let pad : List (Option Winner) = replicate (room - suc len) None in
+    let leaves =
+    places ∙ drop-set-add room nodes len leaf
+    ∙ ap (λ l. slice_set l len leaf)
+    (tree.leaves.2 ∙ ap (λ l. leaves_from 0 tickets ++ l) (pad_first room len less))
+    ∙ set_first (leaves_from 0 tickets) None leaf pad len (length_leaves 0 tickets ∙ count)
+    ∙ ap (λ l. l ++ pad)
+    (sym (leaves_more 0 tickets ticket
+    ∙ ap (λ n. leaves_from 0 tickets ++ at_place n ticket ∷ [])
+    (let e : 0 + length tickets ≡ len = omega (arith, count) in e))) in
+    let more = length-append tickets (ticket ∷ []) in
+    let total : length (tickets ++ ticket ∷ []) ≡ suc len = omega (arith, more, count) in (
+      record {
+        long = long;
+        fits = less;
+        even = tree.even;
+        leaves = (tickets ++ ticket ∷ [], total, leaves);
+        inner = inner;
+      },
+      tickets_are new room (suc len) (tickets ++ ticket ∷ []) pad total leaves
+          ∙ ap (λ l. l ++ ticket ∷ []) (sym (tickets_are nodes room len tickets _ count tree.leaves.2)),
+    )
+
+-- ---- a wider tree
+
+-- a tree without tickets
+pub empty_joined : (many room : ℕ) → NodesWin (replicate many None) room
+empty_joined many room i one less =
+    read many i ∙ sym (λ k. winner_of_two (read many (i + i) k) (read many (suc (i + i)) k))
+  where
+    read : (n i : ℕ) → node (replicate n None) i ≡ None
+    read zero i = refl
+    read (suc n) zero = refl
+    read (suc n) (suc i) = read n i
+
+pub drop_empty : (room : ℕ) → drop room (replicate (room + room) None)
+    ≡ (let rest : List (Option Winner) = replicate room None in rest)
+drop_empty room = drop-replicate room (room + room) None ∙ ap (λ n. replicate n None) (let e : room + room - room
+    ≡ room = omega arith in e)
+
+-- one more of the places is set
+pub widened_more : (wider new places : List (Option Winner)) (wide place : ℕ) (d : Option Winner)
+    → place < length places → place < wide
+    → drop wide wider ≡ take place places ++ replicate (wide - place) None
+    → drop wide new ≡ drop wide (slice_set wider (wide + place) (get_or places place d))
+    → drop wide new ≡ take (suc place) places ++ replicate (wide - suc place) None
+widened_more wider new places wide place d there less before after =
+    after ∙ drop-set-add wide wider place (get_or places place d)
+    ∙ ap (λ l. slice_set l place (get_or places place d)) (before
+    ∙ ap (λ l. take place places ++ l) (pad_first wide place less))
+    ∙ set_first (take place places) None (get_or places place d) _ place (length-take-le place places (omega (
+      arith,
+      there,
+    )))
+    ∙ ap (λ l. l ++ replicate (wide - suc place) None) (sym (take_last places place d there))
+  where
+    take_last : {X : Type 0} (xs : List X) (n : ℕ) (d : X) → n < length xs → take (suc n) xs
+        ≡ take n xs ++ get_or xs n d ∷ []
+    take_last [] n d h = absurd (omega (arith, h))
+    take_last (x ∷ xs) zero d h = refl
+    take_last (x ∷ xs) (suc n) d h = ap (λ l. x ∷ l) (take_last xs n d (omega (arith, h)))
+
+-- with all places of a full tree set, it has the same tickets
+pub tree_widened : (nodes new : List (Option Winner)) (room wide : ℕ) → IsTree nodes room room → room < wide
+    → length new ≡ wide + wide
+    → ((0 < wide) → (depth : ℕ) × (wide ≡ places_at depth))
+    → drop wide new ≡ take room (drop room nodes) ++ replicate (wide - room) None → NodesWin new wide
+    → IsTree new wide room × (tickets_of new wide room ≡ tickets_of nodes room room)
+tree_widened nodes new room wide tree less long even places inner =
+    let tickets = tree.leaves.0 in
+    let whole : take room (drop room nodes) ≡ leaves_from 0 tickets =
+    ap (take room) tree.leaves.2
+    ∙ ap (λ n. take n (leaves_from 0 tickets ++ replicate (room - room) None))
+    (sym (length_leaves 0 tickets ∙ tree.leaves.1))
+    ∙ take-append_seam (leaves_from 0 tickets) _ in
+    let leaves = places ∙ ap (λ l. l ++ replicate (wide - room) None) whole in (
+      record {
+        long = long;
+        fits = omega (arith, less);
+        even = even;
+        leaves = (tickets, tree.leaves.1, leaves);
+        inner = inner;
+      },
+      tickets_are new wide room tickets _ tree.leaves.1 leaves
+          ∙ sym (tickets_are nodes room room tickets _ tree.leaves.1 tree.leaves.2),
+    )
+
+pub twice_even : (room : ℕ) → ((0 < room) → (depth : ℕ) × (room ≡ places_at depth)) → 0 < room
+    → (depth : ℕ) × (room + room ≡ places_at depth)
+twice_even room even some = (suc (even some).0, omega (arith, (even some).1))
+
+-- a place is the node of that number after as many as there are places
+pub places_read : (nodes : List (Option Winner)) (room place : ℕ) (d : Option Winner)
+    → get_or (drop room nodes) place d ≡ get_or nodes (room + place) d
+places_read nodes zero place d = ap (λ n. get_or nodes n d) (let e : place ≡ 0 + place = omega arith in e)
+places_read [] (suc room) place d = refl
+places_read (x ∷ nodes) (suc room) place d = places_read nodes room place d
+    ∙ ap (λ n. get_or (x ∷ nodes) n d) (let e : suc (room + place) ≡ suc room + place = omega arith in e)
+
+-- a tree without its last place
+pub tree_popped : (nodes new : List (Option Winner)) (room len : ℕ) (rest : List (Option Ticket)) (ticket : Option
+    Ticket)
+    → IsTree nodes room (suc len) → tickets_of nodes room (suc len) ≡ rest ++ ticket ∷ [] → length new ≡ room + room
+    → drop room new ≡ drop room (slice_set nodes (room + len) None) → NodesWin new room
+    → IsTree new room len × (tickets_of new room len ≡ rest)
+tree_popped nodes new room len rest ticket tree last long places inner =
+    let tickets = tree.leaves.0 in
+    let pad : List (Option Winner) = replicate (room - suc len) None in
+    let is : tickets ≡ rest ++ ticket ∷ [] =
+    sym (tickets_are nodes room (suc len) tickets pad tree.leaves.1 tree.leaves.2) ∙ last in
+    let count : length rest ≡ len =
+    omega (arith, ap length is, length-append rest (ticket ∷ []), tree.leaves.1) in
+    let leaves =
+    places ∙ drop-set-add room nodes len None
+    ∙ ap (λ l. slice_set l len None)
+    (tree.leaves.2 ∙ ap (λ l. leaves_from 0 l ++ pad) is
+    ∙ ap (λ l. l ++ pad) (leaves_more 0 rest ticket)
+    ∙ append_assoc (leaves_from 0 rest) (at_place (0 + length rest) ticket ∷ []) pad)
+    ∙ set_first (leaves_from 0 rest) (at_place (0 + length rest) ticket) None pad len (length_leaves 0 rest ∙ count)
+    ∙ append_assoc (leaves_from 0 rest) (None ∷ []) pad
+    ∙ ap (λ l. leaves_from 0 rest ++ l) (sym (pad_first room len tree.fits)) in (
+      record {
+        long = long;
+        fits = omega (arith, tree.fits);
+        even = tree.even;
+        leaves = (rest, count, leaves);
+        inner = inner;
+      },
+      tickets_are new room len rest (replicate (room - len) None) count leaves,
+    )
+
+-- the tickets of a tree before its last place, and the last one
+pub last_place : (nodes : List (Option Winner)) (room len : ℕ) → IsTree nodes room (suc len)
+    → (rest : List (Option Ticket)) × (ticket : Option Ticket) × (tickets_of nodes room (suc len) ≡ rest ++ ticket ∷ [])
+last_place nodes room len tree =
+    let cut = cut_last tree.leaves.0 len tree.leaves.1 in
+    (cut.0, cut.1, tickets_are nodes room (suc len) tree.leaves.0 _ tree.leaves.1 tree.leaves.2 ∙ cut.2)
+  where
+    cut_last : {X : Type 0} (xs : List X) (n : ℕ) → length xs ≡ suc n
+        → (rest : List X) × (x : X) × (xs ≡ rest ++ x ∷ [])
+    cut_last [] n e = absurd (omega (arith, e))
+    cut_last (x ∷ []) n e = ([], x, refl)
+    cut_last (x ∷ y ∷ xs) zero e = absurd (omega (arith, e))
+    cut_last (x ∷ y ∷ xs) (suc n) e =
+        let c = cut_last (y ∷ xs) n (omega (arith, e)) in
+        (x ∷ c.0, c.1, ap (λ l. x ∷ l) c.2)

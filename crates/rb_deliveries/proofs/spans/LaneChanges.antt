@@ -1,0 +1,220 @@
+-- What a call changes in the spans of a lane: one is delivered, returned, settled.
+use Rattle.std.proofs.Common.{◌≡◌, ℕ, suc, ◌<◌, ◌≤◌, eq-eqb, ne_eqb, Bool, true, false, ◌==◌, cond, List, [], ◌∷◌, ◌++◌}
+use Rattle.std.proofs.Common.{Some, None, ◌⊎◌, inl, inr, filter_map, slice_get, append_assoc, refl, sym, ap, ◌∙◌, subst}
+use Rattle.std.proofs.Common.{arith}
+use Rattle.std.specs.List.{AllByRecursion, cons_option}
+use Rattle.std.proofs.lemmas.Bool.{cases_lt}
+use Rattle.std.proofs.lemmas.List.Elements.{filter_map-append}
+use Rattle.rb_deliveries.specs.declared.span.Span.{Span}
+use Rattle.rb_deliveries.specs.declared.span.Status.{Status}
+use Rattle.rb_deliveries.specs.declared.span.Status.TheVariants.{Settled}
+use Rattle.rb_deliveries.specs.declared.ticket.Ticket.{Ticket}
+use Rattle.rb_deliveries.specs.declared.ticket.Held.{Held}
+use Rattle.rb_deliveries.specs.Spans.{fresh, cut_spans, is_ready, is_settled, raised, with_status}
+use Rattle.rb_deliveries.specs.Lanes.{Lane, FollowOn, ticketed, with_birth, spans_of, lane_held, restated, risen}
+use Rattle.rb_deliveries.specs.Lanes.{restated_lane, pushed_lane, delivered_lane, settled_lane}
+use Rattle.rb_deliveries.specs.Subs.{IsHeld, IsDeliverable}
+use Rattle.rb_deliveries.proofs.spans.CutLaws.{CutIsFresh, cut_none, cut_some, cut_fresh, cut_ends}
+use Rattle.rb_deliveries.proofs.spans.LaneLaws.{lane_spans_is}
+use Rattle.rb_deliveries.proofs.orders.Line.{all_first, all_second}
+use Rattle.rb_deliveries.proofs.orders.OrderLaws.{At}
+use Rattle.rb_deliveries.proofs.spans.JoinLaws.{Other, joins_lane, joins_end, joins_others}
+use Rattle.rb_deliveries.proofs.spans.ChangeLaws.{Changes, become, restated_one, changed_spans}
+
+-- ---- which span it is
+
+-- a span that is held has a number and ends ahead of the next one
+pub held_span : (low : ℕ) (kept : Lane) (span : Span) → FollowOn low kept.held kept.next → IsHeld kept span
+    → (span.first ≤ span.last) × (span.last < kept.next)
+held_span low kept span j held =
+    let all = subst (AllByRecursion (λ h. (h.span.first ≤ h.span.last) × (h.span.last < kept.next))) held.3
+    (joins_end low kept.next kept.held j) in
+    subst (λ (p : Span). (p.first ≤ p.last) × (p.last < kept.next)) held.4
+    (all_second (λ h. (h.span.first ≤ h.span.last) × (h.span.last < kept.next)) held.0 (held.1 ∷ held.2) all).0
+
+-- the first span of a cutting begins where the cutting does, and the others are cut behind it
+pub record LaneChangesLeads (batch front next : ℕ) (span : Span) : Type 0 where
+  pub is_placed : next ≤ front
+  pub is : fresh next (cut_ends batch next front) ≡ span
+  pub rest : cut_spans batch next front ≡ span ∷ cut_spans batch (suc span.last) front
+
+pub leads_lane_changes : (batch front next : ℕ) (span : Span) → 1 ≤ batch → slice_get (cut_spans batch next front) 0
+    ≡ Some span → LaneChangesLeads batch front next span
+leads_lane_changes batch front next span one found = by (cases_lt front next)
+  where
+    by : (front < next) ⊎ (next ≤ front) → LaneChangesLeads batch front next span
+    by (inl less) =
+        absurd (let none : None ≡ Some span = ap (λ spans. slice_get spans 0) (sym (cut_none batch next front less))
+        ∙ found in cc)
+    by (inr more) =
+        let some : Some (fresh next (cut_ends batch next front)) ≡ Some span =
+        ap (λ spans. slice_get spans 0) (sym (cut_some batch next front one more)) ∙ found in
+        let same : fresh next (cut_ends batch next front) ≡ span = cc in
+        record {
+          is_placed = more;
+          is = same;
+          rest = cut_some batch next front one more ∙ ap (λ (p : Span). p ∷ cut_spans batch (suc p.last) front) same;
+        }
+
+-- a span that may go has a number, and its numbers are placed
+pub may_go_span : (batch front low : ℕ) (kept : Lane) (span : Span) → 1 ≤ batch → kept.next ≤ suc front
+    → FollowOn low kept.held kept.next → IsDeliverable batch front kept span → (span.first ≤ span.last)
+    × (span.last ≤ front)
+may_go_span batch front low kept span one le j (inl held) = let at = held_span low kept span j held.0 in
+    omega (arith, at, le)
+may_go_span batch front low kept span one le j (inr found) =
+    let l = leads_lane_changes batch front kept.next span one found in
+    subst (λ (p : Span). (p.first ≤ p.last) × (p.last ≤ front)) l.is
+    (omega (arith, l.is_placed), omega (arith, l.is_placed))
+
+-- and is ready
+pub may_go_ready : (batch front : ℕ) (kept : Lane) (span : Span) → 1 ≤ batch → IsDeliverable batch front kept span
+    → is_ready span.status ≡ true
+may_go_ready batch front kept span one (inl held) = held.1
+may_go_ready batch front kept span one (inr found) =
+    ap (λ (p : Span). is_ready p.status) (sym (leads_lane_changes batch front kept.next span one found).is)
+
+-- ---- what becomes of the spans
+
+module _ (batch front : ℕ) (kept : Lane) (span : Span) (one : 1 ≤ batch) (le : kept.next ≤ suc front)
+    (j : FollowOn (suc kept.floor) kept.held kept.next) where
+  -- the spans of the cutting
+  abbrev rest_of : List Held
+  rest_of = ticketed kept.cutting (cut_spans batch kept.next front)
+
+  -- where a span stands among all spans of a lane, the others begin with other numbers
+  others_of : (ahead : List Held) (h : Held) (behind : List Held) → h.span ≡ span → lane_held batch front kept ≡ ahead
+      ++ h ∷ behind → AllByRecursion (Other span.first) ahead × AllByRecursion (Other span.first) behind
+  others_of ahead h behind is whole =
+      subst (λ n. AllByRecursion (Other n) ahead × AllByRecursion (Other n) behind) (ap (λ p. p.first) is)
+      (joins_others (suc kept.floor) (suc front) ahead h behind
+      (subst (λ xs. FollowOn (suc kept.floor) xs (suc front)) whole (joins_lane batch front kept one le j)))
+
+  -- a span that is held becomes so
+  pub restated_changes : (status : Status) (ticket : Ticket) → IsHeld kept span
+      → Changes span status ticket (lane_held batch front kept)
+      (lane_held batch front (restated_lane kept span.first status ticket))
+  restated_changes status ticket held =
+      let whole : lane_held batch front kept ≡ held.0 ++ held.1 ∷ (held.2 ++ rest_of) = ap (λ xs. xs ++ rest_of) held.3
+      ∙ append_assoc held.0 (held.1 ∷ held.2) rest_of in
+      let others = others_of held.0 held.1 (held.2 ++ rest_of) held.4 whole in
+      record {
+        ahead = held.0;
+        one = held.1;
+        behind = held.2 ++ rest_of;
+        is = held.4;
+        before = whole;
+        after = ap (λ xs. restated span.first status ticket xs ++ rest_of) held.3
+            ∙ ap (λ xs. xs ++ rest_of)
+            (restated_one span status ticket held.0 held.1 held.2 held.4
+            (others.0, all_first (Other span.first) held.2 rest_of others.1))
+            ∙ append_assoc held.0 (become span status ticket ∷ held.2) rest_of;
+        others = others;
+      }
+
+  -- the first one of the cutting becomes so, and is held
+  pushed_changes : (status : Status) → LaneChangesLeads batch front kept.next span
+      → Changes span status kept.cutting (lane_held batch front kept)
+      (lane_held batch front (pushed_lane kept span status))
+  pushed_changes status l =
+      let later : List Held = ticketed kept.cutting (cut_spans batch (suc span.last) front) in
+      let whole : lane_held batch front kept ≡ kept.held ++ with_birth kept.cutting span ∷ later =
+      ap (λ spans. kept.held ++ ticketed kept.cutting spans) l.rest in
+      record {
+        ahead = kept.held;
+        one = with_birth kept.cutting span;
+        behind = later;
+        is = refl;
+        before = whole;
+        after = append_assoc kept.held (become span status kept.cutting ∷ []) later;
+        others = others_of kept.held (with_birth kept.cutting span) later refl whole;
+      }
+
+  -- one that may go is handed over
+  pub handed_changes : (status : Status) → IsDeliverable batch front kept span
+      → Changes span status kept.cutting (lane_held batch front kept)
+      (lane_held batch front (delivered_lane kept span status))
+  handed_changes status (inl held) =
+      let at = held_span (suc kept.floor) kept span j held.0 in
+      let other : (span.first == kept.next) ≡ false = ne_eqb span.first kept.next (omega (arith, at)) in
+      subst (λ t. Changes span status kept.cutting (lane_held batch front kept)
+      (lane_held batch front (cond t (pushed_lane kept span status)
+      (restated_lane kept span.first status kept.cutting)))) (sym other)
+      (restated_changes status kept.cutting held.0)
+  handed_changes status (inr found) =
+      let l = leads_lane_changes batch front kept.next span one found in
+      let same : (span.first == kept.next) ≡ true = eq-eqb span.first kept.next (ap (λ p. p.first) (sym l.is)) in
+      subst (λ t. Changes span status kept.cutting (lane_held batch front kept)
+      (lane_held batch front (cond t (pushed_lane kept span status)
+      (restated_lane kept span.first status kept.cutting)))) (sym same) (pushed_changes status l)
+
+-- ---- the floor rises
+
+-- over what is held it rises as over its spans
+risen_spans : (floor : ℕ) (xs : List Held) → ((risen floor xs).0, spans_of (risen floor xs).1)
+    ≡ raised floor (spans_of xs)
+risen_spans floor [] = refl
+risen_spans floor (h ∷ xs) = by (is_settled h.span.status) (risen_spans h.span.last xs)
+  where
+    seen : ℕ × List Held → ℕ × List Span
+    seen r = (r.0, spans_of r.1)
+
+    by : (b : Bool) → seen (risen h.span.last xs) ≡ raised h.span.last (spans_of xs)
+        → seen (cond b (risen h.span.last xs) (floor, h ∷ xs))
+        ≡ cond b (raised h.span.last (spans_of xs)) (floor, h.span ∷ spans_of xs)
+    by true rest = rest
+    by false rest = refl
+
+-- it doesn't rise over spans that were never taken
+raised_behind : (floor : ℕ) (xs ys : List Span) → AllByRecursion CutIsFresh ys → raised floor (xs ++ ys)
+    ≡ ((raised floor xs).0, (raised floor xs).1 ++ ys)
+raised_behind floor [] [] h = refl
+raised_behind floor [] (y ∷ ys) h = ap (λ status. cond (is_settled status) (raised y.last ys) (floor, y ∷ ys)) h.0
+raised_behind floor (x ∷ xs) ys h = by (is_settled x.status) (raised_behind x.last xs ys h)
+  where
+    by : (b : Bool) → raised x.last (xs ++ ys) ≡ ((raised x.last xs).0, (raised x.last xs).1 ++ ys)
+        → cond b (raised x.last (xs ++ ys)) (floor, x ∷ xs ++ ys)
+        ≡ ((cond b (raised x.last xs) (floor, x ∷ xs)).0, (cond b (raised x.last xs) (floor, x ∷ xs)).1 ++ ys)
+    by true rest = rest
+    by false rest = refl
+
+-- the spans that it rises over stand in no order in which no settled one stands
+pub risen_stands : (at : At) (s floor : ℕ) (xs : List Held)
+    → ((h : Held) → is_settled h.span.status ≡ true → at s h ≡ None) → filter_map (at s) (risen floor xs).1
+    ≡ filter_map (at s) xs
+risen_stands at s floor [] none = refl
+risen_stands at s floor (h ∷ xs) none = by (is_settled h.span.status) refl (risen_stands at s h.span.last xs none)
+  where
+    by : (b : Bool) → is_settled h.span.status ≡ b → filter_map (at s) (risen h.span.last xs).1 ≡ filter_map (at s) xs
+        → filter_map (at s) (cond b (risen h.span.last xs) (floor, h ∷ xs)).1
+        ≡ cons_option (at s h) (filter_map (at s) xs)
+    by true is rest = rest ∙ ap (λ o. cons_option o (filter_map (at s) xs)) (sym (none h is))
+    by false is rest = refl
+
+module _ (batch front : ℕ) (kept : Lane) (span : Span) (one : 1 ≤ batch) (le : kept.next ≤ suc front)
+    (j : FollowOn (suc kept.floor) kept.held kept.next) (held : IsHeld kept span) where
+  -- what becomes of the floor and the spans where one is settled
+  pub settled_spans : raised kept.floor (with_status span.first Settled (spans_of (lane_held batch front kept)))
+      ≡ ((settled_lane kept span.first).floor, spans_of (lane_held batch front (settled_lane kept span.first)))
+  settled_spans =
+      let stated : Lane = restated_lane kept span.first Settled kept.cutting in
+      let cutting : List Span = cut_spans batch kept.next front in
+      ap (raised kept.floor)
+      (sym (changed_spans span Settled kept.cutting
+      (restated_changes batch front kept span one le j Settled kept.cutting held))
+      ∙ lane_spans_is batch front stated)
+      ∙ raised_behind kept.floor (spans_of stated.held) cutting (cut_fresh batch kept.next front)
+      ∙ ap (λ (r : ℕ × List Span). (r.0, r.1 ++ cutting)) (sym (risen_spans kept.floor stated.held))
+      ∙ ap (λ (spans : List Span). ((settled_lane kept span.first).floor, spans))
+      (sym (lane_spans_is batch front (settled_lane kept span.first)))
+
+  -- what stands in an order is what stands there where it is settled but the floor hasn't risen
+  pub settled_stands : (at : At) (s : ℕ) → ((h : Held) → is_settled h.span.status ≡ true → at s h ≡ None)
+      → filter_map (at s) (lane_held batch front (settled_lane kept span.first))
+      ≡ filter_map (at s) (lane_held batch front (restated_lane kept span.first Settled kept.cutting))
+  settled_stands at s none =
+      let stated : List Held = restated span.first Settled kept.cutting kept.held in
+      let later : List Held = ticketed kept.cutting (cut_spans batch kept.next front) in
+      filter_map-append (at s) (risen kept.floor stated).1 later
+      ∙ ap (λ z. z ++ filter_map (at s) later) (risen_stands at s kept.floor stated none)
+      ∙ sym (filter_map-append (at s) stated later)

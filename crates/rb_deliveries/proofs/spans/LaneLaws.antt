@@ -1,0 +1,175 @@
+-- The spans of a lane: those that were taken before, then the cutting.
+use Rattle.std.proofs.Common.{◌≡◌, ℕ, suc, ◌-◌, ◌≤◌, Bool, true, false, cond, List, [], ◌∷◌, ◌++◌}
+use Rattle.std.proofs.Common.{Option, Some, None, option_map, map, slice_get, ◌==◌}
+use Rattle.std.proofs.Common.{if◌then◌else◌, refl, sym, ap, ◌∙◌, arith}
+use Rattle.std.specs.List.{AllByRecursion}
+use Rattle.std.specs.Option.{option_or}
+use Rattle.std.proofs.lemmas.List.{map-append}
+use Rattle.std.proofs.lemmas.List.Folds.{find-append}
+use Rattle.rb_deliveries.specs.declared.span.Span.{Span}
+use Rattle.rb_deliveries.specs.declared.span.Status.{Status}
+use Rattle.rb_deliveries.specs.declared.span.Status.TheVariants.{Ready}
+use Rattle.rb_deliveries.specs.declared.ticket.Ticket.{Ticket}
+use Rattle.rb_deliveries.specs.declared.ticket.Held.{Held}
+use Rattle.rb_deliveries.specs.Spans.{fresh, cut_spans, first_ready, is_ready, is_settled, is_due}
+use Rattle.rb_deliveries.specs.Lanes.{Lane, FollowOn, restated, risen, ticketed, spans_of, lane_held, lane_spans}
+use Rattle.rb_deliveries.specs.Lanes.{earlier, birth, with_birth, better, if_ready, least}
+use Rattle.rb_deliveries.specs.Expiry.{expired_held}
+use Rattle.rb_deliveries.proofs.spans.CutLaws.{CutIsFresh, cut_fresh, cut_ends, cut_induction}
+
+spans_of_ticketed : (cutting : Ticket) (spans : List Span) → spans_of (ticketed cutting spans) ≡ spans
+spans_of_ticketed cutting [] = refl
+spans_of_ticketed cutting (p ∷ rest) = ap (λ rest. p ∷ rest) (spans_of_ticketed cutting rest)
+
+-- a lane's spans are those that were taken before and the cutting
+pub lane_spans_is : (batch front : ℕ) (kept : Lane) → lane_spans batch front kept ≡ spans_of kept.held
+    ++ cut_spans batch kept.next front
+lane_spans_is batch front kept =
+    map-append (λ h. h.span) kept.held (ticketed kept.cutting (cut_spans batch kept.next front))
+    ∙ ap (λ rest. spans_of kept.held ++ rest) (spans_of_ticketed kept.cutting (cut_spans batch kept.next front))
+
+fresh_first : (spans : List Span) → AllByRecursion CutIsFresh spans → first_ready spans ≡ slice_get spans 0
+fresh_first [] h = refl
+fresh_first (p ∷ rest) h = ap (λ status. cond (is_ready status) (Some p) (first_ready rest)) h.0
+
+-- the first ready span of a lane is the first that was taken before, else the first of the cutting
+pub first_ready_is : (batch front : ℕ) (kept : Lane) → first_ready (lane_spans batch front kept)
+    ≡ option_or (first_ready (spans_of kept.held)) (slice_get (cut_spans batch kept.next front) 0)
+first_ready_is batch front kept =
+    ap first_ready (lane_spans_is batch front kept) ∙ find-append (λ (p : Span). is_ready p.status) (spans_of kept.held)
+    (cut_spans batch kept.next front)
+    ∙ ap (λ o. option_or (first_ready (spans_of kept.held)) o) (fresh_first _ (cut_fresh batch kept.next front))
+
+-- ---- tickets
+
+-- a span that begins later has no earlier ticket
+pub birth_rises : (cutting : Ticket) (a b : ℕ) → a ≤ b → earlier (birth cutting b) (birth cutting a) ≡ false
+birth_rises cutting a b h = grind arith
+
+-- the first in line of a cutting is its first span, which begins where the cutting does
+abbrev pub LeadsFrom : Ticket → ℕ → List Span → Type 0
+LeadsFrom cutting a spans = (least (ticketed cutting spans) ≡ option_map (with_birth cutting) (slice_get spans 0))
+    × ((p : Span) → slice_get spans 0 ≡ Some p → p.first ≡ a)
+
+leads_behind : (cutting : Ticket) (a end : ℕ) (o : Option Span) → a ≤ end
+    → ((p : Span) → o ≡ Some p → p.first ≡ suc end)
+    → better (Some (with_birth cutting (fresh a end))) (option_map (with_birth cutting) o)
+    ≡ Some (with_birth cutting (fresh a end))
+leads_behind cutting a end None le h = refl
+leads_behind cutting a end (Some p) le h =
+    ap (λ t. cond t (Some (with_birth cutting p)) (Some (with_birth cutting (fresh a end))))
+    (birth_rises cutting a p.first (omega (arith, h p refl)))
+
+pub cut_leads : (batch front a : ℕ) (cutting : Ticket) → 1 ≤ batch → LeadsFrom cutting a (cut_spans batch a front)
+cut_leads batch front a cutting one =
+    cut_induction batch front (LeadsFrom cutting) one (λ a less. (refl, λ p e. cc)) some (suc front - a) a (omega arith)
+  where
+    some : (a : ℕ) → a ≤ front
+        → LeadsFrom cutting (suc (cut_ends batch a front)) (cut_spans batch (suc (cut_ends batch a front)) front)
+        → LeadsFrom cutting a (fresh a (cut_ends batch a front) ∷ cut_spans batch (suc (cut_ends batch a front)) front)
+    some a le h = (
+      ap (better (Some (with_birth cutting (fresh a (cut_ends batch a front))))) h.0
+          ∙ leads_behind cutting a (cut_ends batch a front) _ (omega arith) h.1,
+      λ p e. cc,
+    )
+
+better_of : (a b c : Held) → better (better (Some a) (Some b)) (Some c) ≡ better (Some a) (better (Some b) (Some c))
+better_of a b c = grind arith
+
+-- the first of three is told from either side
+pub better_assoc : (a b c : Option Held) → better (better a b) c ≡ better a (better b c)
+better_assoc None b c = refl
+better_assoc (Some a) None c = refl
+better_assoc (Some a) (Some b) None = grind arith
+better_assoc (Some a) (Some b) (Some c) = better_of a b c
+
+pub least_append : (xs ys : List Held) → least (xs ++ ys) ≡ better (least xs) (least ys)
+least_append [] ys = refl
+least_append (x ∷ xs) ys = ap (better (if_ready x)) (least_append xs ys)
+    ∙ sym (better_assoc (if_ready x) (least xs) (least ys))
+
+-- the first in line of a lane is the first of what was taken before, or the cutting's first span
+pub first_in_line_is : (batch front : ℕ) (kept : Lane) → 1 ≤ batch → least (lane_held batch front kept)
+    ≡ better (least kept.held) (option_map (with_birth kept.cutting) (slice_get (cut_spans batch kept.next front) 0))
+first_in_line_is batch front kept one = least_append kept.held _
+    ∙ ap (better (least kept.held)) (cut_leads batch front kept.next kept.cutting one).0
+
+-- spans that follow one another end where they say
+pub joins_reach : (low next : ℕ) (held : List Held) → FollowOn low held next → low ≤ next
+joins_reach low next [] h = omega (arith, h)
+joins_reach low next (p ∷ rest) h = let rest_reach = joins_reach (suc p.span.last) next rest h.2 in
+    omega (arith, h.0, h.1, rest_reach)
+
+pub first_ready_some : (batch front : ℕ) (kept : Lane) (span : Span) → first_ready (spans_of kept.held) ≡ Some span
+    → Some span ≡ first_ready (lane_spans batch front kept)
+first_ready_some batch front kept span h =
+    sym (first_ready_is batch front kept ∙ ap (λ o. option_or o (slice_get (cut_spans batch kept.next front) 0)) h)
+
+pub first_ready_none : (batch front : ℕ) (kept : Lane) → first_ready (spans_of kept.held) ≡ None
+    → slice_get (cut_spans batch kept.next front) 0 ≡ first_ready (lane_spans batch front kept)
+first_ready_none batch front kept h =
+    sym (first_ready_is batch front kept ∙ ap (λ o. option_or o (slice_get (cut_spans batch kept.next front) 0)) h)
+
+-- ---- spans that follow one another
+
+same_ends : (t : Bool) (h : Held) (status : Status) (ticket : Ticket) (low next : ℕ) (rest : List Held)
+    → (h.span.first ≡ low) → (h.span.first ≤ h.span.last) → FollowOn (suc h.span.last) rest next
+    → FollowOn low ((if t then record { span = record h.span { status = status }; ticket = ticket } else h) ∷ rest) next
+same_ends true h status ticket low next rest a b c = (a, b, c)
+same_ends false h status ticket low next rest a b c = (a, b, c)
+
+pub joins_restated : (low next first : ℕ) (status : Status) (ticket : Ticket) (held : List Held)
+    → FollowOn low held next → FollowOn low (restated first status ticket held) next
+joins_restated low next first status ticket [] j = j
+joins_restated low next first status ticket (h ∷ rest) j =
+    same_ends (h.span.first == first) h status ticket low next (restated first status ticket rest) j.0 j.1
+    (joins_restated (suc h.span.last) next first status ticket rest j.2)
+
+-- one span more, where they end
+pub joins_pushed : (low next end : ℕ) (held : List Held) (more : Held) → FollowOn low held next → more.span.first ≡ next
+    → more.span.first ≤ more.span.last → end ≡ suc more.span.last → FollowOn low (held ++ more ∷ []) end
+joins_pushed low next end [] more j first last e = (first ∙ j, last, e)
+joins_pushed low next end (h ∷ rest) more j first last e =
+    (j.0, j.1, joins_pushed (suc h.span.last) next end rest more j.2 first last e)
+
+risen_one : (t : Bool) (floor next : ℕ) (h : Held) (rest : List Held) → FollowOn (suc floor) (h ∷ rest) next
+    → FollowOn (suc (risen h.span.last rest).0) (risen h.span.last rest).1 next
+    → FollowOn (suc (if t then risen h.span.last rest else (floor, h ∷ rest)).0)
+    (if t then risen h.span.last rest else (floor, h ∷ rest)).1 next
+risen_one true floor next h rest j k = k
+risen_one false floor next h rest j k = j
+
+pub joins_risen : (floor next : ℕ) (held : List Held) → FollowOn (suc floor) held next
+    → FollowOn (suc (risen floor held).0) (risen floor held).1 next
+joins_risen floor next [] j = j
+joins_risen floor next (h ∷ rest) j =
+    risen_one (is_settled h.span.status) floor next h rest j (joins_risen h.span.last next rest j.2)
+
+-- ---- loops
+
+-- spans that follow one another do so with other states
+pub joins_expired : (low next timeout clock : ℕ) (ticket : Held → Ticket) (held : List Held) → FollowOn low held next
+    → FollowOn low (map (expired_held timeout clock ticket) held) next
+joins_expired low next timeout clock ticket [] j = j
+joins_expired low next timeout clock ticket (h ∷ rest) j =
+    by (is_due timeout clock h.span.status) (joins_expired (suc h.span.last) next timeout clock ticket rest j.2)
+  where
+    by : (t : Bool) → FollowOn (suc h.span.last) (map (expired_held timeout clock ticket) rest) next
+        → FollowOn low (cond t (record { span = record h.span { status = Ready true }; ticket = ticket h }) h
+        ∷ map (expired_held timeout clock ticket) rest) next
+    by true more = (j.0, j.1, more)
+    by false more = (j.0, j.1, more)
+
+-- what holds of each span that begins and ends between two numbers holds of a cutting
+pub cutting_all : (batch b : ℕ) (cutting : Ticket) (P : Held → Type 0) → 1 ≤ batch → (low : ℕ)
+    → ((x end : ℕ) → low ≤ x → x ≤ end → end ≤ b → P (with_birth cutting (fresh x end)))
+    → AllByRecursion P (ticketed cutting (cut_spans batch low b))
+cutting_all batch b cutting P one low =
+    cut_induction batch b
+    (λ low spans. ((x end : ℕ) → low ≤ x → x ≤ end → end ≤ b → P (with_birth cutting (fresh x end)))
+    → AllByRecursion P (ticketed cutting spans)) one
+    (λ a h each. tt)
+    (λ a h rest each. (
+      each a (cut_ends batch a b) (omega arith) (omega arith) (omega arith),
+      rest (λ x end l m n. each x end (omega arith) m n),
+    )) (suc b - low) low (omega arith)

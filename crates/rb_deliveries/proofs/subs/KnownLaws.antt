@@ -1,0 +1,279 @@
+-- What agrees with the front, the turns and the deliveries: its tickets are before the next one, and it still agrees
+-- after a call.
+use Rattle.std.proofs.Common.{◌≡◌, ℕ, zero, suc, max, ◌<◌, ◌≤◌, Bool, true, false, ◌==◌, cond, List, [], ◌∷◌, ◌++◌}
+use Rattle.std.proofs.Common.{Some, None, IfSome, map, nat_le, slice_get, slice_set, refl, sym, ap, subst, arith}
+use Rattle.std.proofs.Common.{length}
+use Rattle.std.specs.List.{AllByRecursion}
+use Rattle.std.proofs.lemmas.List.{length-map, length-set}
+use Rattle.rb_deliveries.specs.declared.span.Span.{Span}
+use Rattle.rb_deliveries.specs.declared.span.Status.{Status}
+use Rattle.rb_deliveries.specs.declared.span.Status.TheVariants.{Ready, InFlight, Settled}
+use Rattle.rb_deliveries.specs.declared.ticket.Ticket.{Ticket}
+use Rattle.rb_deliveries.specs.declared.ticket.Held.{Held}
+use Rattle.rb_deliveries.specs.declared.sub.Sub.{Sub}
+use Rattle.rb_deliveries.specs.Spans.{cut_spans, is_fresh, is_ready, is_settled}
+use Rattle.rb_deliveries.specs.Lanes.{Lane, earlier, birth, with_birth, ticketed, lane_held, restated, risen}
+use Rattle.rb_deliveries.specs.Lanes.{restated_lane, pushed_lane}
+use Rattle.rb_deliveries.specs.Orders.{ready_at, out_at, out_at_status, all_at}
+use Rattle.rb_deliveries.specs.Subs.{sub_held, IsDrawn, IsGiven, IsKnown, Belongs, delivered_sub, returned_sub}
+use Rattle.rb_deliveries.specs.Subs.{settled_sub}
+use Rattle.rb_deliveries.proofs.spans.CutLaws.{CutIsFresh, cut_fresh}
+use Rattle.rb_deliveries.proofs.orders.Line.{all_both, all_then}
+use Rattle.rb_deliveries.proofs.orders.OrderLaws.{At, all_earlier}
+use Rattle.rb_deliveries.proofs.spans.JoinLaws.{joins_cut, joins_end}
+
+-- ---- lists
+
+module _ {A : Type 0} (P : A → Type 0) where
+  -- what holds of each thing holds of the one at a place, and still of each where it holds of a thing that is put there
+  pub all_get : (xs : List A) (i : ℕ) (x : A) → AllByRecursion P xs → slice_get xs i ≡ Some x → P x
+  all_get [] i x h found = absurd (let none : None ≡ Some x = found in cc)
+  all_get (y ∷ xs) zero x h found = let same : y ≡ x = cc in subst P same h.0
+  all_get (y ∷ xs) (suc i) x h found = all_get xs i x h.1 found
+
+  pub all_set : (xs : List A) (i : ℕ) (x : A) → AllByRecursion P xs → P x → AllByRecursion P (slice_set xs i x)
+  all_set [] i x h p = tt
+  all_set (y ∷ xs) zero x h p = (p, h.1)
+  all_set (y ∷ xs) (suc i) x h p = (h.0, all_set xs i x h.1 p)
+
+-- a bound on a list's length holds still once one item, or each, becomes another
+pub few_set : {A : Type 0} {most : ℕ} (xs : List A) (i : ℕ) (x : A) → length xs ≤ most
+    → length (slice_set xs i x) ≤ most
+few_set xs i x few = omega (arith, few, length-set xs i x)
+
+pub few_map : {A B : Type 0} {most : ℕ} (xs : List A) (f : A → B) → length xs ≤ most → length (map f xs) ≤ most
+few_map xs f few = omega (arith, few, length-map xs f)
+
+-- what holds of what each thing becomes holds of all that they become
+pub all_mapped : {A B : Type 0} (P : B → Type 0) (f : A → B) (xs : List A) → AllByRecursion (λ x. P (f x)) xs
+    → AllByRecursion P (map f xs)
+all_mapped P f [] h = tt
+all_mapped P f (x ∷ xs) h = (h.0, all_mapped P f xs h.1)
+
+pub all_unmapped : {A B : Type 0} (P : B → Type 0) (f : A → B) (xs : List A) → AllByRecursion P (map f xs)
+    → AllByRecursion (λ x. P (f x)) xs
+all_unmapped P f [] h = tt
+all_unmapped P f (x ∷ xs) h = (h.0, all_unmapped P f xs h.1)
+
+-- ---- earlier tickets
+
+-- a span stands in an order earlier than a ticket, if it stands there
+abbrev pub StandsBefore : At → Ticket → Held → Type 0
+StandsBefore at t h = (s : ℕ) → IfSome (at s h) (λ e. earlier e.0 t ≡ true)
+
+-- the in-flight order stands by the deliveries' numbers, so a given one is earlier than the next
+out_before : (number s first : ℕ) (status : Status) → IsGiven number status
+    → IfSome (out_at_status s first status) (λ e. earlier e.0 (record { front = number; turn = 0 }) ≡ true)
+out_before number s first (Ready taken) given = tt
+out_before number s first (InFlight n moment) given = grind arith
+out_before number s first Settled given = tt
+
+-- a drawn ticket is earlier than that of the next turn
+pub drawn_before : (front turn : ℕ) (t : Ticket) → IsDrawn front turn t
+    → earlier t (record { front = front; turn = suc turn }) ≡ true
+drawn_before front turn t drawn = let f = drawn.0 in let n = drawn.1 in grind arith
+
+ready_before : (front turn s : ℕ) (h : Held) → IsDrawn front turn h.ticket
+    → IfSome (ready_at s h) (λ e. earlier e.0 (record { front = front; turn = suc turn }) ≡ true)
+ready_before front turn s h drawn = by (is_ready h.span.status)
+  where
+    by : (b : Bool) → IfSome {T = Ticket × (ℕ × ℕ)} (cond b (Some (h.ticket, (s, h.span.first))) None)
+        (λ e. earlier e.0 (record { front = front; turn = suc turn }) ≡ true)
+    by true = drawn_before front turn h.ticket drawn
+    by false = tt
+
+-- the ticket of a span never taken was drawn, where its first number is placed
+pub known_birth_drawn : (front turn first : ℕ) (cutting : Ticket) → IsDrawn front turn cutting → first ≤ front
+    → IsDrawn front turn (birth cutting first)
+known_birth_drawn front turn first cutting drawn le = by (nat_le first cutting.front)
+  where
+    by : (b : Bool) → IsDrawn front turn (cond b cutting (record { front = first; turn = 0 }))
+    by true = drawn
+    by false = (le, omega arith)
+
+-- no span of a cutting stands in the in-flight order
+fresh_before : (number : ℕ) (cutting : Ticket) (spans : List Span) → AllByRecursion CutIsFresh spans
+    → AllByRecursion (StandsBefore out_at (record { front = number; turn = 0 })) (ticketed cutting spans)
+fresh_before number cutting spans h =
+    let t : Ticket = record { front = number; turn = 0 } in
+    all_mapped (StandsBefore out_at t) (with_birth cutting) spans
+    (all_then CutIsFresh (λ p. StandsBefore out_at t (with_birth cutting p)) spans
+    (λ p is s. subst (λ (status : Status). IfSome (out_at_status s p.first status) (λ e. earlier e.0 t ≡ true))
+    (sym is) tt) h)
+
+-- the tickets of a cutting were drawn
+births_drawn : (batch front turn a : ℕ) (cutting : Ticket) → 1 ≤ batch → a ≤ suc front → IsDrawn front turn cutting
+    → AllByRecursion (λ h. IsDrawn front turn h.ticket) (ticketed cutting (cut_spans batch a front))
+births_drawn batch front turn a cutting one le drawn =
+    let spans = cut_spans batch a front in
+    let ends = all_unmapped (λ h. (h.span.first ≤ h.span.last) × (h.span.last < suc front)) (with_birth cutting) spans
+    (joins_end a (suc front) (ticketed cutting spans) (joins_cut batch front a cutting one le)) in
+    all_mapped (λ h. IsDrawn front turn h.ticket) (with_birth cutting) spans
+    (all_then (λ p. (p.first ≤ p.last) × (p.last < suc front)) (λ p. IsDrawn front turn (birth cutting p.first)) spans
+    (λ p is. known_birth_drawn front turn p.first cutting drawn (omega (arith, is))) ends)
+
+-- an open subscription has the spans of its lane
+pub held_open : (batch front : ℕ) (sub : Sub) → sub.closed ≡ false → sub_held batch front sub
+    ≡ lane_held batch front sub.lane
+held_open batch front sub is = ap (λ b. cond b [] (lane_held batch front sub.lane)) is
+
+module _ (batch front turn number : ℕ) where
+  -- what holds of a lane's spans holds of a subscription's
+  all_of_sub : (P : Held → Type 0) (sub : Sub) → AllByRecursion P (lane_held batch front sub.lane)
+      → AllByRecursion P (sub_held batch front sub)
+  all_of_sub P sub h = by sub.closed
+    where
+      by : (b : Bool) → AllByRecursion P (cond b [] (lane_held batch front sub.lane))
+      by true = tt
+      by false = h
+
+  sub_out_before : (sub : Sub) → Belongs front turn number sub
+      → AllByRecursion (StandsBefore out_at (record { front = number; turn = 0 })) (sub_held batch front sub)
+  sub_out_before sub b =
+      let t : Ticket = record { front = number; turn = 0 } in
+      let kept : Lane = sub.lane in
+      all_of_sub (StandsBefore out_at t) sub
+      (all_both (StandsBefore out_at t) kept.held (ticketed kept.cutting (cut_spans batch kept.next front))
+      (all_then (IsKnown front turn number) (StandsBefore out_at t) kept.held
+      (λ h known s. out_before number s h.span.first h.span.status known.2) b.are_known)
+      (fresh_before number kept.cutting (cut_spans batch kept.next front) (cut_fresh batch kept.next front)))
+
+  sub_ready_before : 1 ≤ batch → (sub : Sub) → Belongs front turn number sub
+      → AllByRecursion (StandsBefore ready_at (record { front = front; turn = suc turn })) (sub_held batch front sub)
+  sub_ready_before one sub b =
+      let t : Ticket = record { front = front; turn = suc turn } in
+      let kept : Lane = sub.lane in
+      let cutting : List Held = ticketed kept.cutting (cut_spans batch kept.next front) in
+      all_of_sub (StandsBefore ready_at t) sub
+      (all_then (λ h. IsDrawn front turn h.ticket) (StandsBefore ready_at t) (kept.held ++ cutting)
+      (λ h drawn s. ready_before front turn s h drawn)
+      (all_both (λ h. IsDrawn front turn h.ticket) kept.held cutting
+      (all_then (IsKnown front turn number) (λ h. IsDrawn front turn h.ticket) kept.held (λ h known. known.1)
+      b.are_known)
+      (births_drawn batch front turn kept.next kept.cutting one b.is_next b.is_drawn)))
+
+  -- all that is in flight stands earlier than the next delivery will, and all that is ready earlier than the next
+  -- turn's
+  pub out_earlier : (subs : List Sub) → AllByRecursion (Belongs front turn number) subs
+      → AllByRecursion (λ e. earlier e.0 (record { front = number; turn = 0 }) ≡ true)
+      (all_at out_at 0 (map (sub_held batch front) subs))
+  out_earlier subs h =
+      let t : Ticket = record { front = number; turn = 0 } in
+      all_earlier out_at t (map (sub_held batch front) subs)
+      (all_mapped (AllByRecursion (StandsBefore out_at t)) (sub_held batch front) subs
+      (all_then (Belongs front turn number)
+      (λ sub. AllByRecursion (StandsBefore out_at t) (sub_held batch front sub)) subs sub_out_before h))
+
+  pub ready_earlier : 1 ≤ batch → (subs : List Sub) → AllByRecursion (Belongs front turn number) subs
+      → AllByRecursion (λ e. earlier e.0 (record { front = front; turn = suc turn }) ≡ true)
+      (all_at ready_at 0 (map (sub_held batch front) subs))
+  ready_earlier one subs h =
+      let t : Ticket = record { front = front; turn = suc turn } in
+      all_earlier ready_at t (map (sub_held batch front) subs)
+      (all_mapped (AllByRecursion (StandsBefore ready_at t)) (sub_held batch front) subs
+      (all_then (Belongs front turn number)
+      (λ sub. AllByRecursion (StandsBefore ready_at t) (sub_held batch front sub)) subs (sub_ready_before one) h))
+
+-- ---- after a call
+
+-- what was known is known after more turns and deliveries
+given_later : (number number' : ℕ) (status : Status) → number ≤ number' → IsGiven number status → IsGiven number' status
+given_later number number' (Ready taken) le given = tt
+given_later number number' (InFlight n moment) le given = omega (arith, given, le)
+given_later number number' Settled le given = tt
+
+known_later : (front turn turn' number number' : ℕ) (h : Held) → turn ≤ turn' → number ≤ number'
+    → IsKnown front turn number h → IsKnown front turn' number' h
+known_later front turn turn' number number' h t n known =
+    (known.0, (known.1.0, omega (arith, known.1.1, t)), given_later number number' h.span.status n known.2)
+
+pub known_belongs_later : (front turn turn' number number' : ℕ) (sub : Sub) → turn ≤ turn' → number ≤ number'
+    → Belongs front turn number sub → Belongs front turn' number' sub
+known_belongs_later front turn turn' number number' sub t n b = record {
+  is_offered = b.is_offered;
+  is_next = b.is_next;
+  is_drawn = (b.is_drawn.0, omega (arith, b.is_drawn.1, t));
+  are_known = all_then (IsKnown front turn number) (IsKnown front turn' number') sub.lane.held
+      (λ h known. known_later front turn turn' number number' h t n known) b.are_known;
+}
+
+module _ (front turn number : ℕ) where
+  -- a span that becomes so is known, where its status and its ticket are
+  known_restated : (first : ℕ) (status : Status) (ticket : Ticket) (xs : List Held) → is_fresh status ≡ false
+      → IsDrawn front turn ticket → IsGiven number status → AllByRecursion (IsKnown front turn number) xs
+      → AllByRecursion (IsKnown front turn number) (restated first status ticket xs)
+  known_restated first status ticket [] taken drawn given known = tt
+  known_restated first status ticket (h ∷ xs) taken drawn given known =
+      (one (h.span.first == first), known_restated first status ticket xs taken drawn given known.1)
+    where
+      one : (b : Bool) → IsKnown front turn number
+          (cond b (record { span = record h.span { status = status }; ticket = ticket }) h)
+      one true = (taken, drawn, given)
+      one false = known.0
+
+  -- those that are left where the floor rises are known
+  known_risen : (floor : ℕ) (xs : List Held) → AllByRecursion (IsKnown front turn number) xs
+      → AllByRecursion (IsKnown front turn number) (risen floor xs).1
+  known_risen floor [] known = tt
+  known_risen floor (h ∷ xs) known = by (is_settled h.span.status) (known_risen h.span.last xs known.1)
+    where
+      by : (b : Bool) → AllByRecursion (IsKnown front turn number) (risen h.span.last xs).1
+          → AllByRecursion (IsKnown front turn number) (cond b (risen h.span.last xs) (floor, h ∷ xs)).1
+      by true rest = rest
+      by false rest = known
+
+module _ (front turn number : ℕ) where
+  -- a subscription belongs after a span was handed over
+  pub sub_handed : (sub : Sub) (span : Span) (clock : ℕ) → span.last ≤ front → Belongs front turn number sub
+      → Belongs front turn (suc number) (delivered_sub sub span number clock)
+  sub_handed sub span clock le b = by (span.first == sub.lane.next)
+    where
+      later : Belongs front turn (suc number) sub
+      later = known_belongs_later front turn turn number (suc number) sub (omega arith) (omega arith) b
+
+      by : (t : Bool) → Belongs front turn (suc number)
+          (record sub {
+            offered = max sub.offered span.last;
+            lane = cond t (pushed_lane sub.lane span (InFlight number clock))
+                (restated_lane sub.lane span.first (InFlight number clock) sub.lane.cutting);
+          })
+      by true = record {
+        is_offered = omega (arith, b.is_offered, le);
+        is_next = omega (arith, le);
+        is_drawn = b.is_drawn;
+        are_known = all_both (IsKnown front turn (suc number)) sub.lane.held
+            (record { span = record span { status = InFlight number clock }; ticket = sub.lane.cutting } ∷ [])
+            later.are_known ((refl, b.is_drawn, omega arith), tt);
+      }
+      by false = record {
+        is_offered = omega (arith, b.is_offered, le);
+        is_next = b.is_next;
+        is_drawn = b.is_drawn;
+        are_known = known_restated front turn (suc number) span.first (InFlight number clock) sub.lane.cutting
+            sub.lane.held refl b.is_drawn (omega arith) later.are_known;
+      }
+
+  -- after one went back
+  pub sub_returned : (sub : Sub) (first : ℕ) → Belongs front turn number sub
+      → Belongs front (suc turn) number (returned_sub sub first (record { front = front; turn = suc turn }))
+  sub_returned sub first b =
+      let later = known_belongs_later front turn (suc turn) number number sub (omega arith) (omega arith) b in
+      record {
+        is_offered = later.is_offered;
+        is_next = later.is_next;
+        is_drawn = later.is_drawn;
+        are_known = known_restated front (suc turn) number first (Ready true)
+            (record { front = front; turn = suc turn }) sub.lane.held refl (omega arith, omega arith) tt
+            later.are_known;
+      }
+
+  -- after one was settled
+  pub sub_settled : (sub : Sub) (first : ℕ) → Belongs front turn number sub
+      → Belongs front turn number (settled_sub sub first)
+  sub_settled sub first b = record {
+    is_offered = b.is_offered;
+    is_next = b.is_next;
+    is_drawn = b.is_drawn;
+    are_known = known_risen front turn number sub.lane.floor (restated first Settled sub.lane.cutting sub.lane.held)
+        (known_restated front turn number first Settled sub.lane.cutting sub.lane.held refl b.is_drawn tt b.are_known);
+  }

@@ -1,0 +1,156 @@
+-- How the spans of one subscription are stored. Spans that were never taken are the rest of one
+-- cutting, grown by every placement, so the number where they begin determines them. Only spans
+-- that were taken are stored, each with its ticket.
+use Rattle.std.specs.Prelude.{◌≡◌, ℕ, suc, ◌≤◌, ◌<◌, Bool, true, false, ◌||◌, ◌&&◌, List, [], ◌∷◌}
+use Rattle.std.specs.Prelude.{◌++◌, map, Option, Some, None, ◌==◌, nat_lt, nat_le, if◌then◌else◌}
+use Rattle.std.specs.Prelude.{refl}
+use Rattle.std.specs.Coded.{Coded, code_by, coded×, coded_list, coded_ℕ}
+use Rattle.rb_deliveries.specs.contracts.ticket.Held as held
+use Rattle.rb_deliveries.specs.contracts.ticket.Ticket as ticket
+use Rattle.rb_deliveries.specs.declared.ticket.Ticket.{Ticket}
+use Rattle.rb_deliveries.specs.declared.ticket.Held.{Held}
+use Rattle.rb_deliveries.specs.declared.span.Span.{Span}
+use Rattle.rb_deliveries.specs.declared.span.Status.{Status}
+use Rattle.rb_deliveries.specs.declared.span.Status.TheVariants.{Ready, Settled}
+use Rattle.rb_deliveries.specs.Spans.{cut_spans, is_ready, is_settled}
+
+-- A lane: the floor, the spans that were taken before, the first number of the spans never taken,
+-- and the ticket of their cutting.
+pub record Lane : Type 0 where
+  pub floor : ℕ
+  pub held : List Held
+  pub next : ℕ
+  pub cutting : Ticket
+
+-- a lane is stored as its parts
+abbrev pub lane_code : Coded Lane
+lane_code =
+    code_by (ℕ × (List Held × (ℕ × Ticket)))
+    (coded× coded_ℕ (coded× (coded_list held.the_row.coded)
+    (coded× coded_ℕ ticket.the_row.coded)))
+    (λ k. (k.floor, (k.held, (k.next, k.cutting))))
+    (λ p. record { floor = p.0; held = p.1.0; next = p.1.1.0; cutting = p.1.1.1 }) (λ _. refl)
+
+-- whether ticket a was drawn before b: with a smaller front, or with the same front in an earlier
+-- turn
+abbrev pub earlier : Ticket → Ticket → Bool
+earlier a b = nat_lt a.front b.front || ((a.front == b.front) && nat_lt a.turn b.turn)
+
+-- the ticket of a span that was never taken: the cutting's if its first number was placed then,
+-- else that of its placement
+abbrev pub birth : Ticket → ℕ → Ticket
+birth cutting first = if nat_le first cutting.front then cutting else
+    record { front = first; turn = 0 }
+
+abbrev pub with_birth : Ticket → Span → Held
+with_birth cutting p = record { span = p; ticket = birth cutting p.first }
+
+abbrev pub ticketed : Ticket → List Span → List Held
+ticketed cutting = map (with_birth cutting)
+
+-- all spans of a lane, with their tickets and without them
+abbrev pub lane_held : ℕ → ℕ → Lane → List Held
+lane_held batch front kept = kept.held ++ ticketed kept.cutting (cut_spans batch kept.next front)
+
+abbrev pub spans_of : List Held → List Span
+spans_of = map (λ h. h.span)
+
+abbrev pub lane_spans : ℕ → ℕ → Lane → List Span
+lane_spans batch front kept = spans_of (lane_held batch front kept)
+
+-- whether a span is in line before the other, or there is no other
+abbrev pub goes_before : Held → Option Held → Bool
+goes_before h None = true
+goes_before h (Some other) = earlier h.ticket other.ticket
+
+-- the first in line; of two with the same ticket, the first; then the first in line of the ready
+-- ones
+abbrev pub better : Option Held → Option Held → Option Held
+better None b = b
+better (Some a) None = Some a
+better (Some a) (Some b) = if earlier b.ticket a.ticket then Some b else Some a
+
+abbrev pub if_ready : Held → Option Held
+if_ready h = if is_ready h.span.status then Some h else None
+
+abbrev pub least : List Held → Option Held
+least [] = None
+least (h ∷ rest) = better (if_ready h) (least rest)
+
+-- sets the status and the ticket of the span that begins with this number
+abbrev pub stated : ℕ → Status → Ticket → Held → Held
+stated first status ticket h =
+    if h.span.first == first then
+    record { span = record h.span { status = status }; ticket = ticket } else h
+
+abbrev pub restated : ℕ → Status → Ticket → List Held → List Held
+restated first status ticket = map (stated first status ticket)
+
+-- while the first span is settled, the floor rises to its last number and the span is removed
+abbrev pub risen : ℕ → List Held → ℕ × List Held
+risen floor [] = (floor, [])
+risen floor (h ∷ rest) = if is_settled h.span.status then risen h.span.last rest else
+    (floor, h ∷ rest)
+
+-- the spans follow one another without a gap, from this number up to the next one
+abbrev pub FollowOn : ℕ → List Held → ℕ → Type 0
+FollowOn low [] next = next ≡ low
+FollowOn low (h ∷ rest) next = (h.span.first ≡ low) × (h.span.first ≤ h.span.last)
+    × FollowOn (suc h.span.last) rest next
+
+abbrev pub FollowSome : List Held → Type 0
+FollowSome held = (low : ℕ) × (next : ℕ) × FollowOn low held next
+
+-- a lane's spans follow one another after its floor
+abbrev pub AreJoined : Lane → Type 0
+AreJoined kept = FollowOn (suc kept.floor) kept.held kept.next
+
+-- the lane after its subscription cuts after a cursor
+abbrev pub cut_lane : ℕ → Ticket → Lane
+cut_lane cursor ticket = record { floor = cursor; held = []; next = suc cursor; cutting = ticket }
+
+-- changes a stored span; stores the first span never taken; raises the floor
+abbrev pub restated_lane : Lane → ℕ → Status → Ticket → Lane
+restated_lane kept first status ticket =
+    record kept { held = restated first status ticket kept.held }
+
+abbrev pub pushed_lane : Lane → Span → Status → Lane
+pushed_lane kept span status =
+    record kept {
+      held = kept.held
+          ++ record { span = record span { status = status }; ticket = kept.cutting } ∷ [];
+      next =
+          suc span.last;
+    }
+
+abbrev pub raised_lane : Lane → ℕ × List Held → Lane
+raised_lane kept rest = record kept { floor = rest.0; held = rest.1 }
+
+-- the lane after a span was delivered, was returned, was settled
+abbrev pub delivered_lane : Lane → Span → Status → Lane
+delivered_lane kept span status =
+    if span.first == kept.next then pushed_lane kept span status else restated_lane kept span.first
+    status kept.cutting
+
+abbrev pub returned_lane : Lane → ℕ → Ticket → Lane
+returned_lane kept first ticket = restated_lane kept first (Ready true) ticket
+
+abbrev pub settled_lane : Lane → ℕ → Lane
+settled_lane kept first =
+    raised_lane kept (risen kept.floor (restated first Settled kept.cutting kept.held))
+
+-- a batch has 1 to 256 numbers, and at most 1,048,576 are placed
+abbrev pub AreLimited : ℕ → ℕ → Type 0
+AreLimited batch front = (1 ≤ batch) × (batch ≤ 256) × (front ≤ 1048576)
+
+-- a span has at least one number, and a number after its last one exists
+abbrev pub HasNumbers : Span → Type 0
+HasNumbers span = (span.first ≤ span.last) × (span.last < 18446744073709551615)
+
+-- whether a lane has no span
+abbrev pub is_none_left : Lane → ℕ → Bool
+is_none_left kept front = is_none kept.held && nat_lt front kept.next
+  where
+    is_none : List Held → Bool
+    is_none [] = true
+    is_none (h ∷ rest) = false

@@ -1,0 +1,9 @@
+pub mod Spans
+pub mod Lanes
+pub mod Tournament
+pub mod Taken
+pub mod Orders
+pub mod Subs
+pub mod Waiting
+pub mod Expiry
+pub mod KeptSubs

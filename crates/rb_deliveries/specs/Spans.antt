@@ -1,0 +1,106 @@
+-- The spans of one subscription: how numbers are cut into spans, and how their statuses change.
+use Rattle.std.specs.Prelude.{ℕ, zero, suc, ◌+◌, ◌-◌, min, Bool, true, false, not, ◌&&◌, List, []}
+use Rattle.std.specs.Prelude.{◌∷◌, ◌++◌, length, Option, ◌==◌, nat_lt, nat_le, if◌then◌else◌}
+use Rattle.std.specs.List.{filter, find}
+use Rattle.rb_deliveries.specs.declared.span.Span.{Span}
+use Rattle.rb_deliveries.specs.declared.span.Status.{Status}
+use Rattle.rb_deliveries.specs.declared.span.Status.TheVariants.{Ready, InFlight, Settled}
+
+-- whether a status is ready; ready and never taken; in flight as this delivery; in flight; settled
+abbrev pub is_ready : Status → Bool
+is_ready (Ready taken) = true
+is_ready (InFlight number moment) = false
+is_ready Settled = false
+
+abbrev pub is_fresh : Status → Bool
+is_fresh (Ready taken) = not taken
+is_fresh (InFlight number moment) = false
+is_fresh Settled = false
+
+abbrev pub is_out_as : ℕ → Status → Bool
+is_out_as d (Ready taken) = false
+is_out_as d (InFlight number moment) = number == d
+is_out_as d Settled = false
+
+abbrev pub is_out : Status → Bool
+is_out (Ready taken) = false
+is_out (InFlight number moment) = true
+is_out Settled = false
+
+abbrev pub is_settled : Status → Bool
+is_settled (Ready taken) = false
+is_settled (InFlight number moment) = false
+is_settled Settled = true
+
+-- whether a status is in flight, taken at least `timeout` ticks ago
+abbrev pub is_due : ℕ → ℕ → Status → Bool
+is_due timeout clock (Ready taken) = false
+is_due timeout clock (InFlight number moment) = nat_le timeout (clock - moment)
+is_due timeout clock Settled = false
+
+-- a ready span that was never taken
+abbrev pub fresh : ℕ → ℕ → Span
+fresh first last = record { first = first; last = last; status = Ready false }
+
+-- Cuts the numbers from a to b into spans: the first `batch` numbers, or as many as there are, then
+-- the rest. There are at most as many spans as numbers.
+abbrev pub cut_into : ℕ → ℕ → ℕ → ℕ → List Span
+cut_into zero batch a b = []
+cut_into (suc most) batch a b = if nat_lt b a then [] else fresh a (min (a + batch - 1) b)
+    ∷ cut_into most batch (a + batch) b
+
+unfoldable pub cut_spans : ℕ → ℕ → ℕ → List Span
+cut_spans batch a b = cut_into (suc b - a) batch a b
+
+-- the first span that is ready, the one that is in flight as this delivery, and the one that begins
+-- with this number
+abbrev pub first_ready : List Span → Option Span
+first_ready = find (λ p. is_ready p.status)
+
+abbrev pub out_as : ℕ → List Span → Option Span
+out_as d = find (λ p. is_out_as d p.status)
+
+abbrev pub beginning : ℕ → List Span → Option Span
+beginning first = find (λ p. p.first == first)
+
+-- how many are in flight
+abbrev pub how_many_out : List Span → ℕ
+how_many_out spans = length (filter (λ p. is_out p.status) spans)
+
+-- sets the status of the span that begins with this number
+abbrev pub with_status : ℕ → Status → List Span → List Span
+with_status first status [] = []
+with_status first status (p ∷ rest) = (if p.first == first then record p { status = status } else p)
+    ∷ with_status first status rest
+
+-- makes the spans that are due ready again
+abbrev pub gone_back : ℕ → ℕ → List Span → List Span
+gone_back timeout clock [] = []
+gone_back timeout clock (p ∷ rest) =
+    (if is_due timeout clock p.status then record p { status = Ready true } else p)
+    ∷ gone_back timeout clock rest
+
+-- while the first span is settled, the floor rises to its last number and the span is removed
+abbrev pub raised : ℕ → List Span → ℕ × List Span
+raised floor [] = (floor, [])
+raised floor (p ∷ rest) = if is_settled p.status then raised p.last rest else (floor, p ∷ rest)
+
+-- the last span takes one number more if it is ready, was never taken and has fewer than `batch`
+-- numbers
+abbrev pub takes_one_more : ℕ → Span → Bool
+takes_one_more batch p = is_fresh p.status && nat_lt (suc p.last - p.first) batch
+
+abbrev pub last_takes : ℕ → List Span → Bool
+last_takes batch [] = false
+last_takes batch (p ∷ []) = takes_one_more batch p
+last_takes batch (p ∷ q ∷ rest) = last_takes batch (q ∷ rest)
+
+abbrev pub last_with : ℕ → List Span → List Span
+last_with n [] = []
+last_with n (p ∷ []) = record p { last = n } ∷ []
+last_with n (p ∷ q ∷ rest) = p ∷ last_with n (q ∷ rest)
+
+-- the spans after number n is placed: the last one takes it, or a new one begins with it
+abbrev pub grown_spans : ℕ → ℕ → List Span → List Span
+grown_spans batch n spans = if last_takes batch spans then last_with n spans else spans ++ fresh n n
+    ∷ []

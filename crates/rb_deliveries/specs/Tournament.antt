@@ -1,0 +1,67 @@
+-- A tournament over tickets: which place is the first with a ticket, and whose ticket is first in
+-- line.
+use Rattle.std.specs.Prelude.{◌≡◌, ℕ, zero, suc, ◌+◌, ◌-◌, ◌<◌, ◌≤◌, List, [], ◌∷◌, ◌++◌, length}
+use Rattle.std.specs.Prelude.{take, drop, replicate, map, Option, Some, None, get_or}
+use Rattle.std.specs.Prelude.{if◌then◌else◌}
+use Rattle.std.specs.Option.{option_map}
+use Rattle.rb_deliveries.specs.declared.ticket.Ticket.{Ticket}
+use Rattle.rb_deliveries.specs.declared.tournament.Winner.{Winner}
+use Rattle.rb_deliveries.specs.Lanes.{earlier}
+
+-- the winner of two neighbouring parts; of two with the same ticket, the left one
+abbrev pub earlier_of : Winner → Winner → Winner
+earlier_of a b = if earlier b.ticket a.ticket then record b { first = a.first } else a
+
+abbrev pub winner_of_two : Option Winner → Option Winner → Option Winner
+winner_of_two None b = b
+winner_of_two (Some a) None = Some a
+winner_of_two (Some a) (Some b) = Some (earlier_of a b)
+
+-- the winner of one place
+abbrev pub at_place : ℕ → Option Ticket → Option Winner
+at_place place = option_map (λ ticket. record { first = place; place = place; ticket = ticket })
+
+-- the winner of these tickets, the first of which is at place n
+abbrev pub winner_from : ℕ → List (Option Ticket) → Option Winner
+winner_from n [] = None
+winner_from n (ticket ∷ rest) = winner_of_two (at_place n ticket) (winner_from (suc n) rest)
+
+-- ---- the nodes of the tree
+
+-- the winners of the places, one by one
+abbrev pub leaves_from : ℕ → List (Option Ticket) → List (Option Winner)
+leaves_from n [] = []
+leaves_from n (ticket ∷ rest) = at_place n ticket ∷ leaves_from (suc n) rest
+
+-- how many places a tree of this depth has
+abbrev pub places_at : ℕ → ℕ
+places_at zero = 1
+places_at (suc depth) = places_at depth + places_at depth
+
+-- the node with this number
+abbrev pub node : List (Option Winner) → ℕ → Option Winner
+node nodes i = get_or nodes i None
+
+-- the node is the winner of the two below it
+abbrev pub WinsPair : List (Option Winner) → ℕ → Type 0
+WinsPair nodes i = node nodes i ≡ winner_of_two (node nodes (i + i)) (node nodes (suc (i + i)))
+
+abbrev pub NodesWin : List (Option Winner) → ℕ → Type 0
+NodesWin nodes room = (i : ℕ) → 1 ≤ i → i < room → WinsPair nodes i
+
+-- The nodes of a tree: after as many nodes as it has places stand the places, and each node from 1
+-- on is the winner of the two below it. A tree without places has no nodes.
+pub record IsTree (nodes : List (Option Winner)) (room len : ℕ) : Type 0 where
+  pub long : length nodes ≡ room + room
+  pub fits : len ≤ room
+  pub even : (0 < room) → (depth : ℕ) × (room ≡ places_at depth)
+  pub leaves : (tickets : List (Option Ticket)) × (length tickets ≡ len)
+      × (drop room nodes ≡ leaves_from 0 tickets ++ replicate (room - len) None)
+  pub inner : NodesWin nodes room
+
+-- the tickets that the places have
+abbrev pub ticket_at : Option Winner → Option Ticket
+ticket_at = option_map (λ (w : Winner). w.ticket)
+
+abbrev pub tickets_of : List (Option Winner) → ℕ → ℕ → List (Option Ticket)
+tickets_of nodes room len = map ticket_at (take len (drop room nodes))

@@ -1,0 +1,79 @@
+-- Which subscription's span is delivered first: the ticket that each subscription has for that.
+use Rattle.std.specs.Prelude.{◌≡◌, ℕ, ◌-◌, Bool, true, false, not, ◌&&◌, nat_lt, nat_le, List, []}
+use Rattle.std.specs.Prelude.{◌∷◌, map, Option, Some, None, IfSome, slice_get, slice_set}
+use Rattle.std.specs.Prelude.{if◌then◌else◌}
+use Rattle.std.specs.List.{AllByRecursion}
+use Rattle.rb_deliveries.specs.declared.sub.Sub.{Sub}
+use Rattle.rb_deliveries.specs.declared.span.Status.{Status}
+use Rattle.rb_deliveries.specs.declared.span.Status.TheVariants.{Ready, InFlight, Settled}
+use Rattle.rb_deliveries.specs.declared.ticket.Held.{Held}
+use Rattle.rb_deliveries.specs.declared.ticket.Ticket.{Ticket}
+use Rattle.rb_deliveries.specs.Spans.{how_many_out}
+use Rattle.rb_deliveries.specs.Subs.{Belongs}
+use Rattle.rb_deliveries.specs.Lanes.{AreJoined, Lane, birth, earlier, least, spans_of}
+
+-- the ticket that is first in line, of a span that was taken before and of the next one that wasn't
+abbrev pub sooner_ticket : Option Held → Ticket → Ticket
+sooner_ticket None fresh = fresh
+sooner_ticket (Some h) fresh = if earlier fresh h.ticket then fresh else h.ticket
+
+-- The ticket of the span that is first in line. The numbers that follow the taken ones count, even
+-- if none of them is placed yet: their ticket is that of the placement then, which comes after all.
+abbrev pub lane_ticket : Lane → Ticket
+lane_ticket kept = sooner_ticket (least kept.held) (birth kept.cutting kept.next)
+
+-- the ticket of a subscription that is open and has room in its window
+abbrev pub sub_ticket : ℕ → Sub → Option Ticket
+sub_ticket window sub =
+    if not sub.closed && nat_lt (how_many_out (spans_of sub.lane.held)) window then
+    Some (lane_ticket sub.lane) else None
+
+-- the moment at which a delivery in flight was taken, as a place in an order
+abbrev pub moment_of : Status → Option Ticket
+moment_of (Ready taken) = None
+moment_of (InFlight number moment) = Some (record { front = moment; turn = 0 })
+moment_of Settled = None
+
+-- the earlier of two; of two that are the same, the first
+abbrev pub first_ticket : Option Ticket → Option Ticket → Option Ticket
+first_ticket None b = b
+first_ticket (Some a) None = Some a
+first_ticket (Some a) (Some b) = if earlier b a then Some b else Some a
+
+-- the earliest moment of these spans
+abbrev pub earliest : List Held → Option Ticket
+earliest [] = None
+earliest (h ∷ rest) = first_ticket (moment_of h.span.status) (earliest rest)
+
+abbrev pub sub_moment : Sub → Option Ticket
+sub_moment sub = earliest sub.lane.held
+
+-- whether what was taken at this moment is due
+abbrev pub is_past : ℕ → ℕ → Ticket → Bool
+is_past timeout clock moment = nat_le timeout (clock - moment.front)
+
+-- the line and the moments are those of the subscriptions, whose spans follow one another
+pub record AreWaiting (window : ℕ) (subs : List Sub) (line moments : List (Option Ticket)) : Type 0
+  where
+    pub in_line : line ≡ map (sub_ticket window) subs
+    pub in_flight : moments ≡ map sub_moment subs
+    pub joined : AllByRecursion (λ sub. AreJoined sub.lane) subs
+
+-- a subscription that changed has its ticket and its moment again
+pub record StandsAgain (window s : ℕ) (sub : Sub) (line moments new_line new_moments : List (Option
+    Ticket))
+    : Type 0 where
+  pub in_line : new_line ≡ slice_set line s (sub_ticket window sub)
+  pub in_flight : new_moments ≡ slice_set moments s (sub_moment sub)
+  pub joins : AreJoined sub.lane
+
+-- the place of a moment that is past, or none is
+abbrev pub FirstPast : ℕ → ℕ → List (Option Ticket) → Option ℕ → Type 0
+FirstPast timeout clock moments None =
+    AllByRecursion (λ o. IfSome o (λ t. is_past timeout clock t ≡ false)) moments
+FirstPast timeout clock moments (Some s) = (t : Ticket) × (slice_get moments s ≡ Some (Some t))
+    × (is_past timeout clock t ≡ true)
+
+-- what is stored of these subscriptions agrees with the front, at some turn
+abbrev pub BelongAll : ℕ → List Sub → Type 0
+BelongAll front subs = (turn : ℕ) × (number : ℕ) × AllByRecursion (Belongs front turn number) subs

@@ -1,0 +1,18 @@
+//! What is stored of all subscriptions' deliveries, and which delivery is the next one. Theorem:
+//! each call of `Deliveries` changes the one subscription that it names, as `specs/Subs.antt` says,
+//! and finds the span that is first in line of all (*first_to_deliver*), and all that are due.
+#![tactic(auto)]
+
+mod deliveries;
+mod held;
+mod lane;
+mod span;
+mod sub;
+mod taken;
+mod ticket;
+mod tournament;
+
+pub use deliveries::Deliveries;
+pub use span::{Span, Status};
+pub use sub::Sub;
+pub use ticket::Ticket;

@@ -1,0 +1,109 @@
+//! Spans: numbers of the sequence that are delivered to a subscription together.
+
+ghost use Rattle.std.specs.Prelude.{◌≡◌};
+ghost use Rattle.rb_deliveries.specs.Spans.{is_ready, is_out, is_out_as, is_settled, is_due};
+ghost use Rattle.rb_deliveries.specs.Waiting.{moment_of};
+
+use crate::ticket::Ticket;
+
+/// The numbers from `first` to `last`, and their status.
+#[derive(Clone, Copy, Debug, PartialEq, Eq)]
+pub struct Span {
+    /// The first number.
+    pub first: u64,
+    /// The last number, at least `first`.
+    pub last: u64,
+    /// Their status.
+    pub status: Status,
+}
+
+/// The status of a span's numbers.
+#[derive(Clone, Copy, Debug, PartialEq, Eq)]
+pub enum Status {
+    /// They wait to be taken. `taken` says whether they were taken before; such a span never grows.
+    Ready { taken: bool },
+    /// They are in flight as delivery `number`, taken at tick `moment`.
+    InFlight { number: u64, moment: u64 },
+    /// They are acknowledged.
+    Settled,
+}
+
+impl Status {
+    /// Whether they wait to be taken.
+    pub fn is_ready(self) -> bool
+        ensures { result ≡ is_ready self }
+    {
+        match self {
+            Status::Ready { taken: _ } => true,
+            Status::InFlight {
+                number: _,
+                moment: _,
+            } => false,
+            Status::Settled => false,
+        }
+    }
+
+    /// Whether they are in flight.
+    pub fn is_out(self) -> bool
+        ensures { result ≡ is_out self }
+    {
+        match self {
+            Status::Ready { taken: _ } => false,
+            Status::InFlight {
+                number: _,
+                moment: _,
+            } => true,
+            Status::Settled => false,
+        }
+    }
+
+    /// Whether they are in flight as this delivery.
+    pub fn is_out_as(self, delivery: u64) -> bool
+        ensures { result ≡ is_out_as delivery self }
+    {
+        match self {
+            Status::Ready { taken: _ } => false,
+            Status::InFlight { number, moment: _ } => number == delivery,
+            Status::Settled => false,
+        }
+    }
+
+    /// The moment at which they were taken, if they are in flight, as a place in an order.
+    pub(crate) fn moment(self) -> Option<Ticket>
+        ensures { result ≡ moment_of self }
+    {
+        match self {
+            Status::Ready { taken: _ } => None,
+            Status::InFlight { number: _, moment } => Some(Ticket {
+                front: moment,
+                turn: 0,
+            }),
+            Status::Settled => None,
+        }
+    }
+
+    /// Whether they are acknowledged.
+    pub fn is_settled(self) -> bool
+        ensures { result ≡ is_settled self }
+    {
+        match self {
+            Status::Ready { taken: _ } => false,
+            Status::InFlight {
+                number: _,
+                moment: _,
+            } => false,
+            Status::Settled => true,
+        }
+    }
+
+    /// Whether they are in flight and were taken `timeout` ticks or more before `clock`.
+    pub fn is_due(self, timeout: u64, clock: u64) -> bool
+        ensures { result ≡ is_due timeout clock self }
+    {
+        match self {
+            Status::Ready { taken: _ } => false,
+            Status::InFlight { number: _, moment } => timeout <= clock.saturating_sub(moment),
+            Status::Settled => false,
+        }
+    }
+}

@@ -1,0 +1,163 @@
+//! One subscription: its numbers, its link and its lane.
+
+ghost use Rattle.std.specs.Prelude.{◌≡◌, ◌≤◌, OnSome, OnOk, OnErr};
+ghost use Rattle.rb_deliveries.specs.Lanes.{AreJoined, AreLimited, HasNumbers, is_none_left};
+ghost use Rattle.rb_deliveries.specs.Lanes.{lane_spans, settled_lane, spans_of};
+ghost use Rattle.rb_deliveries.specs.Spans.{first_ready, how_many_out};
+
+use crate::lane::Lane;
+use crate::span::Span;
+use crate::ticket::Ticket;
+use std::alloc::{AllocError, Global};
+
+/// A subscription: the number after which it began, the greatest number delivered, its current
+/// link, whether it is closed, and its spans.
+#[derive(Debug, Drop)]
+pub struct Sub {
+    pub start: u64,
+    pub offered: u64,
+    pub link: u64,
+    pub closed: bool,
+    pub(crate) lane: Lane,
+}
+
+impl Sub {
+    ghost use Rattle.rb_deliveries.specs.Expiry.{due_in, expired_sub, by_number, turns_from};
+    ghost use Rattle.rb_deliveries.specs.Subs.{AreGiven, new_sub, sub_out_as, delivered_sub};
+    ghost use Rattle.rb_deliveries.specs.Subs.{returned_sub, settled_sub, reconnected_sub};
+    ghost use Rattle.rb_deliveries.specs.Subs.{closed_sub};
+    ghost use Rattle.rb_deliveries.specs.Waiting.{sub_ticket};
+
+    /// A subscription after this number, under this link. The numbers after it are cut with this
+    /// ticket.
+    pub(crate) fn behind(alloc: Global, start: u64, link: u64, ticket: Ticket) -> Sub
+        requires { start ≤ 1048576 }
+        ensures { result ≡ new_sub start link ticket }
+    {
+        Sub {
+            start,
+            offered: start,
+            link,
+            closed: false,
+            lane: Lane::behind(alloc, start, ticket),
+        }
+    }
+
+    /// Delivers a span: it is in flight as this delivery, taken at this tick.
+    pub(crate) fn deliver(&mut self, span: Span, number: u64, tick: u64) -> Result<(), AllocError>
+        requires { HasNumbers span }
+        ensures ok { OnOk result (self.new ≡ delivered_sub self.old span number tick) }
+        ensures err { OnErr result (self.new ≡ self.old) }
+    {
+        self.lane.deliver(span, number, tick)?;
+        self.offered = self.offered.max(span.last);
+        Ok(())
+    }
+
+    /// Makes a span ready again, in line with this ticket.
+    pub(crate) fn give_back(&mut self, first: u64, ticket: Ticket)
+        ensures { self.new ≡ returned_sub self.old first ticket }
+    {
+        self.lane.give_back(first, ticket);
+    }
+
+    /// Settles a span. Returns the floor, up to which everything is settled now.
+    pub(crate) fn settle(&mut self, first: u64) -> u64
+        ensures sub { self.new ≡ settled_sub self.old first }
+        ensures floor { result ≡ (settled_lane self.old.lane first).floor }
+    {
+        self.lane.settle(first);
+        self.lane.floor()
+    }
+
+    /// The span that is in flight as this delivery.
+    pub fn out_as(&self, delivery: u64) -> Option<Span>
+        ensures value { result ≡ sub_out_as delivery self.now }
+        ensures joined { OnSome result (AreJoined self.now.lane) }
+    {
+        if self.closed {
+            return None;
+        }
+        self.lane.out_as(delivery)
+    }
+
+    /// The number up to which everything is settled.
+    pub fn floor(&self) -> u64
+        ensures { result ≡ self.now.lane.floor }
+    {
+        self.lane.floor()
+    }
+
+    /// How many spans are in flight.
+    pub fn out(&self) -> u64
+        ensures { result ≡ how_many_out (spans_of self.now.lane.held) }
+    {
+        self.lane.out()
+    }
+
+    /// Whether all its numbers up to `front`, the last one placed, are settled.
+    pub fn is_empty(&self, front: u64) -> bool
+        ensures { result ≡ is_none_left self.now.lane front }
+    {
+        self.lane.is_empty(front)
+    }
+
+    /// The ready span with the lowest numbers, up to `batch` of them.
+    pub fn first_ready(&self, batch: u64, front: u64) -> Option<Span>
+        requires { AreLimited batch front }
+        ensures { result ≡ first_ready (lane_spans batch front self.now.lane) }
+    {
+        self.lane.first_ready(batch, front)
+    }
+
+    /// Its ticket among the subscriptions, if it is open and its window has room: that of the span
+    /// that is first in line, or would be once the next number is placed.
+    pub(crate) fn ticket(&self, window: u64) -> Option<Ticket>
+        ensures { result ≡ sub_ticket window self.now }
+    {
+        if self.closed || self.lane.out() >= window {
+            return None;
+        }
+        Some(self.lane.ticket())
+    }
+
+    /// How many spans are due.
+    pub(crate) fn how_many_due(&self, timeout: u64, clock: u64) -> u64
+        ensures value { result ≡ due_in timeout clock self.now }
+        ensures joined { AreJoined self.now.lane }
+    {
+        let many = self.lane.how_many_due(timeout, clock);
+        if self.closed {
+            return 0;
+        }
+        many
+    }
+
+    /// Makes the spans that are due ready again. Their tickets come after `latest`, in the order of
+    /// their deliveries' numbers, which are below `next`.
+    pub(crate) fn expire(&mut self, timeout: u64, clock: u64, latest: Ticket, next: u64)
+        requires { AreGiven next latest.turn self.old.lane.held }
+        ensures { self.new ≡ expired_sub timeout clock
+            (by_number (turns_from latest.front latest.turn)) self.old }
+    {
+        self.lane.expire(timeout, clock, latest, next);
+    }
+
+    /// Continues after this number, under this link. The numbers after it are cut with this ticket.
+    pub(crate) fn reconnect(&mut self, alloc: Global, cursor: u64, link: u64, ticket: Ticket)
+        requires { cursor ≤ 1048576 }
+        ensures { self.new ≡ reconnected_sub self.old cursor link ticket }
+    {
+        self.link = link;
+        self.lane = Lane::behind(alloc, cursor, ticket);
+    }
+
+    /// Closes it and removes all its spans.
+    pub(crate) fn close(&mut self)
+        ensures sub { self.new ≡ closed_sub self.old }
+        ensures joined { AreJoined self.old.lane }
+    {
+        self.closed = true;
+        self.lane.clear();
+    }
+}

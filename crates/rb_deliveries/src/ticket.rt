@@ -1,0 +1,97 @@
+//! Tickets: they order the ready spans.
+
+ghost use Rattle.std.specs.Prelude.{◌≡◌};
+ghost use Rattle.std.specs.Option.{option_map};
+ghost use Rattle.rb_deliveries.specs.Lanes.{goes_before, earlier, birth, with_birth, better};
+ghost use Rattle.rb_deliveries.specs.Waiting.{first_ticket};
+
+use crate::span::Span;
+
+/// A place in the ready order: the front and the turn in which it was drawn. A placement's tickets
+/// have turn 0.
+#[derive(Clone, Copy, Debug, PartialEq, Eq)]
+pub struct Ticket {
+    pub front: u64,
+    pub turn: u64,
+}
+
+/// A span that was taken before, with its ticket for the time that it is ready.
+#[derive(Clone, Copy, Debug, PartialEq, Eq)]
+pub(crate) struct Held {
+    pub(crate) span: Span,
+    pub(crate) ticket: Ticket,
+}
+
+impl Ticket {
+    /// Whether it comes before the other.
+    pub(crate) fn is_before(self, other: Ticket) -> bool
+        ensures { result ≡ earlier self other }
+    {
+        self.front < other.front || (self.front == other.front && self.turn < other.turn)
+    }
+
+    /// The ticket of a span that was never taken and begins with this number. `self` is the ticket
+    /// of its cutting; a number placed later has its placement's ticket.
+    pub(crate) fn of_span(self, first: u64) -> Ticket
+        ensures { result ≡ birth self first }
+    {
+        if first <= self.front {
+            return self;
+        }
+        Ticket {
+            front: first,
+            turn: 0,
+        }
+    }
+}
+
+impl Ticket {
+    /// A span that was never taken, with its ticket. `self` is the ticket of its cutting.
+    pub(crate) fn given_to(self, span: Option<Span>) -> Option<Held>
+        ensures { result ≡ option_map (with_birth self) span }
+    {
+        let span = span?;
+        Some(Held {
+            span,
+            ticket: self.of_span(span.first),
+        })
+    }
+}
+
+impl Held {
+    /// Whether it comes before the other, or there is no other.
+    pub(crate) fn is_before(&self, other: Option<Held>) -> bool
+        ensures { result ≡ goes_before self.now other }
+    {
+        match other {
+            None => true,
+            Some(held) => self.ticket.is_before(held.ticket),
+        }
+    }
+}
+
+/// The earlier ticket; `first` if both are the same.
+pub(crate) fn first_ticket(first: Option<Ticket>, second: Option<Ticket>) -> Option<Ticket>
+    ensures { result ≡ first_ticket first second }
+{
+    let Some(a) = first else {
+        return second;
+    };
+    let Some(b) = second else {
+        return first;
+    };
+    if b.is_before(a) {
+        return second;
+    }
+    first
+}
+
+/// The one that is first in line; `first` if both have the same ticket.
+pub(crate) fn sooner(first: Option<Held>, second: Option<Held>) -> Option<Held>
+    ensures { result ≡ better first second }
+{
+    match second {
+        Some(held) if held.is_before(first) => second,
+        _ => first,
+    }
+}
