@@ -9,14 +9,14 @@ use Rattle.rb_sequence.specs.Cells.{Cells, cells_code}
 
 -- a broker that was opened: its limits, its tables, the cells of its sequence, and the queue of its
 -- intake
-pub record Parts : Type 0 where
+pub record OpenedParts : Type 0 where
   pub limits : Limits
   pub schema : List Shape
   pub cells : Cells
   pub queue : TableId
 
-abbrev pub parts_code : Coded Parts
-parts_code = code_by (Limits × (List Shape × (Cells × TableId)))
+abbrev pub opened_code : Coded OpenedParts
+opened_code = code_by (Limits × (List Shape × (Cells × TableId)))
     (coded× limits_code (coded× (coded_list shape.the_row.coded)
     (coded× cells_code table_id_coded)))
     (λ o. (o.limits, (o.schema, (o.cells, o.queue))))

@@ -4,7 +4,7 @@ use Rattle.rb_desk.specs.declared.refusal.DeskRefusal.{DeskRefusal}
 use Rattle.rb_desk.specs.declared.refusal.DeskRefusal.TheVariants as desk
 use Rattle.rb_desk.specs.Picture.{Picture}
 use Rattle.rb_desk.specs.Calls.{prepare, place}
-use Rattle.rb_sequence.specs.Cells.{Cells, Seen, IsTold}
+use Rattle.rb_sequence.specs.Cells.{Cells, CellToken, IsTokenOf}
 use Rattle.rb_sequence.specs.Entry.{Entry}
 use Rattle.rb_broker.specs.declared.refusal.PlaceRefusal.{PlaceRefusal}
 use Rattle.rb_broker.specs.declared.refusal.PlaceRefusal.TheVariants.{Closed, SequenceFull}
@@ -12,8 +12,8 @@ use Rattle.rb_broker.specs.declared.refusal.PlaceRefusal.TheVariants.{Occupied, 
 use Rattle.rb_broker.specs.declared.refusal.RefusedItem.{RefusedItem}
 
 -- the token shows that the cell of the entry's number holds the entry
-pub record ShowsEntry (cells : Cells) (told : Seen) (e : Entry) : Type 0 where
-  pub here : IsTold cells told
+pub record ShowsEntry (cells : Cells) (told : CellToken) (e : Entry) : Type 0 where
+  pub here : IsTokenOf cells told
   pub number : told.number ≡ e.number
   pub entry : told.entry ≡ e
 
@@ -25,7 +25,7 @@ IsWhy (Ok next) n why = (why ≡ Occupied) ⊎ (why ≡ Memory)
 
 -- What the hold returns and leaves. The entry is in its cell, and the desk has placed its number;
 -- or the item comes back, and the desk is as before.
-abbrev pub PlacesEntry : Result Seen RefusedItem → Cells → Entry → Picture → Picture → Type 0
+abbrev pub PlacesEntry : Result CellToken RefusedItem → Cells → Entry → Picture → Picture → Type 0
 PlacesEntry (Ok told) cells entry old new = ShowsEntry cells told entry
     × (prepare old ≡ Ok entry.number) × (new ≡ place old)
 PlacesEntry (Err refused) cells entry old new = (refused.item ≡ entry.item)

@@ -9,7 +9,7 @@ use Rattle.cs_model.specs.declared.shape.Shape.{Shape}
 use Rattle.cs_model.specs.Section.{Section, section_code}
 use Rattle.cs_invert.specs.Inverse.{withdrawal_of}
 use Rattle.cs_parse.specs.Progress.{Progress, progress_code}
-use Rattle.rb_sequence.specs.Cells.{Cells, Seen, IsTold, seen_code}
+use Rattle.rb_sequence.specs.Cells.{Cells, CellToken, IsTokenOf, token_code}
 use Rattle.rb_sequence.specs.contracts.item.Item as item
 use Rattle.rb_sequence.specs.declared.item.Item.{Item}
 
@@ -24,25 +24,25 @@ pub record PublisherState : Type 0 where
 
 -- A staged set: the number of the publisher that staged it, why it is sent, the changeset, and what
 -- shows the entry that it withdraws.
-pub record StagedBy : Type 0 where
+pub record StagedView : Type 0 where
   pub publisher : ℕ
   pub origin : Origin
   pub body : List Section
-  pub withdraws : Option Seen
+  pub withdraws : Option CellToken
 
 -- What was fed withdraws nothing. A withdrawal of entry n shows the entry that the cell of n holds;
 -- its publisher sent that, and its body is that entry's withdrawal.
-abbrev pub WithdrawsShown : Cells → Origin → Option Seen → ℕ → List Section → Type 0
+abbrev pub WithdrawsShown : Cells → Origin → Option CellToken → ℕ → List Section → Type 0
 WithdrawsShown cells Sent shown p body = shown ≡ None
 WithdrawsShown cells (Withdraws n) None p body = ⊥
-WithdrawsShown cells (Withdraws n) (Some told) p body = IsTold cells told × (told.number ≡ n)
+WithdrawsShown cells (Withdraws n) (Some told) p body = IsTokenOf cells told × (told.number ≡ n)
     × (told.entry.item.publisher ≡ p) × (body ≡ withdrawal_of told.entry.item.body)
 
-abbrev pub IsStaged : Cells → StagedBy → Type 0
+abbrev pub IsStaged : Cells → StagedView → Type 0
 IsStaged cells s = WithdrawsShown cells s.origin s.withdraws s.publisher s.body
 
 -- the item that a staged set becomes
-abbrev pub item_of : StagedBy → ℕ → Item
+abbrev pub item_of : StagedView → ℕ → Item
 item_of s own =
     record { publisher = s.publisher; own = own; origin = s.origin; body = s.body }
 
@@ -61,10 +61,10 @@ publisher_code = code_by (ℕ × (List Shape × (Progress × (List Item × List 
     })
     (λ _. refl)
 
-abbrev pub staged_code : Coded StagedBy
-staged_code = code_by (ℕ × (Origin × (List Section × Option Seen)))
+abbrev pub staged_code : Coded StagedView
+staged_code = code_by (ℕ × (Origin × (List Section × Option CellToken)))
     (coded× coded_ℕ (coded× origin.the_row.coded
-    (coded× (coded_list section_code) (coded_option seen_code))))
+    (coded× (coded_list section_code) (coded_option token_code))))
     (λ s. (s.publisher, (s.origin, (s.body, s.withdraws))))
     (λ p. record {
       publisher = p.0;

@@ -7,18 +7,18 @@ use Rattle.std.specs.BTreeSet.{insert_key}
 use Rattle.cs_model.specs.declared.origin.Origin.TheVariants.{Sent}
 use Rattle.cs_model.specs.Section.{Section}
 use Rattle.cs_parse.specs.declared.end.EndError.{EndError}
-use Rattle.rb_sequence.specs.Cells.{Cells, IsToldLast, SeenLast}
-use Rattle.rb_broker.specs.Publishers.{StagedBy}
+use Rattle.rb_sequence.specs.Cells.{Cells, IsLastToken, LastToken}
+use Rattle.rb_broker.specs.Publishers.{StagedView}
 use Rattle.rb_broker.specs.declared.refusal.SendRefusal.{SendRefusal}
 use Rattle.rb_broker.specs.declared.refusal.SendRefusal.TheVariants as send
 
 -- the set comes back; a closed sequence shows its last number
-abbrev pub SendsNothing : {L : Type 0} → Cells → StagedBy → SendRefusal L → Type 0
-SendsNothing cells set (send.Closed last back) = IsToldLast cells last × (back ≡ set)
+abbrev pub SendsNothing : {L : Type 0} → Cells → StagedView → SendRefusal L → Type 0
+SendsNothing cells set (send.Closed last back) = IsLastToken cells last × (back ≡ set)
 SendsNothing cells set (send.Full back) = back ≡ set
 
 -- the set that this publisher was fed, or the stream's error
-abbrev pub EndsWith : ℕ → Result StagedBy EndError → Result (List Section) EndError → Type 0
+abbrev pub EndsWith : ℕ → Result StagedView EndError → Result (List Section) EndError → Type 0
 EndsWith p (Ok set) answer = (answer ≡ Ok set.body)
     × (set ≡ record { publisher = p; origin = Sent; body = set.body; withdraws = None })
 EndsWith p (Err error) answer = answer ≡ Err error

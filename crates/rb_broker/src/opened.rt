@@ -27,12 +27,12 @@ pub struct Opened {
 impl Model for Opened {
     ghost use Rattle.std.specs.Prelude.{◌≡◌, []};
     ghost use Rattle.std.specs.Arc.{arc_value};
-    ghost use Rattle.rb_broker.specs.Halls.{Parts, parts_code};
+    ghost use Rattle.rb_broker.specs.Halls.{OpenedParts, opened_code};
     ghost use Rattle.rb_desk.specs.Picture.{empty_picture};
 
-    ghost Value = { Parts };
+    ghost Value = { OpenedParts };
 
-    ghost coded = { parts_code };
+    ghost coded = { opened_code };
 
     ghost view = { λ o. record {
       limits = o.config;

@@ -22,9 +22,9 @@ pub struct StagedSet<L: Hall> {
 }
 
 impl<L: Hall> Model for StagedSet<L> {
-    ghost use Rattle.rb_broker.specs.Publishers.{StagedBy, WithdrawsShown, staged_code};
+    ghost use Rattle.rb_broker.specs.Publishers.{StagedView, WithdrawsShown, staged_code};
 
-    ghost Value = { StagedBy };
+    ghost Value = { StagedView };
 
     ghost coded = { staged_code };
 

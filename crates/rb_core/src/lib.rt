@@ -20,7 +20,6 @@ mod withdrawing;
 mod world;
 
 pub use event::Event;
-pub use publisher::{Publisher, Staged};
 pub use rb_desk::{Config, ConfigFault, Delivery};
 pub use rb_sequence::{Entry, Item};
 pub use reply::{BrokerRefusal, Reply};

@@ -10,8 +10,8 @@ use Rattle.rb_sequence.specs.Items.{own_of, AreNumbered, CountsUp}
 abbrev pub CountsFrom : ℕ → List Item → Type 0
 CountsFrom n items = AreNumbered (λ (item : Item). item.own) n items
 
-abbrev pub Counts : List Item → Type 0
-Counts items = CountsFrom 1 items
+abbrev pub UpFromOne : List Item → Type 0
+UpFromOne items = CountsFrom 1 items
 
 pub own_append : (p : ℕ) (items more : List Item) → own_of p (items ++ more) ≡ own_of p items ++ own_of p more
 own_append p items more = filter-append (λ (i : Item). i.publisher == p) items more
@@ -41,12 +41,12 @@ pub numbered_more : (n : ℕ) (items : List Item) (x : Item) → CountsFrom n it
 numbered_more n [] x all own = (omega (arith, own), tt)
 numbered_more n (first ∷ items) x all own = (all.0, numbered_more (suc n) items x all.1 (omega (arith, own)))
 
-pub numbered_front : (n : ℕ) (items more : List Item) → CountsFrom n (items ++ more) → CountsFrom n items
-numbered_front n [] more all = tt
-numbered_front n (item ∷ items) more all = (all.0, numbered_front (suc n) items more all.1)
+pub own_numbers_front : (n : ℕ) (items more : List Item) → CountsFrom n (items ++ more) → CountsFrom n items
+own_numbers_front n [] more all = tt
+own_numbers_front n (item ∷ items) more all = (all.0, own_numbers_front (suc n) items more all.1)
 
 -- what was pulled is numbered, if all that was sent is
 pub numbered_pulled : (p : ℕ) (sent pulled waiting : List Item) → sent ≡ pulled ++ waiting → CountsUp p sent
     → CountsUp p pulled
-numbered_pulled p sent pulled waiting is all = numbered_front 1 (own_of p pulled) (own_of p waiting)
-    (subst Counts (ap (own_of p) is ∙ own_append p pulled waiting) all)
+numbered_pulled p sent pulled waiting is all = own_numbers_front 1 (own_of p pulled) (own_of p waiting)
+    (subst UpFromOne (ap (own_of p) is ∙ own_append p pulled waiting) all)

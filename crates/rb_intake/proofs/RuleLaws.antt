@@ -1,4 +1,4 @@
--- Each kind of step keeps the rule of the intake.
+-- EachPass kind of step keeps the rule of the intake.
 use Rattle.std.proofs.Common.{◌≡◌, ◌≢◌, ℕ, zero, suc, ◌+◌, ◌≤◌, List, [], ◌∷◌, ◌++◌, length, set, sym, refl, ap, ◌∙◌, subst, ⊎_elim, append_assoc, Option, Some, None, arith, inl, inr, ◌<◌}
 use Rattle.std.specs.List.{AllByRecursion}
 use Rattle.std.proofs.lemmas.Bool.Decides.{eqb_tells}
@@ -10,18 +10,18 @@ use Rattle.rb_sequence.specs.declared.item.Item.{Item}
 use Rattle.rb_sequence.specs.Items.{own_of, CountsUp}
 use Rattle.rb_intake.specs.declared.known.Known.{Known}
 use Rattle.rb_intake.specs.declared.known.Known.TheVariants.{Starts, Makes, Sends, Pulls, Spent}
-use Rattle.rb_intake.specs.Rule.{History, HasEnded, IsSo, Fits, Holds, made_one, newcomer, begun, maker, sent_one}
-use Rattle.rb_intake.specs.Rule.{pulled_one, joined, pulled_in, ended_in, IsPulledOr}
-use Rattle.rb_intake.proofs.Views.{Each, each_set, each_more, with_one, here, elsewhere, all_weaker, all_more}
-use Rattle.rb_intake.proofs.ItemLaws.{Counts, own_append, own_more, own_other, numbered_more, numbered_pulled}
+use Rattle.rb_intake.specs.Rule.{History, HasEnded, IsSo, FitsHistory, KeepsOrder, made_one, newcomer, sequencer_first, maker, sent_one}
+use Rattle.rb_intake.specs.Rule.{pulled_one, taken_in, pulled_in, ended_in, IsPulledOr}
+use Rattle.rb_intake.proofs.Views.{EachPass, each_pass_set, each_pass_more, with_seat, here, elsewhere, all_weaker, all_more}
+use Rattle.rb_intake.proofs.ItemLaws.{UpFromOne, own_append, own_more, own_other, numbered_more, numbered_pulled}
 
 -- ---- the first pass
 
 abbrev first_history : History
 first_history = record { sent = []; pulled = []; reader = 0; maker = 0; made = 0; pass_of = λ _. None }
 
-pub begins : Holds [] (Starts ∷ [])
-begins = (first_history, record {
+pub starts_in_order : KeepsOrder [] (Starts ∷ [])
+starts_in_order = (first_history, record {
   waits = refl;
   numbered = λ p. tt;
   later = λ p _. (refl, refl);
@@ -47,26 +47,26 @@ first_others h pass now so j (Sends p items) isnt was = was
 first_others h pass now so j (Pulls items ended) isnt was = absurd (isnt (was.0 ∙ sym so.0))
 first_others h pass now so j Spent isnt was = tt
 
-pub forks_first : (pass : ℕ) (v : Known) → v ≡ Starts → Forks Holds pass v (begun v) (maker v)
+pub forks_first : (pass : ℕ) (v : Known) → v ≡ Starts → Forks KeepsOrder pass v (sequencer_first v) (maker v)
 forks_first pass v is waiting views kept at =
     let h : History = kept.0 in
     let so : IsSo h pass Starts = kept.1.known pass Starts (at ∙ ap some is) in
     let vs : List Known = set views pass (Pulls [] []) in
     let new : History = record h { maker = length vs } in
     let none : [] ≡ h.pulled = nothing_before h.pulled waiting (sym so.3 ∙ kept.1.waits) in
-    let old : Each (IsSo new) vs = each_set (IsSo new) views pass (Pulls [] []) (so.0, none, tt)
+    let old : EachPass (IsSo new) vs = each_pass_set (IsSo new) views pass (Pulls [] []) (so.0, none, tt)
     (λ j u isnt e. first_others h pass (length vs) so j u isnt (kept.1.known j u e)) in
     (new, record {
       waits = kept.1.waits;
       numbered = kept.1.numbered;
       later = kept.1.later;
-      known = each_more (IsSo new) vs (Makes 0) old (refl, sym so.2);
+      known = each_pass_more (IsSo new) vs (Makes 0) old (refl, sym so.2);
     })
 
 -- ---- one more publisher
 
 make_others : (h : History) (pass now n : ℕ) → pass ≡ h.maker → n ≡ h.made → (j : ℕ) (u : Known) → j ≢ pass
-    → IsSo h j u → IsSo (record h { made = suc n; pass_of = with_one h.pass_of n (Some now) }) j u
+    → IsSo h j u → IsSo (record h { made = suc n; pass_of = with_seat h.pass_of n (Some now) }) j u
 make_others h pass now n is_maker made j Starts isnt was = absurd (isnt (was.1 ∙ sym is_maker))
 make_others h pass now n is_maker made j (Makes m) isnt was = absurd (isnt (was.0 ∙ sym is_maker))
 make_others h pass now n is_maker made j (Sends p items) isnt was = (
@@ -77,7 +77,7 @@ make_others h pass now n is_maker made j (Sends p items) isnt was = (
 make_others h pass now n is_maker made j (Pulls items ended) isnt was = (
   was.0,
   was.1,
-  all_weaker (HasEnded h) (HasEnded (record h { made = suc n; pass_of = with_one h.pass_of n (Some now) })) ended
+  all_weaker (HasEnded h) (HasEnded (record h { made = suc n; pass_of = with_seat h.pass_of n (Some now) })) ended
       (λ e ends. (
         elsewhere h.pass_of n e.0 (Some now) (λ same. omega (arith, same, made, ends.1)) ∙ ends.0,
         omega (arith, made, ends.1),
@@ -86,18 +86,18 @@ make_others h pass now n is_maker made j (Pulls items ended) isnt was = (
 )
 make_others h pass now n is_maker made j Spent isnt was = tt
 
-pub forks_make : (pass : ℕ) (v : Known) (n : ℕ) → v ≡ Makes n → Forks Holds pass v (made_one v) (newcomer v)
+pub forks_make : (pass : ℕ) (v : Known) (n : ℕ) → v ≡ Makes n → Forks KeepsOrder pass v (made_one v) (newcomer v)
 forks_make pass v n is waiting views kept at =
-    subst (λ (u : Known). Holds waiting (set views pass (made_one u) ++ newcomer u ∷ [])) (sym is) made
+    subst (λ (u : Known). KeepsOrder waiting (set views pass (made_one u) ++ newcomer u ∷ [])) (sym is) made
   where
-    made : Holds waiting (set views pass (Makes (suc n)) ++ Sends n [] ∷ [])
+    made : KeepsOrder waiting (set views pass (Makes (suc n)) ++ Sends n [] ∷ [])
     made =
         let h : History = kept.0 in
         let so : IsSo h pass (Makes n) = kept.1.known pass (Makes n) (at ∙ ap some is) in
         let vs : List Known = set views pass (Makes (suc n)) in
-        let new : History = record h { made = suc n; pass_of = with_one h.pass_of n (Some (length vs)) } in
+        let new : History = record h { made = suc n; pass_of = with_seat h.pass_of n (Some (length vs)) } in
         let none = kept.1.later n (omega (arith, so.1)) in
-        let old : Each (IsSo new) vs = each_set (IsSo new) views pass (Makes (suc n)) (so.0, refl)
+        let old : EachPass (IsSo new) vs = each_pass_set (IsSo new) views pass (Makes (suc n)) (so.0, refl)
         (λ j u isnt e. make_others h pass (length vs) n so.0 so.1 j u isnt (kept.1.known j u e)) in
         (new, record {
           waits = kept.1.waits;
@@ -107,7 +107,7 @@ forks_make pass v n is waiting views kept at =
             ∙ (kept.1.later p (omega (arith, above, so.1))).0,
             (kept.1.later p (omega (arith, above, so.1))).1,
           );
-          known = each_more (IsSo new) vs (Sends n []) old
+          known = each_pass_more (IsSo new) vs (Sends n []) old
               (here h.pass_of n (Some (length vs)), sym none.1, omega arith);
         })
 
@@ -138,18 +138,18 @@ numbered_after : (h : History) (p : ℕ) (x : Item) → x.publisher ≡ p → x.
     → ((q : ℕ) → CountsUp q h.sent) → (q : ℕ) → CountsUp q (h.sent ++ x ∷ [])
 numbered_after h p x is own all q = elim (eqb_tells p q) as (λ w. CountsUp q (h.sent ++ x ∷ [])) [
   | inl same ↦
-      subst Counts (sym (own_more q h.sent x (is ∙ same.1)))
+      subst UpFromOne (sym (own_more q h.sent x (is ∙ same.1)))
       (numbered_more 1 (own_of q h.sent) x (all q)
       (let at = own ∙ ap (λ r. suc (length (own_of r h.sent))) same.1 in omega (arith, at)))
-  | inr other ↦ subst Counts (sym (own_other q h.sent x (λ e. other.1 (sym is ∙ e)))) (all q)
+  | inr other ↦ subst UpFromOne (sym (own_other q h.sent x (λ e. other.1 (sym is ∙ e)))) (all q)
 ]
 
-pub pushes : (room pass : ℕ) (v : Known) (x : Item) (p : ℕ) (items : List Item) → v ≡ Sends p items → x.publisher ≡ p
-    → x.own ≡ suc (length items) → Pushes Holds room pass v x (λ w. w ≡ sent_one v x)
-pushes room pass v x p items is mine own waiting views _ kept at =
+pub push_keeps : (room pass : ℕ) (v : Known) (x : Item) (p : ℕ) (items : List Item) → v ≡ Sends p items → x.publisher ≡ p
+    → x.own ≡ suc (length items) → Pushes KeepsOrder room pass v x (λ w. w ≡ sent_one v x)
+push_keeps room pass v x p items is mine own waiting views _ kept at =
     (Sends p (items ++ x ∷ []), pushed, ap (λ u. sent_one u x) (sym is))
   where
-    pushed : Holds (waiting ++ x ∷ []) (set views pass (Sends p (items ++ x ∷ [])))
+    pushed : KeepsOrder (waiting ++ x ∷ []) (set views pass (Sends p (items ++ x ∷ [])))
     pushed =
         let h : History = kept.0 in
         let so : IsSo h pass (Sends p items) = kept.1.known pass (Sends p items) (at ∙ ap some is) in
@@ -161,7 +161,7 @@ pushes room pass v x p items is mine own waiting views _ kept at =
             (kept.1.later q above).0,
             own_other q h.sent x (λ e. omega (arith, e, mine, so.2, above)) ∙ (kept.1.later q above).1,
           );
-          known = each_set (IsSo new) views pass (Sends p (items ++ x ∷ []))
+          known = each_pass_set (IsSo new) views pass (Sends p (items ++ x ∷ []))
               (so.0, ap (λ l. l ++ x ∷ []) so.1 ∙ sym (own_more p h.sent x mine), so.2)
               (λ j u isnt e. push_others h pass p x so.0 so.2 mine j u isnt (kept.1.known j u e));
         })
@@ -176,9 +176,9 @@ pull_others h pass x reader j (Sends q items) isnt was = was
 pull_others h pass x reader j (Pulls items ended) isnt was = absurd (isnt (was.0 ∙ sym reader))
 pull_others h pass x reader j Spent isnt was = tt
 
-pub pulls : (pass : ℕ) (v : Known) (items : List Item) (ended : List (ℕ × List Item)) → v ≡ Pulls items ended
-    → Pops Holds pass v (λ x w. (w ≡ pulled_one v x) × ((p : ℕ) → CountsUp p (pulled_in w)))
-pulls pass v items ended is x waiting views kept at =
+pub pop_keeps : (pass : ℕ) (v : Known) (items : List Item) (ended : List (ℕ × List Item)) → v ≡ Pulls items ended
+    → Pops KeepsOrder pass v (λ x w. (w ≡ pulled_one v x) × ((p : ℕ) → CountsUp p (pulled_in w)))
+pop_keeps pass v items ended is x waiting views kept at =
     let h : History = kept.0 in
     let so : IsSo h pass (Pulls items ended) = kept.1.known pass (Pulls items ended) (at ∙ ap some is) in
     let new : History = record h { pulled = h.pulled ++ x ∷ [] } in
@@ -190,7 +190,7 @@ pulls pass v items ended is x waiting views kept at =
         waits = flows;
         numbered = kept.1.numbered;
         later = kept.1.later;
-        known = each_set (IsSo new) views pass (Pulls (items ++ x ∷ []) ended) (so.0, grown, so.2)
+        known = each_pass_set (IsSo new) views pass (Pulls (items ++ x ∷ []) ended) (so.0, grown, so.2)
             (λ j u isnt e. pull_others h pass x so.0 j u isnt (kept.1.known j u e));
       }),
       (
@@ -200,9 +200,9 @@ pulls pass v items ended is x waiting views kept at =
       ),
     )
 
--- at any moment, what a joined publisher sent was pulled or waits
+-- at any moment, what a taken_in publisher sent was pulled or waits
 pub learns : (pass : ℕ) (v : Known) (items : List Item) (ended : List (ℕ × List Item)) → v ≡ Pulls items ended
-    → Learns Holds pass v (λ waiting. AllByRecursion (IsPulledOr (pulled_in v) waiting) (ended_in v))
+    → Learns KeepsOrder pass v (λ waiting. AllByRecursion (IsPulledOr (pulled_in v) waiting) (ended_in v))
 learns pass v items ended is waiting views kept at =
     subst (λ u. AllByRecursion (IsPulledOr (pulled_in u) waiting) (ended_in u)) (sym is) learned
   where
@@ -213,10 +213,10 @@ learns pass v items ended is waiting views kept at =
         all_weaker (HasEnded h) (IsPulledOr items waiting) ended
         (λ e ends. ends.2 ∙ ap (own_of e.0) (kept.1.waits ∙ ap (λ l. l ++ waiting) (sym so.1))) so.2
 
--- ---- a publisher's pass is joined
+-- ---- a publisher's pass is taken_in
 
 join_others : (h : History) (pass other p : ℕ) → pass ≡ h.reader → h.pass_of p ≡ Some other → (j : ℕ) (u : Known)
-    → j ≢ pass → j ≢ other → IsSo h j u → IsSo (record h { pass_of = with_one h.pass_of p None }) j u
+    → j ≢ pass → j ≢ other → IsSo h j u → IsSo (record h { pass_of = with_seat h.pass_of p None }) j u
 join_others h pass other p reader theirs j Starts isnt apart was = was
 join_others h pass other p reader theirs j (Makes m) isnt apart was = was
 join_others h pass other p reader theirs j (Sends q items) isnt apart was =
@@ -225,23 +225,23 @@ join_others h pass other p reader theirs j (Pulls items ended) isnt apart was = 
 join_others h pass other p reader theirs j Spent isnt apart was = tt
 
 pub merges : (pass : ℕ) (v : Known) (other : ℕ) (w : Known) (items : List Item) (ended : List (ℕ × List Item)) (p : ℕ)
-    (sent : List Item) → v ≡ Pulls items ended → w ≡ Sends p sent → Merges Holds pass v other w (joined v w) Spent
+    (sent : List Item) → v ≡ Pulls items ended → w ≡ Sends p sent → Merges KeepsOrder pass v other w (taken_in v w) Spent
 merges pass v other w items ended p sent is is' waiting views kept at two at' =
-    subst (λ (u : Known). Holds waiting (set (set views pass u) other Spent)) (λ i. joined (sym is i) (sym is' i)) merged
+    subst (λ (u : Known). KeepsOrder waiting (set (set views pass u) other Spent)) (λ i. taken_in (sym is i) (sym is' i)) merged
   where
-    merged : Holds waiting (set (set views pass (Pulls items (ended ++ (p, sent) ∷ []))) other Spent)
+    merged : KeepsOrder waiting (set (set views pass (Pulls items (ended ++ (p, sent) ∷ []))) other Spent)
     merged =
         let h : History = kept.0 in
         let both : Known = Pulls items (ended ++ (p, sent) ∷ []) in
         let so : IsSo h pass (Pulls items ended) = kept.1.known pass (Pulls items ended) (at ∙ ap some is) in
         let was : get_elem? views other ≡ some w =
-        ⊎_elim (λ x. absurd (two x.0)) (λ x. x.1) (at_set views pass other (joined v w) w at') in
+        ⊎_elim (λ x. absurd (two x.0)) (λ x. x.1) (at_set views pass other (taken_in v w) w at') in
         let theirs : IsSo h other (Sends p sent) = kept.1.known other (Sends p sent) (was ∙ ap some is') in
-        let new : History = record h { pass_of = with_one h.pass_of p None } in
+        let new : History = record h { pass_of = with_seat h.pass_of p None } in
         let ends : AllByRecursion (HasEnded new) ended = all_weaker (HasEnded h) (HasEnded new) ended
         (λ e x. (elsewhere h.pass_of p e.0 None (λ same. absurd (cc (x.0, theirs.0, same))) ∙ x.0, x.1, x.2)) so.2 in
-        let now : Each (λ j u. j ≢ other → IsSo new j u) (set views pass both) =
-        each_set (λ j u. j ≢ other → IsSo new j u) views pass both
+        let now : EachPass (λ j u. j ≢ other → IsSo new j u) (set views pass both) =
+        each_pass_set (λ j u. j ≢ other → IsSo new j u) views pass both
         (λ _. (so.0, so.1, all_more (HasEnded new) ended (p, sent) ends
         (here h.pass_of p None, theirs.2, theirs.1)))
         (λ j u isnt e apart. join_others h pass other p so.0 theirs.0 j u isnt apart (kept.1.known j u e)) in
@@ -252,5 +252,5 @@ merges pass v other w items ended p sent is is' waiting views kept at two at' =
             elsewhere h.pass_of p q None (λ e. omega (arith, e, theirs.2, above)) ∙ (kept.1.later q above).0,
             (kept.1.later q above).1,
           );
-          known = each_set (IsSo new) (set views pass both) other Spent tt (λ j u apart e. now j u e apart);
+          known = each_pass_set (IsSo new) (set views pass both) other Spent tt (λ j u apart e. now j u e apart);
         })

@@ -8,12 +8,12 @@ use Rattle.crossbeam_queue.proofs.Lists.{at_set}
 use Rattle.rb_intake.specs.declared.known.Known.{Known}
 
 -- each view fits its place
-abbrev pub Each : (ℕ → Known → Type 0) → List Known → Type 0
-Each Is views = (pass : ℕ) (v : Known) → get_elem? views pass ≡ some v → Is pass v
+abbrev pub EachPass : (ℕ → Known → Type 0) → List Known → Type 0
+EachPass Is views = (pass : ℕ) (v : Known) → get_elem? views pass ≡ some v → Is pass v
 
-pub each_set : (Is : ℕ → Known → Type 0) (views : List Known) (pass : ℕ) (w : Known) → Is pass w
-    → ((j : ℕ) (u : Known) → j ≢ pass → get_elem? views j ≡ some u → Is j u) → Each Is (set views pass w)
-each_set Is views pass w mine others j u e =
+pub each_pass_set : (Is : ℕ → Known → Type 0) (views : List Known) (pass : ℕ) (w : Known) → Is pass w
+    → ((j : ℕ) (u : Known) → j ≢ pass → get_elem? views j ≡ some u → Is j u) → EachPass Is (set views pass w)
+each_pass_set Is views pass w mine others j u e =
     ⊎_elim (λ (x : (j ≡ pass) × (w ≡ u)). subst (λ (y : ℕ × Known). Is y.0 y.1) (λ i. (sym x.0 i, x.1 i)) mine)
     (λ (x : (j ≢ pass) × (get_elem? views j ≡ some u)). others j u x.0 x.1) (at_set views pass j w u e)
 
@@ -24,26 +24,26 @@ at_more [] a b (suc j) e = absurd (some-ne-none b (sym e))
 at_more (x ∷ views) a b zero e = inl e
 at_more (x ∷ views) a b (suc j) e = ⊎_elim (λ t. inl t) (λ t. inr (ap suc t.0, t.1)) (at_more views a b j e)
 
-pub each_more : (Is : ℕ → Known → Type 0) (views : List Known) (a : Known) → Each Is views → Is (length views) a
-    → Each Is (views ++ a ∷ [])
-each_more Is views a all last j u e =
+pub each_pass_more : (Is : ℕ → Known → Type 0) (views : List Known) (a : Known) → EachPass Is views → Is (length views) a
+    → EachPass Is (views ++ a ∷ [])
+each_pass_more Is views a all last j u e =
     ⊎_elim (λ (x : get_elem? views j ≡ some u). all j u x)
     (λ (x : (j ≡ length views) × (a ≡ u)). subst (λ (y : ℕ × Known). Is y.0 y.1) (λ i. (sym x.0 i, x.1 i)) last)
     (at_more views a u j e)
 
 -- ---- a map with one new value
 
-abbrev pub with_one : (ℕ → Option ℕ) → ℕ → Option ℕ → ℕ → Option ℕ
-with_one f p o q = cond (p == q) o (f q)
+abbrev pub with_seat : (ℕ → Option ℕ) → ℕ → Option ℕ → ℕ → Option ℕ
+with_seat f p o q = cond (p == q) o (f q)
 
-pub here : (f : ℕ → Option ℕ) (p : ℕ) (o : Option ℕ) → with_one f p o p ≡ o
-here f p o = elim (eqb_tells p p) as (λ w. with_one f p o p ≡ o) [
+pub here : (f : ℕ → Option ℕ) (p : ℕ) (o : Option ℕ) → with_seat f p o p ≡ o
+here f p o = elim (eqb_tells p p) as (λ w. with_seat f p o p ≡ o) [
   | inl same ↦ ap (λ b. cond b o (f p)) same.0
   | inr other ↦ absurd (other.1 refl)
 ]
 
-pub elsewhere : (f : ℕ → Option ℕ) (p q : ℕ) (o : Option ℕ) → p ≢ q → with_one f p o q ≡ f q
-elsewhere f p q o isnt = elim (eqb_tells p q) as (λ w. with_one f p o q ≡ f q) [
+pub elsewhere : (f : ℕ → Option ℕ) (p q : ℕ) (o : Option ℕ) → p ≢ q → with_seat f p o q ≡ f q
+elsewhere f p q o isnt = elim (eqb_tells p q) as (λ w. with_seat f p o q ≡ f q) [
   | inl same ↦ absurd (isnt same.1)
   | inr other ↦ ap (λ b. cond b o (f q)) other.0
 ]

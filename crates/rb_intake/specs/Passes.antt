@@ -24,13 +24,13 @@ pub record PublisherKnows : Type 0 where
   pub sent : List Item
 
 -- the sequencer's pass: its queue, what it pulled, in order, and the publishers whose passes it
--- joined, each with what it sent
+-- taken_in, each with what it sent
 pub record SequencerKnows : Type 0 where
   pub queue : TableId
   pub pulled : List Item
   pub ended : List (ℕ × List Item)
 
--- what each joined publisher sent was pulled
+-- what each taken_in publisher sent was pulled
 abbrev pub IsAllPulled : SequencerKnows → Type 0
 IsAllPulled p = AllByRecursion (λ e. e.1 ≡ own_of e.0 p.pulled) p.ended
 
@@ -42,18 +42,18 @@ abbrev pub intake_code : Coded IntakeSeen
 intake_code = code_by (TableId × ℕ) (coded× table_id_coded coded_ℕ) (λ l. (l.queue, l.capacity))
     (λ p. record { queue = p.0; capacity = p.1 }) (λ _. refl)
 
-abbrev pub maker_code : Coded MakerKnows
-maker_code = code_by (TableId × ℕ) (coded× table_id_coded coded_ℕ) (λ l. (l.queue, l.made))
+abbrev pub maker_knows_code : Coded MakerKnows
+maker_knows_code = code_by (TableId × ℕ) (coded× table_id_coded coded_ℕ) (λ l. (l.queue, l.made))
     (λ p. record { queue = p.0; made = p.1 }) (λ _. refl)
 
-abbrev pub publisher_code : Coded PublisherKnows
-publisher_code = code_by (TableId × (ℕ × List Item))
+abbrev pub publisher_knows_code : Coded PublisherKnows
+publisher_knows_code = code_by (TableId × (ℕ × List Item))
     (coded× table_id_coded (coded× coded_ℕ items_code))
     (λ s. (s.queue, (s.publisher, s.sent)))
     (λ p. record { queue = p.0; publisher = p.1.0; sent = p.1.1 }) (λ _. refl)
 
-abbrev pub sequencer_code : Coded SequencerKnows
-sequencer_code = code_by (TableId × (List Item × List (ℕ × List Item)))
+abbrev pub sequencer_knows_code : Coded SequencerKnows
+sequencer_knows_code = code_by (TableId × (List Item × List (ℕ × List Item)))
     (coded× table_id_coded (coded× items_code (coded_list (coded× coded_ℕ items_code))))
     (λ s. (s.queue, (s.pulled, s.ended)))
     (λ p. record { queue = p.0; pulled = p.1.0; ended = p.1.1 }) (λ _. refl)

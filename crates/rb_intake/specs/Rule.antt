@@ -20,7 +20,7 @@ pub record History : Type 0 where
   pub made : ℕ
   pub pass_of : ℕ → Option ℕ
 
--- a publisher whose pass was joined sends nothing more, and what it sent is known
+-- a publisher whose pass was taken_in sends nothing more, and what it sent is known
 abbrev pub HasEnded : History → ℕ × List Item → Type 0
 HasEnded h e = (h.pass_of e.0 ≡ None) × (e.0 < h.made) × (e.1 ≡ own_of e.0 h.sent)
 
@@ -33,16 +33,16 @@ IsSo h pass (Pulls items ended) = (pass ≡ h.reader) × (items ≡ h.pulled)
     × AllByRecursion (HasEnded h) ended
 IsSo h pass Spent = Unit {0}
 
--- What was sent is what was pulled, then what waits. Each publisher's own numbers count from 1.
+-- What was sent is what was pulled, then what waits. EachPass publisher's own numbers count from 1.
 -- Nobody sends under a number that wasn't given out. What each pass knows is so.
-pub record Fits (h : History) (waiting : List Item) (views : List Known) : Type 0 where
+pub record FitsHistory (h : History) (waiting : List Item) (views : List Known) : Type 0 where
   pub waits : h.sent ≡ h.pulled ++ waiting
   pub numbered : (p : ℕ) → CountsUp p h.sent
   pub later : (p : ℕ) → h.made ≤ p → (h.pass_of p ≡ None) × (own_of p h.sent ≡ [])
   pub known : (pass : ℕ) (v : Known) → get_elem? views pass ≡ some v → IsSo h pass v
 
-abbrev pub Holds : List Item → List Known → Type 0
-Holds waiting views = (h : History) × Fits h waiting views
+abbrev pub KeepsOrder : List Item → List Known → Type 0
+KeepsOrder waiting views = (h : History) × FitsHistory h waiting views
 
 -- ---- what the kinds of step do to what a pass knows
 
@@ -56,8 +56,8 @@ newcomer (Makes n) = Sends n []
 newcomer v = Spent
 
 -- the first pass becomes the sequencer's, and another the maker's
-abbrev pub begun : Known → Known
-begun v = Pulls [] []
+abbrev pub sequencer_first : Known → Known
+sequencer_first v = Pulls [] []
 
 abbrev pub maker : Known → Known
 maker v = Makes 0
@@ -72,9 +72,9 @@ pulled_one (Pulls items ended) x = Pulls (items ++ x ∷ []) ended
 pulled_one v x = v
 
 -- the sequencer's pass joins a publisher's
-abbrev pub joined : Known → Known → Known
-joined (Pulls items ended) (Sends p sent) = Pulls items (ended ++ (p, sent) ∷ [])
-joined v w = v
+abbrev pub taken_in : Known → Known → Known
+taken_in (Pulls items ended) (Sends p sent) = Pulls items (ended ++ (p, sent) ∷ [])
+taken_in v w = v
 
 -- ---- what a pass knows, in parts
 
@@ -90,6 +90,6 @@ abbrev pub ended_in : Known → List (ℕ × List Item)
 ended_in (Pulls items ended) = ended
 ended_in v = []
 
--- what a joined publisher sent was pulled or waits
+-- what a taken_in publisher sent was pulled or waits
 abbrev pub IsPulledOr : List Item → List Item → ℕ × List Item → Type 0
 IsPulledOr pulled waiting e = e.1 ≡ own_of e.0 (pulled ++ waiting)

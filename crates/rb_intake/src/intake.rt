@@ -98,11 +98,11 @@ impl Intake {
         Ok(())
     }
 
-    /// Pulls the item that waits first. Each publisher's own numbers count from 1 in what was
+    /// Pulls the item that waits first. EachPass publisher's own numbers count from 1 in what was
     /// pulled.
     ///
     /// Returns `None` if the intake was empty at one moment of the call. What the publishers sent
-    /// whose passes were joined is all pulled then.
+    /// whose passes were taken_in is all pulled then.
     pub fn pop<R: Wait>(&self, rt: &R, pass: &mut SequencerPass) -> Option<Item>
         requires queue { pass.old.queue ≡ self.now.queue }
         ensures item { MatchOption result ((pass.new ≡ pass.old) × IsAllPulled pass.new)

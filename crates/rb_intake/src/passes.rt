@@ -16,12 +16,12 @@ pub struct MakerPass {
 impl Model for MakerPass {
     ghost use Rattle.std.specs.Prelude.{◌≡◌, []};
     ghost use Rattle.crossbeam_queue.specs.Passes.{view as known};
-    ghost use Rattle.rb_intake.specs.Passes.{MakerKnows, maker_code};
+    ghost use Rattle.rb_intake.specs.Passes.{MakerKnows, maker_knows_code};
     ghost use Rattle.rb_intake.specs.declared.known.Known.TheVariants.{Makes};
 
     ghost Value = { MakerKnows };
 
-    ghost coded = { maker_code };
+    ghost coded = { maker_knows_code };
 
     ghost view = { λ p. record { queue = p.seat.table_id; made = p.made } };
 
@@ -48,13 +48,13 @@ pub struct PublisherPass {
 impl Model for PublisherPass {
     ghost use Rattle.std.specs.Prelude.{◌≡◌, length, []};
     ghost use Rattle.crossbeam_queue.specs.Passes.{view as known};
-    ghost use Rattle.rb_intake.specs.Passes.{PublisherKnows, publisher_code};
+    ghost use Rattle.rb_intake.specs.Passes.{PublisherKnows, publisher_knows_code};
     ghost use Rattle.rb_intake.specs.Rule.{sent_in};
     ghost use Rattle.rb_intake.specs.declared.known.Known.TheVariants.{Sends};
 
     ghost Value = { PublisherKnows };
 
-    ghost coded = { publisher_code };
+    ghost coded = { publisher_knows_code };
 
     ghost view = { λ p. record {
       queue = p.seat.table_id;
@@ -92,14 +92,14 @@ pub struct SequencerPass {
 impl Model for SequencerPass {
     ghost use Rattle.std.specs.Prelude.{◌≡◌, ℕ, []};
     ghost use Rattle.crossbeam_queue.specs.Passes.{view as known};
-    ghost use Rattle.rb_intake.specs.Passes.{SequencerKnows, sequencer_code};
+    ghost use Rattle.rb_intake.specs.Passes.{SequencerKnows, sequencer_knows_code};
     ghost use Rattle.rb_intake.specs.Rule.{pulled_in, ended_in};
     ghost use Rattle.rb_intake.specs.declared.known.Known.TheVariants.{Pulls};
     ghost use Rattle.rb_sequence.specs.Items.{CountsUp};
 
     ghost Value = { SequencerKnows };
 
-    ghost coded = { sequencer_code };
+    ghost coded = { sequencer_knows_code };
 
     ghost view = { λ p. record {
       queue = p.seat.table_id;

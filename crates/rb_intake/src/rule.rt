@@ -9,10 +9,10 @@ use rb_sequence::Item;
 pub(crate) struct InOrder;
 
 impl Protocol<Item, Known> for InOrder {
-    ghost use Rattle.rb_intake.specs.Rule.{Holds};
+    ghost use Rattle.rb_intake.specs.Rule.{KeepsOrder};
     ghost use Rattle.rb_intake.specs.declared.known.Known.TheVariants.{Starts};
 
-    ghost holds = { Holds };
+    ghost holds = { KeepsOrder };
 
     ghost first = { Starts };
 }
@@ -21,9 +21,9 @@ impl Protocol<Item, Known> for InOrder {
 pub(crate) struct Begin;
 
 impl Split<Known> for Begin {
-    ghost use Rattle.rb_intake.specs.Rule.{begun, maker};
+    ghost use Rattle.rb_intake.specs.Rule.{sequencer_first, maker};
 
-    ghost left = { begun };
+    ghost left = { sequencer_first };
 
     ghost right = { maker };
 }
@@ -43,15 +43,15 @@ impl Split<Known> for Make {
 pub(crate) struct TakeIn;
 
 impl Join<Known> for TakeIn {
-    ghost use Rattle.rb_intake.specs.Rule.{joined};
+    ghost use Rattle.rb_intake.specs.Rule.{taken_in};
     ghost use Rattle.rb_intake.specs.declared.known.Known.TheVariants.{Spent};
 
-    ghost both = { joined };
+    ghost both = { taken_in };
 
     ghost spent = { Spent };
 }
 
-/// A publisher pushes an item, or finds the queue full.
+/// A publisher push_keeps an item, or finds the queue full.
 pub(crate) struct Push;
 
 impl Outcome<Item, Known> for Push {
@@ -67,8 +67,8 @@ impl Lesson<Item, Known> for Push {
     ghost fact = { λ v items. ⊤ };
 }
 
-/// The sequencer pops an item, or finds the queue empty. Each publisher's own numbers count from 1
-/// in what it pulled, and what the joined publishers sent was pulled or waits.
+/// The sequencer pops an item, or finds the queue empty. EachPass publisher's own numbers count from 1
+/// in what it pulled, and what the taken_in publishers sent was pulled or waits.
 pub(crate) struct Pop;
 
 impl Outcome<Item, Known> for Pop {

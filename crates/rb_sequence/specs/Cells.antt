@@ -15,7 +15,7 @@ pub record Cells : Type 0 where
 
 -- What a token shows for good: the cell of this number holds this entry. The cell is named by its
 -- bucket, the name of the bucket's shelf, and its own name.
-pub record Seen : Type 0 where
+pub record CellToken : Type 0 where
   pub number : ℕ
   pub entry : Entry
   pub bucket : ℕ
@@ -23,17 +23,17 @@ pub record Seen : Type 0 where
   pub cell : ℕ
 
 -- What a token of a closing cell shows for good: the sequence is closed after this number.
-pub record SeenLast : Type 0 where
+pub record LastToken : Type 0 where
   pub last : ℕ
   pub cell : ℕ
 
 -- the token is of a cell of this sequence
-abbrev pub IsTold : Cells → Seen → Type 0
-IsTold s t = t.shelf ≡ id_at s.shelves.buckets t.bucket
+abbrev pub IsTokenOf : Cells → CellToken → Type 0
+IsTokenOf s t = t.shelf ≡ id_at s.shelves.buckets t.bucket
 
 -- the token is of this sequence's closing cell
-abbrev pub IsToldLast : Cells → SeenLast → Type 0
-IsToldLast s t = t.cell ≡ s.closing
+abbrev pub IsLastToken : Cells → LastToken → Type 0
+IsLastToken s t = t.cell ≡ s.closing
 
 -- a sequence has a cell for this number
 abbrev pub HasCell : Cells → ℕ → Type 0
@@ -51,8 +51,8 @@ cells_code = code_by (ℕ × (Shelves × ℕ)) (coded× coded_ℕ (coded× shelv
     (λ p. record { capacity = p.0; shelves = p.1.0; closing = p.1.1 })
     (λ _. refl)
 
-abbrev pub seen_code : Coded Seen
-seen_code = code_by (ℕ × (Entry × (ℕ × (ℕ × ℕ))))
+abbrev pub token_code : Coded CellToken
+token_code = code_by (ℕ × (Entry × (ℕ × (ℕ × ℕ))))
     (coded× coded_ℕ (coded× entry_code (coded× coded_ℕ (coded× coded_ℕ coded_ℕ))))
     (λ t. (t.number, (t.entry, (t.bucket, (t.shelf, t.cell)))))
     (λ p. record {
@@ -64,6 +64,6 @@ seen_code = code_by (ℕ × (Entry × (ℕ × (ℕ × ℕ))))
     })
     (λ _. refl)
 
-abbrev pub last_code : Coded SeenLast
-last_code = code_by (ℕ × ℕ) (coded× coded_ℕ coded_ℕ) (λ t. (t.last, t.cell))
+abbrev pub last_token_code : Coded LastToken
+last_token_code = code_by (ℕ × ℕ) (coded× coded_ℕ coded_ℕ) (λ t. (t.last, t.cell))
     (λ p. record { last = p.0; cell = p.1 }) (λ _. refl)

@@ -1,7 +1,7 @@
 //! `Sequence`: write-once cells, one for each number, which any thread reads without waiting.
 
 ghost use Rattle.std.specs.Prelude.{◌≡◌, ◌≤◌, IfOk, IfErr, IfSome};
-ghost use Rattle.rb_sequence.specs.Cells.{HandsBack, HasCell, IsTold, IsToldLast};
+ghost use Rattle.rb_sequence.specs.Cells.{HandsBack, HasCell, IsTokenOf, IsLastToken};
 
 use crate::entry::Entry;
 use crate::told::{HoldsAny, HoldsItsNumber, Told, ToldLast};
@@ -76,7 +76,7 @@ impl Sequence {
         entry: Entry,
     ) -> Result<Told, FillError<Entry>>
         requires { HasCell self.now entry.number }
-        ensures ok { IfOk result (λ told. IsTold self.now told × (told.entry ≡ entry)
+        ensures ok { IfOk result (λ told. IsTokenOf self.now told × (told.entry ≡ entry)
             × (told.number ≡ entry.number)) }
         ensures err { IfErr result (HandsBack entry) }
     {
@@ -105,7 +105,7 @@ impl Sequence {
 
     /// A token of the cell with this number, if it is set.
     pub fn tell(&self, number: u64) -> Option<Told>
-        ensures { IfSome result (λ told. IsTold self.now told × (told.number ≡ number)) }
+        ensures { IfSome result (λ told. IsTokenOf self.now told × (told.number ≡ number)) }
     {
         let index = number.checked_sub(1)?;
         let placed = self.cells.witness(index as usize)?;
@@ -115,7 +115,7 @@ impl Sequence {
 
     /// The entry that a token shows.
     pub fn get_told<'a>(&'a self, told: &Told) -> &'a Entry
-        requires { IsTold self.now told.now }
+        requires { IsTokenOf self.now told.now }
         ensures { result.now ≡ told.now.entry }
     {
         self.cells.value(&told.placed).as_ref()
@@ -123,8 +123,8 @@ impl Sequence {
 
     /// Two tokens of one number show one entry. Does nothing else.
     pub fn same(&self, first: &Told, second: &Told)
-        requires first { IsTold self.now first.now }
-        requires second { IsTold self.now second.now }
+        requires first { IsTokenOf self.now first.now }
+        requires second { IsTokenOf self.now second.now }
         requires number { first.now.number ≡ second.now.number }
         ensures { first.now.entry ≡ second.now.entry }
     {
@@ -135,7 +135,7 @@ impl Sequence {
     ///
     /// Returns the number if the cell is set, or another thread sets it.
     pub fn fill_closing(&self, last: u64) -> Result<ToldLast, u64>
-        ensures ok { IfOk result (λ told. IsToldLast self.now told × (told.last ≡ last)) }
+        ensures ok { IfOk result (λ told. IsLastToken self.now told × (told.last ≡ last)) }
         ensures err { IfErr result (λ number. number ≡ last) }
     {
         let written = self.closing.set_written(last)?;
@@ -144,7 +144,7 @@ impl Sequence {
 
     /// A token of the closing cell, if it is set.
     pub fn closing(&self) -> Option<ToldLast>
-        ensures { IfSome result (λ told. IsToldLast self.now told) }
+        ensures { IfSome result (λ told. IsLastToken self.now told) }
     {
         let written = self.closing.witness()?;
         let last = *self.closing.value(&written);

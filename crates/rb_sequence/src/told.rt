@@ -37,11 +37,11 @@ pub struct Told {
 
 impl Model for Told {
     ghost use Rattle.std.specs.Prelude.{◌≡◌, suc};
-    ghost use Rattle.rb_sequence.specs.Cells.{Seen, seen_code};
+    ghost use Rattle.rb_sequence.specs.Cells.{CellToken, token_code};
 
-    ghost Value = { Seen };
+    ghost Value = { CellToken };
 
-    ghost coded = { seen_code };
+    ghost coded = { token_code };
 
     ghost view = { λ t. record {
       number = t.number;
@@ -84,11 +84,11 @@ pub struct ToldLast {
 
 impl Model for ToldLast {
     ghost use Rattle.std.specs.Prelude.{◌≡◌};
-    ghost use Rattle.rb_sequence.specs.Cells.{SeenLast, last_code};
+    ghost use Rattle.rb_sequence.specs.Cells.{LastToken, last_token_code};
 
-    ghost Value = { SeenLast };
+    ghost Value = { LastToken };
 
-    ghost coded = { last_code };
+    ghost coded = { last_token_code };
 
     ghost view = { λ t. record { last = t.last; cell = t.written.of } };
 

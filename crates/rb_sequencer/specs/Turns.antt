@@ -3,7 +3,7 @@ use Rattle.std.specs.Prelude.{◌≡◌, ℕ, zero, suc, List, [], ◌∷◌, �
 use Rattle.std.specs.Prelude.{slice_get, ◌⊎◌, refl}
 use Rattle.std.specs.Coded.{Coded, code_by, coded×, coded_list, coded_option, coded_ℕ}
 use Rattle.std.specs.List.{AllByRecursion}
-use Rattle.rb_sequence.specs.Cells.{Cells, Seen, IsTold, seen_code}
+use Rattle.rb_sequence.specs.Cells.{Cells, CellToken, IsTokenOf, token_code}
 use Rattle.rb_sequence.specs.Items.{own_of}
 use Rattle.rb_sequence.specs.contracts.item.Item as item
 use Rattle.rb_sequence.specs.declared.item.Item.{Item}
@@ -16,11 +16,11 @@ use Rattle.rb_sequencer.specs.declared.turn.Turn.TheVariants.{Placed, Idle, Refu
 -- what it sent.
 pub record SequencerState : Type 0 where
   pub pulled : List Item
-  pub placed : List Seen
+  pub placed : List CellToken
   pub hand : Option Item
   pub ended : List (ℕ × List Item)
 
-abbrev pub items_placed : List Seen → List Item
+abbrev pub items_placed : List CellToken → List Item
 items_placed tokens = map (λ t. t.entry.item) tokens
 
 abbrev pub in_hand : Option Item → List Item
@@ -28,13 +28,13 @@ in_hand None = []
 in_hand (Some item) = item ∷ []
 
 -- each token is of this sequence, and shows the entry of the next number, from n
-abbrev pub AreInCells : Cells → ℕ → List Seen → Type 0
+abbrev pub AreInCells : Cells → ℕ → List CellToken → Type 0
 AreInCells cells n [] = Unit {0}
-AreInCells cells n (t ∷ rest) = IsTold cells t × (t.number ≡ n) × (t.entry.number ≡ n)
+AreInCells cells n (t ∷ rest) = IsTokenOf cells t × (t.number ≡ n) × (t.entry.number ≡ n)
     × AreInCells cells (suc n) rest
 
 -- the token of the entry with this number, if it is placed
-abbrev pub token_of : List Seen → ℕ → Option Seen
+abbrev pub token_of : List CellToken → ℕ → Option CellToken
 token_of tokens zero = None
 token_of tokens (suc place) = slice_get tokens place
 
@@ -46,19 +46,19 @@ TakesUp None old new = (x : Item)
 
 -- What a turn does. The item in hand, which it may have taken up, becomes an entry, whose number is
 -- one more than that of the entry before; or nothing waits; or the item stays in hand.
-abbrev pub Turns : Cells → SequencerState → SequencerState → Turn → Type 0
-Turns cells old new (Placed told) = (mid : SequencerState) × TakesUp old.hand old mid
-    × (mid.hand ≡ Some told.entry.item) × IsTold cells told
+abbrev pub IsTurn : Cells → SequencerState → SequencerState → Turn → Type 0
+IsTurn cells old new (Placed told) = (mid : SequencerState) × TakesUp old.hand old mid
+    × (mid.hand ≡ Some told.entry.item) × IsTokenOf cells told
     × (told.number ≡ suc (length old.placed)) × (told.entry.number ≡ told.number)
     × (new ≡ record mid { placed = old.placed ++ told ∷ []; hand = None })
-Turns cells old new Idle = (old.hand ≡ None) × (new ≡ old)
+IsTurn cells old new Idle = (old.hand ≡ None) × (new ≡ old)
     × AllByRecursion (λ e. e.1 ≡ own_of e.0 new.pulled) new.ended
-Turns cells old new (Refused why) = TakesUp old.hand old new
+IsTurn cells old new (Refused why) = TakesUp old.hand old new
 
 -- it is stored as its parts
 abbrev pub sequencer_code : Coded SequencerState
-sequencer_code = code_by (List Item × (List Seen × (Option Item × List (ℕ × List Item))))
-    (coded× items_code (coded× (coded_list seen_code) (coded× (coded_option item.the_row.coded)
+sequencer_code = code_by (List Item × (List CellToken × (Option Item × List (ℕ × List Item))))
+    (coded× items_code (coded× (coded_list token_code) (coded× (coded_option item.the_row.coded)
     (coded_list (coded× coded_ℕ items_code)))))
     (λ s. (s.pulled, (s.placed, (s.hand, s.ended))))
     (λ p. record { pulled = p.0; placed = p.1.0; hand = p.1.1.0; ended = p.1.1.1 })
@@ -74,7 +74,7 @@ FillsHand old new = TakesUp old.hand old new
 
 -- the item in hand becomes the next entry, or stays
 abbrev pub PlacesHand : Cells → SequencerState → SequencerState → Turn → Type 0
-PlacesHand cells old new (Placed told) = (old.hand ≡ Some told.entry.item) × IsTold cells told
+PlacesHand cells old new (Placed told) = (old.hand ≡ Some told.entry.item) × IsTokenOf cells told
     × (told.number ≡ suc (length old.placed)) × (told.entry.number ≡ told.number)
     × (new ≡ record old { placed = old.placed ++ told ∷ []; hand = None })
 PlacesHand cells old new Idle = ⊥

@@ -3,9 +3,9 @@
 ghost use Rattle.std.specs.Prelude.{◌≡◌, ◌++◌, ◌∷◌, [], ℕ, suc, length, Some, None, IsSome};
 ghost use Rattle.std.specs.Option.{option_copied};
 ghost use Rattle.std.specs.List.{AllByRecursion};
-ghost use Rattle.rb_sequence.specs.Cells.{IsTold};
+ghost use Rattle.rb_sequence.specs.Cells.{IsTokenOf};
 ghost use Rattle.rb_sequence.specs.Items.{CountsUp, own_of};
-ghost use Rattle.rb_sequencer.specs.Turns.{AreInCells, Turns, PlacesHand, FillsHand, in_hand};
+ghost use Rattle.rb_sequencer.specs.Turns.{AreInCells, IsTurn, PlacesHand, FillsHand, in_hand};
 ghost use Rattle.rb_sequencer.specs.Turns.{items_placed, token_of};
 
 use crate::turn::Turn;
@@ -94,7 +94,7 @@ impl<L: Hall> Sequencer<L> {
     /// Returns `Idle` if nothing waits. `Refused` leaves the item in hand: the sequence is closed or
     /// full, its cell is set, or memory ran out.
     pub fn turn<R: Wait>(&mut self, rt: &R, alloc: Global, broker: &Broker<L>) -> Turn
-        ensures { Turns L.cells self.old self.new result }
+        ensures { IsTurn L.cells self.old self.new result }
     {
         self.take_up(rt, broker);
         if self.hand.is_none() {

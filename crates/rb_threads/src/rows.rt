@@ -6,7 +6,7 @@ use crate::given::{insert, opened};
 use cs_model::Origin;
 use rb_broker::{Broker, Hall, Opened, PlaceRefusal, Publisher, SendRefusal, StagedSet};
 use rb_broker::WithdrawRefusal;
-use rb_sequence::Told;
+use rb_sequence::{Sequence, Told};
 use rb_sequencer::{Sequencer, Turn};
 use std::alloc::Global;
 use std::marker::Brand;
@@ -49,27 +49,38 @@ fn stage<L: Hall>(
     Ok(publisher.end(alloc)?)
 }
 
-// One turn. If memory runs out, the item is in hand, and the next turn places it.
-fn turn<L: Hall, R: Wait + Abort>(
+// The number that a turn places. If memory runs out, the item is in hand, and the next turn tries
+// it again.
+fn placed<L: Hall, R: Wait + Abort>(
     rt: &R,
     alloc: Global,
     broker: &Broker<L>,
     sequencer: &mut Sequencer<L>,
-) -> Option<Turn> {
-    let first = sequencer.turn(rt, alloc, broker);
-    if let Turn::Refused(PlaceRefusal::Memory) = first {
-        assert!(rt; sequencer.hand().is_some());
-        return Some(sequencer.turn(rt, alloc, broker));
+) -> Option<u64> {
+    for _ in 0..2 {
+        match sequencer.turn(rt, alloc, broker) {
+            Turn::Placed(told) => return Some(told.number()),
+            Turn::Refused(PlaceRefusal::Memory) => assert!(rt; sequencer.hand().is_some()),
+            Turn::Idle | Turn::Refused(_) => return None,
+        }
     }
-    Some(first)
+    None
 }
 
-// the number that a turn placed
-fn placed(turn: Option<Turn>) -> Option<u64> {
-    match turn? {
-        Turn::Placed(told) => Some(told.number()),
-        Turn::Idle | Turn::Refused(_) => None,
+// sends what is fed, and places it
+fn put<L: Hall, R: Wait + Abort>(
+    rt: &R,
+    alloc: Global,
+    broker: &Broker<L>,
+    publisher: &mut Publisher<L>,
+    sequencer: &mut Sequencer<L>,
+    bytes: &[u8],
+) -> Result<Option<u64>, Fail> {
+    let set = stage(alloc, publisher, bytes)?;
+    if publisher.send(rt, broker, set).is_err() {
+        return Err(Fail::new("the intake is full"));
     }
+    Ok(placed(rt, alloc, broker, sequencer))
 }
 
 fn fills_the_intake<L: Hall, R: Wait + Abort>(
@@ -85,17 +96,29 @@ fn fills_the_intake<L: Hall, R: Wait + Abort>(
     let Ok(mut publisher) = broker.publisher(alloc) else {
         return Err(Fail::new("no publisher"));
     };
-    let set = stage(alloc, &mut publisher, &insert(1))?;
-    assert_eq!(rt; publisher.send(rt, &broker, set).ok(), Some(1));
-    let set = stage(alloc, &mut publisher, &insert(2))?;
-    let Err(SendRefusal::Full(set)) = publisher.send(rt, &broker, set) else {
+    fills(rt, alloc, &broker, &mut publisher, &mut sequencer)?;
+    fills_the_sequence(rt, alloc, &broker, &mut publisher, &mut sequencer)
+}
+
+fn fills<L: Hall, R: Wait + Abort>(
+    rt: &R,
+    alloc: Global,
+    broker: &Broker<L>,
+    publisher: &mut Publisher<L>,
+    sequencer: &mut Sequencer<L>,
+) -> Result<(), Fail> {
+    let set = stage(alloc, publisher, &insert(1))?;
+    assert_eq!(rt; publisher.send(rt, broker, set).ok(), Some(1));
+    let set = stage(alloc, publisher, &insert(2))?;
+    let Err(SendRefusal::Full(set)) = publisher.send(rt, broker, set) else {
         return Err(Fail::new("the intake is full"));
     };
-    assert_eq!(rt; placed(turn(rt, alloc, &broker, &mut sequencer)), Some(1));
-    assert_eq!(rt; publisher.send(rt, &broker, set).ok(), Some(2));
-    assert_eq!(rt; placed(turn(rt, alloc, &broker, &mut sequencer)), Some(2));
-    assert!(rt; matches!(sequencer.turn(rt, alloc, &broker), Turn::Idle));
-    fills_the_sequence(rt, alloc, &broker, &mut publisher, &mut sequencer)
+    assert_eq!(rt; placed(rt, alloc, broker, sequencer), Some(1));
+    assert_eq!(rt; publisher.send(rt, broker, set).ok(), Some(2));
+    assert_eq!(rt; placed(rt, alloc, broker, sequencer), Some(2));
+    assert_eq!(rt; placed(rt, alloc, broker, sequencer), None);
+    assert!(rt; sequencer.hand().is_none());
+    Ok(())
 }
 
 // The sequence is full: the item stays in hand.
@@ -109,8 +132,7 @@ fn fills_the_sequence<L: Hall, R: Wait + Abort>(
     let set = stage(alloc, publisher, &insert(3))?;
     assert_eq!(rt; publisher.send(rt, broker, set).ok(), Some(3));
     for _ in 0..2 {
-        let full = turn(rt, alloc, broker, sequencer);
-        assert!(rt; matches!(full, Some(Turn::Refused(PlaceRefusal::SequenceFull))));
+        assert_eq!(rt; placed(rt, alloc, broker, sequencer), None);
         assert_eq!(rt; sequencer.hand().map(|item| item.own), Some(3));
     }
     assert_eq!(rt; sequencer.placed(), 2);
@@ -131,14 +153,13 @@ fn withdraws<L: Hall, R: Wait + Abort>(rt: &R, alloc: Global, opened: Opened) ->
     let Ok(mut other) = broker.publisher(alloc) else {
         return Err(Fail::new("no publisher"));
     };
-    let set = stage(alloc, &mut publisher, &CHANGED)?;
-    assert_eq!(rt; publisher.send(rt, &broker, set).ok(), Some(1));
-    assert_eq!(rt; placed(turn(rt, alloc, &broker, &mut sequencer)), Some(1));
-    let stranger = other.withdraw(alloc, broker.sequence(), 1);
-    assert_eq!(rt; stranger.err(), Some(WithdrawRefusal::NotYours));
-    takes_back(rt, alloc, &broker, &mut publisher, &mut sequencer)
+    let number = put(rt, alloc, &broker, &mut publisher, &mut sequencer, &CHANGED)?;
+    assert_eq!(rt; number, Some(1));
+    takes_back(rt, alloc, &broker, &mut publisher, &mut sequencer)?;
+    is_refused(rt, alloc, broker.sequence(), &mut publisher, &mut other)
 }
 
+// the withdrawal of entry 1 is entry 2
 fn takes_back<L: Hall, R: Wait + Abort>(
     rt: &R,
     alloc: Global,
@@ -150,16 +171,30 @@ fn takes_back<L: Hall, R: Wait + Abort>(
     let set = publisher.withdraw(alloc, sequence, 1)?;
     assert_eq!(rt; set.withdraws().map(Told::number), Some(1));
     assert_eq!(rt; publisher.send(rt, broker, set).ok(), Some(2));
-    assert_eq!(rt; placed(turn(rt, alloc, broker, sequencer)), Some(2));
+    assert_eq!(rt; placed(rt, alloc, broker, sequencer), Some(2));
     let Some(entry) = sequence.get(2) else {
         return Err(Fail::new("entry 2 is placed"));
     };
     let text: &[u8] = entry.text();
     assert!(rt; text == TAKEN_BACK.as_slice());
     assert_eq!(rt; entry.origin(), Origin::Withdraws(1));
+    Ok(())
+}
+
+fn is_refused<L: Hall, R: Abort>(
+    rt: &R,
+    alloc: Global,
+    sequence: &Sequence,
+    publisher: &mut Publisher<L>,
+    other: &mut Publisher<L>,
+) -> Result<(), Fail>
+    requires { sequence.now ≡ L.cells }
+{
     let again = publisher.withdraw(alloc, sequence, 1);
     assert_eq!(rt; again.err(), Some(WithdrawRefusal::AlreadyWithdrawn));
     let missing = publisher.withdraw(alloc, sequence, 3);
     assert_eq!(rt; missing.err(), Some(WithdrawRefusal::NotPlaced));
+    let stranger = other.withdraw(alloc, sequence, 1);
+    assert_eq!(rt; stranger.err(), Some(WithdrawRefusal::NotYours));
     Ok(())
 }

@@ -1,13 +1,13 @@
 use Rattle.std.proofs.Common.{subst}
 use Rattle.crossbeam_queue.specs.Passes.{view}
 use Rattle.rb_intake.specs.Passes.{SequencerKnows}
-use Rattle.rb_intake.proofs.RuleLaws.{pulls, learns}
+use Rattle.rb_intake.proofs.RuleLaws.{pop_keeps, learns}
 use Rattle.rb_intake.proofs.PopLaws.{Popped, pop_tells}
 use Rattle.rb_intake.proofs.intake.Intake.pop.Goals as goal
 
 -- an item is pulled, or none waits
 pub pop_as-requires-clause-rule : goal.pop_as-requires-clause-rule
-pop_as-requires-clause-rule g c = (pulls _ _ _ _ c.pass.invariant.1, learns _ _ _ _ c.pass.invariant.1)
+pop_as-requires-clause-rule g c = (pop_keeps _ _ _ _ c.pass.invariant.1, learns _ _ _ _ c.pass.invariant.1)
 
 pub returns-clause-item : goal.returns-clause-item
 returns-clause-item g c =

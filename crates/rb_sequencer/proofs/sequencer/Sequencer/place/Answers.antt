@@ -1,5 +1,5 @@
 use Rattle.std.proofs.Common.{◌≡◌, ◌∙◌, sym, ap, List, ◌++◌, ◌∷◌, [], length, ◌+◌, ℕ}
-use Rattle.rb_sequence.specs.Cells.{Seen}
+use Rattle.rb_sequence.specs.Cells.{CellToken}
 use Rattle.rb_sequencer.proofs.TokenLaws.{placed_one}
 use Rattle.rb_sequencer.proofs.sequencer.Sequencer.place.Goals as goal
 
@@ -7,7 +7,7 @@ use Rattle.rb_sequencer.proofs.sequencer.Sequencer.place.Goals as goal
 pub invariant_of-self-in-Ok : goal.invariant_of-self-in-Ok
 invariant_of-self-in-Ok g c =
     let more = c.push_reserved.ensures.items
-    ∙ ap (λ (xs : List Seen). xs ++ c.in-Ok.told ∷ []) c.reserve.ensures.items in
+    ∙ ap (λ (xs : List CellToken). xs ++ c.in-Ok.told ∷ []) c.reserve.ensures.items in
     let holds = sym c.take.ensures.value ∙ c.unwrap-item.ensures in
     let is = ap (λ (n : ℕ). n + 1) (c.len.ensures ∙ c.reserve.ensures.len ∙ c.self.inside.told.ok.0) in
     let placed = placed_one g.L.Hall.cells _ _ _ _ _ _ c.in-Ok.told _ c.self.invariant.1 c.self.invariant.2 holds
