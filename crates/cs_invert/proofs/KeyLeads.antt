@@ -1,5 +1,6 @@
 -- A record of an inverse, where the key comes first, is the key of one record and the rest of the other.
-use Rattle.std.proofs.Common.{◌≡◌, ◌<◌, ◌≤◌, ◌+◌, ◌-◌, ℕ, zero, suc, List, [], ◌∷◌, ◌++◌, length, take, drop, get_or, refl}
+use Rattle.std.proofs.Common.{◌≡◌, ◌<◌, ◌≤◌, ◌+◌, ◌-◌, ℕ, zero, suc, List, [], ◌∷◌, ◌++◌, length, take, drop, get_or}
+use Rattle.std.proofs.Common.{refl}
 use Rattle.std.proofs.Common.{ap, ◌∙◌, sym, eqb, cond, append_assoc, arith}
 use Rattle.std.proofs.Math.Dec.{eqb-suc-zero}
 use Rattle.cs_model.specs.declared.value.Field.{Field}

@@ -1,11 +1,13 @@
 -- What the desk's `prepare` and `place` say of its capacity.
-use Rattle.std.proofs.Common.{◌≡◌, ℕ, suc, ◌≤◌, ◌<◌, nat_lt, true, false, Result, Ok, Err, Option, Some, None, refl, ◌∙◌, sym, ap, arith, if◌then◌else◌}
+use Rattle.std.proofs.Common.{◌≡◌, ℕ, suc, ◌≤◌, ◌<◌, nat_lt, true, false, Result, Ok, Err, Option, Some, None, refl}
+use Rattle.std.proofs.Common.{◌∙◌, sym, ap, arith, if◌then◌else◌}
 use Rattle.rb_desk.specs.declared.refusal.DeskRefusal.{DeskRefusal}
 use Rattle.rb_desk.specs.Picture.{Picture}
 use Rattle.rb_desk.specs.Calls.{prepare, place, next_place}
 
 -- a number that is prepared is within the capacity
-next_within : (p : Picture) (closing : Option ℕ) (n : ℕ) → next_place p closing ≡ Ok n → (1 ≤ n) × (n ≤ p.limits.capacity)
+next_within : (p : Picture) (closing : Option ℕ) (n : ℕ) → next_place p closing ≡ Ok n
+    → (1 ≤ n) × (n ≤ p.limits.capacity)
 next_within p (Some last) n e = absurd (cc e)
 next_within p None n e = grind arith
 

@@ -15,7 +15,7 @@ use Rattle.rb_sequence.specs.declared.item.Item.{Item}
 
 -- A publisher: its number, the tables of its broker, its stream, what it sent, in order, and the
 -- numbers of the entries that it withdrew, rising.
-pub record PublisherState : Type 0 where
+pub record PublisherView : Type 0 where
   pub number : ℕ
   pub schema : List Shape
   pub stream : Progress
@@ -47,7 +47,7 @@ item_of s own =
     record { publisher = s.publisher; own = own; origin = s.origin; body = s.body }
 
 -- they are stored as their parts
-abbrev pub publisher_code : Coded PublisherState
+abbrev pub publisher_code : Coded PublisherView
 publisher_code = code_by (ℕ × (List Shape × (Progress × (List Item × List ℕ))))
     (coded× coded_ℕ (coded× (coded_list shape.the_row.coded) (coded× progress_code
     (coded× (coded_list item.the_row.coded) (coded_list coded_ℕ)))))

@@ -1,6 +1,7 @@
 //! `Publisher`: a stream of bytes that becomes staged changesets, and their way into the intake.
 
-ghost use Rattle.std.specs.Prelude.{◌≡◌, ◌++◌, ◌∷◌, [], suc, length, true, IfOk, IfErr, OnOk, OnErr};
+ghost use Rattle.std.specs.Prelude.{◌≡◌, ◌++◌, ◌∷◌, [], suc, length, true, IfOk, IfErr, OnOk};
+ghost use Rattle.std.specs.Prelude.{OnErr};
 ghost use Rattle.std.specs.Prelude.{Err, false};
 ghost use Rattle.cs_model.specs.declared.origin.Origin.TheVariants.{Withdraws};
 ghost use Rattle.cs_parse.specs.End.{admitted_answer, left_by};
@@ -38,9 +39,9 @@ pub struct Publisher<L: Hall> {
 impl<L: Hall> Model for Publisher<L> {
     ghost use Rattle.std.specs.Prelude.{◌≡◌};
     ghost use Rattle.std.specs.Arc.{arc_value};
-    ghost use Rattle.rb_broker.specs.Publishers.{PublisherState, publisher_code};
+    ghost use Rattle.rb_broker.specs.Publishers.{PublisherView, publisher_code};
 
-    ghost Value = { PublisherState };
+    ghost Value = { PublisherView };
 
     ghost coded = { publisher_code };
 
@@ -163,7 +164,8 @@ impl<L: Hall> Publisher<L> {
 
     /// Stages the withdrawal of entry `number`, which this publisher sent.
     ///
-    /// Refuses `NotPlaced`, `NotYours`, and `AlreadyWithdrawn` if an earlier call withdrew the entry.
+    /// Refuses `NotPlaced`, `NotYours`, and `AlreadyWithdrawn` if an earlier call withdrew the
+    /// entry.
     pub fn withdraw(
         &mut self,
         alloc: Global,

@@ -15,7 +15,7 @@ use Rattle.cs_parse.specs.Progress as stream
 use Rattle.cs_parse.specs.Progress.{Progress, Took, nothing, advanced, progress_of}
 use Rattle.cs_parse.specs.Reading.{answer_of}
 use Rattle.rb_core.specs.declared.event.Event.TheVariants as event
-use Rattle.rb_core.specs.declared.publisher.Publisher.{Publisher}
+use Rattle.rb_core.specs.declared.publisher.PublisherState.{PublisherState}
 use Rattle.rb_core.specs.declared.reply.Reply.{Reply}
 use Rattle.rb_core.specs.declared.reply.Reply.TheVariants as reply
 use Rattle.rb_core.specs.Outcome as out
@@ -81,8 +81,8 @@ unfolding advanced
 stays_broken old bytes fault e = ap (λ o. stream.advance o old bytes) e
 
 fed_by_text : FeedingTells → ProgressGoesOn → ProgressTellsFault
-    → (old : State) (p : ℕ) (publisher : Publisher) (text bytes : List ℕ) → slice_get old.publishers p ≡ Some publisher
-    → Took publisher.stream text → AreBytes bytes
+    → (old : State) (p : ℕ) (publisher : PublisherState) (text bytes : List ℕ)
+    → slice_get old.publishers p ≡ Some publisher → Took publisher.stream text → AreBytes bytes
     → Of (FeedsByText old p publisher text bytes) (out.fed_stream old p publisher (advanced publisher.stream bytes))
 fed_by_text feeding goes tells old p publisher text bytes found took more =
     let next = advanced publisher.stream bytes in
@@ -107,7 +107,7 @@ fed_by_text feeding goes tells old p publisher text bytes found took more =
     }
 
 pub feed_by_text : FeedingTells → ProgressGoesOn → ProgressTellsFault
-    → (old : State) (p : ℕ) (bytes : List ℕ) (publisher : Publisher) (text : List ℕ) (given : Reply) (new : State)
+    → (old : State) (p : ℕ) (bytes : List ℕ) (publisher : PublisherState) (text : List ℕ) (given : Reply) (new : State)
     → slice_get old.publishers p ≡ Some publisher
     → Took publisher.stream text → AreBytes bytes → outcome old (event.Feed p bytes) ≡ (given, new)
     → FeedsByText old p publisher text bytes given new
@@ -119,7 +119,7 @@ feed_by_text feeding goes tells old p bytes publisher text given new found took 
 
 -- ---- a stream ends
 
-abbrev IsStagedText : State → ℕ → Publisher → List Section → Reply → State → Type 0
+abbrev IsStagedText : State → ℕ → PublisherState → List Section → Reply → State → Type 0
 IsStagedText old p publisher changeset given new = (given ≡ reply.Staged)
     × (new ≡ with_publisher old p (record publisher {
       stream = nothing;
@@ -129,13 +129,13 @@ IsStagedText old p publisher changeset given new = (given ≡ reply.Staged)
 abbrev ByTextStays : State → Reply → Reply → State → Type 0
 ByTextStays old answer given new = (given ≡ answer) × (new ≡ old)
 
-staged_if : (old : State) (p : ℕ) (publisher : Publisher) (changeset : List Section) (first : Option SectionFault)
+staged_if : (old : State) (p : ℕ) (publisher : PublisherState) (changeset : List Section) (first : Option SectionFault)
     → first ≡ None → Of (IsStagedText old p publisher changeset)
     (out.staged_by old p publisher (end.admitted changeset first))
 staged_if old p publisher changeset None is = (refl, refl)
 staged_if old p publisher changeset (Some fault) is = absurd (let none : Some fault ≡ None = is in cc)
 
-refused_if : (old : State) (p : ℕ) (publisher : Publisher) (changeset : List Section) (first : Option SectionFault)
+refused_if : (old : State) (p : ℕ) (publisher : PublisherState) (changeset : List Section) (first : Option SectionFault)
     (fault : SectionFault) → first ≡ Some fault
     → Of (ByTextStays old (reply.Refused (fault_refusal fault)))
     (out.staged_by old p publisher (end.admitted changeset first))
@@ -145,7 +145,7 @@ refused_if old p publisher changeset (Some first) fault is =
     (ap (λ f. reply.Refused (fault_refusal f)) same, refl)
 
 answered_by_text : ReadingIsSpelling → RefusingIsFault → ProgressTells
-    → (old : State) (p : ℕ) (publisher : Publisher) (text : List ℕ) (answer : Result (List Section) ParseFault)
+    → (old : State) (p : ℕ) (publisher : PublisherState) (text : List ℕ) (answer : Result (List Section) ParseFault)
     → stream.answer_at_end publisher.stream ≡ answer
     → Took publisher.stream text
     → Of (EndsByText old p publisher text) (out.staged_by old p publisher (end.admitted_answer old.schema answer))
@@ -178,7 +178,7 @@ answered_by_text reading refusing tells old p publisher text (Err fault) is took
     }
 
 pub end_by_text : ReadingIsSpelling → RefusingIsFault → ProgressTells
-    → (old : State) (p : ℕ) (publisher : Publisher) (text : List ℕ) (given : Reply) (new : State)
+    → (old : State) (p : ℕ) (publisher : PublisherState) (text : List ℕ) (given : Reply) (new : State)
     → slice_get old.publishers p ≡ Some publisher → publisher.staged ≡ None
     → Took publisher.stream text → outcome old (event.End p) ≡ (given, new) → EndsByText old p publisher text given new
 unfolding outcome

@@ -17,7 +17,7 @@ use Rattle.cs_parse.specs.Reading.{answer_of}
 use Rattle.rb_sequence.specs.declared.item.Item.{Item}
 use Rattle.rb_core.specs.declared.event.Event.{Event}
 use Rattle.rb_core.specs.declared.event.Event.TheVariants as event
-use Rattle.rb_core.specs.declared.publisher.Publisher.{Publisher}
+use Rattle.rb_core.specs.declared.publisher.PublisherState.{PublisherState}
 use Rattle.rb_core.specs.declared.publisher.Staged.{Staged}
 use Rattle.rb_core.specs.declared.reply.Reply.{Reply}
 use Rattle.rb_core.specs.declared.reply.Reply.TheVariants as reply
@@ -70,7 +70,7 @@ takes_more old text bytes goes took more =
 pub publisher_tells : BeginsWithNothing → (schema : List Shape) (old : State) (world : World)
     → IsToldBy schema old world → TellingGoes schema world event.Publisher (out.publisher_added old)
 publisher_tells begins schema old world h =
-    let one : Publisher = record { stream = nothing; staged = None; sent = 0 } in
+    let one : PublisherState = record { stream = nothing; staged = None; sent = 0 } in
     let sender : Sender = record { text = []; staged = None; sent = [] } in
     let pair : IsSender one sender = record { stream = no_text begins; staged = refl; sent = refl } in
     let came : State = record old { publishers = old.publishers ++ one ∷ [] } in
@@ -97,8 +97,8 @@ publisher_tells begins schema old world h =
 -- ---- a publisher changes
 
 -- it becomes another, and so does what is told of it
-pub with_pair : (schema : List Shape) (old : State) (world : World) (p : ℕ) (publisher : Publisher) (sender : Sender)
-    → IsSender publisher sender → IsToldBy schema old world
+pub with_pair : (schema : List Shape) (old : State) (world : World) (p : ℕ) (publisher : PublisherState)
+    (sender : Sender) → IsSender publisher sender → IsToldBy schema old world
     → IsToldBy schema (with_publisher old p publisher) (with_sender world p sender)
 with_pair schema old world p publisher sender pair h = record {
   served = h.served;
@@ -117,7 +117,7 @@ with_pair schema old world p publisher sender pair h = record {
 
 -- what it sent stays as it was
 stages_told : (schema : List Shape) (old : State) (world : World) (event : Event) (given : Reply) (p : ℕ)
-    (before after : Publisher) (change : Sender → Sender)
+    (before after : PublisherState) (change : Sender → Sender)
     → told schema world event given ≡ say.sender_changed world p change → slice_get old.publishers p ≡ Some before
     → ((sender : Sender) → IsSender before sender → IsSender after (change sender))
     → ((sender : Sender) → (change sender).sent ≡ sender.sent) → IsToldBy schema old world
@@ -137,7 +137,7 @@ fed_told schema world p bytes None = refl
 fed_told schema world p bytes (Some fault) = refl
 
 pub feed_tells : ProgressGoesOn → (schema : List Shape) (old : State) (world : World) (p : ℕ) (bytes : List ℕ)
-    (found : Option Publisher) → slice_get old.publishers p ≡ found → AreBytes bytes → IsToldBy schema old world
+    (found : Option PublisherState) → slice_get old.publishers p ≡ found → AreBytes bytes → IsToldBy schema old world
     → TellingGoes schema world (event.Feed p bytes) (out.fed_by old p bytes found)
 feed_tells goes schema old world p bytes None e more h =
     nothing_told schema world (event.Feed p bytes) (reply.Refused refusal.NoPublisher) old refl h
@@ -152,7 +152,7 @@ feed_tells goes schema old world p bytes (Some publisher) e more h =
     }) (λ sender. refl) h
 
 pub reset_tells : BeginsWithNothing
-    → (schema : List Shape) (old : State) (world : World) (p : ℕ) (found : Option Publisher)
+    → (schema : List Shape) (old : State) (world : World) (p : ℕ) (found : Option PublisherState)
     → slice_get old.publishers p ≡ found → IsToldBy schema old world
     → TellingGoes schema world (event.Reset p) (out.reset_by old p found)
 reset_tells begins schema old world p None e h =
@@ -172,8 +172,8 @@ staged_spells tells progress text changeset took ok =
     ap say.staged_by_text (sym (tells text took.bytes) ∙ ap stream.answer_at_end (sym took.read) ∙ ok)
 
 admitted_ends : BeginsWithNothing → ProgressTells
-    → (schema : List Shape) (old : State) (world : World) (p : ℕ) (publisher : Publisher) (changeset : List Section)
-    (fault : Option SectionFault)
+    → (schema : List Shape) (old : State) (world : World) (p : ℕ) (publisher : PublisherState)
+    (changeset : List Section) (fault : Option SectionFault)
     → stream.answer_at_end publisher.stream ≡ Ok changeset → slice_get old.publishers p ≡ Some publisher
     → IsToldBy schema old world
     → TellingGoes schema world (event.End p) (out.staged_by old p publisher (end.admitted changeset fault))
@@ -190,7 +190,7 @@ admitted_ends begins tells schema old world p publisher changeset (Some fault) o
     nothing_told schema world (event.End p) (reply.Refused (out.fault_refusal fault)) old refl h
 
 answered_ends : BeginsWithNothing → ProgressTells
-    → (schema : List Shape) (old : State) (world : World) (p : ℕ) (publisher : Publisher)
+    → (schema : List Shape) (old : State) (world : World) (p : ℕ) (publisher : PublisherState)
     (answer : Result (List Section) ParseFault)
     → stream.answer_at_end publisher.stream ≡ answer → slice_get old.publishers p ≡ Some publisher
     → IsToldBy schema old world
@@ -201,7 +201,7 @@ answered_ends begins tells schema old world p publisher (Err fault) is e h =
     nothing_told schema world (event.End p) (reply.Fault fault) old refl h
 
 holding_ends : BeginsWithNothing → ProgressTells
-    → (schema : List Shape) (old : State) (world : World) (p : ℕ) (publisher : Publisher)
+    → (schema : List Shape) (old : State) (world : World) (p : ℕ) (publisher : PublisherState)
     (staged : Option Staged) → slice_get old.publishers p ≡ Some publisher → IsToldBy schema old world
     → TellingGoes schema world (event.End p) (out.ended_by old p publisher staged)
 holding_ends begins tells schema old world p publisher None e h =
@@ -210,7 +210,7 @@ holding_ends begins tells schema old world p publisher (Some staged) e h =
     nothing_told schema world (event.End p) (reply.Refused refusal.Holding) old refl h
 
 pub end_tells : BeginsWithNothing → ProgressTells
-    → (schema : List Shape) (old : State) (world : World) (p : ℕ) (found : Option Publisher)
+    → (schema : List Shape) (old : State) (world : World) (p : ℕ) (found : Option PublisherState)
     → slice_get old.publishers p ≡ found → IsToldBy schema old world
     → TellingGoes schema world (event.End p) (out.ended_for old p found)
 end_tells begins tells schema old world p None e h =
@@ -223,7 +223,7 @@ end_tells begins tells schema old world p (Some publisher) e h =
 abbrev sending : ℕ → ℕ → Staged → Item
 sending p own staged = record { publisher = p; own = own; origin = staged.origin; body = staged.body }
 
-queued_tells : (schema : List Shape) (old : State) (world : World) (p : ℕ) (publisher : Publisher)
+queued_tells : (schema : List Shape) (old : State) (world : World) (p : ℕ) (publisher : PublisherState)
     (some : Staged) → slice_get old.publishers p ≡ Some publisher → publisher.staged ≡ Some some
     → IsToldBy schema old world
     → TellingGoes schema world (event.Send p) (out.sent_item old p publisher some)
@@ -234,7 +234,7 @@ queued_tells schema old world p publisher some e holds h =
     let item = sending p own some in
     let staged : sender.staged ≡ Some some = at.2.staged ∙ holds in
     let after : Sender = record sender { staged = None; sent = sender.sent ++ item ∷ [] } in
-    let left : Publisher = record publisher { staged = None; sent = own } in
+    let left : PublisherState = record publisher { staged = None; sent = own } in
     let pair : IsSender left after =
     record {
       stream = at.2.stream;
@@ -273,7 +273,7 @@ queued_tells schema old world p publisher some e holds h =
       withdrawn = h.withdrawn;
     })
 
-open_tells : (schema : List Shape) (old : State) (world : World) (p : ℕ) (publisher : Publisher)
+open_tells : (schema : List Shape) (old : State) (world : World) (p : ℕ) (publisher : PublisherState)
     (some : Staged) (closing : Option ℕ) → slice_get old.publishers p ≡ Some publisher → publisher.staged
     ≡ Some some
     → IsToldBy schema old world
@@ -286,7 +286,7 @@ open_tells schema old world p publisher some None e holds h =
     (nothing_told schema world (event.Send p) (reply.Refused refusal.Full) old refl h)
     (queued_tells schema old world p publisher some e holds h)
 
-holding_tells : (schema : List Shape) (old : State) (world : World) (p : ℕ) (publisher : Publisher)
+holding_tells : (schema : List Shape) (old : State) (world : World) (p : ℕ) (publisher : PublisherState)
     (staged : Option Staged) → slice_get old.publishers p ≡ Some publisher → publisher.staged ≡ staged
     → IsToldBy schema old world
     → TellingGoes schema world (event.Send p) (out.sent_by old p publisher staged)
@@ -295,7 +295,7 @@ holding_tells schema old world p publisher None e holds h =
 holding_tells schema old world p publisher (Some some) e holds h =
     open_tells schema old world p publisher some old.desk.closing e holds h
 
-pub send_tells : (schema : List Shape) (old : State) (world : World) (p : ℕ) (found : Option Publisher)
+pub send_tells : (schema : List Shape) (old : State) (world : World) (p : ℕ) (found : Option PublisherState)
     → slice_get old.publishers p ≡ found → IsToldBy schema old world
     → TellingGoes schema world (event.Send p) (out.sent_for old p found)
 send_tells schema old world p None e h =

@@ -8,7 +8,7 @@ use Rattle.cs_model.specs.declared.origin.Origin.TheVariants as origin
 use Rattle.cs_model.specs.declared.shape.Shape.{Shape}
 use Rattle.rb_sequence.specs.Entry.{Entry}
 use Rattle.rb_core.specs.declared.event.Event.TheVariants as event
-use Rattle.rb_core.specs.declared.publisher.Publisher.{Publisher}
+use Rattle.rb_core.specs.declared.publisher.PublisherState.{PublisherState}
 use Rattle.rb_core.specs.declared.publisher.Staged.{Staged}
 use Rattle.rb_core.specs.declared.reply.BrokerRefusal.TheVariants as refusal
 use Rattle.rb_core.specs.declared.reply.Reply.{Reply}
@@ -64,7 +64,7 @@ marks_told flags numbers n some all m more =
 
 -- ---- the event
 
-entry_tells : (schema : List Shape) (old : State) (world : World) (p n : ℕ) (publisher : Publisher) (entry : Entry)
+entry_tells : (schema : List Shape) (old : State) (world : World) (p n : ℕ) (publisher : PublisherState) (entry : Entry)
     → slice_get old.publishers p ≡ Some publisher → publisher.staged ≡ None → entry_of old n ≡ Some entry
     → entry.item.publisher ≡ p → is_withdrawn old n ≡ false → IsWorld old → IsToldBy schema old world
     → TellingGoes schema world (event.Withdraw p n) (out.withdrawn_entry old p publisher n entry)
@@ -78,7 +78,7 @@ entry_tells schema old world p n publisher entry e free found mine fresh good h 
     let sender = at.0 in
     let staged : Staged = record { origin = origin.Withdraws n; body = withdrawal_of entry.item.body } in
     let after : Sender = record sender { staged = Some staged } in
-    let left : Publisher = record publisher { staged = Some staged } in
+    let left : PublisherState = record publisher { staged = Some staged } in
     let pair : IsSender left after = record { stream = at.2.stream; staged = refl; sent = at.2.sent } in
     let set = with_pair schema old world p left after pair h in
     let withdraws : Withdraws world (say.with_withdrawal world p n sender entry) = record {
@@ -128,7 +128,7 @@ same_number a b e = elim (eqb_tells a b) as (λ w. a ≡ b) [
   | inr other ↦ absurd (let bad : true ≡ false = sym e ∙ other.0 in cc)
 ]
 
-found_tells : (schema : List Shape) (old : State) (world : World) (p n : ℕ) (publisher : Publisher)
+found_tells : (schema : List Shape) (old : State) (world : World) (p n : ℕ) (publisher : PublisherState)
     (found : Option Entry) → slice_get old.publishers p ≡ Some publisher → publisher.staged ≡ None → entry_of old n
     ≡ found → IsWorld old → IsToldBy schema old world
     → TellingGoes schema world (event.Withdraw p n) (out.withdrawn_from old p publisher n found)
@@ -143,7 +143,7 @@ found_tells schema old world p n publisher (Some entry) e free is good h =
     (λ mine fresh. entry_tells schema old world p n publisher entry e free is
     (same_number entry.item.publisher p mine) fresh good h)
 
-free_tells : (schema : List Shape) (old : State) (world : World) (p n : ℕ) (publisher : Publisher)
+free_tells : (schema : List Shape) (old : State) (world : World) (p n : ℕ) (publisher : PublisherState)
     (staged : Option Staged) → slice_get old.publishers p ≡ Some publisher → publisher.staged ≡ staged → IsWorld old
     → IsToldBy schema old world
     → TellingGoes schema world (event.Withdraw p n) (out.withdrawn_by old p publisher n staged)
@@ -152,7 +152,7 @@ free_tells schema old world p n publisher None e free good h =
 free_tells schema old world p n publisher (Some staged) e free good h =
     nothing_told schema world (event.Withdraw p n) (reply.Refused refusal.Holding) old refl h
 
-pub withdraw_tells : (schema : List Shape) (old : State) (world : World) (p n : ℕ) (found : Option Publisher)
+pub withdraw_tells : (schema : List Shape) (old : State) (world : World) (p n : ℕ) (found : Option PublisherState)
     → slice_get old.publishers p ≡ found → IsWorld old → IsToldBy schema old world
     → TellingGoes schema world (event.Withdraw p n) (out.withdrawn_for old p n found)
 withdraw_tells schema old world p n None e good h =

@@ -21,7 +21,7 @@ use Rattle.rb_subscriber.specs.declared.refusal.AcceptRefusal.{AcceptRefusal}
 use Rattle.rb_subscriber.specs.Endpoint.{Endpoint, new_endpoint}
 use Rattle.rb_core.specs.declared.event.Event.{Event}
 use Rattle.rb_core.specs.declared.event.Event.TheVariants as event
-use Rattle.rb_core.specs.declared.publisher.Publisher.{Publisher}
+use Rattle.rb_core.specs.declared.publisher.PublisherState.{PublisherState}
 use Rattle.rb_core.specs.declared.publisher.Staged.{Staged}
 use Rattle.rb_core.specs.declared.reply.Reply.{Reply}
 use Rattle.rb_core.specs.Outcome.{fed_by, reset_by, staged_by, ended_by, ended_for, sent_while, sent_by, sent_for}
@@ -51,7 +51,7 @@ world_events_unless true x y h k = h
 world_events_unless false x y h k = k refl
 
 -- one publisher becomes another
-publisher_set : (old : State) (p : ℕ) (publisher : Publisher) → IsWorld old
+publisher_set : (old : State) (p : ℕ) (publisher : PublisherState) → IsWorld old
     → IsWorld (outcome.with_publisher old p publisher)
 publisher_set old p publisher good =
     apart old (slice_set old.publishers p publisher) old.intake old.hand good
@@ -61,40 +61,40 @@ publisher_set old p publisher good =
 
 publisher_keeps : (old : State) → IsWorld old → IsWorld (outcome.publisher_added old).1
 publisher_keeps old good =
-    let new : Publisher = record { stream = stream.nothing; staged = None; sent = 0 } in
+    let new : PublisherState = record { stream = stream.nothing; staged = None; sent = 0 } in
     world_events_unless (nat_le 64 (length old.publishers)) _ _ good
     (λ room. apart old (old.publishers ++ new ∷ []) old.intake old.hand good
     (omega (arith, leb-false _ _ room, length-append old.publishers (new ∷ []))) good.waiting)
 
-feed_keeps : (old : State) (p : ℕ) (bytes : List ℕ) (found : Option Publisher) → IsWorld old
+feed_keeps : (old : State) (p : ℕ) (bytes : List ℕ) (found : Option PublisherState) → IsWorld old
     → IsWorld (fed_by old p bytes found).1
 feed_keeps old p bytes None good = good
 feed_keeps old p bytes (Some publisher) good = publisher_set old p _ good
 
-reset_keeps : (old : State) (p : ℕ) (found : Option Publisher) → IsWorld old → IsWorld (reset_by old p found).1
+reset_keeps : (old : State) (p : ℕ) (found : Option PublisherState) → IsWorld old → IsWorld (reset_by old p found).1
 reset_keeps old p None good = good
 reset_keeps old p (Some publisher) good = publisher_set old p _ good
 
-staged_keeps : (old : State) (p : ℕ) (publisher : Publisher) (r : Result (List Section) EndError) → IsWorld old
+staged_keeps : (old : State) (p : ℕ) (publisher : PublisherState) (r : Result (List Section) EndError) → IsWorld old
     → IsWorld (staged_by old p publisher r).1
 staged_keeps old p publisher (Ok changeset) good = publisher_set old p _ good
 staged_keeps old p publisher (Err error) good = good
 
-ended_by_keeps : (old : State) (p : ℕ) (publisher : Publisher) (kept : Option Staged) → IsWorld old
+ended_by_keeps : (old : State) (p : ℕ) (publisher : PublisherState) (kept : Option Staged) → IsWorld old
     → IsWorld (ended_by old p publisher kept).1
 ended_by_keeps old p publisher None good =
     staged_keeps old p publisher (admitted_answer old.schema (stream.answer_at_end publisher.stream)) good
 ended_by_keeps old p publisher (Some staged) good = good
 
-end_keeps : (old : State) (p : ℕ) (found : Option Publisher) → IsWorld old → IsWorld (ended_for old p found).1
+end_keeps : (old : State) (p : ℕ) (found : Option PublisherState) → IsWorld old → IsWorld (ended_for old p found).1
 end_keeps old p None good = good
 end_keeps old p (Some publisher) good = ended_by_keeps old p publisher publisher.staged good
 
-sent_while_keeps : (old : State) (p : ℕ) (publisher : Publisher) (staged : Staged) (closing : Option ℕ)
+sent_while_keeps : (old : State) (p : ℕ) (publisher : PublisherState) (staged : Staged) (closing : Option ℕ)
     → IsWorld old → IsWorld (sent_while old p publisher staged closing).1
 sent_while_keeps old p publisher staged (Some last) good = good
 sent_while_keeps old p publisher staged None good =
-    let left : Publisher = record publisher { staged = None; sent = publisher.sent + 1 } in
+    let left : PublisherState = record publisher { staged = None; sent = publisher.sent + 1 } in
     let item : Item =
     record { publisher = p; own = publisher.sent + 1; origin = staged.origin; body = staged.body } in
     world_events_unless (nat_le old.desk.limits.intake (length old.intake)) _ _ good
@@ -102,16 +102,16 @@ sent_while_keeps old p publisher staged None good =
     (omega (arith, good.few, length-set old.publishers p left))
     (omega (arith, leb-false _ _ room, length-append old.intake (item ∷ []))))
 
-sent_by_keeps : (old : State) (p : ℕ) (publisher : Publisher) (kept : Option Staged) → IsWorld old
+sent_by_keeps : (old : State) (p : ℕ) (publisher : PublisherState) (kept : Option Staged) → IsWorld old
     → IsWorld (sent_by old p publisher kept).1
 sent_by_keeps old p publisher None good = good
 sent_by_keeps old p publisher (Some staged) good = sent_while_keeps old p publisher staged old.desk.closing good
 
-send_keeps : (old : State) (p : ℕ) (found : Option Publisher) → IsWorld old → IsWorld (sent_for old p found).1
+send_keeps : (old : State) (p : ℕ) (found : Option PublisherState) → IsWorld old → IsWorld (sent_for old p found).1
 send_keeps old p None good = good
 send_keeps old p (Some publisher) good = sent_by_keeps old p publisher publisher.staged good
 
-withdraw_from_keeps : (old : State) (p n : ℕ) (publisher : Publisher) (found : Option Entry)
+withdraw_from_keeps : (old : State) (p n : ℕ) (publisher : PublisherState) (found : Option Entry)
     → entry_of old n ≡ found → IsWorld old → IsWorld (withdrawn_from old p publisher n found).1
 withdraw_from_keeps old p n publisher None is good = good
 withdraw_from_keeps old p n publisher (Some entry) is good =
@@ -121,12 +121,12 @@ withdraw_from_keeps old p n publisher (Some entry) is good =
     (λ fresh. marks_changed _ _ (publisher_set old p _ good)
     (marks_within (n - 1) old.withdrawn (length old.sequence) within good.marks)))
 
-withdraw_by_keeps : (old : State) (p n : ℕ) (publisher : Publisher) (kept : Option Staged) → IsWorld old
+withdraw_by_keeps : (old : State) (p n : ℕ) (publisher : PublisherState) (kept : Option Staged) → IsWorld old
     → IsWorld (withdrawn_by old p publisher n kept).1
 withdraw_by_keeps old p n publisher None good = withdraw_from_keeps old p n publisher (entry_of old n) refl good
 withdraw_by_keeps old p n publisher (Some staged) good = good
 
-withdraw_keeps : (old : State) (p n : ℕ) (found : Option Publisher) → IsWorld old
+withdraw_keeps : (old : State) (p n : ℕ) (found : Option PublisherState) → IsWorld old
     → IsWorld (withdrawn_for old p n found).1
 withdraw_keeps old p n None good = good
 withdraw_keeps old p n (Some publisher) good = withdraw_by_keeps old p n publisher publisher.staged good

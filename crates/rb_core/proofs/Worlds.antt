@@ -12,7 +12,7 @@ use Rattle.rb_desk.specs.Picture.{Picture}
 use Rattle.rb_sequence.specs.declared.item.Item.{Item}
 use Rattle.rb_sequence.specs.Entry.{Entry}
 use Rattle.rb_subscriber.specs.Endpoint.{Endpoint}
-use Rattle.rb_core.specs.declared.publisher.Publisher.{Publisher}
+use Rattle.rb_core.specs.declared.publisher.PublisherState.{PublisherState}
 use Rattle.rb_core.specs.State.{State, member_of_end, IsOf, IsWorld}
 use Rattle.rb_core.proofs.DeskLaws.{KeepsLimits}
 use Rattle.rb_core.proofs.Moving.{all_map}
@@ -68,7 +68,7 @@ end_within w s member good found =
 -- ---- parts that change
 
 -- of publishers and of what waits only the number matters, and the hand is no matter
-pub apart : (old : State) (publishers : List Publisher) (intake : List Item) (hand : Option Item) → IsWorld old
+pub apart : (old : State) (publishers : List PublisherState) (intake : List Item) (hand : Option Item) → IsWorld old
     → length publishers ≤ 64 → length intake ≤ old.desk.limits.intake
     → IsWorld (record old { publishers = publishers; intake = intake; hand = hand })
 apart old publishers intake hand good few waiting = record {

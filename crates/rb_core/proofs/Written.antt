@@ -8,7 +8,7 @@ use Rattle.cs_model.specs.Section.{Section}
 use Rattle.cs_parse.specs.declared.end.EndError.{EndError}
 use Rattle.cs_parse.specs.End.{admitted_answer}
 use Rattle.cs_parse.specs.Progress as stream
-use Rattle.rb_core.specs.declared.publisher.Publisher.{Publisher}
+use Rattle.rb_core.specs.declared.publisher.PublisherState.{PublisherState}
 use Rattle.rb_core.specs.declared.publisher.Staged.{Staged}
 use Rattle.cs_model.specs.declared.origin.Origin.TheVariants.{Sent}
 use Rattle.rb_core.specs.declared.reply.Reply.TheVariants as reply
@@ -40,23 +40,24 @@ find_all P test (x ∷ xs) all = written_either P (test x) x (find test xs) all.
 -- ---- ends of streams
 
 -- the one that is looked at and the one that is lent are the same
-pub none_staged : (publishers : List Publisher) (p : ℕ) (a b : Publisher) (flag : Bool) → slice_get publishers p
-    ≡ Some a → slice_get publishers p ≡ Some b → flag ≡ is_some a.staged → flag ≡ false → b.staged ≡ None
+pub none_staged : (publishers : List PublisherState) (p : ℕ) (a b : PublisherState) (flag : Bool)
+    → slice_get publishers p ≡ Some a → slice_get publishers p ≡ Some b → flag ≡ is_some a.staged → flag ≡ false
+    → b.staged ≡ None
 none_staged publishers p a b flag one other tells none =
     let both : Some a ≡ Some b = sym one ∙ other in
     let same : a ≡ b = cc both in
-    subst (λ (q : Publisher). q.staged ≡ None) same (empty a.staged (sym tells ∙ none))
+    subst (λ (q : PublisherState). q.staged ≡ None) same (empty a.staged (sym tells ∙ none))
   where
     empty : (o : Option Staged) → is_some o ≡ false → o ≡ None
     empty None e = refl
     empty (Some x) e = absurd (cc e)
 
 -- an end of a publisher that has nothing staged is what its stream ends with
-end_found : (old : State) (p : ℕ) (q : Publisher) → slice_get old.publishers p ≡ Some q → q.staged ≡ None
+end_found : (old : State) (p : ℕ) (q : PublisherState) → slice_get old.publishers p ≡ Some q → q.staged ≡ None
     → outcome.ended old p ≡ staged_by old p q (admitted_answer old.schema (stream.answer_at_end q.stream))
 end_found old p q found none = ap (λ o. ended_for old p o) found ∙ ap (λ s. ended_by old p q s) none
 
-pub end_refused : (old : State) (p : ℕ) (q r : Publisher) (error : EndError) → slice_get old.publishers p ≡ Some q
+pub end_refused : (old : State) (p : ℕ) (q r : PublisherState) (error : EndError) → slice_get old.publishers p ≡ Some q
     → q.staged ≡ None → admitted_answer old.schema (stream.answer_at_end q.stream) ≡ Err error → r ≡ q
     → outcome.ended old p ≡ (end_reply error, with_publisher old p r)
 end_refused old p q r error found none e same =
@@ -65,7 +66,7 @@ end_refused old p q r error found none e same =
     ∙ ap (λ ps. record old { publishers = ps }) (set_same old.publishers p q found) in
     end_found old p q found none ∙ ap (λ a. staged_by old p q a) e ∙ ap (λ w. (end_reply error, w)) (sym back)
 
-pub end_staged : (old : State) (p : ℕ) (q r : Publisher) (changeset : List Section) → slice_get old.publishers p
+pub end_staged : (old : State) (p : ℕ) (q r : PublisherState) (changeset : List Section) → slice_get old.publishers p
     ≡ Some q → q.staged ≡ None → admitted_answer old.schema (stream.answer_at_end q.stream) ≡ Ok changeset
     → r ≡ record q { stream = stream.nothing; staged = Some (record { origin = Sent; body = changeset }) }
     → outcome.ended old p

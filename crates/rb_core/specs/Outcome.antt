@@ -28,7 +28,7 @@ use Rattle.rb_subscriber.specs.declared.refusal.AcceptRefusal.{AcceptRefusal}
 use Rattle.rb_subscriber.specs.Endpoint.{Endpoint, new_endpoint}
 use Rattle.rb_core.specs.declared.event.Event.{Event}
 use Rattle.rb_core.specs.declared.event.Event.TheVariants as event
-use Rattle.rb_core.specs.declared.publisher.Publisher.{Publisher}
+use Rattle.rb_core.specs.declared.publisher.PublisherState.{PublisherState}
 use Rattle.rb_core.specs.declared.publisher.Staged.{Staged}
 use Rattle.rb_core.specs.declared.reply.Reply.{Reply}
 use Rattle.rb_core.specs.declared.reply.Reply.TheVariants as reply
@@ -40,7 +40,7 @@ abbrev pub refused : State → BrokerRefusal → Reply × State
 refused old why = (reply.Refused why, old)
 
 -- replaces the publisher, or the endpoint, with this number
-abbrev pub with_publisher : State → ℕ → Publisher → State
+abbrev pub with_publisher : State → ℕ → PublisherState → State
 with_publisher old p publisher = record old { publishers = slice_set old.publishers p publisher }
 
 abbrev pub with_endpoint : State → ℕ → Endpoint → State
@@ -72,11 +72,11 @@ abbrev pub fed_reply : Option ParseFault → Reply
 fed_reply None = reply.Fed
 fed_reply (Some fault) = reply.Fault fault
 
-abbrev pub fed_stream : State → ℕ → Publisher → Progress → Reply × State
+abbrev pub fed_stream : State → ℕ → PublisherState → Progress → Reply × State
 fed_stream old p publisher progress =
     (fed_reply progress.fault, with_publisher old p (record publisher { stream = progress }))
 
-abbrev pub fed_by : State → ℕ → List ℕ → Option Publisher → Reply × State
+abbrev pub fed_by : State → ℕ → List ℕ → Option PublisherState → Reply × State
 fed_by old p bytes None = refused old refusal.NoPublisher
 fed_by old p bytes (Some publisher) =
     fed_stream old p publisher (stream.advanced publisher.stream bytes)
@@ -85,7 +85,7 @@ abbrev pub fed : State → ℕ → List ℕ → Reply × State
 fed old p bytes = fed_by old p bytes (slice_get old.publishers p)
 
 -- Reset: the stream becomes empty; what is staged stays.
-abbrev pub reset_by : State → ℕ → Option Publisher → Reply × State
+abbrev pub reset_by : State → ℕ → Option PublisherState → Reply × State
 reset_by old p None = refused old refusal.NoPublisher
 reset_by old p (Some publisher) =
     (reply.Reset, with_publisher old p (record publisher { stream = stream.nothing }))
@@ -103,7 +103,7 @@ abbrev pub end_reply : EndError → Reply
 end_reply (end_error.Fault fault) = reply.Fault fault
 end_reply (end_error.Refused fault) = reply.Refused (fault_refusal fault)
 
-abbrev pub staged_by : State → ℕ → Publisher → Result (List Section) EndError → Reply × State
+abbrev pub staged_by : State → ℕ → PublisherState → Result (List Section) EndError → Reply × State
 staged_by old p publisher (Ok changeset) = (
   reply.Staged,
   with_publisher old p
@@ -114,12 +114,12 @@ staged_by old p publisher (Ok changeset) = (
 )
 staged_by old p publisher (Err error) = (end_reply error, old)
 
-abbrev pub ended_by : State → ℕ → Publisher → Option Staged → Reply × State
+abbrev pub ended_by : State → ℕ → PublisherState → Option Staged → Reply × State
 ended_by old p publisher None =
     staged_by old p publisher (admitted_answer old.schema (stream.answer_at_end publisher.stream))
 ended_by old p publisher (Some staged) = refused old refusal.Holding
 
-abbrev pub ended_for : State → ℕ → Option Publisher → Reply × State
+abbrev pub ended_for : State → ℕ → Option PublisherState → Reply × State
 ended_for old p None = refused old refusal.NoPublisher
 ended_for old p (Some publisher) = ended_by old p publisher publisher.staged
 
@@ -128,7 +128,7 @@ ended old p = ended_for old p (slice_get old.publishers p)
 
 -- Send: what is staged goes to the end of the intake, as the publisher's next sending. It is
 -- refused if the sequence is closed or the intake full.
-abbrev pub sent_item : State → ℕ → Publisher → Staged → Reply × State
+abbrev pub sent_item : State → ℕ → PublisherState → Staged → Reply × State
 sent_item old p publisher staged = (
   reply.Sent (publisher.sent + 1),
   record (with_publisher old p (record publisher { staged = None; sent = publisher.sent + 1 })) {
@@ -141,17 +141,17 @@ sent_item old p publisher staged = (
   },
 )
 
-abbrev pub sent_while : State → ℕ → Publisher → Staged → Option ℕ → Reply × State
+abbrev pub sent_while : State → ℕ → PublisherState → Staged → Option ℕ → Reply × State
 sent_while old p publisher staged (Some last) = refused old refusal.Closed
 sent_while old p publisher staged None =
     if nat_le old.desk.limits.intake (length old.intake) then refused old refusal.Full else
     sent_item old p publisher staged
 
-abbrev pub sent_by : State → ℕ → Publisher → Option Staged → Reply × State
+abbrev pub sent_by : State → ℕ → PublisherState → Option Staged → Reply × State
 sent_by old p publisher None = refused old refusal.NothingStaged
 sent_by old p publisher (Some staged) = sent_while old p publisher staged old.desk.closing
 
-abbrev pub sent_for : State → ℕ → Option Publisher → Reply × State
+abbrev pub sent_for : State → ℕ → Option PublisherState → Reply × State
 sent_for old p None = refused old refusal.NoPublisher
 sent_for old p (Some publisher) = sent_by old p publisher publisher.staged
 
@@ -161,7 +161,7 @@ sent old p = sent_for old p (slice_get old.publishers p)
 -- Withdraw: the withdrawal of an entry that the publisher sent is staged. The entry is withdrawn
 -- from then on, whether or not the withdrawal is sent. It is refused if something is staged, or if
 -- the entry isn't placed, is another publisher's, or is withdrawn already.
-abbrev pub withdrawn_entry : State → ℕ → Publisher → ℕ → Entry → Reply × State
+abbrev pub withdrawn_entry : State → ℕ → PublisherState → ℕ → Entry → Reply × State
 withdrawn_entry old p publisher n entry = (
   reply.Staged,
   record (with_publisher old p (record publisher {
@@ -169,18 +169,18 @@ withdrawn_entry old p publisher n entry = (
   })) { withdrawn = with_mark (n - 1) old.withdrawn },
 )
 
-abbrev pub withdrawn_from : State → ℕ → Publisher → ℕ → Option Entry → Reply × State
+abbrev pub withdrawn_from : State → ℕ → PublisherState → ℕ → Option Entry → Reply × State
 withdrawn_from old p publisher n None = refused old refusal.NotPlaced
 withdrawn_from old p publisher n (Some entry) =
     if not (entry.item.publisher == p) then refused old refusal.NotYours
     else if is_withdrawn old n then refused old refusal.AlreadyWithdrawn
     else withdrawn_entry old p publisher n entry
 
-abbrev pub withdrawn_by : State → ℕ → Publisher → ℕ → Option Staged → Reply × State
+abbrev pub withdrawn_by : State → ℕ → PublisherState → ℕ → Option Staged → Reply × State
 withdrawn_by old p publisher n None = withdrawn_from old p publisher n (entry_of old n)
 withdrawn_by old p publisher n (Some staged) = refused old refusal.Holding
 
-abbrev pub withdrawn_for : State → ℕ → ℕ → Option Publisher → Reply × State
+abbrev pub withdrawn_for : State → ℕ → ℕ → Option PublisherState → Reply × State
 withdrawn_for old p n None = refused old refusal.NoPublisher
 withdrawn_for old p n (Some publisher) = withdrawn_by old p publisher n publisher.staged
 

@@ -18,8 +18,8 @@ use Rattle.rb_sequence.specs.declared.item.Item.{Item}
 use Rattle.rb_sequence.specs.Entry.{Entry, entry_code}
 use Rattle.rb_sequence.specs.Items.{AreNumbered}
 use Rattle.rb_subscriber.specs.Endpoint.{Endpoint, endpoint_code}
-use Rattle.rb_core.specs.contracts.publisher.Publisher as publisher
-use Rattle.rb_core.specs.declared.publisher.Publisher.{Publisher}
+use Rattle.rb_core.specs.contracts.publisher.PublisherState as publisher
+use Rattle.rb_core.specs.declared.publisher.PublisherState.{PublisherState}
 
 -- A world. It has the schema, the publishers, and the intake of sent items in order. The item in
 -- hand has left the intake and has no number yet. It has the sequence, the desk's picture with the
@@ -28,7 +28,7 @@ use Rattle.rb_core.specs.declared.publisher.Publisher.{Publisher}
 -- subscriptions are numbered from 0, entries and deliveries from 1.
 pub record State : Type 0 where
   pub schema : List Shape
-  pub publishers : List Publisher
+  pub publishers : List PublisherState
   pub intake : List Item
   pub hand : Option Item
   pub sequence : List Entry
@@ -111,7 +111,7 @@ how_many_wait w = how_many_held w.hand + length w.intake
 abbrev pub world_code : Coded State
 world_code =
     code_by (List Shape
-    × (List Publisher
+    × (List PublisherState
     × (List Item
     × (Option Item
     × (List Entry × (Picture × (List Endpoint × (List Delivery × List Bool))))))))

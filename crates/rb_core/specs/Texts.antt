@@ -9,7 +9,7 @@ use Rattle.cs_parse.specs.declared.fault.ParseFault.{ParseFault}
 use Rattle.cs_parse.specs.Fault.{IsFault}
 use Rattle.cs_parse.specs.Pieces.{IsLasting}
 use Rattle.cs_parse.specs.Progress.{Progress, Took, nothing}
-use Rattle.rb_core.specs.declared.publisher.Publisher.{Publisher}
+use Rattle.rb_core.specs.declared.publisher.PublisherState.{PublisherState}
 use Rattle.rb_core.specs.declared.reply.Reply.{Reply}
 use Rattle.rb_core.specs.declared.reply.Reply.TheVariants as reply
 use Rattle.rb_core.specs.Outcome.{with_publisher, fault_refusal}
@@ -18,7 +18,7 @@ use Rattle.rb_core.specs.State.{State}
 -- `Feed` after a text that the stream has taken. The stream then has taken the text and the bytes,
 -- and nothing else changes. The reply is the permanent fault of the two together, or `Fed` if there
 -- is none. After a permanent fault of the text, the reply is that fault, and nothing changes.
-pub record FeedsByText (old : State) (p : ℕ) (publisher : Publisher) (text bytes : List ℕ)
+pub record FeedsByText (old : State) (p : ℕ) (publisher : PublisherState) (text bytes : List ℕ)
     (given : Reply) (new : State) : Type 0 where
   pub stream : Progress
   pub takes : Took stream (text ++ bytes)
@@ -32,8 +32,8 @@ pub record FeedsByText (old : State) (p : ℕ) (publisher : Publisher) (text byt
 -- text spells, that is staged, a new stream begins, and nothing else changes. Else the reply
 -- refuses the first section that isn't admitted. If the text has a fault, the reply is that fault.
 -- A refusal and a fault change nothing.
-pub record EndsByText (old : State) (p : ℕ) (publisher : Publisher) (text : List ℕ) (given : Reply)
-    (new : State) : Type 0 where
+pub record EndsByText (old : State) (p : ℕ) (publisher : PublisherState) (text : List ℕ)
+    (given : Reply) (new : State) : Type 0 where
   pub stages : (changeset : List Section) → Spells text changeset → refusal_of old.schema changeset
       ≡ None
       → (given ≡ reply.Staged)

@@ -21,7 +21,7 @@ use Rattle.rb_sequence.specs.Entry.{Entry}
 use Rattle.rb_subscriber.specs.Accept.{part, joined_bodies}
 use Rattle.rb_core.specs.declared.event.Event.{Event}
 use Rattle.rb_core.specs.declared.event.Event.TheVariants as event
-use Rattle.rb_core.specs.declared.publisher.Publisher.{Publisher}
+use Rattle.rb_core.specs.declared.publisher.PublisherState.{PublisherState}
 use Rattle.rb_core.specs.declared.publisher.Staged.{Staged}
 use Rattle.rb_core.specs.declared.reply.Reply.{Reply}
 use Rattle.rb_core.specs.declared.reply.Reply.TheVariants as reply
@@ -237,7 +237,7 @@ Paired R (x ∷ xs) [] = ⊥
 Paired R (x ∷ xs) (y ∷ ys) = R x y × Paired R xs ys
 
 -- the publisher's stream has taken the text; what is staged and the number of sendings agree
-pub record IsSender (publisher : Publisher) (sender : Sender) : Type 0 where
+pub record IsSender (publisher : PublisherState) (sender : Sender) : Type 0 where
   pub stream : Took publisher.stream sender.text
   pub staged : sender.staged ≡ publisher.staged
   pub sent : publisher.sent ≡ length sender.sent

@@ -11,7 +11,7 @@ ghost use Rattle.cs_model.specs.declared.shape.Shape.{Shape};
 ghost use Rattle.cs_parse.specs.Progress.{Took};
 ghost use Rattle.rb_core.specs.declared.event.Event.{Event};
 ghost use Rattle.rb_core.specs.declared.event.Event.TheVariants as event;
-ghost use Rattle.rb_core.specs.declared.publisher.Publisher.{Publisher};
+ghost use Rattle.rb_core.specs.declared.publisher.PublisherState.{PublisherState};
 ghost use Rattle.rb_core.specs.declared.reply.BrokerRefusal.TheVariants as refusal;
 ghost use Rattle.rb_core.specs.declared.reply.Reply.{Reply};
 ghost use Rattle.rb_core.specs.declared.reply.Reply.TheVariants as reply;
@@ -59,12 +59,12 @@ pub fn events_keep_worlds()
 /// permanent fault. `End` stages what the text spells or reports its fault, if nothing is staged
 /// yet. The bytes fed to the publisher are such a text (*IsToldBy*).
 pub fn streams_answer_by_text()
-    ensures feed { (old : State) (p : ℕ) (bytes : List ℕ) (publisher : Publisher)
+    ensures feed { (old : State) (p : ℕ) (bytes : List ℕ) (publisher : PublisherState)
         (text : List ℕ) (given : Reply) (new : State)
         → slice_get old.publishers p ≡ Some publisher → Took publisher.stream text → AreBytes bytes
         → outcome old (event.Feed p bytes) ≡ (given, new)
         → FeedsByText old p publisher text bytes given new }
-    ensures end { (old : State) (p : ℕ) (publisher : Publisher) (text : List ℕ)
+    ensures end { (old : State) (p : ℕ) (publisher : PublisherState) (text : List ℕ)
         (given : Reply) (new : State) → slice_get old.publishers p ≡ Some publisher
         → publisher.staged ≡ None → Took publisher.stream text
         → outcome old (event.End p) ≡ (given, new)
@@ -108,7 +108,7 @@ pub fn runs_are_told()
 /// and replies report them. So `streams_answer_by_text` holds for that text.
 pub fn streams_take_what_is_fed()
     ensures { (limits : Limits) (schema : List Shape) (events : List Event)
-        (answers : List Answer) (new : State) (p : ℕ) (publisher : Publisher)
+        (answers : List Answer) (new : State) (p : ℕ) (publisher : PublisherState)
         → IsRunOf limits schema events answers new
         → slice_get new.publishers p ≡ Some publisher
         → (sender : Sender) × (slice_get (world_told schema events answers).senders p ≡ Some sender)

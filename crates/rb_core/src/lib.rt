@@ -20,6 +20,7 @@ mod withdrawing;
 mod world;
 
 pub use event::Event;
+pub use publisher::{PublisherState, Staged};
 pub use rb_desk::{Config, ConfigFault, Delivery};
 pub use rb_sequence::{Entry, Item};
 pub use reply::{BrokerRefusal, Reply};

@@ -19,7 +19,7 @@ use std::sync::Arc;
 #[derive(Debug, Drop)]
 pub(crate) struct Parts {
     pub(crate) schema: Arc<Schema>,
-    pub(crate) publishers: Vec<Publisher>,
+    pub(crate) publishers: Vec<PublisherState>,
     pub(crate) intake: VecDeque<Item>,
     pub(crate) hand: Option<Item>,
     pub(crate) sequence: Vec<Entry>,

@@ -14,7 +14,7 @@ pub struct Staged {
 
 /// A publisher of a world.
 #[derive(Debug, Drop)]
-pub struct Publisher {
+pub struct PublisherState {
     /// The parser of the bytes fed since the last end or reset.
     pub stream: PieceParser,
     /// What is staged and not sent.

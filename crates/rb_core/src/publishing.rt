@@ -8,11 +8,11 @@ ghost use Rattle.rb_core.specs.Outcome.{end_reply};
 ghost use Rattle.rb_core.specs.Memory.{MayRunOut};
 ghost use Rattle.rb_core.specs.Outcome as outcome;
 ghost use Rattle.rb_core.specs.declared.event.Event.TheVariants as event;
-ghost use Rattle.rb_core.specs.declared.publisher.Publisher.{Publisher};
+ghost use Rattle.rb_core.specs.declared.publisher.PublisherState.{PublisherState};
 ghost use Rattle.rb_core.specs.declared.publisher.Staged.{Staged};
 
 use crate::parts::Parts;
-use crate::publisher::{Publisher, Staged};
+use crate::publisher::{PublisherState, Staged};
 use crate::reply::{BrokerRefusal, Reply};
 use crate::world::refused;
 use cs_model::{Changeset, Origin, Schema, SectionFault};
@@ -35,7 +35,7 @@ impl Parts {
             return refused(BrokerRefusal::TooMany);
         }
         let number = self.publishers.len() as u64;
-        self.publishers.push(Publisher {
+        self.publishers.push(PublisherState {
             stream: PieceParser::new(alloc),
             staged: None,
             sent: 0,
@@ -140,7 +140,7 @@ impl Parts {
     fn queue(&mut self, publisher: u64) -> Result<Reply, AllocError>
         requires { IsSomeAnd (slice_get self.old.publishers publisher)
             (λ found. IsSome found.staged) }
-        ensures ok { IfOk result (λ reply. (found : Publisher) (staged : Staged)
+        ensures ok { IfOk result (λ reply. (found : PublisherState) (staged : Staged)
             → slice_get self.old.publishers publisher ≡ Some found → found.staged ≡ Some staged
             → outcome.sent_item self.old publisher found staged ≡ (reply, self.new)) }
         ensures err { OnErr result (self.new ≡ self.old) }

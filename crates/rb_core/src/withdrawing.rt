@@ -9,7 +9,7 @@ ghost use Rattle.rb_core.specs.Memory.{MayRunOut};
 ghost use Rattle.rb_core.specs.Outcome as outcome;
 ghost use Rattle.rb_core.specs.Outcome.{entry_of};
 ghost use Rattle.rb_core.specs.declared.event.Event.TheVariants as event;
-ghost use Rattle.rb_core.specs.declared.publisher.Publisher.{Publisher};
+ghost use Rattle.rb_core.specs.declared.publisher.PublisherState.{PublisherState};
 ghost use Rattle.rb_sequence.specs.Entry.{Entry};
 ghost use Rattle.rb_core.specs.State.{IsWorld, is_withdrawn, with_mark};
 ghost use Rattle.rb_sequence.specs.Items.{AreNumbered};
@@ -68,7 +68,7 @@ impl Parts {
         requires numbered { AreNumbered (λ entry. entry.number) 1 self.old.sequence }
         requires publisher { publisher < length self.old.publishers }
         requires placed { IsSome (entry_of self.old number) }
-        ensures ok { IfOk result (λ reply. (found : Publisher) (entry : Entry)
+        ensures ok { IfOk result (λ reply. (found : PublisherState) (entry : Entry)
             → slice_get self.old.publishers publisher ≡ Some found
             → entry_of self.old number ≡ Some entry
             → outcome.withdrawn_entry self.old publisher found number entry ≡ (reply, self.new)) }

@@ -1,5 +1,6 @@
 -- What a pop tells, said of what the sequencer's pass knows.
-use Rattle.std.proofs.Common.{◌≡◌, ℕ, zero, suc, List, [], ◌∷◌, ◌++◌, length, sym, refl, ap, ◌∙◌, subst, Option, Some, None, arith}
+use Rattle.std.proofs.Common.{◌≡◌, ℕ, zero, suc, List, [], ◌∷◌, ◌++◌, length, sym, refl, ap, ◌∙◌, subst, Option, Some}
+use Rattle.std.proofs.Common.{None, arith}
 use Rattle.std.specs.Option.{MatchOption}
 use Rattle.std.specs.List.{AllByRecursion}
 use Rattle.std.proofs.lemmas.List.{append-nil}
@@ -32,13 +33,12 @@ pub pop_tells : (before after : TableId) (old new : Known) (result : Option Item
     (λ item. (new ≡ pulled_one old item) × ((p : ℕ) → CountsUp p (pulled_in new)))
     → Popped after new (seen_by before old) result
 pop_tells before after old new None same is told =
-    let items = no_items told.1.0 told.1.1 in
-    (
+    let items = no_items told.1.0 told.1.1 in (
       (λ i. seen_by (same i) (told.0 i)),
       subst (λ u. IsAllPulled (seen_by after u)) (sym told.0) (all_weaker
-        (IsPulledOr (pulled_in old) told.1.0) (λ e. e.1 ≡ own_of e.0 (pulled_in old)) (ended_in old)
-        (λ e h. h ∙ ap (λ xs. own_of e.0 (pulled_in old ++ xs)) items ∙ ap (own_of e.0) (append-nil (pulled_in old)))
-        told.1.2),
+          (IsPulledOr (pulled_in old) told.1.0) (λ e. e.1 ≡ own_of e.0 (pulled_in old)) (ended_in old)
+          (λ e h. h ∙ ap (λ xs. own_of e.0 (pulled_in old ++ xs)) items ∙ ap (own_of e.0) (append-nil (pulled_in old)))
+          told.1.2),
     )
 pop_tells before after old new (Some item) same is told =
     (λ i. seen_by (same i) ((told.0 ∙ ap (λ u. pulled_one u item) is) i))

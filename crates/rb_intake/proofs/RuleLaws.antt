@@ -1,5 +1,6 @@
--- EachPass kind of step keeps the rule of the intake.
-use Rattle.std.proofs.Common.{◌≡◌, ◌≢◌, ℕ, zero, suc, ◌+◌, ◌≤◌, List, [], ◌∷◌, ◌++◌, length, set, sym, refl, ap, ◌∙◌, subst, ⊎_elim, append_assoc, Option, Some, None, arith, inl, inr, ◌<◌}
+-- Each kind of step keeps the rule of the intake.
+use Rattle.std.proofs.Common.{◌≡◌, ◌≢◌, ℕ, zero, suc, ◌+◌, ◌≤◌, List, [], ◌∷◌, ◌++◌, length, set, sym, refl, ap, ◌∙◌}
+use Rattle.std.proofs.Common.{subst, ⊎_elim, append_assoc, Option, Some, None, arith, inl, inr, ◌<◌}
 use Rattle.std.specs.List.{AllByRecursion}
 use Rattle.std.proofs.lemmas.Bool.Decides.{eqb_tells}
 use mathlib.Core.Option.{some, some-ne-none, some-injective}
@@ -10,9 +11,11 @@ use Rattle.rb_sequence.specs.declared.item.Item.{Item}
 use Rattle.rb_sequence.specs.Items.{own_of, CountsUp}
 use Rattle.rb_intake.specs.declared.known.Known.{Known}
 use Rattle.rb_intake.specs.declared.known.Known.TheVariants.{Starts, Makes, Sends, Pulls, Spent}
-use Rattle.rb_intake.specs.Rule.{History, HasEnded, IsSo, FitsHistory, KeepsOrder, made_one, newcomer, sequencer_first, maker, sent_one}
+use Rattle.rb_intake.specs.Rule.{History, HasEnded, IsSo, FitsHistory, KeepsOrder, made_one, newcomer, sequencer_first}
+use Rattle.rb_intake.specs.Rule.{maker, sent_one}
 use Rattle.rb_intake.specs.Rule.{pulled_one, taken_in, pulled_in, ended_in, IsPulledOr}
-use Rattle.rb_intake.proofs.Views.{EachPass, each_pass_set, each_pass_more, with_seat, here, elsewhere, all_weaker, all_more}
+use Rattle.rb_intake.proofs.Views.{EachPass, each_pass_set, each_pass_more, with_seat, here, elsewhere, all_weaker}
+use Rattle.rb_intake.proofs.Views.{all_more}
 use Rattle.rb_intake.proofs.ItemLaws.{UpFromOne, own_append, own_more, own_other, numbered_more, numbered_pulled}
 
 -- ---- the first pass
@@ -21,12 +24,15 @@ abbrev first_history : History
 first_history = record { sent = []; pulled = []; reader = 0; maker = 0; made = 0; pass_of = λ _. None }
 
 pub starts_in_order : KeepsOrder [] (Starts ∷ [])
-starts_in_order = (first_history, record {
-  waits = refl;
-  numbered = λ p. tt;
-  later = λ p _. (refl, refl);
-  known = known;
-})
+starts_in_order = (
+  first_history,
+  record {
+    waits = refl;
+    numbered = λ p. tt;
+    later = λ p _. (refl, refl);
+    known = known;
+  },
+)
   where
     known : (pass : ℕ) (v : Known) → get_elem? (Starts ∷ []) pass ≡ some v → IsSo first_history pass v
     known zero v e =
@@ -55,13 +61,15 @@ forks_first pass v is waiting views kept at =
     let new : History = record h { maker = length vs } in
     let none : [] ≡ h.pulled = nothing_before h.pulled waiting (sym so.3 ∙ kept.1.waits) in
     let old : EachPass (IsSo new) vs = each_pass_set (IsSo new) views pass (Pulls [] []) (so.0, none, tt)
-    (λ j u isnt e. first_others h pass (length vs) so j u isnt (kept.1.known j u e)) in
-    (new, record {
-      waits = kept.1.waits;
-      numbered = kept.1.numbered;
-      later = kept.1.later;
-      known = each_pass_more (IsSo new) vs (Makes 0) old (refl, sym so.2);
-    })
+    (λ j u isnt e. first_others h pass (length vs) so j u isnt (kept.1.known j u e)) in (
+      new,
+      record {
+        waits = kept.1.waits;
+        numbered = kept.1.numbered;
+        later = kept.1.later;
+        known = each_pass_more (IsSo new) vs (Makes 0) old (refl, sym so.2);
+      },
+    )
 
 -- ---- one more publisher
 
@@ -98,18 +106,20 @@ forks_make pass v n is waiting views kept at =
         let new : History = record h { made = suc n; pass_of = with_seat h.pass_of n (Some (length vs)) } in
         let none = kept.1.later n (omega (arith, so.1)) in
         let old : EachPass (IsSo new) vs = each_pass_set (IsSo new) views pass (Makes (suc n)) (so.0, refl)
-        (λ j u isnt e. make_others h pass (length vs) n so.0 so.1 j u isnt (kept.1.known j u e)) in
-        (new, record {
-          waits = kept.1.waits;
-          numbered = kept.1.numbered;
-          later = λ p above. (
-            elsewhere h.pass_of n p (Some (length vs)) (λ e. omega (arith, e, above))
-            ∙ (kept.1.later p (omega (arith, above, so.1))).0,
-            (kept.1.later p (omega (arith, above, so.1))).1,
-          );
-          known = each_pass_more (IsSo new) vs (Sends n []) old
-              (here h.pass_of n (Some (length vs)), sym none.1, omega arith);
-        })
+        (λ j u isnt e. make_others h pass (length vs) n so.0 so.1 j u isnt (kept.1.known j u e)) in (
+          new,
+          record {
+            waits = kept.1.waits;
+            numbered = kept.1.numbered;
+            later = λ p above. (
+              elsewhere h.pass_of n p (Some (length vs)) (λ e. omega (arith, e, above))
+                  ∙ (kept.1.later p (omega (arith, above, so.1))).0,
+              (kept.1.later p (omega (arith, above, so.1))).1,
+            );
+            known = each_pass_more (IsSo new) vs (Sends n []) old
+                (here h.pass_of n (Some (length vs)), sym none.1, omega arith);
+          },
+        )
 
 -- ---- an item is sent
 
@@ -144,8 +154,8 @@ numbered_after h p x is own all q = elim (eqb_tells p q) as (λ w. CountsUp q (h
   | inr other ↦ subst UpFromOne (sym (own_other q h.sent x (λ e. other.1 (sym is ∙ e)))) (all q)
 ]
 
-pub push_keeps : (room pass : ℕ) (v : Known) (x : Item) (p : ℕ) (items : List Item) → v ≡ Sends p items → x.publisher ≡ p
-    → x.own ≡ suc (length items) → Pushes KeepsOrder room pass v x (λ w. w ≡ sent_one v x)
+pub push_keeps : (room pass : ℕ) (v : Known) (x : Item) (p : ℕ) (items : List Item) → v ≡ Sends p items
+    → x.publisher ≡ p → x.own ≡ suc (length items) → Pushes KeepsOrder room pass v x (λ w. w ≡ sent_one v x)
 push_keeps room pass v x p items is mine own waiting views _ kept at =
     (Sends p (items ++ x ∷ []), pushed, ap (λ u. sent_one u x) (sym is))
   where
@@ -153,18 +163,20 @@ push_keeps room pass v x p items is mine own waiting views _ kept at =
     pushed =
         let h : History = kept.0 in
         let so : IsSo h pass (Sends p items) = kept.1.known pass (Sends p items) (at ∙ ap some is) in
-        let new : History = record h { sent = h.sent ++ x ∷ [] } in
-        (new, record {
-          waits = ap (λ l. l ++ x ∷ []) kept.1.waits ∙ append_assoc h.pulled waiting (x ∷ []);
-          numbered = numbered_after h p x mine (own ∙ ap (λ l. suc (length l)) so.1) kept.1.numbered;
-          later = λ q above. (
-            (kept.1.later q above).0,
-            own_other q h.sent x (λ e. omega (arith, e, mine, so.2, above)) ∙ (kept.1.later q above).1,
-          );
-          known = each_pass_set (IsSo new) views pass (Sends p (items ++ x ∷ []))
-              (so.0, ap (λ l. l ++ x ∷ []) so.1 ∙ sym (own_more p h.sent x mine), so.2)
-              (λ j u isnt e. push_others h pass p x so.0 so.2 mine j u isnt (kept.1.known j u e));
-        })
+        let new : History = record h { sent = h.sent ++ x ∷ [] } in (
+          new,
+          record {
+            waits = ap (λ l. l ++ x ∷ []) kept.1.waits ∙ append_assoc h.pulled waiting (x ∷ []);
+            numbered = numbered_after h p x mine (own ∙ ap (λ l. suc (length l)) so.1) kept.1.numbered;
+            later = λ q above. (
+              (kept.1.later q above).0,
+              own_other q h.sent x (λ e. omega (arith, e, mine, so.2, above)) ∙ (kept.1.later q above).1,
+            );
+            known = each_pass_set (IsSo new) views pass (Sends p (items ++ x ∷ []))
+                (so.0, ap (λ l. l ++ x ∷ []) so.1 ∙ sym (own_more p h.sent x mine), so.2)
+                (λ j u isnt e. push_others h pass p x so.0 so.2 mine j u isnt (kept.1.known j u e));
+          },
+        )
 
 -- ---- an item is pulled
 
@@ -182,17 +194,20 @@ pop_keeps pass v items ended is x waiting views kept at =
     let h : History = kept.0 in
     let so : IsSo h pass (Pulls items ended) = kept.1.known pass (Pulls items ended) (at ∙ ap some is) in
     let new : History = record h { pulled = h.pulled ++ x ∷ [] } in
-    let flows : h.sent ≡ (h.pulled ++ x ∷ []) ++ waiting = kept.1.waits ∙ sym (append_assoc h.pulled (x ∷ []) waiting) in
-    let grown : items ++ x ∷ [] ≡ h.pulled ++ x ∷ [] = ap (λ l. l ++ x ∷ []) so.1 in
-    (
+    let flows : h.sent ≡ (h.pulled ++ x ∷ []) ++ waiting =
+    kept.1.waits ∙ sym (append_assoc h.pulled (x ∷ []) waiting) in
+    let grown : items ++ x ∷ [] ≡ h.pulled ++ x ∷ [] = ap (λ l. l ++ x ∷ []) so.1 in (
       Pulls (items ++ x ∷ []) ended,
-      (new, record {
-        waits = flows;
-        numbered = kept.1.numbered;
-        later = kept.1.later;
-        known = each_pass_set (IsSo new) views pass (Pulls (items ++ x ∷ []) ended) (so.0, grown, so.2)
-            (λ j u isnt e. pull_others h pass x so.0 j u isnt (kept.1.known j u e));
-      }),
+      (
+        new,
+        record {
+          waits = flows;
+          numbered = kept.1.numbered;
+          later = kept.1.later;
+          known = each_pass_set (IsSo new) views pass (Pulls (items ++ x ∷ []) ended) (so.0, grown, so.2)
+              (λ j u isnt e. pull_others h pass x so.0 j u isnt (kept.1.known j u e));
+        },
+      ),
       (
         ap (λ u. pulled_one u x) (sym is),
         λ p. numbered_pulled p h.sent (items ++ x ∷ []) waiting (flows ∙ ap (λ l. l ++ waiting) (sym grown))
@@ -200,7 +215,7 @@ pop_keeps pass v items ended is x waiting views kept at =
       ),
     )
 
--- at any moment, what a taken_in publisher sent was pulled or waits
+-- at any moment, what a joined publisher sent was pulled or waits
 pub learns : (pass : ℕ) (v : Known) (items : List Item) (ended : List (ℕ × List Item)) → v ≡ Pulls items ended
     → Learns KeepsOrder pass v (λ waiting. AllByRecursion (IsPulledOr (pulled_in v) waiting) (ended_in v))
 learns pass v items ended is waiting views kept at =
@@ -213,7 +228,7 @@ learns pass v items ended is waiting views kept at =
         all_weaker (HasEnded h) (IsPulledOr items waiting) ended
         (λ e ends. ends.2 ∙ ap (own_of e.0) (kept.1.waits ∙ ap (λ l. l ++ waiting) (sym so.1))) so.2
 
--- ---- a publisher's pass is taken_in
+-- ---- a publisher's pass is joined
 
 join_others : (h : History) (pass other p : ℕ) → pass ≡ h.reader → h.pass_of p ≡ Some other → (j : ℕ) (u : Known)
     → j ≢ pass → j ≢ other → IsSo h j u → IsSo (record h { pass_of = with_seat h.pass_of p None }) j u
@@ -225,9 +240,11 @@ join_others h pass other p reader theirs j (Pulls items ended) isnt apart was = 
 join_others h pass other p reader theirs j Spent isnt apart was = tt
 
 pub merges : (pass : ℕ) (v : Known) (other : ℕ) (w : Known) (items : List Item) (ended : List (ℕ × List Item)) (p : ℕ)
-    (sent : List Item) → v ≡ Pulls items ended → w ≡ Sends p sent → Merges KeepsOrder pass v other w (taken_in v w) Spent
+    (sent : List Item) → v ≡ Pulls items ended → w ≡ Sends p sent
+    → Merges KeepsOrder pass v other w (taken_in v w) Spent
 merges pass v other w items ended p sent is is' waiting views kept at two at' =
-    subst (λ (u : Known). KeepsOrder waiting (set (set views pass u) other Spent)) (λ i. taken_in (sym is i) (sym is' i)) merged
+    subst (λ (u : Known). KeepsOrder waiting (set (set views pass u) other Spent))
+    (λ i. taken_in (sym is i) (sym is' i)) merged
   where
     merged : KeepsOrder waiting (set (set views pass (Pulls items (ended ++ (p, sent) ∷ []))) other Spent)
     merged =
@@ -242,15 +259,21 @@ merges pass v other w items ended p sent is is' waiting views kept at two at' =
         (λ e x. (elsewhere h.pass_of p e.0 None (λ same. absurd (cc (x.0, theirs.0, same))) ∙ x.0, x.1, x.2)) so.2 in
         let now : EachPass (λ j u. j ≢ other → IsSo new j u) (set views pass both) =
         each_pass_set (λ j u. j ≢ other → IsSo new j u) views pass both
-        (λ _. (so.0, so.1, all_more (HasEnded new) ended (p, sent) ends
-        (here h.pass_of p None, theirs.2, theirs.1)))
-        (λ j u isnt e apart. join_others h pass other p so.0 theirs.0 j u isnt apart (kept.1.known j u e)) in
-        (new, record {
-          waits = kept.1.waits;
-          numbered = kept.1.numbered;
-          later = λ q above. (
-            elsewhere h.pass_of p q None (λ e. omega (arith, e, theirs.2, above)) ∙ (kept.1.later q above).0,
-            (kept.1.later q above).1,
-          );
-          known = each_pass_set (IsSo new) (set views pass both) other Spent tt (λ j u apart e. now j u e apart);
-        })
+        (λ _. (
+          so.0,
+          so.1,
+          all_more (HasEnded new) ended (p, sent) ends
+              (here h.pass_of p None, theirs.2, theirs.1),
+        ))
+        (λ j u isnt e apart. join_others h pass other p so.0 theirs.0 j u isnt apart (kept.1.known j u e)) in (
+          new,
+          record {
+            waits = kept.1.waits;
+            numbered = kept.1.numbered;
+            later = λ q above. (
+              elsewhere h.pass_of p q None (λ e. omega (arith, e, theirs.2, above)) ∙ (kept.1.later q above).0,
+              (kept.1.later q above).1,
+            );
+            known = each_pass_set (IsSo new) (set views pass both) other Spent tt (λ j u apart e. now j u e apart);
+          },
+        )

@@ -1,5 +1,6 @@
 -- The views of passes at their places, and what a publisher's number is mapped to.
-use Rattle.std.proofs.Common.{◌≡◌, ◌≢◌, ◌⊎◌, inl, inr, ℕ, zero, suc, true, false, ◌==◌, List, [], ◌∷◌, ◌++◌, length, cond, set, sym, refl, ap, ◌∙◌, subst, ⊎_elim, Option}
+use Rattle.std.proofs.Common.{◌≡◌, ◌≢◌, ◌⊎◌, inl, inr, ℕ, zero, suc, true, false, ◌==◌, List, [], ◌∷◌, ◌++◌, length}
+use Rattle.std.proofs.Common.{cond, set, sym, refl, ap, ◌∙◌, subst, ⊎_elim, Option}
 use Rattle.std.specs.List.{AllByRecursion}
 use Rattle.std.proofs.lemmas.Bool.Decides.{eqb_tells}
 use mathlib.Core.Option.{some, some-ne-none, some-injective}
@@ -24,8 +25,8 @@ at_more [] a b (suc j) e = absurd (some-ne-none b (sym e))
 at_more (x ∷ views) a b zero e = inl e
 at_more (x ∷ views) a b (suc j) e = ⊎_elim (λ t. inl t) (λ t. inr (ap suc t.0, t.1)) (at_more views a b j e)
 
-pub each_pass_more : (Is : ℕ → Known → Type 0) (views : List Known) (a : Known) → EachPass Is views → Is (length views) a
-    → EachPass Is (views ++ a ∷ [])
+pub each_pass_more : (Is : ℕ → Known → Type 0) (views : List Known) (a : Known) → EachPass Is views
+    → Is (length views) a → EachPass Is (views ++ a ∷ [])
 each_pass_more Is views a all last j u e =
     ⊎_elim (λ (x : get_elem? views j ≡ some u). all j u x)
     (λ (x : (j ≡ length views) × (a ≡ u)). subst (λ (y : ℕ × Known). Is y.0 y.1) (λ i. (sym x.0 i, x.1 i)) last)

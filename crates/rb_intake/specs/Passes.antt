@@ -24,13 +24,13 @@ pub record PublisherKnows : Type 0 where
   pub sent : List Item
 
 -- the sequencer's pass: its queue, what it pulled, in order, and the publishers whose passes it
--- taken_in, each with what it sent
+-- joined, each with what it sent
 pub record SequencerKnows : Type 0 where
   pub queue : TableId
   pub pulled : List Item
   pub ended : List (ℕ × List Item)
 
--- what each taken_in publisher sent was pulled
+-- what each joined publisher sent was pulled
 abbrev pub IsAllPulled : SequencerKnows → Type 0
 IsAllPulled p = AllByRecursion (λ e. e.1 ≡ own_of e.0 p.pulled) p.ended
 

@@ -20,7 +20,7 @@ pub record History : Type 0 where
   pub made : ℕ
   pub pass_of : ℕ → Option ℕ
 
--- a publisher whose pass was taken_in sends nothing more, and what it sent is known
+-- a publisher whose pass was joined sends nothing more, and what it sent is known
 abbrev pub HasEnded : History → ℕ × List Item → Type 0
 HasEnded h e = (h.pass_of e.0 ≡ None) × (e.0 < h.made) × (e.1 ≡ own_of e.0 h.sent)
 
@@ -33,7 +33,7 @@ IsSo h pass (Pulls items ended) = (pass ≡ h.reader) × (items ≡ h.pulled)
     × AllByRecursion (HasEnded h) ended
 IsSo h pass Spent = Unit {0}
 
--- What was sent is what was pulled, then what waits. EachPass publisher's own numbers count from 1.
+-- What was sent is what was pulled, then what waits. Each publisher's own numbers count from 1.
 -- Nobody sends under a number that wasn't given out. What each pass knows is so.
 pub record FitsHistory (h : History) (waiting : List Item) (views : List Known) : Type 0 where
   pub waits : h.sent ≡ h.pulled ++ waiting
@@ -90,6 +90,6 @@ abbrev pub ended_in : Known → List (ℕ × List Item)
 ended_in (Pulls items ended) = ended
 ended_in v = []
 
--- what a taken_in publisher sent was pulled or waits
+-- what a joined publisher sent was pulled or waits
 abbrev pub IsPulledOr : List Item → List Item → ℕ × List Item → Type 0
 IsPulledOr pulled waiting e = e.1 ≡ own_of e.0 (pulled ++ waiting)

@@ -12,8 +12,8 @@ use std::alloc::{AllocError, Global};
 use std::marker::Model;
 use std::sync::Wait;
 
-/// A queue of items on their way from publishers to the sequencer, shared by all threads. Who may do
-/// what with it is settled by passes.
+/// A queue of items on their way from publishers to the sequencer, shared by all threads. Passes
+/// say who may do what with it.
 #[derive(Drop)]
 pub struct Intake {
     queue: Queue,
@@ -34,8 +34,8 @@ impl Model for Intake {
 }
 
 impl Intake {
-    /// An intake in which at most `capacity` items wait, with the passes of the sequencer and of the
-    /// maker of publishers. Returns `AllocError` if memory runs out.
+    /// An intake in which at most `capacity` items wait, with the passes of the sequencer and of
+    /// the maker of publishers. Returns `AllocError` if memory runs out.
     pub fn new(
         alloc: Global,
         capacity: usize,
@@ -98,11 +98,11 @@ impl Intake {
         Ok(())
     }
 
-    /// Pulls the item that waits first. EachPass publisher's own numbers count from 1 in what was
+    /// Pulls the item that waits first. Each publisher's own numbers count from 1 in what was
     /// pulled.
     ///
     /// Returns `None` if the intake was empty at one moment of the call. What the publishers sent
-    /// whose passes were taken_in is all pulled then.
+    /// whose passes were joined is all pulled then.
     pub fn pop<R: Wait>(&self, rt: &R, pass: &mut SequencerPass) -> Option<Item>
         requires queue { pass.old.queue ≡ self.now.queue }
         ensures item { MatchOption result ((pass.new ≡ pass.old) × IsAllPulled pass.new)
@@ -120,7 +120,6 @@ impl Intake {
           ended = pass.old.ended ++ (publisher.publisher, publisher.sent) ∷ [];
         } }
     {
-        self.queue
-            .absorb::<TakeIn>(&mut pass.seat, publisher.seat);
+        self.queue.absorb::<TakeIn>(&mut pass.seat, publisher.seat);
     }
 }

@@ -11,8 +11,8 @@ pub enum Known {
     Makes(u64),
     /// What the publisher with this number sent.
     Sends(u64, LinkedList<Item>),
-    /// What the sequencer pulled, and what each publisher sent whose pass was taken_in.
+    /// What the sequencer pulled, and what each publisher sent whose pass was joined.
     Pulls(LinkedList<Item>, LinkedList<(u64, LinkedList<Item>)>),
-    /// Nothing any more: a pass that was taken_in.
+    /// Nothing any more: a pass that was joined.
     Spent,
 }

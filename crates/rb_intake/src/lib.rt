@@ -1,5 +1,5 @@
 //! The intake: a queue into which publishers send items from threads of their own, and from which
-//! the sequencer pop_keeps them. Theorem: what was sent is what was pulled and then what waits; what is
+//! the sequencer pulls them. Theorem: what was sent is what was pulled and then what waits; what is
 //! pulled of a publisher is what it sent, in its order, each item once.
 #![tactic(auto)]
 

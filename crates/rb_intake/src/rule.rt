@@ -51,7 +51,7 @@ impl Join<Known> for TakeIn {
     ghost spent = { Spent };
 }
 
-/// A publisher push_keeps an item, or finds the queue full.
+/// A publisher pushes an item, or finds the queue full.
 pub(crate) struct Push;
 
 impl Outcome<Item, Known> for Push {
@@ -67,8 +67,8 @@ impl Lesson<Item, Known> for Push {
     ghost fact = { λ v items. ⊤ };
 }
 
-/// The sequencer pops an item, or finds the queue empty. EachPass publisher's own numbers count from 1
-/// in what it pulled, and what the taken_in publishers sent was pulled or waits.
+/// The sequencer pops an item, or finds the queue empty. Each publisher's own numbers count from 1
+/// in what it pulled, and what the joined publishers sent was pulled or waits.
 pub(crate) struct Pop;
 
 impl Outcome<Item, Known> for Pop {
@@ -89,4 +89,5 @@ impl Lesson<Item, Known> for Pop {
 
 /// The queue under the rule, and its passes.
 pub(crate) type Queue = RuledArrayQueue<Item, Known, InOrder>;
+
 pub(crate) type Seat = Pass<Item, Known>;

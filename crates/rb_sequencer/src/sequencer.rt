@@ -16,7 +16,7 @@ use std::alloc::Global;
 use std::marker::{Model, PhantomData};
 use std::sync::Wait;
 
-/// The sequencer of a broker. It is of one thread. A broker has one, since its pass is the only one.
+/// The sequencer of a broker. It is of one thread. A broker has one: there is one pass for it.
 #[derive(Drop)]
 pub struct Sequencer<L: Hall> {
     pass: SequencerPass,
@@ -71,8 +71,8 @@ impl<L: Hall> Sequencer<L> {
         self.hand.as_ref()
     }
 
-    /// How many items it placed: the entries with the numbers from 1 to this one. Each stands in its
-    /// cell, and each publisher's own numbers count from 1.
+    /// How many items it placed: the entries with the numbers from 1 to this one. Each stands in
+    /// its cell, and each publisher's own numbers count from 1.
     pub fn placed(&self) -> u64
         ensures count { result ≡ length self.now.placed }
         ensures cells { AreInCells L.cells 1 self.now.placed }
@@ -91,8 +91,8 @@ impl<L: Hall> Sequencer<L> {
 
     /// Takes one turn. If the hand is empty, pulls the next item. Then places the item in hand.
     ///
-    /// Returns `Idle` if nothing waits. `Refused` leaves the item in hand: the sequence is closed or
-    /// full, its cell is set, or memory ran out.
+    /// Returns `Idle` if nothing waits. `Refused` leaves the item in hand: the sequence is closed
+    /// or full, its cell is set, or memory ran out.
     pub fn turn<R: Wait>(&mut self, rt: &R, alloc: Global, broker: &Broker<L>) -> Turn
         ensures { IsTurn L.cells self.old self.new result }
     {

@@ -2,12 +2,11 @@
 
 ghost use Rattle.std.specs.Prelude.{◌≡◌, IfOk};
 
-use cs_model::{Octets, Schema, Seq, Shape};
+use cs_model::{Octets, Origin, Schema, Seq, Shape};
 use cs_parse::{ParseError, parse};
 use rb_broker::Opened;
 use rb_desk::Config;
 use rb_sequence::{Entry, Item};
-use cs_model::Origin;
 use std::alloc::{AllocError, Global};
 use std::test::Fail;
 

@@ -4,8 +4,9 @@ ghost use Rattle.std.specs.Prelude.{◌≡◌, IfOk};
 
 use crate::given::{insert, opened};
 use cs_model::Origin;
-use rb_broker::{Broker, Hall, Opened, PlaceRefusal, Publisher, SendRefusal, StagedSet};
-use rb_broker::WithdrawRefusal;
+use rb_broker::{
+    Broker, Hall, Opened, PlaceRefusal, Publisher, SendRefusal, StagedSet, WithdrawRefusal,
+};
 use rb_sequence::{Sequence, Told};
 use rb_sequencer::{Sequencer, Turn};
 use std::alloc::Global;
