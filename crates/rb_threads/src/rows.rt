@@ -130,16 +130,33 @@ fn fills_the_sequence<L: Hall, R: Wait + Abort>(
     publisher: &mut Publisher<L>,
     sequencer: &mut Sequencer<L>,
 ) -> Result<(), Fail> {
-    let set = stage(alloc, publisher, &insert(3))?;
-    assert_eq!(rt; publisher.send(rt, broker, set).ok(), Some(3));
-    for _ in 0..2 {
-        assert_eq!(rt; placed(rt, alloc, broker, sequencer), None);
-        assert_eq!(rt; sequencer.hand().map(|item| item.own), Some(3));
-    }
-    assert_eq!(rt; sequencer.placed(), 2);
-    assert!(rt; sequencer.told(0).is_none() && sequencer.told(3).is_none());
-    assert_eq!(rt; sequencer.told(2).map(|told| told.number()), Some(2));
+    let number = put(rt, alloc, broker, publisher, sequencer, &insert(3))?;
+    assert_eq!(rt; number, None);
+    assert_eq!(rt; own_in_hand(sequencer), Some(3));
+    assert_eq!(rt; placed(rt, alloc, broker, sequencer), None);
+    assert_eq!(rt; own_in_hand(sequencer), Some(3));
+    has_two(rt, sequencer);
     Ok(())
+}
+
+// the own number of the item in hand
+fn own_in_hand<L: Hall>(sequencer: &Sequencer<L>) -> Option<u64> {
+    let item = sequencer.hand()?;
+    Some(item.own)
+}
+
+// the number that the token of a number has
+fn told_number<L: Hall>(sequencer: &Sequencer<L>, number: u64) -> Option<u64> {
+    let told = sequencer.told(number)?;
+    Some(told.number())
+}
+
+// the sequencer placed two items
+fn has_two<L: Hall, R: Abort>(rt: &R, sequencer: &Sequencer<L>) {
+    assert_eq!(rt; sequencer.placed(), 2);
+    assert_eq!(rt; told_number(sequencer, 0), None);
+    assert_eq!(rt; told_number(sequencer, 2), Some(2));
+    assert_eq!(rt; told_number(sequencer, 3), None);
 }
 
 fn withdraws<L: Hall, R: Wait + Abort>(rt: &R, alloc: Global, opened: Opened) -> Result<(), Fail>
