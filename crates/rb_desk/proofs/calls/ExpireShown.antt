@@ -1,7 +1,6 @@
 -- The whole picture after expired spans are returned, and how many these are.
 use Rattle.std.proofs.Common.{◌≡◌, ℕ, ◌+◌, ◌<◌, ◌≤◌, false, Bool, List, ◌++◌, length, map, Option, Some, filter}
-use Rattle.std.proofs.Common.{slice_get}
-use Rattle.std.proofs.Common.{sym, ap, ◌∙◌, arith}
+use Rattle.std.proofs.Common.{slice_get, sym, ap, ◌∙◌, arith}
 use Rattle.std.specs.List.{AllByRecursion}
 use Rattle.std.proofs.lemmas.List.{length-map}
 use Rattle.rb_deliveries.specs.Expiry.{turns_from, by_number, expired_sub, all_due}
