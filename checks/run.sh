@@ -69,6 +69,26 @@ for script in crates/rb_cases/data/*.script; do
     end "case ${case##*/}"
 done
 
+# Listings: lines with the rows that they show, as SQL literals and as JSON.
+for lines in crates/rb_cases/data/*.shows; do
+    case=${lines%.shows}
+    for form in sql json; do
+        flag=''
+        [ "$form" = sql ] || flag=--json
+        # no flag is no word
+        run "$lines" show $flag
+        need 'other rows' cmp -s "$out" "$case.$form"
+        if [ -f "$case.fault" ]; then
+            need_status 1
+            need "err is '$(head -c 200 "$err")'" test "$(cat "$err")" = "rb_run: $(cat "$case.fault")"
+        else
+            need_status 0
+            need_nothing err
+        fi
+        end "listing ${case##*/}, $form"
+    done
+done
+
 # The command line.
 
 # refused NAME WORDS..: a command line that the program doesn't take

@@ -57,8 +57,8 @@ impl Case {
     }
 }
 
-// A file's bytes; none if there is no such file.
-fn read_if_there(rt: &HostRuntime, alloc: Global, name: &str) -> io::Result<Vec<u8>> {
+/// A file's bytes; none if there is no such file.
+pub fn read_if_there(rt: &HostRuntime, alloc: Global, name: &str) -> io::Result<Vec<u8>> {
     match fs::read(rt, name) {
         Err(why) if why.kind() == io::ErrorKind::NotFound => Ok(Vec::new(alloc)),
         read => read,
@@ -73,8 +73,8 @@ fn text_of_end(alloc: Global, ended: &Result<(), ScriptFault>) -> Result<String,
     }
 }
 
-// The number of answers, or the first one that differs.
-fn difference(
+/// The number of answers, or the first one that differs.
+pub fn difference(
     alloc: Global,
     given: &[&[u8]],
     wanted: &[&[u8]],

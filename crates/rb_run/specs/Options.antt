@@ -1,5 +1,6 @@
--- The limits, and how a script is answered, from the options of a command line.
-use Rattle.std.specs.Prelude.{ℕ, Bool, List, [], Option, Some, None, Result, Ok, Err, codes}
+-- The limits, how a script is answered, and how rows are shown, from the options of a command line.
+use Rattle.std.specs.Prelude.{ℕ, Bool, false, List, [], Option, Some, None, Result, Ok, Err, codes}
+use Rattle.std.specs.Prelude.{if◌then◌else◌}
 use Rattle.std.specs.Option.{option_and_then}
 use Rattle.clap.specs.Walk.{Row, Text, first_of}
 use Rattle.rb_desk.specs.Limits.{Limits, first_out_of_range}
@@ -8,6 +9,8 @@ use Rattle.rb_desk.specs.declared.config.ConfigFault.TheVariants.{Batch, Window,
 use Rattle.rb_desk.specs.declared.config.ConfigFault.TheVariants.{Intake, Appliers}
 use Rattle.cs_model.specs.Schema.{same_bytes}
 use Rattle.rb_script.specs.declared.answering.Answering.{Answering}
+use Rattle.rb_script.specs.declared.row_form.RowForm.{RowForm}
+use Rattle.rb_script.specs.declared.row_form.RowForm.TheVariants.{Sql, Json}
 use Rattle.rb_script.specs.Words.{number_in_word}
 
 -- the number that an option's word spells, or 0, which is in no range
@@ -72,3 +75,12 @@ is_set found name = same_bytes (word_of found name) (codes "true")
 abbrev pub answering_by : Option (Text × List Row) → Answering
 answering_by found =
     record { numbers = is_set found (codes "numbers"); strict = is_set found (codes "strict") }
+
+-- how rows are shown
+abbrev pub form_by : Option (Text × List Row) → RowForm
+form_by found = if is_set found (codes "json") then Json else Sql
+
+-- whether the subcommand has this name
+abbrev pub is_called : Option (Text × List Row) → Text → Bool
+is_called None name = false
+is_called (Some given) name = same_bytes given.0 name

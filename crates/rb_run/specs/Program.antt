@@ -1,5 +1,6 @@
 -- The command line: which words the program takes, and what they ask for.
-use Rattle.std.specs.Prelude.{◌≡◌, true, false, List, [], ◌∷◌, Some, Result, Ok, Err, codes}
+use Rattle.std.specs.Prelude.{◌≡◌, Bool, true, false, List, [], ◌∷◌, Some, Result, Ok}
+use Rattle.std.specs.Prelude.{Err, codes}
 use Rattle.clap.specs.Faults.{fault_of}
 use Rattle.clap.specs.Kinds.{Kinds, HasKind}
 use Rattle.clap.specs.Simple.{App, Shape, new_rule, new_shape, subcommand_of}
@@ -12,12 +13,13 @@ use Rattle.clap.specs.declared.error.kind.ErrorKind.TheVariants.{DisplayHelp, Di
 use Rattle.rb_desk.specs.Limits.{Limits}
 use Rattle.rb_desk.specs.declared.config.ConfigFault.{ConfigFault}
 use Rattle.rb_run.specs.declared.ending.Ending.{Ending}
-use Rattle.rb_run.specs.declared.ending.Ending.TheVariants.{Done, Stopped, Misused}
+use Rattle.rb_run.specs.declared.ending.Ending.TheVariants.{Done, Stopped, Misused, Unshown}
 use Rattle.rb_run.specs.declared.job.Job.{Job}
 use Rattle.rb_run.specs.declared.job.Job.TheVariants as job
-use Rattle.rb_run.specs.Options.{answering_by, config_by}
+use Rattle.rb_run.specs.Options.{answering_by, config_by, form_by, is_called}
 use Rattle.rb_script.specs.declared.answering.Answering.{Answering}
 use Rattle.rb_script.specs.declared.fault.ScriptFault.TheVariants.{Memory}
+use Rattle.rb_script.specs.declared.row_form.RowForm.{RowForm}
 
 -- an option that takes a number, with its usual number
 abbrev pub limit_option : Text → Text → Rule
@@ -43,6 +45,13 @@ script_command = record (new_shape (codes "script")) {
       ∷ flag_option (codes "strict") ∷ [];
 }
 
+-- `show`, with its option
+abbrev pub show_command : Shape
+show_command = record (new_shape (codes "show")) {
+  has_version = true;
+  rules = flag_option (codes "json") ∷ [];
+}
+
 -- `rb_run`, which has a version and takes a subcommand
 abbrev pub program : App
 program = record {
@@ -51,7 +60,7 @@ program = record {
     has_version = true;
     subcommand_required = true;
   };
-  subs = script_command ∷ [];
+  subs = script_command ∷ show_command ∷ [];
 }
 
 -- the limits that the words ask for, or the first option whose word isn't a number in its range
@@ -62,22 +71,42 @@ config_in words = config_by (subcommand_of program words)
 abbrev pub answering_in : List Text → Answering
 answering_in words = answering_by (subcommand_of program words)
 
+-- whether the words call `show`, and how they ask for rows to be shown
+abbrev pub calls_show : List Text → Bool
+calls_show words = is_called (subcommand_of program words) (codes "show")
+
+abbrev pub form_in : List Text → RowForm
+form_in words = form_by (subcommand_of program words)
+
 -- what is wrong with the words, or the request for help or the version; [] if nothing is
 abbrev pub wrong_in : List Text → Kinds
 wrong_in words = fault_of program words
 
+-- The program takes the words, and they call `show`, or another subcommand.
+abbrev pub AreTaken : Bool → List Text → Type 0
+AreTaken shows words = (wrong_in words ≡ []) × (calls_show words ≡ shows)
+
 -- What the words ask for. If the program takes them, a script under their limits and in their way,
--- or a message about an option; else a text to print, also if memory ran out.
+-- or a message about an option, or rows in their form; else a text to print, also if memory ran
+-- out.
 abbrev pub AsksFor : Job → List Text → Type 0
-AsksFor (job.Script limits how) words = (wrong_in words ≡ []) × (config_in words ≡ Ok limits)
+AsksFor (job.Script limits how) words = AreTaken false words × (config_in words ≡ Ok limits)
     × (how ≡ answering_in words)
-AsksFor (job.Range fault) words = (wrong_in words ≡ []) × (config_in words ≡ Err fault)
+AsksFor (job.Range fault) words = AreTaken false words × (config_in words ≡ Err fault)
+AsksFor (job.Show form) words = AreTaken true words × (form ≡ form_in words)
 AsksFor (job.Print e) words = HasKind (wrong_in words) e
 
 -- the status is 0, 1 or 3, as the script ends
 abbrev pub HasTried : Ending → Type 0
 HasTried Misused = ⊥
+HasTried (Unshown fault) = ⊥
 HasTried ending = Unit {0}
+
+-- the status is 0 or 1, as the showing ends
+abbrev pub HasShown : Ending → Type 0
+HasShown Done = Unit {0}
+HasShown (Unshown fault) = Unit {0}
+HasShown ending = ⊥
 
 -- the status is 0 or 1, as the printing ends
 abbrev pub HasPrinted : Ending → Type 0
@@ -97,6 +126,7 @@ EndsShown kind ending = ending ≡ Misused
 abbrev pub EndsFor : Job → Ending → Type 0
 EndsFor (job.Script limits how) ending = HasTried ending
 EndsFor (job.Range fault) ending = ending ≡ Misused
+EndsFor (job.Show form) ending = HasShown ending
 EndsFor (job.Print e) ending = EndsShown (kind_of e) ending
 
 -- the program does what the words ask for, and ends so

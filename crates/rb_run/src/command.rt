@@ -4,6 +4,7 @@ ghost use Rattle.std.specs.Prelude.{◌≡◌, false, IfOk};
 ghost use Rattle.clap.specs.Words.{app_of, rule_of};
 ghost use Rattle.clap.specs.declared.builder.command.Command.TheViews.{out-Command};
 ghost use Rattle.rb_run.specs.Program.{flag_option, limit_option, program, script_command};
+ghost use Rattle.rb_run.specs.Program.{show_command};
 
 use clap::{Arg, ArgAction, Command};
 use std::alloc::{AllocError, Global};
@@ -55,7 +56,24 @@ Statuses:
   3  --strict, and a line is refused or faulty: one line on standard error says its number, the line
      and its answer, such as rb_run: line 7: take 0 3: refused Empty 0";
 
-/// The program's name, version, subcommand and options. Returns `AllocError` if memory runs out.
+// the text after the option of `show --help`
+const ROWS: &str = "\
+Call it with a script's `table` lines, and then its answers:
+  (grep '^table' FILE; rb_run script < FILE) | rb_run show
+
+  table HEX           a table, as in a script: the first one has index 0
+  row T HEX HEX ..    a row of the table with index T
+
+A row is shown as t: 1, 'it''s', x'00ff', NULL, and with --json as
+{\"row\":[1,\"it's\",{\"hex\":\"00ff\"},null],\"table\":\"t\"}. All other lines show nothing.
+
+Statuses:
+  0  all rows are shown
+  1  it stopped, with one line on standard error: a line of `row` that is no row of a table, a read
+     fault, a write fault, or out of memory
+  2  the command line is faulty";
+
+/// The program's name, version, subcommands and options. Returns `AllocError` if memory runs out.
 pub fn program<'a>(alloc: Global) -> Result<Command<'a>, AllocError>
     ensures app { IfOk result (λ command. app_of command ≡ program) }
 {
@@ -63,7 +81,8 @@ pub fn program<'a>(alloc: Global) -> Result<Command<'a>, AllocError>
         .version(VERSION)
         .about("A replication broker for SQLite changesets")
         .subcommand_required(true)
-        .subcommand(script(alloc)?)
+        .subcommand(script(alloc)?)?
+        .subcommand(show(alloc)?)
 }
 
 // the subcommand `script`
@@ -122,6 +141,19 @@ fn script<'a>(alloc: Global) -> Result<Command<'a>, AllocError>
         .arg(intake)?
         .arg(numbers)?
         .arg(strict)
+}
+
+// the subcommand `show`
+fn show<'a>(alloc: Global) -> Result<Command<'a>, AllocError>
+    ensures app { IfOk result (λ command. (app_of command).top ≡ show_command) }
+    ensures local { IfOk result (λ command. (out-Command command).has_globals ≡ false) }
+{
+    let json = flag(alloc, "json", "Write each row as a JSON object");
+    Command::new(alloc, "show")
+        .version(VERSION)
+        .about("Shows the rows in a script's answers on standard input, a line each")
+        .after_help(ROWS)
+        .arg(json)
 }
 
 // an option that takes a number

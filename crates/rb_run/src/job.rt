@@ -5,10 +5,10 @@ ghost use Rattle.clap.specs.Words.{FailsBy, subcommand_of, subcommand_rows_of};
 ghost use Rattle.rb_run.specs.Program.{AsksFor, program, wrong_in};
 
 use crate::command::program;
-use crate::options::{answering, config};
+use crate::options::{answering, called, config, form};
 use clap::{ArgMatches, Error};
 use rb_core::{Config, ConfigFault};
-use rb_script::Answering;
+use rb_script::{Answering, RowForm};
 use std::alloc::Global;
 
 /// What a command line asks for.
@@ -18,6 +18,8 @@ pub enum Job {
     Script(Config, Answering),
     /// Says which option's word isn't a number in its range.
     Range(ConfigFault),
+    /// Shows rows in this form.
+    Show(RowForm),
     /// Prints help, the version or what is wrong with the words; or memory ran out.
     Print(Error),
 }
@@ -29,6 +31,7 @@ impl Job {
     {
         match found(alloc, words) {
             Err(shown) => Job::Print(shown),
+            Ok(found) if called(&found, "show") => Job::Show(form(&found)),
             Ok(found) => match config(&found) {
                 Ok(config) => Job::Script(config, answering(&found)),
                 Err(fault) => Job::Range(fault),

@@ -1,6 +1,7 @@
-//! The program: parses a command line, and runs a script from standard input to standard output.
-//! Theorem: the exit status is that of what the words ask for. They ask for a script under the
-//! limits of their options, for a message about the first faulty option, or for a text to print.
+//! The program: parses a command line, and runs a script or shows rows from standard input to
+//! standard output. Theorem: the exit status is that of what the words ask for. They ask for a
+//! script under the limits of their options, for a message about the first faulty option, for rows
+//! in the form of their options, or for a text to print.
 #![tactic(auto)]
 
 mod command;
@@ -10,7 +11,8 @@ mod options;
 
 ghost use Rattle.std.specs.Prelude.{map, string_bytes};
 ghost use Rattle.clap.specs.Values.{kind_of};
-ghost use Rattle.rb_run.specs.Program.{EndsAsAsked, EndsFor, EndsShown, HasPrinted, HasTried};
+ghost use Rattle.rb_run.specs.Program.{EndsAsAsked, EndsFor, EndsShown, HasPrinted, HasShown};
+ghost use Rattle.rb_run.specs.Program.{HasTried};
 
 use clap::Error;
 use clap::error::ErrorKind;
@@ -18,7 +20,7 @@ use ending::Ending;
 use job::Job;
 use options::range;
 use rb_core::Config;
-use rb_script::{Answering, ScriptFault, run_script};
+use rb_script::{Answering, RowForm, ScriptFault, ShowFault, run_script, show};
 use std::alloc::Global;
 use std::io::{BufWriter, Write};
 use std::process::ExitCode;
@@ -30,6 +32,7 @@ fn main(rt: HostRuntime) -> ExitCode {
     let _ = match &ending {
         Ending::Stopped(fault) => eprintln!(rt; "rb_run: {fault}"),
         Ending::Refused(line) => eprintln!(rt; "rb_run: {line}"),
+        Ending::Unshown(fault) => eprintln!(rt; "rb_run: {fault}"),
         Ending::Done | Ending::Misused => Ok(()),
     };
     ExitCode::from(ending.status())
@@ -71,6 +74,7 @@ fn done(rt: &HostRuntime, job: Job) -> Ending
             let _ = eprintln!(rt; "rb_run: {}", range(fault));
             Ending::Misused
         }
+        Job::Show(form) => showed(rt, rt.alloc(), form),
         Job::Print(text) => printed(rt, &text),
     }
 }
@@ -119,4 +123,15 @@ fn scripted(rt: &HostRuntime, alloc: Global, config: Config, how: Answering) -> 
         return Ending::Stopped(ScriptFault::Memory);
     };
     Ending::of(run_script(alloc, &mut reader, &mut writer, config, how))
+}
+
+// Shows the rows from standard input on standard output.
+fn showed(rt: &HostRuntime, alloc: Global, form: RowForm) -> Ending
+    ensures { HasShown result }
+{
+    let mut reader = rt.stdin();
+    let Ok(mut writer) = BufWriter::with_capacity(alloc, 65_536, rt.stdout()) else {
+        return Ending::Unshown(ShowFault::Memory);
+    };
+    Ending::of_show(show(alloc, &mut reader, &mut writer, form))
 }

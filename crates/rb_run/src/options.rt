@@ -1,13 +1,14 @@
-//! Reads the limits, and how a script is answered, from the options of a command line.
+//! Reads what is asked for from the options of a command line: the limits, how a script is
+//! answered, and how rows are shown.
 
 ghost use Rattle.std.specs.Prelude.{◌≡◌};
 ghost use Rattle.clap.specs.Words.{subcommand_rows_of};
-ghost use Rattle.rb_run.specs.Options.{answering_by, config_by, config_of, is_set, range_text};
-ghost use Rattle.rb_run.specs.Options.{value_of, word_of};
+ghost use Rattle.rb_run.specs.Options.{answering_by, config_by, config_of, form_by, is_called};
+ghost use Rattle.rb_run.specs.Options.{is_set, range_text, value_of, word_of};
 
 use clap::ArgMatches;
 use rb_core::{Config, ConfigFault};
-use rb_script::{Answering, number};
+use rb_script::{Answering, RowForm, number};
 
 /// The limits from the options of the subcommand, or the first option whose word isn't a number in
 /// its range.
@@ -29,6 +30,27 @@ pub fn answering(found: &ArgMatches) -> Answering
     Answering {
         numbers: flag(found, "numbers"),
         strict: flag(found, "strict"),
+    }
+}
+
+/// How the options of the subcommand say that rows are shown.
+pub fn form(found: &ArgMatches) -> RowForm
+    ensures { result ≡ form_by (subcommand_rows_of found.now) }
+{
+    if flag(found, "json") {
+        RowForm::Json
+    } else {
+        RowForm::Sql
+    }
+}
+
+/// Whether the subcommand has this name.
+pub fn called(found: &ArgMatches, name: &str) -> bool
+    ensures { result ≡ is_called (subcommand_rows_of found.now) name.now }
+{
+    match found.subcommand() {
+        None => false,
+        Some((given, _)) => given == name,
     }
 }
 

@@ -1,7 +1,7 @@
 //! Readers and writers that fail, are interrupted, or wait for answers.
 
 use rb_core::Config;
-use rb_script::{Answering, ScriptFault, run_script};
+use rb_script::{Answering, RowForm, ScriptFault, ShowFault, run_script, show};
 use std::alloc::Global;
 use std::cell::Cell;
 use std::io;
@@ -341,5 +341,51 @@ fn answers_are_handed_on_behind_a_fault(rt: HostRuntime) -> Result<(), Fail> {
     );
     stopped(&rt, alloc, run, "script too long: more than 16777216 bytes")?;
     assert_eq!(rt; answered.get(), 257);
+    Ok(())
+}
+
+// The showing stopped with this text. If memory ran out before, that is an error.
+fn unshown(
+    rt: &impl Abort,
+    alloc: Global,
+    run: Result<(), ShowFault>,
+    want: &str,
+) -> Result<(), Fail> {
+    let Err(fault) = run else {
+        return Err("all rows were shown")?;
+    };
+    let text = format!(in alloc; "{fault}")?;
+    if text.as_str() != want && matches!(&fault, ShowFault::Memory | ShowFault::Write(_)) {
+        return Err("out of memory")?;
+    }
+    assert_eq!(rt; text.as_str(), want);
+    Ok(())
+}
+
+#[test]
+fn showing_stops(rt: HostRuntime) -> Result<(), Fail> {
+    let alloc = rt.alloc();
+    let rows = b"table 540101007400\nrow 0 0100000000000000ff\n";
+    let mut written = Vec::new(alloc);
+    let mut failing = Failing { rest: rows };
+    let read = show(alloc, &mut failing, &mut written, RowForm::Sql);
+    unshown(&rt, alloc, read, "read fault: timed out")?;
+    // nothing is written before the whole input is read
+    assert!(rt; written.is_empty());
+    let mut input: &[u8] = rows;
+    let full = show(alloc, &mut input, &mut Full, RowForm::Json);
+    unshown(&rt, alloc, full, "write fault: write zero")?;
+    let mut broken = Broken {
+        writes: false,
+        flushes: 0,
+    };
+    let mut input: &[u8] = rows;
+    let unflushed = show(alloc, &mut input, &mut broken, RowForm::Sql);
+    unshown(&rt, alloc, unflushed, "write fault: timed out")?;
+    let input: &[u8] = rows;
+    let mut reader = Hasty::new(input);
+    let mut writer = Hasty::new(Vec::new(alloc));
+    show(alloc, &mut reader, &mut writer, RowForm::Sql)?;
+    assert!(rt; writer.inner.as_slice() == b"t: 255\n".as_slice());
     Ok(())
 }
