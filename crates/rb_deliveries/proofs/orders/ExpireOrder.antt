@@ -192,8 +192,8 @@ sub_parts batch front turn number D due timeout clock s tk sub one r b num tells
 -- ---- all subscriptions
 
 pub subs_parts : (batch front turn number : ℕ) (D : ℕ → Type 0) (due : ℕ × ℕ → Bool) (timeout clock s : ℕ)
-    (tk : ℕ → Ticket) (subs : List Sub) → 1 ≤ batch → Rising front turn D tk → AllByRecursion (Belongs front turn number) subs
-    → AllByRecursion (AllNumbered D timeout clock) subs
+    (tk : ℕ → Ticket) (subs : List Sub) → 1 ≤ batch → Rising front turn D tk
+    → AllByRecursion (Belongs front turn number) subs → AllByRecursion (AllNumbered D timeout clock) subs
     → ((k i : ℕ) (sub : Sub) → k ≡ s + i → slice_get subs i ≡ Some sub → sub.closed ≡ false
     → AllByRecursion (ExpireReports due timeout clock k) (lane_held batch front sub.lane))
     → ExpireOrderParts D due (next_turn front turn) tk
