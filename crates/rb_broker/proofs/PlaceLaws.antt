@@ -1,7 +1,6 @@
 -- What the desk's `prepare` and `place` say of its capacity.
-use Rattle.std.proofs.Common.{◌≡◌, ℕ, suc, ◌≤◌, ◌<◌, nat_lt, true, false, Result, Ok, Err, Option, Some, None, refl}
-use Rattle.std.proofs.Common.{◌∙◌, sym, ap, arith, if◌then◌else◌}
-use Rattle.rb_desk.specs.declared.refusal.DeskRefusal.{DeskRefusal}
+use Rattle.std.proofs.Common.{◌≡◌, ℕ, ◌≤◌, Ok, Option, Some, None, refl}
+use Rattle.std.proofs.Common.{arith}
 use Rattle.rb_desk.specs.Picture.{Picture}
 use Rattle.rb_desk.specs.Calls.{prepare, place, next_place}
 

@@ -1,5 +1,5 @@
 -- What a new broker's parts share, and what stands for it before a broker is opened.
-use Rattle.std.specs.Prelude.{ℕ, List, [], refl}
+use Rattle.std.specs.Prelude.{List, [], refl}
 use Rattle.std.specs.Coded.{Coded, code_by, coded×, coded_list}
 use Rattle.cs_model.specs.contracts.shape.Shape as shape
 use Rattle.cs_model.specs.declared.shape.Shape.{Shape}

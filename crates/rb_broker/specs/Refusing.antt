@@ -1,5 +1,5 @@
 -- What a publisher's calls hand back, and the entries that it withdrew.
-use Rattle.std.specs.Prelude.{◌≡◌, ℕ, List, [], Bool, None, Result, Ok, Err}
+use Rattle.std.specs.Prelude.{◌≡◌, ℕ, List, Bool, None, Result, Ok, Err}
 use Rattle.std.specs.List.{list_any}
 use Rattle.std.specs.Ordering.{nat_cmp}
 use Rattle.std.specs.BTreeMap.{is_at}
@@ -7,7 +7,7 @@ use Rattle.std.specs.BTreeSet.{insert_key}
 use Rattle.cs_model.specs.declared.origin.Origin.TheVariants.{Sent}
 use Rattle.cs_model.specs.Section.{Section}
 use Rattle.cs_parse.specs.declared.end.EndError.{EndError}
-use Rattle.rb_sequence.specs.Cells.{Cells, IsLastToken, LastToken}
+use Rattle.rb_sequence.specs.Cells.{Cells, IsLastToken}
 use Rattle.rb_broker.specs.Publishers.{StagedView}
 use Rattle.rb_broker.specs.declared.refusal.SendRefusal.{SendRefusal}
 use Rattle.rb_broker.specs.declared.refusal.SendRefusal.TheVariants as send

@@ -1,6 +1,6 @@
 -- Each kind of step keeps the rule of the intake.
-use Rattle.std.proofs.Common.{◌≡◌, ◌≢◌, ℕ, zero, suc, ◌+◌, ◌≤◌, List, [], ◌∷◌, ◌++◌, length, set, sym, refl, ap, ◌∙◌}
-use Rattle.std.proofs.Common.{subst, ⊎_elim, append_assoc, Option, Some, None, arith, inl, inr, ◌<◌}
+use Rattle.std.proofs.Common.{◌≡◌, ◌≢◌, ℕ, zero, suc, List, [], ◌∷◌, ◌++◌, length, set, sym, refl, ap, ◌∙◌}
+use Rattle.std.proofs.Common.{subst, ⊎_elim, append_assoc, Some, None, arith, inl, inr, ◌<◌}
 use Rattle.std.specs.List.{AllByRecursion}
 use Rattle.std.proofs.lemmas.Bool.Decides.{eqb_tells}
 use mathlib.Core.Option.{some, some-ne-none, some-injective}
@@ -11,12 +11,12 @@ use Rattle.rb_sequence.specs.declared.item.Item.{Item}
 use Rattle.rb_sequence.specs.Items.{own_of, CountsUp}
 use Rattle.rb_intake.specs.declared.known.Known.{Known}
 use Rattle.rb_intake.specs.declared.known.Known.TheVariants.{Starts, Makes, Sends, Pulls, Spent}
-use Rattle.rb_intake.specs.Rule.{History, HasEnded, IsSo, FitsHistory, KeepsOrder, made_one, newcomer, sequencer_first}
+use Rattle.rb_intake.specs.Rule.{History, HasEnded, IsSo, KeepsOrder, made_one, newcomer, sequencer_first}
 use Rattle.rb_intake.specs.Rule.{maker, sent_one}
 use Rattle.rb_intake.specs.Rule.{pulled_one, taken_in, pulled_in, ended_in, IsPulledOr}
 use Rattle.rb_intake.proofs.Views.{EachPass, each_pass_set, each_pass_more, with_seat, here, elsewhere, all_weaker}
 use Rattle.rb_intake.proofs.Views.{all_more}
-use Rattle.rb_intake.proofs.ItemLaws.{UpFromOne, own_append, own_more, own_other, numbered_more, numbered_pulled}
+use Rattle.rb_intake.proofs.ItemLaws.{UpFromOne, own_more, own_other, numbered_more, numbered_pulled}
 
 -- ---- the first pass
 

@@ -1,10 +1,9 @@
 -- One more token after those of what is placed.
-use Rattle.std.proofs.Common.{◌≡◌, ℕ, suc, ◌+◌, List, [], ◌∷◌, ◌++◌, length, map, Option, Some, None, refl, sym, ap}
+use Rattle.std.proofs.Common.{◌≡◌, ℕ, suc, ◌+◌, List, [], ◌∷◌, ◌++◌, length, Option, Some, None, sym, ap}
 use Rattle.std.proofs.Common.{◌∙◌, subst, arith}
 use Rattle.std.proofs.lemmas.List.{append-nil, map-append}
 use Rattle.rb_sequence.specs.declared.item.Item.{Item}
 use Rattle.rb_sequence.specs.Cells.{Cells, CellToken, IsTokenOf}
-use Rattle.rb_sequence.specs.Items.{CountsUp}
 use Rattle.rb_broker.specs.Placing.{ShowsEntry}
 use Rattle.rb_sequencer.specs.Turns.{AreInCells, items_placed, in_hand}
 

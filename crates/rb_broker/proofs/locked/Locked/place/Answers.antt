@@ -1,4 +1,4 @@
-use Rattle.std.proofs.Common.{◌≡◌, ◌∙◌, sym, ap, Ok, arith, Result, ℕ}
+use Rattle.std.proofs.Common.{◌∙◌, sym, ap, Ok, arith}
 use Rattle.rb_desk.specs.Limits.{Limits}
 use Rattle.rb_desk.specs.Picture.{Picture}
 use Rattle.rb_sequence.specs.Cells.{Cells}

@@ -1,4 +1,4 @@
-use Rattle.std.proofs.Common.{◌≡◌, ◌∙◌, sym, ap, List, ◌++◌, ◌∷◌, [], length, ◌+◌, ℕ}
+use Rattle.std.proofs.Common.{◌∙◌, sym, ap, List, ◌++◌, ◌∷◌, [], ◌+◌, ℕ}
 use Rattle.rb_sequence.specs.Cells.{CellToken}
 use Rattle.rb_sequencer.proofs.TokenLaws.{placed_one}
 use Rattle.rb_sequencer.proofs.sequencer.Sequencer.place.Goals as goal
