@@ -1,7 +1,7 @@
 #!/bin/bash
 # Measures the broker with 1, 2, 4 and 8 publishers in threads of their own, beside the same work by a C program over two
 # mutexes, and a bounded channel alone. Prints one table. It works on a clone of the last commit, into which it puts its
-# program as one more crate; RT names the prover's command where it isn't `rt`. The gate runs none of it.
+# program (main.rt.in) as one more crate; RT names the prover's command where it isn't `rt`. The gate runs none of it.
 #   bash bench/broker/run.sh
 set -eu
 fail() {
@@ -18,11 +18,16 @@ done
 work="$(mktemp -d)"
 trap 'rm -rf "$work"' EXIT
 git clone -q . "$work/clone"
-cp -r bench/broker "$work/clone/crates/bench_broker"
+crate="$work/clone/crates/bench_broker"
+mkdir -p "$crate/src" "$crate/proofs/measured" "$crate/proofs/send"
+cp bench/broker/main.rt.in "$crate/src/main.rt"
+cp bench/broker/measured.antt.in "$crate/proofs/measured/Invariants.antt"
+cp bench/broker/send.antt.in "$crate/proofs/send/Invariants.antt"
+: >"$crate/proofs/Lib.antt"
 sed -n 's/^rb_threads: \(.*\)$/bench_broker: rb_subscriber rb_core rb_script crossbeam_channel hex \1/p' crates.txt >>"$work/clone/crates.txt"
-(cd "$work/clone/crates/bench_broker" && "$RT" run -- broker 1 1 1 >&2) || fail 'the program is not built'
+(cd "$crate" && "$RT" run -- broker 1 1 1 >&2) || fail 'the program is not built'
 (cd "$work/clone/crates/changeset_c" && "$RT" lib >&2)
-ours="$work/clone/crates/bench_broker/out/bench_broker"
+ours="$crate/out/bench_broker"
 heap="$(dirname "$($RT doc)")/c/liblibc_c.a"
 gcc -O2 -Wall -Wextra -pthread bench/broker/mutex.c "$work/clone/crates/changeset_c/out/libchangeset_c.a" "$heap" -o "$work/mutex"
 
