@@ -13,7 +13,7 @@ use crate::hall::Hall;
 use crate::locked::Locked;
 use crate::opened::Opened;
 use crate::publisher::Publisher;
-use crate::refusal::{PlaceRefusal, RefusedItem};
+use crate::refusal::{AddRefusal, PlaceRefusal, RefusedItem};
 use cs_model::Schema;
 use cs_parse::PieceParser;
 use rb_desk::Config;
@@ -47,15 +47,6 @@ pub struct Broker<L: Hall> {
     locked: Mutex<Locked<L>>,
     ghost cells: { sequence ≡ L.cells },
     ghost queue: { intake.queue ≡ L.queue },
-}
-
-/// Why `Broker::publisher` makes no publisher.
-#[derive(Clone, Copy, Debug, PartialEq, Eq)]
-pub enum AddRefusal {
-    /// There are 64 publishers.
-    TooMany,
-    /// Memory ran out.
-    Memory,
 }
 
 impl<L: Hall> Broker<L> {

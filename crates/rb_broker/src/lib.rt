@@ -11,9 +11,9 @@ mod publisher;
 mod refusal;
 mod staged;
 
-pub use broker::Broker;
+pub use broker::{Broker, MOST_PUBLISHERS};
 pub use hall::Hall;
 pub use opened::Opened;
 pub use publisher::Publisher;
-pub use refusal::{PlaceRefusal, RefusedItem, SendRefusal, WithdrawRefusal};
+pub use refusal::{AddRefusal, PlaceRefusal, RefusedItem, SendRefusal, WithdrawRefusal};
 pub use staged::StagedSet;

@@ -5,6 +5,17 @@ use crate::staged::StagedSet;
 use rb_sequence::{Item, ToldLast};
 use thiserror::Error;
 
+/// Why `Broker::publisher` makes no publisher. The broker is as before.
+#[derive(Clone, Copy, Debug, PartialEq, Eq, Error)]
+pub enum AddRefusal {
+    /// There are 64 publishers.
+    #[error("there are 64 publishers")]
+    TooMany,
+    /// Memory ran out.
+    #[error("out of memory")]
+    Memory,
+}
+
 /// Why `Broker::place_next` places no item. The broker is as before.
 #[derive(Clone, Copy, Debug, PartialEq, Eq, Error)]
 pub enum PlaceRefusal {

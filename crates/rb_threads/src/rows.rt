@@ -1,11 +1,13 @@
-//! Histories of one thread on the broker: a full intake, a withdrawal, a full sequence.
+//! Histories of one thread on the broker: a full intake, a withdrawal, a full sequence, a closed
+//! one, and all publishers that there may be.
 
 ghost use Rattle.std.specs.Prelude.{◌≡◌, IfOk};
 
 use crate::given::{insert, opened};
 use cs_model::Origin;
 use rb_broker::{
-    Broker, Hall, Opened, PlaceRefusal, Publisher, SendRefusal, StagedSet, WithdrawRefusal,
+    AddRefusal, Broker, Hall, MOST_PUBLISHERS, Opened, PlaceRefusal, Publisher, SendRefusal,
+    StagedSet, WithdrawRefusal,
 };
 use rb_sequence::{Sequence, Told};
 use rb_sequencer::{Sequencer, Turn};
@@ -36,6 +38,18 @@ fn full_intake(rt: HostRuntime) -> Result<(), Fail> {
 fn withdrawal(rt: HostRuntime) -> Result<(), Fail> {
     let opened = opened(rt.alloc(), 4, 4)?;
     withdraws::<Brand, _>(&rt, rt.alloc(), opened)
+}
+
+#[test]
+fn sixty_four_publishers(rt: HostRuntime) -> Result<(), Fail> {
+    let opened = opened(rt.alloc(), 1, 1)?;
+    makes_publishers::<Brand, _>(&rt, rt.alloc(), opened)
+}
+
+#[test]
+fn closed_sequence(rt: HostRuntime) -> Result<(), Fail> {
+    let opened = opened(rt.alloc(), 1, 1)?;
+    sends_after_the_end::<Brand, _>(&rt, rt.alloc(), opened)
 }
 
 // stages what is fed
@@ -214,5 +228,62 @@ fn is_refused<L: Hall, R: Abort>(
     assert_eq!(rt; missing.err(), Some(WithdrawRefusal::NotPlaced));
     let stranger = other.withdraw(alloc, sequence, 1);
     assert_eq!(rt; stranger.err(), Some(WithdrawRefusal::NotYours));
+    Ok(())
+}
+
+fn makes_publishers<L: Hall, R: Abort>(rt: &R, alloc: Global, opened: Opened) -> Result<(), Fail>
+    requires cells { opened.cells ≡ L.cells }
+    requires queue { opened.queue ≡ L.queue }
+{
+    let (mut broker, pass) = Broker::<L>::start(opened);
+    drop(pass);
+    makes(rt, alloc, &mut broker)
+}
+
+// each publisher has the next number, and there is no 65th
+fn makes<L: Hall, R: Abort>(rt: &R, alloc: Global, broker: &mut Broker<L>) -> Result<(), Fail> {
+    for number in 0..MOST_PUBLISHERS {
+        assert_eq!(rt; next_number(alloc, broker)?, number);
+    }
+    assert_eq!(rt; next_number(alloc, broker), Err(AddRefusal::TooMany));
+    Ok(())
+}
+
+fn next_number<L: Hall>(alloc: Global, broker: &mut Broker<L>) -> Result<u64, AddRefusal> {
+    let publisher = broker.publisher(alloc)?;
+    Ok(publisher.number())
+}
+
+fn sends_after_the_end<L: Hall, R: Wait + Abort>(
+    rt: &R,
+    alloc: Global,
+    opened: Opened,
+) -> Result<(), Fail>
+    requires cells { opened.cells ≡ L.cells }
+    requires queue { opened.queue ≡ L.queue }
+{
+    let (mut broker, pass) = Broker::<L>::start(opened);
+    drop(pass);
+    let Ok(mut publisher) = broker.publisher(alloc) else {
+        return Err(Fail::new("no publisher"));
+    };
+    is_closed(rt, alloc, &broker, &mut publisher)
+}
+
+// the sequence is closed at 0: the set comes back with that number
+fn is_closed<L: Hall, R: Wait + Abort>(
+    rt: &R,
+    alloc: Global,
+    broker: &Broker<L>,
+    publisher: &mut Publisher<L>,
+) -> Result<(), Fail> {
+    let set = stage(alloc, publisher, &insert(1))?;
+    assert!(rt; broker.sequence().fill_closing(0).is_ok());
+    let Err(SendRefusal::Closed(last, set)) = publisher.send(rt, broker, set) else {
+        return Err(Fail::new("the sequence is closed"));
+    };
+    assert_eq!(rt; last.last(), 0);
+    assert_eq!(rt; set.publisher(), 0);
+    assert_eq!(rt; publisher.sent(), 0);
     Ok(())
 }
