@@ -4,7 +4,7 @@ ghost use Rattle.std.specs.Prelude.{◌≡◌};
 ghost use Rattle.std.specs.Arc.{arc_value};
 ghost use Rattle.rb_core.specs.State.{empty_world};
 
-use crate::publisher::Publisher;
+use crate::publisher::PublisherState;
 use cs_model::Schema;
 use rb_desk::{Config, Delivery, Desk};
 use rb_sequence::{Entry, Item};
