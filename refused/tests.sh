@@ -3,6 +3,8 @@
 # handed up), and never with a failed assertion or a signal: its assertions say that what was refused is as before. Where
 # a test can't hand it up, as in a sink that it lends to the library, it stops with "the test's own memory".
 #   sh refused/tests.sh CRATE..        needs gcc, and the test programs as `rt test` leaves them in crates/CRATE/out
+# ONLY is a pattern that the tests' names match, where not all are wanted: those of rb_threads with threads allocate more
+# often than anybody waits for, so it is ONLY='^(cells|rows)' there.
 if [ $# -eq 0 ]; then
     echo "tests.sh: usage: sh refused/tests.sh CRATE.." >&2
     exit 2
@@ -22,7 +24,7 @@ judge() {
 for crate in "$@"; do
     program=crates/$crate/out/${crate}_tests
     [ -x "$program" ] || fail "no program at $program: run rt test in crates/$crate" 2
-    tests=$("$program" --list | sed -n 's/: test$//p')
+    tests=$("$program" --list | sed -n 's/: test$//p' | grep -E -- "${ONLY:-.}")
     if [ -z "$tests" ]; then
         wrong "$crate: no tests"
     fi

@@ -1,24 +1,11 @@
 //! Cells: set once, shown for good, read while they are set.
 
 use crate::given::entry;
-use rb_sequence::{Entry, FillError, Sequence};
-use std::alloc::Global;
+use rb_sequence::{FillError, Sequence};
+use std::alloc::{AllocError, Global};
 use std::process::Abort;
 use std::sync::Wait;
 use std::test::Fail;
-use std::thread;
-use std::thread::Threads;
-
-// what a failed fill hands back
-fn back<T>(error: FillError<T>) -> Option<T>
-where
-    T: Drop,
-{
-    match error {
-        FillError::Occupied(value) => Some(value),
-        FillError::Memory(_) => None,
-    }
-}
 
 #[test]
 fn cells_are_set_once(rt: HostRuntime) -> Result<(), Fail> {
@@ -42,11 +29,12 @@ fn set_twice<R: Wait + Abort>(rt: &R, alloc: Global, sequence: &Sequence) -> Res
     assert_eq!(rt; told.number(), 1);
     assert_eq!(rt; sequence.get_told(&told).number(), 1);
     let again = entry(alloc, 1)?;
-    let handed: Option<Entry> = match sequence.fill(rt, alloc, again) {
-        Ok(_) => None,
-        Err(error) => back(error),
+    let handed = match sequence.fill(rt, alloc, again) {
+        Err(FillError::Occupied(entry)) => entry,
+        Err(FillError::Memory(_)) => return Err(AllocError.into()),
+        Ok(_) => return Err(Fail::new("the cell is set")),
     };
-    assert_eq!(rt; handed.map(|entry| entry.number()), Some(1));
+    assert_eq!(rt; handed.number(), 1);
     assert_eq!(rt; sequence.get(1).map(|entry| entry.number()), Some(1));
     assert!(rt; sequence.tell(1).is_some() && sequence.tell(2).is_none());
     Ok(())
