@@ -24,7 +24,7 @@ cp bench/broker/main.rt.in "$crate/src/main.rt"
 cp bench/broker/measured.antt.in "$crate/proofs/measured/Invariants.antt"
 cp bench/broker/send.antt.in "$crate/proofs/send/Invariants.antt"
 : >"$crate/proofs/Lib.antt"
-sed -n 's/^rb_threads: \(.*\)$/bench_broker: rb_subscriber rb_core rb_script crossbeam_channel hex \1/p' crates.txt >>"$work/clone/crates.txt"
+sed -n 's/^rb_threads: \(.*\)$/bench_broker: crossbeam_channel \1/p' crates.txt >>"$work/clone/crates.txt"
 (cd "$crate" && "$RT" run -- broker 1 1 1 >&2) || fail 'the program is not built'
 (cd "$work/clone/crates/changeset_c" && "$RT" lib >&2)
 ours="$crate/out/bench_broker"
