@@ -365,7 +365,7 @@ fn unshown(
 #[test]
 fn showing_stops(rt: HostRuntime) -> Result<(), Fail> {
     let alloc = rt.alloc();
-    let rows = b"table 540101007400\nrow 0 0100000000000000ff\n";
+    let rows = b"table 5401017400\nrow 0 0100000000000000ff\n";
     let mut written = Vec::new(alloc);
     let mut failing = Failing { rest: rows };
     let read = show(alloc, &mut failing, &mut written, RowForm::Sql);
