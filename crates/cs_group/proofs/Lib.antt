@@ -23,3 +23,7 @@ pub mod InPlace
 pub mod InPlaceTwo
 pub mod OwnForm
 pub mod SlotBytes
+pub mod LastLaws
+pub mod LinkLaws
+pub mod Searching
+pub mod Arriving

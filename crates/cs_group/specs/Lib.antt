@@ -6,3 +6,6 @@ pub mod Table
 pub mod Adding
 pub mod Key
 pub mod Text
+pub mod Last
+pub mod Chains
+pub mod Arrivals

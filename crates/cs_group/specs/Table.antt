@@ -1,15 +1,15 @@
 -- The slots of a table: each row's place, and what the row's changes come to so far.
-use Rattle.std.specs.Prelude.{◌≡◌, ◌<◌, ◌⊎◌, ℕ, zero, suc, List, [], ◌∷◌, ◌++◌, length, map}
+use Rattle.std.specs.Prelude.{◌≡◌, ◌<◌, ℕ, zero, suc, List, [], ◌∷◌, length, map}
 use Rattle.std.specs.Prelude.{slice_get}
 use Rattle.std.specs.Prelude.{Option, Some, None, option_map}
-use Rattle.std.specs.Map.{lookup}
 use Rattle.cs_model.specs.declared.change.Change.{Change}
 use Rattle.cs_model.specs.Changeset.{AreRecords}
 use Rattle.cs_model.specs.PackedChanges.{Long}
 use Rattle.cs_model.specs.Schema.{same_bytes}
 use Rattle.cs_group.specs.declared.slot.Slot.{Slot}
 use Rattle.cs_group.specs.Group.{changed_row, combined}
-use Rattle.cs_group.specs.Merge.{only_change, two_changes}
+use Rattle.cs_group.specs.Key.{key_hash}
+use Rattle.cs_group.specs.Last.{place_of_last}
 use Rattle.cs_group.specs.Slots.{slot_seen}
 
 -- slots, each with a change or none
@@ -43,23 +43,18 @@ put_at place slot [] = []
 put_at zero slot (old ∷ slots) = slot ∷ slots
 put_at (suc place) slot (old ∷ slots) = old ∷ put_at place slot slots
 
--- What one more change of a row does, whose slot is at this place: the row's place, and the slots.
--- A change that meets another turns it, where it stands. One that meets none takes a new last slot.
-abbrev pub begun_last : ℕ → Slots → Option Change → ℕ × Slots
-begun_last place slots None = (place, slots)
-begun_last place slots (Some change) = (length slots, slots ++ Some change ∷ [])
+-- a place whose slot has a change
+abbrev pub met_by : Option Change → ℕ → Option ℕ
+met_by None place = None
+met_by (Some there) place = Some place
 
-abbrev pub step_by : Option Change → List ℕ → ℕ → Slots → Change → ℕ × Slots
-step_by None flags place slots new = begun_last place slots (only_change flags new)
-step_by (Some there) flags place slots new =
-    (place, put_at place (two_changes flags there new) slots)
+abbrev pub met_at : Slots → Option ℕ → Option ℕ
+met_at slots None = None
+met_at slots (Some place) = met_by (there_at slots place) place
 
-abbrev pub slot_step : List ℕ → ℕ → Slots → Change → ℕ × Slots
-slot_step flags place slots new = step_by (there_at slots place) flags place slots new
-
--- the place of a row
-abbrev pub row_place : List (List ℕ × ℕ) → List ℕ → Option ℕ
-row_place places row = lookup (same_bytes row) places
+-- the last place of a key
+abbrev pub key_place : List (List ℕ) → List ℕ → Option ℕ
+key_place keys row = place_of_last (λ key. same_bytes key row) keys
 
 -- a change of a table with these key flags, and one whose records have as many fields
 abbrev pub IsOfTable : List ℕ → Change → Type 0
@@ -67,10 +62,6 @@ IsOfTable flags change = AreRecords flags change.op change.before change.after
 
 abbrev pub HasColumnsOf : ℕ → Change → Type 0
 HasColumnsOf columns change = Long columns change.op change.before change.after
-
--- The place of a row that has no slot yet. No list of slots is as long.
-abbrev pub no_slot : ℕ
-no_slot = 18446744073709551615
 
 -- The slots hold what these changes come to. Each row that has a change finds it at its place.
 pub record HoldSlots (flags : List ℕ) (at : List ℕ → Option ℕ) (slots : Slots)
@@ -80,7 +71,14 @@ pub record HoldSlots (flags : List ℕ) (at : List ℕ → Option ℕ) (slots : 
       → slice_get slots place ≡ Some (Some change) → changed_row flags change ≡ row
   pub kept : (place : ℕ) (change : Change) → slice_get slots place ≡ Some (Some change)
       → at (changed_row flags change) ≡ Some place
-  pub bound : (row : List ℕ) (place : ℕ) → at row ≡ Some place
-      → (place < length slots) ⊎ (place ≡ no_slot)
+  pub bound : (row : List ℕ) (place : ℕ) → at row ≡ Some place → place < length slots
   pub valid : (place : ℕ) (change : Change) → slice_get slots place ≡ Some (Some change)
       → IsOfTable flags change
+
+-- The slots hold what these changes come to, each key has its slot's place, and the links are the
+-- hashes of the keys.
+pub record HoldRows (flags links : List ℕ) (keys : List (List ℕ)) (slots : Slots)
+    (changes : List Change) : Type 0 where
+  pub hashes : links ≡ map key_hash keys
+  pub sized : length keys ≡ length slots
+  pub holds : HoldSlots flags (key_place keys) slots changes

@@ -1,19 +1,18 @@
-//! Where the key of a row stands in a record, and the key as a map's key.
+//! Where the key of a row stands in a record, and its hash.
 
 ghost use Rattle.std.specs.Prelude.{◌≡◌, ◌≤◌, ◌++◌, ◌∷◌, [], ℕ, IfOk, List, drop, length, take};
 ghost use Rattle.std.specs.Cmp.{partial_equiv_from_equiv};
-ghost use Rattle.std.specs.Cmp.Lexicographic.{nat_list_eq_equiv, same_text};
-ghost use Rattle.std.proofs.Common.{ap, sym};
+ghost use Rattle.std.specs.Cmp.Lexicographic.{nat_list_eq_equiv};
 ghost use Rattle.cs_model.specs.declared.value.Field.{Field};
 ghost use Rattle.cs_model.specs.KeyBytes.{key_fields};
 ghost use Rattle.cs_model.specs.Schema.{same_bytes};
-ghost use Rattle.cs_model.specs.Seen.{change_seen};
 ghost use Rattle.cs_group.specs.Group.{changed_row};
-ghost use Rattle.cs_group.specs.Key.{IsKeyAt, KeyStands, bytes_of_key};
+ghost use Rattle.cs_group.specs.Key.{AreKeyColumns, KeyStands, bytes_of_key, key_hash};
+ghost use Rattle.cs_group.specs.Table.{HasColumnsOf};
 
-use cs_model::{ChangeRef, Octets, Op, key_of_row};
+use cs_model::{Octets, PackedChange, key_of_row};
 use std::alloc::{AllocError, Global};
-use std::hash::{Hash, Hasher};
+use std::hash::{FoldHasher, Hasher};
 use std::marker::Model;
 
 /// The key columns of a table that stand next to each other.
@@ -75,8 +74,8 @@ fn nonzeros(flags: &[u8]) -> usize
 pub(crate) enum KeyBytes<'a> {
     /// They stand in a record.
     InPlace(&'a [u8]),
-    /// They are copied from columns apart.
-    Copied(Octets),
+    /// They are copied from columns apart. Few tables have such keys, so they stand apart.
+    Copied(Box<Octets>),
 }
 
 /// The key of a row: its key columns' values in canonical form. Contracts see the bytes.
@@ -95,22 +94,36 @@ impl<'a> Model for Key<'a> {
 }
 
 impl<'a> Key<'a> {
-    /// The key of the row that a change is about. `columns` are the table's key columns, if they
-    /// stand next to each other. Returns `AllocError` if memory runs out.
+    /// The key of the row that a change of the table is about. `columns` are the table's key
+    /// columns, if they stand next to each other. Returns `AllocError` if memory runs out.
     pub(crate) fn of(
         alloc: Global,
         flags: &[u8],
         columns: Option<KeyColumns>,
-        change: &ChangeRef<'a>,
+        change: &PackedChange<'a>,
     ) -> Result<Key<'a>, AllocError>
         requires { KeyStands flags.now columns }
-        ensures { IfOk result (λ key. key ≡ changed_row flags.now (change_seen change.now)) }
+        ensures { IfOk result (λ key. HasColumnsOf (length flags.now) change.now
+            → key ≡ changed_row flags.now change.now) }
     {
         let bytes = match columns {
             Some(at) => KeyBytes::InPlace(bytes_at(at, change)),
-            None => KeyBytes::Copied(key_of_row(alloc, flags, change)?),
+            None => {
+                let copied = key_of_row(alloc, flags, &change.unpack())?;
+                KeyBytes::Copied(Box::new(alloc, copied)?)
+            }
         };
         Ok(Key { bytes })
+    }
+
+    /// The hash of the key.
+    #[tactic(auto, unfolding(crate::specs::Key::key_hash))]
+    pub(crate) fn hash(&self) -> u32
+        ensures { result ≡ key_hash self.now }
+    {
+        let mut hasher = FoldHasher::default();
+        hasher.write(self.as_slice());
+        (hasher.finish() >> 32) as u32
     }
 
     // the bytes
@@ -124,15 +137,13 @@ impl<'a> Key<'a> {
     }
 }
 
-// the bytes of these columns in the record that identifies a change's row
-fn bytes_at<'a>(at: KeyColumns, change: &ChangeRef<'a>) -> &'a [u8]
-    ensures { (flags : List ℕ) → IsKeyAt flags at.first at.count
-        → result.now ≡ changed_row flags (change_seen change.now) }
+// The bytes of these columns in the record that identifies a change's row. It is the change's first
+// record, or its only one.
+fn bytes_at<'a>(at: KeyColumns, change: &PackedChange<'a>) -> &'a [u8]
+    ensures { (flags : List ℕ) → AreKeyColumns flags at → HasColumnsOf (length flags) change.now
+        → result.now ≡ changed_row flags change.now }
 {
-    match change.op {
-        Op::Insert => change.after.part(at.first, at.count),
-        Op::Update | Op::Delete => change.before.part(at.first, at.count),
-    }
+    change.records().part(at.first, at.count)
 }
 
 impl<'a> PartialEq for Key<'a> {
@@ -147,15 +158,4 @@ impl<'a> PartialEq for Key<'a> {
 
 impl<'a> Eq for Key<'a> {
     ghost laws = { nat_list_eq_equiv };
-}
-
-impl<'a> Hash for Key<'a> {
-    ghost hash_input = { λ k. k ∷ [] };
-
-    ghost respects_eq = { λ k l same. ap (λ bytes. bytes ∷ []) (same_text k l (sym same)) };
-
-    // all bytes at once: a slice feeds one after another
-    fn hash<H: Hasher>(&self, state: &mut H) {
-        state.write(self.as_slice());
-    }
 }

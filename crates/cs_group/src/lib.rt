@@ -4,11 +4,11 @@
 #![tactic(auto)]
 
 mod error;
-mod fields;
 mod group;
 mod key;
 mod known;
 pub mod laws;
+mod links;
 mod merge;
 mod output;
 mod rows;

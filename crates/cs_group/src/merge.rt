@@ -1,6 +1,6 @@
 //! Two changes of one row as one change, and a change that is the first of its row.
 
-ghost use Rattle.std.specs.Prelude.{◌≡◌, IfOk, Some, true, Bool, take};
+ghost use Rattle.std.specs.Prelude.{◌≡◌, ◌&&◌, IfOk, Some, true, false, Bool, take};
 ghost use Rattle.std.specs.List.{list_any};
 ghost use Rattle.std.specs.Option.{option_map};
 ghost use Rattle.cs_model.specs.declared.change.Op.TheVariants.{Update};
@@ -9,12 +9,12 @@ ghost use Rattle.cs_model.specs.Rule.{is_defined};
 ghost use Rattle.cs_model.specs.Seen.{change_seen, field_seen, fields_seen};
 ghost use Rattle.cs_group.specs.Merge.{new_if_changed, news_changed, old_if_changed, olds_changed};
 ghost use Rattle.cs_group.specs.Merge.{delete_insert, insert_update, only_change, record_or};
-ghost use Rattle.cs_group.specs.Merge.{two_changes, update_between, update_delete, update_update};
-ghost use Rattle.cs_group.specs.Slots.{merged_seen, slot_seen};
+ghost use Rattle.cs_group.specs.Merge.{ignored, two_changes, update_between, update_delete};
+ghost use Rattle.cs_group.specs.Merge.{update_update};
+ghost use Rattle.cs_group.specs.Slots.{kept_if, merged_seen, slot_seen};
 
-use crate::fields::SlotFields;
-use crate::slot::{Merged, Slot};
-use cs_model::{ChangeRef, FieldRef, Fields, Op, RecordRef};
+use crate::slot::{Merged, Slot, fields_of, merged_of};
+use cs_model::{ChangeRef, FieldRef, Fields, Op, PackedChange, RecordRef};
 use std::alloc::{AllocError, Global};
 
 // Puts another record's values in place of a record's fields, where it has some.
@@ -83,29 +83,6 @@ fn cut<'a>(before: &mut Vec<FieldRef<'a>>, after: &mut Vec<FieldRef<'a>>, column
     after.truncate(columns);
 }
 
-// the UPDATE between two records, or none if no column is left
-fn update_between<'a>(
-    alloc: Global,
-    flags: &[u8],
-    indirect: bool,
-    before: SlotFields<'_, 'a>,
-    after: SlotFields<'_, 'a>,
-) -> Result<Option<Merged<'a>>, AllocError>
-    ensures { IfOk result (λ made. option_map merged_seen made
-        ≡ update_between flags.now indirect before.entry after.entry) }
-{
-    let (before, after) = changed_columns(alloc, flags, before, after)?;
-    if !any_value(&after) {
-        return Ok(None);
-    }
-    Ok(Some(Merged {
-        op: Op::Update,
-        indirect,
-        before,
-        after,
-    }))
-}
-
 // whether a record has a value
 fn any_value(fields: &[FieldRef]) -> bool
     ensures { result ≡ list_any is_defined (fields_seen fields.now) }
@@ -116,36 +93,6 @@ fn any_value(fields: &[FieldRef]) -> bool
         }
     }
     false
-}
-
-// two records with the fields of the columns that an UPDATE between them changes
-fn changed_columns<'a>(
-    alloc: Global,
-    flags: &[u8],
-    before: SlotFields<'_, 'a>,
-    after: SlotFields<'_, 'a>,
-) -> Result<(Vec<FieldRef<'a>>, Vec<FieldRef<'a>>), AllocError>
-    ensures olds { IfOk result (λ made. fields_seen made.0.items
-        ≡ olds_changed flags.now before.entry after.entry) }
-    ensures news { IfOk result (λ made. fields_seen made.1.items
-        ≡ news_changed flags.now before.entry after.entry) }
-{
-    let mut before = before;
-    let mut after = after;
-    let mut olds = Vec::with_capacity(alloc, flags.len())?;
-    let mut news = Vec::with_capacity(alloc, flags.len())?;
-    for flag in flags {
-        let Some(old) = before.next() else {
-            return Ok((olds, news));
-        };
-        let Some(new) = after.next() else {
-            return Ok((olds, news));
-        };
-        let (old, new) = changed(*flag, old, new);
-        olds.push(old)?;
-        news.push(new)?;
-    }
-    Ok((olds, news))
 }
 
 // a column's old and new field, if an UPDATE changes the column
@@ -200,142 +147,179 @@ fn is_kept(flag: u8, old: FieldRef, new: FieldRef) -> bool
     old != new || !old.has_value()
 }
 
+// Leaves the UPDATE between the two records of a change. Returns `false` if no column is left.
+fn make_update<'a>(flags: &[u8], merged: &mut Merged<'a>) -> bool
+    ensures { kept_if result merged.new ≡ update_between flags.now merged.old.indirect
+        (fields_seen merged.old.before.items) (fields_seen merged.old.after.items) }
+{
+    let Merged {
+        op,
+        before,
+        after,
+        ..
+    } = merged;
+    *op = Op::Update;
+    keep_columns(flags, before, after)
+}
+
+// Leaves, of two records, the fields of the columns that an UPDATE between them changes. Returns
+// whether there are any.
+fn keep_columns<'a>(
+    flags: &[u8],
+    before: &mut Vec<FieldRef<'a>>,
+    after: &mut Vec<FieldRef<'a>>,
+) -> bool
+    ensures olds { fields_seen before.new.items
+        ≡ olds_changed flags.now (fields_seen before.old.items) (fields_seen after.old.items) }
+    ensures news { fields_seen after.new.items
+        ≡ news_changed flags.now (fields_seen before.old.items) (fields_seen after.old.items) }
+    ensures left { result ≡ list_any is_defined
+        (news_changed flags.now (fields_seen before.old.items) (fields_seen after.old.items)) }
+{
+    keep_changed(flags, before, after);
+    any_value(after)
+}
+
 /// What the first change of a row comes to.
 pub(crate) fn only<'a>(
     alloc: Global,
     flags: &[u8],
-    change: ChangeRef<'a>,
+    change: PackedChange<'a>,
 ) -> Result<Option<Slot<'a>>, AllocError>
     ensures { IfOk result (λ slot. option_map slot_seen slot
-        ≡ only_change flags.now (change_seen change.entry)) }
+        ≡ only_change flags.now change.entry) }
 {
-    if change.op != Op::Update || is_normal(flags, change.before.fields(), change.after.fields()) {
+    if change.op() != Op::Update {
         return Ok(Some(Slot::Alone(change)));
     }
-    let before = SlotFields::packed(&change.before);
-    let after = SlotFields::packed(&change.after);
-    match update_between(alloc, flags, change.indirect, before, after)? {
-        None => Ok(None),
-        Some(merged) => Ok(Some(Slot::Merged(merged))),
+    only_update(alloc, flags, change)
+}
+
+// The same for an UPDATE.
+fn only_update<'a>(
+    alloc: Global,
+    flags: &[u8],
+    change: PackedChange<'a>,
+) -> Result<Option<Slot<'a>>, AllocError>
+    ensures { IfOk result (λ slot. change.entry.op ≡ Update → option_map slot_seen slot
+        ≡ only_change flags.now change.entry) }
+{
+    let parts = change.unpack();
+    if is_normal(flags, parts.before.fields(), parts.after.fields()) {
+        return Ok(Some(Slot::Alone(change)));
+    }
+    let mut merged = merged_of(alloc, flags.len(), &parts)?;
+    if !make_update(flags, &mut merged) {
+        return Ok(None);
+    }
+    Ok(Some(Slot::Merged(merged)))
+}
+
+/// Whether a change that comes after another one of its row is ignored.
+pub(crate) fn is_ignored(there: Op, new: Op) -> bool
+    ensures { ignored there new ≡ result }
+{
+    match there {
+        Op::Insert | Op::Update => new == Op::Insert,
+        Op::Delete => new != Op::Insert,
     }
 }
 
-/// What a row's change becomes by one more change of the row.
+/// What a row's change becomes by one more change of the row, which is not ignored. Returns `false`
+/// if nothing is left.
 pub(crate) fn merge<'a>(
     alloc: Global,
     flags: &[u8],
-    there: Slot<'a>,
+    there: &mut Merged<'a>,
     new: &ChangeRef<'a>,
-) -> Result<Option<Slot<'a>>, AllocError>
-    ensures { IfOk result (λ next. option_map slot_seen next
-        ≡ two_changes flags.now (slot_seen there.entry) (change_seen new.now)) }
+) -> Result<bool, AllocError>
+    ensures { IfOk result (λ left. ignored there.old.op new.now.op ≡ false → kept_if left there.new
+        ≡ two_changes flags.now (merged_seen there.old) (change_seen new.now)) }
 {
-    match (there.op(), new.op) {
-        (Op::Insert, Op::Update) => insert_update(alloc, flags.len(), there, new),
-        (Op::Update, Op::Update) => update_update(alloc, flags, there, new),
-        (Op::Update, Op::Delete) => update_delete(alloc, flags.len(), there, new),
-        (Op::Delete, Op::Insert) => delete_insert(alloc, flags, &there, new),
-        (Op::Insert, Op::Delete) => Ok(None),
-        _ => Ok(Some(there)),
+    match (there.op, new.op) {
+        (Op::Insert, Op::Update) => Ok(insert_update(there, new)),
+        (Op::Update, Op::Update) => Ok(update_update(flags, there, new)),
+        (Op::Update, Op::Delete) => Ok(update_delete(there, new)),
+        (Op::Delete, Op::Insert) => delete_insert(alloc, flags, there, new),
+        _ => Ok(false),
     }
 }
 
 // INSERT, then UPDATE
-fn insert_update<'a>(
-    alloc: Global,
-    columns: usize,
-    there: Slot<'a>,
-    new: &ChangeRef<'a>,
-) -> Result<Option<Slot<'a>>, AllocError>
-    ensures { IfOk result (λ next. option_map slot_seen next
-        ≡ insert_update (slot_seen there.entry) (change_seen new.now)) }
+fn insert_update<'a>(there: &mut Merged<'a>, new: &ChangeRef<'a>) -> bool
+    ensures { kept_if result there.new
+        ≡ insert_update (merged_seen there.old) (change_seen new.now) }
 {
     let Merged {
+        op,
         indirect,
+        before,
         after,
-        ..
-    } = there.into_merged(alloc, columns)?;
-    let mut after = after;
-    put_values(&mut after, &new.after);
-    Ok(Some(Slot::Merged(Merged {
-        op: Op::Insert,
-        indirect: indirect && new.indirect,
-        before: Vec::new(alloc),
-        after,
-    })))
+    } = there;
+    *op = Op::Insert;
+    *indirect = *indirect && new.indirect;
+    before.clear();
+    put_values(after, &new.after);
+    true
 }
 
 // UPDATE, then UPDATE
-fn update_update<'a>(
-    alloc: Global,
-    flags: &[u8],
-    there: Slot<'a>,
-    new: &ChangeRef<'a>,
-) -> Result<Option<Slot<'a>>, AllocError>
-    ensures { IfOk result (λ next. option_map slot_seen next
-        ≡ update_update flags.now (slot_seen there.entry) (change_seen new.now)) }
+fn update_update<'a>(flags: &[u8], there: &mut Merged<'a>, new: &ChangeRef<'a>) -> bool
+    ensures { kept_if result there.new
+        ≡ update_update flags.now (merged_seen there.old) (change_seen new.now) }
+{
+    add_update(there, new);
+    make_update(flags, there)
+}
+
+// Gives a change another UPDATE's old values where it has none, and the UPDATE's new values.
+fn add_update<'a>(there: &mut Merged<'a>, new: &ChangeRef<'a>)
+    ensures indirect { there.new.indirect ≡ (there.old.indirect && new.now.indirect) }
+    ensures before { fields_seen there.new.before.items
+        ≡ record_or (fields_seen there.old.before.items) new.now.before }
+    ensures after { fields_seen there.new.after.items
+        ≡ record_or new.now.after (fields_seen there.old.after.items) }
 {
     let Merged {
         indirect,
         before,
         after,
         ..
-    } = there.into_merged(alloc, flags.len())?;
-    let mut before = before;
-    let mut after = after;
-    fill(&mut before, &new.before);
-    put_values(&mut after, &new.after);
-    keep_changed(flags, &mut before, &mut after);
-    if !any_value(&after) {
-        return Ok(None);
-    }
-    Ok(Some(Slot::Merged(Merged {
-        op: Op::Update,
-        indirect: indirect && new.indirect,
-        before,
-        after,
-    })))
+    } = there;
+    *indirect = *indirect && new.indirect;
+    fill(before, &new.before);
+    put_values(after, &new.after);
 }
 
 // UPDATE, then DELETE
-fn update_delete<'a>(
-    alloc: Global,
-    columns: usize,
-    there: Slot<'a>,
-    new: &ChangeRef<'a>,
-) -> Result<Option<Slot<'a>>, AllocError>
-    ensures { IfOk result (λ next. option_map slot_seen next
-        ≡ update_delete (slot_seen there.entry) (change_seen new.now)) }
+fn update_delete<'a>(there: &mut Merged<'a>, new: &ChangeRef<'a>) -> bool
+    ensures { kept_if result there.new
+        ≡ update_delete (merged_seen there.old) (change_seen new.now) }
 {
     let Merged {
+        op,
         indirect,
         before,
-        ..
-    } = there.into_merged(alloc, columns)?;
-    let mut before = before;
-    fill(&mut before, &new.before);
-    Ok(Some(Slot::Merged(Merged {
-        op: Op::Delete,
-        indirect: indirect && new.indirect,
-        before,
-        after: Vec::new(alloc),
-    })))
+        after,
+    } = there;
+    *op = Op::Delete;
+    *indirect = *indirect && new.indirect;
+    fill(before, &new.before);
+    after.clear();
+    true
 }
 
 // DELETE, then INSERT
 fn delete_insert<'a>(
     alloc: Global,
     flags: &[u8],
-    there: &Slot<'a>,
+    there: &mut Merged<'a>,
     new: &ChangeRef<'a>,
-) -> Result<Option<Slot<'a>>, AllocError>
-    ensures { IfOk result (λ next. option_map slot_seen next
-        ≡ delete_insert flags.now (slot_seen there.now) (change_seen new.now)) }
+) -> Result<bool, AllocError>
+    ensures { IfOk result (λ left. kept_if left there.new
+        ≡ delete_insert flags.now (merged_seen there.old) (change_seen new.now)) }
 {
-    let indirect = there.indirect() && new.indirect;
-    let after = SlotFields::packed(&new.after);
-    match update_between(alloc, flags, indirect, there.before(), after)? {
-        None => Ok(None),
-        Some(merged) => Ok(Some(Slot::Merged(merged))),
-    }
+    there.indirect = there.indirect && new.indirect;
+    there.after = fields_of(alloc, flags.len(), &new.after)?;
+    Ok(make_update(flags, there))
 }

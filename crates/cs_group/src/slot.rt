@@ -8,8 +8,7 @@ ghost use Rattle.cs_write.specs.Lengths.{held};
 ghost use Rattle.cs_group.specs.Slots.{merged_seen, slot_seen};
 ghost use Rattle.cs_group.specs.Table.{HasColumnsOf};
 
-use crate::fields::SlotFields;
-use cs_model::{ChangeRef, Changes, FieldRef, Op, RecordRef};
+use cs_model::{ChangeRef, Changes, FieldRef, Op, PackedChange, RecordRef};
 use cs_write::{add_lengths, fields_len, put_bytes, put_fields, put_operation};
 use std::alloc::{AllocError, Global};
 
@@ -26,9 +25,9 @@ pub(crate) struct Merged<'a> {
 #[derive(Drop)]
 pub(crate) enum Slot<'a> {
     /// A change that met no other, where it stands.
-    Alone(ChangeRef<'a>),
-    /// A change that comes from several.
-    Merged(Merged<'a>),
+    Alone(PackedChange<'a>),
+    /// A change that comes from several. Few slots have one, so it stands apart.
+    Merged(Box<Merged<'a>>),
 }
 
 impl<'a> Slot<'a> {
@@ -37,38 +36,8 @@ impl<'a> Slot<'a> {
         ensures { result ≡ (slot_seen self.now).op }
     {
         match self {
-            Slot::Alone(change) => change.op,
+            Slot::Alone(change) => change.op(),
             Slot::Merged(merged) => merged.op,
-        }
-    }
-
-    /// Whether the change is indirect.
-    pub(crate) fn indirect(&self) -> bool
-        ensures { result ≡ (slot_seen self.now).indirect }
-    {
-        match self {
-            Slot::Alone(change) => change.indirect,
-            Slot::Merged(merged) => merged.indirect,
-        }
-    }
-
-    /// The fields of the old record.
-    pub(crate) fn before(&self) -> SlotFields<'_, 'a>
-        ensures { result ≡ (slot_seen self.now).before }
-    {
-        match self {
-            Slot::Alone(change) => return SlotFields::packed(&change.before),
-            Slot::Merged(merged) => return SlotFields::listed(&merged.before),
-        }
-    }
-
-    /// The fields of the new record.
-    pub(crate) fn after(&self) -> SlotFields<'_, 'a>
-        ensures { result ≡ (slot_seen self.now).after }
-    {
-        match self {
-            Slot::Alone(change) => return SlotFields::packed(&change.after),
-            Slot::Merged(merged) => return SlotFields::listed(&merged.after),
         }
     }
 
@@ -89,27 +58,23 @@ impl<'a> Slot<'a> {
         ensures bytes { out.new ≡ laid at (change_bytes (slot_seen self.now)) out.old }
     {
         match self {
-            Slot::Alone(change) => put_alone(out, at, change),
+            Slot::Alone(change) => put_bytes(out, at, change.bytes()),
             Slot::Merged(merged) => put_merged(out, at, merged),
         }
     }
 
     /// The change as lists of fields, of which a record has `columns`.
-    pub(crate) fn into_merged(self, alloc: Global, columns: usize) -> Result<Merged<'a>, AllocError>
-        ensures { IfOk result (λ merged. merged_seen merged ≡ slot_seen self.entry) }
+    pub(crate) fn into_merged(
+        self,
+        alloc: Global,
+        columns: usize,
+    ) -> Result<Box<Merged<'a>>, AllocError>
+        ensures { IfOk result (λ merged. merged_seen merged.value ≡ slot_seen self.entry) }
     {
-        let change = match self {
-            Slot::Alone(change) => change,
-            Slot::Merged(merged) => return Ok(merged),
-        };
-        let before = fields_of(alloc, columns, &change.before)?;
-        let after = fields_of(alloc, columns, &change.after)?;
-        Ok(Merged {
-            op: change.op,
-            indirect: change.indirect,
-            before,
-            after,
-        })
+        match self {
+            Slot::Alone(change) => merged_of(alloc, columns, &change.unpack()),
+            Slot::Merged(merged) => Ok(merged),
+        }
     }
 
     /// Appends the change to a list, in one copy of the bytes that its fields have.
@@ -119,7 +84,7 @@ impl<'a> Slot<'a> {
         ensures ok { OnOk result (changes.new.1 ≡ changes.old.1 ++ slot_seen self.now ∷ []) }
     {
         match self {
-            Slot::Alone(change) => changes.push_ref(change),
+            Slot::Alone(change) => changes.push_packed(change),
             Slot::Merged(merged) => {
                 changes.push_fields(merged.op, merged.indirect, &merged.before, &merged.after)
             }
@@ -127,8 +92,27 @@ impl<'a> Slot<'a> {
     }
 }
 
-// the fields of a record, which are `columns` or none
-fn fields_of<'a>(
+/// A change as lists of fields, of which a record has `columns`.
+pub(crate) fn merged_of<'a>(
+    alloc: Global,
+    columns: usize,
+    change: &ChangeRef<'a>,
+) -> Result<Box<Merged<'a>>, AllocError>
+    ensures { IfOk result (λ merged. merged_seen merged.value ≡ change_seen change.now) }
+{
+    let before = fields_of(alloc, columns, &change.before)?;
+    let after = fields_of(alloc, columns, &change.after)?;
+    let merged = Merged {
+        op: change.op,
+        indirect: change.indirect,
+        before,
+        after,
+    };
+    Ok(Box::new(alloc, merged)?)
+}
+
+/// The fields of a record, which are `columns` or none.
+pub(crate) fn fields_of<'a>(
     alloc: Global,
     columns: usize,
     from: &RecordRef<'a>,
@@ -144,12 +128,11 @@ fn fields_of<'a>(
 }
 
 // the length of a change where it stands, in bytes
-fn alone_len(change: &ChangeRef) -> Option<usize>
-    ensures { result ≡ held (length (change_bytes (change_seen change.now))) }
+#[tactic(auto, using(cs_write::proofs::Held::holding))]
+fn alone_len(change: &PackedChange) -> Option<usize>
+    ensures { result ≡ held (length (change_bytes change.now)) }
 {
-    let before = Some(change.before.bytes().len());
-    let after = Some(change.after.bytes().len());
-    add_lengths(Some(2), add_lengths(before, after))
+    Some(change.bytes().len())
 }
 
 // the length of a change that comes from several, in bytes
@@ -158,17 +141,6 @@ fn merged_len(merged: &Merged) -> Option<usize>
 {
     let records = add_lengths(fields_len(&merged.before), fields_len(&merged.after));
     add_lengths(Some(2), records)
-}
-
-// a change where it stands
-fn put_alone(out: &mut [u8], at: usize, change: &ChangeRef) -> usize
-    requires { at + length (change_bytes (change_seen change.now)) ≤ length out.old }
-    ensures end { result ≡ at + length (change_bytes (change_seen change.now)) }
-    ensures bytes { out.new ≡ laid at (change_bytes (change_seen change.now)) out.old }
-{
-    let mut end = put_operation(out, at, change.op, change.indirect);
-    end = put_bytes(out, end, change.before.bytes());
-    put_bytes(out, end, change.after.bytes())
 }
 
 // a change that comes from several

@@ -1,57 +1,68 @@
 //! What the changes of one table come to so far, row by row.
 
-ghost use Rattle.std.specs.Prelude.{◌≡◌, ◌++◌, ◌∷◌, [], List, OnOk};
+ghost use Rattle.std.specs.Prelude.{◌≡◌, ◌++◌, ◌∷◌, [], IfOk, IfSome, List, None, OnOk, Some, map};
+ghost use Rattle.std.specs.Prelude.{slice_get};
 ghost use Rattle.std.specs.List.{AllByRecursion};
 ghost use Rattle.std.specs.Option.{option_map};
 ghost use Rattle.cs_model.specs.declared.change.Change.{Change};
+ghost use Rattle.cs_model.specs.Schema.{same_bytes};
 ghost use Rattle.cs_model.specs.Seen.{change_seen};
-ghost use Rattle.cs_group.specs.Key.{KeyStands};
+ghost use Rattle.cs_group.specs.Arrivals.{HoldUpTo, IsArrival, arrived_changes};
+ghost use Rattle.cs_group.specs.Key.{KeyStands, key_hash};
 ghost use Rattle.cs_group.specs.Merge.{only_change, two_changes};
 ghost use Rattle.cs_group.specs.Slots.{slot_seen};
-ghost use Rattle.cs_group.specs.Table.{HoldSlots, IsOfTable, begun_last, put_at};
-ghost use Rattle.cs_group.specs.Table.{row_place, slots_seen, slot_step, there_at};
+ghost use Rattle.cs_group.specs.Table.{HoldRows, IsOfTable, key_place, met_at, put_at};
+ghost use Rattle.cs_group.specs.Table.{slots_seen, there_at};
 
 use crate::key::{Key, KeyColumns, key_columns};
-use crate::merge::{merge, only};
+use crate::links::Links;
+use crate::merge::{is_ignored, merge, only};
 use crate::slot::Slot;
-use cs_model::{ChangeRef, SectionRef};
-use indexmap::IndexMap;
+use cs_model::laws::changes_fit;
+use cs_model::{ChangeRef, PackedChange, SectionRef};
 use std::alloc::{AllocError, Global};
+use std::mem;
 
-// the place of a row that has no slot yet
-const NO_PLACE: usize = usize::MAX;
+// how many changes are added at once
+const BATCH: usize = 64;
 
-/// The rows of a table that changes are about, and what each row's changes come to so far.
+// so many rows, and their hashes, stand in the processor's cache
+const FEW: usize = 65_536;
+
+/// A change that is about to be added, its row's key, and the key's hash.
+#[derive(Drop)]
+struct Arrival<'a> {
+    key: Key<'a>,
+    hash: u32,
+    change: PackedChange<'a>,
+}
+
+/// The rows of a table that changes are about, and what each row's changes come to so far. A row
+/// that came to nothing keeps its slot, and takes a new one when it comes again. So the last slot
+/// of a key is the row's.
 #[derive(Drop)]
 pub(crate) struct Table<'s, 'a> {
     // the table's key flags
     flags: &'s [u8],
     // the table's key columns, if they stand next to each other
     columns: Option<KeyColumns>,
-    // The index of each row's last slot, by the row's key. A row that came to nothing keeps its
-    // place, and begins in a new slot when it comes again.
-    places: IndexMap<Key<'a>, usize>,
+    // the hashes of the keys
+    links: Links,
+    // the key of each slot's row
+    keys: Vec<Key<'a>>,
     // in the order in which the rows began
     pub(crate) slots: Vec<Option<Slot<'a>>>,
 }
 
-// Adds one more change of the row whose slot is at `place`.
-fn turn<'a>(
-    alloc: Global,
-    flags: &[u8],
-    place: &mut usize,
-    slots: &mut Vec<Option<Slot<'a>>>,
-    new: ChangeRef<'a>,
-) -> Result<(), AllocError>
-    ensures place { OnOk result (place.new
-        ≡ (slot_step flags.now place.old (slots_seen slots.old.items) (change_seen new.entry)).0) }
-    ensures slots { OnOk result (slots_seen slots.new.items
-        ≡ (slot_step flags.now place.old (slots_seen slots.old.items) (change_seen new.entry)).1) }
+// The place of a slot that has a change.
+fn met(slots: &[Option<Slot>], place: Option<usize>) -> Option<usize>
+    ensures { result ≡ met_at (slots_seen slots.now) place }
 {
-    let Some(Some(_)) = slots.get(*place) else {
-        return begin(alloc, flags, place, slots, new);
-    };
-    merge_at(alloc, flags, *place, slots, &new)
+    let place = place?;
+    match slots.get(place) {
+        Some(Some(_)) => Some(place),
+        _ => None,
+    }
 }
 
 // Adds one more change of a row to what is in its slot.
@@ -87,31 +98,44 @@ fn merge_in<'a>(
     let Some(there) = slot.take() else {
         return Ok(());
     };
-    *slot = merge(alloc, flags, there, new)?;
+    *slot = merged_with(alloc, flags, there, new)?;
     Ok(())
 }
 
-// Adds a change of a row that has none.
-fn begin<'a>(
+// What a row's change becomes by one more change of the row.
+fn merged_with<'a>(
     alloc: Global,
     flags: &[u8],
-    place: &mut usize,
-    slots: &mut Vec<Option<Slot<'a>>>,
-    new: ChangeRef<'a>,
-) -> Result<(), AllocError>
-    ensures place { OnOk result (place.new ≡ (begun_last place.old (slots_seen slots.old.items)
-        (only_change flags.now (change_seen new.entry))).0) }
-    ensures slots { OnOk result (slots_seen slots.new.items
-        ≡ (begun_last place.old (slots_seen slots.old.items)
-        (only_change flags.now (change_seen new.entry))).1) }
+    there: Slot<'a>,
+    new: &ChangeRef<'a>,
+) -> Result<Option<Slot<'a>>, AllocError>
+    ensures { IfOk result (λ next. option_map slot_seen next
+        ≡ two_changes flags.now (slot_seen there.entry) (change_seen new.now)) }
 {
-    let Some(first) = only(alloc, flags, new)? else {
-        return Ok(());
-    };
-    let last = slots.len();
-    slots.push(Some(first))?;
-    *place = last;
-    Ok(())
+    if is_ignored(there.op(), new.op) {
+        return Ok(Some(there));
+    }
+    let mut merged = there.into_merged(alloc, flags.len())?;
+    if !merge(alloc, flags, &mut merged, new)? {
+        return Ok(None);
+    }
+    Ok(Some(Slot::Merged(merged)))
+}
+
+// A change of a table with these key flags, as one that is about to be added.
+fn arrival_of<'a>(
+    alloc: Global,
+    flags: &[u8],
+    columns: Option<KeyColumns>,
+    change: PackedChange<'a>,
+) -> Result<Arrival<'a>, AllocError>
+    requires { KeyStands flags.now columns }
+    ensures is { IfOk result (λ arrival. IsArrival flags.now arrival) }
+    ensures change { IfOk result (λ arrival. arrival.change ≡ change.entry) }
+{
+    let key = Key::of(alloc, flags, columns, &change)?;
+    let hash = key.hash();
+    Ok(Arrival { key, hash, change })
 }
 
 impl<'s, 'a> Table<'s, 'a> {
@@ -119,33 +143,162 @@ impl<'s, 'a> Table<'s, 'a> {
     pub(crate) fn new(alloc: Global, flags: &'s [u8]) -> Table<'s, 'a>
         ensures flags { result.flags.now ≡ flags.now }
         ensures columns { KeyStands result.flags.now result.columns }
-        ensures none { HoldSlots flags.now (row_place result.places.entries)
+        ensures none { HoldRows flags.now result.links result.keys.items
             (slots_seen result.slots.items) [] }
     {
         Table {
             flags,
             columns: key_columns(flags),
-            places: IndexMap::new(alloc),
+            links: Links::new(alloc),
+            keys: Vec::new(alloc),
             slots: Vec::new(alloc),
         }
     }
 
-    /// Adds one more change.
-    pub(crate) fn add(&mut self, alloc: Global, new: ChangeRef<'a>) -> Result<(), AllocError>
-        requires { KeyStands self.old.flags.now self.old.columns }
+    // The place of the last slot of a key, whose hash this is.
+    fn find(&self, key: &Key, hash: u32) -> Option<usize>
+        ensures { self.now.links ≡ map key_hash self.now.keys.items → hash ≡ key_hash key.now
+            → result ≡ key_place self.now.keys.items key.now }
+    {
+        let mut place = self.links.last(hash);
+        while let Some(at) = place {
+            if self.has_key(at, key) {
+                return place;
+            }
+            place = self.links.before(at, hash);
+        }
+        None
+    }
+
+    // Whether the slot at a place is of the row with this key.
+    fn has_key(&self, place: usize, key: &Key) -> bool
+        ensures { IfSome (slice_get self.now.keys.items place)
+            (λ there. result ≡ same_bytes there key.now) }
+    {
+        match self.keys.get(place) {
+            Some(there) => there == key,
+            None => false,
+        }
+    }
+
+    // Adds a change of a row that has none.
+    fn begin(
+        &mut self,
+        alloc: Global,
+        key: Key<'a>,
+        hash: u32,
+        new: PackedChange<'a>,
+    ) -> Result<(), AllocError>
+        ensures flags { self.new.flags.now ≡ self.old.flags.now }
+        ensures columns { self.new.columns ≡ self.old.columns }
+        ensures none { OnOk result (only_change self.old.flags.now new.entry ≡ None
+            → self.new ≡ self.old) }
+        ensures links { OnOk result ((first : Change)
+            → only_change self.old.flags.now new.entry ≡ Some first
+            → self.new.links ≡ self.old.links ++ hash ∷ []) }
+        ensures keys { OnOk result ((first : Change)
+            → only_change self.old.flags.now new.entry ≡ Some first
+            → self.new.keys.items ≡ self.old.keys.items ++ key.entry ∷ []) }
+        ensures slots { OnOk result ((first : Change)
+            → only_change self.old.flags.now new.entry ≡ Some first
+            → slots_seen self.new.slots.items
+            ≡ slots_seen self.old.slots.items ++ Some first ∷ []) }
+    {
+        let Some(first) = only(alloc, self.flags, new)? else {
+            return Ok(());
+        };
+        self.links.push(hash)?;
+        self.keys.push(key)?;
+        self.slots.push(Some(first))?;
+        Ok(())
+    }
+
+    // Adds one more change.
+    fn add(&mut self, alloc: Global, new: Arrival<'a>) -> Result<(), AllocError>
         ensures flags { self.new.flags.now ≡ self.old.flags.now }
         ensures columns { self.new.columns ≡ self.old.columns }
         ensures ok { OnOk result ((changes : List Change)
             → AllByRecursion (IsOfTable self.old.flags.now) changes
-            → IsOfTable self.old.flags.now (change_seen new.entry)
-            → HoldSlots self.old.flags.now (row_place self.old.places.entries)
+            → IsOfTable self.old.flags.now new.entry.change
+            → IsArrival self.old.flags.now new.entry
+            → HoldRows self.old.flags.now self.old.links self.old.keys.items
             (slots_seen self.old.slots.items) changes
-            → HoldSlots self.old.flags.now (row_place self.new.places.entries)
-            (slots_seen self.new.slots.items) (changes ++ change_seen new.entry ∷ [])) }
+            → HoldRows self.old.flags.now self.new.links self.new.keys.items
+            (slots_seen self.new.slots.items) (changes ++ new.entry.change ∷ [])) }
     {
-        let key = Key::of(alloc, self.flags, self.columns, &new)?;
-        let place = self.places.entry(key)?.or_insert(NO_PLACE);
-        turn(alloc, self.flags, place, &mut self.slots, new)
+        changes_fit();
+        let Arrival { key, hash, change } = new;
+        let found = self.find(&key, hash);
+        if let Some(place) = met(&self.slots, found) {
+            return merge_at(alloc, self.flags, place, &mut self.slots, &change.unpack());
+        }
+        self.begin(alloc, key, hash, change)
+    }
+
+    // Makes room for as many rows as a batch seems to begin. To count them is to read what `add`
+    // reads next, but for the whole batch: the processor waits for all these places in memory at
+    // once, and not for one after another. With few rows it need not wait.
+    fn make_room(&mut self, alloc: Global, batch: &[Arrival]) -> Result<(), AllocError>
+        ensures flags { self.new.flags.now ≡ self.old.flags.now }
+        ensures columns { self.new.columns ≡ self.old.columns }
+        ensures links { self.new.links ≡ self.old.links }
+        ensures keys { self.new.keys.items ≡ self.old.keys.items }
+        ensures slots { self.new.slots.items ≡ self.old.slots.items }
+    {
+        if batch.len() < 2 || self.keys.len() < FEW {
+            return Ok(());
+        }
+        let mut hashes = Vec::with_capacity(alloc, batch.len())?;
+        for arrival in batch {
+            hashes.push_reserved(arrival.hash);
+        }
+        let missing = self.links.count_missing(&hashes)?;
+        self.keys.reserve(missing)?;
+        self.slots.reserve(missing)?;
+        Ok(())
+    }
+
+    // Adds the changes of a batch.
+    fn add_batch(&mut self, alloc: Global, batch: Vec<Arrival<'a>>) -> Result<(), AllocError>
+        ensures flags { self.new.flags.now ≡ self.old.flags.now }
+        ensures columns { self.new.columns ≡ self.old.columns }
+        ensures ok { OnOk result ((changes : List Change)
+            → AllByRecursion (IsOfTable self.old.flags.now) changes
+            → HoldUpTo self.old.flags.now self.old.links self.old.keys.items
+            (slots_seen self.old.slots.items) batch.entry.items changes
+            → HoldRows self.old.flags.now self.new.links self.new.keys.items
+            (slots_seen self.new.slots.items) changes) }
+    {
+        self.make_room(alloc, &batch)?;
+        for arrival in batch {
+            self.add(alloc, arrival)?;
+        }
+        Ok(())
+    }
+
+    // Puts one more change into the batch, and adds the batch if it is full.
+    fn take_in(
+        &mut self,
+        alloc: Global,
+        batch: &mut Vec<Arrival<'a>>,
+        change: PackedChange<'a>,
+    ) -> Result<(), AllocError>
+        requires { KeyStands self.old.flags.now self.old.columns }
+        ensures flags { self.new.flags.now ≡ self.old.flags.now }
+        ensures columns { self.new.columns ≡ self.old.columns }
+        ensures ok { OnOk result ((changes : List Change)
+            → AllByRecursion (IsOfTable self.old.flags.now) (changes ++ change.entry ∷ [])
+            → HoldUpTo self.old.flags.now self.old.links self.old.keys.items
+            (slots_seen self.old.slots.items) batch.old.items changes
+            → HoldUpTo self.old.flags.now self.new.links self.new.keys.items
+            (slots_seen self.new.slots.items) batch.new.items (changes ++ change.entry ∷ [])) }
+    {
+        batch.push(arrival_of(alloc, self.flags, self.columns, change)?)?;
+        if batch.len() < BATCH {
+            return Ok(());
+        }
+        let full = mem::replace(batch, Vec::with_capacity(alloc, BATCH)?);
+        self.add_batch(alloc, full)
     }
 
     /// Adds the changes of a section of the table.
@@ -160,14 +313,15 @@ impl<'s, 'a> Table<'s, 'a> {
         ensures ok { OnOk result ((before : List Change)
             → AllByRecursion (IsOfTable self.old.flags.now) before
             → AllByRecursion (IsOfTable self.old.flags.now) section.now.changes
-            → HoldSlots self.old.flags.now (row_place self.old.places.entries)
+            → HoldRows self.old.flags.now self.old.links self.old.keys.items
             (slots_seen self.old.slots.items) before
-            → HoldSlots self.old.flags.now (row_place self.new.places.entries)
+            → HoldRows self.old.flags.now self.new.links self.new.keys.items
             (slots_seen self.new.slots.items) (before ++ section.now.changes)) }
     {
-        for change in section.changes() {
-            self.add(alloc, change)?;
+        let mut batch = Vec::with_capacity(alloc, section.len().min(BATCH))?;
+        for change in section.packed_changes() {
+            self.take_in(alloc, &mut batch, change)?;
         }
-        Ok(())
+        self.add_batch(alloc, batch)
     }
 }

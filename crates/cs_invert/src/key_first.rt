@@ -1,5 +1,5 @@
-//! Whether the key columns of a table come first. An UPDATE's records then exchange all that follows
-//! the key, in one piece.
+//! Whether the key columns of a table come first. An UPDATE's records then exchange all that
+//! follows the key, in one piece.
 
 ghost use Rattle.std.specs.Prelude.{◌≡◌, ◌≤◌, ◌+◌, ℕ, drop, length, true};
 ghost use Rattle.cs_invert.specs.Text.{KeyFirst, TellsKeyFirst};

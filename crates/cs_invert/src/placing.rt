@@ -7,14 +7,15 @@ ghost use Rattle.std.specs.List.{AllByRecursion};
 ghost use Rattle.cs_model.specs.declared.change.Op.TheVariants.{Update};
 ghost use Rattle.cs_model.specs.Changeset.{AreRecords, IsSection, all_changes};
 ghost use Rattle.cs_model.specs.Packed.{packed};
-ghost use Rattle.cs_model.specs.PackedChanges.{change_bytes, change_of, changes_bytes};
+ghost use Rattle.cs_model.specs.PackedChanges.{change_bytes, changes_bytes};
 ghost use Rattle.cs_model.specs.Seen.{change_seen};
 ghost use Rattle.cs_write.specs.Buffer.{laid};
 ghost use Rattle.cs_write.specs.Groups.{group_text, groups_text};
 ghost use Rattle.cs_write.specs.Seen.{bodies, seen};
 ghost use Rattle.cs_invert.specs.Inverse.{inverse, inverse_by, inverse_change, inverse_old};
 ghost use Rattle.cs_invert.specs.Inverse.{inverse_section};
-ghost use Rattle.cs_invert.specs.Text.{AreValid, KeyFirst, TellsKeyFirst, inverse_group};
+ghost use Rattle.cs_invert.specs.Text.{AreValid, KeyFirst, TellsKeyFirst, exchanged_bytes};
+ghost use Rattle.cs_invert.specs.Text.{inverse_group, row_bytes};
 
 use crate::inverse::exchanged_fields;
 use crate::key_first::key_first;
@@ -49,72 +50,88 @@ fn put_exchanged(
     end
 }
 
-// The same where the key comes first, in two copies.
-fn put_halves(
-    out: &mut [u8],
-    at: usize,
-    flags: &[u8],
-    keys: usize,
-    olds: &RecordRef,
-    news: &RecordRef,
-) -> usize
-    requires first { KeyFirst flags.now keys }
-    requires olds { length olds.now ≡ length flags.now }
-    requires news { length news.now ≡ length flags.now }
-    requires room { at + length (packed (inverse_old flags.now olds.now news.now))
+// An UPDATE's inverse, column by column. It is not inlined, as `put_halves`.
+#[inline(never)]
+fn put_columns(out: &mut [u8], at: usize, flags: &[u8], change: &ChangeRef) -> usize
+    requires { at + length (change_bytes (inverse_by Update flags.now (change_seen change.now)))
         ≤ length out.old }
-    ensures end { result ≡ at + length (packed (inverse_old flags.now olds.now news.now)) }
-    ensures bytes { out.new ≡ laid at (packed (inverse_old flags.now olds.now news.now)) out.old }
+    ensures end { result ≡ at
+        + length (change_bytes (inverse_by Update flags.now (change_seen change.now))) }
+    ensures bytes { out.new ≡ laid at
+        (change_bytes (inverse_by Update flags.now (change_seen change.now))) out.old }
 {
-    let end = put_bytes(out, at, olds.part(0, keys));
-    put_bytes(out, end, news.part(keys, flags.len() - keys))
+    let mut end = put_operation(out, at, Op::Update, change.indirect);
+    end = put_exchanged(out, end, flags, &change.before, &change.after);
+    // the new record is the old one of the exchange the other way round
+    put_exchanged(out, end, flags, &change.after, &change.before)
 }
 
-// The same, where `keys` are the key columns if they come first.
-fn put_record(
-    out: &mut [u8],
-    at: usize,
-    flags: &[u8],
-    keys: Option<usize>,
-    olds: &RecordRef,
-    news: &RecordRef,
-) -> usize
-    requires first { TellsKeyFirst flags.now keys }
-    requires olds { length olds.now ≡ length flags.now }
-    requires news { length news.now ≡ length flags.now }
-    requires room { at + length (packed (inverse_old flags.now olds.now news.now))
-        ≤ length out.old }
-    ensures end { result ≡ at + length (packed (inverse_old flags.now olds.now news.now)) }
-    ensures bytes { out.new ≡ laid at (packed (inverse_old flags.now olds.now news.now)) out.old }
+// The bytes of an UPDATE's records where the key comes first.
+#[derive(Drop)]
+struct Halves<'a> {
+    // the old record's key, and its bytes after the key
+    key: &'a [u8],
+    old: &'a [u8],
+    // the same of the new record, whose key columns are undefined
+    blank: &'a [u8],
+    new: &'a [u8],
+}
+
+// These parts of an UPDATE's records. Only the key's end has to be found, by a scan.
+fn halves_of<'a>(flags: &[u8], keys: usize, change: &ChangeRef<'a>) -> Halves<'a>
+    requires first { KeyFirst flags.now keys }
+    requires valid { AreRecords flags.now Update (change_seen change.now).before
+        (change_seen change.now).after }
+    ensures { change_bytes (inverse_by Update flags.now (change_seen change.now))
+        ≡ exchanged_bytes (change_seen change.now).indirect result.key.now result.old.now
+        result.blank.now result.new.now }
 {
-    match keys {
-        Some(keys) => put_halves(out, at, flags, keys, olds, news),
-        None => put_exchanged(out, at, flags, olds, news),
+    let key = change.before.part(0, keys);
+    let (_, old) = change.before.bytes().split_at(key.len());
+    // an undefined field has one byte
+    let (blank, new) = change.after.bytes().split_at(keys);
+    Halves {
+        key,
+        old,
+        blank,
+        new,
     }
 }
 
-// A change with this operation and these records.
-fn put_change(
-    out: &mut [u8],
-    at: usize,
-    op: Op,
-    indirect: bool,
-    before: &RecordRef,
-    after: &RecordRef,
-) -> usize
-    requires { at + length (change_bytes (change_of op indirect before.now after.now))
-        ≤ length out.old }
-    ensures end { result ≡ at
-        + length (change_bytes (change_of op indirect before.now after.now)) }
-    ensures bytes { out.new ≡ laid at (change_bytes (change_of op indirect before.now after.now))
-        out.old }
+// Copies a key, or its undefined columns. The length of one undefined field and that of an INTEGER
+// have arms of their own, because a copy of a known length needs no call.
+#[inline(always)]
+fn put_key(out: &mut [u8], at: usize, bytes: &[u8]) -> usize
+    requires { at + length bytes.now ≤ length out.old }
+    ensures end { result ≡ at + length bytes.now }
+    ensures bytes { out.new ≡ laid at bytes.now out.old }
 {
-    let mut end = put_operation(out, at, op, indirect);
-    end = put_bytes(out, end, before.bytes());
-    put_bytes(out, end, after.bytes())
+    match bytes.len() {
+        1 => put_bytes(out, at, bytes),
+        9 => put_bytes(out, at, bytes),
+        _ => put_bytes(out, at, bytes),
+    }
 }
 
-// An UPDATE's inverse.
+// An UPDATE's inverse, of these parts. It is not inlined, so that the loop over the changes keeps
+// its values in registers.
+#[inline(never)]
+fn put_halves(out: &mut [u8], at: usize, indirect: bool, halves: &Halves) -> usize
+    requires { at + length (exchanged_bytes indirect halves.now.key.now halves.now.old.now
+        halves.now.blank.now halves.now.new.now) ≤ length out.old }
+    ensures end { result ≡ at + length (exchanged_bytes indirect halves.now.key.now
+        halves.now.old.now halves.now.blank.now halves.now.new.now) }
+    ensures bytes { out.new ≡ laid at (exchanged_bytes indirect halves.now.key.now
+        halves.now.old.now halves.now.blank.now halves.now.new.now) out.old }
+{
+    let mut end = put_operation(out, at, Op::Update, indirect);
+    end = put_key(out, end, halves.key);
+    end = put_bytes(out, end, halves.new);
+    end = put_key(out, end, halves.blank);
+    put_bytes(out, end, halves.old)
+}
+
+// An UPDATE's inverse, where `keys` are the key columns if they come first.
 fn put_update(
     out: &mut [u8],
     at: usize,
@@ -125,17 +142,28 @@ fn put_update(
     requires first { TellsKeyFirst flags.now keys }
     requires valid { AreRecords flags.now Update (change_seen change.now).before
         (change_seen change.now).after }
-    requires room { at + length (change_bytes (inverse_by Update flags.now (change_seen change.now)))
+    requires room { at
+        + length (change_bytes (inverse_by Update flags.now (change_seen change.now)))
         ≤ length out.old }
     ensures end { result ≡ at
         + length (change_bytes (inverse_by Update flags.now (change_seen change.now))) }
     ensures bytes { out.new ≡ laid at
         (change_bytes (inverse_by Update flags.now (change_seen change.now))) out.old }
 {
-    let mut end = put_operation(out, at, Op::Update, change.indirect);
-    end = put_record(out, end, flags, keys, &change.before, &change.after);
-    // the new record is the old one of the exchange the other way round
-    put_record(out, end, flags, keys, &change.after, &change.before)
+    match keys {
+        Some(keys) => put_halves(out, at, change.indirect, &halves_of(flags, keys, change)),
+        None => put_columns(out, at, flags, change),
+    }
+}
+
+// An INSERT or a DELETE of this row.
+fn put_row(out: &mut [u8], at: usize, op: Op, indirect: bool, row: &RecordRef) -> usize
+    requires { at + length (row_bytes op indirect row.now) ≤ length out.old }
+    ensures end { result ≡ at + length (row_bytes op indirect row.now) }
+    ensures bytes { out.new ≡ laid at (row_bytes op indirect row.now) out.old }
+{
+    let end = put_operation(out, at, op, indirect);
+    put_bytes(out, end, row.bytes())
 }
 
 // The inverse of a change.
@@ -156,16 +184,10 @@ fn put_inverse(
     ensures bytes { out.new ≡ laid at
         (change_bytes (inverse_change flags.now (change_seen change.now))) out.old }
 {
-    let ChangeRef {
-        indirect,
-        before,
-        after,
-        ..
-    } = change;
     match change.op {
-        Op::Insert => put_change(out, at, Op::Delete, *indirect, after, before),
+        Op::Insert => put_row(out, at, Op::Delete, change.indirect, &change.after),
         Op::Update => put_update(out, at, flags, keys, change),
-        Op::Delete => put_change(out, at, Op::Insert, *indirect, after, before),
+        Op::Delete => put_row(out, at, Op::Insert, change.indirect, &change.before),
     }
 }
 

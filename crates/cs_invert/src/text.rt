@@ -79,8 +79,8 @@ fn needed(groups: &Groups) -> Result<usize, AllocError>
 }
 
 /// Writes the canonical text of a changeset's inverse to the front of `out`, and returns its length
-/// in bytes, as `cs_write::write_to` does for a changeset. If `out` is shorter, writes nothing; so a
-/// call with an empty buffer returns the size needed. Makes no changeset: copies each value once,
+/// in bytes, as `cs_write::write_to` does for a changeset. If `out` is shorter, writes nothing; so
+/// a call with an empty buffer returns the size needed. Makes no changeset: copies each value once,
 /// from the changeset's text to `out`. Returns `AllocError` if memory runs out, which does not
 /// change `out`.
 #[tactic(auto, using(cs_write::proofs::Laying::laid_first))]

@@ -12,3 +12,4 @@ pub mod SaidLaws
 pub mod CanonicalLaws
 pub mod Fronts
 pub mod PartLaws
+pub mod PackedOne

@@ -143,8 +143,8 @@ some_back (f ∷ fs) text rest spells fit =
     ∙ (ap (λ (x : Field × List ℕ). then_some (length fs) x) a.reads
     ∙ ap (λ (x : List Field × List ℕ). (f ∷ x.0, x.1)) (some_back fs spells.1 rest spells.4 fit.1)))
 
-some_of : (n : ℕ) (fields : List Field) (text rest : List ℕ) → length fields ≡ n → SpellsEach SpellsField text fields
-    → AllByRecursion Fits fields → some_in n (text ++ rest) ≡ (fields, rest)
+pub some_of : (n : ℕ) (fields : List Field) (text rest : List ℕ) → length fields ≡ n
+    → SpellsEach SpellsField text fields → AllByRecursion Fits fields → some_in n (text ++ rest) ≡ (fields, rest)
 some_of n fields text rest long spells fit =
     subst (λ (k : ℕ). some_in k (text ++ rest) ≡ (fields, rest)) long (some_back fields text rest spells fit)
 
@@ -171,7 +171,7 @@ records_back n Delete indirect before after old new rest long k l p q =
     (ap (λ (x : List Field × List ℕ). (change_of Delete indirect x.0 [], x.1))
     (some_of n before old rest long.0 k p))
 
-op_back : (op : Op) → op_in (op_byte op) ≡ op
+pub op_back : (op : Op) → op_in (op_byte op) ≡ op
 op_back Insert = refl
 op_back Update = refl
 op_back Delete = refl
@@ -210,7 +210,7 @@ own_each bytes Spelling P own [] all = refl
 own_each bytes Spelling P own (x ∷ xs) all =
     (bytes x, flat_map bytes xs, refl, own x all.0, own_each bytes Spelling P own xs all.1)
 
-own_fields : (fields : List Field) → AllByRecursion Fits fields → SpellsEach SpellsField (packed fields) fields
+pub own_fields : (fields : List Field) → AllByRecursion Fits fields → SpellsEach SpellsField (packed fields) fields
 own_fields fields fit = own_each field_bytes SpellsField Fits own_field fields fit
 
 own_indirect : (indirect : Bool) → SpellsIndirect (mark indirect) indirect

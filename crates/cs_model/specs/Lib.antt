@@ -14,3 +14,4 @@ pub mod Row
 pub mod PackedChanges
 pub mod Canonical
 pub mod TextSection
+pub mod PackedOne

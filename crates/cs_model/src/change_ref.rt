@@ -3,9 +3,10 @@
 
 ghost use Rattle.std.specs.Prelude.{◌≡◌, ◌∷◌, [], IfSome, MatchOption, drop, take};
 ghost use Rattle.std.specs.List.{AllByRecursion};
-ghost use Rattle.cs_model.specs.Packed.{packed, unpacked, Fits};
+ghost use Rattle.cs_model.specs.Packed.{packed, unpacked, Fits, Packs};
 ghost use Rattle.cs_model.specs.PackedChanges.{some_in, op_in, records_by, unpacked_changes};
 ghost use Rattle.cs_model.specs.PackedChanges.{AreCanonical, BeginsFields, BeginsChange};
+ghost use Rattle.cs_model.specs.PackedOne.{IsAfterFirst};
 ghost use Rattle.cs_model.specs.Seen.{change_seen};
 
 use crate::change::Op;
@@ -32,6 +33,15 @@ impl<'a> Model for RecordRef<'a> {
 }
 
 impl<'a> RecordRef<'a> {
+    /// The record with these canonical bytes.
+    #[inline(always)]
+    pub(crate) fn of(bytes: &'a [u8]) -> RecordRef<'a>
+        requires { Packs bytes.now (unpacked bytes.now) }
+        ensures { result ≡ unpacked bytes.now }
+    {
+        RecordRef { bytes }
+    }
+
     /// Returns its fields, in column order.
     #[inline(always)]
     pub fn fields(&self) -> Fields<'a>
@@ -124,8 +134,41 @@ impl<'a> Iterator for ChangeRefs<'a> {
     }
 }
 
-// the bytes after the first `columns` fields, or after all if there are fewer
-fn behind(columns: usize, bytes: &[u8]) -> &[u8]
+/// The bytes after the first `columns` fields, or after all if there are fewer. It is inlined for
+/// the fields of one length that come first, since a call costs as much as two of them.
+#[inline(always)]
+pub(crate) fn behind(columns: usize, bytes: &[u8]) -> &[u8]
+    ensures { result.now ≡ (some_in columns bytes.now).1 }
+{
+    let mut rest = bytes;
+    for i in 0..columns {
+        let Some(after) = behind_fixed(rest) else {
+            return behind_any(columns - i, rest);
+        };
+        rest = after;
+    }
+    rest
+}
+
+// the bytes after the first field if its type has one length
+#[tactic(auto, unfolding(crate::specs::Packed::typed_in))]
+#[inline(always)]
+fn behind_fixed(bytes: &[u8]) -> Option<&[u8]>
+    ensures { IfSome result (λ after. IsAfterFirst bytes.now after.now) }
+{
+    let (&byte, tail) = bytes.split_first()?;
+    if byte == 1 && tail.len() >= 8 {
+        let (_, after) = tail.split_at(8);
+        return Some(after);
+    }
+    if byte == 0 {
+        return Some(tail);
+    }
+    None
+}
+
+// the same as `behind`, field by field
+fn behind_any(columns: usize, bytes: &[u8]) -> &[u8]
     ensures { result.now ≡ (some_in columns bytes.now).1 }
 {
     let mut rest = bytes;

@@ -20,6 +20,7 @@ use crate::change_ref::{ChangeRef, ChangeRefs};
 use crate::copy::CopyIn;
 use crate::field::add_fields;
 use crate::field_ref::FieldRef;
+use crate::packed_change::PackedChange;
 use crate::record::Record;
 use std::alloc::{AllocError, Global};
 use std::marker::Model;
@@ -89,6 +90,18 @@ impl Changes {
         ensures err { OnErr result (self.new.1 ≡ self.old.1) }
     {
         ref_push(&mut self.bytes, change)?;
+        self.count += 1;
+        Ok(())
+    }
+
+    /// The same for a change that is borrowed as its bytes, in one copy.
+    pub fn push_packed(&mut self, change: &PackedChange) -> Result<(), AllocError>
+        requires { Long self.old.0 change.now.op change.now.before change.now.after }
+        ensures columns { self.new.0 ≡ self.old.0 }
+        ensures ok { OnOk result (self.new.1 ≡ self.old.1 ++ change.now ∷ []) }
+        ensures err { OnErr result (self.new.1 ≡ self.old.1) }
+    {
+        self.bytes.extend_from_slice(change.bytes())?;
         self.count += 1;
         Ok(())
     }

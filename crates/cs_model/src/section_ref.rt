@@ -5,6 +5,7 @@ ghost use Rattle.cs_model.specs.PackedChanges.{AreCanonical, changes_bytes, unpa
 
 use crate::change_ref::ChangeRefs;
 use crate::changes::Changes;
+use crate::packed_change::PackedChanges;
 use crate::section::Section;
 use crate::shape::Shape;
 use crate::text_section::TextSection;
@@ -93,6 +94,13 @@ impl<'a> SectionRef<'a> {
         ensures { result ≡ self.now.changes }
     {
         ChangeRefs::of(self.shape.flags.len(), self.bytes)
+    }
+
+    /// The same iterator, over the changes as their bytes.
+    pub fn packed_changes(&self) -> PackedChanges<'a>
+        ensures { result ≡ self.now.changes }
+    {
+        PackedChanges::of(self.shape.flags.len(), self.bytes)
     }
 
     /// The canonical bytes of the changes, one after another.

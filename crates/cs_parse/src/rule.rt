@@ -1,7 +1,7 @@
 //! The rules for a field's type byte, by column and record, and the faults of a byte that breaks
 //! them.
 
-ghost use Rattle.std.specs.Prelude.{◌≡◌, ℕ};
+ghost use Rattle.std.specs.Prelude.{◌≡◌, ℕ, None, true};
 ghost use Rattle.cs_model.specs.Rule.{new_rule};
 ghost use Rattle.cs_model.specs.declared.value.Field.{Field};
 ghost use Rattle.cs_model.specs.Rule.{is_defined};
@@ -50,10 +50,21 @@ pub fn rule_by_old(flag: u8, has_value: bool) -> FieldRule
     }
 }
 
+/// Whether an INTEGER is valid under a rule.
+pub fn admits_integer(rule: FieldRule) -> bool
+    ensures { result ≡ true → type_refusal (rule_of rule) 1 ≡ None }
+{
+    !matches!(rule, FieldRule::Blank | FieldRule::Neither)
+}
+
 /// The fault of a type byte under a rule, if it has one.
 pub fn type_fault(rule: FieldRule, byte: u8) -> Option<FaultKind>
     ensures { result ≡ type_refusal (rule_of rule) byte }
 {
+    // most fields are INTEGERs
+    if byte == 1 && admits_integer(rule) {
+        return None;
+    }
     if byte > 5 {
         return Some(FaultKind::BadType);
     }

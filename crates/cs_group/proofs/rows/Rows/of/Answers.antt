@@ -4,7 +4,7 @@ use Rattle.std.specs.List.{AllByRecursion}
 use Rattle.cs_model.specs.declared.change.Change.{Change}
 use Rattle.cs_model.specs.Changeset.{all_changes}
 use Rattle.cs_group.specs.Key.{KeyStands}
-use Rattle.cs_group.specs.Table.{HoldSlots, HasColumnsOf, IsOfTable, row_place, slots_seen}
+use Rattle.cs_group.specs.Table.{HoldRows, HasColumnsOf, IsOfTable, slots_seen}
 use Rattle.cs_group.proofs.Lists.{all_of_front, all_of_back, all_held}
 use Rattle.cs_group.proofs.StepLaw.{flat_map_both}
 use Rattle.cs_group.proofs.rows.Rows.of.Goals as goal
@@ -32,14 +32,14 @@ loop-section-preserved c =
     (all_changes (drop (i + 1) all)) (subst (AllByRecursion (IsOfTable flags)) whole c.requires)) in
     let step = subst (λ (f : List ℕ). (first : List Change) → AllByRecursion (IsOfTable f) first
     → AllByRecursion (IsOfTable f) section.changes
-    → HoldSlots f (row_place now.places.entries) (slots_seen now.slots.items) first
-    → HoldSlots f (row_place later.places.entries) (slots_seen later.slots.items) (first ++ section.changes))
+    → HoldRows f now.links now.keys.items (slots_seen now.slots.items) first
+    → HoldRows f later.links later.keys.items (slots_seen later.slots.items) (first ++ section.changes))
     same c.in_ok-add_all.ensures.ok in
     record {
       flags = c.in_ok-add_all.ensures.flags ∙ same;
       columns = subst (λ fs. KeyStands fs later.columns) (sym c.in_ok-add_all.ensures.flags)
           (subst (KeyStands now.flags.now) (sym c.in_ok-add_all.ensures.columns) c.loop-section.invariant.columns);
-      holds = subst (HoldSlots flags (row_place later.places.entries) (slots_seen later.slots.items)) (sym more)
+      holds = subst (HoldRows flags later.links later.keys.items (slots_seen later.slots.items)) (sym more)
           (step before (all_of_front (IsOfTable flags) before section.changes mine)
           (all_of_back (IsOfTable flags) before section.changes mine)
           c.loop-section.invariant.holds);
@@ -50,4 +50,4 @@ returns-clause-columns c =
     let shape = c.args.shape.now in
     all_held (HasColumnsOf (length shape.flags)) (slots_seen c.loop-section.table.slots.items)
     (λ place change is. (c.changes_fit.ensures shape change
-    (c.loop-section.invariant.holds.valid place change is)).long)
+    (c.loop-section.invariant.holds.holds.valid place change is)).long)

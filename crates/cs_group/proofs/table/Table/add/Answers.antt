@@ -1,39 +1,88 @@
-use Rattle.std.proofs.Common.{◌≡◌, ◌∙◌, ◌<◌, ℕ, List, Some, cond, sym, ap, arith, length}
-use Rattle.std.proofs.lemmas.List.{length-map}
+use Rattle.std.proofs.Common.{◌≡◌, ◌∙◌, ◌++◌, ◌∷◌, [], List, ℕ, Option, Some, None, sym, ap, subst, refl}
 use Rattle.std.proofs.lemmas.Result.{on_ok_weaker}
+use Rattle.std.specs.List.{AllByRecursion}
 use Rattle.std.specs.Prelude.{Result, Ok, Err, OnOk}
-use Rattle.std.specs.Option.{option_map, unwrap_or}
-use Rattle.cs_model.specs.Schema.{same_bytes}
-use Rattle.cs_model.specs.Seen.{change_seen}
+use Rattle.cs_model.specs.declared.change.Change.{Change}
 use Rattle.cs_group.specs.Group.{changed_row}
-use Rattle.cs_group.specs.Slots.{slot_seen}
-use Rattle.cs_group.specs.Table.{row_place, slots_seen, no_slot}
-use Rattle.cs_group.proofs.Holding.{step_holds}
+use Rattle.cs_group.specs.Key.{key_hash}
+use Rattle.cs_group.specs.Merge.{only_change, two_changes}
+use Rattle.cs_group.specs.Table.{Slots, HoldRows, IsOfTable, key_place, met_at, put_at, slots_seen}
+use Rattle.cs_group.proofs.Holding.{met_is, rows_met, rows_idle, rows_begun}
 use Rattle.cs_group.proofs.table.Table.add.Goals as goal
+
+pub returns-in-Some-clause-ok : goal.returns-in-Some-clause-ok
+returns-in-Some-clause-ok c =
+    let old = c.args.self.now in
+    let flags = old.flags.now in
+    let new = c.args.new.change in
+    let slots = slots_seen old.slots.items in
+    on_ok_weaker c.merge_at.result (λ merged. λ changes valid fits arrives rows.
+    let key : c.args.new.key ≡ changed_row flags new =
+    arrives.key (c.changes_fit.ensures (record { name = []; flags = flags }) new fits).long in
+    let found : c.find-found.result ≡ key_place old.keys.items (changed_row flags new) =
+    c.find-found.ensures rows.hashes arrives.hash ∙ ap (key_place old.keys.items) key in
+    let met = met_is slots c.find-found.result c.in-Some.place
+    (ap (λ items. met_at (slots_seen items) c.find-found.result) (sym c.deref.ensures.value)
+    ∙ sym c.met.ensures ∙ c.in-Some.is) in
+    rows_met flags old.links old.keys.items slots (slots_seen c.merge_at.new.slots.items) changes new c.in-Some.place
+    met.1.0 valid fits rows (sym found ∙ met.0) met.1.1
+    (merged met.1.0 met.1.1 ∙ ap (λ d. put_at c.in-Some.place (two_changes flags met.1.0 d) slots) c.unpack.ensures))
+    c.merge_at.ensures
+
+-- what is begun, or nothing
+begun_rows : (flags links links_new : List ℕ) (keys keys_new : List (List ℕ)) (slots slots_new : Slots)
+    (changes : List Change) (new : Change) (only : Option Change) → only_change flags new ≡ only
+    → AllByRecursion (IsOfTable flags) changes → IsOfTable flags new → HoldRows flags links keys slots changes
+    → met_at slots (key_place keys (changed_row flags new)) ≡ None
+    → (only ≡ None → (links_new ≡ links) × (keys_new ≡ keys) × (slots_new ≡ slots))
+    → ((first : Change) → only ≡ Some first → (links_new ≡ links ++ key_hash (changed_row flags new) ∷ [])
+    × (keys_new ≡ keys ++ changed_row flags new ∷ []) × (slots_new ≡ slots ++ Some first ∷ []))
+    → HoldRows flags links_new keys_new slots_new (changes ++ new ∷ [])
+begun_rows flags links links_new keys keys_new slots slots_new changes new None is valid fits rows none idle begun =
+    let same = idle refl in
+    let held = rows_idle flags links keys slots changes new valid fits rows none is in
+    subst (λ l. HoldRows flags l keys_new slots_new (changes ++ new ∷ [])) (sym same.0)
+    (subst (λ k. HoldRows flags links k slots_new (changes ++ new ∷ [])) (sym same.1)
+    (subst (λ s. HoldRows flags links keys s (changes ++ new ∷ [])) (sym same.2) held))
+begun_rows flags links links_new keys keys_new slots slots_new changes new (Some first) is valid fits rows none idle
+    begun =
+    let more = begun first refl in
+    let row = changed_row flags new in
+    let held = rows_begun flags links keys slots changes new first valid fits rows none is in
+    subst (λ l. HoldRows flags l keys_new slots_new (changes ++ new ∷ [])) (sym more.0)
+    (subst (λ k. HoldRows flags (links ++ key_hash row ∷ []) k slots_new (changes ++ new ∷ [])) (sym more.1)
+    (subst (λ s. HoldRows flags (links ++ key_hash row ∷ []) (keys ++ row ∷ []) s (changes ++ new ∷ []))
+    (sym more.2) held))
+
+-- three clauses of one result
+three : {T E : Type 0} (r : Result T E) (P Q R S : Type 0) → OnOk r P → OnOk r Q → OnOk r R → OnOk r S
+    → OnOk r (P × Q × R × S)
+three (Ok x) P Q R S p q r s = (p, q, r, s)
+three (Err e) P Q R S p q r s = tt
 
 pub returns-clause-ok : goal.returns-clause-ok
 returns-clause-ok c =
-    let e = c.in_ok-self.ensures in
     let old = c.args.self.now in
     let flags = old.flags.now in
-    let new = change_seen c.args.new in
-    let place = c.turn.new.place in
-    let is = c.self-3-1.given.1 (sym e.same_map) in
-    let key : c.in_ok-key.key ≡ changed_row flags new = c.in_ok-key.ensures in
-    let small : length (slots_seen old.slots.items) < no_slot =
-    omega (arith, length-map old.slots.items (option_map slot_seen), old.slots.small) in
-    let at : c.or_insert-place.result.now ≡ unwrap_or (row_place old.places.entries (changed_row flags new)) no_slot =
-    c.or_insert-place.ensures.value ∙ ap (λ p. unwrap_or p no_slot) (e.value ∙ ap (row_place old.places.entries) key) in
-    let moved : (row : List ℕ) → row_place c.self-3-1.given.0.entries row
-    ≡ cond (same_bytes (changed_row flags new) row) (Some place) (row_place old.places.entries row) =
-    λ row. ap (λ m. row_place m.entries row) is ∙ (e.update.0 place).0 row
-    ∙ ap (λ k. cond (same_bytes k row) (Some place) (row_place old.places.entries row)) key in
-    on_ok_weaker c.turn.result (λ steps. λ changes valid fits holds.
-    step_holds flags (row_place old.places.entries) (row_place c.self-3-1.given.0.entries)
-    (slots_seen old.slots.items) (slots_seen c.turn.new.slots.items) changes new c.or_insert-place.result.now place
-    valid fits holds small at steps.0 steps.1 moved)
-    (both c.turn.result _ _ c.turn.ensures.place c.turn.ensures.slots)
-  where
-    both : {T E : Type 0} (r : Result T E) (P Q : Type 0) → OnOk r P → OnOk r Q → OnOk r (P × Q)
-    both (Ok x) P Q p q = (p, q)
-    both (Err e) P Q p q = tt
+    let new = c.args.new.change in
+    let slots = slots_seen old.slots.items in
+    let now = c.begin.new.self in
+    on_ok_weaker c.begin.result (λ begun. λ changes valid fits arrives rows.
+    let key : c.args.new.key ≡ changed_row flags new =
+    arrives.key (c.changes_fit.ensures (record { name = []; flags = flags }) new fits).long in
+    let found : c.find-found.result ≡ key_place old.keys.items (changed_row flags new) =
+    c.find-found.ensures rows.hashes arrives.hash ∙ ap (key_place old.keys.items) key in
+    let none : met_at slots (key_place old.keys.items (changed_row flags new)) ≡ None =
+    ap (met_at slots) (sym found)
+    ∙ ap (λ items. met_at (slots_seen items) c.find-found.result) (sym c.deref.ensures.value)
+    ∙ sym c.met.ensures ∙ c.in_default.is in
+    begun_rows flags old.links now.links old.keys.items now.keys.items slots (slots_seen now.slots.items) changes new
+    (only_change flags new) refl valid fits rows none
+    (λ nothing. let same = begun.0 nothing in
+    (ap (λ t. t.links) same, ap (λ t. t.keys.items) same, ap (λ t. slots_seen t.slots.items) same))
+    (λ first is. (
+      begun.1 first is ∙ ap (λ h. old.links ++ h ∷ []) (arrives.hash ∙ ap key_hash key),
+      begun.2 first is ∙ ap (λ k. old.keys.items ++ k ∷ []) key,
+      begun.3 first is,
+    )))
+    (three c.begin.result _ _ _ _ c.begin.ensures.none c.begin.ensures.links c.begin.ensures.keys c.begin.ensures.slots)

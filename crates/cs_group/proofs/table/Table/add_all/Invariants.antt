@@ -1,19 +1,19 @@
 use Rattle.std.proofs.Common.{◌≡◌, ◌++◌, List}
 use Rattle.std.specs.List.{AllByRecursion}
 use Rattle.cs_model.specs.declared.change.Change.{Change}
-use Rattle.cs_group.specs.Table.{HoldSlots, IsOfTable, row_place, slots_seen}
+use Rattle.cs_group.specs.Arrivals.{HoldUpTo}
+use Rattle.cs_group.specs.Table.{HoldRows, IsOfTable, slots_seen}
 use Rattle.cs_group.proofs.table.Table.add_all.Given as goal
 
--- the slots hold what the changes so far come to
+-- the slots hold what the changes so far come to, up to those in the batch
 abbrev pub invariant-loop-change : goal.invariant-loop-change
 invariant-loop-change l = record {
-  flags : l.self.flags.now ≡ l.initial.self.flags.now;
-  columns : l.self.columns ≡ l.initial.self.columns;
-  holds : (before : List Change) → AllByRecursion (IsOfTable l.initial.self.flags.now) before
-      → AllByRecursion (IsOfTable l.initial.self.flags.now) l.section.changes
-      → HoldSlots l.initial.self.flags.now (row_place l.initial.self.places.entries)
-      (slots_seen l.initial.self.slots.items) before
+  flags : l.self.flags.now ≡ l.fn.self.flags.now;
+  columns : l.self.columns ≡ l.fn.self.columns;
+  holds : (before : List Change) → AllByRecursion (IsOfTable l.fn.self.flags.now) before
+      → AllByRecursion (IsOfTable l.fn.self.flags.now) l.section.changes
+      → HoldRows l.fn.self.flags.now l.fn.self.links l.fn.self.keys.items (slots_seen l.fn.self.slots.items) before
       → (done : List Change) × (done ++ l.change-iterator ≡ l.section.changes)
-      × HoldSlots l.initial.self.flags.now (row_place l.self.places.entries) (slots_seen l.self.slots.items)
+      × HoldUpTo l.fn.self.flags.now l.self.links l.self.keys.items (slots_seen l.self.slots.items) l.batch.items
       (before ++ done);
 }

@@ -8,11 +8,10 @@ use Rattle.cs_write.specs.Buffer.{laid}
 use Rattle.cs_write.proofs.Laying.{LayingLaid, laying_goes_on, laying_ends}
 use Rattle.cs_invert.specs.Inverse.{inverse_by}
 use Rattle.cs_invert.proofs.Ending.{exchanged_back}
-use Rattle.cs_invert.proofs.KeyLeads.{both_long}
-use Rattle.cs_invert.proofs.placing.put_update.Goals as goal
+use Rattle.cs_invert.proofs.placing.put_columns.Goals as goal
 
-pub put_record-requires-clause-room : goal.put_record-requires-clause-room
-put_record-requires-clause-room c =
+pub put_exchanged-requires : goal.put_exchanged-requires
+put_exchanged-requires c =
     let at = c.args.at in
     let out = c.args.out.now in
     let change = change_seen c.args.change.now in
@@ -22,12 +21,12 @@ put_record-requires-clause-room c =
     let begun : LayingLaid at whole out at whole out = record { end = refl; size = refl; same = refl } in
     let op : LayingLaid c.put_operation-end.result (packed made.before ++ packed made.after)
     c.put_operation-end.new.out at whole out =
-    laying_goes_on _ _ _ _ _ _ _ _ _ _ c.requires.room c.put_operation-end.ensures.end c.put_operation-end.ensures.bytes
+    laying_goes_on _ _ _ _ _ _ _ _ _ _ c.requires c.put_operation-end.ensures.end c.put_operation-end.ensures.bytes
     begun (grind (arith, common_steps)) in
-    let before : LayingLaid c.put_record-end.result (packed made.after) c.put_record-end.new.out at whole out =
-    laying_goes_on _ _ _ _ _ _ _ _ _ _ c.requires.room c.put_record-end.ensures.end c.put_record-end.ensures.bytes
+    let before : LayingLaid c.put_exchanged-end.result (packed made.after) c.put_exchanged-end.new.out at whole out =
+    laying_goes_on _ _ _ _ _ _ _ _ _ _ c.requires c.put_exchanged-end.ensures.end c.put_exchanged-end.ensures.bytes
     op (grind (arith, common_steps)) in
-    omega (arith, c.requires.room, before.end, before.size, back)
+    omega (arith, c.requires, before.end, before.size, back)
 
 pub returns-clause-end : goal.returns-clause-end
 returns-clause-end c =
@@ -37,8 +36,8 @@ returns-clause-end c =
     omega (
       arith,
       c.put_operation-end.ensures.end,
-      c.put_record-end.ensures.end,
-      c.put_record.ensures.end,
+      c.put_exchanged-end.ensures.end,
+      c.put_exchanged.ensures.end,
       back,
       length-append (packed made.before) (packed made.after),
     )
@@ -55,34 +54,14 @@ returns-clause-bytes c =
     let begun : LayingLaid at whole out at whole out = record { end = refl; size = refl; same = refl } in
     let op : LayingLaid c.put_operation-end.result (packed made.before ++ packed made.after)
     c.put_operation-end.new.out at whole out =
-    laying_goes_on _ _ _ _ _ _ _ _ _ _ c.requires.room c.put_operation-end.ensures.end c.put_operation-end.ensures.bytes
+    laying_goes_on _ _ _ _ _ _ _ _ _ _ c.requires c.put_operation-end.ensures.end c.put_operation-end.ensures.bytes
     begun (grind (arith, common_steps)) in
-    let before : LayingLaid c.put_record-end.result (packed made.after) c.put_record-end.new.out at whole out =
-    laying_goes_on _ _ _ _ _ _ _ _ _ _ c.requires.room c.put_record-end.ensures.end c.put_record-end.ensures.bytes
+    let before : LayingLaid c.put_exchanged-end.result (packed made.after) c.put_exchanged-end.new.out at whole out =
+    laying_goes_on _ _ _ _ _ _ _ _ _ _ c.requires c.put_exchanged-end.ensures.end c.put_exchanged-end.ensures.bytes
     op (grind (arith, common_steps)) in
-    let after : LayingLaid c.put_record.result [] c.put_record.new.out at whole out =
-    laying_goes_on _ _ (packed made.after) _ _ _ _ _ _ _ c.requires.room
-    (c.put_record.ensures.end ∙ ap (λ bs. c.put_record-end.result + length bs) back)
-    (c.put_record.ensures.bytes ∙ ap (λ bs. laid c.put_record-end.result bs c.put_record-end.new.out) back)
+    let after : LayingLaid c.put_exchanged.result [] c.put_exchanged.new.out at whole out =
+    laying_goes_on _ _ (packed made.after) _ _ _ _ _ _ _ c.requires
+    (c.put_exchanged.ensures.end ∙ ap (λ bs. c.put_exchanged-end.result + length bs) back)
+    (c.put_exchanged.ensures.bytes ∙ ap (λ bs. laid c.put_exchanged-end.result bs c.put_exchanged-end.new.out) back)
     before (grind (arith, common_steps)) in
     laying_ends _ _ _ _ _ _ refl after
-
-pub put_record-end-requires-clause-olds : goal.put_record-end-requires-clause-olds
-put_record-end-requires-clause-olds c =
-    let change = change_seen c.args.change.now in
-    (both_long c.args.flags.now change.before change.after c.requires.valid.0 c.requires.valid.1).0
-
-pub put_record-end-requires-clause-news : goal.put_record-end-requires-clause-news
-put_record-end-requires-clause-news c =
-    let change = change_seen c.args.change.now in
-    (both_long c.args.flags.now change.before change.after c.requires.valid.0 c.requires.valid.1).1
-
-pub put_record-requires-clause-olds : goal.put_record-requires-clause-olds
-put_record-requires-clause-olds c =
-    let change = change_seen c.args.change.now in
-    (both_long c.args.flags.now change.before change.after c.requires.valid.0 c.requires.valid.1).1
-
-pub put_record-requires-clause-news : goal.put_record-requires-clause-news
-put_record-requires-clause-news c =
-    let change = change_seen c.args.change.now in
-    (both_long c.args.flags.now change.before change.after c.requires.valid.0 c.requires.valid.1).0

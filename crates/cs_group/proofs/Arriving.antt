@@ -1,0 +1,34 @@
+-- Changes that arrive in a batch, and are added one after another.
+use Rattle.std.proofs.Common.{◌≡◌, ◌∙◌, ◌++◌, ◌∷◌, [], List, ℕ, sym, ap, subst, append_assoc}
+use Rattle.std.proofs.lemmas.List.{append-nil}
+use Rattle.std.specs.List.{AllByRecursion}
+use Rattle.cs_model.specs.declared.change.Change.{Change}
+use Rattle.cs_group.specs.declared.table.Arrival.{Arrival}
+use Rattle.cs_group.specs.Arrivals.{HoldUpTo, IsArrival, arrived_changes}
+use Rattle.cs_group.specs.Table.{HoldRows, IsOfTable, Slots}
+use Rattle.cs_group.proofs.Lists.{all_of_front, all_of_back}
+
+-- the batch's first change is added
+pub one_added : (flags links links_new : List ℕ) (keys keys_new : List (List ℕ)) (slots slots_new : Slots)
+    (first : Arrival) (rest : List Arrival) (changes : List Change) → AllByRecursion (IsOfTable flags) changes
+    → HoldUpTo flags links keys slots (first ∷ rest) changes
+    → ((done : List Change) → AllByRecursion (IsOfTable flags) done → IsOfTable flags first.change
+    → IsArrival flags first → HoldRows flags links keys slots done
+    → HoldRows flags links_new keys_new slots_new (done ++ first.change ∷ []))
+    → HoldUpTo flags links_new keys_new slots_new rest changes
+one_added flags links links_new keys keys_new slots slots_new first rest changes valid held step =
+    let mine = subst (AllByRecursion (IsOfTable flags)) (sym held.whole) valid in record {
+      done = held.done ++ first.change ∷ [];
+      whole = append_assoc held.done (first.change ∷ []) (arrived_changes rest) ∙ held.whole;
+      arrivals = held.arrivals.1;
+      holds = step held.done (all_of_front (IsOfTable flags) held.done (arrived_changes (first ∷ rest)) mine)
+          (all_of_back (IsOfTable flags) held.done (arrived_changes (first ∷ rest)) mine).0 held.arrivals.0 held.holds;
+    }
+
+-- the whole batch is added
+pub all_added : (flags links : List ℕ) (keys : List (List ℕ)) (slots : Slots) (batch : List Arrival)
+    (changes : List Change) → batch ≡ [] → HoldUpTo flags links keys slots batch changes
+    → HoldRows flags links keys slots changes
+all_added flags links keys slots batch changes none held =
+    subst (HoldRows flags links keys slots)
+    (sym (append-nil held.done) ∙ ap (λ b. held.done ++ arrived_changes b) (sym none) ∙ held.whole) held.holds

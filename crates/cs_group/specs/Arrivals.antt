@@ -1,0 +1,26 @@
+-- Changes that are about to be added to a table's rows.
+use Rattle.std.specs.List.{AllByRecursion}
+use Rattle.std.specs.Prelude.{◌≡◌, ◌++◌, ℕ, List, length, map}
+use Rattle.cs_model.specs.declared.change.Change.{Change}
+use Rattle.cs_group.specs.declared.table.Arrival.{Arrival}
+use Rattle.cs_group.specs.Group.{changed_row}
+use Rattle.cs_group.specs.Key.{key_hash}
+use Rattle.cs_group.specs.Table.{HasColumnsOf, HoldRows, Slots}
+
+-- an arrival has the key of its change's row, and the key's hash
+pub record IsArrival (flags : List ℕ) (arrival : Arrival) : Type 0 where
+  pub key : HasColumnsOf (length flags) arrival.change
+      → arrival.key ≡ changed_row flags arrival.change
+  pub hash : arrival.hash ≡ key_hash arrival.key
+
+-- the changes that arrive
+abbrev pub arrived_changes : List Arrival → List Change
+arrived_changes batch = map (λ arrival. arrival.change) batch
+
+-- The slots hold what the first ones of these changes come to, and the batch has the others.
+pub record HoldUpTo (flags links : List ℕ) (keys : List (List ℕ)) (slots : Slots)
+    (batch : List Arrival) (changes : List Change) : Type 0 where
+  pub done : List Change
+  pub whole : done ++ arrived_changes batch ≡ changes
+  pub arrivals : AllByRecursion (IsArrival flags) batch
+  pub holds : HoldRows flags links keys slots done

@@ -1,0 +1,197 @@
+//! A change borrowed as its canonical bytes, and an iterator over the changes of a table.
+
+ghost use Rattle.std.specs.Prelude.{◌≡◌, ◌∷◌, ◌++◌, [], IfSome, MatchOption, get_or};
+ghost use Rattle.std.specs.List.{AllByRecursion};
+ghost use Rattle.cs_model.specs.Packed.{Fits};
+ghost use Rattle.cs_model.specs.PackedChanges.{AreCanonical, change_bytes, unpacked_changes};
+ghost use Rattle.cs_model.specs.PackedOne.{new_after, old_after};
+ghost use Rattle.cs_model.specs.Seen.{change_seen};
+
+use crate::change::Op;
+use crate::change_ref::{ChangeRef, RecordRef, behind, op_of};
+use std::iter::Iterator;
+use std::marker::Model;
+
+/// A change, borrowed as its canonical bytes. It takes less room than a `ChangeRef`. Contracts see
+/// the change.
+#[derive(Drop)]
+pub struct PackedChange<'a> {
+    bytes: &'a [u8],
+    // where the new record begins
+    middle: usize,
+}
+
+impl<'a> Model for PackedChange<'a> {
+    ghost use Rattle.cs_model.specs.declared.change.Change.{Change};
+    ghost use Rattle.cs_model.specs.PackedOne.{IsPacked, unpacked_change};
+
+    ghost Value = { Change };
+
+    ghost view = { λ c. unpacked_change c.middle c.bytes.now };
+
+    ghost invariant = { λ c. IsPacked (unpacked_change c.middle c.bytes.now) c.middle c.bytes.now };
+}
+
+impl<'a> PackedChange<'a> {
+    /// Borrows the same change once more.
+    #[inline(always)]
+    pub fn again(&self) -> PackedChange<'a>
+        ensures { result ≡ self.now }
+    {
+        PackedChange {
+            bytes: self.bytes,
+            middle: self.middle,
+        }
+    }
+
+    /// The operation.
+    #[inline(always)]
+    pub fn op(&self) -> Op
+        ensures { result ≡ self.now.op }
+    {
+        op_of(first_byte(self.bytes))
+    }
+
+    /// The canonical bytes.
+    #[inline(always)]
+    pub fn bytes(&self) -> &'a [u8]
+        ensures bytes { result.now ≡ change_bytes self.now }
+        ensures before { AllByRecursion Fits self.now.before }
+        ensures after { AllByRecursion Fits self.now.after }
+    {
+        self.bytes
+    }
+
+    /// The fields of the old record, and then those of the new one.
+    #[inline(always)]
+    pub fn records(&self) -> RecordRef<'a>
+        ensures { result ≡ self.now.before ++ self.now.after }
+    {
+        let (_, records) = self.bytes.split_at(self.bytes.len().min(2));
+        RecordRef::of(records)
+    }
+
+    /// The change as its two records. Reads no field.
+    #[inline(always)]
+    pub fn unpack(&self) -> ChangeRef<'a>
+        ensures { change_seen result ≡ self.now }
+    {
+        let (front, after) = self.bytes.split_at(self.middle);
+        let (marks, before) = front.split_at(2);
+        ChangeRef {
+            op: op_of(marks[0]),
+            indirect: marks[1] != 0,
+            before: RecordRef::of(before),
+            after: RecordRef::of(after),
+        }
+    }
+}
+
+// the first byte, or 0 if there is none
+#[inline(always)]
+fn first_byte(bytes: &[u8]) -> u8
+    ensures { result ≡ get_or bytes.now 0 0 }
+{
+    match bytes.first() {
+        Some(byte) => *byte,
+        None => 0,
+    }
+}
+
+/// An iterator over the changes of a table, as their bytes. Contracts see the list of remaining
+/// changes.
+#[derive(Drop)]
+pub struct PackedChanges<'a> {
+    columns: usize,
+    rest: &'a [u8],
+}
+
+impl<'a> Model for PackedChanges<'a> {
+    ghost use Rattle.std.specs.Prelude.{List};
+    ghost use Rattle.cs_model.specs.declared.change.Change.{Change};
+    ghost use Rattle.cs_model.specs.PackedChanges.{unpacked_changes, AreCanonical};
+
+    ghost Value = { List Change };
+
+    ghost view = { λ c. unpacked_changes c.columns c.rest.now };
+
+    ghost invariant = { λ c. AreCanonical c.columns c.rest.now };
+}
+
+impl<'a> PackedChanges<'a> {
+    /// The changes of a table with this number of columns, from the first byte on.
+    #[inline(always)]
+    pub(crate) fn of(columns: usize, bytes: &'a [u8]) -> PackedChanges<'a>
+        requires { AreCanonical columns bytes.now }
+        ensures { result ≡ unpacked_changes columns bytes.now }
+    {
+        PackedChanges {
+            columns,
+            rest: bytes,
+        }
+    }
+}
+
+impl<'a> Iterator for PackedChanges<'a> {
+    ghost use Rattle.std.specs.Iterator.{YieldsFirstBy, item_count};
+
+    type Item = PackedChange<'a>;
+
+    ghost next_gives = { YieldsFirstBy (λ c. c) (λ s. s) };
+
+    ghost remaining = { item_count (λ s. s) };
+
+    #[inline(always)]
+    fn next(&mut self) -> Option<PackedChange<'a>> {
+        let (change, after) = packed_first(self.columns, self.rest)?;
+        self.rest = after;
+        Some(change)
+    }
+}
+
+// the bytes after the old record of a change with this operation
+#[inline(always)]
+fn behind_old(columns: usize, op: Op, bytes: &[u8]) -> &[u8]
+    ensures { result.now ≡ old_after columns op bytes.now }
+{
+    match op {
+        Op::Insert => return bytes,
+        Op::Update | Op::Delete => return behind(columns, bytes),
+    }
+}
+
+// the bytes after the new record of a change with this operation
+#[inline(always)]
+fn behind_new(columns: usize, op: Op, bytes: &[u8]) -> &[u8]
+    ensures { result.now ≡ new_after columns op bytes.now }
+{
+    match op {
+        Op::Insert | Op::Update => return behind(columns, bytes),
+        Op::Delete => return bytes,
+    }
+}
+
+// the first change that `bytes` encodes, and the bytes after it
+#[inline(always)]
+fn packed_first(columns: usize, bytes: &[u8]) -> Option<(PackedChange, &[u8])>
+    requires { AreCanonical columns bytes.now }
+    ensures rest { IfSome result (λ x. AreCanonical columns x.1.now) }
+    ensures first { MatchOption result (unpacked_changes columns bytes.now ≡ [])
+        (λ x. unpacked_changes columns bytes.now ≡ x.0 ∷ unpacked_changes columns x.1.now) }
+{
+    let Some((&op, rest)) = bytes.split_first() else {
+        return None;
+    };
+    let Some((&_mark, records)) = rest.split_first() else {
+        return None;
+    };
+    let op = op_of(op);
+    let new = behind_old(columns, op, records);
+    let after = behind_new(columns, op, new);
+    let (front, _) = bytes.split_at(bytes.len() - after.len());
+    let change = PackedChange {
+        bytes: front,
+        middle: bytes.len() - new.len(),
+    };
+    Some((change, after))
+}
