@@ -4,9 +4,9 @@
     python3 checks/edits_together.py NAME..
 
 A function is proved by its own contract and those of what it calls, so an edit can only keep the function that it stands in
-from being proved. For each edit it prints `refused` and that function, or `STILL PROVED`, or why it can't be applied. It takes a
-tenth of the time of checks/edits.sh, whose verdict, by the prover's own command, is the one that counts. It needs the
-prover's command `rt`, or another one that the variable RT names. The status is 1 if an edit was not refused.
+from being proved. For each edit it prints `refused` and that function, or `STILL PROVED`, or that it can't be applied or
+checked. It takes a tenth of the time of checks/edits.sh, whose verdict, by the prover's own command, is the one that counts.
+It needs the prover's command `rt`, or another one that the variable RT names. The status is 1 if an edit was not refused.
 """
 import collections
 import os
@@ -47,9 +47,12 @@ def applied(source, pairs):
 
 
 def unproved(crate):
-    """the functions that aren't proved, apart from those that only call one, and faults of the sources"""
+    """The functions that aren't proved, apart from those that only call one, and faults of the sources. None if the check did not
+    come to its end, which is no proof: it stops early where a crate below can't be built, for one."""
     run = subprocess.run([os.environ.get('RT', 'rt'), 'check', '--allow-holes'], cwd=crate, capture_output=True, text=True)
     lines = (run.stdout + run.stderr).split('\n')
+    if not any(line.startswith('crate %s: modules loaded=' % os.path.basename(crate)) for line in lines):
+        return None
     open_ = [line[3:].split(': ', 1) for line in lines if re.match(r'fn \S+: (not proved|no proof: expected)', line)]
     return {name.split('::')[-1] for name, _ in open_}, [line for line in lines if re.match(r'(so far: )?src/\S+: error', line)]
 
@@ -69,10 +72,15 @@ def tried(crate, edits):
         kept[path], stands[edit] = source, after[1]
         with open(path, 'w') as f:
             f.write(after[0])
-    open_, faults = unproved(crate)
+    found = unproved(crate)
     for path, source in kept.items():
         with open(path, 'w') as f:
             f.write(source)
+    if found is None:
+        for edit in stands:
+            print(os.path.basename(crate), edit, "CAN'T BE CHECKED", flush=True)
+        return 0
+    open_, faults = found
     if faults and len(edits) > 1:
         return sum(tried(crate, [edit]) for edit in edits)
     refused = 0

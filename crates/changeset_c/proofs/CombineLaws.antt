@@ -9,7 +9,9 @@ use Rattle.cs_parse.specs.Fault.{IsFault}
 use Rattle.cs_group.specs.Adding.{first_refused, refused_earliest, sections_in}
 use Rattle.cs_group.specs.Group.{first_clash}
 use Rattle.changeset_c.specs.declared.combining.Text.{Text}
-use Rattle.changeset_c.specs.Combining.{SpellAll, texts_of, HasTextFault, HasClash}
+use Rattle.cs_group.specs.Texts.{SpellAll}
+use Rattle.cs_group.proofs.Holdings.{spell_more}
+use Rattle.changeset_c.specs.Combining.{texts_of, HasTextFault, HasClash}
 use Rattle.changeset_c.specs.declared.combining.CombineError.{CombineError}
 use Rattle.changeset_c.specs.declared.combining.CombineError.TheVariants.{Fault, Clash, Memory}
 use Rattle.changeset_c.specs.Combining.{AreReadSo, IsReadSo}
@@ -17,14 +19,6 @@ use Rattle.changeset_c.specs.Combining.{IsCutBy, ReadUntil, IsFirstClash, Refuse
 use Rattle.changeset_c.specs.Kinds.{kind_number}
 
 -- ---- texts that spell changesets
-
-pub one_text_more : (texts : List (List ℕ)) (changesets : List (List Section)) (text : List ℕ)
-    (changeset : List Section) → SpellAll texts changesets → Spells text changeset
-    → SpellAll (texts ++ text ∷ []) (changesets ++ changeset ∷ [])
-one_text_more [] [] text changeset all one = (one, tt)
-one_text_more [] (c ∷ cs) text changeset all one = absurd all
-one_text_more (t ∷ ts) [] text changeset all one = absurd all
-one_text_more (t ∷ ts) (c ∷ cs) text changeset all one = (all.0, one_text_more ts cs text changeset all.1 one)
 
 pub same_count : (texts : List (List ℕ)) (changesets : List (List Section)) → SpellAll texts changesets
     → length changesets ≡ length texts
@@ -75,7 +69,7 @@ pub read_next : (texts : List Text) (i : ℕ) (text : Text) (changesets : List (
 read_next texts i text changesets changeset next all one =
     subst (λ xs. SpellAll xs (changesets ++ changeset ∷ []))
     (sym (ap texts_of next ∙ map-append (λ (text : Text). text.bytes.now) (take i texts) (text ∷ [])))
-    (one_text_more (texts_of (take i texts)) changesets text.bytes.now changeset all one)
+    (spell_more (texts_of (take i texts)) changesets text.bytes.now changeset all one)
 
 pub read_cut : (texts : List Text) (i : ℕ) (text : Text) (changesets : List (List Section)) (fault : ParseFault)
     → drop i texts ≡ text ∷ drop (i + 1) texts → SpellAll (texts_of (take i texts)) changesets

@@ -6,6 +6,7 @@ ghost use Rattle.std.specs.Prelude.{◌<◌};
 
 use crate::combining::Text;
 use crate::exports::{changeset_canonical, changeset_combine, changeset_invert};
+use cs_group::combine_texts;
 use std::alloc::Global;
 use std::process::Abort;
 use std::test::*;
@@ -77,6 +78,12 @@ const UPDATED: [u8; 36] = [
     0, 0, 0, 0, 0, 0, 6,
 ];
 
+// the same as an indirect UPDATE, whose indirect byte isn't canonical
+const INDIRECT: [u8; 36] = [
+    0x54, 2, 1, 0, 0x74, 0, 0x17, 5, 1, 0, 0, 0, 0, 0, 0, 0, 1, 1, 0, 0, 0, 0, 0, 0, 0, 5, 0, 1, 0,
+    0, 0, 0, 0, 0, 0, 6,
+];
+
 // both: an INSERT of (1, 6)
 const BOTH: [u8; 26] = [
     0x54, 2, 1, 0, 0x74, 0, 0x12, 0, 1, 0, 0, 0, 0, 0, 0, 0, 1, 1, 0, 0, 0, 0, 0, 0, 0, 6,
@@ -111,8 +118,21 @@ fn texts_are_combined(rt: HostRuntime) -> Result<(), Fail> {
     let alloc = rt.alloc();
     combines(&rt, alloc, &UPDATED, 26, (26, 7, 7, 7), &BOTH)?;
     combines(&rt, alloc, &UPDATED, 25, (26, 7, 7, 7), &[])?;
+    combines(&rt, alloc, &INDIRECT, 26, (26, 7, 7, 7), &BOTH)?;
     combines(&rt, alloc, &UPDATED[..12], 59, (-1, 1, 12, 16), &[])?;
     combines(&rt, alloc, &OTHER, 59, (-3, 1, 1, 7), &[])
+}
+
+// canonical texts are combined in one pass, and others aren't
+#[test]
+fn one_pass_combines_canonical_texts(rt: HostRuntime) -> Result<(), Fail> {
+    let alloc = rt.alloc();
+    let mut buffer = [9u8; 60];
+    let other: [&[u8]; 2] = [&INSERTED, &INDIRECT];
+    assert_eq!(&rt; combine_texts(alloc, &other, &mut buffer)?, None);
+    let texts: [&[u8]; 2] = [&INSERTED, &UPDATED];
+    assert_eq!(&rt; combine_texts(alloc, &texts, &mut buffer)?, Some(26));
+    begins(&rt, alloc, &buffer, &BOTH)
 }
 
 // its inverse: the UPDATE of 6 to 5

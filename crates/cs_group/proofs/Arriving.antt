@@ -1,7 +1,8 @@
 -- Changes that arrive in a batch, and are added one after another.
 use Rattle.std.proofs.Common.{◌≡◌, ◌∙◌, ◌++◌, ◌∷◌, [], List, ℕ, sym, ap, subst, append_assoc}
-use Rattle.std.proofs.lemmas.List.{append-nil}
+use Rattle.std.proofs.lemmas.List.{append-nil, map-append}
 use Rattle.std.specs.List.{AllByRecursion}
+use Rattle.cs_model.proofs.CallerLemmas.{all_push}
 use Rattle.cs_model.specs.declared.change.Change.{Change}
 use Rattle.cs_group.specs.declared.table.Arrival.{Arrival}
 use Rattle.cs_group.specs.Arrivals.{HoldUpTo, IsArrival, arrived_changes}
@@ -32,3 +33,25 @@ pub all_added : (flags links : List ℕ) (keys : List (List ℕ)) (slots : Slots
 all_added flags links keys slots batch changes none held =
     subst (HoldRows flags links keys slots)
     (sym (append-nil held.done) ∙ ap (λ b. held.done ++ arrived_changes b) (sym none) ∙ held.whole) held.holds
+
+-- one more change arrives
+pub one_arrived : (flags links : List ℕ) (keys : List (List ℕ)) (slots : Slots) (batch : List Arrival)
+    (arrival : Arrival) (change : Change) (changes : List Change) → IsArrival flags arrival → arrival.change ≡ change
+    → HoldUpTo flags links keys slots batch changes
+    → HoldUpTo flags links keys slots (batch ++ arrival ∷ []) (changes ++ change ∷ [])
+one_arrived flags links keys slots batch arrival change changes is same held = record {
+  done = held.done;
+  whole = ap (λ w. held.done ++ w) (map-append (λ a. a.change) batch (arrival ∷ []))
+      ∙ sym (append_assoc held.done (arrived_changes batch) (arrival.change ∷ []))
+      ∙ ap (λ w. w ++ arrival.change ∷ []) held.whole ∙ ap (λ d. changes ++ d ∷ []) same;
+  arrivals = all_push (IsArrival flags) batch arrival held.arrivals is;
+  holds = held.holds;
+}
+
+-- all changes are added
+pub none_waits : (flags links : List ℕ) (keys : List (List ℕ)) (slots : Slots) (batch : List Arrival)
+    (changes : List Change) → batch ≡ [] → HoldRows flags links keys slots changes
+    → HoldUpTo flags links keys slots batch changes
+none_waits flags links keys slots batch changes none holds =
+    subst (λ b. HoldUpTo flags links keys slots b changes) (sym none)
+    (record { done = changes; whole = append-nil changes; arrivals = tt; holds = holds })

@@ -27,3 +27,5 @@ pub mod LastLaws
 pub mod LinkLaws
 pub mod Searching
 pub mod Arriving
+pub mod Holdings
+pub mod Names

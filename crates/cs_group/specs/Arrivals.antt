@@ -1,16 +1,16 @@
 -- Changes that are about to be added to a table's rows.
 use Rattle.std.specs.List.{AllByRecursion}
-use Rattle.std.specs.Prelude.{◌≡◌, ◌++◌, ℕ, List, length, map}
+use Rattle.std.specs.Prelude.{◌≡◌, ◌++◌, ℕ, List, map}
 use Rattle.cs_model.specs.declared.change.Change.{Change}
+use Rattle.cs_model.specs.PackedChanges.{changes_bytes}
 use Rattle.cs_group.specs.declared.table.Arrival.{Arrival}
 use Rattle.cs_group.specs.Group.{changed_row}
 use Rattle.cs_group.specs.Key.{key_hash}
-use Rattle.cs_group.specs.Table.{HasColumnsOf, HoldRows, Slots}
+use Rattle.cs_group.specs.Table.{HoldRows, IsOfTable, Slots}
 
 -- an arrival has the key of its change's row, and the key's hash
 pub record IsArrival (flags : List ℕ) (arrival : Arrival) : Type 0 where
-  pub key : HasColumnsOf (length flags) arrival.change
-      → arrival.key ≡ changed_row flags arrival.change
+  pub key : arrival.key ≡ changed_row flags arrival.change
   pub hash : arrival.hash ≡ key_hash arrival.key
 
 -- the changes that arrive
@@ -24,3 +24,12 @@ pub record HoldUpTo (flags links : List ℕ) (keys : List (List ℕ)) (slots : S
   pub whole : done ++ arrived_changes batch ≡ changes
   pub arrivals : AllByRecursion (IsArrival flags) batch
   pub holds : HoldRows flags links keys slots done
+
+-- The bytes begin with changes of the table, in canonical form, and then come the others. The slots
+-- hold what the changes before these and these come to.
+pub record HoldFront (flags links : List ℕ) (keys : List (List ℕ)) (slots : Slots)
+    (before : List Change) (bytes rest : List ℕ) : Type 0 where
+  pub changes : List Change
+  pub parts : bytes ≡ changes_bytes changes ++ rest
+  pub valid : AllByRecursion (IsOfTable flags) changes
+  pub holds : HoldRows flags links keys slots (before ++ changes)

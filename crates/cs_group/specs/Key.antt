@@ -1,7 +1,6 @@
 -- Where the key of a row stands in a record.
 use Rattle.std.specs.Hash.FoldHasher.{initial, write, finish}
-use Rattle.std.specs.Prelude.{◌≡◌, ℕ, ◌+◌, ◌/◌, ◌^◌, ◌≤◌, List, length, take, drop, Option, Some}
-use Rattle.std.specs.Prelude.{None}
+use Rattle.std.specs.Prelude.{◌≡◌, ℕ, ◌/◌, ◌^◌, List, take, drop, Option, Some, None}
 use Rattle.cs_model.specs.declared.value.Field.{Field}
 use Rattle.cs_model.specs.KeyBytes.{key_fields}
 use Rattle.cs_group.specs.declared.key.KeyBytes.{KeyBytes}
@@ -13,15 +12,10 @@ abbrev pub IsKeyAt : List ℕ → ℕ → ℕ → Type 0
 IsKeyAt flags first count = (fields : List Field) → key_fields flags fields
     ≡ take count (drop first fields)
 
--- the key columns of a table are these, and the table has them
-pub record AreKeyColumns (flags : List ℕ) (at : KeyColumns) : Type 0 where
-  pub is_key : IsKeyAt flags at.first at.count
-  pub within : at.first + at.count ≤ length flags
-
 -- the key columns of a table stand there; nothing is said of `None`
 abbrev pub KeyStands : List ℕ → Option KeyColumns → Type 0
 KeyStands flags None = Unit {0}
-KeyStands flags (Some at) = AreKeyColumns flags at
+KeyStands flags (Some at) = IsKeyAt flags at.first at.count
 
 -- the bytes of a key, where they stand or copied
 abbrev pub bytes_of_key : KeyBytes → List ℕ

@@ -9,3 +9,4 @@ pub mod Text
 pub mod Last
 pub mod Chains
 pub mod Arrivals
+pub mod Texts

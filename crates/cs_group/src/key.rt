@@ -6,11 +6,11 @@ ghost use Rattle.std.specs.Cmp.Lexicographic.{nat_list_eq_equiv};
 ghost use Rattle.cs_model.specs.declared.value.Field.{Field};
 ghost use Rattle.cs_model.specs.KeyBytes.{key_fields};
 ghost use Rattle.cs_model.specs.Schema.{same_bytes};
+ghost use Rattle.cs_model.specs.Seen.{change_seen};
 ghost use Rattle.cs_group.specs.Group.{changed_row};
-ghost use Rattle.cs_group.specs.Key.{AreKeyColumns, KeyStands, bytes_of_key, key_hash};
-ghost use Rattle.cs_group.specs.Table.{HasColumnsOf};
+ghost use Rattle.cs_group.specs.Key.{IsKeyAt, KeyStands, bytes_of_key, key_hash};
 
-use cs_model::{Octets, PackedChange, key_of_row};
+use cs_model::{ChangeRef, Octets, Op, PackedChange, key_of_row};
 use std::alloc::{AllocError, Global};
 use std::hash::{FoldHasher, Hasher};
 use std::marker::Model;
@@ -103,13 +103,13 @@ impl<'a> Key<'a> {
         change: &PackedChange<'a>,
     ) -> Result<Key<'a>, AllocError>
         requires { KeyStands flags.now columns }
-        ensures { IfOk result (λ key. HasColumnsOf (length flags.now) change.now
-            → key ≡ changed_row flags.now change.now) }
+        ensures { IfOk result (λ key. key ≡ changed_row flags.now change.now) }
     {
+        let change = change.unpack();
         let bytes = match columns {
-            Some(at) => KeyBytes::InPlace(bytes_at(at, change)),
+            Some(at) => KeyBytes::InPlace(bytes_at(at, &change)),
             None => {
-                let copied = key_of_row(alloc, flags, &change.unpack())?;
+                let copied = key_of_row(alloc, flags, &change)?;
                 KeyBytes::Copied(Box::new(alloc, copied)?)
             }
         };
@@ -137,13 +137,15 @@ impl<'a> Key<'a> {
     }
 }
 
-// The bytes of these columns in the record that identifies a change's row. It is the change's first
-// record, or its only one.
-fn bytes_at<'a>(at: KeyColumns, change: &PackedChange<'a>) -> &'a [u8]
-    ensures { (flags : List ℕ) → AreKeyColumns flags at → HasColumnsOf (length flags) change.now
-        → result.now ≡ changed_row flags change.now }
+// the bytes of these columns in the record that identifies a change's row
+fn bytes_at<'a>(at: KeyColumns, change: &ChangeRef<'a>) -> &'a [u8]
+    ensures { (flags : List ℕ) → IsKeyAt flags at.first at.count
+        → result.now ≡ changed_row flags (change_seen change.now) }
 {
-    change.records().part(at.first, at.count)
+    match change.op {
+        Op::Insert => change.after.part(at.first, at.count),
+        Op::Update | Op::Delete => change.before.part(at.first, at.count),
+    }
 }
 
 impl<'a> PartialEq for Key<'a> {

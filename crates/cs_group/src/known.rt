@@ -14,8 +14,12 @@ use std::alloc::{AllocError, Global};
 /// The shape of each table, by its name.
 pub(crate) type Tables<'a> = IndexMap<Octets, &'a Shape>;
 
-// Whether a section's table has the shape that is known by its name. A new name becomes known.
-fn admit<'a>(alloc: Global, tables: &mut Tables<'a>, shape: &'a Shape) -> Result<bool, AllocError>
+/// Whether a section's table has the shape that is known by its name. A new name becomes known.
+pub(crate) fn admit<'a>(
+    alloc: Global,
+    tables: &mut Tables<'a>,
+    shape: &'a Shape,
+) -> Result<bool, AllocError>
     ensures admits { IfOk result (λ fits. fits
         ≡ not (differs_by (known_as tables.old.entries shape.now.name) shape.now)) }
     ensures knows { OnOk result ((earlier : List Section) (section : Section)

@@ -14,6 +14,8 @@ mod output;
 mod rows;
 mod slot;
 mod table;
+mod texts;
 
 pub use error::GroupError;
 pub use group::{Group, combine, combine_admitted};
+pub use texts::combine_texts;

@@ -1,6 +1,6 @@
 //! Two changes of one row as one change, and a change that is the first of its row.
 
-ghost use Rattle.std.specs.Prelude.{◌≡◌, ◌&&◌, IfOk, Some, true, false, Bool, take};
+ghost use Rattle.std.specs.Prelude.{◌≡◌, ◌&&◌, IfOk, Some, true, Bool, take};
 ghost use Rattle.std.specs.List.{list_any};
 ghost use Rattle.std.specs.Option.{option_map};
 ghost use Rattle.cs_model.specs.declared.change.Op.TheVariants.{Update};
@@ -225,15 +225,14 @@ pub(crate) fn is_ignored(there: Op, new: Op) -> bool
     }
 }
 
-/// What a row's change becomes by one more change of the row, which is not ignored. Returns `false`
-/// if nothing is left.
+/// What a row's change becomes by one more change of the row. Returns `false` if nothing is left.
 pub(crate) fn merge<'a>(
     alloc: Global,
     flags: &[u8],
     there: &mut Merged<'a>,
     new: &ChangeRef<'a>,
 ) -> Result<bool, AllocError>
-    ensures { IfOk result (λ left. ignored there.old.op new.now.op ≡ false → kept_if left there.new
+    ensures { IfOk result (λ left. kept_if left there.new
         ≡ two_changes flags.now (merged_seen there.old) (change_seen new.now)) }
 {
     match (there.op, new.op) {
@@ -241,7 +240,8 @@ pub(crate) fn merge<'a>(
         (Op::Update, Op::Update) => Ok(update_update(flags, there, new)),
         (Op::Update, Op::Delete) => Ok(update_delete(there, new)),
         (Op::Delete, Op::Insert) => delete_insert(alloc, flags, there, new),
-        _ => Ok(false),
+        (Op::Insert, Op::Delete) => Ok(false),
+        _ => Ok(true),
     }
 }
 

@@ -12,7 +12,7 @@ ghost use Rattle.cs_group.specs.Group.{combined, combined_section, group_of};
 ghost use Rattle.cs_group.specs.Text.{rows_seen, table_text};
 
 use crate::rows::Rows;
-use cs_model::{Changes, Changeset, CopyIn, Section, SectionRef, Seq, Shape};
+use cs_model::{Changeset, CopyIn, Section, SectionRef, Seq, Shape};
 use cs_write::{Groups, add_lengths, add_section};
 use indexmap::IndexMap;
 use std::alloc::{AllocError, Global};
@@ -28,15 +28,18 @@ fn by_table<'a>(alloc: Global, sections: &[SectionRef<'a>]) -> Result<Groups<'a>
     Ok(groups)
 }
 
-// the changes that those of these sections of one table come to
-fn combined(alloc: Global, shape: &Shape, sections: &[SectionRef]) -> Result<Changes, AllocError>
+// one section for these sections of one table
+fn section_of(alloc: Global, shape: &Shape, sections: &[SectionRef]) -> Result<Section, AllocError>
     requires { AllByRecursion (IsChange shape.now) (all_changes sections.now) }
-    ensures columns { IfOk result (λ made. made.0 ≡ length shape.now.flags) }
-    ensures combined { IfOk result (λ made. made.1
-        ≡ combined shape.now.flags (all_changes sections.now)) }
+    ensures { IfOk result (λ made. made ≡ record {
+      shape = shape.now;
+      changes = combined shape.now.flags (all_changes sections.now);
+    }) }
 {
-    let rows = Rows::of(alloc, shape, sections)?;
-    rows.changes(alloc)
+    let rows = Rows::of(alloc, shape.copy_in(alloc)?, sections)?;
+    let changes = rows.changes(alloc)?;
+    let Rows { shape, .. } = rows;
+    Ok(Section::new(shape, changes))
 }
 
 // one section for each table of which something is left
@@ -47,10 +50,9 @@ fn sections_of(alloc: Global, groups: &Groups) -> Result<Vec<Section>, AllocErro
 {
     let mut sections = Vec::new(alloc);
     for (shape, group) in groups.iter() {
-        let changes = combined(alloc, shape, group)?;
-        if !changes.is_empty() {
-            let shape = shape.copy_in(alloc)?;
-            sections.push(Section::new(shape, changes))?;
+        let section = section_of(alloc, shape, group)?;
+        if !section.changes().is_empty() {
+            sections.push(section)?;
         }
     }
     Ok(sections)
@@ -67,14 +69,14 @@ pub(crate) fn changeset_of(alloc: Global, sections: &[SectionRef]) -> Result<Cha
 }
 
 // what the changes of each table come to
-fn rows_of<'s, 'a>(alloc: Global, groups: &'s Groups<'a>) -> Result<Vec<Rows<'s, 'a>>, AllocError>
+fn rows_of<'a>(alloc: Global, groups: &Groups<'a>) -> Result<Vec<Rows<'a>>, AllocError>
     requires { AllByRecursion IsSection (map joined_section (seen groups.now.entries)) }
     ensures { IfOk result (λ tables. map rows_seen tables.items
         ≡ map (λ group. combined_section (joined_section group)) (seen groups.now.entries)) }
 {
     let mut tables = Vec::new(alloc);
     for (shape, group) in groups.iter() {
-        tables.push(Rows::of(alloc, shape, group)?)?;
+        tables.push(Rows::of(alloc, shape.copy_in(alloc)?, group)?)?;
     }
     Ok(tables)
 }
@@ -112,9 +114,9 @@ fn put_tables(out: &mut [u8], at: usize, tables: &[Rows]) -> usize
     end
 }
 
-// Writes the text of these tables if there is room for it, and returns its length.
+/// Writes the text of these tables if there is room for it, and returns its length.
 #[tactic(auto, using(cs_write::proofs::Laying::laid_first))]
-fn write_tables(tables: &[Rows], out: &mut [u8]) -> Result<usize, AllocError>
+pub(crate) fn write_tables(tables: &[Rows], out: &mut [u8]) -> Result<usize, AllocError>
     ensures length { IfOk result (λ n. n
         ≡ length (flat_map table_text (map rows_seen tables.now))) }
     ensures written { OnOk result (out.new

@@ -1,13 +1,13 @@
 //! What the changes of one table come to so far, row by row.
 
 ghost use Rattle.std.specs.Prelude.{◌≡◌, ◌++◌, ◌∷◌, [], IfOk, IfSome, List, None, OnOk, Some, map};
-ghost use Rattle.std.specs.Prelude.{slice_get};
+ghost use Rattle.std.specs.Prelude.{false, slice_get};
 ghost use Rattle.std.specs.List.{AllByRecursion};
 ghost use Rattle.std.specs.Option.{option_map};
 ghost use Rattle.cs_model.specs.declared.change.Change.{Change};
 ghost use Rattle.cs_model.specs.Schema.{same_bytes};
 ghost use Rattle.cs_model.specs.Seen.{change_seen};
-ghost use Rattle.cs_group.specs.Arrivals.{HoldUpTo, IsArrival, arrived_changes};
+ghost use Rattle.cs_group.specs.Arrivals.{HoldFront, HoldUpTo, IsArrival, arrived_changes};
 ghost use Rattle.cs_group.specs.Key.{KeyStands, key_hash};
 ghost use Rattle.cs_group.specs.Merge.{only_change, two_changes};
 ghost use Rattle.cs_group.specs.Slots.{slot_seen};
@@ -18,15 +18,15 @@ use crate::key::{Key, KeyColumns, key_columns};
 use crate::links::Links;
 use crate::merge::{is_ignored, merge, only};
 use crate::slot::Slot;
-use cs_model::laws::changes_fit;
 use cs_model::{ChangeRef, PackedChange, SectionRef};
+use cs_parse::first_change;
 use std::alloc::{AllocError, Global};
 use std::mem;
 
 // how many changes are added at once
 const BATCH: usize = 64;
 
-// so many rows, and their hashes, stand in the processor's cache
+// so many rows, and their hashes, stand in the processor's cache: changes need not wait for memory
 const FEW: usize = 65_536;
 
 /// A change that is about to be added, its row's key, and the key's hash.
@@ -44,8 +44,6 @@ struct Arrival<'a> {
 pub(crate) struct Table<'s, 'a> {
     // the table's key flags
     flags: &'s [u8],
-    // the table's key columns, if they stand next to each other
-    columns: Option<KeyColumns>,
     // the hashes of the keys
     links: Links,
     // the key of each slot's row
@@ -142,13 +140,11 @@ impl<'s, 'a> Table<'s, 'a> {
     /// A table with these key flags, without changes.
     pub(crate) fn new(alloc: Global, flags: &'s [u8]) -> Table<'s, 'a>
         ensures flags { result.flags.now ≡ flags.now }
-        ensures columns { KeyStands result.flags.now result.columns }
         ensures none { HoldRows flags.now result.links result.keys.items
             (slots_seen result.slots.items) [] }
     {
         Table {
             flags,
-            columns: key_columns(flags),
             links: Links::new(alloc),
             keys: Vec::new(alloc),
             slots: Vec::new(alloc),
@@ -172,8 +168,9 @@ impl<'s, 'a> Table<'s, 'a> {
 
     // Whether the slot at a place is of the row with this key.
     fn has_key(&self, place: usize, key: &Key) -> bool
-        ensures { IfSome (slice_get self.now.keys.items place)
+        ensures there { IfSome (slice_get self.now.keys.items place)
             (λ there. result ≡ same_bytes there key.now) }
+        ensures none { slice_get self.now.keys.items place ≡ None → result ≡ false }
     {
         match self.keys.get(place) {
             Some(there) => there == key,
@@ -190,7 +187,6 @@ impl<'s, 'a> Table<'s, 'a> {
         new: PackedChange<'a>,
     ) -> Result<(), AllocError>
         ensures flags { self.new.flags.now ≡ self.old.flags.now }
-        ensures columns { self.new.columns ≡ self.old.columns }
         ensures none { OnOk result (only_change self.old.flags.now new.entry ≡ None
             → self.new ≡ self.old) }
         ensures links { OnOk result ((first : Change)
@@ -216,7 +212,6 @@ impl<'s, 'a> Table<'s, 'a> {
     // Adds one more change.
     fn add(&mut self, alloc: Global, new: Arrival<'a>) -> Result<(), AllocError>
         ensures flags { self.new.flags.now ≡ self.old.flags.now }
-        ensures columns { self.new.columns ≡ self.old.columns }
         ensures ok { OnOk result ((changes : List Change)
             → AllByRecursion (IsOfTable self.old.flags.now) changes
             → IsOfTable self.old.flags.now new.entry.change
@@ -226,7 +221,6 @@ impl<'s, 'a> Table<'s, 'a> {
             → HoldRows self.old.flags.now self.new.links self.new.keys.items
             (slots_seen self.new.slots.items) (changes ++ new.entry.change ∷ [])) }
     {
-        changes_fit();
         let Arrival { key, hash, change } = new;
         let found = self.find(&key, hash);
         if let Some(place) = met(&self.slots, found) {
@@ -237,15 +231,14 @@ impl<'s, 'a> Table<'s, 'a> {
 
     // Makes room for as many rows as a batch seems to begin. To count them is to read what `add`
     // reads next, but for the whole batch: the processor waits for all these places in memory at
-    // once, and not for one after another. With few rows it need not wait.
+    // once, and not for one after another.
     fn make_room(&mut self, alloc: Global, batch: &[Arrival]) -> Result<(), AllocError>
         ensures flags { self.new.flags.now ≡ self.old.flags.now }
-        ensures columns { self.new.columns ≡ self.old.columns }
         ensures links { self.new.links ≡ self.old.links }
         ensures keys { self.new.keys.items ≡ self.old.keys.items }
         ensures slots { self.new.slots.items ≡ self.old.slots.items }
     {
-        if batch.len() < 2 || self.keys.len() < FEW {
+        if batch.len() < 2 {
             return Ok(());
         }
         let mut hashes = Vec::with_capacity(alloc, batch.len())?;
@@ -261,7 +254,6 @@ impl<'s, 'a> Table<'s, 'a> {
     // Adds the changes of a batch.
     fn add_batch(&mut self, alloc: Global, batch: Vec<Arrival<'a>>) -> Result<(), AllocError>
         ensures flags { self.new.flags.now ≡ self.old.flags.now }
-        ensures columns { self.new.columns ≡ self.old.columns }
         ensures ok { OnOk result ((changes : List Change)
             → AllByRecursion (IsOfTable self.old.flags.now) changes
             → HoldUpTo self.old.flags.now self.old.links self.old.keys.items
@@ -276,16 +268,17 @@ impl<'s, 'a> Table<'s, 'a> {
         Ok(())
     }
 
-    // Puts one more change into the batch, and adds the batch if it is full.
+    // Adds one more change: at once with few rows, and else with the others of its batch, when it is
+    // full. `columns` are the table's key columns, if they stand next to each other.
     fn take_in(
         &mut self,
         alloc: Global,
+        columns: Option<KeyColumns>,
         batch: &mut Vec<Arrival<'a>>,
         change: PackedChange<'a>,
     ) -> Result<(), AllocError>
-        requires { KeyStands self.old.flags.now self.old.columns }
+        requires { KeyStands self.old.flags.now columns }
         ensures flags { self.new.flags.now ≡ self.old.flags.now }
-        ensures columns { self.new.columns ≡ self.old.columns }
         ensures ok { OnOk result ((changes : List Change)
             → AllByRecursion (IsOfTable self.old.flags.now) (changes ++ change.entry ∷ [])
             → HoldUpTo self.old.flags.now self.old.links self.old.keys.items
@@ -293,7 +286,11 @@ impl<'s, 'a> Table<'s, 'a> {
             → HoldUpTo self.old.flags.now self.new.links self.new.keys.items
             (slots_seen self.new.slots.items) batch.new.items (changes ++ change.entry ∷ [])) }
     {
-        batch.push(arrival_of(alloc, self.flags, self.columns, change)?)?;
+        let arrival = arrival_of(alloc, self.flags, columns, change)?;
+        if batch.is_empty() && self.keys.len() < FEW {
+            return self.add(alloc, arrival);
+        }
+        batch.push(arrival)?;
         if batch.len() < BATCH {
             return Ok(());
         }
@@ -307,9 +304,7 @@ impl<'s, 'a> Table<'s, 'a> {
         alloc: Global,
         section: &SectionRef<'a>,
     ) -> Result<(), AllocError>
-        requires { KeyStands self.old.flags.now self.old.columns }
         ensures flags { self.new.flags.now ≡ self.old.flags.now }
-        ensures columns { self.new.columns ≡ self.old.columns }
         ensures ok { OnOk result ((before : List Change)
             → AllByRecursion (IsOfTable self.old.flags.now) before
             → AllByRecursion (IsOfTable self.old.flags.now) section.now.changes
@@ -318,10 +313,41 @@ impl<'s, 'a> Table<'s, 'a> {
             → HoldRows self.old.flags.now self.new.links self.new.keys.items
             (slots_seen self.new.slots.items) (before ++ section.now.changes)) }
     {
-        let mut batch = Vec::with_capacity(alloc, section.len().min(BATCH))?;
+        let columns = key_columns(self.flags);
+        let mut batch = Vec::new(alloc);
         for change in section.packed_changes() {
-            self.take_in(alloc, &mut batch, change)?;
+            self.take_in(alloc, columns, &mut batch, change)?;
         }
         self.add_batch(alloc, batch)
+    }
+
+    /// Checks and adds the changes that stand in canonical form at the front of some bytes. Returns
+    /// the bytes after them.
+    pub(crate) fn add_front(
+        &mut self,
+        alloc: Global,
+        bytes: &'a [u8],
+    ) -> Result<&'a [u8], AllocError>
+        ensures flags { self.new.flags.now ≡ self.old.flags.now }
+        ensures ok { IfOk result (λ rest. (before : List Change)
+            → AllByRecursion (IsOfTable self.old.flags.now) before
+            → HoldRows self.old.flags.now self.old.links self.old.keys.items
+            (slots_seen self.old.slots.items) before
+            → HoldFront self.old.flags.now self.new.links self.new.keys.items
+            (slots_seen self.new.slots.items) before bytes.now rest.now) }
+    {
+        let columns = key_columns(self.flags);
+        let mut batch = Vec::new(alloc);
+        let mut rest = bytes;
+        // each turn takes at least one byte
+        for _ in 0..bytes.len() {
+            let Some((change, after)) = first_change(self.flags, rest) else {
+                break;
+            };
+            self.take_in(alloc, columns, &mut batch, change)?;
+            rest = after;
+        }
+        self.add_batch(alloc, batch)?;
+        Ok(rest)
     }
 }

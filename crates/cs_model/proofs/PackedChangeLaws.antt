@@ -229,11 +229,14 @@ own_change n c fit = record {
       own_fields c.after fit.after;
 }
 
+pub own_changes : (n : ℕ) (changes : List Change) → AllByRecursion (Fit n) changes
+    → SpellsEach SpellsChange (changes_bytes changes) changes
+own_changes n changes fit = own_each change_bytes SpellsChange (Fit n) (own_change n) changes fit
+
 pub packed_again : (n : ℕ) (changes : List Change) → AllByRecursion (Fit n) changes
     → unpacked_changes n (changes_bytes changes) ≡ changes
 packed_again n changes fit =
-    spelled_said n (changes_bytes changes) changes
-    (own_each change_bytes SpellsChange (Fit n) (own_change n) changes fit) fit
+    spelled_said n (changes_bytes changes) changes (own_changes n changes fit) fit
 
 -- ---- what is made packs what it was made of
 

@@ -1,11 +1,9 @@
 -- One change as its canonical bytes, with the place where its new record begins.
 use Rattle.std.specs.Prelude.{◌≡◌, ℕ, ◌+◌, not, ◌==◌, List, ◌∷◌, length, take, drop, get_or}
 use Rattle.std.specs.List.{AllByRecursion}
-use Rattle.cs_model.specs.declared.change.Op.{Op}
-use Rattle.cs_model.specs.declared.change.Op.TheVariants.{Insert, Update, Delete}
 use Rattle.cs_model.specs.declared.change.Change.{Change}
 use Rattle.cs_model.specs.Packed.{packed, unpacked, typed_in, Fits}
-use Rattle.cs_model.specs.PackedChanges.{change_bytes, change_of, op_in, some_in}
+use Rattle.cs_model.specs.PackedChanges.{change_bytes, change_of, op_in}
 
 -- there is a first field, and these are the bytes after it
 pub record IsAfterFirst (bytes after : List ℕ) : Type 0 where
@@ -26,14 +24,3 @@ pub record IsPacked (c : Change) (middle : ℕ) (bytes : List ℕ) : Type 0 wher
   pub at : middle ≡ 2 + length (packed c.before)
   pub before : AllByRecursion Fits c.before
   pub after : AllByRecursion Fits c.after
-
--- the bytes after the old record of a change with this operation, and those after its new record
-abbrev pub old_after : ℕ → Op → List ℕ → List ℕ
-old_after n Insert bytes = bytes
-old_after n Update bytes = (some_in n bytes).1
-old_after n Delete bytes = (some_in n bytes).1
-
-abbrev pub new_after : ℕ → Op → List ℕ → List ℕ
-new_after n Insert bytes = (some_in n bytes).1
-new_after n Update bytes = (some_in n bytes).1
-new_after n Delete bytes = bytes

@@ -55,8 +55,8 @@ impl<'a> RecordRef<'a> {
     pub fn part(&self, first: usize, count: usize) -> &'a [u8]
         ensures { result.now ≡ packed (take count (drop first self.now)) }
     {
-        let rest = behind(first, self.bytes);
-        let after = behind(count, rest);
+        let rest = skip(first, self.bytes);
+        let after = skip(count, rest);
         let (front, _) = rest.split_at(rest.len() - after.len());
         front
     }
@@ -137,13 +137,13 @@ impl<'a> Iterator for ChangeRefs<'a> {
 /// The bytes after the first `columns` fields, or after all if there are fewer. It is inlined for
 /// the fields of one length that come first, since a call costs as much as two of them.
 #[inline(always)]
-pub(crate) fn behind(columns: usize, bytes: &[u8]) -> &[u8]
+pub(crate) fn skip(columns: usize, bytes: &[u8]) -> &[u8]
     ensures { result.now ≡ (some_in columns bytes.now).1 }
 {
     let mut rest = bytes;
     for i in 0..columns {
-        let Some(after) = behind_fixed(rest) else {
-            return behind_any(columns - i, rest);
+        let Some(after) = skip_fixed(rest) else {
+            return skip_any(columns - i, rest);
         };
         rest = after;
     }
@@ -153,7 +153,7 @@ pub(crate) fn behind(columns: usize, bytes: &[u8]) -> &[u8]
 // the bytes after the first field if its type has one length
 #[tactic(auto, unfolding(crate::specs::Packed::typed_in))]
 #[inline(always)]
-fn behind_fixed(bytes: &[u8]) -> Option<&[u8]>
+fn skip_fixed(bytes: &[u8]) -> Option<&[u8]>
     ensures { IfSome result (λ after. IsAfterFirst bytes.now after.now) }
 {
     let (&byte, tail) = bytes.split_first()?;
@@ -167,8 +167,8 @@ fn behind_fixed(bytes: &[u8]) -> Option<&[u8]>
     None
 }
 
-// the same as `behind`, field by field
-fn behind_any(columns: usize, bytes: &[u8]) -> &[u8]
+// the same as `skip`, field by field
+fn skip_any(columns: usize, bytes: &[u8]) -> &[u8]
     ensures { result.now ≡ (some_in columns bytes.now).1 }
 {
     let mut rest = bytes;
@@ -183,17 +183,19 @@ fn behind_any(columns: usize, bytes: &[u8]) -> &[u8]
 }
 
 // a record of `columns` fields, and the bytes after it
+#[inline(always)]
 fn record_of(columns: usize, bytes: &[u8]) -> (RecordRef, &[u8])
     requires { BeginsFields columns bytes.now }
     ensures record { result.0 ≡ (some_in columns bytes.now).0 }
     ensures rest { result.1.now ≡ (some_in columns bytes.now).1 }
 {
-    let rest = behind(columns, bytes);
+    let rest = skip(columns, bytes);
     let (front, _) = bytes.split_at(bytes.len() - rest.len());
     (RecordRef { bytes: front }, rest)
 }
 
 // a record without fields
+#[inline(always)]
 fn no_record<'a>() -> RecordRef<'a>
     ensures { result ≡ [] }
 {
@@ -201,6 +203,7 @@ fn no_record<'a>() -> RecordRef<'a>
 }
 
 /// The operation that a byte encodes.
+#[inline(always)]
 pub(crate) fn op_of(byte: u8) -> Op
     ensures { result ≡ op_in byte }
 {
@@ -212,6 +215,7 @@ pub(crate) fn op_of(byte: u8) -> Op
 }
 
 // the change with this operation and these records, and the bytes after it
+#[inline(always)]
 fn records_of(columns: usize, op: Op, indirect: bool, bytes: &[u8]) -> (ChangeRef, &[u8])
     requires { BeginsChange columns op bytes.now }
     ensures change { change_seen result.0 ≡ (records_by columns op indirect bytes.now).0 }
@@ -223,8 +227,8 @@ fn records_of(columns: usize, op: Op, indirect: bool, bytes: &[u8]) -> (ChangeRe
             (no_record(), after, rest)
         }
         Op::Update => {
-            let (before, behind) = record_of(columns, bytes);
-            let (after, rest) = record_of(columns, behind);
+            let (before, records) = record_of(columns, bytes);
+            let (after, rest) = record_of(columns, records);
             (before, after, rest)
         }
         Op::Delete => {
@@ -243,18 +247,19 @@ fn records_of(columns: usize, op: Op, indirect: bool, bytes: &[u8]) -> (ChangeRe
     )
 }
 
-// the first change that `bytes` encodes, and the bytes after it
-fn first_of(columns: usize, bytes: &[u8]) -> Option<(ChangeRef, &[u8])>
+/// The first change that `bytes` encodes, and the bytes after it.
+#[inline(always)]
+pub(crate) fn first_of(columns: usize, bytes: &[u8]) -> Option<(ChangeRef, &[u8])>
     requires { AreCanonical columns bytes.now }
     ensures rest { IfSome result (λ x. AreCanonical columns x.1.now) }
     ensures first { MatchOption result (unpacked_changes columns bytes.now ≡ [])
         (λ x. unpacked_changes columns bytes.now
         ≡ change_seen x.0 ∷ unpacked_changes columns x.1.now) }
 {
-    let Some((&op, behind)) = bytes.split_first() else {
+    let Some((&op, marked)) = bytes.split_first() else {
         return None;
     };
-    let Some((&mark, rest)) = behind.split_first() else {
+    let Some((&mark, rest)) = marked.split_first() else {
         return None;
     };
     Some(records_of(columns, op_of(op), mark != 0, rest))

@@ -1,14 +1,15 @@
 //! A change borrowed as its canonical bytes, and an iterator over the changes of a table.
 
-ghost use Rattle.std.specs.Prelude.{◌≡◌, ◌∷◌, ◌++◌, [], IfSome, MatchOption, get_or};
+ghost use Rattle.std.specs.Prelude.{◌≡◌, ◌∷◌, [], IfSome, MatchOption, get_or};
 ghost use Rattle.std.specs.List.{AllByRecursion};
+ghost use Rattle.cs_model.specs.declared.change.Change.{Change};
 ghost use Rattle.cs_model.specs.Packed.{Fits};
 ghost use Rattle.cs_model.specs.PackedChanges.{AreCanonical, change_bytes, unpacked_changes};
-ghost use Rattle.cs_model.specs.PackedOne.{new_after, old_after};
+ghost use Rattle.cs_model.specs.PackedOne.{IsPacked};
 ghost use Rattle.cs_model.specs.Seen.{change_seen};
 
 use crate::change::Op;
-use crate::change_ref::{ChangeRef, RecordRef, behind, op_of};
+use crate::change_ref::{ChangeRef, RecordRef, first_of, op_of};
 use std::iter::Iterator;
 use std::marker::Model;
 
@@ -33,15 +34,13 @@ impl<'a> Model for PackedChange<'a> {
 }
 
 impl<'a> PackedChange<'a> {
-    /// Borrows the same change once more.
+    /// The change with these canonical bytes, whose new record begins at `middle`. cs_parse uses it.
     #[inline(always)]
-    pub fn again(&self) -> PackedChange<'a>
-        ensures { result ≡ self.now }
+    pub fn of(bytes: &'a [u8], middle: usize) -> PackedChange<'a>
+        requires { (change : Change) × IsPacked change middle bytes.now }
+        ensures { (change : Change) → IsPacked change middle bytes.now → result ≡ change }
     {
-        PackedChange {
-            bytes: self.bytes,
-            middle: self.middle,
-        }
+        PackedChange { bytes, middle }
     }
 
     /// The operation.
@@ -60,15 +59,6 @@ impl<'a> PackedChange<'a> {
         ensures after { AllByRecursion Fits self.now.after }
     {
         self.bytes
-    }
-
-    /// The fields of the old record, and then those of the new one.
-    #[inline(always)]
-    pub fn records(&self) -> RecordRef<'a>
-        ensures { result ≡ self.now.before ++ self.now.after }
-    {
-        let (_, records) = self.bytes.split_at(self.bytes.len().min(2));
-        RecordRef::of(records)
     }
 
     /// The change as its two records. Reads no field.
@@ -149,28 +139,6 @@ impl<'a> Iterator for PackedChanges<'a> {
     }
 }
 
-// the bytes after the old record of a change with this operation
-#[inline(always)]
-fn behind_old(columns: usize, op: Op, bytes: &[u8]) -> &[u8]
-    ensures { result.now ≡ old_after columns op bytes.now }
-{
-    match op {
-        Op::Insert => return bytes,
-        Op::Update | Op::Delete => return behind(columns, bytes),
-    }
-}
-
-// the bytes after the new record of a change with this operation
-#[inline(always)]
-fn behind_new(columns: usize, op: Op, bytes: &[u8]) -> &[u8]
-    ensures { result.now ≡ new_after columns op bytes.now }
-{
-    match op {
-        Op::Insert | Op::Update => return behind(columns, bytes),
-        Op::Delete => return bytes,
-    }
-}
-
 // the first change that `bytes` encodes, and the bytes after it
 #[inline(always)]
 fn packed_first(columns: usize, bytes: &[u8]) -> Option<(PackedChange, &[u8])>
@@ -179,19 +147,11 @@ fn packed_first(columns: usize, bytes: &[u8]) -> Option<(PackedChange, &[u8])>
     ensures first { MatchOption result (unpacked_changes columns bytes.now ≡ [])
         (λ x. unpacked_changes columns bytes.now ≡ x.0 ∷ unpacked_changes columns x.1.now) }
 {
-    let Some((&op, rest)) = bytes.split_first() else {
-        return None;
-    };
-    let Some((&_mark, records)) = rest.split_first() else {
-        return None;
-    };
-    let op = op_of(op);
-    let new = behind_old(columns, op, records);
-    let after = behind_new(columns, op, new);
+    let (change, after) = first_of(columns, bytes)?;
     let (front, _) = bytes.split_at(bytes.len() - after.len());
-    let change = PackedChange {
+    let packed = PackedChange {
         bytes: front,
-        middle: bytes.len() - new.len(),
+        middle: 2 + change.before.bytes().len(),
     };
-    Some((change, after))
+    Some((packed, after))
 }

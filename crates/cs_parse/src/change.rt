@@ -8,7 +8,7 @@ ghost use Rattle.cs_model.specs.PackedChanges.{change_bytes, changes_bytes, Fit,
 ghost use Rattle.cs_model.specs.PackedChanges.{AreCanonical};
 ghost use Rattle.cs_parse.specs.declared.fault.FaultKind.TheVariants.{Patchset, BadOperation};
 ghost use Rattle.cs_parse.specs.declared.stop.ParseRefusal.TheVariants.{Bad};
-ghost use Rattle.cs_parse.specs.Canonical.{IsCanonical};
+ghost use Rattle.cs_parse.specs.Canonical.{IsAfterFront, IsCanonical, front_bytes};
 ghost use Rattle.cs_parse.specs.Count.{bytes_after, counted};
 ghost use Rattle.cs_parse.specs.Front.{changes_front};
 ghost use Rattle.cs_parse.specs.Reading.{Reads, op_of, marked_at, change_at, ends_section};
@@ -34,19 +34,26 @@ fn op_by_byte(byte: u8) -> Option<Op>
     }
 }
 
-// Returns the bytes after a change whose operation byte was read, and whether the change is in
-// canonical form.
+// Returns the bytes after the old record of a change whose operation byte was read, those after the
+// change, and whether the change is in canonical form.
 #[tactic(auto, unfolding(crate::specs::Reading::marked_at))]
-fn skip_marked<'a>(flags: &[u8], op: Op, bytes: &'a [u8]) -> Result<(&'a [u8], bool), ParseRefusal>
-    ensures read { Reads (λ x. x.0.now) result (bytes_after (marked_at flags.now op bytes.now)) }
-    ensures canonical { IfOk result (λ x. IsTrue x.1
+#[inline(always)]
+fn skip_marked<'a>(
+    flags: &[u8],
+    op: Op,
+    bytes: &'a [u8],
+) -> Result<(&'a [u8], &'a [u8], bool), ParseRefusal>
+    ensures read { Reads (λ x. x.1.now) result (bytes_after (marked_at flags.now op bytes.now)) }
+    ensures new { IfOk result (λ x. IsTrue x.2 → IsAfterFront front_bytes
+        (op_byte op ∷ bytes.now) x.0.now (marked_at flags.now op bytes.now)) }
+    ensures canonical { IfOk result (λ x. IsTrue x.2
         → IsCanonical change_bytes (op_byte op ∷ bytes.now) (marked_at flags.now op bytes.now)) }
 {
     let Some((&mark, rest)) = bytes.split_first() else {
         return Err(ParseRefusal::Short);
     };
-    let (rest, canonical) = skip_records(flags, op, rest)?;
-    Ok((rest, both(mark <= 1, canonical)))
+    let (new, rest, canonical) = skip_records(flags, op, rest)?;
+    Ok((new, rest, both(mark <= 1, canonical)))
 }
 
 // why no change begins with this byte, the first of `left` bytes
@@ -61,11 +68,18 @@ fn no_change(byte: u8, left: usize) -> ParseRefusal
     ParseRefusal::Bad { left, kind }
 }
 
-// the bytes after a change, and whether the change is in canonical form
+/// The bytes after the old record of a change, those after the change, and whether the change is in
+/// canonical form.
 #[tactic(auto, unfolding(crate::specs::Reading::change_at))]
-fn skip_change<'a>(flags: &[u8], bytes: &'a [u8]) -> Result<(&'a [u8], bool), ParseRefusal>
-    ensures read { Reads (λ x. x.0.now) result (bytes_after (change_at flags.now bytes.now)) }
-    ensures canonical { IfOk result (λ x. IsTrue x.1
+#[inline(always)]
+pub fn skip_change<'a>(
+    flags: &[u8],
+    bytes: &'a [u8],
+) -> Result<(&'a [u8], &'a [u8], bool), ParseRefusal>
+    ensures read { Reads (λ x. x.1.now) result (bytes_after (change_at flags.now bytes.now)) }
+    ensures new { IfOk result (λ x. IsTrue x.2
+        → IsAfterFront front_bytes bytes.now x.0.now (change_at flags.now bytes.now)) }
+    ensures canonical { IfOk result (λ x. IsTrue x.2
         → IsCanonical change_bytes bytes.now (change_at flags.now bytes.now)) }
 {
     let Some((&byte, rest)) = bytes.split_first() else {
@@ -109,7 +123,7 @@ pub fn whole_changes<'a>(
         if is_over(rest) {
             break;
         }
-        let (after, one) = match skip_change(flags, rest) {
+        let (_, after, one) = match skip_change(flags, rest) {
             Ok(skipped) => skipped,
             Err(why) => return (count, rest, canonical, Some(why)),
         };

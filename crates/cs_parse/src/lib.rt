@@ -7,6 +7,7 @@
 #![tactic(auto)]
 
 mod and;
+mod beginning;
 mod change;
 mod end;
 mod fault;
@@ -28,8 +29,10 @@ mod spot;
 mod stop;
 mod whole;
 
+pub use beginning::{first_change, first_shape};
 pub use end::EndError;
 pub use fault::{FaultKind, ParseError, ParseFault};
+pub use header::{ShapeRef, shape_of};
 pub use in_place::parse_in_place;
 pub use pieces::PieceParser;
 pub use whole::{count_changes, parse};

@@ -5,7 +5,7 @@ ghost use Rattle.std.specs.Prelude.{◌≡◌, ℕ, List, Ok, map, IfOk, IsTrue}
 ghost use Rattle.cs_model.specs.Packed.{packed};
 ghost use Rattle.cs_model.specs.declared.value.Field.{Field};
 ghost use Rattle.cs_model.specs.Rule.{old_rule, new_rules};
-ghost use Rattle.cs_parse.specs.Canonical.{IsCanonical, both_packed};
+ghost use Rattle.cs_parse.specs.Canonical.{IsAfterFront, IsCanonical, both_packed, old_packed};
 ghost use Rattle.cs_parse.specs.Count.{bytes_after};
 ghost use Rattle.cs_parse.specs.FieldRules.{rule_of, column_rule};
 ghost use Rattle.cs_parse.specs.Reading.{Reads, record_at, records_at};
@@ -41,6 +41,7 @@ fn skip_record<'a>(
 
 // The same for an UPDATE's new record. The old record, which begins at `old`, gives its rules and
 // is read again beside it.
+#[inline(always)]
 fn skip_new<'a>(flags: &[u8], old: &[u8], bytes: &'a [u8]) -> Result<(&'a [u8], bool), ParseRefusal>
     ensures read { (before : List Field) (left : List ℕ)
         → record_at (map old_rule flags.now) old.now ≡ Ok (before, left)
@@ -64,25 +65,34 @@ fn skip_new<'a>(flags: &[u8], old: &[u8], bytes: &'a [u8]) -> Result<(&'a [u8], 
     Ok((rest, canonical))
 }
 
-/// Returns the bytes after a change's records, and whether the records are canonical. An INSERT has
-/// no old record and a DELETE has no new one.
+/// Returns the bytes after a change's old record, those after its new one, and whether the records
+/// are canonical. An INSERT has no old record and a DELETE has no new one.
 #[tactic(auto, unfolding(crate::specs::Reading::records_at))]
+#[inline(always)]
 pub fn skip_records<'a>(
     flags: &[u8],
     op: Op,
     bytes: &'a [u8],
-) -> Result<(&'a [u8], bool), ParseRefusal>
-    ensures read { Reads (λ x. x.0.now) result (bytes_after (records_at flags.now op bytes.now)) }
-    ensures canonical { IfOk result (λ x. IsTrue x.1
+) -> Result<(&'a [u8], &'a [u8], bool), ParseRefusal>
+    ensures read { Reads (λ x. x.1.now) result (bytes_after (records_at flags.now op bytes.now)) }
+    ensures new { IfOk result (λ x. IsTrue x.2
+        → IsAfterFront old_packed bytes.now x.0.now (records_at flags.now op bytes.now)) }
+    ensures canonical { IfOk result (λ x. IsTrue x.2
         → IsCanonical both_packed bytes.now (records_at flags.now op bytes.now)) }
 {
     match op {
-        Op::Insert => skip_record(FieldRule::Given, flags, bytes),
-        Op::Update => {
-            let (rest, old) = skip_record(FieldRule::Open, flags, bytes)?;
-            let (rest, new) = skip_new(flags, bytes, rest)?;
-            Ok((rest, both(old, new)))
+        Op::Insert => {
+            let (rest, canonical) = skip_record(FieldRule::Given, flags, bytes)?;
+            Ok((bytes, rest, canonical))
         }
-        Op::Delete => skip_record(FieldRule::Given, flags, bytes),
+        Op::Update => {
+            let (new, old_canonical) = skip_record(FieldRule::Open, flags, bytes)?;
+            let (rest, new_canonical) = skip_new(flags, bytes, new)?;
+            Ok((new, rest, both(old_canonical, new_canonical)))
+        }
+        Op::Delete => {
+            let (after, canonical) = skip_record(FieldRule::Given, flags, bytes)?;
+            Ok((after, after, canonical))
+        }
     }
 }

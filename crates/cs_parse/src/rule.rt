@@ -1,7 +1,7 @@
 //! The rules for a field's type byte, by column and record, and the faults of a byte that breaks
 //! them.
 
-ghost use Rattle.std.specs.Prelude.{◌≡◌, ℕ, None, true};
+ghost use Rattle.std.specs.Prelude.{◌≡◌, ℕ, is_none};
 ghost use Rattle.cs_model.specs.Rule.{new_rule};
 ghost use Rattle.cs_model.specs.declared.value.Field.{Field};
 ghost use Rattle.cs_model.specs.Rule.{is_defined};
@@ -50,9 +50,9 @@ pub fn rule_by_old(flag: u8, has_value: bool) -> FieldRule
     }
 }
 
-/// Whether an INTEGER is valid under a rule.
-pub fn admits_integer(rule: FieldRule) -> bool
-    ensures { result ≡ true → type_refusal (rule_of rule) 1 ≡ None }
+// whether an INTEGER is valid under a rule
+fn admits_integer(rule: FieldRule) -> bool
+    ensures { result ≡ is_none (type_refusal (rule_of rule) 1) }
 {
     !matches!(rule, FieldRule::Blank | FieldRule::Neither)
 }

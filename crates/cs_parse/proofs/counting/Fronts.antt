@@ -28,7 +28,7 @@ all_fit law flags [] valid = tt
 all_fit law flags (change ∷ changes) valid =
     (law (record { name = []; flags = flags }) change valid.0, all_fit law flags changes valid.1)
 
-front_is : (bytes front back : List ℕ) → bytes ≡ front ++ back → take (length bytes - length back) bytes ≡ front
+pub front_is : (bytes front back : List ℕ) → bytes ≡ front ++ back → take (length bytes - length back) bytes ≡ front
 front_is bytes front back e =
     let at : length bytes - length back ≡ length front = omega (arith, ap length e, length-append front back) in
     ap (λ n. take n bytes) at ∙ ap (take (length front)) e ∙ take-append_seam front back

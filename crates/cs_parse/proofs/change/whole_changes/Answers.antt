@@ -31,7 +31,7 @@ returns-in-Err-clause-why c = (found_stopped (goal.at.returns-in-Err-clause-why 
 
 pub loop-preserved : goal.loop-preserved
 loop-preserved c =
-    let after = c.in-Ok.skipped.0.now in
+    let after = c.in-Ok.skipped.1.now in
     let first = behind_value (change_at c.args.flags.now c.loop.rest.now) after c.in-Ok.ensures.read in
     let more = sym c.is_over.ensures ∙ c.if-is_over.false in
     record {

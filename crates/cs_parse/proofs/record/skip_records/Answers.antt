@@ -6,24 +6,24 @@ use Rattle.cs_parse.specs.Count.{bytes_after}
 use Rattle.cs_parse.proofs.counting.Skims.{behind_value, update_behind}
 use Rattle.cs_parse.proofs.record.skip_records.Goals as goal
 
-pub returns-in_err-rest-in-Update-2-clause-read : goal.returns-in_err-rest-in-Update-2-clause-read
-returns-in_err-rest-in-Update-2-clause-read c =
+pub returns-in_err-rest-in-Update-clause-read : goal.returns-in_err-rest-in-Update-clause-read
+returns-in_err-rest-in-Update-clause-read c =
     let flags = c.args.flags.now in
     let bytes = c.args.bytes.now in
-    let rest = c.in_ok-rest-in-Update.rest.now in
-    let old = behind_value (record_at (map old_rule flags) bytes) rest c.in_ok-rest-in-Update.ensures.read in
+    let rest = c.in_ok-new-in-Update.new.now in
+    let old = behind_value (record_at (map old_rule flags) bytes) rest c.in_ok-new-in-Update.ensures.read in
     let whole = ap (λ op. bytes_after (records_at flags op bytes)) c.in-Update.is
     ∙ update_behind flags bytes old.0 rest old.1 in
-    let p = err_from_is_err_and c.from_residual-in_err-rest-in-Update-2.result
-    c.from_residual-in_err-rest-in-Update-2.ensures.1 in
-    rw (p.1, p.2) (whole ∙ c.in_err-rest-in-Update-2.ensures.read old.0 rest old.1)
+    let p = err_from_is_err_and c.from_residual-in_err-rest-in-Update.result
+    c.from_residual-in_err-rest-in-Update.ensures.1 in
+    rw (p.1, p.2) (whole ∙ c.in_err-rest-in-Update.ensures.read old.0 rest old.1)
 
-pub returns-in_ok-rest-in-Update-2-clause-read : goal.returns-in_ok-rest-in-Update-2-clause-read
-returns-in_ok-rest-in-Update-2-clause-read c =
+pub returns-in_ok-rest-in-Update-clause-read : goal.returns-in_ok-rest-in-Update-clause-read
+returns-in_ok-rest-in-Update-clause-read c =
     let flags = c.args.flags.now in
     let bytes = c.args.bytes.now in
-    let rest = c.in_ok-rest-in-Update.rest.now in
-    let old = behind_value (record_at (map old_rule flags) bytes) rest c.in_ok-rest-in-Update.ensures.read in
+    let rest = c.in_ok-new-in-Update.new.now in
+    let old = behind_value (record_at (map old_rule flags) bytes) rest c.in_ok-new-in-Update.ensures.read in
     let whole = ap (λ op. bytes_after (records_at flags op bytes)) c.in-Update.is
     ∙ update_behind flags bytes old.0 rest old.1 in
-    whole ∙ c.in_ok-rest-in-Update-2.ensures.read old.0 rest old.1
+    whole ∙ c.in_ok-rest-in-Update.ensures.read old.0 rest old.1

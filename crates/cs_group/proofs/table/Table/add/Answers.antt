@@ -17,8 +17,7 @@ returns-in-Some-clause-ok c =
     let new = c.args.new.change in
     let slots = slots_seen old.slots.items in
     on_ok_weaker c.merge_at.result (λ merged. λ changes valid fits arrives rows.
-    let key : c.args.new.key ≡ changed_row flags new =
-    arrives.key (c.changes_fit.ensures (record { name = []; flags = flags }) new fits).long in
+    let key : c.args.new.key ≡ changed_row flags new = arrives.key in
     let found : c.find-found.result ≡ key_place old.keys.items (changed_row flags new) =
     c.find-found.ensures rows.hashes arrives.hash ∙ ap (key_place old.keys.items) key in
     let met = met_is slots c.find-found.result c.in-Some.place
@@ -68,8 +67,7 @@ returns-clause-ok c =
     let slots = slots_seen old.slots.items in
     let now = c.begin.new.self in
     on_ok_weaker c.begin.result (λ begun. λ changes valid fits arrives rows.
-    let key : c.args.new.key ≡ changed_row flags new =
-    arrives.key (c.changes_fit.ensures (record { name = []; flags = flags }) new fits).long in
+    let key : c.args.new.key ≡ changed_row flags new = arrives.key in
     let found : c.find-found.result ≡ key_place old.keys.items (changed_row flags new) =
     c.find-found.ensures rows.hashes arrives.hash ∙ ap (key_place old.keys.items) key in
     let none : met_at slots (key_place old.keys.items (changed_row flags new)) ≡ None =

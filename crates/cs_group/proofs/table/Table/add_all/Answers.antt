@@ -24,7 +24,6 @@ loop-change-preserved c =
     same c.in_ok-take_in.ensures.ok in
     record {
       flags = c.in_ok-take_in.ensures.flags ∙ same;
-      columns = c.in_ok-take_in.ensures.columns ∙ c.loop-change.invariant.columns;
       holds = λ before valid fits holds.
           let so_far = c.loop-change.invariant.holds before valid fits holds in
           let done = so_far.0 ++ change ∷ [] in

@@ -9,7 +9,6 @@ use Rattle.cs_group.proofs.table.Table.add_all.Given as goal
 abbrev pub invariant-loop-change : goal.invariant-loop-change
 invariant-loop-change l = record {
   flags : l.self.flags.now ≡ l.fn.self.flags.now;
-  columns : l.self.columns ≡ l.fn.self.columns;
   holds : (before : List Change) → AllByRecursion (IsOfTable l.fn.self.flags.now) before
       → AllByRecursion (IsOfTable l.fn.self.flags.now) l.section.changes
       → HoldRows l.fn.self.flags.now l.fn.self.links l.fn.self.keys.items (slots_seen l.fn.self.slots.items) before

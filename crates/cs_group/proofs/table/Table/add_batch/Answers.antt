@@ -22,7 +22,6 @@ loop-arrival-preserved c =
     same c.in_ok-add.ensures.ok in
     record {
       flags = c.in_ok-add.ensures.flags ∙ same;
-      columns = c.in_ok-add.ensures.columns ∙ c.loop-arrival.invariant.columns;
       holds = λ changes valid held.
           one_added flags now.links later.links now.keys.items later.keys.items (slots_seen now.slots.items)
           (slots_seen later.slots.items) first (into_iter_items c.next.new.self) changes valid

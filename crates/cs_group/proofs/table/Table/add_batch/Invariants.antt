@@ -10,7 +10,6 @@ use Rattle.cs_group.proofs.table.Table.add_batch.Given as goal
 abbrev pub invariant-loop-arrival : goal.invariant-loop-arrival
 invariant-loop-arrival l = record {
   flags : l.self.flags.now ≡ l.fn.self.flags.now;
-  columns : l.self.columns ≡ l.fn.self.columns;
   holds : (changes : List Change) → AllByRecursion (IsOfTable l.fn.self.flags.now) changes
       → HoldUpTo l.fn.self.flags.now l.fn.self.links l.fn.self.keys.items (slots_seen l.fn.self.slots.items)
       l.fn.batch.items changes

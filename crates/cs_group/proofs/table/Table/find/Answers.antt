@@ -16,7 +16,7 @@ pub returns-then-has_key : goal.returns-then-has_key
 returns-then-has_key c = λ are is.
     search_finds c.args.self.now.keys.items c.args.key.now c.in-Some.at
     (λ there found. sym (subst (λ o. IfSome o (λ t. c.has_key.result ≡ same_bytes t c.args.key.now)) found
-    c.has_key.ensures) ∙ c.if-has_key.true)
+    c.has_key.ensures.there) ∙ c.if-has_key.true)
     (subst (SearchedTo c.args.self.now.keys.items c.args.key.now) c.in-Some.is (c.loop-place.invariant.upto are is))
 
 pub loop-place-smaller : goal.loop-place-smaller
@@ -31,7 +31,7 @@ loop-place-preserved c = record {
   upto = λ are is. search_steps c.args.self.now.links c.args.self.now.keys.items c.args.key.now c.args.hash
       c.in-Some.at c.before-place.result c.before-place.ensures are is
       (λ there found. sym (subst (λ o. IfSome o (λ t. c.has_key.result ≡ same_bytes t c.args.key.now)) found
-      c.has_key.ensures) ∙ c.if-has_key.false)
+      c.has_key.ensures.there) ∙ c.if-has_key.false)
       (subst (SearchedTo c.args.self.now.keys.items c.args.key.now) c.in-Some.is (c.loop-place.invariant.upto are is));
 }
 

@@ -3,11 +3,10 @@ use Rattle.std.proofs.lemmas.List.{take_more, take-append-drop, append-nil}
 use Rattle.std.specs.List.{AllByRecursion}
 use Rattle.cs_model.specs.declared.change.Change.{Change}
 use Rattle.cs_model.specs.Changeset.{all_changes}
-use Rattle.cs_group.specs.Key.{KeyStands}
 use Rattle.cs_group.specs.Table.{HoldRows, HasColumnsOf, IsOfTable, slots_seen}
 use Rattle.cs_group.proofs.Lists.{all_of_front, all_of_back, all_held}
 use Rattle.cs_group.proofs.StepLaw.{flat_map_both}
-use Rattle.cs_group.proofs.rows.Rows.of.Goals as goal
+use Rattle.cs_group.proofs.rows.slots_of.Goals as goal
 
 pub loop-section-preserved : goal.loop-section-preserved
 loop-section-preserved c =
@@ -37,8 +36,6 @@ loop-section-preserved c =
     same c.in_ok-add_all.ensures.ok in
     record {
       flags = c.in_ok-add_all.ensures.flags ∙ same;
-      columns = subst (λ fs. KeyStands fs later.columns) (sym c.in_ok-add_all.ensures.flags)
-          (subst (KeyStands now.flags.now) (sym c.in_ok-add_all.ensures.columns) c.loop-section.invariant.columns);
       holds = subst (HoldRows flags later.links later.keys.items (slots_seen later.slots.items)) (sym more)
           (step before (all_of_front (IsOfTable flags) before section.changes mine)
           (all_of_back (IsOfTable flags) before section.changes mine)

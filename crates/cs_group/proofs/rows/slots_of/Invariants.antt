@@ -1,14 +1,12 @@
 use Rattle.std.proofs.Common.{◌≡◌, take}
 use Rattle.cs_model.specs.Changeset.{all_changes}
-use Rattle.cs_group.specs.Key.{KeyStands}
 use Rattle.cs_group.specs.Table.{HoldRows, slots_seen}
-use Rattle.cs_group.proofs.rows.Rows.of.Given as goal
+use Rattle.cs_group.proofs.rows.slots_of.Given as goal
 
 -- the slots hold what the changes of the sections so far come to
 abbrev pub invariant-loop-section : goal.invariant-loop-section
 invariant-loop-section l = record {
   flags : l.table.flags.now ≡ l.fn.shape.flags;
-  columns : KeyStands l.table.flags.now l.table.columns;
   holds : HoldRows l.fn.shape.flags l.table.links l.table.keys.items (slots_seen l.table.slots.items)
       (all_changes (take l.section-index l.sections));
 }

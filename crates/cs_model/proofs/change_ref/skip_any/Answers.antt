@@ -1,6 +1,6 @@
 use Rattle.cs_model.proofs.PackedChangeLaws.{skip_end, skip_done, skip_goes}
 use Rattle.std.proofs.Common.{◌-◌}
-use Rattle.cs_model.proofs.change_ref.behind_any.Goals as goal
+use Rattle.cs_model.proofs.change_ref.skip_any.Goals as goal
 
 pub returns-in_default : goal.returns-in_default
 returns-in_default c = skip_end (c.args.columns - c.loop-i.i) c.loop-i.rest.now _ (c.in_default.ensures).cases

@@ -1,9 +1,9 @@
 use Rattle.cs_model.proofs.PackedChangeLaws.{skip_done, skip_goes}
 use Rattle.std.proofs.Common.{◌∙◌}
-use Rattle.cs_model.proofs.change_ref.behind.Goals as goal
+use Rattle.cs_model.proofs.change_ref.skip.Goals as goal
 
 pub returns-in_default : goal.returns-in_default
-returns-in_default c = c.behind_any.ensures ∙ c.loop-i.invariant
+returns-in_default c = c.skip_any.ensures ∙ c.loop-i.invariant
 
 pub loop-i-preserved : goal.loop-i-preserved
 loop-i-preserved c =

@@ -1,0 +1,19 @@
+use Rattle.std.proofs.Common.{◌≡◌, ◌++◌, List}
+use Rattle.std.specs.List.{AllByRecursion}
+use Rattle.cs_model.specs.declared.change.Change.{Change}
+use Rattle.cs_model.specs.PackedChanges.{changes_bytes}
+use Rattle.cs_group.specs.Arrivals.{HoldUpTo}
+use Rattle.cs_group.specs.Table.{HoldRows, IsOfTable, slots_seen}
+use Rattle.cs_group.proofs.table.Table.add_front.Given as goal
+
+-- the slots hold what the changes so far come to, up to those in the batch
+abbrev pub invariant-loop : goal.invariant-loop
+invariant-loop l = record {
+  flags : l.self.flags.now ≡ l.fn.self.flags.now;
+  holds : (before : List Change) → AllByRecursion (IsOfTable l.fn.self.flags.now) before
+      → HoldRows l.fn.self.flags.now l.fn.self.links l.fn.self.keys.items (slots_seen l.fn.self.slots.items) before
+      → (done : List Change) × (l.bytes ≡ changes_bytes done ++ l.rest)
+      × AllByRecursion (IsOfTable l.fn.self.flags.now) done
+      × HoldUpTo l.fn.self.flags.now l.self.links l.self.keys.items (slots_seen l.self.slots.items) l.batch.items
+      (before ++ done);
+}
