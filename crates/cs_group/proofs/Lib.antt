@@ -14,6 +14,7 @@ pub mod Ending
 pub mod StepLaw
 pub mod Slots
 pub mod Holding
+pub mod Replacing
 pub mod Seen
 pub mod Lists
 pub mod Knowing
@@ -28,4 +29,5 @@ pub mod LinkLaws
 pub mod Searching
 pub mod Arriving
 pub mod Holdings
+pub mod Expecting
 pub mod Names

@@ -1,6 +1,7 @@
 pub mod Merge
 pub mod Group
 pub mod Rows
+pub mod Replaced
 pub mod Slots
 pub mod Table
 pub mod Adding

@@ -87,7 +87,7 @@ impl<'a> Rows<'a> {
             let Some(slot) = slot else {
                 continue;
             };
-            slot.push_to(&mut changes)?;
+            slot.push_to(alloc, &mut changes)?;
         }
         Ok(changes)
     }

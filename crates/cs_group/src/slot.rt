@@ -8,6 +8,7 @@ ghost use Rattle.cs_write.specs.Lengths.{held};
 ghost use Rattle.cs_group.specs.Slots.{merged_seen, slot_seen};
 ghost use Rattle.cs_group.specs.Table.{HasColumnsOf};
 
+use crate::replaced::Replaced;
 use cs_model::{ChangeRef, Changes, FieldRef, Op, PackedChange, RecordRef};
 use cs_write::{add_lengths, fields_len, put_bytes, put_fields, put_operation};
 use std::alloc::{AllocError, Global};
@@ -26,7 +27,9 @@ pub(crate) struct Merged<'a> {
 pub(crate) enum Slot<'a> {
     /// A change that met no other, where it stands.
     Alone(PackedChange<'a>),
-    /// A change that comes from several. Few slots have one, so it stands apart.
+    /// An INSERT, and UPDATEs of all its values.
+    Replaced(Box<Replaced<'a>>),
+    /// Any other change that comes from several. Few slots have one, so it stands apart.
     Merged(Box<Merged<'a>>),
 }
 
@@ -37,6 +40,7 @@ impl<'a> Slot<'a> {
     {
         match self {
             Slot::Alone(change) => change.op(),
+            Slot::Replaced(replaced) => replaced.marks().0,
             Slot::Merged(merged) => merged.op,
         }
     }
@@ -47,6 +51,7 @@ impl<'a> Slot<'a> {
     {
         match self {
             Slot::Alone(change) => alone_len(change),
+            Slot::Replaced(replaced) => replaced.text_len(),
             Slot::Merged(merged) => merged_len(merged),
         }
     }
@@ -59,6 +64,7 @@ impl<'a> Slot<'a> {
     {
         match self {
             Slot::Alone(change) => put_bytes(out, at, change.bytes()),
+            Slot::Replaced(replaced) => replaced.put(out, at),
             Slot::Merged(merged) => put_merged(out, at, merged),
         }
     }
@@ -73,21 +79,24 @@ impl<'a> Slot<'a> {
     {
         match self {
             Slot::Alone(change) => merged_of(alloc, columns, &change.unpack()),
+            Slot::Replaced(replaced) => merged_insert(alloc, &replaced),
             Slot::Merged(merged) => Ok(merged),
         }
     }
 
     /// Appends the change to a list, in one copy of the bytes that its fields have.
-    pub(crate) fn push_to(&self, changes: &mut Changes) -> Result<(), AllocError>
+    pub(crate) fn push_to(&self, alloc: Global, changes: &mut Changes) -> Result<(), AllocError>
         requires { HasColumnsOf changes.old.0 (slot_seen self.now) }
         ensures columns { changes.new.0 ≡ changes.old.0 }
         ensures ok { OnOk result (changes.new.1 ≡ changes.old.1 ++ slot_seen self.now ∷ []) }
     {
         match self {
             Slot::Alone(change) => changes.push_packed(change),
-            Slot::Merged(merged) => {
-                changes.push_fields(merged.op, merged.indirect, &merged.before, &merged.after)
+            Slot::Replaced(replaced) => {
+                let merged = merged_insert(alloc, replaced)?;
+                push_merged(changes, &merged)
             }
+            Slot::Merged(merged) => push_merged(changes, merged),
         }
     }
 }
@@ -109,6 +118,33 @@ pub(crate) fn merged_of<'a>(
         after,
     };
     Ok(Box::new(alloc, merged)?)
+}
+
+// an INSERT whose values were replaced, as lists of fields
+fn merged_insert<'a>(
+    alloc: Global,
+    replaced: &Replaced<'a>,
+) -> Result<Box<Merged<'a>>, AllocError>
+    ensures { IfOk result (λ merged. merged_seen merged.value ≡ replaced.now) }
+{
+    let (op, indirect) = replaced.marks();
+    let after = replaced.fields(alloc)?;
+    let merged = Merged {
+        op,
+        indirect,
+        before: Vec::new(alloc),
+        after,
+    };
+    Ok(Box::new(alloc, merged)?)
+}
+
+// Appends a change that comes from several to a list.
+fn push_merged(changes: &mut Changes, merged: &Merged) -> Result<(), AllocError>
+    requires { HasColumnsOf changes.old.0 (merged_seen merged.now) }
+    ensures columns { changes.new.0 ≡ changes.old.0 }
+    ensures ok { OnOk result (changes.new.1 ≡ changes.old.1 ++ merged_seen merged.now ∷ []) }
+{
+    changes.push_fields(merged.op, merged.indirect, &merged.before, &merged.after)
 }
 
 /// The fields of a record, which are `columns` or none.

@@ -9,16 +9,18 @@ ghost use Rattle.cs_model.specs.Schema.{same_bytes};
 ghost use Rattle.cs_model.specs.Seen.{change_seen};
 ghost use Rattle.cs_group.specs.Arrivals.{HoldFront, HoldUpTo, IsArrival, arrived_changes};
 ghost use Rattle.cs_group.specs.Key.{KeyStands, key_hash};
-ghost use Rattle.cs_group.specs.Merge.{only_change, two_changes};
+ghost use Rattle.cs_group.specs.Group.{changed_row};
+ghost use Rattle.cs_group.specs.Merge.{only_change};
 ghost use Rattle.cs_group.specs.Slots.{slot_seen};
 ghost use Rattle.cs_group.specs.Table.{HoldRows, IsOfTable, key_place, met_at, put_at};
 ghost use Rattle.cs_group.specs.Table.{slots_seen, there_at};
 
 use crate::key::{Key, KeyColumns, key_columns};
 use crate::links::Links;
-use crate::merge::{is_ignored, merge, only};
+use crate::merge::only;
+use crate::next_change::merge_at;
 use crate::slot::Slot;
-use cs_model::{ChangeRef, PackedChange, SectionRef};
+use cs_model::{PackedChange, SectionRef};
 use cs_parse::first_change;
 use std::alloc::{AllocError, Global};
 use std::mem;
@@ -50,6 +52,8 @@ pub(crate) struct Table<'s, 'a> {
     keys: Vec<Key<'a>>,
     // in the order in which the rows began
     pub(crate) slots: Vec<Option<Slot<'a>>>,
+    // the place after that of the last change's row
+    next: usize,
 }
 
 // The place of a slot that has a change.
@@ -63,77 +67,14 @@ fn met(slots: &[Option<Slot>], place: Option<usize>) -> Option<usize>
     }
 }
 
-// Adds one more change of a row to what is in its slot.
-fn merge_at<'a>(
-    alloc: Global,
-    flags: &[u8],
-    place: usize,
-    slots: &mut Vec<Option<Slot<'a>>>,
-    new: &ChangeRef<'a>,
-) -> Result<(), AllocError>
-    ensures { OnOk result ((there : Change)
-        → there_at (slots_seen slots.old.items) place ≡ Some there
-        → slots_seen slots.new.items
-        ≡ put_at place (two_changes flags.now there (change_seen new.now))
-        (slots_seen slots.old.items)) }
+// A change with this key, as one that is about to be added.
+fn arrival_of<'a>(key: Key<'a>, change: PackedChange<'a>) -> Arrival<'a>
+    ensures key { result.key ≡ key.entry }
+    ensures hash { result.hash ≡ key_hash key.entry }
+    ensures change { result.change ≡ change.entry }
 {
-    let Some(slot) = slots.get_mut(place) else {
-        return Ok(());
-    };
-    merge_in(alloc, flags, slot, new)
-}
-
-// Adds one more change of a row to what its slot has.
-fn merge_in<'a>(
-    alloc: Global,
-    flags: &[u8],
-    slot: &mut Option<Slot<'a>>,
-    new: &ChangeRef<'a>,
-) -> Result<(), AllocError>
-    ensures { OnOk result ((there : Change) → option_map slot_seen slot.old ≡ Some there
-        → option_map slot_seen slot.new ≡ two_changes flags.now there (change_seen new.now)) }
-{
-    let Some(there) = slot.take() else {
-        return Ok(());
-    };
-    *slot = merged_with(alloc, flags, there, new)?;
-    Ok(())
-}
-
-// What a row's change becomes by one more change of the row.
-fn merged_with<'a>(
-    alloc: Global,
-    flags: &[u8],
-    there: Slot<'a>,
-    new: &ChangeRef<'a>,
-) -> Result<Option<Slot<'a>>, AllocError>
-    ensures { IfOk result (λ next. option_map slot_seen next
-        ≡ two_changes flags.now (slot_seen there.entry) (change_seen new.now)) }
-{
-    if is_ignored(there.op(), new.op) {
-        return Ok(Some(there));
-    }
-    let mut merged = there.into_merged(alloc, flags.len())?;
-    if !merge(alloc, flags, &mut merged, new)? {
-        return Ok(None);
-    }
-    Ok(Some(Slot::Merged(merged)))
-}
-
-// A change of a table with these key flags, as one that is about to be added.
-fn arrival_of<'a>(
-    alloc: Global,
-    flags: &[u8],
-    columns: Option<KeyColumns>,
-    change: PackedChange<'a>,
-) -> Result<Arrival<'a>, AllocError>
-    requires { KeyStands flags.now columns }
-    ensures is { IfOk result (λ arrival. IsArrival flags.now arrival) }
-    ensures change { IfOk result (λ arrival. arrival.change ≡ change.entry) }
-{
-    let key = Key::of(alloc, flags, columns, &change)?;
     let hash = key.hash();
-    Ok(Arrival { key, hash, change })
+    Arrival { key, hash, change }
 }
 
 impl<'s, 'a> Table<'s, 'a> {
@@ -148,6 +89,7 @@ impl<'s, 'a> Table<'s, 'a> {
             links: Links::new(alloc),
             keys: Vec::new(alloc),
             slots: Vec::new(alloc),
+            next: 0,
         }
     }
 
@@ -178,6 +120,44 @@ impl<'s, 'a> Table<'s, 'a> {
         }
     }
 
+    // The place after that of the last change's row, if the row there has this key and a change.
+    // Changesets that change the same rows mostly have them in the same order, and then no hash is
+    // needed.
+    fn expected(&self, key: &Key) -> Option<usize>
+        ensures { IfSome result (λ place. (changes : List Change)
+            → HoldRows self.now.flags.now self.now.links self.now.keys.items
+            (slots_seen self.now.slots.items) changes
+            → met_at (slots_seen self.now.slots.items) (key_place self.now.keys.items key.now)
+            ≡ Some place) }
+    {
+        if !self.has_key(self.next, key) {
+            return None;
+        }
+        met(&self.slots, Some(self.next))
+    }
+
+    // Adds one more change of a row that has a change, at this place.
+    fn merge_next(
+        &mut self,
+        alloc: Global,
+        place: usize,
+        change: PackedChange<'a>,
+    ) -> Result<(), AllocError>
+        ensures flags { self.new.flags.now ≡ self.old.flags.now }
+        ensures ok { OnOk result ((changes : List Change)
+            → AllByRecursion (IsOfTable self.old.flags.now) changes
+            → IsOfTable self.old.flags.now change.entry
+            → met_at (slots_seen self.old.slots.items)
+            (key_place self.old.keys.items (changed_row self.old.flags.now change.entry)) ≡ Some place
+            → HoldRows self.old.flags.now self.old.links self.old.keys.items
+            (slots_seen self.old.slots.items) changes
+            → HoldRows self.old.flags.now self.new.links self.new.keys.items
+            (slots_seen self.new.slots.items) (changes ++ change.entry ∷ [])) }
+    {
+        self.next = place.saturating_add(1);
+        merge_at(alloc, self.flags, place, &mut self.slots, &change.unpack())
+    }
+
     // Adds a change of a row that has none.
     fn begin(
         &mut self,
@@ -206,6 +186,7 @@ impl<'s, 'a> Table<'s, 'a> {
         self.links.push(hash)?;
         self.keys.push(key)?;
         self.slots.push(Some(first))?;
+        self.next = self.slots.len();
         Ok(())
     }
 
@@ -224,7 +205,7 @@ impl<'s, 'a> Table<'s, 'a> {
         let Arrival { key, hash, change } = new;
         let found = self.find(&key, hash);
         if let Some(place) = met(&self.slots, found) {
-            return merge_at(alloc, self.flags, place, &mut self.slots, &change.unpack());
+            return self.merge_next(alloc, place, change);
         }
         self.begin(alloc, key, hash, change)
     }
@@ -269,7 +250,35 @@ impl<'s, 'a> Table<'s, 'a> {
     }
 
     // Adds one more change: at once with few rows, and else with the others of its batch, when it is
-    // full. `columns` are the table's key columns, if they stand next to each other.
+    // full.
+    fn add_soon(
+        &mut self,
+        alloc: Global,
+        batch: &mut Vec<Arrival<'a>>,
+        new: Arrival<'a>,
+    ) -> Result<(), AllocError>
+        ensures flags { self.new.flags.now ≡ self.old.flags.now }
+        ensures ok { OnOk result ((changes : List Change)
+            → AllByRecursion (IsOfTable self.old.flags.now) (changes ++ new.entry.change ∷ [])
+            → IsArrival self.old.flags.now new.entry
+            → HoldUpTo self.old.flags.now self.old.links self.old.keys.items
+            (slots_seen self.old.slots.items) batch.old.items changes
+            → HoldUpTo self.old.flags.now self.new.links self.new.keys.items
+            (slots_seen self.new.slots.items) batch.new.items (changes ++ new.entry.change ∷ [])) }
+    {
+        if batch.is_empty() && self.keys.len() < FEW {
+            return self.add(alloc, new);
+        }
+        batch.push(new)?;
+        if batch.len() < BATCH {
+            return Ok(());
+        }
+        let full = mem::replace(batch, Vec::with_capacity(alloc, BATCH)?);
+        self.add_batch(alloc, full)
+    }
+
+    // Adds one more change of the table. `columns` are the table's key columns, if they stand next
+    // to each other.
     fn take_in(
         &mut self,
         alloc: Global,
@@ -286,16 +295,13 @@ impl<'s, 'a> Table<'s, 'a> {
             → HoldUpTo self.old.flags.now self.new.links self.new.keys.items
             (slots_seen self.new.slots.items) batch.new.items (changes ++ change.entry ∷ [])) }
     {
-        let arrival = arrival_of(alloc, self.flags, columns, change)?;
-        if batch.is_empty() && self.keys.len() < FEW {
-            return self.add(alloc, arrival);
+        let key = Key::of(alloc, self.flags, columns, &change)?;
+        if batch.is_empty() {
+            if let Some(place) = self.expected(&key) {
+                return self.merge_next(alloc, place, change);
+            }
         }
-        batch.push(arrival)?;
-        if batch.len() < BATCH {
-            return Ok(());
-        }
-        let full = mem::replace(batch, Vec::with_capacity(alloc, BATCH)?);
-        self.add_batch(alloc, full)
+        self.add_soon(alloc, batch, arrival_of(key, change))
     }
 
     /// Adds the changes of a section of the table.

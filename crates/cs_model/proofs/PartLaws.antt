@@ -6,9 +6,9 @@ use Rattle.std.proofs.Math.Seq.{take-append_seam}
 use Rattle.std.proofs.lemmas.List.{append_assoc, length-append}
 use Rattle.cs_model.specs.declared.value.Field.{Field}
 use Rattle.cs_model.specs.FieldBytes.{field_bytes}
-use Rattle.cs_model.specs.Packed.{packed, Fits, Packs}
+use Rattle.cs_model.specs.Packed.{packed, unpacked, Fits, Packs}
 use Rattle.cs_model.specs.PackedChanges.{some_in}
-use Rattle.cs_model.proofs.PackedLaws.{typed_back, own_field}
+use Rattle.cs_model.proofs.PackedLaws.{packed_made, typed_back, own_field}
 use Rattle.cs_model.proofs.PackedChangeLaws.{some_step, then_some}
 
 -- past so many fields are the bytes of those behind them
@@ -75,3 +75,33 @@ part_front bytes fields first count rest after front k b is_k is_front =
     let mine = packed (take count (drop first fields)) in
     let len : k ≡ length mine = omega (arith, ap length b.whole, length-append mine after) in
     is_front ∙ (ap (λ (w : List ℕ). take k w) b.whole ∙ rw len (take-append_seam mine after))
+
+-- ---- a record that is cut in two
+
+take_fits : (n : ℕ) (fields : List Field) → AllByRecursion Fits fields → AllByRecursion Fits (take n fields)
+take_fits zero fields fit = tt
+take_fits (suc n) [] fit = tt
+take_fits (suc n) (f ∷ fs) fit = (fit.0, take_fits n fs fit.1)
+
+-- the bytes of both parts
+pub record IsCut (fields : List Field) (count : ℕ) (front rest : List ℕ) : Type 0 where
+  pub front_says : unpacked front ≡ take count fields
+  pub front_packs : Packs front (unpacked front)
+  pub rest_says : unpacked rest ≡ drop count fields
+  pub rest_packs : Packs rest (unpacked rest)
+
+pub is_cut : (bytes : List ℕ) (fields : List Field) (count : ℕ) (rest front : List ℕ) (k : ℕ) → Packs bytes fields
+    → rest ≡ (some_in count bytes).1 → k ≡ length bytes - length rest → front ≡ take k bytes
+    → IsCut fields count front rest
+is_cut bytes fields count rest front k packs is_rest is_k is_front =
+    let between = part_between bytes fields 0 count bytes rest packs (sym (past_all bytes)) is_rest in
+    let first = packed_made front (take count fields)
+    (part_front bytes fields 0 count bytes rest front k between is_k is_front) (take_fits count fields packs.fit) in
+    let second = packed_made rest (drop count fields) between.ends (drop_fits count fields packs.fit) in
+    record { front_says = first.0; front_packs = first.1; rest_says = second.0; rest_packs = second.1 }
+
+pub cut_no_longer : (bytes : List ℕ) (fields : List Field) (count : ℕ) (rest : List ℕ) → Packs bytes fields
+    → rest ≡ (some_in count bytes).1 → length rest ≤ length bytes
+cut_no_longer bytes fields count rest packs is_rest =
+    part_no_longer bytes fields 0 count bytes rest (part_between bytes fields 0 count bytes rest packs
+    (sym (past_all bytes)) is_rest)

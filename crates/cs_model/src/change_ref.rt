@@ -61,6 +61,17 @@ impl<'a> RecordRef<'a> {
         front
     }
 
+    /// Cuts it after the first `count` fields, or after all if there are fewer.
+    #[inline(always)]
+    pub fn cut(&self, count: usize) -> (RecordRef<'a>, RecordRef<'a>)
+        ensures front { result.0 ≡ take count self.now }
+        ensures rest { result.1 ≡ drop count self.now }
+    {
+        let rest = skip(count, self.bytes);
+        let (front, _) = self.bytes.split_at(self.bytes.len() - rest.len());
+        (RecordRef { bytes: front }, RecordRef { bytes: rest })
+    }
+
     /// Returns its canonical bytes.
     #[inline(always)]
     pub fn bytes(&self) -> &'a [u8]

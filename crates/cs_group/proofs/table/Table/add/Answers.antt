@@ -5,9 +5,9 @@ use Rattle.std.specs.Prelude.{Result, Ok, Err, OnOk}
 use Rattle.cs_model.specs.declared.change.Change.{Change}
 use Rattle.cs_group.specs.Group.{changed_row}
 use Rattle.cs_group.specs.Key.{key_hash}
-use Rattle.cs_group.specs.Merge.{only_change, two_changes}
-use Rattle.cs_group.specs.Table.{Slots, HoldRows, IsOfTable, key_place, met_at, put_at, slots_seen}
-use Rattle.cs_group.proofs.Holding.{met_is, rows_met, rows_idle, rows_begun}
+use Rattle.cs_group.specs.Merge.{only_change}
+use Rattle.cs_group.specs.Table.{Slots, HoldRows, IsOfTable, key_place, met_at, slots_seen}
+use Rattle.cs_group.proofs.Holding.{rows_idle, rows_begun}
 use Rattle.cs_group.proofs.table.Table.add.Goals as goal
 
 pub returns-in-Some-clause-ok : goal.returns-in-Some-clause-ok
@@ -15,18 +15,14 @@ returns-in-Some-clause-ok c =
     let old = c.args.self.now in
     let flags = old.flags.now in
     let new = c.args.new.change in
-    let slots = slots_seen old.slots.items in
-    on_ok_weaker c.merge_at.result (λ merged. λ changes valid fits arrives rows.
-    let key : c.args.new.key ≡ changed_row flags new = arrives.key in
+    on_ok_weaker c.merge_next.result (λ merged. λ changes valid fits arrives rows.
     let found : c.find-found.result ≡ key_place old.keys.items (changed_row flags new) =
-    c.find-found.ensures rows.hashes arrives.hash ∙ ap (key_place old.keys.items) key in
-    let met = met_is slots c.find-found.result c.in-Some.place
-    (ap (λ items. met_at (slots_seen items) c.find-found.result) (sym c.deref.ensures.value)
-    ∙ sym c.met.ensures ∙ c.in-Some.is) in
-    rows_met flags old.links old.keys.items slots (slots_seen c.merge_at.new.slots.items) changes new c.in-Some.place
-    met.1.0 valid fits rows (sym found ∙ met.0) met.1.1
-    (merged met.1.0 met.1.1 ∙ ap (λ d. put_at c.in-Some.place (two_changes flags met.1.0 d) slots) c.unpack.ensures))
-    c.merge_at.ensures
+    c.find-found.ensures rows.hashes arrives.hash ∙ ap (key_place old.keys.items) arrives.key in
+    merged changes valid fits
+    (ap (met_at (slots_seen old.slots.items)) (sym found)
+    ∙ ap (λ items. met_at (slots_seen items) c.find-found.result) (sym c.deref.ensures.value)
+    ∙ sym c.met.ensures ∙ c.in-Some.is) rows)
+    c.merge_next.ensures.ok
 
 -- what is begun, or nothing
 begun_rows : (flags links links_new : List ℕ) (keys keys_new : List (List ℕ)) (slots slots_new : Slots)

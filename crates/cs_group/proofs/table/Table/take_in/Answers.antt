@@ -1,18 +1,19 @@
-use Rattle.std.proofs.Common.{◌≡◌, ◌∙◌, ◌++◌, ◌∷◌, [], sym, ap, subst, arith}
+use Rattle.std.proofs.Common.{◌≡◌, ◌∙◌, ◌++◌, ◌∷◌, [], ap, arith, sym}
 use Rattle.std.proofs.lemmas.Bool.{eqb-true}
 use Rattle.std.proofs.lemmas.List.{nil_from_length}
 use Rattle.std.proofs.lemmas.Result.{on_ok_weaker}
-use Rattle.cs_group.specs.Arrivals.{HoldUpTo}
-use Rattle.cs_group.specs.Table.{HoldRows, IsOfTable, slots_seen}
-use Rattle.cs_group.proofs.Arriving.{all_added, none_waits, one_arrived}
+use Rattle.cs_group.specs.Table.{IsOfTable, key_place, met_at, slots_seen}
+use Rattle.cs_group.proofs.Arriving.{all_added, none_waits}
 use Rattle.cs_group.proofs.Lists.{all_of_back, all_of_front}
 use Rattle.cs_group.proofs.table.Table.take_in.Goals as goal
 
-pub returns-then-len-lt-FEW-clause-ok : goal.returns-then-len-lt-FEW-clause-ok
-returns-then-len-lt-FEW-clause-ok c =
+pub returns-in-Some-clause-ok : goal.returns-in-Some-clause-ok
+returns-in-Some-clause-ok c =
     let old = c.args.self.now in
     let flags = old.flags.now in
     let new = c.args.change in
+    let slots = slots_seen old.slots.items in
+    let later = c.merge_next.new.self in
     let batch = c.args.batch.now.items in
     let none : batch ≡ [] =
     nil_from_length batch (omega (
@@ -20,32 +21,11 @@ returns-then-len-lt-FEW-clause-ok c =
       c.args.batch.now.ok.0,
       eqb-true c.args.batch.now.len 0 (sym c.is_empty.ensures ∙ c.if-is_empty.true),
     )) in
-    on_ok_weaker c.add.result (λ added. λ changes valid holds.
-    let of_table = subst (IsOfTable flags) (sym c.in_ok-arrival.ensures.change)
-    (all_of_back (IsOfTable flags) changes (new ∷ []) valid).0 in
-    none_waits flags c.add.new.self.links c.add.new.self.keys.items (slots_seen c.add.new.self.slots.items) batch
-    (changes ++ new ∷ []) none
-    (subst (λ d. HoldRows flags c.add.new.self.links c.add.new.self.keys.items (slots_seen c.add.new.self.slots.items)
-    (changes ++ d ∷ [])) c.in_ok-arrival.ensures.change
-    (added changes (all_of_front (IsOfTable flags) changes (new ∷ []) valid) of_table c.in_ok-arrival.ensures.is
-    (all_added flags old.links old.keys.items (slots_seen old.slots.items) batch changes none holds))))
-    c.add.ensures.ok
-
-pub returns-clause-ok : goal.returns-clause-ok
-returns-clause-ok c =
-    let old = c.args.self.now in
-    let flags = old.flags.now in
-    let new = c.args.change in
-    let later = c.add_batch.new.self in
-    let full : c.replace-full.result.items ≡ c.args.batch.now.items ++ c.in_ok-arrival.arrival ∷ [] =
-    ap (λ v. v.items) c.replace-full.ensures.value ∙ c.in_ok-push.ensures.items in
-    let empty : c.replace-full.new.dest.items ≡ [] =
-    ap (λ v. v.items) c.replace-full.ensures.after ∙ c.in_ok-with_capacity.ensures.items in
-    on_ok_weaker c.add_batch.result (λ added. λ changes valid holds.
-    none_waits flags later.links later.keys.items (slots_seen later.slots.items) c.replace-full.new.dest.items
-    (changes ++ new ∷ []) empty
-    (added (changes ++ new ∷ []) valid
-    (subst (λ b. HoldUpTo flags old.links old.keys.items (slots_seen old.slots.items) b (changes ++ new ∷ [])) (sym full)
-    (one_arrived flags old.links old.keys.items (slots_seen old.slots.items) c.args.batch.now.items
-    c.in_ok-arrival.arrival new changes c.in_ok-arrival.ensures.is c.in_ok-arrival.ensures.change holds))))
-    c.add_batch.ensures.ok
+    on_ok_weaker c.merge_next.result (λ merged. λ changes valid holds.
+    let rows = all_added flags old.links old.keys.items slots batch changes none holds in
+    none_waits flags later.links later.keys.items (slots_seen later.slots.items) batch (changes ++ new ∷ []) none
+    (merged changes (all_of_front (IsOfTable flags) changes (new ∷ []) valid)
+    (all_of_back (IsOfTable flags) changes (new ∷ []) valid).0
+    (ap (λ k. met_at slots (key_place old.keys.items k)) (sym c.in_ok-key.ensures) ∙ c.in-Some.ensures changes rows)
+    rows))
+    c.merge_next.ensures.ok

@@ -1,0 +1,48 @@
+use Rattle.std.proofs.Common.{◌≡◌, ◌∙◌, ◌++◌, ◌∷◌, [], sym, ap, subst, arith, refl}
+use Rattle.std.proofs.lemmas.Bool.{eqb-true}
+use Rattle.std.proofs.lemmas.List.{nil_from_length}
+use Rattle.std.proofs.lemmas.Result.{on_ok_weaker}
+use Rattle.cs_group.specs.Arrivals.{HoldUpTo}
+use Rattle.cs_group.specs.Table.{IsOfTable, slots_seen}
+use Rattle.cs_group.proofs.Arriving.{all_added, none_waits, one_arrived}
+use Rattle.cs_group.proofs.Lists.{all_of_back, all_of_front}
+use Rattle.cs_group.proofs.table.Table.add_soon.Goals as goal
+
+pub returns-then-len-lt-FEW-clause-ok : goal.returns-then-len-lt-FEW-clause-ok
+returns-then-len-lt-FEW-clause-ok c =
+    let old = c.args.self.now in
+    let flags = old.flags.now in
+    let new = c.args.new.change in
+    let batch = c.args.batch.now.items in
+    let none : batch ≡ [] =
+    nil_from_length batch (omega (
+      arith,
+      c.args.batch.now.ok.0,
+      eqb-true c.args.batch.now.len 0 (sym c.is_empty.ensures ∙ c.if-is_empty.true),
+    )) in
+    on_ok_weaker c.add.result (λ added. λ changes valid arrives holds.
+    let of_table = (all_of_back (IsOfTable flags) changes (new ∷ []) valid).0 in
+    none_waits flags c.add.new.self.links c.add.new.self.keys.items (slots_seen c.add.new.self.slots.items) batch
+    (changes ++ new ∷ []) none
+    (added changes (all_of_front (IsOfTable flags) changes (new ∷ []) valid) of_table arrives
+    (all_added flags old.links old.keys.items (slots_seen old.slots.items) batch changes none holds)))
+    c.add.ensures.ok
+
+pub returns-clause-ok : goal.returns-clause-ok
+returns-clause-ok c =
+    let old = c.args.self.now in
+    let flags = old.flags.now in
+    let new = c.args.new.change in
+    let later = c.add_batch.new.self in
+    let full : c.replace-full.result.items ≡ c.args.batch.now.items ++ c.args.new ∷ [] =
+    ap (λ v. v.items) c.replace-full.ensures.value ∙ c.in_ok-push.ensures.items in
+    let empty : c.replace-full.new.dest.items ≡ [] =
+    ap (λ v. v.items) c.replace-full.ensures.after ∙ c.in_ok-with_capacity.ensures.items in
+    on_ok_weaker c.add_batch.result (λ added. λ changes valid arrives holds.
+    none_waits flags later.links later.keys.items (slots_seen later.slots.items) c.replace-full.new.dest.items
+    (changes ++ new ∷ []) empty
+    (added (changes ++ new ∷ []) valid
+    (subst (λ b. HoldUpTo flags old.links old.keys.items (slots_seen old.slots.items) b (changes ++ new ∷ [])) (sym full)
+    (one_arrived flags old.links old.keys.items (slots_seen old.slots.items) c.args.batch.now.items
+    c.args.new new changes arrives refl holds))))
+    c.add_batch.ensures.ok
