@@ -43,8 +43,15 @@ pub replaced_is : (record_ key values news : List Field) (keys : ℕ) → GivesA
 replaced_is record_ key values news keys gives is long =
     ap (λ fields. record_or fields (key ++ values)) (gives.parts ∙ ap (λ n. replicate n Undefined ++ news) (sym is))
     ∙ or_replaced key values news
-    (omega (arith, long, length-append key values, ap length gives.parts, length-append (replicate keys Undefined) news,
-    length-replicate keys Undefined, is)) gives.defined
+    (omega (
+      arith,
+      long,
+      length-append key values,
+      ap length gives.parts,
+      length-append (replicate keys Undefined) news,
+      length-replicate keys Undefined,
+      is,
+    )) gives.defined
 
 -- what stands before others has the number that was asked for
 pub key_long : (keys : ℕ) (fields : List Field) → 0 < length (drop keys fields) → length (take keys fields) ≡ keys

@@ -127,6 +127,13 @@ impl Links {
         search(&self.links, link.before, hash)
     }
 
+    /// Makes room for more hashes. Does not change the list.
+    pub(crate) fn reserve(&mut self, more: usize) -> Result<(), AllocError>
+        ensures { self.new ≡ self.old }
+    {
+        self.links.reserve(more)
+    }
+
     /// How many of these hashes the list seems not to have: only the last place of each hash's
     /// bucket is looked at.
     pub(crate) fn count_missing(&self, hashes: &[u32]) -> Result<usize, AllocError>

@@ -151,7 +151,10 @@ impl<'a> Replaced<'a> {
     pub(crate) fn text_len(&self) -> Option<usize>
         ensures { result ≡ held (length (change_bytes self.now)) }
     {
-        let records = add_lengths(Some(self.key.bytes().len()), Some(self.values.bytes().len()));
+        let records = add_lengths(
+            Some(self.key.bytes().len()),
+            Some(self.values.bytes().len()),
+        );
         add_lengths(Some(2), records)
     }
 

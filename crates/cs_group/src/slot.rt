@@ -121,10 +121,7 @@ pub(crate) fn merged_of<'a>(
 }
 
 // an INSERT whose values were replaced, as lists of fields
-fn merged_insert<'a>(
-    alloc: Global,
-    replaced: &Replaced<'a>,
-) -> Result<Box<Merged<'a>>, AllocError>
+fn merged_insert<'a>(alloc: Global, replaced: &Replaced<'a>) -> Result<Box<Merged<'a>>, AllocError>
     ensures { IfOk result (λ merged. merged_seen merged.value ≡ replaced.now) }
 {
     let (op, indirect) = replaced.marks();

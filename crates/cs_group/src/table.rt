@@ -54,6 +54,8 @@ pub(crate) struct Table<'s, 'a> {
     pub(crate) slots: Vec<Option<Slot<'a>>>,
     // the place after that of the last change's row
     next: usize,
+    // how many bytes of changes are still to come, at most
+    to_come: usize,
 }
 
 // The place of a slot that has a change.
@@ -90,6 +92,7 @@ impl<'s, 'a> Table<'s, 'a> {
             keys: Vec::new(alloc),
             slots: Vec::new(alloc),
             next: 0,
+            to_come: 0,
         }
     }
 
@@ -210,9 +213,33 @@ impl<'s, 'a> Table<'s, 'a> {
         self.begin(alloc, key, hash, change)
     }
 
-    // Makes room for as many rows as a batch seems to begin. To count them is to read what `add`
-    // reads next, but for the whole batch: the processor waits for all these places in memory at
-    // once, and not for one after another.
+    // How many rows the changes to come seem to begin, if as many of them are of new rows as of this
+    // batch.
+    fn rows_to_come(&self, batch: &[Arrival], missing: usize) -> usize {
+        let mut bytes: usize = 0;
+        for arrival in batch {
+            bytes = bytes.saturating_add(arrival.change.bytes().len());
+        }
+        self.to_come.saturating_mul(missing) / bytes.max(1)
+    }
+
+    // Makes room for more rows.
+    fn reserve(&mut self, rows: usize) -> Result<(), AllocError>
+        ensures flags { self.new.flags.now ≡ self.old.flags.now }
+        ensures links { self.new.links ≡ self.old.links }
+        ensures keys { self.new.keys.items ≡ self.old.keys.items }
+        ensures slots { self.new.slots.items ≡ self.old.slots.items }
+    {
+        self.links.reserve(rows)?;
+        self.keys.reserve(rows)?;
+        self.slots.reserve(rows)?;
+        Ok(())
+    }
+
+    // Makes room for the rows that a batch seems to begin, and at once for those to come, so that
+    // the rows are moved once and not at each doubling. To count them is to read what `add` reads
+    // next, but for the whole batch: the processor waits for all these places in memory at once, and
+    // not for one after another.
     fn make_room(&mut self, alloc: Global, batch: &[Arrival]) -> Result<(), AllocError>
         ensures flags { self.new.flags.now ≡ self.old.flags.now }
         ensures links { self.new.links ≡ self.old.links }
@@ -227,9 +254,15 @@ impl<'s, 'a> Table<'s, 'a> {
             hashes.push_reserved(arrival.hash);
         }
         let missing = self.links.count_missing(&hashes)?;
-        self.keys.reserve(missing)?;
-        self.slots.reserve(missing)?;
-        Ok(())
+        if self.keys.capacity().saturating_sub(self.keys.len()) >= missing {
+            return Ok(());
+        }
+        let more = self.rows_to_come(batch, missing);
+        match self.reserve(more.max(missing)) {
+            Ok(()) => Ok(()),
+            // less may do
+            Err(_) => self.reserve(missing),
+        }
     }
 
     // Adds the changes of a batch.
@@ -328,11 +361,12 @@ impl<'s, 'a> Table<'s, 'a> {
     }
 
     /// Checks and adds the changes that stand in canonical form at the front of some bytes. Returns
-    /// the bytes after them.
+    /// the bytes after them. `later` is how many bytes of changes come after these, at most.
     pub(crate) fn add_front(
         &mut self,
         alloc: Global,
         bytes: &'a [u8],
+        later: usize,
     ) -> Result<&'a [u8], AllocError>
         ensures flags { self.new.flags.now ≡ self.old.flags.now }
         ensures ok { IfOk result (λ rest. (before : List Change)
@@ -342,6 +376,7 @@ impl<'s, 'a> Table<'s, 'a> {
             → HoldFront self.old.flags.now self.new.links self.new.keys.items
             (slots_seen self.new.slots.items) before bytes.now rest.now) }
     {
+        self.to_come = bytes.len().saturating_add(later);
         let columns = key_columns(self.flags);
         let mut batch = Vec::new(alloc);
         let mut rest = bytes;

@@ -26,12 +26,13 @@ type Tables<'a> = IndexMap<Shape, Table<'a, 'a>>;
 const MOST_BYTES: usize = 16_777_216;
 
 // Adds a section of this table: the changes that stand in canonical form at the front of these
-// bytes. Returns the bytes after them.
+// bytes. Returns the bytes after them. `later` is how many bytes later texts have.
 fn add_changes<'a>(
     alloc: Global,
     tables: &mut Tables<'a>,
     shape: ShapeRef<'a>,
     bytes: &'a [u8],
+    later: usize,
 ) -> Result<Option<&'a [u8]>, AllocError>
     ensures { IfOk result (λ taken. IfSome taken (λ rest. (sections : List Section)
         → IsShape (shape_seen shape.entry) → HoldTables tables.old.entries sections
@@ -42,11 +43,11 @@ fn add_changes<'a>(
         let Some(table) = tables.get_index_mut(place) else {
             return Ok(None);
         };
-        let rest = table.add_front(alloc, bytes)?;
+        let rest = table.add_front(alloc, bytes, later)?;
         return Ok(Some(rest));
     }
     let mut table = Table::new(alloc, shape.flags);
-    let rest = table.add_front(alloc, bytes)?;
+    let rest = table.add_front(alloc, bytes, later)?;
     tables.insert(own, table)?;
     Ok(Some(rest))
 }
@@ -57,6 +58,7 @@ fn add_section<'a>(
     alloc: Global,
     tables: &mut Tables<'a>,
     bytes: &'a [u8],
+    later: usize,
 ) -> Result<Option<&'a [u8]>, AllocError>
     ensures { IfOk result (λ taken. IfSome taken (λ rest. (sections : List Section)
         → HoldTables tables.old.entries sections
@@ -66,11 +68,16 @@ fn add_section<'a>(
         return Ok(None);
     };
     changes_fit();
-    add_changes(alloc, tables, shape, rest)
+    add_changes(alloc, tables, shape, rest, later)
 }
 
 // Adds a text. Returns whether it is a changeset whose changes are in canonical form.
-fn add_text<'a>(alloc: Global, tables: &mut Tables<'a>, text: &'a [u8]) -> Result<bool, AllocError>
+fn add_text<'a>(
+    alloc: Global,
+    tables: &mut Tables<'a>,
+    text: &'a [u8],
+    later: usize,
+) -> Result<bool, AllocError>
     ensures { IfOk result (λ taken. IsTrue taken → (sections : List Section)
         → HoldTables tables.old.entries sections
         → AddsText text.now tables.new.entries sections) }
@@ -84,12 +91,21 @@ fn add_text<'a>(alloc: Global, tables: &mut Tables<'a>, text: &'a [u8]) -> Resul
         if rest.is_empty() {
             break;
         }
-        let Some(after) = add_section(alloc, tables, rest)? else {
+        let Some(after) = add_section(alloc, tables, rest, later)? else {
             return Ok(false);
         };
         rest = after;
     }
     Ok(rest.is_empty())
+}
+
+// how many bytes these texts have
+fn bytes_of(texts: &[&[u8]]) -> usize {
+    let mut bytes: usize = 0;
+    for text in texts {
+        bytes = bytes.saturating_add(text.len());
+    }
+    bytes
 }
 
 // The tables of these texts, if all are changesets whose changes are in canonical form.
@@ -98,8 +114,10 @@ fn tables_of<'a>(alloc: Global, texts: &[&'a [u8]]) -> Result<Option<Tables<'a>>
         AddsTexts (texts_seen texts.now) tables.entries)) }
 {
     let mut tables = IndexMap::new(alloc);
+    let mut later = bytes_of(texts);
     for text in texts {
-        if !add_text(alloc, &mut tables, text)? {
+        later = later.saturating_sub(text.len());
+        if !add_text(alloc, &mut tables, text, later)? {
             return Ok(None);
         }
     }
