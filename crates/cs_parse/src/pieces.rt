@@ -1,6 +1,6 @@
 //! The streaming parser: reads a text that comes in pieces of any size.
 
-ghost use Rattle.std.specs.Prelude.{◌≡◌, ◌≤◌, ◌+◌, [], ◌++◌, length, IfOk, IfErr, IsOk, IsTrue};
+ghost use Rattle.std.specs.Prelude.{◌≡◌, ◌<◌, ◌≤◌, ◌+◌, [], ◌++◌, length, IfOk, IfErr, IsOk, IsTrue};
 ghost use Rattle.std.specs.Prelude.{OnOk, OnErr, ℕ, List, None, Some, Ok, Err};
 ghost use Rattle.cs_model.specs.Bytes.{AreBytes};
 ghost use Rattle.cs_model.specs.Changeset.{most_bytes};
@@ -13,6 +13,7 @@ ghost use Rattle.cs_parse.specs.Pieces.{offset_of, IsLasting, ReportsLasting, Is
 ghost use Rattle.cs_parse.specs.Progress.{nothing, broken, advanced, answer_at_end, progress_of};
 ghost use Rattle.cs_parse.specs.Progress.{FeedAnswers, Took, TakesPiece};
 ghost use Rattle.cs_parse.specs.Reading.{answer_of};
+ghost use Rattle.cs_parse.specs.declared.fault.FaultKind.TheVariants.{TooLong};
 ghost use Rattle.cs_parse.specs.declared.fault.ParseFault.{ParseFault};
 
 use crate::fault::{FaultKind, ParseError, ParseFault};
@@ -128,6 +129,9 @@ impl PieceParser {
             → result ≡ Err (ParseError.Fault fault) }
         // An empty piece needs no memory.
         ensures empty { piece.now ≡ [] → self.old.fault ≡ None → IsOk result }
+        // Nor does the fault of a piece that comes after as many bytes as a text may have.
+        ensures full { self.old.offset ≡ most_bytes → self.old.fault ≡ None → 0 < length piece.now
+            → result ≡ Err (ParseError.Fault (record { at = most_bytes; kind = TooLong })) }
     {
         self.fed(alloc, piece)
     }
@@ -140,6 +144,8 @@ impl PieceParser {
         ensures again { (fault : ParseFault) → self.old.fault ≡ Some fault
             → result ≡ Err (ParseError.Fault fault) }
         ensures empty { piece.now ≡ [] → self.old.fault ≡ None → IsOk result }
+        ensures full { self.old.offset ≡ most_bytes → self.old.fault ≡ None → 0 < length piece.now
+            → result ≡ Err (ParseError.Fault (record { at = most_bytes; kind = TooLong })) }
     {
         if piece.is_empty() {
             return self.fed_nothing();
@@ -173,20 +179,24 @@ impl PieceParser {
         ensures fed { FeedAnswers result self.old piece.now self.new }
         ensures again { (fault : ParseFault) → self.old.fault ≡ Some fault
             → result ≡ Err (ParseError.Fault fault) }
+        ensures full { self.old.offset ≡ most_bytes → self.old.fault ≡ None → 0 < length piece.now
+            → result ≡ Err (ParseError.Fault (record { at = most_bytes; kind = TooLong })) }
     {
         if let Some(fault) = self.fault {
             return Err(ParseError::Fault(fault));
         }
+        let too_long = ParseFault {
+            at: MOST_BYTES,
+            kind: FaultKind::TooLong,
+        };
         let room = MOST_BYTES - self.offset;
+        // a full text: nothing is reserved
+        if room == 0 && !piece.is_empty() {
+            return Err(self.break_off(alloc, too_long));
+        }
         match self.take_in(alloc, &piece[..piece.len().min(room)]) {
             Ok(()) if piece.len() <= room => Ok(()),
-            Ok(()) => Err(self.break_off(
-                alloc,
-                ParseFault {
-                    at: MOST_BYTES,
-                    kind: FaultKind::TooLong,
-                },
-            )),
+            Ok(()) => Err(self.break_off(alloc, too_long)),
             Err(ParseError::Fault(fault)) => Err(self.break_off(alloc, fault)),
             Err(ParseError::Memory) => Err(ParseError::Memory),
         }

@@ -1,7 +1,7 @@
 -- Where all is read that is there, an empty piece changes nothing.
-use Rattle.std.proofs.Common.{◌≡◌, ℕ, ◌+◌, ◌-◌, ◌≤◌, cond, List, [], ◌++◌, length, Option, Some, None, sym, ap, ◌∙◌}
-use Rattle.std.proofs.Common.{refl, subst, arith}
-use Rattle.std.proofs.lemmas.Bool.{le-ltb}
+use Rattle.std.proofs.Common.{◌≡◌, ℕ, ◌+◌, ◌-◌, ◌<◌, ◌≤◌, cond, List, [], ◌++◌, length, take, Option, Some, None, sym, ap, ◌∙◌}
+use Rattle.std.proofs.Common.{refl, subst, arith, Err}
+use Rattle.std.proofs.lemmas.Bool.{le-ltb, lt-ltb}
 use Rattle.std.proofs.lemmas.List.{append-nil, take_all}
 use Rattle.cs_model.specs.Bytes.{AreBytes}
 use Rattle.cs_model.specs.Changeset.{most_bytes}
@@ -12,6 +12,9 @@ use Rattle.cs_parse.specs.declared.stop.ParseRefusal.{ParseRefusal}
 use Rattle.cs_parse.specs.declared.stop.ParseRefusal.TheVariants.{Short, Bad}
 use Rattle.cs_parse.specs.Front.{fault_by, IsReadOut, Grown}
 use Rattle.cs_parse.specs.Progress.{Progress, Reached, broken, read_on, arrived, stopped, so_far, advance, advanced}
+use Rattle.cs_parse.specs.Progress.{FeedAnswers}
+use Rattle.cs_parse.specs.declared.fault.ParseError.{ParseError}
+use Rattle.cs_parse.specs.declared.fault.ParseError.TheVariants.{Fault}
 use Rattle.cs_parse.specs.Progress.{piece_within, parts_at}
 use Rattle.cs_parse.proofs.joining.PartMore.{MoreBy, read_more}
 
@@ -121,3 +124,48 @@ out_grown taken old new fits grown =
     subst (λ bytes. IsReadOut new.0 bytes) (sym grown.rest)
     (subst (λ sections. IsReadOut sections (read_on old.0 old.1).rest) (sym grown.sections)
     (out_read taken old.0 old.1 fits grown.no_fault))
+
+-- ---- a full text
+
+full_within : (len taken : ℕ) (reached : Reached) → most_bytes < len
+    → so_far len taken reached ≡ broken (record { at = most_bytes; kind = TooLong })
+full_within len taken reached many =
+    ap (λ b. cond b (broken (record { at = most_bytes; kind = TooLong })) (rest_kept taken reached))
+    (lt-ltb most_bytes len many)
+
+full_stopped : (len taken : ℕ) (reached : Reached) (why : Option ParseRefusal) → most_bytes < len
+    → fault_by taken why ≡ None
+    → stopped len taken reached why ≡ broken (record { at = most_bytes; kind = TooLong })
+full_stopped len taken reached None many none = full_within len taken reached many
+full_stopped len taken reached (Some Short) many none = full_within len taken reached many
+full_stopped len taken reached (Some (Bad left kind)) many none =
+    absurd (no_rest_fault (record { at = taken - left; kind = kind }) none)
+
+full_advanced : (old : Progress) (piece : List ℕ) → old.offset ≡ most_bytes → 0 < length piece
+    → IsReadOut old.sections old.pending
+    → advance None old piece ≡ broken (record { at = most_bytes; kind = TooLong })
+full_advanced old piece full some out =
+    let room : most_bytes - old.offset ≡ 0 = omega (arith, full) in
+    let none : piece_within old piece ≡ [] = ap (λ n. take n piece) room in
+    let reached = read_on old.sections old.pending in
+    ap (λ w. arrived (old.offset + length piece) (old.offset + length w) (read_on old.sections (old.pending ++ w))) none
+    ∙ ap (λ w. arrived (old.offset + length piece) (old.offset + 0) (read_on old.sections w)) (append-nil old.pending)
+    ∙ full_stopped (old.offset + length piece) (old.offset + 0) reached reached.why (omega (arith, full, some))
+    (out.no_fault (old.offset + 0))
+
+-- more bytes after a full text, of which none is wrong, break it
+pub too_full : (old : Progress) (piece : List ℕ) → old.offset ≡ most_bytes → 0 < length piece
+    → IsReadOut old.sections old.pending → old.fault ≡ None
+    → advanced old piece ≡ broken (record { at = most_bytes; kind = TooLong })
+unfolding advanced
+too_full old piece full some out none = ap (λ o. advance o old piece) none ∙ full_advanced old piece full some out
+
+pub full_answers : (error : ParseError) (old : Progress) (piece : List ℕ) (new : Progress)
+    → error ≡ Fault (record { at = most_bytes; kind = TooLong })
+    → new ≡ broken (record { at = most_bytes; kind = TooLong })
+    → old.offset ≡ most_bytes → 0 < length piece → IsReadOut old.sections old.pending → old.fault ≡ None
+    → FeedAnswers {A = Unit {0}} (Err error) old piece new
+full_answers error old piece new told new_is full some out none =
+    let whole = too_full old piece full some out none in
+    subst (λ e. FeedAnswers {A = Unit {0}} (Err e) old piece new) (sym told)
+    (ap (λ (p : Progress). p.fault) whole, new_is ∙ sym whole)
