@@ -1,7 +1,7 @@
 //! The streaming parser: reads a text that comes in pieces of any size.
 
-ghost use Rattle.std.specs.Prelude.{◌≡◌, ◌<◌, ◌≤◌, ◌+◌, [], ◌++◌, length, IfOk, IfErr, IsOk, IsTrue};
-ghost use Rattle.std.specs.Prelude.{OnOk, OnErr, ℕ, List, None, Some, Ok, Err};
+ghost use Rattle.std.specs.Prelude.{◌≡◌, ◌<◌, ◌≤◌, ◌+◌, [], ◌++◌, length, IfOk, IfErr, IsOk};
+ghost use Rattle.std.specs.Prelude.{IsTrue, OnOk, OnErr, ℕ, List, None, Some, Ok, Err};
 ghost use Rattle.cs_model.specs.Bytes.{AreBytes};
 ghost use Rattle.cs_model.specs.Changeset.{most_bytes};
 ghost use Rattle.cs_model.specs.Text.{Spells};
@@ -129,7 +129,7 @@ impl PieceParser {
             → result ≡ Err (ParseError.Fault fault) }
         // An empty piece needs no memory.
         ensures empty { piece.now ≡ [] → self.old.fault ≡ None → IsOk result }
-        // Nor does the fault of a piece that comes after as many bytes as a text may have.
+        // Nor does the fault of a piece that comes after the most bytes that a text may have.
         ensures full { self.old.offset ≡ most_bytes → self.old.fault ≡ None → 0 < length piece.now
             → result ≡ Err (ParseError.Fault (record { at = most_bytes; kind = TooLong })) }
     {
