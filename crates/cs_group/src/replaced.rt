@@ -1,7 +1,7 @@
 //! An INSERT of a row, of which UPDATEs replaced all values outside the key. Nothing is copied: its
 //! record is the key of one change and the values of another, where they stand.
 
-ghost use Rattle.std.specs.Prelude.{◌≡◌, ◌+◌, ◌≤◌, ◌++◌, [], IfOk, IfSome, OnOk, Some, drop, false};
+ghost use Rattle.std.specs.Prelude.{◌≡◌, ◌+◌, ◌≤◌, ◌++◌, [], IfOk, IfSome, Some, drop, false};
 ghost use Rattle.std.specs.Prelude.{length, replicate, true};
 ghost use Rattle.std.specs.List.{list_all};
 ghost use Rattle.cs_model.specs.declared.change.Op.TheVariants.{Insert};

@@ -3,17 +3,13 @@
 ghost use Rattle.std.specs.Prelude.{◌≡◌, ◌++◌, ◌∷◌, [], IfOk, IfSome, List, None, OnOk, Some, map};
 ghost use Rattle.std.specs.Prelude.{false, slice_get};
 ghost use Rattle.std.specs.List.{AllByRecursion};
-ghost use Rattle.std.specs.Option.{option_map};
 ghost use Rattle.cs_model.specs.declared.change.Change.{Change};
 ghost use Rattle.cs_model.specs.Schema.{same_bytes};
-ghost use Rattle.cs_model.specs.Seen.{change_seen};
-ghost use Rattle.cs_group.specs.Arrivals.{HoldFront, HoldUpTo, IsArrival, arrived_changes};
-ghost use Rattle.cs_group.specs.Key.{KeyStands, key_hash};
+ghost use Rattle.cs_group.specs.Arrivals.{HoldFront, HoldUpTo, IsArrival};
 ghost use Rattle.cs_group.specs.Group.{changed_row};
+ghost use Rattle.cs_group.specs.Key.{KeyStands, key_hash};
 ghost use Rattle.cs_group.specs.Merge.{only_change};
-ghost use Rattle.cs_group.specs.Slots.{slot_seen};
-ghost use Rattle.cs_group.specs.Table.{HoldRows, IsOfTable, key_place, met_at, put_at};
-ghost use Rattle.cs_group.specs.Table.{slots_seen, there_at};
+ghost use Rattle.cs_group.specs.Table.{HoldRows, IsOfTable, key_place, met_at, slots_seen};
 
 use crate::key::{Key, KeyColumns, key_columns};
 use crate::links::Links;
