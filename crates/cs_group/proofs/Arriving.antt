@@ -1,6 +1,8 @@
 -- Changes that arrive in a batch, and are added one after another.
-use Rattle.std.proofs.Common.{◌≡◌, ◌∙◌, ◌++◌, ◌∷◌, [], List, ℕ, sym, ap, subst, append_assoc}
-use Rattle.std.proofs.lemmas.List.{append-nil, map-append}
+use Rattle.std.proofs.Common.{◌≡◌, ◌∙◌, ◌++◌, ◌∷◌, [], List, ℕ, true, length, sym, ap, subst, arith, append_assoc}
+use Rattle.std.proofs.lemmas.Bool.{eqb-true}
+use Rattle.std.proofs.lemmas.List.{append-nil, map-append, nil_from_length}
+use Rattle.std.specs.Prelude.{◌==◌}
 use Rattle.std.specs.List.{AllByRecursion}
 use Rattle.cs_model.proofs.CallerLemmas.{all_push}
 use Rattle.cs_model.specs.declared.change.Change.{Change}
@@ -55,3 +57,20 @@ pub none_waits : (flags links : List ℕ) (keys : List (List ℕ)) (slots : Slot
 none_waits flags links keys slots batch changes none holds =
     subst (λ b. HoldUpTo flags links keys slots b changes) (sym none)
     (record { done = changes; whole = append-nil changes; arrivals = tt; holds = holds })
+
+-- a batch is empty if its length is 0
+pub none_is : (batch : List Arrival) (len : ℕ) → len ≡ length batch → (len == 0) ≡ true → batch ≡ []
+none_is batch len is zero = nil_from_length batch (omega (arith, is, eqb-true len 0 zero))
+
+-- a change is added at once where no other waits
+pub added_at_once : (flags links links_new : List ℕ) (keys keys_new : List (List ℕ)) (slots slots_new : Slots)
+    (batch : List Arrival) (changes : List Change) (new : Change) → batch ≡ []
+    → AllByRecursion (IsOfTable flags) (changes ++ new ∷ [])
+    → (AllByRecursion (IsOfTable flags) changes → IsOfTable flags new → HoldRows flags links keys slots changes
+    → HoldRows flags links_new keys_new slots_new (changes ++ new ∷ [])) → HoldUpTo flags links keys slots batch changes
+    → HoldUpTo flags links_new keys_new slots_new batch (changes ++ new ∷ [])
+added_at_once flags links links_new keys keys_new slots slots_new batch changes new none valid step held =
+    none_waits flags links_new keys_new slots_new batch (changes ++ new ∷ []) none
+    (step (all_of_front (IsOfTable flags) changes (new ∷ []) valid)
+    (all_of_back (IsOfTable flags) changes (new ∷ []) valid).0
+    (all_added flags links keys slots batch changes none held))

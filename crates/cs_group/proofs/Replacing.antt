@@ -1,9 +1,9 @@
 -- INSERT, then UPDATE of all values outside the key: the key of the first, and the values of the second.
 use Rattle.std.proofs.Common.{◌≡◌, ◌∙◌, ◌<◌, ◌+◌, ℕ, zero, suc, Bool, true, Some, List, [], ◌∷◌, ◌++◌, length, take, drop}
-use Rattle.std.proofs.Common.{get_or, refl, ap, sym, subst, arith, length-append}
+use Rattle.std.proofs.Common.{get_or, refl, ap, sym, arith}
 use Rattle.std.proofs.Math.Nat.{suc-ne-zero}
 use Rattle.std.proofs.lemmas.Bool.{false≢true}
-use Rattle.std.proofs.lemmas.List.{append_assoc, drop_more, length-replicate, replicate_more}
+use Rattle.std.proofs.lemmas.List.{append_assoc, drop_more, replicate_more}
 use Rattle.std.specs.Prelude.{replicate}
 use Rattle.std.specs.List.{list_all}
 use Rattle.cs_model.specs.declared.change.Change.{Change}
@@ -12,15 +12,12 @@ use Rattle.cs_model.specs.declared.value.Field.{Field}
 use Rattle.cs_model.specs.declared.value.Field.TheVariants.{Undefined, Is}
 use Rattle.cs_model.specs.declared.value.Value.{Value}
 use Rattle.cs_model.specs.declared.value.Value.TheVariants.{Integer, Text, Blob, Null}
-use Rattle.cs_model.specs.Changeset.{AreRecords}
 use Rattle.cs_model.specs.FieldBytes.{field_bytes, value_bytes}
 use Rattle.cs_model.specs.Packed.{packed}
 use Rattle.cs_model.specs.PackedChanges.{change_of}
 use Rattle.cs_model.specs.Rule.{is_defined}
 use Rattle.cs_group.specs.Merge.{both_indirect, insert_update, record_or, two_changes, two_changes_by}
 use Rattle.cs_group.specs.Replaced.{GivesAll}
-use Rattle.cs_group.specs.Table.{IsOfTable}
-use Rattle.cs_group.proofs.Valid.{IsNewRecord, IsOldRecord, IsRowRecord}
 
 -- a record that has all values, whatever another has
 all_or : (news values : List Field) → length values ≡ length news → list_all is_defined news ≡ true
@@ -38,26 +35,11 @@ or_replaced [] values news long defined = all_or news values long defined
 or_replaced (field ∷ key) values news long defined =
     ap (λ fields. field ∷ fields) (or_replaced key values news long defined)
 
-pub replaced_is : (record_ key values news : List Field) (keys : ℕ) → GivesAll record_ keys news → length key ≡ keys
-    → length (key ++ values) ≡ length record_ → record_or record_ (key ++ values) ≡ key ++ news
-replaced_is record_ key values news keys gives is long =
+pub replaced_is : (columns : ℕ) (record_ key values news : List Field) (keys : ℕ) → GivesAll columns record_ keys news
+    → length key ≡ keys → keys + length values ≡ columns → record_or record_ (key ++ values) ≡ key ++ news
+replaced_is columns record_ key values news keys gives is long =
     ap (λ fields. record_or fields (key ++ values)) (gives.parts ∙ ap (λ n. replicate n Undefined ++ news) (sym is))
-    ∙ or_replaced key values news
-    (omega (
-      arith,
-      long,
-      length-append key values,
-      ap length gives.parts,
-      length-append (replicate keys Undefined) news,
-      length-replicate keys Undefined,
-      is,
-    )) gives.defined
-
--- what stands before others has the number that was asked for
-pub key_long : (keys : ℕ) (fields : List Field) → 0 < length (drop keys fields) → length (take keys fields) ≡ keys
-key_long zero fields some = refl
-key_long (suc keys) [] some = absurd (omega (arith, some))
-key_long (suc keys) (field ∷ fields) some = ap suc (key_long keys fields some)
+    ∙ or_replaced key values news (omega (arith, long, gives.long)) gives.defined
 
 pub cut_whole : (keys : ℕ) (fields : List Field) → take keys fields ++ drop keys fields ≡ fields
 cut_whole zero fields = refl
@@ -97,15 +79,6 @@ pub insert_is : (there new : Change) (indirect : Bool) (fields : List Field) →
     → insert_update there new ≡ Some (change_of Insert indirect [] fields)
 insert_is there new indirect fields flag is = (λ i. Some (change_of Insert (flag i) [] (is i)))
 
--- a record without its first fields is not empty if its bytes are not
-pub some_left : (n : ℕ) (fields : List Field) (bytes : List ℕ) → bytes ≡ packed (drop n fields)
-    → (length bytes ≡ 0 → ⊥) → 0 < length (drop n fields)
-some_left n fields bytes is some = by (drop n fields) is
-  where
-    by : (left : List Field) → bytes ≡ packed left → 0 < length left
-    by [] is = absurd (some (ap length is))
-    by (field ∷ left) is = omega arith
-
 -- the bytes of a record in two parts
 pub packed_both : (key values : List Field) → packed (key ++ values) ≡ packed key ++ packed values
 packed_both [] values = refl
@@ -114,29 +87,8 @@ packed_both (field ∷ key) values = ap (λ bytes. field_bytes field ++ bytes) (
 
 -- ---- an UPDATE after an INSERT
 
-row_long : (flags : List ℕ) (fields : List Field) → IsRowRecord flags fields → length fields ≡ length flags
-row_long [] [] obeys = refl
-row_long [] (field ∷ fields) obeys = absurd obeys
-row_long (flag ∷ flags) [] obeys = absurd obeys
-row_long (flag ∷ flags) (field ∷ fields) obeys = ap suc (row_long flags fields obeys.2)
-
-new_long : (flags : List ℕ) (before after : List Field) → IsOldRecord flags before → IsNewRecord flags before after
-    → length after ≡ length flags
-new_long [] [] [] old new = refl
-new_long [] [] (field ∷ after) old new = absurd new
-new_long [] (field ∷ before) after old new = absurd old
-new_long (flag ∷ flags) [] after old new = absurd old
-new_long (flag ∷ flags) (one ∷ before) [] old new = absurd new
-new_long (flag ∷ flags) (one ∷ before) (other ∷ after) old new = ap suc (new_long flags before after old.2 new.2)
-
--- what both come to, by what holds where their new records have as many fields
+-- what both come to
 pub insert_then_update : (flags : List ℕ) (there new made : Change) → there.op ≡ Insert → new.op ≡ Update
-    → (length there.after ≡ length new.after → insert_update there new ≡ Some made) → IsOfTable flags there
-    → IsOfTable flags new → Some made ≡ two_changes flags there new
-insert_then_update flags there new made is_insert is_update by there_is new_is =
-    let row : AreRecords flags Insert there.before there.after =
-    subst (λ op. AreRecords flags op there.before there.after) is_insert there_is in
-    let update : AreRecords flags Update new.before new.after =
-    subst (λ op. AreRecords flags op new.before new.after) is_update new_is in
-    sym (by (row_long flags there.after row.1 ∙ sym (new_long flags new.before new.after update.0 update.1)))
-    ∙ (λ i. two_changes_by (sym is_insert i) (sym is_update i) flags there new)
+    → insert_update there new ≡ Some made → Some made ≡ two_changes flags there new
+insert_then_update flags there new made is_insert is_update is =
+    sym is ∙ (λ i. two_changes_by (sym is_insert i) (sym is_update i) flags there new)

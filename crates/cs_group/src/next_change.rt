@@ -7,7 +7,7 @@ ghost use Rattle.cs_model.specs.declared.change.Op.TheVariants.{Update};
 ghost use Rattle.cs_model.specs.Seen.{change_seen};
 ghost use Rattle.cs_group.specs.Merge.{two_changes};
 ghost use Rattle.cs_group.specs.Slots.{slot_seen};
-ghost use Rattle.cs_group.specs.Table.{IsOfTable, put_at, slots_seen, there_at};
+ghost use Rattle.cs_group.specs.Table.{put_at, slots_seen, there_at};
 
 use crate::merge::{is_ignored, merge};
 use crate::replaced::Replaced;
@@ -25,7 +25,6 @@ pub(crate) fn merge_at<'a>(
 ) -> Result<(), AllocError>
     ensures { OnOk result ((there : Change)
         → there_at (slots_seen slots.old.items) place ≡ Some there
-        → IsOfTable flags.now there → IsOfTable flags.now (change_seen new.now)
         → slots_seen slots.new.items
         ≡ put_at place (two_changes flags.now there (change_seen new.now))
         (slots_seen slots.old.items)) }
@@ -44,7 +43,6 @@ fn merge_in<'a>(
     new: &ChangeRef<'a>,
 ) -> Result<(), AllocError>
     ensures { OnOk result ((there : Change) → option_map slot_seen slot.old ≡ Some there
-        → IsOfTable flags.now there → IsOfTable flags.now (change_seen new.now)
         → option_map slot_seen slot.new ≡ two_changes flags.now there (change_seen new.now)) }
 {
     let Some(there) = slot.take() else {
@@ -61,8 +59,7 @@ fn merged_with<'a>(
     there: Slot<'a>,
     new: &ChangeRef<'a>,
 ) -> Result<Option<Slot<'a>>, AllocError>
-    ensures { IfOk result (λ next. IsOfTable flags.now (slot_seen there.entry)
-        → IsOfTable flags.now (change_seen new.now) → option_map slot_seen next
+    ensures { IfOk result (λ next. option_map slot_seen next
         ≡ two_changes flags.now (slot_seen there.entry) (change_seen new.now)) }
 {
     if is_ignored(there.op(), new.op) {
@@ -82,12 +79,11 @@ fn first_update<'a>(
     first: PackedChange<'a>,
     new: &ChangeRef<'a>,
 ) -> Result<Option<Slot<'a>>, AllocError>
-    ensures { IfOk result (λ next. IsOfTable flags.now first.entry
-        → IsOfTable flags.now (change_seen new.now) → (change_seen new.now).op ≡ Update
+    ensures { IfOk result (λ next. (change_seen new.now).op ≡ Update
         → option_map slot_seen next ≡ two_changes flags.now first.entry (change_seen new.now)) }
 {
     if first.op() == Op::Insert {
-        if let Some(replaced) = Replaced::of(&first.unpack(), new) {
+        if let Some(replaced) = Replaced::of(flags.len(), &first.unpack(), new) {
             return Ok(Some(Slot::Replaced(Box::new(alloc, replaced)?)));
         }
     }
@@ -101,8 +97,7 @@ fn next_update<'a>(
     replaced: Box<Replaced<'a>>,
     new: &ChangeRef<'a>,
 ) -> Result<Option<Slot<'a>>, AllocError>
-    ensures { IfOk result (λ next. IsOfTable flags.now replaced.entry.value
-        → IsOfTable flags.now (change_seen new.now) → (change_seen new.now).op ≡ Update
+    ensures { IfOk result (λ next. (change_seen new.now).op ≡ Update
         → option_map slot_seen next
         ≡ two_changes flags.now replaced.entry.value (change_seen new.now)) }
 {

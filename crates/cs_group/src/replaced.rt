@@ -24,7 +24,8 @@ use std::marker::Model;
 #[derive(Drop)]
 pub(crate) struct Replaced<'a> {
     indirect: bool,
-    // the number of key columns
+    // the number of the table's columns, and of those of the key
+    columns: usize,
     keys: usize,
     // the first change's key, and the last one's values
     key: RecordRef<'a>,
@@ -32,7 +33,7 @@ pub(crate) struct Replaced<'a> {
 }
 
 impl<'a> Model for Replaced<'a> {
-    ghost use Rattle.std.specs.Prelude.{◌≡◌, ◌++◌, [], length};
+    ghost use Rattle.std.specs.Prelude.{◌≡◌, ◌+◌, ◌++◌, [], length};
     ghost use Rattle.cs_model.specs.declared.change.Change.{Change};
     ghost use Rattle.cs_model.specs.declared.change.Op.TheVariants.{Insert};
     ghost use Rattle.cs_model.specs.PackedChanges.{change_of};
@@ -41,7 +42,10 @@ impl<'a> Model for Replaced<'a> {
 
     ghost view = { λ r. change_of Insert r.indirect [] (r.key ++ r.values) };
 
-    ghost invariant = { λ r. length r.key ≡ r.keys };
+    ghost invariant = { λ r. record {
+      key : length r.key ≡ r.keys;
+      values : r.keys + length r.values ≡ r.columns;
+    } };
 }
 
 // how many undefined fields come first
@@ -59,26 +63,43 @@ fn undefined_first(from: &RecordRef) -> usize
     count
 }
 
-// whether each field has a value
-fn all_have_values(from: &RecordRef) -> bool
-    ensures { result ≡ list_all is_defined from.now }
+// whether a record has so many fields
+fn has_fields(from: &RecordRef, count: usize) -> bool
+    ensures { result ≡ true → length from.now ≡ count }
 {
-    for field in from.fields() {
-        if !field.has_value() {
+    let mut left = count;
+    for _ in from.fields() {
+        if left == 0 {
             return false;
         }
+        left -= 1;
     }
-    true
+    left == 0
+}
+
+// whether a record has so many fields, all with values
+fn has_values(from: &RecordRef, count: usize) -> bool
+    ensures long { result ≡ true → length from.now ≡ count }
+    ensures values { result ≡ true → list_all is_defined from.now ≡ true }
+{
+    let mut left = count;
+    for field in from.fields() {
+        if left == 0 || !field.has_value() {
+            return false;
+        }
+        left -= 1;
+    }
+    left == 0
 }
 
 // The number of undefined fields that come first in an UPDATE's new record, and its other fields,
-// if they all have values.
-fn all_values<'a>(from: &RecordRef<'a>) -> Option<(usize, RecordRef<'a>)>
-    ensures { IfSome result (λ given. GivesAll from.now given.0 given.1) }
+// if they all have values and there are `columns` fields in all.
+fn all_values<'a>(from: &RecordRef<'a>, columns: usize) -> Option<(usize, RecordRef<'a>)>
+    ensures { IfSome result (λ given. GivesAll columns from.now given.0 given.1) }
 {
     let keys = undefined_first(from);
     let (_, values) = from.cut(keys);
-    if !all_have_values(&values) {
+    if !has_values(&values, columns.checked_sub(keys)?) {
         return None;
     }
     Some((keys, values))
@@ -86,19 +107,23 @@ fn all_values<'a>(from: &RecordRef<'a>) -> Option<(usize, RecordRef<'a>)>
 
 impl<'a> Replaced<'a> {
     /// An INSERT and an UPDATE of its row as one change, if the UPDATE gives all values outside the
-    /// key, whose columns come first.
-    pub(crate) fn of(first: &ChangeRef<'a>, update: &ChangeRef<'a>) -> Option<Replaced<'a>>
-        ensures { IfSome result (λ made. length first.now.after ≡ length update.now.after
-            → insert_update (change_seen first.now) (change_seen update.now) ≡ Some made) }
+    /// key, whose columns come first. The table has `columns` columns.
+    pub(crate) fn of(
+        columns: usize,
+        first: &ChangeRef<'a>,
+        update: &ChangeRef<'a>,
+    ) -> Option<Replaced<'a>>
+        ensures { IfSome result (λ made.
+            insert_update (change_seen first.now) (change_seen update.now) ≡ Some made) }
     {
-        let (keys, values) = all_values(&update.after)?;
-        let (key, others) = first.after.cut(keys);
-        // so the key has `keys` fields
-        if others.bytes().is_empty() {
+        let (keys, values) = all_values(&update.after, columns)?;
+        if !has_fields(&first.after, columns) {
             return None;
         }
+        let (key, _) = first.after.cut(keys);
         Some(Replaced {
             indirect: first.indirect && update.indirect,
+            columns,
             keys,
             key,
             values,
@@ -108,12 +133,12 @@ impl<'a> Replaced<'a> {
     /// Adds one more UPDATE of the row, if it gives all values outside the key. Returns whether it
     /// does.
     pub(crate) fn replace(&mut self, update: &ChangeRef<'a>) -> bool
-        ensures replaced { result ≡ true → length self.old.after ≡ length update.now.after
+        ensures replaced { result ≡ true
             → insert_update self.old (change_seen update.now) ≡ Some self.new }
         ensures same { result ≡ false → self.new ≡ self.old }
         ensures insert { result ≡ true → self.old.op ≡ Insert }
     {
-        let Some((keys, values)) = all_values(&update.after) else {
+        let Some((keys, values)) = all_values(&update.after, self.columns) else {
             return false;
         };
         if keys != self.keys {

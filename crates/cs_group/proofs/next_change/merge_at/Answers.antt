@@ -8,7 +8,7 @@ use Rattle.cs_group.proofs.Seen.{seen_at, seen_set}
 use Rattle.cs_group.proofs.next_change.merge_at.Goals as goal
 
 pub returns : goal.returns
-returns c = on_ok_weaker c.merge_in.result (λ merged. λ there is of_table fits.
+returns c = on_ok_weaker c.merge_in.result (λ merged. λ there is.
     let items = c.args.slots.now.items in
     let place = c.args.place in
     let slot = c.in-Some.slot.now in
@@ -17,5 +17,5 @@ returns c = on_ok_weaker c.merge_in.result (λ merged. λ there is of_table fits
     c.in-Some.ensures.value in
     let has : option_map slot_seen slot ≡ Some there =
     sym (ap there_by (seen_at items place ∙ ap (option_map (option_map slot_seen)) here)) ∙ is in
-    seen_set items place c.merge_in.new.slot ∙ ap (λ x. put_at place x (slots_seen items)) (merged there has of_table fits))
+    seen_set items place c.merge_in.new.slot ∙ ap (λ x. put_at place x (slots_seen items)) (merged there has))
     c.merge_in.ensures

@@ -1,31 +1,21 @@
 use Rattle.std.proofs.Common.{◌≡◌, ◌∙◌, ◌++◌, ◌∷◌, [], sym, ap, subst, arith, refl}
-use Rattle.std.proofs.lemmas.Bool.{eqb-true}
-use Rattle.std.proofs.lemmas.List.{nil_from_length}
 use Rattle.std.proofs.lemmas.Result.{on_ok_weaker}
 use Rattle.cs_group.specs.Arrivals.{HoldUpTo}
-use Rattle.cs_group.specs.Table.{IsOfTable, slots_seen}
-use Rattle.cs_group.proofs.Arriving.{all_added, none_waits, one_arrived}
-use Rattle.cs_group.proofs.Lists.{all_of_back, all_of_front}
+use Rattle.cs_group.specs.Table.{slots_seen}
+use Rattle.cs_group.proofs.Arriving.{added_at_once, none_is, none_waits, one_arrived}
 use Rattle.cs_group.proofs.table.Table.add_soon.Goals as goal
 
 pub returns-then-len-lt-FEW-clause-ok : goal.returns-then-len-lt-FEW-clause-ok
 returns-then-len-lt-FEW-clause-ok c =
     let old = c.args.self.now in
-    let flags = old.flags.now in
-    let new = c.args.new.change in
+    let now = c.add.new.self in
     let batch = c.args.batch.now.items in
-    let none : batch ≡ [] =
-    nil_from_length batch (omega (
-      arith,
-      c.args.batch.now.ok.0,
-      eqb-true c.args.batch.now.len 0 (sym c.is_empty.ensures ∙ c.if-is_empty.true),
-    )) in
-    on_ok_weaker c.add.result (λ added. λ changes valid arrives holds.
-    let of_table = (all_of_back (IsOfTable flags) changes (new ∷ []) valid).0 in
-    none_waits flags c.add.new.self.links c.add.new.self.keys.items (slots_seen c.add.new.self.slots.items) batch
-    (changes ++ new ∷ []) none
-    (added changes (all_of_front (IsOfTable flags) changes (new ∷ []) valid) of_table arrives
-    (all_added flags old.links old.keys.items (slots_seen old.slots.items) batch changes none holds)))
+    let none : batch ≡ [] = none_is batch c.args.batch.now.len (omega (arith, c.args.batch.now.ok.0))
+    (sym c.is_empty.ensures ∙ c.if-is_empty.true) in
+    on_ok_weaker c.add.result (λ added. λ changes valid arrives.
+    added_at_once old.flags.now old.links now.links old.keys.items now.keys.items (slots_seen old.slots.items)
+    (slots_seen now.slots.items) batch changes c.args.new.change none valid
+    (λ before of_table. added changes before of_table arrives))
     c.add.ensures.ok
 
 pub returns-clause-ok : goal.returns-clause-ok

@@ -1,10 +1,9 @@
-use Rattle.std.proofs.Common.{◌∙◌, ap, subst, sym}
+use Rattle.std.proofs.Common.{◌∙◌, ap}
 use Rattle.std.proofs.lemmas.Result.{on_ok_weaker}
 use Rattle.cs_group.specs.Group.{changed_row}
 use Rattle.cs_group.specs.Merge.{two_changes}
-use Rattle.cs_group.specs.Table.{IsOfTable, key_place, put_at, slots_seen}
+use Rattle.cs_group.specs.Table.{key_place, put_at, slots_seen}
 use Rattle.cs_group.proofs.Holding.{met_is, rows_met}
-use Rattle.cs_group.proofs.Slots.{there_is}
 use Rattle.cs_group.proofs.table.Table.merge_next.Goals as goal
 
 pub returns-clause-ok : goal.returns-clause-ok
@@ -16,9 +15,7 @@ returns-clause-ok c =
     let place = c.args.place in
     on_ok_weaker c.merge_at.result (λ merged. λ changes valid fits met_here rows.
     let met = met_is slots (key_place old.keys.items (changed_row flags new)) place met_here in
-    let of_table = rows.holds.valid place met.1.0 (there_is slots place met.1.0 met.1.1) in
     rows_met flags old.links old.keys.items slots (slots_seen c.merge_at.new.slots.items) changes new place met.1.0 valid
     fits rows met.0 met.1.1
-    (merged met.1.0 met.1.1 of_table (subst (IsOfTable flags) (sym c.unpack.ensures) fits)
-    ∙ ap (λ d. put_at place (two_changes flags met.1.0 d) slots) c.unpack.ensures))
+    (merged met.1.0 met.1.1 ∙ ap (λ d. put_at place (two_changes flags met.1.0 d) slots) c.unpack.ensures))
     c.merge_at.ensures
