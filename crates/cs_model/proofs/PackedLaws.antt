@@ -1,5 +1,5 @@
 -- Records as bytes: the bytes of a record decode to the record.
-use Rattle.std.proofs.Common.{◌≡◌, ℕ, ℤ, zero, suc, ◌+◌, ◌*◌, ◌^◌, ◌<◌, ◌≤◌, Bool, true, false, cond, eqb, ltb, Option}
+use Rattle.std.proofs.Common.{◌≡◌, ℕ, ℤ, zero, suc, ◌+◌, ◌-◌, ◌*◌, ◌^◌, ◌<◌, ◌≤◌, Bool, true, false, cond, eqb, ltb, Option}
 use Rattle.std.proofs.Common.{Some, None, List, [], ◌∷◌, ◌++◌, length, take, drop, refl, sym, ap, subst, ◌∙◌, arith}
 use Rattle.std.proofs.Common.{FitsSigned, ◌↔◌}
 use Rattle.std.specs.Int.{w64, from_be_bytes, to_be_bytes, cast_signed, cast_unsigned}
@@ -19,7 +19,7 @@ use Rattle.cs_model.specs.Varint.{varint}
 use Rattle.cs_model.specs.Schema.{same_bytes}
 use Rattle.cs_model.specs.Packed.{packed, IsLength, Fits, Packs, read_from, counted_by, counted_in, integer_by}
 use Rattle.cs_model.specs.Packed.{typed_in, fields_in, unpacked}
-use Rattle.cs_model.proofs.VarintLemmas.{read_ends, read_back, spelled}
+use Rattle.cs_model.proofs.VarintLemmas.{read_ends, read_back, read_goes, spelled}
 
 -- ---- what is behind a field is no longer than what the field was read from
 
@@ -91,6 +91,16 @@ unfolding counted_in
 counted_one bytes len n behind whole small same =
     let value : 128 * 0 + len ≡ n = omega arith in
     ap counted_in whole ∙ (ap (λ (o : Option (ℕ × ℕ)). counted_by (len ∷ behind) o) (read_ends 7 0 0 len behind small)
+    ∙ ap (λ (k : ℕ). (take k behind, drop k behind)) value)
+
+-- a length of two bytes
+pub counted_two : (bytes : List ℕ) (high low n : ℕ) (behind : List ℕ) → bytes ≡ high ∷ low ∷ behind → 128 ≤ high
+    → low < 128 → n ≡ 128 * (high - 128) + low → counted_in bytes ≡ (take n behind, drop n behind)
+unfolding counted_in
+counted_two bytes high low n behind whole large small same =
+    let value : 128 * (128 * 0 + (high - 128)) + low ≡ n = omega (arith, same) in
+    ap counted_in whole ∙ (ap (λ (o : Option (ℕ × ℕ)). counted_by (high ∷ low ∷ behind) o)
+    (read_goes 7 0 0 high (low ∷ behind) large ∙ read_ends 6 (128 * 0 + (high - 128)) 1 low behind small)
     ∙ ap (λ (k : ℕ). (take k behind, drop k behind)) value)
 
 -- ---- what is written is read

@@ -3,6 +3,7 @@ use Rattle.std.proofs.Common.{◌≡◌, ℕ, zero, suc, ◌+◌, ◌-◌, ◌*�
 use Rattle.std.proofs.Common.{false, cond, leb, Option, Some, None, IfSome, MatchOption, Bor, nat_eq, List, [], ◌∷◌}
 use Rattle.std.proofs.Common.{◌++◌, length, take, drop, get_or, refl, sym, ap, subst, ◌∙◌, arith}
 use Rattle.std.proofs.Math.Nat.{pow-le-pow_right}
+use Rattle.std.proofs.Math.Seq.{take-length}
 use Rattle.std.proofs.lemmas.Nat.{div_below, mul-le}
 use Rattle.std.proofs.lemmas.Grind.{pow_more}
 use Rattle.std.proofs.lemmas.List.{append_assoc, drop_more, length-append, length-take-le, take-append-drop}
@@ -21,7 +22,7 @@ pub read_ends : (left high read b : ℕ) (bytes : List ℕ) → b < 128 → read
     ≡ Some (128 * high + b, read + 1)
 read_ends left high read b bytes small = grind (arith, nat_tests)
 
-read_goes : (left high read b : ℕ) (bytes : List ℕ) → 128 ≤ b → read_from (suc left) high read (b ∷ bytes)
+pub read_goes : (left high read b : ℕ) (bytes : List ℕ) → 128 ≤ b → read_from (suc left) high read (b ∷ bytes)
     ≡ read_from left (128 * high + (b - 128)) (read + 1) bytes
 read_goes left high read b bytes large = grind (arith, nat_tests)
 
@@ -161,6 +162,28 @@ varint_one n small =
     let spelling = varint_short n (omega arith) in
     let byte : short_groups 8 (n / 128) ++ (n % 128) ∷ [] ≡ n ∷ [] = rw (none, same) in
     sym byte ∙ spelling
+
+-- at least two bytes are the first one, the second one and the others
+pub two_first : (bytes : List ℕ) → 2 ≤ length bytes
+    → bytes ≡ get_or bytes 0 0 ∷ get_or bytes 1 0 ∷ take (length bytes - 2) (drop 2 bytes)
+two_first [] enough = absurd (omega (arith, enough))
+two_first (one ∷ []) enough = absurd (omega (arith, enough))
+two_first (one ∷ other ∷ bytes) enough =
+    let left : length (one ∷ other ∷ bytes) - 2 ≡ length bytes = omega arith in
+    ap (λ w. one ∷ other ∷ w) (sym (ap (λ n. take n bytes) left ∙ take-length bytes))
+
+-- a number of eight to fourteen bits takes two bytes
+pub varint_two : (high low n : ℕ) → 128 < high → high < 256 → low < 128 → n ≡ 128 * (high - 128) + low
+    → high ∷ low ∷ [] ≡ varint n
+varint_two high low n above below small is =
+    let first : n / 128 ≡ suc (high - 129) = omega (arith, is) in
+    let none : suc (high - 129) / 128 ≡ 0 = omega arith in
+    let top : 128 + suc (high - 129) % 128 ≡ high = omega arith in
+    let last : n % 128 ≡ low = omega (arith, is) in
+    let bytes : short_groups 8 (n / 128) ++ (n % 128) ∷ [] ≡ high ∷ low ∷ [] =
+    (λ i. short_groups 8 (first i) ++ last i ∷ [])
+    ∙ (λ i. (short_groups 7 (none i) ++ top i ∷ []) ++ low ∷ []) in
+    sym bytes ∙ varint_short n (omega (arith, is))
 
 -- ---- what is written spells its number
 

@@ -70,9 +70,23 @@ fn counted_of(bytes: &[u8]) -> (&[u8], &[u8])
     long_counted_of(bytes)
 }
 
+// the same for a length of more than one byte
+fn long_counted_of(bytes: &[u8]) -> (&[u8], &[u8])
+    ensures bytes { result.0.now ≡ (counted_in bytes.now).0 }
+    ensures rest { result.1.now ≡ (counted_in bytes.now).1 }
+{
+    // most of them take two, up to 16,383
+    if let [high, low, behind @ ..] = bytes {
+        if *high >= 128 && *low < 128 {
+            return so_many(128 * u64::from(*high - 128) + u64::from(*low), behind);
+        }
+    }
+    any_counted_of(bytes)
+}
+
 // the same for a length of any number of bytes
 #[tactic(auto, unfolding(crate::specs::Packed::counted_in))]
-fn long_counted_of(bytes: &[u8]) -> (&[u8], &[u8])
+fn any_counted_of(bytes: &[u8]) -> (&[u8], &[u8])
     ensures bytes { result.0.now ≡ (counted_in bytes.now).0 }
     ensures rest { result.1.now ≡ (counted_in bytes.now).1 }
 {

@@ -92,9 +92,24 @@ pub fn length_of(bytes: &[u8]) -> Result<(usize, &[u8], bool), ParseRefusal>
     long_length_of(bytes)
 }
 
+// the same for a length of more than one byte
+fn long_length_of(bytes: &[u8]) -> Result<(usize, &[u8], bool), ParseRefusal>
+    ensures read { Reads (λ x. (x.0, x.1.now)) result (length_at bytes.now) }
+    ensures canonical { IfOk result (λ x. IsTrue x.2 → bytes.now ≡ varint x.0 ++ x.1.now) }
+{
+    // most of them take two, up to 16,383
+    if let [high, low, rest @ ..] = bytes {
+        if *high > 128 && *low < 128 {
+            let len = 128 * usize::from(*high - 128) + usize::from(*low);
+            return Ok((len, rest, true));
+        }
+    }
+    any_length_of(bytes)
+}
+
 // the same for a length of any number of bytes
 #[tactic(auto, unfolding(crate::specs::Reading::length_at))]
-fn long_length_of(bytes: &[u8]) -> Result<(usize, &[u8], bool), ParseRefusal>
+fn any_length_of(bytes: &[u8]) -> Result<(usize, &[u8], bool), ParseRefusal>
     ensures read { Reads (λ x. (x.0, x.1.now)) result (length_at bytes.now) }
     ensures canonical { IfOk result (λ x. IsTrue x.2 → bytes.now ≡ varint x.0 ++ x.1.now) }
 {
