@@ -6,6 +6,7 @@ ghost use Rattle.cs_parse.specs.Seen.{shape_seen};
 
 use crate::change::skip_change;
 use crate::header::ShapeRef;
+use crate::last_length::LastLength;
 use crate::section::shape_in;
 use cs_model::PackedChange;
 use cs_model::laws::changes_fit;
@@ -27,7 +28,7 @@ pub fn first_shape(bytes: &[u8]) -> Option<(ShapeRef, &[u8])>
 pub fn first_change<'a>(flags: &[u8], bytes: &'a [u8]) -> Option<(PackedChange<'a>, &'a [u8])>
     ensures { IfSome result (λ x. BeginsChange flags.now bytes.now x.0 x.1.now) }
 {
-    let Ok((new, rest, true)) = skip_change(flags, bytes) else {
+    let Ok((new, rest, true)) = skip_change(flags, bytes, &mut LastLength::new()) else {
         return None;
     };
     changes_fit();

@@ -16,6 +16,7 @@ ghost use Rattle.cs_parse.specs.Reading.{changes_at};
 
 use crate::and::both;
 use crate::fault::FaultKind;
+use crate::last_length::LastLength;
 use crate::record::skip_records;
 use crate::stop::ParseRefusal;
 use cs_model::laws::{changes_fit, spelled_is_said};
@@ -42,6 +43,7 @@ fn skip_marked<'a>(
     flags: &[u8],
     op: Op,
     bytes: &'a [u8],
+    last: &mut LastLength,
 ) -> Result<(&'a [u8], &'a [u8], bool), ParseRefusal>
     ensures read { Reads (λ x. x.1.now) result (bytes_after (marked_at flags.now op bytes.now)) }
     ensures new { IfOk result (λ x. IsTrue x.2 → IsAfterFront front_bytes
@@ -52,7 +54,7 @@ fn skip_marked<'a>(
     let Some((&mark, rest)) = bytes.split_first() else {
         return Err(ParseRefusal::Short);
     };
-    let (new, rest, canonical) = skip_records(flags, op, rest)?;
+    let (new, rest, canonical) = skip_records(flags, op, rest, last)?;
     Ok((new, rest, both(mark <= 1, canonical)))
 }
 
@@ -75,6 +77,7 @@ fn no_change(byte: u8, left: usize) -> ParseRefusal
 pub fn skip_change<'a>(
     flags: &[u8],
     bytes: &'a [u8],
+    last: &mut LastLength,
 ) -> Result<(&'a [u8], &'a [u8], bool), ParseRefusal>
     ensures read { Reads (λ x. x.1.now) result (bytes_after (change_at flags.now bytes.now)) }
     ensures new { IfOk result (λ x. IsTrue x.2
@@ -86,7 +89,7 @@ pub fn skip_change<'a>(
         return Err(ParseRefusal::Short);
     };
     match op_by_byte(byte) {
-        Some(op) => skip_marked(flags, op, rest),
+        Some(op) => skip_marked(flags, op, rest, last),
         None => Err(no_change(byte, bytes.len())),
     }
 }
@@ -118,12 +121,13 @@ pub fn whole_changes<'a>(
     let mut count: usize = 0;
     let mut rest = bytes;
     let mut canonical = true;
+    let mut last = LastLength::new();
     // each turn takes at least one byte
     for _ in 0..bytes.len() {
         if is_over(rest) {
             break;
         }
-        let (_, after, one) = match skip_change(flags, rest) {
+        let (_, after, one) = match skip_change(flags, rest, &mut last) {
             Ok(skipped) => skipped,
             Err(why) => return (count, rest, canonical, Some(why)),
         };

@@ -9,6 +9,7 @@ ghost use Rattle.cs_parse.specs.FieldRules.{rule_of};
 ghost use Rattle.cs_parse.specs.Reading.{Reads, counted_at, typed_at, field_at};
 
 use crate::and::both;
+use crate::last_length::LastLength;
 use crate::number::{integer_of, length_of};
 use crate::rule::{FieldRule, type_fault};
 use crate::stop::ParseRefusal;
@@ -18,12 +19,16 @@ use cs_model::FieldRef;
 // them are canonical.
 #[tactic(auto, unfolding(crate::specs::Reading::counted_at))]
 #[inline(always)]
-fn counted_of(bytes: &[u8], canonical: bool) -> Result<(&[u8], &[u8], bool), ParseRefusal>
+fn counted_of<'a>(
+    bytes: &'a [u8],
+    canonical: bool,
+    last: &mut LastLength,
+) -> Result<(&'a [u8], &'a [u8], bool), ParseRefusal>
     ensures read { Reads (λ x. (x.0.now, x.1.now)) result (counted_at bytes.now) }
     ensures canonical { IfOk result (λ x. IsTrue x.2
         → IsTrue canonical × (bytes.now ≡ counted_bytes x.0.now ++ x.1.now)) }
 {
-    let (len, rest, shortest) = length_of(bytes)?;
+    let (len, rest, shortest) = length_of(bytes, last)?;
     if rest.len() < len {
         return Err(ParseRefusal::Short);
     }
@@ -35,7 +40,12 @@ fn counted_of(bytes: &[u8], canonical: bool) -> Result<(&[u8], &[u8], bool), Par
 // one encoding.
 #[tactic(auto, unfolding(crate::specs::Reading::typed_at))]
 #[inline(always)]
-fn typed_of(byte: u8, rest: &[u8], canonical: bool) -> Result<(FieldRef, &[u8], bool), ParseRefusal>
+fn typed_of<'a>(
+    byte: u8,
+    rest: &'a [u8],
+    canonical: bool,
+    last: &mut LastLength,
+) -> Result<(FieldRef<'a>, &'a [u8], bool), ParseRefusal>
     ensures read { Reads (λ x. (field_seen x.0, x.1.now)) result (typed_at byte rest.now) }
     ensures canonical { IfOk result (λ x. IsTrue x.2
         → IsTrue canonical × HasShortest (field_seen x.0) rest.now x.1.now) }
@@ -47,11 +57,11 @@ fn typed_of(byte: u8, rest: &[u8], canonical: bool) -> Result<(FieldRef, &[u8], 
             Ok((FieldRef::Integer(number), rest, canonical))
         }
         3 => {
-            let (bytes, rest, canonical) = counted_of(rest, canonical)?;
+            let (bytes, rest, canonical) = counted_of(rest, canonical, last)?;
             Ok((FieldRef::Text(bytes), rest, canonical))
         }
         4 => {
-            let (bytes, rest, canonical) = counted_of(rest, canonical)?;
+            let (bytes, rest, canonical) = counted_of(rest, canonical, last)?;
             Ok((FieldRef::Blob(bytes), rest, canonical))
         }
         _ => Ok((FieldRef::Null, rest, canonical)),
@@ -62,11 +72,12 @@ fn typed_of(byte: u8, rest: &[u8], canonical: bool) -> Result<(FieldRef, &[u8], 
 /// are canonical.
 #[tactic(auto, unfolding(crate::specs::Reading::field_at))]
 #[inline(always)]
-pub fn field_in(
+pub fn field_in<'a>(
     rule: FieldRule,
-    bytes: &[u8],
+    bytes: &'a [u8],
     canonical: bool,
-) -> Result<(FieldRef, &[u8], bool), ParseRefusal>
+    last: &mut LastLength,
+) -> Result<(FieldRef<'a>, &'a [u8], bool), ParseRefusal>
     ensures read { Reads (λ x. (field_seen x.0, x.1.now)) result
         (field_at (rule_of rule) bytes.now) }
     ensures canonical { IfOk result (λ x. IsTrue x.2
@@ -81,5 +92,5 @@ pub fn field_in(
             kind,
         });
     }
-    typed_of(byte, rest, canonical)
+    typed_of(byte, rest, canonical, last)
 }

@@ -18,6 +18,7 @@ mod header;
 mod header_spot;
 mod in_place;
 mod lack;
+mod last_length;
 pub mod laws;
 mod number;
 mod pieces;

@@ -12,6 +12,7 @@ ghost use Rattle.cs_parse.specs.Reading.{Reads, record_at, records_at};
 
 use crate::and::both;
 use crate::field::field_in;
+use crate::last_length::LastLength;
 use crate::rule::{FieldRule, rule_by_flag, rule_by_old};
 use crate::stop::ParseRefusal;
 use cs_model::Op;
@@ -23,6 +24,7 @@ fn skip_record<'a>(
     outside: FieldRule,
     flags: &[u8],
     bytes: &'a [u8],
+    last: &mut LastLength,
 ) -> Result<(&'a [u8], bool), ParseRefusal>
     ensures read { Reads (λ x. x.0.now) result
         (bytes_after (record_at (map (column_rule (rule_of outside)) flags.now) bytes.now)) }
@@ -32,7 +34,7 @@ fn skip_record<'a>(
     let mut rest = bytes;
     let mut canonical = true;
     for &flag in flags {
-        let (_, after, so_far) = field_in(rule_by_flag(flag, outside), rest, canonical)?;
+        let (_, after, so_far) = field_in(rule_by_flag(flag, outside), rest, canonical, last)?;
         canonical = so_far;
         rest = after;
     }
@@ -42,7 +44,12 @@ fn skip_record<'a>(
 // The same for an UPDATE's new record. The old record, which begins at `old`, gives its rules and
 // is read again beside it.
 #[inline(always)]
-fn skip_new<'a>(flags: &[u8], old: &[u8], bytes: &'a [u8]) -> Result<(&'a [u8], bool), ParseRefusal>
+fn skip_new<'a>(
+    flags: &[u8],
+    old: &[u8],
+    bytes: &'a [u8],
+    last: &mut LastLength,
+) -> Result<(&'a [u8], bool), ParseRefusal>
     ensures read { (before : List Field) (left : List ℕ)
         → record_at (map old_rule flags.now) old.now ≡ Ok (before, left)
         → Reads (λ x. x.0.now) result
@@ -56,8 +63,18 @@ fn skip_new<'a>(flags: &[u8], old: &[u8], bytes: &'a [u8]) -> Result<(&'a [u8], 
     let mut rest = bytes;
     let mut canonical = true;
     for &flag in flags {
-        let (field, old_after, _) = field_in(rule_by_flag(flag, FieldRule::Open), old_rest, true)?;
-        let (_, after, so_far) = field_in(rule_by_old(flag, field.has_value()), rest, canonical)?;
+        let (field, old_after, _) = field_in(
+            rule_by_flag(flag, FieldRule::Open),
+            old_rest,
+            true,
+            last,
+        )?;
+        let (_, after, so_far) = field_in(
+            rule_by_old(flag, field.has_value()),
+            rest,
+            canonical,
+            last,
+        )?;
         canonical = so_far;
         old_rest = old_after;
         rest = after;
@@ -73,6 +90,7 @@ pub fn skip_records<'a>(
     flags: &[u8],
     op: Op,
     bytes: &'a [u8],
+    last: &mut LastLength,
 ) -> Result<(&'a [u8], &'a [u8], bool), ParseRefusal>
     ensures read { Reads (λ x. x.1.now) result (bytes_after (records_at flags.now op bytes.now)) }
     ensures new { IfOk result (λ x. IsTrue x.2
@@ -82,16 +100,16 @@ pub fn skip_records<'a>(
 {
     match op {
         Op::Insert => {
-            let (rest, canonical) = skip_record(FieldRule::Given, flags, bytes)?;
+            let (rest, canonical) = skip_record(FieldRule::Given, flags, bytes, last)?;
             Ok((bytes, rest, canonical))
         }
         Op::Update => {
-            let (new, old_canonical) = skip_record(FieldRule::Open, flags, bytes)?;
-            let (rest, new_canonical) = skip_new(flags, bytes, new)?;
+            let (new, old_canonical) = skip_record(FieldRule::Open, flags, bytes, last)?;
+            let (rest, new_canonical) = skip_new(flags, bytes, new, last)?;
             Ok((new, rest, both(old_canonical, new_canonical)))
         }
         Op::Delete => {
-            let (after, canonical) = skip_record(FieldRule::Given, flags, bytes)?;
+            let (after, canonical) = skip_record(FieldRule::Given, flags, bytes, last)?;
             Ok((after, after, canonical))
         }
     }
