@@ -59,8 +59,8 @@ none_waits flags links keys slots batch changes none holds =
     (record { done = changes; whole = append-nil changes; arrivals = tt; holds = holds })
 
 -- a batch is empty if its length is 0
-pub none_is : (batch : List Arrival) (len : ℕ) → len ≡ length batch → (len == 0) ≡ true → batch ≡ []
-none_is batch len is zero = nil_from_length batch (omega (arith, is, eqb-true len 0 zero))
+pub no_arrivals : (batch : List Arrival) (len : ℕ) → len ≡ length batch → (len == 0) ≡ true → batch ≡ []
+no_arrivals batch len is zero = nil_from_length batch (omega (arith, is, eqb-true len 0 zero))
 
 -- a change is added at once where no other waits
 pub added_at_once : (flags links links_new : List ℕ) (keys keys_new : List (List ℕ)) (slots slots_new : Slots)

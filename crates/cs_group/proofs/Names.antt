@@ -37,8 +37,8 @@ has_more P (x ∷ xs) last one before a (inl is) = before a (inl is)
 has_more P (x ∷ xs) last one before a (inr has) = has_more P xs last one (λ b h. before b (inr h)) a has
 
 -- any two of these tables agree
-abbrev AllAgree : (Shape → Type 0) → Type 0
-AllAgree P = (a b : Shape) → P a → P b → Agree a b
+abbrev AgreeAmong : (Shape → Type 0) → Type 0
+AgreeAmong P = (a b : Shape) → P a → P b → Agree a b
 
 -- ---- a section clashes with none before it if its table agrees with all of theirs
 
@@ -56,8 +56,8 @@ none_clash [] section agree = refl
 none_clash (first ∷ earlier) section agree = or_from (differs_from section first) (clashes earlier section)
     (agree first.shape (inl refl)) (none_clash earlier section (λ a has. agree a (inr has)))
 
-agree_more : (earlier : List Section) (last : Section) → AllAgree (Has earlier) → clashes earlier last ≡ false
-    → AllAgree (Has (earlier ++ last ∷ []))
+agree_more : (earlier : List Section) (last : Section) → AgreeAmong (Has earlier) → clashes earlier last ≡ false
+    → AgreeAmong (Has (earlier ++ last ∷ []))
 agree_more earlier last agree fits a b here there =
     let with_last = clash_none earlier last fits in
     has_more (λ x. Agree x b) earlier last (has_more (Agree last.shape) earlier last
@@ -73,15 +73,15 @@ clash_parts false (Some n) e = absurd cc
 clash_from : (b : Bool) (r : Option ℕ) → b ≡ false → r ≡ None → cond b (Some 0) (option_map suc r) ≡ None
 clash_from b r e f = ap (λ c. cond c (Some 0) (option_map suc r)) e ∙ ap (option_map suc) f
 
-all_agree : (earlier sections : List Section) → AllAgree (Has earlier) → first_clash earlier sections ≡ None
-    → AllAgree (Has (earlier ++ sections))
-all_agree earlier [] agree e = subst (λ ss. AllAgree (Has ss)) (sym (append-nil earlier)) agree
-all_agree earlier (s ∷ ss) agree e =
+agree_among : (earlier sections : List Section) → AgreeAmong (Has earlier) → first_clash earlier sections ≡ None
+    → AgreeAmong (Has (earlier ++ sections))
+agree_among earlier [] agree e = subst (λ ss. AgreeAmong (Has ss)) (sym (append-nil earlier)) agree
+agree_among earlier (s ∷ ss) agree e =
     let parts = clash_parts (clashes earlier s) (first_clash (earlier ++ s ∷ []) ss) e in
-    subst (λ ss. AllAgree (Has ss)) (append_assoc earlier (s ∷ []) ss)
-    (all_agree (earlier ++ s ∷ []) ss (agree_more earlier s agree parts.0) parts.1)
+    subst (λ ss. AgreeAmong (Has ss)) (append_assoc earlier (s ∷ []) ss)
+    (agree_among (earlier ++ s ∷ []) ss (agree_more earlier s agree parts.0) parts.1)
 
-agree_all : (P : Shape → Type 0) → AllAgree P → (earlier sections : List Section)
+agree_all : (P : Shape → Type 0) → AgreeAmong P → (earlier sections : List Section)
     → ((a : Shape) → Has earlier a → P a) → ((a : Shape) → Has sections a → P a) → first_clash earlier sections ≡ None
 agree_all P agree earlier [] old new = refl
 agree_all P agree earlier (s ∷ ss) old new =
@@ -91,20 +91,20 @@ agree_all P agree earlier (s ∷ ss) old new =
     (λ a has. new a (inr has)))
 
 -- a table has its section among these, or stood earlier
-abbrev Stands : List Shape → List Group → Shape → Type 0
-Stands earlier groups a = (has_shape earlier a ≡ true)
+abbrev IsShapeOf : List Shape → List Group → Shape → Type 0
+IsShapeOf earlier groups a = (has_shape earlier a ≡ true)
     ⊎ Has (map (λ (group : Group). combined_section (joined_section group)) groups) a
 
-stands : (earlier : List Shape) (ss : List Section) (a : Shape) → Has ss a → Stands earlier (by_shape earlier ss) a
+is_shape_of : (earlier : List Shape) (ss : List Section) (a : Shape) → Has ss a → IsShapeOf earlier (by_shape earlier ss) a
 unfolding by_shape
-stands earlier [] a has = absurd has
-stands earlier (s ∷ ss) a has =
-    by (has_shape earlier s.shape) refl has (stands earlier ss a) (stands (s.shape ∷ earlier) ss a)
+is_shape_of earlier [] a has = absurd has
+is_shape_of earlier (s ∷ ss) a has =
+    by (has_shape earlier s.shape) refl has (is_shape_of earlier ss a) (is_shape_of (s.shape ∷ earlier) ss a)
   where
     by : (b : Bool) → has_shape earlier s.shape ≡ b → Has (s ∷ ss) a
-        → (Has ss a → Stands earlier (by_shape earlier ss) a)
-        → (Has ss a → Stands (s.shape ∷ earlier) (by_shape (s.shape ∷ earlier) ss) a)
-        → Stands earlier (group_begun b earlier s ss) a
+        → (Has ss a → IsShapeOf earlier (by_shape earlier ss) a)
+        → (Has ss a → IsShapeOf (s.shape ∷ earlier) (by_shape (s.shape ∷ earlier) ss) a)
+        → IsShapeOf earlier (group_begun b earlier s ss) a
     by true e (inl is) old new = inl (subst (λ t. has_shape earlier t ≡ true) is e)
     by true e (inr later) old new = old later
     by false e (inl is) old new = inr (inl is)
@@ -120,8 +120,8 @@ stands earlier (s ∷ ss) a has =
 pub no_clash : (sections : List Section) → first_clash [] (tables_combined sections) ≡ None
     → first_clash [] sections ≡ None
 no_clash sections e = agree_all (Has (tables_combined sections))
-    (all_agree [] (tables_combined sections) (λ a b here there. absurd here) e) [] sections (λ a has. absurd has)
-    (λ a has. elim (stands [] sections a has) [
+    (agree_among [] (tables_combined sections) (λ a b here there. absurd here) e) [] sections (λ a has. absurd has)
+    (λ a has. elim (is_shape_of [] sections a has) [
       | inl known ↦ absurd (false≢true known)
       | inr found ↦ found
     ])

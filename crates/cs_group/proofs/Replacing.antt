@@ -49,11 +49,11 @@ cut_whole (suc keys) (field ∷ fields) = ap (λ rest. field ∷ rest) (cut_whol
 -- ---- zeros at the front of a record's bytes
 
 -- no value's bytes begin with a zero
-no_zero : (value : Value) (bytes more : List ℕ) → value_bytes value ++ bytes ≡ 0 ∷ more → ⊥
-no_zero (Integer number) bytes more e = suc-ne-zero 0 (ap (λ l. get_or l 0 0) e)
-no_zero (Text text) bytes more e = suc-ne-zero 2 (ap (λ l. get_or l 0 0) e)
-no_zero (Blob blob) bytes more e = suc-ne-zero 3 (ap (λ l. get_or l 0 0) e)
-no_zero Null bytes more e = suc-ne-zero 4 (ap (λ l. get_or l 0 0) e)
+no_leading_zero : (value : Value) (bytes more : List ℕ) → value_bytes value ++ bytes ≡ 0 ∷ more → ⊥
+no_leading_zero (Integer number) bytes more e = suc-ne-zero 0 (ap (λ l. get_or l 0 0) e)
+no_leading_zero (Text text) bytes more e = suc-ne-zero 2 (ap (λ l. get_or l 0 0) e)
+no_leading_zero (Blob blob) bytes more e = suc-ne-zero 3 (ap (λ l. get_or l 0 0) e)
+no_leading_zero Null bytes more e = suc-ne-zero 4 (ap (λ l. get_or l 0 0) e)
 
 -- so many zeros are so many undefined fields
 pub zeros_are : (n : ℕ) (fields : List Field) (rest : List ℕ) → packed fields ≡ replicate n 0 ++ rest
@@ -62,7 +62,7 @@ zeros_are zero fields rest e = refl
 zeros_are (suc n) [] rest e = absurd (suc-ne-zero (length (replicate n 0 ++ rest)) (sym (ap length e)))
 zeros_are (suc n) (Undefined ∷ fields) rest e =
     ap (λ more. Undefined ∷ more) (zeros_are n fields rest (ap (drop 1) e))
-zeros_are (suc n) (Is value ∷ fields) rest e = absurd (no_zero value (packed fields) (replicate n 0 ++ rest) e)
+zeros_are (suc n) (Is value ∷ fields) rest e = absurd (no_leading_zero value (packed fields) (replicate n 0 ++ rest) e)
 
 pub one_zero_more : (n : ℕ) (bytes : List ℕ) → n < length bytes → get_or bytes n 0 ≡ 0
     → bytes ≡ replicate n 0 ++ drop n bytes → bytes ≡ replicate (n + 1) 0 ++ drop (n + 1) bytes

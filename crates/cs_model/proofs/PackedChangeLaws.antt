@@ -13,7 +13,7 @@ use Rattle.cs_model.specs.FieldBytes.{field_bytes}
 use Rattle.cs_model.specs.Text.{op_byte, SpellsEach, SpellsField, SpellsIndirect, SpellsChange}
 use Rattle.cs_model.specs.Packed.{packed, unpacked, Fits, Packs, typed_in}
 use Rattle.cs_model.specs.PackedChanges.{mark, change_bytes, changes_bytes, Long, Fit, change_of, PacksAll, some_in}
-use Rattle.cs_model.specs.PackedChanges.{op_in, records_by, changes_said, unpacked_changes, BeginsFields, BeginsChange}
+use Rattle.cs_model.specs.PackedChanges.{op_in, records_by, changes_said, unpacked_changes, BeginsFields, BeginsUnpacked}
 use Rattle.cs_model.proofs.PackedLaws as records
 use Rattle.cs_model.proofs.PackedLaws.{typed_back, own_field}
 use Rattle.cs_model.proofs.CutLaws.{some_no_longer}
@@ -266,7 +266,7 @@ own_packs n bytes rest front k b is_rest is_k is_front =
     (records.packed_made front b.fields same b.fit).1
 
 -- behind the old record of an UPDATE is its new one
-pub begins_after : (n : ℕ) (op : Op) (bytes after : List ℕ) → BeginsChange n op bytes → op ≡ Update → after
+pub begins_after : (n : ℕ) (op : Op) (bytes after : List ℕ) → BeginsUnpacked n op bytes → op ≡ Update → after
     ≡ (some_in n bytes).1 → BeginsFields n after
 begins_after n op bytes after b is e =
     let long : Long n Update b.before b.after = subst (λ (o : Op). Long n o b.before b.after) is b.long in
@@ -310,7 +310,7 @@ first_op n op m rest o f is = is ∙ (ap op_in f.is_op ∙ op_back f.change.op)
 
 pub packed_change_begins_change : (n : ℕ) (bytes behind rest : List ℕ) (op m : ℕ) (o : Op)
     → PacksAll n bytes (unpacked_changes n bytes) → bytes ≡ op ∷ behind → behind ≡ m ∷ rest → o ≡ op_in op
-    → BeginsChange n o rest
+    → BeginsUnpacked n o rest
 packed_change_begins_change n bytes behind rest op m o packs whole next is =
     let f = packed_change_first n bytes behind rest op m (unpacked_changes n bytes) packs whole next in
     record {

@@ -84,16 +84,16 @@ take_fits (suc n) [] fit = tt
 take_fits (suc n) (f ∷ fs) fit = (fit.0, take_fits n fs fit.1)
 
 -- the bytes of both parts
-pub record IsCut (fields : List Field) (count : ℕ) (front rest : List ℕ) : Type 0 where
+pub record IsCutInTwo (fields : List Field) (count : ℕ) (front rest : List ℕ) : Type 0 where
   pub front_says : unpacked front ≡ take count fields
   pub front_packs : Packs front (unpacked front)
   pub rest_says : unpacked rest ≡ drop count fields
   pub rest_packs : Packs rest (unpacked rest)
 
-pub is_cut : (bytes : List ℕ) (fields : List Field) (count : ℕ) (rest front : List ℕ) (k : ℕ) → Packs bytes fields
+pub is_cut_in_two : (bytes : List ℕ) (fields : List Field) (count : ℕ) (rest front : List ℕ) (k : ℕ) → Packs bytes fields
     → rest ≡ (some_in count bytes).1 → k ≡ length bytes - length rest → front ≡ take k bytes
-    → IsCut fields count front rest
-is_cut bytes fields count rest front k packs is_rest is_k is_front =
+    → IsCutInTwo fields count front rest
+is_cut_in_two bytes fields count rest front k packs is_rest is_k is_front =
     let between = part_between bytes fields 0 count bytes rest packs (sym (past_all bytes)) is_rest in
     let first = packed_made front (take count fields)
     (part_front bytes fields 0 count bytes rest front k between is_k is_front) (take_fits count fields packs.fit) in

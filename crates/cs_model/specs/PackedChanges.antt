@@ -64,7 +64,7 @@ pub record BeginsFields (n : ℕ) (bytes : List ℕ) : Type 0 where
   pub parts : bytes ≡ packed fields ++ rest
 
 -- the bytes begin with those of a change's records
-pub record BeginsChange (n : ℕ) (op : Op) (bytes : List ℕ) : Type 0 where
+pub record BeginsUnpacked (n : ℕ) (op : Op) (bytes : List ℕ) : Type 0 where
   pub before : List Field
   pub after : List Field
   pub rest : List ℕ

@@ -5,7 +5,7 @@ ghost use Rattle.std.specs.Prelude.{◌≡◌, ◌∷◌, [], IfSome, MatchOptio
 ghost use Rattle.std.specs.List.{AllByRecursion};
 ghost use Rattle.cs_model.specs.Packed.{packed, unpacked, Fits, Packs};
 ghost use Rattle.cs_model.specs.PackedChanges.{some_in, op_in, records_by, unpacked_changes};
-ghost use Rattle.cs_model.specs.PackedChanges.{AreCanonical, BeginsFields, BeginsChange};
+ghost use Rattle.cs_model.specs.PackedChanges.{AreCanonical, BeginsFields, BeginsUnpacked};
 ghost use Rattle.cs_model.specs.PackedOne.{IsAfterFirst};
 ghost use Rattle.cs_model.specs.Seen.{change_seen};
 
@@ -228,7 +228,7 @@ pub(crate) fn op_of(byte: u8) -> Op
 // the change with this operation and these records, and the bytes after it
 #[inline(always)]
 fn records_of(columns: usize, op: Op, indirect: bool, bytes: &[u8]) -> (ChangeRef, &[u8])
-    requires { BeginsChange columns op bytes.now }
+    requires { BeginsUnpacked columns op bytes.now }
     ensures change { change_seen result.0 ≡ (records_by columns op indirect bytes.now).0 }
     ensures rest { result.1.now ≡ (records_by columns op indirect bytes.now).1 }
 {

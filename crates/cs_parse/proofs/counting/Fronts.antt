@@ -22,7 +22,7 @@ abbrev pub SpelledIsSaid : Type 0
 SpelledIsSaid = (n : ℕ) (text : List ℕ) (changes : List Change) → SpellsEach SpellsChange text changes
     → AllByRecursion (Fit n) changes → unpacked_changes n text ≡ changes
 
-all_fit : ChangesFit → (flags : List ℕ) (changes : List Change) → AllByRecursion (IsChangeBy flags) changes
+pub all_fit : ChangesFit → (flags : List ℕ) (changes : List Change) → AllByRecursion (IsChangeBy flags) changes
     → AllByRecursion (Fit (length flags)) changes
 all_fit law flags [] valid = tt
 all_fit law flags (change ∷ changes) valid =

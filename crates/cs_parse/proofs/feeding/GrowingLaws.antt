@@ -231,11 +231,11 @@ no_bytes sections bytes kept count v g none is =
 
 -- ---- the first bytes that wait
 
-pub begun : (old new : List Section) (bytes text piece all : List ℕ) (kept count n many : ℕ) (v : List Section × List ℕ)
+pub growing_begun : (old new : List Section) (bytes text piece all : List ℕ) (kept count n many : ℕ) (v : List Section × List ℕ)
     → IsGrowing old bytes n many → growing_seen old bytes n ≡ v → v.1 ≡ [] → 0 < length piece
     → OpenedSection old new text count → all ≡ text ++ piece → kept ≡ length text
     → IsGrowing new all kept count × (growing_seen new all kept ≡ pair v.0 piece)
-begun old new bytes text piece all kept count n many v g is none some o joined long =
+growing_begun old new bytes text piece all kept count n many v g is none some o joined long =
     let front : take kept all ≡ text = ap (λ m. take m all) long ∙ ap (take (length text)) joined
     ∙ take-append_seam text piece in
     let behind : drop kept all ≡ piece = ap (λ m. drop m all) long ∙ ap (drop (length text)) joined

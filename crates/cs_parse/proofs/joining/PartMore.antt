@@ -289,8 +289,8 @@ rest_fits sections bytes fits = read_induction (λ s b reached. AreBytes b → A
   goes = λ s b part fits read rest same. rest (part_rest_fits s b part fits read);
 }) sections bytes fits fits
 
-pub front_bytes : (front back : List ℕ) → AreBytes (front ++ back) → AreBytes front
-front_bytes front back fits =
+pub front_are_bytes : (front back : List ℕ) → AreBytes (front ++ back) → AreBytes front
+front_are_bytes front back fits =
     let n = length front in
     subst (λ w. AreBytes w) (take-append-le n front back (omega arith) ∙ take_all n front (omega arith))
     (number_front_fits n (front ++ back) (omega (arith, length-append front back)) fits)
@@ -331,4 +331,4 @@ read_more sections bytes more all = read_induction ReadMore (record {
   none = λ s more fits. refl;
   refused = λ s byte b why fits e more all. refused_more s byte b why more fits e;
   goes = goes_more;
-}) sections bytes (front_bytes bytes more all) more all
+}) sections bytes (front_are_bytes bytes more all) more all

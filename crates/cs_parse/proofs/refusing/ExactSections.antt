@@ -74,8 +74,8 @@ changes_place flags whole xs part place byte kind more h stands w =
 abbrev ExactSectionsSectionText : List ℕ → Section → Type 0
 ExactSectionsSectionText = ItemText SpellsSection IsSection
 
-section_begun : (front : List ℕ) → Completes HeaderSpelled front → Completes ExactSectionsSectionText (84 ∷ front)
-section_begun front c =
+begun_completes : (front : List ℕ) → Completes HeaderSpelled front → Completes ExactSectionsSectionText (84 ∷ front)
+begun_completes front c =
     let header = 84 ∷ (front ++ c.more) in
     let section : Section = record { shape = c.value; changes = [] } in
     let spelled : SpellsSection header section =
@@ -122,7 +122,7 @@ marked_stops : (rest : List ℕ) (left : ℕ) (kind : FaultKind) → AreBytes re
 marked_stops rest left kind fits e =
     elim (bind_err (header_at rest) changes_behind (Bad left kind) (sym (marked_again rest) ∙ e)) as
     (λ w. ExactStopped ExactSectionsSectionText InSection (84 ∷ rest) left kind) [
-      | inl h ↦ stopped_behind (84 ∷ rest) (84 ∷ []) rest left kind refl section_begun
+      | inl h ↦ stopped_behind (84 ∷ rest) (84 ∷ []) rest left kind refl begun_completes
           (λ front place s. inl (front, refl, s)) (header_exact.stops rest left kind fits h)
       | inr h ↦
           let shape = h.0.0 in
@@ -141,7 +141,7 @@ marked_completes : (rest : List ℕ) → AreBytes rest → section_at (84 ∷ re
     → Completes ExactSectionsSectionText (84 ∷ rest)
 marked_completes rest fits e = elim (bind_err (header_at rest) changes_behind Short (sym (marked_again rest) ∙ e)) as
     (λ w. Completes ExactSectionsSectionText (84 ∷ rest)) [
-      | inl h ↦ section_begun rest (header_exact.completes rest fits h)
+      | inl h ↦ begun_completes rest (header_exact.completes rest fits h)
       | inr h ↦
           let shape = h.0.0 in
           let t = header_exact.takes rest h.0 fits h.1 in

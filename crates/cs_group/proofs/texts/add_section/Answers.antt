@@ -1,14 +1,13 @@
 use Rattle.std.proofs.Common.{◌∙◌, ◌++◌, ◌∷◌, [], List, ℕ, length, sym, ap, refl, append_assoc}
-use Rattle.std.specs.List.{AllByRecursion}
 use Rattle.std.specs.Prelude.{IfOk, IfSome, Result, Ok, Err, Option, Some, None}
 use Rattle.cs_model.proofs.PackedChangeLaws.{own_changes}
-use Rattle.cs_model.specs.declared.change.Change.{Change}
 use Rattle.cs_model.specs.declared.shape.Shape.{Shape}
-use Rattle.cs_model.specs.Changeset.{IsChange, IsSection}
-use Rattle.cs_model.specs.PackedChanges.{Fit, changes_bytes}
+use Rattle.cs_model.specs.Changeset.{IsSection}
+use Rattle.cs_model.specs.PackedChanges.{changes_bytes}
 use Rattle.cs_model.specs.Section.{Section}
 use Rattle.cs_parse.specs.Beginning.{BeginsSection}
 use Rattle.cs_parse.specs.Seen.{shape_seen}
+use Rattle.cs_parse.proofs.counting.Fronts.{ChangesFit, all_fit}
 use Rattle.cs_group.specs.declared.table.Table.{Table}
 use Rattle.cs_group.specs.Texts.{AddsChanges, AddsSection}
 use Rattle.cs_group.proofs.Lists.{all_of_back}
@@ -21,18 +20,10 @@ weaker (Ok (Some x)) P Q to h = to x h
 weaker (Ok None) P Q to h = tt
 weaker (Err e) P Q to h = tt
 
-abbrev ChangesFit : Type 0
-ChangesFit = (shape : Shape) (change : Change) → IsChange shape change → Fit (length shape.flags) change
-
-all_fit : ChangesFit → (shape : Shape) (changes : List Change) → AllByRecursion (IsChange shape) changes
-    → AllByRecursion (Fit (length shape.flags)) changes
-all_fit law shape [] valid = tt
-all_fit law shape (change ∷ changes) valid = (law shape change valid.0, all_fit law shape changes valid.1)
-
-with_header : ChangesFit → (bytes rest after : List ℕ) (shape : Shape) (tables : List (Shape × Table))
+header_adds : ChangesFit → (bytes rest after : List ℕ) (shape : Shape) (tables : List (Shape × Table))
     (sections : List Section) → BeginsSection bytes shape rest → AddsChanges shape rest after tables sections
     → AddsSection bytes after tables sections
-with_header law bytes rest after shape tables sections head adds =
+header_adds law bytes rest after shape tables sections head adds =
     let section : Section = record { shape = shape; changes = adds.changes } in
     let valid = all_of_back IsSection sections (section ∷ []) adds.holds.valid in
     record {
@@ -46,7 +37,7 @@ with_header law bytes rest after shape tables sections head adds =
         parts = refl;
         is_header = head.spelled;
         is_body =
-            own_changes (length shape.flags) adds.changes (all_fit law shape adds.changes valid.0.1);
+            own_changes (length shape.flags) adds.changes (all_fit law shape.flags adds.changes valid.0.1);
       };
       holds = adds.holds;
     }
@@ -55,5 +46,5 @@ pub returns : goal.returns
 returns c =
     weaker c.add_changes.result _ _
     (λ rest adds sections holds.
-    with_header c.changes_fit.ensures c.args.bytes.now c.in-Some.rest.now rest.now (shape_seen c.in-Some.shape) _ sections
+    header_adds c.changes_fit.ensures c.args.bytes.now c.in-Some.rest.now rest.now (shape_seen c.in-Some.shape) _ sections
     c.in-Some.ensures (adds sections c.in-Some.ensures.is_shape holds)) c.add_changes.ensures

@@ -2,7 +2,7 @@ use Rattle.std.proofs.Common.{◌≡◌, ◌∙◌, ◌++◌, ◌∷◌, [], sym
 use Rattle.std.proofs.lemmas.Result.{on_ok_weaker}
 use Rattle.cs_group.specs.Arrivals.{HoldUpTo}
 use Rattle.cs_group.specs.Table.{slots_seen}
-use Rattle.cs_group.proofs.Arriving.{added_at_once, none_is, none_waits, one_arrived}
+use Rattle.cs_group.proofs.Arriving.{added_at_once, no_arrivals, none_waits, one_arrived}
 use Rattle.cs_group.proofs.table.Table.add_soon.Goals as goal
 
 pub returns-then-len-lt-FEW-clause-ok : goal.returns-then-len-lt-FEW-clause-ok
@@ -10,7 +10,7 @@ returns-then-len-lt-FEW-clause-ok c =
     let old = c.args.self.now in
     let now = c.add.new.self in
     let batch = c.args.batch.now.items in
-    let none : batch ≡ [] = none_is batch c.args.batch.now.len (omega (arith, c.args.batch.now.ok.0))
+    let none : batch ≡ [] = no_arrivals batch c.args.batch.now.len (omega (arith, c.args.batch.now.ok.0))
     (sym c.is_empty.ensures ∙ c.if-is_empty.true) in
     on_ok_weaker c.add.result (λ added. λ changes valid arrives.
     added_at_once old.flags.now old.links now.links old.keys.items now.keys.items (slots_seen old.slots.items)

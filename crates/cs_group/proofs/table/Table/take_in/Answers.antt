@@ -1,7 +1,7 @@
 use Rattle.std.proofs.Common.{◌≡◌, ◌∙◌, [], ap, arith, sym}
 use Rattle.std.proofs.lemmas.Result.{on_ok_weaker}
 use Rattle.cs_group.specs.Table.{key_place, met_at, slots_seen}
-use Rattle.cs_group.proofs.Arriving.{added_at_once, none_is}
+use Rattle.cs_group.proofs.Arriving.{added_at_once, no_arrivals}
 use Rattle.cs_group.proofs.table.Table.take_in.Goals as goal
 
 pub returns-in-Some-clause-ok : goal.returns-in-Some-clause-ok
@@ -10,7 +10,7 @@ returns-in-Some-clause-ok c =
     let now = c.merge_next.new.self in
     let slots = slots_seen old.slots.items in
     let batch = c.args.batch.now.items in
-    let none : batch ≡ [] = none_is batch c.args.batch.now.len (omega (arith, c.args.batch.now.ok.0))
+    let none : batch ≡ [] = no_arrivals batch c.args.batch.now.len (omega (arith, c.args.batch.now.ok.0))
     (sym c.is_empty.ensures ∙ c.if-is_empty.true) in
     on_ok_weaker c.merge_next.result (λ merged. λ changes valid.
     added_at_once old.flags.now old.links now.links old.keys.items now.keys.items slots (slots_seen now.slots.items)
