@@ -7,8 +7,8 @@ ghost use Rattle.cs_parse.specs.Reading.{length_at};
 use std::marker::Model;
 
 /// A length of two bytes in its shortest encoding: the last one that was read. The values of a
-/// table mostly have one length. So the processor expects the same bytes again, and goes on behind
-/// the value before they have come from memory.
+/// table mostly have one length. So the processor expects the same bytes again. It goes on to the
+/// field after the value before they have come from memory.
 #[derive(Drop)]
 pub struct LastLength {
     high: u8,
