@@ -1,6 +1,6 @@
 //! One more change of a row that has one.
 
-ghost use Rattle.std.specs.Prelude.{◌≡◌, IfOk, OnOk, Some};
+ghost use Rattle.std.specs.Prelude.{◌≡◌, ℕ, IfOk, List, OnOk, Some, false, true};
 ghost use Rattle.std.specs.Option.{option_map};
 ghost use Rattle.cs_model.specs.declared.change.Change.{Change};
 ghost use Rattle.cs_model.specs.declared.change.Op.TheVariants.{Update};
@@ -45,11 +45,33 @@ fn merge_in<'a>(
     ensures { OnOk result ((there : Change) → option_map slot_seen slot.old ≡ Some there
         → option_map slot_seen slot.new ≡ two_changes flags.now there (change_seen new.now)) }
 {
+    let Some(there) = slot else {
+        return Ok(());
+    };
+    if replaced_in(there, new) {
+        return Ok(());
+    }
     let Some(there) = slot.take() else {
         return Ok(());
     };
     *slot = merged_with(alloc, flags, there, new)?;
     Ok(())
+}
+
+// Puts an UPDATE's values in place of those of UPDATEs that replaced all values of an INSERT, if it
+// gives all. Returns whether it does.
+fn replaced_in<'a>(there: &mut Slot<'a>, new: &ChangeRef<'a>) -> bool
+    ensures replaced { result ≡ true → (flags : List ℕ) → Some (slot_seen there.new)
+        ≡ two_changes flags (slot_seen there.old) (change_seen new.now) }
+    ensures same { result ≡ false → slot_seen there.new ≡ slot_seen there.old }
+{
+    if new.op != Op::Update {
+        return false;
+    }
+    match there {
+        Slot::Replaced(replaced) => replaced.replace(new),
+        _ => false,
+    }
 }
 
 // What a row's change becomes by one more change of the row.
@@ -67,7 +89,6 @@ fn merged_with<'a>(
     }
     match (there, new.op) {
         (Slot::Alone(first), Op::Update) => first_update(alloc, flags, first, new),
-        (Slot::Replaced(replaced), Op::Update) => next_update(alloc, flags, replaced, new),
         (there, _) => merged_by_fields(alloc, flags, there, new),
     }
 }
@@ -88,24 +109,6 @@ fn first_update<'a>(
         }
     }
     merged_by_fields(alloc, flags, Slot::Alone(first), new)
-}
-
-// The same where UPDATEs replaced all values of an INSERT, and one more comes after them.
-fn next_update<'a>(
-    alloc: Global,
-    flags: &[u8],
-    replaced: Box<Replaced<'a>>,
-    new: &ChangeRef<'a>,
-) -> Result<Option<Slot<'a>>, AllocError>
-    ensures { IfOk result (λ next. (change_seen new.now).op ≡ Update
-        → option_map slot_seen next
-        ≡ two_changes flags.now replaced.entry.value (change_seen new.now)) }
-{
-    let mut replaced = replaced;
-    if replaced.replace(new) {
-        return Ok(Some(Slot::Replaced(replaced)));
-    }
-    merged_by_fields(alloc, flags, Slot::Replaced(replaced), new)
 }
 
 // The same, field by field.

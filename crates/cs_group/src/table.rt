@@ -17,7 +17,7 @@ use crate::merge::only;
 use crate::next_change::merge_at;
 use crate::slot::Slot;
 use cs_model::{PackedChange, SectionRef};
-use cs_parse::first_change;
+use cs_parse::{LastLength, first_change};
 use std::alloc::{AllocError, Global};
 use std::mem;
 
@@ -376,9 +376,10 @@ impl<'s, 'a> Table<'s, 'a> {
         let columns = key_columns(self.flags);
         let mut batch = Vec::new(alloc);
         let mut rest = bytes;
+        let mut last = LastLength::new();
         // each turn takes at least one byte
         for _ in 0..bytes.len() {
-            let Some((change, after)) = first_change(self.flags, rest) else {
+            let Some((change, after)) = first_change(self.flags, rest, &mut last) else {
                 break;
             };
             self.take_in(alloc, columns, &mut batch, change)?;

@@ -23,12 +23,17 @@ pub fn first_shape(bytes: &[u8]) -> Option<(ShapeRef, &[u8])>
 }
 
 /// The change that begins here, of a table with these key flags, and the bytes after it. Returns
-/// `None` where none begins, or where it isn't in canonical form.
+/// `None` where none begins, or where it isn't in canonical form. `last` is the last length of two
+/// bytes that was read.
 #[inline(always)]
-pub fn first_change<'a>(flags: &[u8], bytes: &'a [u8]) -> Option<(PackedChange<'a>, &'a [u8])>
+pub fn first_change<'a>(
+    flags: &[u8],
+    bytes: &'a [u8],
+    last: &mut LastLength,
+) -> Option<(PackedChange<'a>, &'a [u8])>
     ensures { IfSome result (λ x. BeginsChange flags.now bytes.now x.0 x.1.now) }
 {
-    let Ok((new, rest, true)) = skip_change(flags, bytes, &mut LastLength::new()) else {
+    let Ok((new, rest, true)) = skip_change(flags, bytes, last) else {
         return None;
     };
     changes_fit();

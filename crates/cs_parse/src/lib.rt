@@ -35,5 +35,6 @@ pub use end::EndError;
 pub use fault::{FaultKind, ParseError, ParseFault};
 pub use header::{ShapeRef, shape_of};
 pub use in_place::parse_in_place;
+pub use last_length::LastLength;
 pub use pieces::PieceParser;
 pub use whole::{count_changes, parse};
