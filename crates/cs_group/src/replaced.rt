@@ -2,7 +2,7 @@
 //! record is the key of one change and the values of another, where they stand.
 
 ghost use Rattle.std.specs.Prelude.{◌≡◌, ◌+◌, ◌≤◌, ◌++◌, [], IfOk, IfSome, Some, drop, false};
-ghost use Rattle.std.specs.Prelude.{length, replicate, true};
+ghost use Rattle.std.specs.Prelude.{◌==◌, ◌&&◌, length, replicate, true};
 ghost use Rattle.std.specs.List.{list_all};
 ghost use Rattle.cs_model.specs.declared.change.Op.TheVariants.{Insert};
 ghost use Rattle.cs_model.specs.declared.value.Field.TheVariants.{Undefined};
@@ -65,7 +65,7 @@ fn undefined_first(from: &RecordRef) -> usize
 
 // whether a record has so many fields
 fn has_fields(from: &RecordRef, count: usize) -> bool
-    ensures { result ≡ true → length from.now ≡ count }
+    ensures { result ≡ (length from.now == count) }
 {
     let mut left = count;
     for _ in from.fields() {
@@ -81,6 +81,7 @@ fn has_fields(from: &RecordRef, count: usize) -> bool
 fn has_values(from: &RecordRef, count: usize) -> bool
     ensures long { result ≡ true → length from.now ≡ count }
     ensures values { result ≡ true → list_all is_defined from.now ≡ true }
+    ensures exact { result ≡ (length from.now == count && list_all is_defined from.now) }
 {
     let mut left = count;
     for field in from.fields() {

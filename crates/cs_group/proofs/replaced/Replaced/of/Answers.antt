@@ -1,4 +1,5 @@
 use Rattle.std.proofs.Common.{◌≡◌, ◌∙◌, ◌+◌, ◌++◌, ap, arith, drop, length, sym, take, length-append}
+use Rattle.std.proofs.lemmas.Bool.{eqb-true}
 use Rattle.std.proofs.lemmas.List.{length-take-le}
 use Rattle.std.specs.Prelude.{◌&&◌}
 use Rattle.cs_model.specs.Seen.{change_seen}
@@ -15,7 +16,8 @@ returns c =
     let key = c.cut-key.result.0 in
     let values = c.in_ok-keys.values in
     let gives = c.in_ok-keys.ensures in
-    let long : length there.after ≡ c.args.columns = c.has_fields.ensures c.if-not-has_fields.false in
+    let long : length there.after ≡ c.args.columns =
+    eqb-true (length there.after) c.args.columns (sym c.has_fields.ensures ∙ c.if-not-has_fields.false) in
     let has_key : length (take keys there.after) ≡ keys =
     length-take-le keys there.after (omega (arith, long, gives.long)) in
     let has_values : keys + length (drop keys there.after) ≡ c.args.columns = omega (
