@@ -161,21 +161,22 @@ static void compare_combining(enum rows rows, const char *what, enum keys keys, 
     char name[100];
     snprintf(name, sizeof name, "%s, %d times %ld changes", what, COMBINED, inputs[0].changes);
     struct measured combines = measure(ours_combines, sqlite_combines, inputs, calls);
-    print_row(keys == HOT ? "combine, the same rows" : "combine, rows apart", name,
+    static const char *const jobs[] = {"combine, the same rows", "combine, rows apart", "combine, rows in no order"};
+    print_row(jobs[keys], name,
               by_changes ? (double)all / 1e3 : bytes / 1e6, &combines);
     exit(0);
 }
 
 static void compare_all_combining(void) {
     print_job_head("MB/s");
-    for (int keys = HOT; keys <= APART; keys++) {
+    for (int keys = HOT; keys <= SCATTERED; keys++) {
         compare_combining(INTEGERS, "integer rows", (enum keys)keys, MANY, 0);
         compare_combining(TEXTS, "100-byte text rows", (enum keys)keys, MANY, 0);
         compare_combining(BLOBS, "4 KB blob rows", (enum keys)keys, MANY, 0);
     }
     printf("\n");
     print_job_head("1,000 changes/s");
-    for (int keys = HOT; keys <= APART; keys++)
+    for (int keys = HOT; keys <= SCATTERED; keys++)
         for (long changes = 1000; changes <= 1000000; changes *= 10)
             compare_combining(INTEGERS, "integer rows", (enum keys)keys, changes / COMBINED, 1);
 }
@@ -200,7 +201,7 @@ static void print_head(const char *unit) {
            unit, unit, unit);
 }
 
-/* combining once, with the rows `hot` or `apart` */
+/* combining once */
 static int combine_once(const char *who, enum keys keys, enum rows rows) {
     struct input inputs[COMBINED + 1];
     make_combined(inputs, rows, keys, MANY, COMBINED_BYTES);
@@ -209,17 +210,17 @@ static int combine_once(const char *who, enum keys keys, enum rows rows) {
     return 0;
 }
 
-/* Runs one job once, for a profiler: `ours` or `sqlite`, `read`, `build`, `write`, `invert`, `hot` or `apart`
- * (combining), and `integers`, `texts` or `blobs`. */
+/* Runs one job once, for a profiler: `ours` or `sqlite`, `read`, `build`, `write`, `invert`, `hot`, `apart` or
+ * `scattered` (combining), and `integers`, `texts` or `blobs`. */
 static int run_once(const char *who, const char *what, const char *which) {
-    const char *names[] = {"ours", "sqlite", "read",     "build", "write", "invert",
-                           "hot",  "apart",  "integers", "texts", "blobs"};
+    const char *names[] = {"ours", "sqlite", "read",      "build",    "write", "invert",
+                           "hot",  "apart",  "scattered", "integers", "texts", "blobs"};
     int known = 0;
-    for (int i = 0; i < 11; i++) known += !strcmp(i < 2 ? who : i < 8 ? what : which, names[i]);
+    for (int i = 0; i < 12; i++) known += !strcmp(i < 2 ? who : i < 9 ? what : which, names[i]);
     if (known != 3) return fprintf(stderr, "bench: no job is called `%s %s %s`\n", who, what, which), 2;
     enum rows rows = *which == 'i' ? INTEGERS : *which == 't' ? TEXTS : BLOBS;
-    if (strcmp(what, "hot") == 0 || strcmp(what, "apart") == 0)
-        return combine_once(who, strcmp(what, "hot") == 0 ? HOT : APART, rows);
+    for (int keys = HOT; keys <= SCATTERED; keys++)
+        if (strcmp(what, names[6 + keys]) == 0) return combine_once(who, (enum keys)keys, rows);
     struct input input = make_input(rows, MANY, USUAL_BYTES);
     int writes = strcmp(what, "write") == 0, builds = strcmp(what, "build") == 0, inverts = strcmp(what, "invert") == 0;
     if (strcmp(who, "ours") == 0)

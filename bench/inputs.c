@@ -101,11 +101,17 @@ static unsigned char *put_step(unsigned char *at, enum rows rows, int operation,
     return put_columns_after(at, rows, key, updates);
 }
 
-/* a text of one such change for each of these keys */
-static struct input make_steps(enum rows rows, int operation, uint64_t first, long changes, int updates, size_t limit) {
+/* the key of a row; an odd factor gives each row one of its own */
+static uint64_t key_of(enum keys keys, uint64_t row) {
+    return keys == SCATTERED ? row * 6364136223846793005u & INT64_MAX : row;
+}
+
+/* a text of one such change for each of these rows */
+static struct input make_steps(enum rows rows, enum keys keys, int operation, uint64_t first, long changes, int updates,
+                               size_t limit) {
     unsigned char *bytes = room_for(limit);
     unsigned char *at = put_header(bytes, rows);
-    for (long i = 0; i < changes; i++) at = put_step(at, rows, operation, first + (uint64_t)i, updates);
+    for (long i = 0; i < changes; i++) at = put_step(at, rows, operation, key_of(keys, first + (uint64_t)i), updates);
     return (struct input){bytes, (size_t)(at - bytes), changes};
 }
 
@@ -113,7 +119,7 @@ struct input make_inserts(enum rows rows, long changes, size_t limit) {
     unsigned char change[MOST_OF_A_CHANGE];
     size_t each = (size_t)(put_step(change, rows, INSERT, 0, 0) - change);
     long most = (long)((limit - 100) / each);
-    return make_steps(rows, INSERT, 0, changes < most ? changes : most, 0, limit);
+    return make_steps(rows, APART, INSERT, 0, changes < most ? changes : most, 0, limit);
 }
 
 void make_combined(struct input *inputs, enum rows rows, enum keys keys, long changes, size_t limit) {
@@ -122,9 +128,9 @@ void make_combined(struct input *inputs, enum rows rows, enum keys keys, long ch
     long most = (long)((limit - 100) / each);
     if (changes > most) changes = most;
     for (int i = 0; i < COMBINED; i++) {
-        if (keys == APART) inputs[i] = make_steps(rows, INSERT, (uint64_t)(i * changes), changes, 0, limit);
-        else inputs[i] = make_steps(rows, i == 0 ? INSERT : UPDATE, 0, changes, i, limit);
+        if (keys == HOT) inputs[i] = make_steps(rows, keys, i == 0 ? INSERT : UPDATE, 0, changes, i, limit);
+        else inputs[i] = make_steps(rows, keys, INSERT, (uint64_t)(i * changes), changes, 0, limit);
     }
-    if (keys == APART) inputs[COMBINED] = make_steps(rows, INSERT, 0, COMBINED * changes, 0, COMBINED * limit);
-    else inputs[COMBINED] = make_steps(rows, INSERT, 0, changes, COMBINED - 1, limit);
+    if (keys == HOT) inputs[COMBINED] = make_steps(rows, keys, INSERT, 0, changes, COMBINED - 1, limit);
+    else inputs[COMBINED] = make_steps(rows, keys, INSERT, 0, COMBINED * changes, 0, COMBINED * limit);
 }

@@ -24,8 +24,8 @@ struct input make_inserts(enum rows rows, long changes, size_t limit);
 enum { COMBINED = 16 };
 
 /* HOT: INSERTs in the first text, and then UPDATEs of all columns but the key, of the same rows in each text. APART:
- * INSERTs, of rows of its own in each text. */
-enum keys { HOT, APART };
+ * INSERTs, of rows of its own in each text; their keys ascend. SCATTERED: the same with keys in no order. */
+enum keys { HOT, APART, SCATTERED };
 
 /* Fills COMBINED + 1 inputs. Each text has at most `changes` changes, and as many as fit into `limit` bytes. */
 void make_combined(struct input *inputs, enum rows rows, enum keys keys, long changes, size_t limit);

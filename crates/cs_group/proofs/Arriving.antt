@@ -12,14 +12,14 @@ use Rattle.cs_group.specs.Table.{HoldRows, IsOfTable, Slots}
 use Rattle.cs_group.proofs.Lists.{all_of_front, all_of_back}
 
 -- the batch's first change is added
-pub one_added : (flags links links_new : List ℕ) (keys keys_new : List (List ℕ)) (slots slots_new : Slots)
+pub one_added : (flags : List ℕ) (keys keys_new : List (List ℕ)) (slots slots_new : Slots)
     (first : Arrival) (rest : List Arrival) (changes : List Change) → AllByRecursion (IsOfTable flags) changes
-    → HoldUpTo flags links keys slots (first ∷ rest) changes
+    → HoldUpTo flags keys slots (first ∷ rest) changes
     → ((done : List Change) → AllByRecursion (IsOfTable flags) done → IsOfTable flags first.change
-    → IsArrival flags first → HoldRows flags links keys slots done
-    → HoldRows flags links_new keys_new slots_new (done ++ first.change ∷ []))
-    → HoldUpTo flags links_new keys_new slots_new rest changes
-one_added flags links links_new keys keys_new slots slots_new first rest changes valid held step =
+    → IsArrival flags first → HoldRows flags keys slots done
+    → HoldRows flags keys_new slots_new (done ++ first.change ∷ []))
+    → HoldUpTo flags keys_new slots_new rest changes
+one_added flags keys keys_new slots slots_new first rest changes valid held step =
     let mine = subst (AllByRecursion (IsOfTable flags)) (sym held.whole) valid in record {
       done = held.done ++ first.change ∷ [];
       whole = append_assoc held.done (first.change ∷ []) (arrived_changes rest) ∙ held.whole;
@@ -29,19 +29,19 @@ one_added flags links links_new keys keys_new slots slots_new first rest changes
     }
 
 -- the whole batch is added
-pub all_added : (flags links : List ℕ) (keys : List (List ℕ)) (slots : Slots) (batch : List Arrival)
-    (changes : List Change) → batch ≡ [] → HoldUpTo flags links keys slots batch changes
-    → HoldRows flags links keys slots changes
-all_added flags links keys slots batch changes none held =
-    subst (HoldRows flags links keys slots)
+pub all_added : (flags : List ℕ) (keys : List (List ℕ)) (slots : Slots) (batch : List Arrival)
+    (changes : List Change) → batch ≡ [] → HoldUpTo flags keys slots batch changes
+    → HoldRows flags keys slots changes
+all_added flags keys slots batch changes none held =
+    subst (HoldRows flags keys slots)
     (sym (append-nil held.done) ∙ ap (λ b. held.done ++ arrived_changes b) (sym none) ∙ held.whole) held.holds
 
 -- one more change arrives
-pub one_arrived : (flags links : List ℕ) (keys : List (List ℕ)) (slots : Slots) (batch : List Arrival)
+pub one_arrived : (flags : List ℕ) (keys : List (List ℕ)) (slots : Slots) (batch : List Arrival)
     (arrival : Arrival) (change : Change) (changes : List Change) → IsArrival flags arrival → arrival.change ≡ change
-    → HoldUpTo flags links keys slots batch changes
-    → HoldUpTo flags links keys slots (batch ++ arrival ∷ []) (changes ++ change ∷ [])
-one_arrived flags links keys slots batch arrival change changes is same held = record {
+    → HoldUpTo flags keys slots batch changes
+    → HoldUpTo flags keys slots (batch ++ arrival ∷ []) (changes ++ change ∷ [])
+one_arrived flags keys slots batch arrival change changes is same held = record {
   done = held.done;
   whole = ap (λ w. held.done ++ w) (map-append (λ a. a.change) batch (arrival ∷ []))
       ∙ sym (append_assoc held.done (arrived_changes batch) (arrival.change ∷ []))
@@ -51,11 +51,11 @@ one_arrived flags links keys slots batch arrival change changes is same held = r
 }
 
 -- all changes are added
-pub none_waits : (flags links : List ℕ) (keys : List (List ℕ)) (slots : Slots) (batch : List Arrival)
-    (changes : List Change) → batch ≡ [] → HoldRows flags links keys slots changes
-    → HoldUpTo flags links keys slots batch changes
-none_waits flags links keys slots batch changes none holds =
-    subst (λ b. HoldUpTo flags links keys slots b changes) (sym none)
+pub none_waits : (flags : List ℕ) (keys : List (List ℕ)) (slots : Slots) (batch : List Arrival)
+    (changes : List Change) → batch ≡ [] → HoldRows flags keys slots changes
+    → HoldUpTo flags keys slots batch changes
+none_waits flags keys slots batch changes none holds =
+    subst (λ b. HoldUpTo flags keys slots b changes) (sym none)
     (record { done = changes; whole = append-nil changes; arrivals = tt; holds = holds })
 
 -- a batch is empty if its length is 0
@@ -63,14 +63,14 @@ pub no_arrivals : (batch : List Arrival) (len : ℕ) → len ≡ length batch �
 no_arrivals batch len is zero = nil_from_length batch (omega (arith, is, eqb-true len 0 zero))
 
 -- a change is added at once where no other waits
-pub added_at_once : (flags links links_new : List ℕ) (keys keys_new : List (List ℕ)) (slots slots_new : Slots)
+pub added_at_once : (flags : List ℕ) (keys keys_new : List (List ℕ)) (slots slots_new : Slots)
     (batch : List Arrival) (changes : List Change) (new : Change) → batch ≡ []
     → AllByRecursion (IsOfTable flags) (changes ++ new ∷ [])
-    → (AllByRecursion (IsOfTable flags) changes → IsOfTable flags new → HoldRows flags links keys slots changes
-    → HoldRows flags links_new keys_new slots_new (changes ++ new ∷ [])) → HoldUpTo flags links keys slots batch changes
-    → HoldUpTo flags links_new keys_new slots_new batch (changes ++ new ∷ [])
-added_at_once flags links links_new keys keys_new slots slots_new batch changes new none valid step held =
-    none_waits flags links_new keys_new slots_new batch (changes ++ new ∷ []) none
+    → (AllByRecursion (IsOfTable flags) changes → IsOfTable flags new → HoldRows flags keys slots changes
+    → HoldRows flags keys_new slots_new (changes ++ new ∷ [])) → HoldUpTo flags keys slots batch changes
+    → HoldUpTo flags keys_new slots_new batch (changes ++ new ∷ [])
+added_at_once flags keys keys_new slots slots_new batch changes new none valid step held =
+    none_waits flags keys_new slots_new batch (changes ++ new ∷ []) none
     (step (all_of_front (IsOfTable flags) changes (new ∷ []) valid)
     (all_of_back (IsOfTable flags) changes (new ∷ []) valid).0
-    (all_added flags links keys slots batch changes none held))
+    (all_added flags keys slots batch changes none held))

@@ -3,7 +3,7 @@ use Rattle.std.proofs.Common.{◌≡◌, ◌∙◌, ℕ, zero, suc, Bool, true, 
 use Rattle.std.proofs.Common.{Option, Some, None, slice_get, refl, ap, sym, subst, arith, length-append}
 use Rattle.std.proofs.Common.{◌⊎◌, inl, inr}
 use Rattle.std.proofs.Math.Nat.{suc-ne-zero}
-use Rattle.std.proofs.lemmas.List.{append-nil, map-append}
+use Rattle.std.proofs.lemmas.List.{append-nil}
 use Rattle.std.proofs.lemmas.Option.{none-some}
 use Rattle.std.specs.Cmp.Lexicographic.{same_text, nat_list_eq_equiv}
 use Rattle.std.specs.List.{flat_map}
@@ -13,8 +13,8 @@ use Rattle.cs_model.specs.declared.value.Field.{Field}
 use Rattle.cs_model.specs.Schema.{same_bytes}
 use Rattle.cs_group.specs.Group.{changed_row, left_of, begun_by, combined}
 use Rattle.cs_group.specs.Merge.{only_change, two_changes}
-use Rattle.cs_group.specs.Key.{key_hash}
-use Rattle.cs_group.specs.Table.{Slots, slot_changes, put_at, there_at, met_at, met_by, key_place, HoldSlots, HoldRows}
+use Rattle.cs_group.specs.Keys.{key_place}
+use Rattle.cs_group.specs.Table.{Slots, slot_changes, put_at, there_at, met_at, met_by, HoldSlots, HoldRows}
 use Rattle.cs_group.proofs.LastLaws.{last_more}
 use Rattle.cs_group.proofs.Merging.{IsValidChange, IsValidOfRow, key_in, alone_is, merged_is}
 use Rattle.cs_group.proofs.Slots.{Holding, held_more, held_same, held_put, slot_of, held_of, there_is, nothing_there}
@@ -258,40 +258,35 @@ module _ (flags : List ℕ) (at : List ℕ → Option ℕ) (slots : Slots) (chan
 -- ---- every step
 
 -- the rows once a change of a row is merged with another
-pub rows_met : (flags links : List ℕ) (keys : List (List ℕ)) (slots after : Slots) (changes : List Change)
+pub rows_met : (flags : List ℕ) (keys : List (List ℕ)) (slots after : Slots) (changes : List Change)
     (new : Change) (place : ℕ) (there : Change) → AreValidChanges flags changes → IsValidChange flags new
-    → HoldRows flags links keys slots changes → key_place keys (changed_row flags new) ≡ Some place
+    → HoldRows flags keys slots changes → key_place keys (changed_row flags new) ≡ Some place
     → there_at slots place ≡ Some there → after ≡ put_at place (two_changes flags there new) slots
-    → HoldRows flags links keys after (changes ++ new ∷ [])
-rows_met flags links keys slots after changes new place there valid fits rows is_at is turns =
-    subst (λ s. HoldRows flags links keys s (changes ++ new ∷ [])) (sym turns) (record {
-      hashes = rows.hashes;
+    → HoldRows flags keys after (changes ++ new ∷ [])
+rows_met flags keys slots after changes new place there valid fits rows is_at is turns =
+    subst (λ s. HoldRows flags keys s (changes ++ new ∷ [])) (sym turns) (record {
       sized = rows.sized ∙ sym (length_put slots place (two_changes flags there new));
       holds = met flags (key_place keys) slots changes new valid fits rows.holds place there
           (there_is slots place there is) is_at;
     })
 
 -- the rows after a change that comes to nothing
-pub rows_idle : (flags links : List ℕ) (keys : List (List ℕ)) (slots : Slots) (changes : List Change) (new : Change)
-    → AreValidChanges flags changes → IsValidChange flags new → HoldRows flags links keys slots changes
+pub rows_idle : (flags : List ℕ) (keys : List (List ℕ)) (slots : Slots) (changes : List Change) (new : Change)
+    → AreValidChanges flags changes → IsValidChange flags new → HoldRows flags keys slots changes
     → met_at slots (key_place keys (changed_row flags new)) ≡ None → only_change flags new ≡ None
-    → HoldRows flags links keys slots (changes ++ new ∷ [])
-rows_idle flags links keys slots changes new valid fits rows none nothing = record {
-  hashes = rows.hashes;
+    → HoldRows flags keys slots (changes ++ new ∷ [])
+rows_idle flags keys slots changes new valid fits rows none nothing = record {
   sized = rows.sized;
   holds = idle flags (key_place keys) slots changes new valid fits rows.holds none nothing;
 }
 
 -- the rows with one more
-pub rows_begun : (flags links : List ℕ) (keys : List (List ℕ)) (slots : Slots) (changes : List Change)
+pub rows_begun : (flags : List ℕ) (keys : List (List ℕ)) (slots : Slots) (changes : List Change)
     (new first : Change) → AreValidChanges flags changes → IsValidChange flags new
-    → HoldRows flags links keys slots changes → met_at slots (key_place keys (changed_row flags new)) ≡ None
+    → HoldRows flags keys slots changes → met_at slots (key_place keys (changed_row flags new)) ≡ None
     → only_change flags new ≡ Some first
-    → HoldRows flags (links ++ key_hash (changed_row flags new) ∷ []) (keys ++ changed_row flags new ∷ [])
-    (slots ++ Some first ∷ []) (changes ++ new ∷ [])
-rows_begun flags links keys slots changes new first valid fits rows none only = record {
-  hashes = ap (λ ls. ls ++ key_hash (changed_row flags new) ∷ []) rows.hashes
-      ∙ sym (map-append key_hash keys (changed_row flags new ∷ []));
+    → HoldRows flags (keys ++ changed_row flags new ∷ []) (slots ++ Some first ∷ []) (changes ++ new ∷ [])
+rows_begun flags keys slots changes new first valid fits rows none only = record {
   sized = omega (
     arith,
     rows.sized,

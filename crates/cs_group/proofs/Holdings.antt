@@ -80,7 +80,7 @@ held_new (e ∷ es) (g ∷ gs) s new holds none is =
 -- the rows of a table after one more section
 pub table_more : (key : Shape) (s : Section) (old new : Table) (g : Group) → HoldTable (key, old) g
     → new.flags.now ≡ old.flags.now → AllByRecursion (IsOfTable old.flags.now) s.changes
-    → HoldRows old.flags.now new.links new.keys.items (slots_seen new.slots.items) (all_changes g.1 ++ s.changes)
+    → HoldRows old.flags.now new.keys (slots_seen new.slots.items) (all_changes g.1 ++ s.changes)
     → HoldTable (key, new) (g.0, g.1 ++ s ∷ [])
 table_more key s old new g holds same valid rows =
     let all : all_changes (g.1 ++ s ∷ []) ≡ all_changes g.1 ++ s.changes =
@@ -91,15 +91,15 @@ table_more key s old new g holds same valid rows =
       valid = subst (AllByRecursion (IsOfTable g.0.flags)) (sym all)
           (all_append (IsOfTable g.0.flags) (all_changes g.1) s.changes holds.valid
           (subst (λ f. AllByRecursion (IsOfTable f) s.changes) holds.flags valid));
-      holds = subst (HoldRows g.0.flags new.links new.keys.items (slots_seen new.slots.items)) (sym all)
-          (subst (λ f. HoldRows f new.links new.keys.items (slots_seen new.slots.items) (all_changes g.1 ++ s.changes))
+      holds = subst (HoldRows g.0.flags new.keys (slots_seen new.slots.items)) (sym all)
+          (subst (λ f. HoldRows f new.keys (slots_seen new.slots.items) (all_changes g.1 ++ s.changes))
           holds.flags rows);
     }
 
 -- the rows of a new table with its first section
 pub table_new : (s : Section) (new : Table) → new.flags.now ≡ s.shape.flags
     → AllByRecursion (IsOfTable s.shape.flags) s.changes
-    → HoldRows s.shape.flags new.links new.keys.items (slots_seen new.slots.items) s.changes
+    → HoldRows s.shape.flags new.keys (slots_seen new.slots.items) s.changes
     → HoldTable (s.shape, new) (s.shape, s ∷ [])
 table_new s new same valid rows =
     let all : all_changes (s ∷ []) ≡ s.changes = append-nil s.changes in
@@ -107,7 +107,7 @@ table_new s new same valid rows =
       shape = refl;
       flags = same;
       valid = subst (AllByRecursion (IsOfTable s.shape.flags)) (sym all) valid;
-      holds = subst (HoldRows s.shape.flags new.links new.keys.items (slots_seen new.slots.items)) (sym all) rows;
+      holds = subst (HoldRows s.shape.flags new.keys (slots_seen new.slots.items)) (sym all) rows;
     }
 
 pub tables_more : (es new : List (Shape × Table)) (sections : List Section) (s : Section) → HoldTables es sections

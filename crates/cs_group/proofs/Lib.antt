@@ -31,3 +31,5 @@ pub mod Arriving
 pub mod Holdings
 pub mod Expecting
 pub mod Names
+pub mod Beginning
+pub mod KeyLaws

@@ -8,7 +8,7 @@ use Rattle.std.specs.Prelude.{IfSome}
 use Rattle.cs_model.specs.Schema.{same_bytes}
 use Rattle.cs_group.specs.Key.{key_hash}
 use Rattle.cs_group.specs.Last.{hash_place, place_of_last, place_or}
-use Rattle.cs_group.specs.Table.{key_place}
+use Rattle.cs_group.specs.Keys.{key_place}
 use Rattle.cs_group.proofs.LastLaws.{Narrows, last_of_failing, last_of_none, last_of_passing, last_passes, last_within}
 
 -- ---- lists

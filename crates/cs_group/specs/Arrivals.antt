@@ -18,18 +18,18 @@ abbrev pub arrived_changes : List Arrival → List Change
 arrived_changes batch = map (λ arrival. arrival.change) batch
 
 -- The slots hold what the first ones of these changes come to, and the batch has the others.
-pub record HoldUpTo (flags links : List ℕ) (keys : List (List ℕ)) (slots : Slots)
+pub record HoldUpTo (flags : List ℕ) (keys : List (List ℕ)) (slots : Slots)
     (batch : List Arrival) (changes : List Change) : Type 0 where
   pub done : List Change
   pub whole : done ++ arrived_changes batch ≡ changes
   pub arrivals : AllByRecursion (IsArrival flags) batch
-  pub holds : HoldRows flags links keys slots done
+  pub holds : HoldRows flags keys slots done
 
 -- The bytes begin with changes of the table, in canonical form, and then come the others. The slots
 -- hold what the changes before these and these come to.
-pub record HoldFront (flags links : List ℕ) (keys : List (List ℕ)) (slots : Slots)
+pub record HoldFront (flags : List ℕ) (keys : List (List ℕ)) (slots : Slots)
     (before : List Change) (bytes rest : List ℕ) : Type 0 where
   pub changes : List Change
   pub parts : bytes ≡ changes_bytes changes ++ rest
   pub valid : AllByRecursion (IsOfTable flags) changes
-  pub holds : HoldRows flags links keys slots (before ++ changes)
+  pub holds : HoldRows flags keys slots (before ++ changes)

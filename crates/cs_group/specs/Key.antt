@@ -1,6 +1,8 @@
 -- Where the key of a row stands in a record.
 use Rattle.std.specs.Hash.FoldHasher.{initial, write, finish}
-use Rattle.std.specs.Prelude.{◌≡◌, ℕ, ◌/◌, ◌^◌, List, take, drop, Option, Some, None}
+use Rattle.std.specs.Int.{w64, from_be_bytes}
+use Rattle.std.specs.Prelude.{◌≡◌, ℕ, ◌/◌, ◌^◌, ◌-◌, List, take, drop, length, Option, Some, None}
+use Rattle.std.specs.Prelude.{if◌then◌else◌, nat_lt}
 use Rattle.cs_model.specs.declared.value.Field.{Field}
 use Rattle.cs_model.specs.KeyBytes.{key_fields}
 use Rattle.cs_group.specs.declared.key.KeyBytes.{KeyBytes}
@@ -25,3 +27,7 @@ bytes_of_key (Copied bytes) = bytes.value
 -- the hash of a key
 unfoldable pub key_hash : List ℕ → ℕ
 key_hash key = (finish (write initial key)) / 2 ^ 32
+
+-- the number in a key's last eight bytes, 0 if it has fewer
+unfoldable pub key_number : List ℕ → ℕ
+key_number key = if nat_lt (length key) 8 then 0 else from_be_bytes w64 (drop (length key - 8) key)

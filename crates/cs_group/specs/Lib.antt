@@ -11,3 +11,4 @@ pub mod Last
 pub mod Chains
 pub mod Arrivals
 pub mod Texts
+pub mod Keys

@@ -5,11 +5,9 @@ use Rattle.std.specs.Prelude.{Option, Some, None, option_map}
 use Rattle.cs_model.specs.declared.change.Change.{Change}
 use Rattle.cs_model.specs.Changeset.{AreRecords}
 use Rattle.cs_model.specs.PackedChanges.{Long}
-use Rattle.cs_model.specs.Schema.{same_bytes}
 use Rattle.cs_group.specs.declared.slot.Slot.{Slot}
 use Rattle.cs_group.specs.Group.{changed_row, combined}
-use Rattle.cs_group.specs.Key.{key_hash}
-use Rattle.cs_group.specs.Last.{place_of_last}
+use Rattle.cs_group.specs.Keys.{key_place}
 use Rattle.cs_group.specs.Slots.{slot_seen}
 
 -- slots, each with a change or none
@@ -52,10 +50,6 @@ abbrev pub met_at : Slots → Option ℕ → Option ℕ
 met_at slots None = None
 met_at slots (Some place) = met_by (there_at slots place) place
 
--- the last place of a key
-abbrev pub key_place : List (List ℕ) → List ℕ → Option ℕ
-key_place keys row = place_of_last (λ key. same_bytes key row) keys
-
 -- a change of a table with these key flags, and one whose records have as many fields
 abbrev pub IsOfTable : List ℕ → Change → Type 0
 IsOfTable flags change = AreRecords flags change.op change.before change.after
@@ -75,10 +69,8 @@ pub record HoldSlots (flags : List ℕ) (at : List ℕ → Option ℕ) (slots : 
   pub valid : (place : ℕ) (change : Change) → slice_get slots place ≡ Some (Some change)
       → IsOfTable flags change
 
--- The slots hold what these changes come to, each key has its slot's place, and the links are the
--- hashes of the keys.
-pub record HoldRows (flags links : List ℕ) (keys : List (List ℕ)) (slots : Slots)
+-- The slots hold what these changes come to, and each key has its slot's place.
+pub record HoldRows (flags : List ℕ) (keys : List (List ℕ)) (slots : Slots)
     (changes : List Change) : Type 0 where
-  pub hashes : links ≡ map key_hash keys
   pub sized : length keys ≡ length slots
   pub holds : HoldSlots flags (key_place keys) slots changes

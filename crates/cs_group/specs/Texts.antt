@@ -50,7 +50,7 @@ pub record HoldTable (entry : Shape × Table) (group : Group) : Type 0 where
   pub shape : entry.0 ≡ group.0
   pub flags : entry.1.flags.now ≡ group.0.flags
   pub valid : AllByRecursion (IsOfTable group.0.flags) (all_changes group.1)
-  pub holds : HoldRows group.0.flags entry.1.links entry.1.keys.items
+  pub holds : HoldRows group.0.flags entry.1.keys
       (slots_seen entry.1.slots.items) (all_changes group.1)
 
 abbrev pub HoldGroups : List (Shape × Table) → List Group → Type 0

@@ -8,7 +8,7 @@ ghost use Rattle.cs_model.specs.KeyBytes.{key_fields};
 ghost use Rattle.cs_model.specs.Schema.{same_bytes};
 ghost use Rattle.cs_model.specs.Seen.{change_seen};
 ghost use Rattle.cs_group.specs.Group.{changed_row};
-ghost use Rattle.cs_group.specs.Key.{IsKeyAt, KeyStands, bytes_of_key, key_hash};
+ghost use Rattle.cs_group.specs.Key.{IsKeyAt, KeyStands, bytes_of_key, key_hash, key_number};
 
 use cs_model::{ChangeRef, Octets, Op, PackedChange, key_of_row};
 use std::alloc::{AllocError, Global};
@@ -124,6 +124,22 @@ impl<'a> Key<'a> {
         let mut hasher = FoldHasher::default();
         hasher.write(self.as_slice());
         (hasher.finish() >> 32) as u32
+    }
+
+    /// The number in the last eight bytes of the key, 0 if it has fewer. The key of an INTEGER ends
+    /// with its value.
+    #[tactic(auto, unfolding(crate::specs::Key::key_number))]
+    pub(crate) fn number(&self) -> u64
+        ensures { result ≡ key_number self.now }
+    {
+        let bytes = self.as_slice();
+        if bytes.len() < 8 {
+            return 0;
+        }
+        let (_, last) = bytes.split_at(bytes.len() - 8);
+        u64::from_be_bytes([
+            last[0], last[1], last[2], last[3], last[4], last[5], last[6], last[7],
+        ])
     }
 
     // the bytes

@@ -6,6 +6,7 @@
 mod error;
 mod group;
 mod key;
+mod keys;
 mod known;
 pub mod laws;
 mod links;

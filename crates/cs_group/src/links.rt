@@ -107,6 +107,13 @@ impl Links {
         }
     }
 
+    /// How many hashes there are.
+    pub(crate) fn len(&self) -> usize
+        ensures { result ≡ length self.now }
+    {
+        self.links.len()
+    }
+
     /// The last place of a hash.
     pub(crate) fn last(&self, hash: u32) -> Option<usize>
         ensures { result ≡ hash_place hash self.now }

@@ -1,18 +1,18 @@
 //! What the changes of one table come to so far, row by row.
 
-ghost use Rattle.std.specs.Prelude.{◌≡◌, ◌++◌, ◌∷◌, [], IfOk, IfSome, List, None, OnOk, Some, map};
-ghost use Rattle.std.specs.Prelude.{false, slice_get};
+ghost use Rattle.std.specs.Prelude.{◌≡◌, ◌++◌, ◌∷◌, [], IfOk, IfSome, List, None, OnOk, Some};
 ghost use Rattle.std.specs.List.{AllByRecursion};
 ghost use Rattle.cs_model.specs.declared.change.Change.{Change};
-ghost use Rattle.cs_model.specs.Schema.{same_bytes};
 ghost use Rattle.cs_group.specs.Arrivals.{HoldFront, HoldUpTo, IsArrival};
 ghost use Rattle.cs_group.specs.Group.{changed_row};
 ghost use Rattle.cs_group.specs.Key.{KeyStands, key_hash};
+ghost use Rattle.cs_group.specs.Keys.{key_place};
 ghost use Rattle.cs_group.specs.Merge.{only_change};
-ghost use Rattle.cs_group.specs.Table.{HoldRows, IsOfTable, key_place, met_at, slots_seen};
+ghost use Rattle.cs_group.specs.Slots.{slot_seen};
+ghost use Rattle.cs_group.specs.Table.{HoldRows, IsOfTable, met_at, slots_seen};
 
 use crate::key::{Key, KeyColumns, key_columns};
-use crate::links::Links;
+use crate::keys::Keys;
 use crate::merge::only;
 use crate::next_change::merge_at;
 use crate::slot::Slot;
@@ -42,10 +42,8 @@ struct Arrival<'a> {
 pub(crate) struct Table<'s, 'a> {
     // the table's key flags
     flags: &'s [u8],
-    // the hashes of the keys
-    links: Links,
     // the key of each slot's row
-    keys: Vec<Key<'a>>,
+    keys: Keys<'a>,
     // in the order in which the rows began
     pub(crate) slots: Vec<Option<Slot<'a>>>,
     // the place after that of the last change's row
@@ -79,43 +77,14 @@ impl<'s, 'a> Table<'s, 'a> {
     /// A table with these key flags, without changes.
     pub(crate) fn new(alloc: Global, flags: &'s [u8]) -> Table<'s, 'a>
         ensures flags { result.flags.now ≡ flags.now }
-        ensures none { HoldRows flags.now result.links result.keys.items
-            (slots_seen result.slots.items) [] }
+        ensures none { HoldRows flags.now result.keys (slots_seen result.slots.items) [] }
     {
         Table {
             flags,
-            links: Links::new(alloc),
-            keys: Vec::new(alloc),
+            keys: Keys::new(alloc),
             slots: Vec::new(alloc),
             next: 0,
             to_come: 0,
-        }
-    }
-
-    // The place of the last slot of a key, whose hash this is.
-    fn find(&self, key: &Key, hash: u32) -> Option<usize>
-        ensures { self.now.links ≡ map key_hash self.now.keys.items → hash ≡ key_hash key.now
-            → result ≡ key_place self.now.keys.items key.now }
-    {
-        let mut place = self.links.last(hash);
-        while let Some(at) = place {
-            if self.has_key(at, key) {
-                return place;
-            }
-            place = self.links.before(at, hash);
-        }
-        None
-    }
-
-    // Whether the slot at a place is of the row with this key.
-    fn has_key(&self, place: usize, key: &Key) -> bool
-        ensures there { IfSome (slice_get self.now.keys.items place)
-            (λ there. result ≡ same_bytes there key.now) }
-        ensures none { slice_get self.now.keys.items place ≡ None → result ≡ false }
-    {
-        match self.keys.get(place) {
-            Some(there) => there == key,
-            None => false,
         }
     }
 
@@ -124,12 +93,12 @@ impl<'s, 'a> Table<'s, 'a> {
     // needed.
     fn expected(&self, key: &Key) -> Option<usize>
         ensures { IfSome result (λ place. (changes : List Change)
-            → HoldRows self.now.flags.now self.now.links self.now.keys.items
+            → HoldRows self.now.flags.now self.now.keys
             (slots_seen self.now.slots.items) changes
-            → met_at (slots_seen self.now.slots.items) (key_place self.now.keys.items key.now)
+            → met_at (slots_seen self.now.slots.items) (key_place self.now.keys key.now)
             ≡ Some place) }
     {
-        if !self.has_key(self.next, key) {
+        if !self.keys.has(self.next, key) {
             return None;
         }
         met(&self.slots, Some(self.next))
@@ -147,10 +116,10 @@ impl<'s, 'a> Table<'s, 'a> {
             → AllByRecursion (IsOfTable self.old.flags.now) changes
             → IsOfTable self.old.flags.now change.entry
             → met_at (slots_seen self.old.slots.items)
-            (key_place self.old.keys.items (changed_row self.old.flags.now change.entry)) ≡ Some place
-            → HoldRows self.old.flags.now self.old.links self.old.keys.items
+            (key_place self.old.keys (changed_row self.old.flags.now change.entry)) ≡ Some place
+            → HoldRows self.old.flags.now self.old.keys
             (slots_seen self.old.slots.items) changes
-            → HoldRows self.old.flags.now self.new.links self.new.keys.items
+            → HoldRows self.old.flags.now self.new.keys
             (slots_seen self.new.slots.items) (changes ++ change.entry ∷ [])) }
     {
         self.next = place.saturating_add(1);
@@ -162,27 +131,35 @@ impl<'s, 'a> Table<'s, 'a> {
         &mut self,
         alloc: Global,
         key: Key<'a>,
-        hash: u32,
         new: PackedChange<'a>,
     ) -> Result<(), AllocError>
         ensures flags { self.new.flags.now ≡ self.old.flags.now }
         ensures none { OnOk result (only_change self.old.flags.now new.entry ≡ None
             → self.new ≡ self.old) }
-        ensures links { OnOk result ((first : Change)
-            → only_change self.old.flags.now new.entry ≡ Some first
-            → self.new.links ≡ self.old.links ++ hash ∷ []) }
-        ensures keys { OnOk result ((first : Change)
-            → only_change self.old.flags.now new.entry ≡ Some first
-            → self.new.keys.items ≡ self.old.keys.items ++ key.entry ∷ []) }
-        ensures slots { OnOk result ((first : Change)
-            → only_change self.old.flags.now new.entry ≡ Some first
-            → slots_seen self.new.slots.items
-            ≡ slots_seen self.old.slots.items ++ Some first ∷ []) }
+        ensures ok { OnOk result ((changes : List Change)
+            → AllByRecursion (IsOfTable self.old.flags.now) changes
+            → IsOfTable self.old.flags.now new.entry
+            → key.entry ≡ changed_row self.old.flags.now new.entry
+            → met_at (slots_seen self.old.slots.items) (key_place self.old.keys key.entry) ≡ None
+            → HoldRows self.old.flags.now self.old.keys (slots_seen self.old.slots.items) changes
+            → HoldRows self.old.flags.now self.new.keys (slots_seen self.new.slots.items)
+            (changes ++ new.entry ∷ [])) }
     {
+        let bytes = new.bytes().len();
         let Some(first) = only(alloc, self.flags, new)? else {
             return Ok(());
         };
-        self.links.push(hash)?;
+        self.make_room(1, bytes)?;
+        self.push(key, first)
+    }
+
+    // Adds a row with this key and this change.
+    fn push(&mut self, key: Key<'a>, first: Slot<'a>) -> Result<(), AllocError>
+        ensures flags { self.new.flags.now ≡ self.old.flags.now }
+        ensures keys { OnOk result (self.new.keys ≡ self.old.keys ++ key.entry ∷ []) }
+        ensures slots { OnOk result (slots_seen self.new.slots.items
+            ≡ slots_seen self.old.slots.items ++ Some (slot_seen first.entry) ∷ []) }
+    {
         self.keys.push(key)?;
         self.slots.push(Some(first))?;
         self.next = self.slots.len();
@@ -196,69 +173,68 @@ impl<'s, 'a> Table<'s, 'a> {
             → AllByRecursion (IsOfTable self.old.flags.now) changes
             → IsOfTable self.old.flags.now new.entry.change
             → IsArrival self.old.flags.now new.entry
-            → HoldRows self.old.flags.now self.old.links self.old.keys.items
-            (slots_seen self.old.slots.items) changes
-            → HoldRows self.old.flags.now self.new.links self.new.keys.items
-            (slots_seen self.new.slots.items) (changes ++ new.entry.change ∷ [])) }
+            → HoldRows self.old.flags.now self.old.keys (slots_seen self.old.slots.items) changes
+            → HoldRows self.old.flags.now self.new.keys (slots_seen self.new.slots.items)
+            (changes ++ new.entry.change ∷ [])) }
     {
         let Arrival { key, hash, change } = new;
-        let found = self.find(&key, hash);
+        let found = self.keys.last(&key, hash)?;
         if let Some(place) = met(&self.slots, found) {
             return self.merge_next(alloc, place, change);
         }
-        self.begin(alloc, key, hash, change)
-    }
-
-    // How many rows the changes to come seem to begin, if as many of them are of new rows as of this
-    // batch.
-    fn rows_to_come(&self, batch: &[Arrival], missing: usize) -> usize {
-        let mut bytes: usize = 0;
-        for arrival in batch {
-            bytes = bytes.saturating_add(arrival.change.bytes().len());
-        }
-        self.to_come.saturating_mul(missing) / bytes.max(1)
+        self.begin(alloc, key, change)
     }
 
     // Makes room for more rows.
     fn reserve(&mut self, rows: usize) -> Result<(), AllocError>
         ensures flags { self.new.flags.now ≡ self.old.flags.now }
-        ensures links { self.new.links ≡ self.old.links }
-        ensures keys { self.new.keys.items ≡ self.old.keys.items }
+        ensures keys { self.new.keys ≡ self.old.keys }
         ensures slots { self.new.slots.items ≡ self.old.slots.items }
     {
-        self.links.reserve(rows)?;
         self.keys.reserve(rows)?;
         self.slots.reserve(rows)?;
         Ok(())
     }
 
-    // Makes room for the rows that a batch seems to begin, and at once for those to come, so that
-    // the rows are moved once and not at each doubling. To count them is to read what `add` reads
+    // Makes room for the rows that changes of so many bytes begin. If there is none, it makes room
+    // for those to come too, as if as many of them were of new rows. So the rows are moved once, and
+    // not at each doubling. Few rows are moved soon.
+    fn make_room(&mut self, rows: usize, bytes: usize) -> Result<(), AllocError>
+        ensures flags { self.new.flags.now ≡ self.old.flags.now }
+        ensures keys { self.new.keys ≡ self.old.keys }
+        ensures slots { self.new.slots.items ≡ self.old.slots.items }
+    {
+        let room = self.slots.capacity().saturating_sub(self.slots.len());
+        if self.slots.len() < FEW || room >= rows {
+            return Ok(());
+        }
+        let more = self.to_come.saturating_mul(rows) / bytes.max(1);
+        match self.reserve(more.max(rows)) {
+            Ok(()) => Ok(()),
+            // less may do
+            Err(_) => self.reserve(rows),
+        }
+    }
+
+    // Makes room for the rows that a batch seems to begin. To count them is to read what `add` reads
     // next, but for the whole batch: the processor waits for all these places in memory at once, and
     // not for one after another.
-    fn make_room(&mut self, alloc: Global, batch: &[Arrival]) -> Result<(), AllocError>
+    fn make_room_for(&mut self, alloc: Global, batch: &[Arrival]) -> Result<(), AllocError>
         ensures flags { self.new.flags.now ≡ self.old.flags.now }
-        ensures links { self.new.links ≡ self.old.links }
-        ensures keys { self.new.keys.items ≡ self.old.keys.items }
+        ensures keys { self.new.keys ≡ self.old.keys }
         ensures slots { self.new.slots.items ≡ self.old.slots.items }
     {
         if batch.len() < 2 {
             return Ok(());
         }
         let mut hashes = Vec::with_capacity(alloc, batch.len())?;
+        let mut bytes: usize = 0;
         for arrival in batch {
             hashes.push_reserved(arrival.hash);
+            bytes = bytes.saturating_add(arrival.change.bytes().len());
         }
-        let missing = self.links.count_missing(&hashes)?;
-        if self.keys.capacity().saturating_sub(self.keys.len()) >= missing {
-            return Ok(());
-        }
-        let more = self.rows_to_come(batch, missing);
-        match self.reserve(more.max(missing)) {
-            Ok(()) => Ok(()),
-            // less may do
-            Err(_) => self.reserve(missing),
-        }
+        let missing = self.keys.count_missing(&hashes)?;
+        self.make_room(missing, bytes)
     }
 
     // Adds the changes of a batch.
@@ -266,12 +242,12 @@ impl<'s, 'a> Table<'s, 'a> {
         ensures flags { self.new.flags.now ≡ self.old.flags.now }
         ensures ok { OnOk result ((changes : List Change)
             → AllByRecursion (IsOfTable self.old.flags.now) changes
-            → HoldUpTo self.old.flags.now self.old.links self.old.keys.items
+            → HoldUpTo self.old.flags.now self.old.keys
             (slots_seen self.old.slots.items) batch.entry.items changes
-            → HoldRows self.old.flags.now self.new.links self.new.keys.items
+            → HoldRows self.old.flags.now self.new.keys
             (slots_seen self.new.slots.items) changes) }
     {
-        self.make_room(alloc, &batch)?;
+        self.make_room_for(alloc, &batch)?;
         for arrival in batch {
             self.add(alloc, arrival)?;
         }
@@ -290,9 +266,9 @@ impl<'s, 'a> Table<'s, 'a> {
         ensures ok { OnOk result ((changes : List Change)
             → AllByRecursion (IsOfTable self.old.flags.now) (changes ++ new.entry.change ∷ [])
             → IsArrival self.old.flags.now new.entry
-            → HoldUpTo self.old.flags.now self.old.links self.old.keys.items
+            → HoldUpTo self.old.flags.now self.old.keys
             (slots_seen self.old.slots.items) batch.old.items changes
-            → HoldUpTo self.old.flags.now self.new.links self.new.keys.items
+            → HoldUpTo self.old.flags.now self.new.keys
             (slots_seen self.new.slots.items) batch.new.items (changes ++ new.entry.change ∷ [])) }
     {
         if batch.is_empty() && self.keys.len() < FEW {
@@ -319,15 +295,18 @@ impl<'s, 'a> Table<'s, 'a> {
         ensures flags { self.new.flags.now ≡ self.old.flags.now }
         ensures ok { OnOk result ((changes : List Change)
             → AllByRecursion (IsOfTable self.old.flags.now) (changes ++ change.entry ∷ [])
-            → HoldUpTo self.old.flags.now self.old.links self.old.keys.items
+            → HoldUpTo self.old.flags.now self.old.keys
             (slots_seen self.old.slots.items) batch.old.items changes
-            → HoldUpTo self.old.flags.now self.new.links self.new.keys.items
+            → HoldUpTo self.old.flags.now self.new.keys
             (slots_seen self.new.slots.items) batch.new.items (changes ++ change.entry ∷ [])) }
     {
         let key = Key::of(alloc, self.flags, columns, &change)?;
         if batch.is_empty() {
             if let Some(place) = self.expected(&key) {
                 return self.merge_next(alloc, place, change);
+            }
+            if self.keys.are_less(&key) {
+                return self.begin(alloc, key, change);
             }
         }
         self.add_soon(alloc, batch, arrival_of(key, change))
@@ -343,9 +322,9 @@ impl<'s, 'a> Table<'s, 'a> {
         ensures ok { OnOk result ((before : List Change)
             → AllByRecursion (IsOfTable self.old.flags.now) before
             → AllByRecursion (IsOfTable self.old.flags.now) section.now.changes
-            → HoldRows self.old.flags.now self.old.links self.old.keys.items
+            → HoldRows self.old.flags.now self.old.keys
             (slots_seen self.old.slots.items) before
-            → HoldRows self.old.flags.now self.new.links self.new.keys.items
+            → HoldRows self.old.flags.now self.new.keys
             (slots_seen self.new.slots.items) (before ++ section.now.changes)) }
     {
         let columns = key_columns(self.flags);
@@ -367,9 +346,9 @@ impl<'s, 'a> Table<'s, 'a> {
         ensures flags { self.new.flags.now ≡ self.old.flags.now }
         ensures ok { IfOk result (λ rest. (before : List Change)
             → AllByRecursion (IsOfTable self.old.flags.now) before
-            → HoldRows self.old.flags.now self.old.links self.old.keys.items
+            → HoldRows self.old.flags.now self.old.keys
             (slots_seen self.old.slots.items) before
-            → HoldFront self.old.flags.now self.new.links self.new.keys.items
+            → HoldFront self.old.flags.now self.new.keys
             (slots_seen self.new.slots.items) before bytes.now rest.now) }
     {
         self.to_come = bytes.len().saturating_add(later);

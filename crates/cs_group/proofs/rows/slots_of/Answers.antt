@@ -31,12 +31,12 @@ loop-section-preserved c =
     (all_changes (drop (i + 1) all)) (subst (AllByRecursion (IsOfTable flags)) whole c.requires)) in
     let step = subst (λ (f : List ℕ). (first : List Change) → AllByRecursion (IsOfTable f) first
     → AllByRecursion (IsOfTable f) section.changes
-    → HoldRows f now.links now.keys.items (slots_seen now.slots.items) first
-    → HoldRows f later.links later.keys.items (slots_seen later.slots.items) (first ++ section.changes))
+    → HoldRows f now.keys (slots_seen now.slots.items) first
+    → HoldRows f later.keys (slots_seen later.slots.items) (first ++ section.changes))
     same c.in_ok-add_all.ensures.ok in
     record {
       flags = c.in_ok-add_all.ensures.flags ∙ same;
-      holds = subst (HoldRows flags later.links later.keys.items (slots_seen later.slots.items)) (sym more)
+      holds = subst (HoldRows flags later.keys (slots_seen later.slots.items)) (sym more)
           (step before (all_of_front (IsOfTable flags) before section.changes mine)
           (all_of_back (IsOfTable flags) before section.changes mine)
           c.loop-section.invariant.holds);

@@ -7,6 +7,6 @@ use Rattle.cs_group.proofs.rows.slots_of.Given as goal
 abbrev pub invariant-loop-section : goal.invariant-loop-section
 invariant-loop-section l = record {
   flags : l.table.flags.now ≡ l.fn.shape.flags;
-  holds : HoldRows l.fn.shape.flags l.table.links l.table.keys.items (slots_seen l.table.slots.items)
+  holds : HoldRows l.fn.shape.flags l.table.keys (slots_seen l.table.slots.items)
       (all_changes (take l.section-index l.sections));
 }

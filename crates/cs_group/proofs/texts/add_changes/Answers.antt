@@ -35,7 +35,7 @@ returns-in-Some c = λ sections shape holds.
     let flags = group.2.flags in
     let front = c.in_ok-rest.ensures.ok (all_changes group.0.1)
     (subst (λ f. AllByRecursion (IsOfTable f) (all_changes group.0.1)) (sym flags) group.2.valid)
-    (subst (λ f. HoldRows f old.links old.keys.items (slots_seen old.slots.items) (all_changes group.0.1)) (sym flags)
+    (subst (λ f. HoldRows f old.keys (slots_seen old.slots.items) (all_changes group.0.1)) (sym flags)
     group.2.holds) in
     let s : Section = record { shape = own; changes = front.changes } in
     let own_flags : old.flags.now ≡ own.flags =
@@ -58,7 +58,7 @@ returns c = λ sections shape holds.
     let new = c.add_front-2.new.self in
     let flags : begun.flags.now ≡ own.flags = c.new-table.ensures.flags in
     let front = c.in_ok-rest-2.ensures.ok [] tt
-    (subst (λ f. HoldRows f begun.links begun.keys.items (slots_seen begun.slots.items) []) (sym flags)
+    (subst (λ f. HoldRows f begun.keys (slots_seen begun.slots.items) []) (sym flags)
     c.new-table.ensures.none) in
     let s : Section = record { shape = own; changes = front.changes } in
     let none : lookup (same_shape own) m.entries ≡ None =
@@ -77,6 +77,6 @@ returns c = λ sections shape holds.
           (held_new m.entries (by_shape [] sections) s new holds.groups none
           (table_new s new (c.in_ok-rest-2.ensures.flags ∙ flags)
           (subst (λ f. AllByRecursion (IsOfTable f) front.changes) flags front.valid)
-          (subst (λ f. HoldRows f new.links new.keys.items (slots_seen new.slots.items) front.changes) flags
+          (subst (λ f. HoldRows f new.keys (slots_seen new.slots.items) front.changes) flags
           front.holds))));
     }

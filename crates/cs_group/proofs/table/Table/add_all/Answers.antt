@@ -19,8 +19,8 @@ loop-change-preserved c =
     let change = c.in-Some.change in
     let same = c.loop-change.invariant.flags in
     let step = subst (λ (f : List ℕ). (changes : List Change) → AllByRecursion (IsOfTable f) (changes ++ change ∷ [])
-    → HoldUpTo f now.links now.keys.items (slots_seen now.slots.items) batch changes
-    → HoldUpTo f later.links later.keys.items (slots_seen later.slots.items) fuller (changes ++ change ∷ []))
+    → HoldUpTo f now.keys (slots_seen now.slots.items) batch changes
+    → HoldUpTo f later.keys (slots_seen later.slots.items) fuller (changes ++ change ∷ []))
     same c.in_ok-take_in.ensures.ok in
     record {
       flags = c.in_ok-take_in.ensures.flags ∙ same;
@@ -35,7 +35,7 @@ loop-change-preserved c =
           let moved = append_assoc before so_far.0 (change ∷ []) in (
             done,
             whole,
-            subst (HoldUpTo flags later.links later.keys.items (slots_seen later.slots.items) fuller) moved
+            subst (HoldUpTo flags later.keys (slots_seen later.slots.items) fuller) moved
                 (step (before ++ so_far.0) (subst (AllByRecursion (IsOfTable flags)) (sym moved)
                 (all_append (IsOfTable flags) before done valid mine)) so_far.2),
           );
@@ -49,13 +49,13 @@ returns-clause-ok c =
     let batch = c.loop-change.batch.items in
     on_ok_weaker c.add_batch.result (λ added. λ before valid fits holds.
     let step = subst (λ (f : List ℕ). (changes : List Change) → AllByRecursion (IsOfTable f) changes
-    → HoldUpTo f now.links now.keys.items (slots_seen now.slots.items) batch changes
-    → HoldRows f later.links later.keys.items (slots_seen later.slots.items) changes)
+    → HoldUpTo f now.keys (slots_seen now.slots.items) batch changes
+    → HoldRows f later.keys (slots_seen later.slots.items) changes)
     c.loop-change.invariant.flags added in
     let so_far = c.loop-change.invariant.holds before valid fits holds in
     let all : so_far.0 ≡ c.args.section.now.changes =
     sym (append-nil so_far.0) ∙ ap (λ rest. so_far.0 ++ rest) (sym c.in-None.ensures.steps.0) ∙ so_far.1 in
     step (before ++ c.args.section.now.changes)
     (all_append (IsOfTable flags) before c.args.section.now.changes valid fits)
-    (subst (λ done. HoldUpTo flags now.links now.keys.items (slots_seen now.slots.items) batch (before ++ done)) all
+    (subst (λ done. HoldUpTo flags now.keys (slots_seen now.slots.items) batch (before ++ done)) all
     so_far.2)) c.add_batch.ensures.ok

@@ -17,15 +17,15 @@ loop-arrival-preserved c =
     let same = c.loop-arrival.invariant.flags in
     let step = subst (λ (f : List ℕ). (done : List Change) → AllByRecursion (IsOfTable f) done
     → IsOfTable f first.change → IsArrival f first
-    → HoldRows f now.links now.keys.items (slots_seen now.slots.items) done
-    → HoldRows f later.links later.keys.items (slots_seen later.slots.items) (done ++ first.change ∷ []))
+    → HoldRows f now.keys (slots_seen now.slots.items) done
+    → HoldRows f later.keys (slots_seen later.slots.items) (done ++ first.change ∷ []))
     same c.in_ok-add.ensures.ok in
     record {
       flags = c.in_ok-add.ensures.flags ∙ same;
       holds = λ changes valid held.
-          one_added flags now.links later.links now.keys.items later.keys.items (slots_seen now.slots.items)
+          one_added flags now.keys later.keys (slots_seen now.slots.items)
           (slots_seen later.slots.items) first (into_iter_items c.next.new.self) changes valid
-          (subst (λ b. HoldUpTo flags now.links now.keys.items (slots_seen now.slots.items) b changes)
+          (subst (λ b. HoldUpTo flags now.keys (slots_seen now.slots.items) b changes)
           c.in-Some.ensures.steps.0 (c.loop-arrival.invariant.holds changes valid held)) step;
     }
 
@@ -34,6 +34,6 @@ returns-clause-ok c =
     let now = c.loop-arrival.self in
     let left = c.loop-arrival.arrival-iterator in
     λ changes valid held.
-    all_added c.args.self.now.flags.now now.links now.keys.items (slots_seen now.slots.items) (into_iter_items left)
+    all_added c.args.self.now.flags.now now.keys (slots_seen now.slots.items) (into_iter_items left)
     changes (nil_from_length (into_iter_items left) (omega (arith, left.rest.ok.0, c.in-None.ensures.steps.0)))
     (c.loop-arrival.invariant.holds changes valid held)

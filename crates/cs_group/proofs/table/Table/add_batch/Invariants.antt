@@ -11,8 +11,8 @@ abbrev pub invariant-loop-arrival : goal.invariant-loop-arrival
 invariant-loop-arrival l = record {
   flags : l.self.flags.now ≡ l.fn.self.flags.now;
   holds : (changes : List Change) → AllByRecursion (IsOfTable l.fn.self.flags.now) changes
-      → HoldUpTo l.fn.self.flags.now l.fn.self.links l.fn.self.keys.items (slots_seen l.fn.self.slots.items)
+      → HoldUpTo l.fn.self.flags.now l.fn.self.keys (slots_seen l.fn.self.slots.items)
       l.fn.batch.items changes
-      → HoldUpTo l.fn.self.flags.now l.self.links l.self.keys.items (slots_seen l.self.slots.items)
+      → HoldUpTo l.fn.self.flags.now l.self.keys (slots_seen l.self.slots.items)
       (into_iter_items l.arrival-iterator) changes;
 }

@@ -29,8 +29,8 @@ loop-preserved c =
     let change = c.in-Some.change in
     let same = c.loop.invariant.flags in
     let step = subst (λ (f : List ℕ). (changes : List Change) → AllByRecursion (IsOfTable f) (changes ++ change ∷ [])
-    → HoldUpTo f now.links now.keys.items (slots_seen now.slots.items) batch changes
-    → HoldUpTo f later.links later.keys.items (slots_seen later.slots.items) fuller (changes ++ change ∷ []))
+    → HoldUpTo f now.keys (slots_seen now.slots.items) batch changes
+    → HoldUpTo f later.keys (slots_seen later.slots.items) fuller (changes ++ change ∷ []))
     same c.in_ok-take_in.ensures.ok in
     let first = subst (λ (f : List ℕ). BeginsChange f c.loop.rest.now change c.in-Some.after.now) same
     c.in-Some.ensures in
@@ -44,7 +44,7 @@ loop-preserved c =
             done,
             bytes_more c.args.bytes.now c.loop.rest.now c.in-Some.after.now so_far.0 change so_far.1 first.parts,
             mine,
-            subst (HoldUpTo flags later.links later.keys.items (slots_seen later.slots.items) fuller) moved
+            subst (HoldUpTo flags later.keys (slots_seen later.slots.items) fuller) moved
                 (step (before ++ so_far.0) (subst (AllByRecursion (IsOfTable flags)) (sym moved)
                 (all_append (IsOfTable flags) before done valid mine)) so_far.3),
           );
@@ -57,8 +57,8 @@ returns-clause-ok c = λ before valid holds.
     let later = c.add_batch.new.self in
     let so_far = c.loop.invariant.holds before valid holds in
     let step = subst (λ (f : List ℕ). (changes : List Change) → AllByRecursion (IsOfTable f) changes
-    → HoldUpTo f now.links now.keys.items (slots_seen now.slots.items) c.loop.batch.items changes
-    → HoldRows f later.links later.keys.items (slots_seen later.slots.items) changes)
+    → HoldUpTo f now.keys (slots_seen now.slots.items) c.loop.batch.items changes
+    → HoldRows f later.keys (slots_seen later.slots.items) changes)
     c.loop.invariant.flags c.in_ok-add_batch.ensures.ok in
     record {
       changes = so_far.0;

@@ -11,9 +11,9 @@ abbrev pub invariant-loop : goal.invariant-loop
 invariant-loop l = record {
   flags : l.self.flags.now ≡ l.fn.self.flags.now;
   holds : (before : List Change) → AllByRecursion (IsOfTable l.fn.self.flags.now) before
-      → HoldRows l.fn.self.flags.now l.fn.self.links l.fn.self.keys.items (slots_seen l.fn.self.slots.items) before
+      → HoldRows l.fn.self.flags.now l.fn.self.keys (slots_seen l.fn.self.slots.items) before
       → (done : List Change) × (l.bytes ≡ changes_bytes done ++ l.rest)
       × AllByRecursion (IsOfTable l.fn.self.flags.now) done
-      × HoldUpTo l.fn.self.flags.now l.self.links l.self.keys.items (slots_seen l.self.slots.items) l.batch.items
+      × HoldUpTo l.fn.self.flags.now l.self.keys (slots_seen l.self.slots.items) l.batch.items
       (before ++ done);
 }

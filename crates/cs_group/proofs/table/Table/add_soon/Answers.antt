@@ -13,7 +13,7 @@ returns-then-len-lt-FEW-clause-ok c =
     let none : batch ≡ [] = no_arrivals batch c.args.batch.now.len (omega (arith, c.args.batch.now.ok.0))
     (sym c.is_empty.ensures ∙ c.if-is_empty.true) in
     on_ok_weaker c.add.result (λ added. λ changes valid arrives.
-    added_at_once old.flags.now old.links now.links old.keys.items now.keys.items (slots_seen old.slots.items)
+    added_at_once old.flags.now old.keys now.keys (slots_seen old.slots.items)
     (slots_seen now.slots.items) batch changes c.args.new.change none valid
     (λ before of_table. added changes before of_table arrives))
     c.add.ensures.ok
@@ -29,10 +29,10 @@ returns-clause-ok c =
     let empty : c.replace-full.new.dest.items ≡ [] =
     ap (λ v. v.items) c.replace-full.ensures.after ∙ c.in_ok-with_capacity.ensures.items in
     on_ok_weaker c.add_batch.result (λ added. λ changes valid arrives holds.
-    none_waits flags later.links later.keys.items (slots_seen later.slots.items) c.replace-full.new.dest.items
+    none_waits flags later.keys (slots_seen later.slots.items) c.replace-full.new.dest.items
     (changes ++ new ∷ []) empty
     (added (changes ++ new ∷ []) valid
-    (subst (λ b. HoldUpTo flags old.links old.keys.items (slots_seen old.slots.items) b (changes ++ new ∷ [])) (sym full)
-    (one_arrived flags old.links old.keys.items (slots_seen old.slots.items) c.args.batch.now.items
+    (subst (λ b. HoldUpTo flags old.keys (slots_seen old.slots.items) b (changes ++ new ∷ [])) (sym full)
+    (one_arrived flags old.keys (slots_seen old.slots.items) c.args.batch.now.items
     c.args.new new changes arrives refl holds))))
     c.add_batch.ensures.ok

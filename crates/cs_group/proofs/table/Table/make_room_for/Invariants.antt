@@ -1,6 +1,6 @@
 use Rattle.std.proofs.Common.{◌≡◌, length}
 use Rattle.std.specs.Vec.{vec_capacity, vec_len}
-use Rattle.cs_group.proofs.table.Table.make_room.Given as goal
+use Rattle.cs_group.proofs.table.Table.make_room_for.Given as goal
 
 -- there is room for the hashes that are left
 abbrev pub invariant-loop-arrival : goal.invariant-loop-arrival
