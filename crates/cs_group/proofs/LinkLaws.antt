@@ -1,7 +1,9 @@
 -- Chains of links: a search along one, and one more link.
 use Rattle.std.proofs.Common.{◌≡◌, ◌∙◌, ℕ, zero, suc, ◌+◌, ◌-◌, ◌<◌, ◌≤◌, Bool, true, false, cond, eqb, arith}
 use Rattle.std.proofs.Common.{List, [], ◌∷◌, ◌++◌, length, length-append, take, slice_get, slice_index}
-use Rattle.std.proofs.Common.{slice_index_or, Option, Some, None, refl, ap, sym, add-one}
+use Rattle.std.proofs.Common.{slice_index_or, Option, Some, None, refl, ap, sym, subst, add-one}
+use Rattle.std.proofs.Common.{◌⊎◌, inl, inr}
+use Rattle.std.specs.Prelude.{◌||◌, ◌&&◌, not}
 use Rattle.std.proofs.Math.ListN.{set, length-set}
 use Rattle.std.proofs.Math.Nat.{suc-ne-zero}
 use Rattle.std.proofs.lemmas.List.{take-take, length-take, get_or-set_same, get_or-set_other, take-append-le}
@@ -356,3 +358,32 @@ chains_more lasts links new chains room is = record {
 
     more : length (links ++ new ∷ []) ≡ suc (length links)
     more = omega (arith, length-append links (new ∷ []))
+
+-- ---- a chain of one place
+
+short_parts : (none differs last : Bool) → (none || (differs && last)) ≡ true
+    → (none ≡ true) ⊎ ((differs ≡ true) × (last ≡ true))
+short_parts true differs last e = inl refl
+short_parts false true true e = inr (refl, refl)
+short_parts false true false e = inl e
+short_parts false false last e = inl e
+
+-- a chain without a place, or with one place that has another hash
+pub short_without : (hash from : ℕ) (links : List Link) (link : Link) → slice_get links (from - 1) ≡ Some link
+    → (eqb from 0 || (not (eqb link.hash hash) && eqb link.before 0)) ≡ true → BeginsChain hash from links
+    → None ≡ hash_place hash (take from (hashes_of links))
+short_without hash zero links link at short leads = refl
+short_without hash (suc place) links link at short leads =
+    elim (short_parts (eqb (suc place) 0) (not (eqb link.hash hash)) (eqb link.before 0) short) [
+      | inl none ↦ absurd (suc-ne-zero place (eqb-true (suc place) 0 none))
+      | inr one ↦
+          let less : suc place - 1 ≡ place = omega arith in
+          let here = subst (λ n. slice_get links n ≡ Some link) less at in
+          let on = chain_goes_on hash (suc place) place links link leads refl here in
+          sym (chain_past hash (suc place) place links link refl here (eqb-false link.hash hash (is_false (eqb link.hash hash) one.0)) ∙ sym on.2
+          ∙ ap (λ k. hash_place hash (take k (hashes_of links))) (eqb-true link.before 0 one.1))
+    ]
+  where
+    is_false : (b : Bool) → not b ≡ true → b ≡ false
+    is_false false e = refl
+    is_false true e = sym e

@@ -5,13 +5,11 @@ use Rattle.cs_model.specs.declared.change.Change.{Change}
 use Rattle.cs_model.specs.PackedChanges.{changes_bytes}
 use Rattle.cs_group.specs.declared.table.Arrival.{Arrival}
 use Rattle.cs_group.specs.Group.{changed_row}
-use Rattle.cs_group.specs.Key.{key_hash}
 use Rattle.cs_group.specs.Table.{HoldRows, IsOfTable, Slots}
 
--- an arrival has the key of its change's row, and the key's hash
-pub record IsArrival (flags : List ℕ) (arrival : Arrival) : Type 0 where
-  pub key : arrival.key ≡ changed_row flags arrival.change
-  pub hash : arrival.hash ≡ key_hash arrival.key
+-- an arrival has the key of its change's row
+abbrev pub IsArrival : List ℕ → Arrival → Type 0
+IsArrival flags arrival = arrival.key ≡ changed_row flags arrival.change
 
 -- the changes that arrive
 abbrev pub arrived_changes : List Arrival → List Change

@@ -4,10 +4,11 @@ ghost use Rattle.std.specs.Prelude.{◌≡◌, ◌++◌, ◌∷◌, ◌≤◌, [
 ghost use Rattle.std.specs.Prelude.{false, slice_get, take, true};
 ghost use Rattle.cs_model.specs.Schema.{same_bytes};
 ghost use Rattle.cs_group.specs.Key.{key_hash};
-ghost use Rattle.cs_group.specs.Keys.{AreKnown, key_place};
+ghost use Rattle.cs_group.specs.Keys.{AreKnown, hashes_with, key_place};
 
 use crate::key::Key;
 use crate::links::Links;
+use crate::new_key::NewKey;
 use std::alloc::{AllocError, Global};
 use std::marker::Model;
 
@@ -73,6 +74,17 @@ fn hash_rest(links: &mut Links, keys: &[Key]) -> Result<(), AllocError>
     Ok(())
 }
 
+// Appends the hash of a key to those of so many keys before it, if it is known and they are.
+fn push_hash(links: &mut Links, before: usize, hash: Option<u32>) -> Result<(), AllocError>
+    ensures ok { OnOk result (links.new ≡ hashes_with before hash links.old) }
+    ensures err { OnErr result (links.new ≡ links.old) }
+{
+    match hash {
+        Some(hash) if links.len() == before => links.push(hash),
+        _ => Ok(()),
+    }
+}
+
 impl<'a> Keys<'a> {
     /// No keys.
     pub(crate) fn new(alloc: Global) -> Keys<'a>
@@ -108,14 +120,13 @@ impl<'a> Keys<'a> {
         key.number() > self.greatest
     }
 
-    /// The last place of a key, whose hash this is. Hashes the keys that are not hashed yet.
-    pub(crate) fn last(&mut self, key: &Key, hash: u32) -> Result<Option<usize>, AllocError>
+    /// The last place of a key. Hashes the keys that are not hashed yet.
+    pub(crate) fn last(&mut self, key: &NewKey) -> Result<Option<usize>, AllocError>
         ensures same { self.new ≡ self.old }
-        ensures ok { IfOk result (λ place. hash ≡ key_hash key.now
-            → place ≡ key_place self.old key.now) }
+        ensures ok { IfOk result (λ place. place ≡ key_place self.old key.now) }
     {
         hash_rest(&mut self.links, &self.keys)?;
-        Ok(search(&self.links, &self.keys, key, hash))
+        Ok(search(&self.links, &self.keys, key.as_key(), key.hash()))
     }
 
     /// How many of these hashes no key seems to have. Hashes the keys that are not hashed yet.
@@ -135,14 +146,16 @@ impl<'a> Keys<'a> {
         self.keys.reserve(more)
     }
 
-    /// Appends a key.
-    pub(crate) fn push(&mut self, key: Key<'a>) -> Result<(), AllocError>
-        ensures ok { OnOk result (self.new ≡ self.old ++ key.entry ∷ []) }
+    /// Appends a key. It is hashed already if its hash is known and all others are hashed.
+    pub(crate) fn push(&mut self, new: NewKey<'a>) -> Result<(), AllocError>
+        ensures ok { OnOk result (self.new ≡ self.old ++ new.entry ∷ []) }
         ensures err { OnErr result (self.new ≡ self.old) }
     {
-        let number = key.number();
-        self.keys.push(key)?;
-        self.greatest = self.greatest.max(number);
+        let NewKey { key, hash } = new;
+        self.keys.reserve(1)?;
+        push_hash(&mut self.links, self.keys.len(), hash)?;
+        self.greatest = self.greatest.max(key.number());
+        self.keys.push_reserved(key);
         Ok(())
     }
 }

@@ -11,6 +11,7 @@ mod known;
 pub mod laws;
 mod links;
 mod merge;
+mod new_key;
 mod next_change;
 mod output;
 mod replaced;

@@ -1,7 +1,7 @@
 //! The places of hashes in a list: a hash table whose buckets are chains, the last place first.
 
 ghost use Rattle.std.specs.Prelude.{◌≡◌, ◌++◌, ◌∷◌, [], ◌<◌, ◌≤◌, ◌^◌, IfOk, OnErr, OnOk, Some};
-ghost use Rattle.std.specs.Prelude.{length, replicate, slice_get, take};
+ghost use Rattle.std.specs.Prelude.{None, length, replicate, slice_get, take, true};
 ghost use Rattle.cs_group.specs.Chains.{Chains, BeginsChain, hashes_of};
 ghost use Rattle.cs_group.specs.Last.{hash_place};
 
@@ -41,11 +41,27 @@ impl Model for Links {
     ghost invariant = { λ l. Chains l.lasts.items l.links.items };
 }
 
+// Whether a bucket's chain, which begins at a place plus one, has no place, or one with another
+// hash. Most chains that lack a hash are so short. There is no branch on what is read: the processor
+// would guess how long a chain is, and mostly be wrong.
+fn is_short_without(links: &[Link], from: u32, hash: u32) -> bool
+    ensures { result ≡ true → BeginsChain hash from links.now
+        → None ≡ hash_place hash (take from (hashes_of links.now)) }
+{
+    match links.get(from.saturating_sub(1) as usize) {
+        Some(link) => (from == 0) | ((link.hash != hash) & (link.before == 0)),
+        None => from == 0,
+    }
+}
+
 // The last place of a hash in a bucket's chain, which begins at a place plus one.
 fn search(links: &[Link], from: u32, hash: u32) -> Option<usize>
     requires { BeginsChain hash from links.now }
     ensures { result ≡ hash_place hash (take from (hashes_of links.now)) }
 {
+    if is_short_without(links, from, hash) {
+        return None;
+    }
     let mut at = from;
     while at > 0 {
         let place = at as usize - 1;

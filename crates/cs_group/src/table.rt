@@ -5,7 +5,7 @@ ghost use Rattle.std.specs.List.{AllByRecursion};
 ghost use Rattle.cs_model.specs.declared.change.Change.{Change};
 ghost use Rattle.cs_group.specs.Arrivals.{HoldFront, HoldUpTo, IsArrival};
 ghost use Rattle.cs_group.specs.Group.{changed_row};
-ghost use Rattle.cs_group.specs.Key.{KeyStands, key_hash};
+ghost use Rattle.cs_group.specs.Key.{KeyStands};
 ghost use Rattle.cs_group.specs.Keys.{key_place};
 ghost use Rattle.cs_group.specs.Merge.{only_change};
 ghost use Rattle.cs_group.specs.Slots.{slot_seen};
@@ -14,6 +14,7 @@ ghost use Rattle.cs_group.specs.Table.{HoldRows, IsOfTable, met_at, slots_seen};
 use crate::key::{Key, KeyColumns, key_columns};
 use crate::keys::Keys;
 use crate::merge::only;
+use crate::new_key::NewKey;
 use crate::next_change::merge_at;
 use crate::slot::Slot;
 use cs_model::{PackedChange, SectionRef};
@@ -27,11 +28,10 @@ const BATCH: usize = 64;
 // so many rows, and their hashes, stand in the processor's cache: changes need not wait for memory
 const FEW: usize = 65_536;
 
-/// A change that is about to be added, its row's key, and the key's hash.
+/// A change that is about to be added, and its row's key.
 #[derive(Drop)]
 struct Arrival<'a> {
-    key: Key<'a>,
-    hash: u32,
+    key: NewKey<'a>,
     change: PackedChange<'a>,
 }
 
@@ -61,16 +61,6 @@ fn met(slots: &[Option<Slot>], place: Option<usize>) -> Option<usize>
         Some(Some(_)) => Some(place),
         _ => None,
     }
-}
-
-// A change with this key, as one that is about to be added.
-fn arrival_of<'a>(key: Key<'a>, change: PackedChange<'a>) -> Arrival<'a>
-    ensures key { result.key ≡ key.entry }
-    ensures hash { result.hash ≡ key_hash key.entry }
-    ensures change { result.change ≡ change.entry }
-{
-    let hash = key.hash();
-    Arrival { key, hash, change }
 }
 
 impl<'s, 'a> Table<'s, 'a> {
@@ -130,7 +120,7 @@ impl<'s, 'a> Table<'s, 'a> {
     fn begin(
         &mut self,
         alloc: Global,
-        key: Key<'a>,
+        key: NewKey<'a>,
         new: PackedChange<'a>,
     ) -> Result<(), AllocError>
         ensures flags { self.new.flags.now ≡ self.old.flags.now }
@@ -154,7 +144,7 @@ impl<'s, 'a> Table<'s, 'a> {
     }
 
     // Adds a row with this key and this change.
-    fn push(&mut self, key: Key<'a>, first: Slot<'a>) -> Result<(), AllocError>
+    fn push(&mut self, key: NewKey<'a>, first: Slot<'a>) -> Result<(), AllocError>
         ensures flags { self.new.flags.now ≡ self.old.flags.now }
         ensures keys { OnOk result (self.new.keys ≡ self.old.keys ++ key.entry ∷ []) }
         ensures slots { OnOk result (slots_seen self.new.slots.items
@@ -177,8 +167,8 @@ impl<'s, 'a> Table<'s, 'a> {
             → HoldRows self.old.flags.now self.new.keys (slots_seen self.new.slots.items)
             (changes ++ new.entry.change ∷ [])) }
     {
-        let Arrival { key, hash, change } = new;
-        let found = self.keys.last(&key, hash)?;
+        let Arrival { key, change } = new;
+        let found = self.keys.last(&key)?;
         if let Some(place) = met(&self.slots, found) {
             return self.merge_next(alloc, place, change);
         }
@@ -230,7 +220,7 @@ impl<'s, 'a> Table<'s, 'a> {
         let mut hashes = Vec::with_capacity(alloc, batch.len())?;
         let mut bytes: usize = 0;
         for arrival in batch {
-            hashes.push_reserved(arrival.hash);
+            hashes.push_reserved(arrival.key.hash());
             bytes = bytes.saturating_add(arrival.change.bytes().len());
         }
         let missing = self.keys.count_missing(&hashes)?;
@@ -306,10 +296,11 @@ impl<'s, 'a> Table<'s, 'a> {
                 return self.merge_next(alloc, place, change);
             }
             if self.keys.are_less(&key) {
-                return self.begin(alloc, key, change);
+                return self.begin(alloc, NewKey::of(key), change);
             }
         }
-        self.add_soon(alloc, batch, arrival_of(key, change))
+        let key = NewKey::of(key).hashed();
+        self.add_soon(alloc, batch, Arrival { key, change })
     }
 
     /// Adds the changes of a section of the table.

@@ -31,6 +31,7 @@ returns-then-are_less-clause-ok c =
     (sym c.is_empty.ensures ∙ c.if-is_empty.true) in
     on_ok_weaker c.begin.result (λ begun. λ changes valid.
     added_at_once old.flags.now old.keys now.keys slots (slots_seen now.slots.items) batch changes c.args.change none
-    valid (λ before of_table rows. begun changes before of_table c.in_ok-key.ensures
-    (ap (met_at slots) (c.are_less.ensures c.if-are_less.true)) rows))
+    valid (λ before of_table rows. begun changes before of_table (c.of-then-are_less.ensures ∙ c.in_ok-key.ensures)
+    (ap (λ k. met_at slots (key_place old.keys k)) c.of-then-are_less.ensures
+    ∙ ap (met_at slots) (c.are_less.ensures c.if-are_less.true)) rows))
     c.begin.ensures.ok
