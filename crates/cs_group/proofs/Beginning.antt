@@ -1,5 +1,5 @@
 -- The rows once a change of a row that has none is added.
-use Rattle.std.proofs.Common.{◌≡◌, ◌++◌, ◌∷◌, [], List, ℕ, Option, Some, None, sym, subst, refl}
+use Rattle.std.proofs.Common.{◌≡◌, ◌++◌, ◌∷◌, [], List, ℕ, Some, None, sym, subst}
 use Rattle.std.specs.List.{AllByRecursion}
 use Rattle.cs_model.specs.declared.change.Change.{Change}
 use Rattle.cs_group.specs.Group.{changed_row}

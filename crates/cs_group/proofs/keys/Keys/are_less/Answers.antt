@@ -1,4 +1,4 @@
-use Rattle.std.proofs.Common.{◌≡◌, ◌<◌, None, ap, sym, subst, arith}
+use Rattle.std.proofs.Common.{◌≡◌, ◌<◌, None, subst, arith}
 use Rattle.cs_group.specs.Key.{key_number}
 use Rattle.cs_group.specs.Keys.{key_place}
 use Rattle.cs_group.proofs.KeyLaws.{none_of_less}

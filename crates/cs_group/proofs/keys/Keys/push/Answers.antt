@@ -1,6 +1,5 @@
-use Rattle.std.proofs.Common.{◌≡◌, ◌∙◌, ◌≤◌, ◌++◌, ◌∷◌, [], ap, length, sym, subst, arith}
+use Rattle.std.proofs.Common.{◌≡◌, ◌∙◌, ◌≤◌, ◌++◌, ◌∷◌, [], ap, length, arith}
 use Rattle.cs_group.specs.Key.{key_number}
-use Rattle.cs_group.specs.Keys.{AreKnown, hashes_with}
 use Rattle.cs_group.proofs.KeyLaws.{one_known}
 use Rattle.cs_group.proofs.keys.Keys.push.Goals as goal
 
