@@ -161,7 +161,8 @@ static void compare_combining(enum rows rows, const char *what, enum keys keys, 
     char name[100];
     snprintf(name, sizeof name, "%s, %d times %ld changes", what, COMBINED, inputs[0].changes);
     struct measured combines = measure(ours_combines, sqlite_combines, inputs, calls);
-    static const char *const jobs[] = {"combine, the same rows", "combine, rows apart", "combine, rows in no order"};
+    static const char *const jobs[] = {"combine, the same rows", "combine, rows apart", "combine, rows apart, recorded",
+                                       "combine, rows apart, in no order"};
     print_row(jobs[keys], name,
               by_changes ? (double)all / 1e3 : bytes / 1e6, &combines);
     exit(0);
@@ -210,13 +211,13 @@ static int combine_once(const char *who, enum keys keys, enum rows rows) {
     return 0;
 }
 
-/* Runs one job once, for a profiler: `ours` or `sqlite`, `read`, `build`, `write`, `invert`, `hot`, `apart` or
- * `scattered` (combining), and `integers`, `texts` or `blobs`. */
+/* Runs one job once, for a profiler: `ours` or `sqlite`, `read`, `build`, `write`, `invert`, `hot`, `apart`,
+ * `recorded` or `scattered` (combining), and `integers`, `texts` or `blobs`. */
 static int run_once(const char *who, const char *what, const char *which) {
-    const char *names[] = {"ours", "sqlite", "read",      "build",    "write", "invert",
-                           "hot",  "apart",  "scattered", "integers", "texts", "blobs"};
+    const char *names[] = {"ours",  "sqlite",   "read",      "build",    "write", "invert", "hot",
+                           "apart", "recorded", "scattered", "integers", "texts", "blobs"};
     int known = 0;
-    for (int i = 0; i < 12; i++) known += !strcmp(i < 2 ? who : i < 9 ? what : which, names[i]);
+    for (int i = 0; i < 13; i++) known += !strcmp(i < 2 ? who : i < 10 ? what : which, names[i]);
     if (known != 3) return fprintf(stderr, "bench: no job is called `%s %s %s`\n", who, what, which), 2;
     enum rows rows = *which == 'i' ? INTEGERS : *which == 't' ? TEXTS : BLOBS;
     for (int keys = HOT; keys <= SCATTERED; keys++)

@@ -101,25 +101,50 @@ static unsigned char *put_step(unsigned char *at, enum rows rows, int operation,
     return put_columns_after(at, rows, key, updates);
 }
 
-/* the key of a row; an odd factor gives each row one of its own */
-static uint64_t key_of(enum keys keys, uint64_t row) {
-    return keys == SCATTERED ? row * 6364136223846793005u & INT64_MAX : row;
+/* how many buckets SQLite's session extension has for the keys of one text */
+static uint32_t buckets;
+
+/* the bucket of a key of one integer column */
+static uint32_t bucket_of(uint64_t key) {
+    uint32_t hash = 9 ^ (uint32_t)key;
+    return ((hash << 3) ^ hash ^ (uint32_t)(key >> 32)) % buckets;
 }
 
-/* a text of one such change for each of these rows */
-static struct input make_steps(enum rows rows, enum keys keys, int operation, uint64_t first, long changes, int updates,
-                               size_t limit) {
+static int by_bucket(const void *one, const void *other) {
+    uint32_t a = bucket_of(*(const uint64_t *)one), b = bucket_of(*(const uint64_t *)other);
+    return (a > b) - (a < b);
+}
+
+/* The keys of so many rows. An odd factor gives each row a key of its own. */
+static void put_keys(uint64_t *out, enum keys keys, uint64_t first, long count) {
+    for (long i = 0; i < count; i++) {
+        uint64_t row = first + (uint64_t)i;
+        out[i] = keys == SCATTERED ? row * 6364136223846793005u & INT64_MAX : row;
+    }
+    if (keys != RECORDED) return;
+    for (buckets = 256; buckets / 2 < (uint32_t)count; buckets *= 2) continue;
+    qsort(out, (size_t)count, sizeof *out, by_bucket);
+}
+
+/* One such change for each row of so many texts, in one text. */
+static struct input make_steps(enum rows rows, enum keys keys, int operation, uint64_t first, int texts, long changes,
+                               int updates, size_t limit) {
     unsigned char *bytes = room_for(limit);
     unsigned char *at = put_header(bytes, rows);
-    for (long i = 0; i < changes; i++) at = put_step(at, rows, operation, key_of(keys, first + (uint64_t)i), updates);
-    return (struct input){bytes, (size_t)(at - bytes), changes};
+    uint64_t *own = (uint64_t *)room_for((size_t)changes * sizeof *own);
+    for (int text = 0; text < texts; text++) {
+        put_keys(own, keys, first + (uint64_t)(text * changes), changes);
+        for (long i = 0; i < changes; i++) at = put_step(at, rows, operation, own[i], updates);
+    }
+    free(own);
+    return (struct input){bytes, (size_t)(at - bytes), texts * changes};
 }
 
 struct input make_inserts(enum rows rows, long changes, size_t limit) {
     unsigned char change[MOST_OF_A_CHANGE];
     size_t each = (size_t)(put_step(change, rows, INSERT, 0, 0) - change);
     long most = (long)((limit - 100) / each);
-    return make_steps(rows, APART, INSERT, 0, changes < most ? changes : most, 0, limit);
+    return make_steps(rows, APART, INSERT, 0, 1, changes < most ? changes : most, 0, limit);
 }
 
 void make_combined(struct input *inputs, enum rows rows, enum keys keys, long changes, size_t limit) {
@@ -128,9 +153,9 @@ void make_combined(struct input *inputs, enum rows rows, enum keys keys, long ch
     long most = (long)((limit - 100) / each);
     if (changes > most) changes = most;
     for (int i = 0; i < COMBINED; i++) {
-        if (keys == HOT) inputs[i] = make_steps(rows, keys, i == 0 ? INSERT : UPDATE, 0, changes, i, limit);
-        else inputs[i] = make_steps(rows, keys, INSERT, (uint64_t)(i * changes), changes, 0, limit);
+        if (keys == HOT) inputs[i] = make_steps(rows, keys, i == 0 ? INSERT : UPDATE, 0, 1, changes, i, limit);
+        else inputs[i] = make_steps(rows, keys, INSERT, (uint64_t)(i * changes), 1, changes, 0, limit);
     }
-    if (keys == HOT) inputs[COMBINED] = make_steps(rows, keys, INSERT, 0, changes, COMBINED - 1, limit);
-    else inputs[COMBINED] = make_steps(rows, keys, INSERT, 0, COMBINED * changes, 0, COMBINED * limit);
+    if (keys == HOT) inputs[COMBINED] = make_steps(rows, keys, INSERT, 0, 1, changes, COMBINED - 1, limit);
+    else inputs[COMBINED] = make_steps(rows, keys, INSERT, 0, COMBINED, changes, 0, COMBINED * limit);
 }

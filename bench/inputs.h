@@ -23,9 +23,10 @@ struct input make_inserts(enum rows rows, long changes, size_t limit);
 /* Texts that are combined; after them stands the text of the result. */
 enum { COMBINED = 16 };
 
-/* HOT: INSERTs in the first text, and then UPDATEs of all columns but the key, of the same rows in each text. APART:
- * INSERTs, of rows of its own in each text; their keys ascend. SCATTERED: the same with keys in no order. */
-enum keys { HOT, APART, SCATTERED };
+/* HOT: INSERTs in the first text, and then UPDATEs of all columns but the key, of the same rows in each text. The others
+ * have INSERTs, of rows of its own in each text. APART: the keys ascend. RECORDED: each text has its keys in the order in
+ * which SQLite's session extension records them. SCATTERED: the keys are in no order. */
+enum keys { HOT, APART, RECORDED, SCATTERED };
 
 /* Fills COMBINED + 1 inputs. Each text has at most `changes` changes, and as many as fit into `limit` bytes. */
 void make_combined(struct input *inputs, enum rows rows, enum keys keys, long changes, size_t limit);

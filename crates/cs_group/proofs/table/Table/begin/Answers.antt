@@ -5,7 +5,7 @@ use Rattle.std.specs.Prelude.{Result, Ok, Err, OnOk}
 use Rattle.cs_group.specs.Keys.{key_place}
 use Rattle.cs_group.specs.Slots.{slot_seen}
 use Rattle.cs_group.specs.Table.{met_at, slots_seen}
-use Rattle.cs_group.proofs.Beginning.{row_begun}
+use Rattle.cs_group.proofs.Beginning.{row_added}
 use Rattle.cs_group.proofs.Holding.{rows_idle}
 use Rattle.cs_group.proofs.table.Table.begin.Goals as goal
 
@@ -17,9 +17,9 @@ returns-in_default-clause-ok c = λ changes valid fits own none rows.
     (sym c.in_ok-first.ensures ∙ ap (option_map slot_seen) c.in_default.is)
 
 -- two clauses of one result
-both : {T E : Type 0} (r : Result T E) (P Q : Type 0) → OnOk r P → OnOk r Q → OnOk r (P × Q)
-both (Ok x) P Q p q = (p, q)
-both (Err e) P Q p q = tt
+two_clauses : {T E : Type 0} (r : Result T E) (P Q : Type 0) → OnOk r P → OnOk r Q → OnOk r (P × Q)
+two_clauses (Ok x) P Q p q = (p, q)
+two_clauses (Err e) P Q p q = tt
 
 pub returns-clause-ok : goal.returns-clause-ok
 returns-clause-ok c =
@@ -28,8 +28,8 @@ returns-clause-ok c =
     let first = slot_seen c.in-Some.first in
     let roomy = c.in_ok-make_room.ensures in
     on_ok_weaker c.push.result (λ pushed. λ changes valid fits own none rows.
-    row_begun old.flags.now old.keys now.keys (slots_seen old.slots.items) (slots_seen now.slots.items) changes c.args.new
+    row_added old.flags.now old.keys now.keys (slots_seen old.slots.items) (slots_seen now.slots.items) changes c.args.new
     first c.args.key (sym c.in_ok-first.ensures ∙ ap (option_map slot_seen) c.in-Some.is) valid fits own none rows
     (pushed.0 ∙ ap (λ ks. ks ++ c.args.key ∷ []) roomy.keys)
     (pushed.1 ∙ ap (λ items. slots_seen items ++ Some first ∷ []) roomy.slots))
-    (both c.push.result _ _ c.push.ensures.keys c.push.ensures.slots)
+    (two_clauses c.push.result _ _ c.push.ensures.keys c.push.ensures.slots)
