@@ -33,3 +33,4 @@ pub mod Expecting
 pub mod Names
 pub mod Beginning
 pub mod KeyLaws
+pub mod FirstKey

@@ -5,6 +5,8 @@ use Rattle.std.specs.Prelude.{◌≡◌, ℕ, ◌/◌, ◌^◌, ◌-◌, List, t
 use Rattle.std.specs.Prelude.{if◌then◌else◌, nat_lt}
 use Rattle.cs_model.specs.declared.value.Field.{Field}
 use Rattle.cs_model.specs.KeyBytes.{key_fields}
+use Rattle.cs_model.specs.declared.change.Change.{Change}
+use Rattle.cs_model.specs.KeyBytes.{key_record}
 use Rattle.cs_group.specs.declared.key.KeyBytes.{KeyBytes}
 use Rattle.cs_group.specs.declared.key.KeyBytes.TheVariants.{InPlace, Copied}
 use Rattle.cs_group.specs.declared.key.KeyColumns.{KeyColumns}
@@ -18,6 +20,10 @@ IsKeyAt flags first count = (fields : List Field) → key_fields flags fields
 abbrev pub KeyStands : List ℕ → Option KeyColumns → Type 0
 KeyStands flags None = Unit {0}
 KeyStands flags (Some at) = IsKeyAt flags at.first at.count
+
+-- the fields of the record that identifies a change's row
+abbrev pub row_fields : Change → List Field
+row_fields change = key_record change.op change.before change.after
 
 -- the bytes of a key, where they stand or copied
 abbrev pub bytes_of_key : KeyBytes → List ℕ

@@ -1,14 +1,17 @@
 //! Where the key of a row stands in a record, and its hash.
 
-ghost use Rattle.std.specs.Prelude.{◌≡◌, ◌≤◌, ◌++◌, ◌∷◌, [], ℕ, IfOk, List, drop, length, take};
+ghost use Rattle.std.specs.Prelude.{◌≡◌, ◌==◌, ◌≤◌, ◌++◌, ◌∷◌, [], ℕ, IfOk, List, drop, length};
+ghost use Rattle.std.specs.Prelude.{take};
 ghost use Rattle.std.specs.Cmp.{partial_equiv_from_equiv};
 ghost use Rattle.std.specs.Cmp.Lexicographic.{nat_list_eq_equiv};
 ghost use Rattle.cs_model.specs.declared.value.Field.{Field};
 ghost use Rattle.cs_model.specs.KeyBytes.{key_fields};
+ghost use Rattle.cs_model.specs.Packed.{packed};
 ghost use Rattle.cs_model.specs.Schema.{same_bytes};
 ghost use Rattle.cs_model.specs.Seen.{change_seen};
 ghost use Rattle.cs_group.specs.Group.{changed_row};
 ghost use Rattle.cs_group.specs.Key.{IsKeyAt, KeyStands, bytes_of_key, key_hash, key_number};
+ghost use Rattle.cs_group.specs.Key.{row_fields};
 
 use cs_model::{ChangeRef, Octets, Op, PackedChange, key_of_row};
 use std::alloc::{AllocError, Global};
@@ -21,6 +24,15 @@ pub(crate) struct KeyColumns {
     // the index of the first one
     first: usize,
     count: usize,
+}
+
+impl KeyColumns {
+    /// Whether they come before all others.
+    pub(crate) fn come_first(&self) -> bool
+        ensures { result ≡ (self.now.first == 0) }
+    {
+        self.first == 0
+    }
 }
 
 /// The key columns of a table with these key flags, if they stand next to each other.
@@ -142,6 +154,15 @@ impl<'a> Key<'a> {
         ])
     }
 
+    /// Whether bytes begin with the key.
+    pub(crate) fn begins(&self, bytes: &[u8]) -> bool
+        ensures { result ≡ same_bytes self.now (take (length self.now) bytes.now) }
+    {
+        let key = self.as_slice();
+        let (front, _) = bytes.split_at(bytes.len().min(key.len()));
+        key == front
+    }
+
     // the bytes
     fn as_slice(&self) -> &[u8]
         ensures { result.now ≡ self.now }
@@ -150,6 +171,16 @@ impl<'a> Key<'a> {
             KeyBytes::InPlace(bytes) => return bytes,
             KeyBytes::Copied(bytes) => return bytes,
         }
+    }
+}
+
+/// The canonical bytes of the record that identifies a change's row.
+pub(crate) fn row_bytes<'a>(change: &ChangeRef<'a>) -> &'a [u8]
+    ensures { result.now ≡ packed (row_fields (change_seen change.now)) }
+{
+    match change.op {
+        Op::Insert => change.after.bytes(),
+        Op::Update | Op::Delete => change.before.bytes(),
     }
 }
 

@@ -113,6 +113,18 @@ impl<'a> Keys<'a> {
         has_key(&self.keys, place, key)
     }
 
+    /// Whether bytes begin with the key at a place.
+    pub(crate) fn begins(&self, place: usize, bytes: &[u8]) -> bool
+        ensures there { IfSome (slice_get self.now place)
+            (λ there. result ≡ same_bytes there (take (length there) bytes.now)) }
+        ensures none { slice_get self.now place ≡ None → result ≡ false }
+    {
+        match self.keys.get(place) {
+            Some(there) => there.begins(bytes),
+            None => false,
+        }
+    }
+
     /// Whether this key has a greater number than all keys, and so is none of them.
     pub(crate) fn are_less(&self, key: &Key) -> bool
         ensures { result ≡ true → key_place self.now key.now ≡ None }

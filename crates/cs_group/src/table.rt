@@ -11,12 +11,13 @@ ghost use Rattle.cs_group.specs.Merge.{only_change};
 ghost use Rattle.cs_group.specs.Slots.{slot_seen};
 ghost use Rattle.cs_group.specs.Table.{HoldRows, IsOfTable, met_at, slots_seen};
 
-use crate::key::{Key, KeyColumns, key_columns};
+use crate::key::{Key, KeyColumns, key_columns, row_bytes};
 use crate::keys::Keys;
 use crate::merge::only;
 use crate::new_key::NewKey;
 use crate::next_change::merge_at;
 use crate::slot::Slot;
+use cs_model::laws::{changes_fit, fields_again, fields_first};
 use cs_model::{PackedChange, SectionRef};
 use cs_parse::{LastLength, first_change};
 use std::alloc::{AllocError, Global};
@@ -89,6 +90,28 @@ impl<'s, 'a> Table<'s, 'a> {
             ≡ Some place) }
     {
         if !self.keys.has(self.next, key) {
+            return None;
+        }
+        met(&self.slots, Some(self.next))
+    }
+
+    // The same for a change of a table whose key columns come first. Its record begins with the key,
+    // so no field is read to find where the key ends.
+    fn expected_first(&self, columns: Option<KeyColumns>, change: &PackedChange) -> Option<usize>
+        ensures { KeyStands self.now.flags.now columns → IfSome result (λ place.
+            (changes : List Change) → IsOfTable self.now.flags.now change.now
+            → HoldRows self.now.flags.now self.now.keys (slots_seen self.now.slots.items) changes
+            → met_at (slots_seen self.now.slots.items)
+            (key_place self.now.keys (changed_row self.now.flags.now change.now)) ≡ Some place) }
+    {
+        let columns = columns?;
+        if !columns.come_first() {
+            return None;
+        }
+        fields_again();
+        fields_first();
+        changes_fit();
+        if !self.keys.begins(self.next, row_bytes(&change.unpack())) {
             return None;
         }
         met(&self.slots, Some(self.next))
@@ -272,6 +295,35 @@ impl<'s, 'a> Table<'s, 'a> {
         self.add_batch(alloc, full)
     }
 
+    // Adds one more change of the table, whose row has this key.
+    fn take_keyed(
+        &mut self,
+        alloc: Global,
+        batch: &mut Vec<Arrival<'a>>,
+        key: Key<'a>,
+        change: PackedChange<'a>,
+    ) -> Result<(), AllocError>
+        ensures flags { self.new.flags.now ≡ self.old.flags.now }
+        ensures ok { OnOk result ((changes : List Change)
+            → AllByRecursion (IsOfTable self.old.flags.now) (changes ++ change.entry ∷ [])
+            → key.entry ≡ changed_row self.old.flags.now change.entry
+            → HoldUpTo self.old.flags.now self.old.keys
+            (slots_seen self.old.slots.items) batch.old.items changes
+            → HoldUpTo self.old.flags.now self.new.keys
+            (slots_seen self.new.slots.items) batch.new.items (changes ++ change.entry ∷ [])) }
+    {
+        if batch.is_empty() {
+            if let Some(place) = self.expected(&key) {
+                return self.merge_next(alloc, place, change);
+            }
+            if self.keys.are_less(&key) {
+                return self.begin(alloc, NewKey::of(key), change);
+            }
+        }
+        let key = NewKey::of(key).hashed();
+        self.add_soon(alloc, batch, Arrival { key, change })
+    }
+
     // Adds one more change of the table. `columns` are the table's key columns, if they stand next
     // to each other.
     fn take_in(
@@ -290,17 +342,13 @@ impl<'s, 'a> Table<'s, 'a> {
             → HoldUpTo self.old.flags.now self.new.keys
             (slots_seen self.new.slots.items) batch.new.items (changes ++ change.entry ∷ [])) }
     {
-        let key = Key::of(alloc, self.flags, columns, &change)?;
         if batch.is_empty() {
-            if let Some(place) = self.expected(&key) {
+            if let Some(place) = self.expected_first(columns, &change) {
                 return self.merge_next(alloc, place, change);
             }
-            if self.keys.are_less(&key) {
-                return self.begin(alloc, NewKey::of(key), change);
-            }
         }
-        let key = NewKey::of(key).hashed();
-        self.add_soon(alloc, batch, Arrival { key, change })
+        let key = Key::of(alloc, self.flags, columns, &change)?;
+        self.take_keyed(alloc, batch, key, change)
     }
 
     /// Adds the changes of a section of the table.
