@@ -19,7 +19,7 @@ use Rattle.cs_model.specs.PackedChanges.{Fit, Long}
 use Rattle.cs_model.specs.Schema.{same_bytes}
 use Rattle.cs_group.specs.declared.key.KeyColumns.{KeyColumns}
 use Rattle.cs_group.specs.Group.{changed_row}
-use Rattle.cs_group.specs.Key.{IsKeyAt, row_fields}
+use Rattle.cs_group.specs.Key.{IsKeyAt, identifying}
 use Rattle.cs_group.specs.Keys.{key_place}
 use Rattle.cs_group.specs.Table.{Slots, HoldRows, IsOfTable, met_at, met_by, there_at}
 use Rattle.cs_group.proofs.LastLaws.{last_passes}
@@ -29,7 +29,7 @@ use Rattle.cs_group.proofs.Slots.{there_is}
 -- ---- laws of cs_model, for whoever has them
 
 -- `fields_again`, `fields_first` and `changes_fit`
-pub record Packs : Type 0 where
+pub record FieldLaws : Type 0 where
   pub again : (fields : List Field) → AllByRecursion Fits fields → unpacked (packed fields) ≡ fields
   pub first : (fields : List Field) (rest : List ℕ) → AllByRecursion Fits fields
       → unpacked (packed fields ++ rest) ≡ fields ++ unpacked rest
@@ -37,7 +37,7 @@ pub record Packs : Type 0 where
 
 -- the record that identifies a change's row has a field for each column, and they fit
 row_fits : (n : ℕ) (change : Change) → Fit n change
-    → (length (row_fields change) ≡ n) × AllByRecursion Fits (row_fields change)
+    → (length (identifying change) ≡ n) × AllByRecursion Fits (identifying change)
 row_fits n change fit = go change.op fit.long
   where
     go : (op : Op) → Long n op change.before change.after
@@ -50,9 +50,9 @@ row_fits n change fit = go change.op fit.long
 -- ---- two records of one table
 
 -- a list that begins with the first elements of another, and is as long
-same_front : (count : ℕ) (f g more : List Field) → length f ≡ length g → g ≡ take count f ++ more
+front_again : (count : ℕ) (f g more : List Field) → length f ≡ length g → g ≡ take count f ++ more
     → take count g ≡ take count f
-same_front count f g more long begins = elim (dec_lt (length f) count) [
+front_again count f g more long begins = elim (dec_lt (length f) count) [
   | yes short ↦
       let whole : take count f ≡ f = take_all count f (omega (arith, short)) in
       let none : more ≡ [] = nil_from_length more (omega (
@@ -70,7 +70,7 @@ same_front count f g more long begins = elim (dec_lt (length f) count) [
 ]
 
 -- the fields of a record that begins with another's bytes of the key
-key_again : Packs → (flags : List ℕ) (at : KeyColumns) (f g : List Field) (rest : List ℕ)
+key_again : FieldLaws → (flags : List ℕ) (at : KeyColumns) (f g : List Field) (rest : List ℕ)
     → IsKeyAt flags at.first at.count → at.first ≡ 0 → length f ≡ length g → AllByRecursion Fits f
     → AllByRecursion Fits g → packed g ≡ key_bytes flags f ++ rest → key_bytes flags g ≡ key_bytes flags f
 key_again packs flags at f g rest key first long fit_f fit_g begins =
@@ -81,20 +81,20 @@ key_again packs flags at f g rest key first long fit_f fit_g begins =
     (subst (AllByRecursion Fits) (sym (take-append-drop count f)) fit_f) in
     let whole : g ≡ take count f ++ unpacked rest = sym (packs.again g fit_g)
     ∙ ap unpacked (begins ∙ ap (λ fs. packed fs ++ rest) (key_of f)) ∙ packs.first (take count f) rest fits in
-    ap packed (key_of g ∙ same_front count f g (unpacked rest) long whole ∙ sym (key_of f))
+    ap packed (key_of g ∙ front_again count f g (unpacked rest) long whole ∙ sym (key_of f))
 
 -- ---- the row that is expected
 
 -- a change whose record begins with the key of a row, in a slot that has a change, is about this row
-pub row_begins : Packs → (flags : List ℕ) (at : KeyColumns) (keys : List (List ℕ)) (slots : Slots)
+pub row_begins : FieldLaws → (flags : List ℕ) (at : KeyColumns) (keys : List (List ℕ)) (slots : Slots)
     (changes : List Change) (place : ℕ) (own : List ℕ) (there new : Change) → IsKeyAt flags at.first at.count
     → at.first ≡ 0 → HoldRows flags keys slots changes → slice_get keys place ≡ Some own
     → there_at slots place ≡ Some there → IsOfTable flags new
-    → same_bytes own (take (length own) (packed (row_fields new))) ≡ true
+    → same_bytes own (take (length own) (packed (identifying new))) ≡ true
     → met_at slots (key_place keys (changed_row flags new)) ≡ Some place
 row_begins packs flags at keys slots changes place own there new key first rows has is fits begins =
     let shape : Shape = record { name = []; flags = flags } in
-    let bytes = packed (row_fields new) in
+    let bytes = packed (identifying new) in
     let row = changed_row flags there in
     let kept : key_place keys row ≡ Some place = rows.holds.kept place there (there_is slots place there is) in
     let of_row : own ≡ row = same_text own row (sym (last_passes (λ k. same_bytes k row) keys place own kept has)) in
@@ -104,15 +104,15 @@ row_begins packs flags at keys slots changes place own there new key first rows 
     let front : own ≡ take (length own) bytes = same_text own (take (length own) bytes) (sym begins) in
     let parts : bytes ≡ row ++ drop (length own) bytes = sym (take-append-drop (length own) bytes)
     ∙ ap (λ w. w ++ drop (length own) bytes) (sym front ∙ of_row) in
-    let same : changed_row flags new ≡ row = key_again packs flags at (row_fields there) (row_fields new)
+    let same : changed_row flags new ≡ row = key_again packs flags at (identifying there) (identifying new)
     (drop (length own) bytes) key first (old.0 ∙ sym now.0) old.1 now.1 parts in
     ap (λ k. met_at slots (key_place keys k)) same ∙ ap (met_at slots) kept ∙ ap (λ x. met_by x place) is
 
 -- the place that is looked at, by whether the record begins with its key
-pub expected_first_by : Packs → (flags : List ℕ) (at : KeyColumns) (keys : List (List ℕ)) (slots : Slots) (place : ℕ)
+pub expected_first_by : FieldLaws → (flags : List ℕ) (at : KeyColumns) (keys : List (List ℕ)) (slots : Slots) (place : ℕ)
     (new : Change) (begins : Bool) → IsKeyAt flags at.first at.count → at.first ≡ 0 → begins ≡ true
     → IfSome (slice_get keys place)
-    (λ own. begins ≡ same_bytes own (take (length own) (packed (row_fields new))))
+    (λ own. begins ≡ same_bytes own (take (length own) (packed (identifying new))))
     → (slice_get keys place ≡ None → begins ≡ false)
     → IfSome (met_at slots (Some place)) (λ met. (changes : List Change) → IsOfTable flags new
     → HoldRows flags keys slots changes → met_at slots (key_place keys (changed_row flags new)) ≡ Some met)
@@ -120,7 +120,7 @@ expected_first_by packs flags at keys slots place new begins key first is same n
     by (slice_get keys place) refl (there_at slots place) refl same none
   where
     by : (own : Option (List ℕ)) → slice_get keys place ≡ own → (there : Option Change) → there_at slots place ≡ there
-        → IfSome own (λ k. begins ≡ same_bytes k (take (length k) (packed (row_fields new))))
+        → IfSome own (λ k. begins ≡ same_bytes k (take (length k) (packed (identifying new))))
         → (own ≡ None → begins ≡ false)
         → IfSome (met_by there place) (λ met. (changes : List Change) → IsOfTable flags new
         → HoldRows flags keys slots changes → met_at slots (key_place keys (changed_row flags new)) ≡ Some met)

@@ -22,8 +22,8 @@ KeyStands flags None = Unit {0}
 KeyStands flags (Some at) = IsKeyAt flags at.first at.count
 
 -- the fields of the record that identifies a change's row
-abbrev pub row_fields : Change → List Field
-row_fields change = key_record change.op change.before change.after
+abbrev pub identifying : Change → List Field
+identifying change = key_record change.op change.before change.after
 
 -- the bytes of a key, where they stand or copied
 abbrev pub bytes_of_key : KeyBytes → List ℕ

@@ -11,7 +11,7 @@ ghost use Rattle.cs_model.specs.Schema.{same_bytes};
 ghost use Rattle.cs_model.specs.Seen.{change_seen};
 ghost use Rattle.cs_group.specs.Group.{changed_row};
 ghost use Rattle.cs_group.specs.Key.{IsKeyAt, KeyStands, bytes_of_key, key_hash, key_number};
-ghost use Rattle.cs_group.specs.Key.{row_fields};
+ghost use Rattle.cs_group.specs.Key.{identifying};
 
 use cs_model::{ChangeRef, Octets, Op, PackedChange, key_of_row};
 use std::alloc::{AllocError, Global};
@@ -176,7 +176,7 @@ impl<'a> Key<'a> {
 
 /// The canonical bytes of the record that identifies a change's row.
 pub(crate) fn row_bytes<'a>(change: &ChangeRef<'a>) -> &'a [u8]
-    ensures { result.now ≡ packed (row_fields (change_seen change.now)) }
+    ensures { result.now ≡ packed (identifying (change_seen change.now)) }
 {
     match change.op {
         Op::Insert => change.after.bytes(),

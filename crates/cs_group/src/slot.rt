@@ -6,7 +6,7 @@ ghost use Rattle.cs_model.specs.Seen.{change_seen, fields_seen};
 ghost use Rattle.cs_write.specs.Buffer.{laid};
 ghost use Rattle.cs_write.specs.Lengths.{held};
 ghost use Rattle.cs_group.specs.Slots.{merged_seen, slot_seen};
-ghost use Rattle.cs_group.specs.Table.{HasColumnsOf};
+ghost use Rattle.cs_group.specs.Table.{HasColumnsOf, met_at, slots_seen};
 
 use crate::replaced::Replaced;
 use cs_model::{ChangeRef, Changes, FieldRef, Op, PackedChange, RecordRef};
@@ -98,6 +98,17 @@ impl<'a> Slot<'a> {
             }
             Slot::Merged(merged) => push_merged(changes, merged),
         }
+    }
+}
+
+/// The place of a slot that has a change.
+pub(crate) fn met(slots: &[Option<Slot>], place: Option<usize>) -> Option<usize>
+    ensures { result ≡ met_at (slots_seen slots.now) place }
+{
+    let place = place?;
+    match slots.get(place) {
+        Some(Some(_)) => Some(place),
+        _ => None,
     }
 }
 

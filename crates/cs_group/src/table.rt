@@ -16,7 +16,7 @@ use crate::keys::Keys;
 use crate::merge::only;
 use crate::new_key::NewKey;
 use crate::next_change::merge_at;
-use crate::slot::Slot;
+use crate::slot::{Slot, met};
 use cs_model::laws::{changes_fit, fields_again, fields_first};
 use cs_model::{PackedChange, SectionRef};
 use cs_parse::{LastLength, first_change};
@@ -51,17 +51,6 @@ pub(crate) struct Table<'s, 'a> {
     next: usize,
     // how many bytes of changes are still to come, at most
     to_come: usize,
-}
-
-// The place of a slot that has a change.
-fn met(slots: &[Option<Slot>], place: Option<usize>) -> Option<usize>
-    ensures { result ≡ met_at (slots_seen slots.now) place }
-{
-    let place = place?;
-    match slots.get(place) {
-        Some(Some(_)) => Some(place),
-        _ => None,
-    }
 }
 
 impl<'s, 'a> Table<'s, 'a> {

@@ -5,10 +5,10 @@ use Rattle.cs_model.specs.declared.change.Change.{Change}
 use Rattle.cs_model.specs.Packed.{packed}
 use Rattle.cs_model.specs.Schema.{same_bytes}
 use Rattle.cs_group.specs.Group.{changed_row}
-use Rattle.cs_group.specs.Key.{KeyStands, row_fields}
+use Rattle.cs_group.specs.Key.{KeyStands, identifying}
 use Rattle.cs_group.specs.Keys.{key_place}
 use Rattle.cs_group.specs.Table.{HoldRows, IsOfTable, met_at, slots_seen}
-use Rattle.cs_group.proofs.FirstKey.{Packs, expected_first_by}
+use Rattle.cs_group.proofs.FirstKey.{FieldLaws, expected_first_by}
 use Rattle.cs_group.proofs.table.Table.expected_first.Goals as goal
 
 pub returns : goal.returns
@@ -17,10 +17,10 @@ returns c = λ stands.
     let slots = slots_seen table.slots.items in
     let new = c.args.change.now in
     let columns = c.in_ok-columns.columns in
-    let packs : Packs =
+    let packs : FieldLaws =
     record { again = c.fields_again.ensures; first = c.fields_first.ensures; fit = c.changes_fit.ensures } in
-    let bytes : c.row_bytes.result.now ≡ packed (row_fields new) =
-    c.row_bytes.ensures ∙ ap (λ d. packed (row_fields d)) c.unpack.ensures in
+    let bytes : c.row_bytes.result.now ≡ packed (identifying new) =
+    c.row_bytes.ensures ∙ ap (λ d. packed (identifying d)) c.unpack.ensures in
     subst (λ found. IfSome found (λ place. (changes : List Change) → IsOfTable table.flags.now new
     → HoldRows table.flags.now table.keys slots changes
     → met_at slots (key_place table.keys (changed_row table.flags.now new)) ≡ Some place))
