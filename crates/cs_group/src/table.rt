@@ -138,6 +138,13 @@ impl<'s, 'a> Table<'s, 'a> {
         ensures flags { self.new.flags.now ≡ self.old.flags.now }
         ensures none { OnOk result (only_change self.old.flags.now new.entry ≡ None
             → self.new ≡ self.old) }
+        ensures keys { OnOk result ((first : Change)
+            → only_change self.old.flags.now new.entry ≡ Some first
+            → self.new.keys ≡ self.old.keys ++ key.entry ∷ []) }
+        ensures slots { OnOk result ((first : Change)
+            → only_change self.old.flags.now new.entry ≡ Some first
+            → slots_seen self.new.slots.items
+            ≡ slots_seen self.old.slots.items ++ Some first ∷ []) }
         ensures ok { OnOk result ((changes : List Change)
             → AllByRecursion (IsOfTable self.old.flags.now) changes
             → IsOfTable self.old.flags.now new.entry
