@@ -111,6 +111,9 @@ refused 'an unknown option of script' script --nonsense
 refused 'an unknown subcommand' nonsense
 refused 'a word too many' script nonsense
 refused 'a word that is no UTF-8' "$(printf '\377')"
+run /dev/null "$(printf '\377')"
+need_line err "rb_run: an argument isn't UTF-8"
+end 'what is said of it'
 refused 'an option twice' script --batch 1 --batch 2
 refused 'an option without a number' script --batch
 refused 'a number with a sign' script --window -1

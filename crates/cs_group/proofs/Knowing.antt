@@ -1,8 +1,10 @@
 -- The tables that are known by name, once one more section is there.
 use Rattle.std.proofs.Common.{◌≡◌, ◌∙◌, ℕ, suc, ◌+◌, Bool, true, false, cond, not, ◌||◌, List, [], ◌∷◌, ◌++◌, length}
-use Rattle.std.proofs.Common.{take}
+use Rattle.std.proofs.Common.{◌<◌, get_or, take, drop, length-drop}
 use Rattle.std.proofs.Common.{Option, Some, None, Bor, refl, sym, ap, arith, append_assoc, length-take}
-use Rattle.std.proofs.lemmas.List.{take-take}
+use Rattle.std.proofs.lemmas.Bool.{or_from}
+use Rattle.std.proofs.lemmas.List.{take-take, take_more, drop_more}
+use Rattle.std.proofs.lemmas.List.Folds.{list_any-append}
 use Rattle.std.proofs.lemmas.Option.{none-some}
 use Rattle.std.specs.Cmp.Lexicographic.{same_text, nat_list_eq_equiv}
 use Rattle.std.specs.Map.{lookup}
@@ -10,7 +12,8 @@ use Rattle.std.specs.Prelude.{option_map, ◌&&◌}
 use Rattle.cs_model.specs.declared.shape.Shape.{Shape}
 use Rattle.cs_model.specs.Schema.{same_bytes, same_shape}
 use Rattle.cs_model.specs.Section.{Section}
-use Rattle.cs_group.specs.Adding.{Knows, ReportsClash, differs_by, known_as, refused_earliest, first_refused}
+use Rattle.cs_group.specs.Adding.{Knows, ReportsClash, ReportsIfSchema, differs_by, known_as, refused_earliest}
+use Rattle.cs_group.specs.Adding.{first_refused}
 use Rattle.cs_group.specs.declared.error.GroupError.{GroupError}
 use Rattle.cs_group.specs.declared.error.GroupError.TheVariants.{Schema, Memory}
 use Rattle.cs_group.specs.Group.{clashes, differs_from, first_clash}
@@ -154,11 +157,36 @@ clash_here earlier section rest i total clash e =
     (option_map suc (first_clash (earlier ++ section ∷ []) rest)))) clash
     ∙ ap Some (omega arith)
 
+-- ---- the first clash among sections that come one by one
+
+behind_first : {A : Type 0} → List A → List A
+behind_first [] = []
+behind_first (x ∷ xs) = xs
+
+-- the first element of a rest is the next one
+pub next_is : {A : Type 0} (xs : List A) (i : ℕ) (x : A) (rest : List A) → x ∷ rest ≡ drop i xs
+    → (take (i + 1) xs ≡ take i xs ++ x ∷ []) × (rest ≡ drop (i + 1) xs)
+unfolding behind_first
+next_is xs i x rest is =
+    let there : i < length xs = omega (arith, ap length is, length-drop i xs) in
+    let more : x ∷ rest ≡ get_or xs i x ∷ drop (i + 1) xs = is ∙ drop_more xs i x there in
+    (take_more xs i x there ∙ ap (λ y. take i xs ++ y ∷ []) (sym (ap (λ ys. get_or ys 0 x) more)), ap behind_first more)
+
+-- this section clashes with none of those before it
+pub clashes_with_none : (added between front : List Section) (section : Section) → false ≡ clashes added section
+    → false ≡ clashes between section → false ≡ clashes front section
+    → clashes ((added ++ between) ++ front) section ≡ false
+clashes_with_none added between front section a b c =
+    list_any-append (differs_from section) (added ++ between) front
+    ∙ ap (λ r. r || clashes front section) (list_any-append (differs_from section) added between)
+    ∙ or_from (clashes added section || clashes between section) (clashes front section)
+    (or_from (clashes added section) (clashes between section) (sym a) (sym b)) (sym c)
+
 -- ---- the first changeset that is refused
 
 -- what is refused of one changeset is refused of all
 pub reports_all : (error : GroupError) (clash later total : Option ℕ) → total ≡ refused_earliest clash later
-    → ReportsClash error clash → ReportsClash error total
+    → ReportsClash error clash → ReportsIfSchema error total
 reports_all (Schema section) clash later total is reports = is ∙ ap (λ c. refused_earliest c later) reports
 reports_all Memory clash later total is reports = tt
 

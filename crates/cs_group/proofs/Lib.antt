@@ -34,3 +34,4 @@ pub mod Names
 pub mod Beginning
 pub mod KeyLaws
 pub mod FirstKey
+pub mod Admitting

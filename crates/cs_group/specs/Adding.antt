@@ -7,23 +7,31 @@ use Rattle.std.specs.Map.{lookup}
 use Rattle.cs_model.specs.declared.shape.Shape.{Shape}
 use Rattle.cs_model.specs.Schema.{same_bytes, same_shape}
 use Rattle.cs_model.specs.Section.{Section}
+use Rattle.cs_group.specs.declared.clash.AnyChangeset.{AnyChangeset}
+use Rattle.cs_group.specs.declared.clash.AnyChangeset.TheVariants.{Owned, InText}
 use Rattle.cs_group.specs.declared.error.GroupError.{GroupError}
 use Rattle.cs_group.specs.declared.error.GroupError.TheVariants.{Schema, Memory}
 use Rattle.cs_group.specs.Group.{clashes, first_clash}
 
 -- an error reports the first section that can't be combined with those before it, or that memory
--- ran out
+-- ran out and there is none
 abbrev pub ReportsClash : GroupError → Option ℕ → Type 0
 ReportsClash (Schema section) clash = clash ≡ Some section
-ReportsClash Memory clash = Unit {0}
+ReportsClash Memory clash = clash ≡ None
+
+-- the same of private functions, which don't look for a clash once memory ran out
+abbrev pub ReportsIfSchema : GroupError → Option ℕ → Type 0
+ReportsIfSchema (Schema section) clash = clash ≡ Some section
+ReportsIfSchema Memory clash = Unit {0}
+
+-- the sections of a changeset in either form
+abbrev pub sections_of : AnyChangeset → List Section
+sections_of (Owned changeset) = changeset.now
+sections_of (InText changeset) = changeset.now
 
 -- the sections of changesets, one changeset's after another's
 abbrev pub sections_in : List (List Section) → List Section
 sections_in changesets = flat_map (λ sections. sections) changesets
-
--- the same for borrowed changesets
-abbrev pub sections_added : List (Bor (List Section)) → List Section
-sections_added changesets = flat_map (λ changeset. changeset.now) changesets
 
 -- The first changeset that can't be combined with those before it, by the index of its section that
 -- can't.

@@ -13,7 +13,7 @@ pub enum GroupError {
     /// other key flags. The number is the section's index in its changeset, from 0.
     #[error("section {section} has another shape than an earlier section of its table")]
     Schema { section: usize },
-    /// Out of memory.
+    /// Out of memory; no section clashes.
     #[error("out of memory")]
     Memory,
 }

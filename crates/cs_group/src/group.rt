@@ -6,10 +6,11 @@ ghost use Rattle.cs_model.specs.Changeset.{IsChangeset};
 ghost use Rattle.cs_model.specs.Section.{Section};
 ghost use Rattle.cs_write.specs.Buffer.{given};
 ghost use Rattle.cs_write.specs.Text.{text_of};
-ghost use Rattle.cs_group.specs.Adding.{Knows, ReportsClash, first_refused, sections_added};
-ghost use Rattle.cs_group.specs.Adding.{sections_in};
+ghost use Rattle.cs_group.specs.Adding.{Knows, ReportsClash, ReportsIfSchema, first_refused};
+ghost use Rattle.cs_group.specs.Adding.{sections_in, sections_of};
 ghost use Rattle.cs_group.specs.Group.{first_clash, group_of};
 
+use crate::clash::{AnyChangeset, error_of_all, error_of_one};
 use crate::error::GroupError;
 use crate::known::{Tables, admit_all};
 use crate::output::{changeset_of, write_text};
@@ -54,14 +55,15 @@ impl<'a> Group<'a> {
     /// Adds a changeset. Works as `sqlite3changegroup_add`.
     ///
     /// Returns `Schema` with the first section whose table has the name of an earlier section's and
-    /// another shape, or `Memory` if memory runs out. An `Err` does not change the group.
+    /// another shape, or `Memory` if there is none and memory runs out. An `Err` does not change
+    /// the group.
     pub fn add(&mut self, alloc: Global, changeset: &'a Changeset) -> Result<(), GroupError>
         ensures ok { OnOk result (self.new ≡ self.old ++ changeset.now) }
         ensures fits { OnOk result (first_clash self.old changeset.now ≡ None) }
         ensures refused { IfErr result (λ e. ReportsClash e (first_clash self.old changeset.now)) }
         ensures err { OnErr result (self.new ≡ self.old) }
     {
-        self.add_sections(alloc, changeset.iter())
+        self.add_any(alloc, AnyChangeset::Owned(changeset))
     }
 
     /// The same for a changeset that stands in its text.
@@ -75,23 +77,23 @@ impl<'a> Group<'a> {
         ensures refused { IfErr result (λ e. ReportsClash e (first_clash self.old changeset.now)) }
         ensures err { OnErr result (self.new ≡ self.old) }
     {
-        self.add_sections(alloc, changeset.iter())
+        self.add_any(alloc, AnyChangeset::InText(changeset))
     }
 
-    // adds the sections of a changeset
-    fn add_sections(&mut self, alloc: Global, sections: SectionRefs<'a>) -> Result<(), GroupError>
-        requires { IsChangeset sections }
-        ensures ok { OnOk result (self.new ≡ self.old ++ sections.entry) }
-        ensures fits { OnOk result (first_clash self.old sections.entry ≡ None) }
-        ensures refused { IfErr result (λ e. ReportsClash e (first_clash self.old sections.entry)) }
+    // adds a changeset in either form
+    fn add_any(&mut self, alloc: Global, changeset: AnyChangeset<'a>) -> Result<(), GroupError>
+        ensures ok { OnOk result (self.new ≡ self.old ++ sections_of changeset.entry) }
+        ensures fits { OnOk result (first_clash self.old (sections_of changeset.entry) ≡ None) }
+        ensures refused { IfErr result (λ e.
+            ReportsClash e (first_clash self.old (sections_of changeset.entry))) }
         ensures err { OnErr result (self.new ≡ self.old) }
     {
         let known = self.tables.len();
         let held = self.added.len();
-        if let Err(error) = take_in(alloc, &mut self.tables, &mut self.added, sections) {
+        if let Err(error) = take_in(alloc, &mut self.tables, &mut self.added, changeset.iter()) {
             self.tables.truncate(known);
             self.added.truncate(held);
-            return Err(error);
+            return Err(error_of_one(error, &self.added, &changeset));
         }
         Ok(())
     }
@@ -130,7 +132,7 @@ fn take_in<'a>(
     ensures fits { OnOk result (Knows added.old.items tables.old.entries
         → first_clash added.old.items sections.entry ≡ None) }
     ensures refused { IfErr result (λ e. Knows added.old.items tables.old.entries
-        → ReportsClash e (first_clash added.old.items sections.entry)) }
+        → ReportsIfSchema e (first_clash added.old.items sections.entry)) }
     ensures kept { take (length tables.old.entries) tables.new.entries ≡ tables.old.entries }
     ensures front { take (length added.old.items) added.new.items ≡ added.old.items }
 {
@@ -154,41 +156,30 @@ fn push_all<'a>(
     Ok(())
 }
 
-/// Combines changesets that one schema admits, so that no section can clash. Tables are told apart
-/// by their names and key flags. Returns `AllocError` if memory runs out.
-pub fn combine_admitted(alloc: Global, changesets: &[&Changeset]) -> Result<Changeset, AllocError>
-    ensures { IfOk result (λ made. made ≡ group_of (sections_added changesets.now)) }
-{
-    let added = listed(alloc, changesets)?;
-    changeset_of(alloc, &added)
-}
-
-// the sections of changesets, one changeset's after another's
-fn listed<'a>(
-    alloc: Global,
-    changesets: &[&'a Changeset],
-) -> Result<Vec<SectionRef<'a>>, AllocError>
-    ensures added { IfOk result (λ added. added.items ≡ sections_added changesets.now) }
-    ensures valid { OnOk result (IsChangeset (sections_added changesets.now)) }
-{
-    let mut added = Vec::new(alloc);
-    for changeset in changesets {
-        push_all(&mut added, changeset.iter())?;
-    }
-    Ok(added)
-}
-
 /// Combines changesets into one: the `output` of a group of them.
 ///
-/// Returns the error of the first changeset whose `add` is refused, or `Memory` if memory runs out.
+/// Returns the `Schema` of the first `add` that finds a clash, or `Memory` if no section clashes and
+/// memory runs out.
 pub fn combine(alloc: Global, changesets: &[Changeset]) -> Result<Changeset, GroupError>
     ensures ok { IfOk result (λ made. made ≡ group_of (sections_in changesets.now)) }
     ensures fits { OnOk result (first_refused [] changesets.now ≡ None) }
     ensures refused { IfErr result (λ e. ReportsClash e (first_refused [] changesets.now)) }
 {
+    match grouped(alloc, changesets) {
+        Ok(group) => Ok(group.output(alloc)?),
+        Err(error) => Err(error_of_all(error, changesets)),
+    }
+}
+
+// The group of changesets. Changesets after one at which memory ran out aren't looked at.
+fn grouped<'a>(alloc: Global, changesets: &'a [Changeset]) -> Result<Group<'a>, GroupError>
+    ensures ok { IfOk result (λ group. group ≡ sections_in changesets.now) }
+    ensures fits { OnOk result (first_refused [] changesets.now ≡ None) }
+    ensures refused { IfErr result (λ e. ReportsIfSchema e (first_refused [] changesets.now)) }
+{
     let mut group = Group::new(alloc);
     for changeset in changesets {
         group.add(alloc, changeset)?;
     }
-    Ok(group.output(alloc)?)
+    Ok(group)
 }

@@ -1,14 +1,16 @@
 //! Laws of groups: public functions that do nothing. Their contracts state what holds of all
 //! changesets and tables; a caller that needs one calls it.
 
-ghost use Rattle.std.specs.Prelude.{◌≡◌, List, Ok, Err};
+ghost use Rattle.std.specs.Prelude.{◌≡◌, ◌++◌, List, None, Ok, Err};
+ghost use Rattle.cs_model.specs.declared.shape.Shape.{Shape};
 ghost use Rattle.cs_model.specs.Changeset.{IsChangeset};
+ghost use Rattle.cs_model.specs.Schema.{IsSchema, refusal_of};
 ghost use Rattle.cs_model.specs.Section.{Section};
 ghost use Rattle.cs_apply.specs.declared.conflict.Conflict.{Conflict};
 ghost use Rattle.cs_apply.specs.Single.{single};
 ghost use Rattle.cs_apply.specs.State.{TableState};
 ghost use Rattle.cs_apply.specs.Columns.{HaveColumns};
-ghost use Rattle.cs_group.specs.Group.{group_of};
+ghost use Rattle.cs_group.specs.Group.{first_clash, group_of};
 
 use cs_model::laws::{changes_fit, fields_again};
 
@@ -26,3 +28,14 @@ pub fn groups_apply()
     changes_fit();
     fields_again();
 }
+
+/// Changesets that one schema admits can be combined: no two of their sections clash. What is
+/// admitted in two parts is admitted as one.
+pub fn admitted_never_clash()
+    ensures clash { (tables : List Shape) (earlier more : List Section) → IsSchema tables
+        → refusal_of tables earlier ≡ None → refusal_of tables more ≡ None
+        → first_clash earlier more ≡ None }
+    ensures both { (tables : List Shape) (some more : List Section)
+        → refusal_of tables some ≡ None → refusal_of tables more ≡ None
+        → refusal_of tables (some ++ more) ≡ None }
+{}

@@ -3,6 +3,7 @@
 //! their group does, and the tables are the same (`laws::groups_apply`).
 #![tactic(auto)]
 
+mod clash;
 mod error;
 mod group;
 mod key;
@@ -21,5 +22,5 @@ mod table;
 mod texts;
 
 pub use error::GroupError;
-pub use group::{Group, combine, combine_admitted};
+pub use group::{Group, combine};
 pub use texts::combine_texts;

@@ -8,3 +8,4 @@ pub mod Withdrawing
 pub mod SameLength
 pub mod ByShape
 pub mod KeyLeads
+pub mod Admitting

@@ -1,8 +1,10 @@
 //! Laws of inverses: public functions that do nothing. Their contracts state what holds of all
 //! changesets and tables; a caller that needs one calls it.
 
-ghost use Rattle.std.specs.Prelude.{◌≡◌, List, Ok};
+ghost use Rattle.std.specs.Prelude.{◌≡◌, List, None, Ok};
+ghost use Rattle.cs_model.specs.declared.shape.Shape.{Shape};
 ghost use Rattle.cs_model.specs.Changeset.{IsChangeset};
+ghost use Rattle.cs_model.specs.Schema.{refusal_of};
 ghost use Rattle.cs_model.specs.Section.{Section};
 ghost use Rattle.cs_apply.specs.Columns.{HaveColumns};
 ghost use Rattle.cs_apply.specs.Single.{single};
@@ -36,3 +38,9 @@ pub fn withdrawing_undoes()
     changes_fit();
     fields_again();
 }
+
+/// A schema that admits a changeset admits its withdrawal.
+pub fn withdrawals_are_admitted()
+    ensures { (tables : List Shape) (sections : List Section) → refusal_of tables sections ≡ None
+        → refusal_of tables (withdrawal_of sections) ≡ None }
+{}

@@ -15,7 +15,7 @@ use std::alloc::Global;
 /// inverse alone can conflict if the changeset has several changes of a row.
 ///
 /// Returns `Schema` with the first section whose table has the name of an earlier section's and
-/// another shape, or `Memory` if memory runs out.
+/// another shape, or `Memory` if there is none and memory runs out.
 pub fn withdrawal(alloc: Global, changeset: &Changeset) -> Result<Changeset, GroupError>
     ensures ok { IfOk result (λ made. made ≡ withdrawal_of changeset.now) }
     ensures fits { OnOk result (first_clash [] changeset.now ≡ None) }

@@ -5,7 +5,7 @@ ghost use Rattle.std.specs.Prelude.{OnErr, IsOk, length, MatchResult, nat_lt};
 ghost use Rattle.std.specs.List.{list_any, list_all};
 ghost use Rattle.cs_model.specs.Schema.{has_name, has_shape, table_index, are_flags, is_name};
 ghost use Rattle.cs_model.specs.Schema.{first_outside, table_refusal, tables_refusal, refusal_of};
-ghost use Rattle.cs_model.specs.Schema.{same_bytes, same_shape, ReportsRefusal};
+ghost use Rattle.cs_model.specs.Schema.{same_bytes, same_shape, IsSchema, ReportsRefusal};
 ghost use Rattle.cs_model.specs.declared.schema.SchemaError.TheVariants.{Memory};
 
 use crate::changeset::Changeset;
@@ -124,9 +124,10 @@ impl Schema {
         }
     }
 
-    /// The tables, in order.
+    /// The tables, in order. None of them is refused after those before it.
     pub fn tables(&self) -> &[Shape]
-        ensures { result.now ≡ self.now }
+        ensures tables { result.now ≡ self.now }
+        ensures valid { IsSchema self.now }
     {
         &self.tables
     }

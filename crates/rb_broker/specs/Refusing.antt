@@ -1,21 +1,30 @@
 -- What a publisher's calls hand back, and the entries that it withdrew.
-use Rattle.std.specs.Prelude.{◌≡◌, ℕ, List, Bool, None, Result, Ok, Err}
+use Rattle.std.specs.Prelude.{◌≡◌, ℕ, List, [], Bool, None, Some, Result, Ok, Err}
 use Rattle.std.specs.List.{list_any}
 use Rattle.std.specs.Ordering.{nat_cmp}
 use Rattle.std.specs.BTreeMap.{is_at}
 use Rattle.std.specs.BTreeSet.{insert_key}
 use Rattle.cs_model.specs.declared.origin.Origin.TheVariants.{Sent}
 use Rattle.cs_model.specs.Section.{Section}
+use Rattle.cs_group.specs.Group.{first_clash}
 use Rattle.cs_parse.specs.declared.end.EndError.{EndError}
-use Rattle.rb_sequence.specs.Cells.{Cells, IsLastToken}
+use Rattle.rb_sequence.specs.Cells.{Cells, CellToken, IsLastToken, IsTokenOf}
 use Rattle.rb_broker.specs.Publishers.{StagedView}
 use Rattle.rb_broker.specs.declared.refusal.SendRefusal.{SendRefusal}
 use Rattle.rb_broker.specs.declared.refusal.SendRefusal.TheVariants as send
+use Rattle.rb_broker.specs.declared.refusal.WithdrawRefusal.{WithdrawRefusal}
+use Rattle.rb_broker.specs.declared.refusal.WithdrawRefusal.TheVariants as withdraw
 
 -- the set comes back; a closed sequence shows its last number
 abbrev pub SendsNothing : {L : Type 0} → Cells → StagedView → SendRefusal L → Type 0
 SendsNothing cells set (send.Closed last back) = IsLastToken cells last × (back ≡ set)
 SendsNothing cells set (send.Full back) = back ≡ set
+
+-- `Schema` names the first section that clashes, in the changeset that the cell of this number shows
+abbrev pub ClashesShown : Cells → ℕ → WithdrawRefusal → Type 0
+ClashesShown cells number (withdraw.Schema section) = (told : CellToken) × IsTokenOf cells told
+    × (told.number ≡ number) × (first_clash [] told.entry.item.body ≡ Some section)
+ClashesShown cells number other = Unit {0}
 
 -- the set that this publisher was fed, or the stream's error
 abbrev pub EndsWith : ℕ → Result StagedView EndError → Result (List Section) EndError → Type 0

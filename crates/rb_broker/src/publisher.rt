@@ -6,22 +6,22 @@ ghost use Rattle.std.specs.Prelude.{Err, false};
 ghost use Rattle.cs_model.specs.declared.origin.Origin.TheVariants.{Withdraws};
 ghost use Rattle.cs_parse.specs.End.{admitted_answer, left_by};
 ghost use Rattle.cs_parse.specs.Progress.{FeedAnswers, answer_at_end, nothing};
-ghost use Rattle.cs_invert.specs.Inverse.{withdrawal_of};
 ghost use Rattle.rb_broker.specs.Publishers.{item_of};
 ghost use Rattle.rb_broker.specs.declared.refusal.WithdrawRefusal.TheVariants.{AlreadyWithdrawn};
-ghost use Rattle.rb_broker.specs.Refusing.{EndsWith, SendsNothing, has_number, with_number};
+ghost use Rattle.rb_broker.specs.Refusing.{ClashesShown, EndsWith, SendsNothing, has_number};
+ghost use Rattle.rb_broker.specs.Refusing.{with_number};
 
 use crate::broker::Broker;
 use crate::hall::Hall;
 use crate::refusal::{SendRefusal, WithdrawRefusal};
 use crate::staged::StagedSet;
-use cs_group::combine_admitted;
-use cs_invert::invert;
-use cs_model::{Changeset, Origin, Schema};
+use cs_group::GroupError;
+use cs_invert::withdrawal;
+use cs_model::{Origin, Schema};
 use cs_parse::{EndError, ParseError, PieceParser};
 use rb_intake::PublisherPass;
-use rb_sequence::{Entry, Item, Sequence};
-use std::alloc::{AllocError, Global};
+use rb_sequence::{Item, Sequence};
+use std::alloc::Global;
 use std::collections::BTreeSet;
 use std::marker::{Model, PhantomData};
 use std::sync::{Arc, Wait};
@@ -164,8 +164,8 @@ impl<L: Hall> Publisher<L> {
 
     /// Stages the withdrawal of entry `number`, which this publisher sent.
     ///
-    /// Refuses `NotPlaced`, `NotYours`, and `AlreadyWithdrawn` if an earlier call withdrew the
-    /// entry.
+    /// Refuses `NotPlaced`, `NotYours`, `AlreadyWithdrawn` if an earlier call withdrew the entry,
+    /// and `Schema` if two of its sections clash.
     pub fn withdraw(
         &mut self,
         alloc: Global,
@@ -181,6 +181,7 @@ impl<L: Hall> Publisher<L> {
         ensures why { result ≡ Err AlreadyWithdrawn
             → has_number number self.old.withdrawn ≡ true }
         ensures once { OnOk result (has_number number self.old.withdrawn ≡ false) }
+        ensures clash { IfErr result (ClashesShown L.cells number) }
     {
         let told = sequence.tell(number).ok_or(WithdrawRefusal::NotPlaced)?;
         let entry = sequence.get_told(&told);
@@ -190,8 +191,10 @@ impl<L: Hall> Publisher<L> {
         if self.withdrawn.contains(&number) {
             return Err(WithdrawRefusal::AlreadyWithdrawn);
         }
-        let Ok(body) = withdrawal(alloc, entry) else {
-            return Err(WithdrawRefusal::Memory);
+        let body = match withdrawal(alloc, entry.body()) {
+            Ok(body) => body,
+            Err(GroupError::Schema { section }) => return Err(WithdrawRefusal::Schema { section }),
+            Err(GroupError::Memory) => return Err(WithdrawRefusal::Memory),
         };
         if self.withdrawn.insert(number).is_err() {
             return Err(WithdrawRefusal::Memory);
@@ -204,11 +207,4 @@ impl<L: Hall> Publisher<L> {
             of: PhantomData,
         })
     }
-}
-
-// the withdrawal of an entry's changeset
-fn withdrawal(alloc: Global, entry: &Entry) -> Result<Changeset, AllocError>
-    ensures { IfOk result (λ made. made ≡ withdrawal_of entry.now.item.body) }
-{
-    invert(alloc, &combine_admitted(alloc, &[entry.body()])?)
 }

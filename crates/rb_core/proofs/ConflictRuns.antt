@@ -1,5 +1,5 @@
 -- Where a run's `Accept` is refused for a conflict, what the delivery would bring conflicts singly.
-use Rattle.std.proofs.Common.{◌≡◌, ℕ, List, Option, Some, None, Result, Ok, Err, slice_get, refl, sym, ap, subst, ◌∙◌}
+use Rattle.std.proofs.Common.{◌≡◌, ℕ, suc, ◌-◌, List, Option, Some, None, Result, Ok, Err, slice_get, refl, sym, ap, subst, ◌∙◌}
 use Rattle.std.specs.Prelude.{◌-◌}
 use Rattle.cs_model.specs.declared.shape.Shape.{Shape}
 use Rattle.cs_apply.specs.Columns.{HaveColumns}
@@ -17,7 +17,7 @@ use Rattle.rb_core.specs.declared.reply.BrokerRefusal.{BrokerRefusal}
 use Rattle.rb_core.specs.declared.reply.BrokerRefusal.TheVariants as refusal
 use Rattle.rb_core.specs.Outcome.{outcome, delivery_of, accepted_by, accepted_at, accepted_as}
 use Rattle.rb_core.specs.State.{State, empty_tables}
-use Rattle.rb_core.specs.World.{Subscriber, World, world_begun, cursor, endpoint_of}
+use Rattle.rb_core.specs.World.{Subscriber, World, world_begun, endpoint_of}
 use Rattle.rb_core.proofs.Moving.{all_get}
 use Rattle.rb_core.proofs.Singly.{SinglyLaws, columns_stay, part_of_changesets}
 use Rattle.rb_core.proofs.Telling.{BeginsEmpty, IsTold, subscriber_of_end}
@@ -75,16 +75,16 @@ module _ (old : State) (d : ℕ) (conflict : Conflict) (new : State) where
 
 abbrev pub ConflictIsSingle : Type 0
 ConflictIsSingle = (old : Endpoint) (sequence : List Entry) (delivery : Delivery) (conflict : Conflict)
-    → AreChangesets (brought old sequence delivery) → HaveColumns old.tables
+    → AreChangesets (brought sequence delivery) → HaveColumns old.tables
     → accept old sequence delivery ≡ Err (why.Conflict conflict)
-    → ConflictsSingly old.tables (brought old sequence delivery)
+    → ConflictsSingly old.tables (brought sequence delivery)
 
 pub conflict_in_run : ConflictIsSingle → SinglyLaws → (schema : List Shape) (old : State) (world : World) (d : ℕ)
     (conflict : Conflict) → IsTold schema world_begun old world → AreChangesets world.sequence
     → RefusesConflict old d conflict
     → (delivery : Delivery) × (subscriber : Subscriber) × (delivery_of old d ≡ Some delivery)
     × (slice_get world.subscribers delivery.sub ≡ Some subscriber)
-    × ConflictsSingly subscriber.tables (brought (endpoint_of subscriber) old.sequence delivery)
+    × ConflictsSingly subscriber.tables (brought old.sequence delivery)
 conflict_in_run law laws schema old world d conflict told valid refuses =
     let delivery = refuses.0 in
     let at = subscriber_of_end schema old world delivery.sub refuses.1 told.1 refuses.3 in
@@ -96,5 +96,5 @@ conflict_in_run law laws schema old world d conflict told valid refuses =
     let have = columns_stay laws told.0.0 world delivery.sub q told.0.1 at.1 valid
     (subst HaveColumns (sym base) (empty_have_columns schema)) in
     let placed : AreChangesets old.sequence = subst AreChangesets told.1.sequence valid in
-    let brings = part_of_changesets old.sequence (cursor q) (delivery.last - cursor q) placed in
+    let brings = part_of_changesets old.sequence (delivery.first - 1) (suc delivery.last - delivery.first) placed in
     (delivery, q, refuses.2, at.1, law (endpoint_of q) old.sequence delivery conflict brings have refused)

@@ -7,6 +7,8 @@ use Rattle.std.proofs.lemmas.List.{length-take, length-drop, length-append}
 use Rattle.cs_model.proofs.CallerLemmas.{all_push}
 use Rattle.rb_desk.specs.declared.delivery.Delivery.{Delivery}
 use Rattle.rb_sequence.specs.Entry.{Entry}
+use Rattle.rb_subscriber.proofs.RunLaws.{brought_after}
+use Rattle.rb_subscriber.specs.Accept.{brought}
 use Rattle.rb_subscriber.specs.Accept.{part}
 use Rattle.rb_subscriber.proofs.RunLaws.{parts, part_stays}
 use Rattle.rb_core.specs.World.{Subscriber, World, world_begun, cursor}
@@ -130,15 +132,16 @@ runs_kept = record {
       let q = move.subscriber in
       gapless_becomes old new move.s q
       (record q {
-        accepted = q.accepted ++ part old.sequence (cursor q) (move.delivery.last - cursor q);
+        accepted = q.accepted ++ brought old.sequence move.delivery;
         tables = move.end.tables;
       }) runs move.found
       (λ h. accepts_run old.sequence q move.delivery
       (record q {
-        accepted = q.accepted ++ part old.sequence (cursor q) (move.delivery.last - cursor q);
+        accepted = q.accepted ++ brought old.sequence move.delivery;
         tables = move.end.tables;
       }) h move.accepts.some
-      (all_in (GaplessIsPlaced old.sequence) q.deliveries move.delivery h.deliveries move.offered) refl refl refl)
+      (all_in (GaplessIsPlaced old.sequence) q.deliveries move.delivery h.deliveries move.offered) refl refl
+      (ap (λ es. q.accepted ++ es) (brought_after old.sequence move.delivery (cursor q) move.accepts.next)))
       move.kept;
   reconnects = λ old new move runs.
       let q = move.subscriber in

@@ -55,6 +55,14 @@ paired_get R (z ∷ xs) (y ∷ ys) zero x all e =
     (y, refl, subst (λ w. R w y) same all.0)
 paired_get R (z ∷ xs) (y ∷ ys) (suc i) x all e = paired_get R xs ys i x all.1 e
 
+-- what pairs one way pairs another way that follows
+pub paired_as : {A B : Type 0} (R S : A → B → Type 0) → ((x : A) (y : B) → R x y → S x y) → (xs : List A)
+    (ys : List B) → Paired R xs ys → Paired S xs ys
+paired_as R S as_other [] [] all = tt
+paired_as R S as_other [] (y ∷ ys) all = absurd all
+paired_as R S as_other (x ∷ xs) [] all = absurd all
+paired_as R S as_other (x ∷ xs) (y ∷ ys) all = (as_other x y all.0, paired_as R S as_other xs ys all.1)
+
 pub paired_set : {A B : Type 0} (R : A → B → Type 0) (xs : List A) (ys : List B) (i : ℕ) (x : A) (y : B)
     → Paired R xs ys → R x y → Paired R (slice_set xs i x) (slice_set ys i y)
 paired_set R [] [] i x y all h = tt

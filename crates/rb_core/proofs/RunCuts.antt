@@ -1,7 +1,7 @@
 -- Runs cut in two, and what the laws say of a finished run.
 use Rattle.std.proofs.Common.{◌≡◌, ℕ, zero, suc, true, List, [], ◌∷◌, ◌++◌, take, drop, Result, Ok, Err, Some, refl}
 use Rattle.std.proofs.Common.{sym, ap, ◌∙◌}
-use Rattle.std.specs.Prelude.{IfOk, slice_get}
+use Rattle.std.specs.Prelude.{IfOk, OnErr, slice_get}
 use Rattle.std.specs.List.{AllByRecursion}
 use Rattle.cs_model.specs.declared.shape.Shape.{Shape}
 use Rattle.rb_desk.specs.Limits.{Limits}
@@ -12,6 +12,11 @@ use Rattle.rb_core.specs.State.{State, empty_world}
 use Rattle.rb_core.specs.Told.{world_told, IsToldBy}
 use Rattle.rb_core.specs.World.{Subscriber, world_begun}
 use Rattle.rb_core.proofs.Telling.{IsTold}
+
+-- what follows of an error
+pub on_error : {A E : Type 0} (P Q : Type 0) (answer : Result A E) → (P → Q) → OnErr answer P → OnErr answer Q
+on_error P Q (Ok x) follows err = tt
+on_error P Q (Err e) follows err = follows err
 
 -- what follows of an answer that is Ok
 pub on_ok : {A E : Type 0} (P Q : A → Type 0) (answer : Result A E) → ((x : A) → P x → Q x) → IfOk answer P

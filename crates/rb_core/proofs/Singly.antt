@@ -10,11 +10,11 @@ use Rattle.cs_group.specs.Group.{group_of}
 use Rattle.rb_desk.specs.declared.delivery.Delivery.{Delivery}
 use Rattle.rb_sequence.specs.Entry.{Entry}
 use Rattle.rb_subscriber.specs.Accept.{accept, brought, AcceptsDelivery, AppliesSingly, AreChangesets, part}
-use Rattle.rb_subscriber.specs.Accept.{joined_bodies}
+use Rattle.rb_subscriber.specs.Accept.{joined_bodies, HasSingleTables}
 use Rattle.rb_subscriber.specs.Endpoint.{Endpoint}
 use Rattle.rb_subscriber.proofs.RunLaws.{RowsKeepColumns, joined_valid}
-use Rattle.rb_core.specs.World.{Subscriber, World, world_begun, cursor, endpoint_of}
-use Rattle.rb_core.specs.Moves.{with_subscriber, HasSingleTables, Leads}
+use Rattle.rb_core.specs.World.{Subscriber, World, world_begun, endpoint_of}
+use Rattle.rb_core.specs.Moves.{with_subscriber, Leads}
 use Rattle.rb_core.proofs.Moving.{all_set, all_get, MovingKeeps, kept_through}
 
 -- ---- the laws of endpoints
@@ -25,8 +25,8 @@ AcceptIsStep = (old : Endpoint) (sequence : List Entry) (delivery : Delivery) (n
 
 abbrev AcceptIsSingle : Type 0
 AcceptIsSingle = (old : Endpoint) (sequence : List Entry) (delivery : Delivery) (new : Endpoint)
-    (tables : tables.TableState) → AreChangesets (brought old sequence delivery) → HaveColumns old.tables
-    → accept old sequence delivery ≡ Ok new → AppliesSingly old.tables (brought old sequence delivery) tables
+    (tables : tables.TableState) → AreChangesets (brought sequence delivery) → HaveColumns old.tables
+    → accept old sequence delivery ≡ Ok new → AppliesSingly old.tables (brought sequence delivery) tables
     → new.tables ≡ tables
 
 pub record SinglyLaws : Type 0 where
@@ -68,7 +68,7 @@ applies_parts old (entry ∷ some) more new e =
 -- application
 record IsSingle (q : Subscriber) : Type 0 where
   columns : HaveColumns q.base → HaveColumns q.tables
-  tables : HaveColumns q.base → HasSingleTables q.base q
+  tables : HaveColumns q.base → HasSingleTables q.base q.accepted q.tables
 
 -- so it is with each, where what is placed are changesets
 abbrev AreSingle : World → Type 0
@@ -79,11 +79,11 @@ with_brought q entries tables = record q { accepted = q.accepted ++ entries; tab
 
 single_more : SinglyLaws → (q : Subscriber) (sequence : List Entry) (delivery : Delivery) (end : Endpoint)
     → AreChangesets sequence → AcceptsDelivery (endpoint_of q) sequence delivery end → IsSingle q
-    → IsSingle (with_brought q (brought (endpoint_of q) sequence delivery) end.tables)
+    → IsSingle (with_brought q (brought sequence delivery) end.tables)
 single_more laws q sequence delivery end valid accepts is =
-    let entries = brought (endpoint_of q) sequence delivery in
+    let entries = brought sequence delivery in
     let sections = joined_bodies entries in
-    let brings = part_of_changesets sequence (cursor q) (delivery.last - cursor q) valid in record {
+    let brings = part_of_changesets sequence (delivery.first - 1) (suc delivery.last - delivery.first) valid in record {
       columns = λ have. laws.rows q.tables end.tables (group_of sections)
           (group_fits sections (joined_valid entries brings)) (is.columns have) accepts.tables;
       tables = λ have tables applied.
@@ -142,6 +142,6 @@ columns_stay laws mids new s q leads found valid = (are_single laws mids new s q
 
 pub tables_are_single : SinglyLaws → (mids : List World) (new : World) (s : ℕ) (q : Subscriber)
     → Leads world_begun mids new → slice_get new.subscribers s ≡ Some q → AreChangesets new.sequence
-    → HaveColumns q.base → HasSingleTables q.base q
+    → HaveColumns q.base → HasSingleTables q.base q.accepted q.tables
 tables_are_single laws mids new s q leads found valid =
     (are_single laws mids new s q leads found valid).tables

@@ -1,5 +1,5 @@
 -- What is reported of deliveries: which are made, and what is accepted of them.
-use Rattle.std.proofs.Common.{◌≡◌, ℕ, suc, ◌+◌, ◌-◌, ◌<◌, ◌≤◌, inl, inr, false, List, [], ◌∷◌, ◌++◌, length, map}
+use Rattle.std.proofs.Common.{◌≡◌, ℕ, suc, ◌+◌, ◌<◌, ◌≤◌, inl, inr, false, List, [], ◌∷◌, ◌++◌, length, map}
 use Rattle.std.proofs.Common.{Option, Some, None}
 use Rattle.std.proofs.Common.{Result, Ok, Err, refl, sym, ap, subst, ◌∙◌, arith}
 use Rattle.std.specs.Prelude.{⊤, slice_get, slice_set, ◌↔◌, ◌==◌}
@@ -21,7 +21,8 @@ use Rattle.rb_desk.specs.Outline as outline
 use Rattle.rb_desk.specs.Picture.{Picture}
 use Rattle.rb_desk.proofs.pictures.PictureLaws.{get_set}
 use Rattle.rb_sequence.specs.Entry.{Entry}
-use Rattle.rb_subscriber.specs.Accept.{part, joined_bodies, accept, AcceptsDelivery}
+use Rattle.rb_subscriber.proofs.RunLaws.{brought_after}
+use Rattle.rb_subscriber.specs.Accept.{brought, joined_bodies, accept, AcceptsDelivery}
 use Rattle.rb_subscriber.specs.declared.refusal.AcceptRefusal.{AcceptRefusal}
 use Rattle.rb_subscriber.specs.Endpoint.{Endpoint}
 use Rattle.rb_core.specs.declared.event.Event.{Event}
@@ -33,7 +34,7 @@ use Rattle.rb_core.specs.Outcome as out
 use Rattle.rb_core.specs.Outcome.{with_endpoint}
 use Rattle.rb_core.specs.State.{State, IsWorld, IsOf}
 use Rattle.rb_core.specs.Told as say
-use Rattle.rb_core.specs.Told.{told, delivery_told, entries_of, IsDelivered, AreBelow, IsToldBy}
+use Rattle.rb_core.specs.Told.{told, delivery_told, IsDelivered, AreBelow, IsToldBy}
 use Rattle.rb_core.specs.World.{Subscriber, World, cursor, endpoint_of}
 use Rattle.rb_core.proofs.Moving.{all_set, all_get, all_map}
 use Rattle.rb_core.proofs.Gapless.{part_length}
@@ -193,10 +194,11 @@ as_end q far rows = record { start = q.start; cursor = far; link = q.link; close
 -- what an end accepts: how far it is behind it, and with which tables
 end_behind : (sequence : List Entry) (q : Subscriber) (delivery : Delivery) (end : Endpoint) → delivery.last
     ≤ length sequence → AcceptsDelivery (endpoint_of q) sequence delivery end
-    → endpoint_of (say.with_accepted (part sequence (cursor q) (delivery.last - cursor q)) q) ≡ end
+    → endpoint_of (say.with_accepted (brought sequence delivery) q) ≡ end
 end_behind sequence q delivery end placed accepts =
-    let entries = part sequence (cursor q) (delivery.last - cursor q) in
-    let long = part_length sequence (cursor q) delivery.last placed (omega (arith, accepts.some)) in
+    let entries = brought sequence delivery in
+    let long = ap length (brought_after sequence delivery (cursor q) accepts.next)
+    ∙ part_length sequence (cursor q) delivery.last placed (omega (arith, accepts.some)) in
     let far : q.start + length (q.accepted ++ entries) ≡ delivery.last =
     omega (arith, long, length-append q.accepted entries, accepts.some) in
     let rows : say.if_applied q.tables (single q.tables (group_of (joined_bodies entries))) ≡ end.tables =
@@ -223,7 +225,7 @@ accepted_tells steps schema old world d delivery end (Ok after) is found of offe
     let accepts : AcceptsDelivery (endpoint_of q) world.sequence delivery after =
     subst (λ entries. AcceptsDelivery (endpoint_of q) entries delivery after) (sym h.sequence) from_q in
     let last : after.cursor ≡ delivery.last = ap (λ (e : Endpoint). e.cursor) accepts.kept in
-    let entries = part world.sequence (cursor q) (delivery.last - cursor q) in
+    let entries = brought world.sequence delivery in
     let r = say.with_accepted entries q in
     let new = with_subscriber world s r in
     let rows : r.tables ≡ after.tables = ap (say.if_applied q.tables) accepts.tables in
@@ -241,13 +243,9 @@ accepted_tells steps schema old world d delivery end (Ok after) is found of offe
       kept = ap (λ t. with_subscriber world s (record q { accepted = q.accepted ++ entries; tables = t })) rows;
     } in
     let as_d : delivery_told d q ≡ Some delivery = subst (λ n. delivery_told n q ≡ Some delivery) number here in
-    let first : delivery.first - 1 ≡ cursor q = omega (arith, accepts.next) in
-    let many : suc delivery.last - delivery.first ≡ delivery.last - cursor q = omega (arith, accepts.next) in
-    let named : entries_of world.sequence delivery ≡ entries = λ i. part world.sequence (first i) (many i) in
     let is_new : told schema world (event.Accept d) (reply.Accepted s after.cursor) ≡ new =
     changed_is world s (say.accepted world.sequence d) q at.1
-    ∙ ap (λ f. with_subscriber world s (say.accepted_told world.sequence f q)) as_d
-    ∙ ap (λ es. with_subscriber world s (say.with_accepted es q)) named in
+    ∙ ap (λ f. with_subscriber world s (say.accepted_told world.sequence f q)) as_d in
     move_told schema world new (event.Accept d) (reply.Accepted s after.cursor) (with_endpoint old s after) is_new
     (inr (inr (inr (inr (inr (inr (inr (inr (inr (inl takes))))))))))
     (telling_with_both schema old world s q r after at.1 refl refl

@@ -110,6 +110,7 @@ empty_is_world : (limits : Limits) (schema : List Shape) → IsPicture (empty_pi
     → IsWorld (empty_world limits schema)
 empty_is_world limits schema picture =
     record {
+      admitted = record { staged = tt; intake = tt; hand = tt; sequence = tt };
       picture = picture;
       front = refl;
       few = omega arith;

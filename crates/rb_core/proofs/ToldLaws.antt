@@ -5,8 +5,9 @@ use Rattle.std.specs.FinMap as map
 use Rattle.cs_model.specs.declared.shape.Shape.{Shape}
 use Rattle.cs_model.specs.Key.{row_key_cmp}
 use Rattle.cs_apply.specs.Columns.{HaveColumns}
-use Rattle.rb_subscriber.specs.Accept.{AreChangesets}
-use Rattle.rb_core.specs.Moves.{Leads, HasRun, HasSingleTables, StaysClosed}
+use Rattle.rb_subscriber.specs.Accept.{AreChangesets, HasSingleTables}
+use Rattle.rb_subscriber.specs.Endpoint.{Endpoint}
+use Rattle.rb_core.specs.Moves.{Leads, HasRun, StaysClosed}
 use Rattle.rb_core.specs.State.{State, empty_tables}
 use Rattle.rb_core.specs.Told.{IsToldBy}
 use Rattle.rb_core.specs.World.{Subscriber, World, world_begun, endpoint_of}
@@ -21,6 +22,11 @@ mapped_at f [] i x e = absurd (cc e)
 mapped_at f (y ∷ xs) zero x e = let same : y ≡ x = cc e in ap (λ z. Some (f z)) same
 mapped_at f (y ∷ xs) (suc i) x e = mapped_at f xs i x e
 
+-- the same, in a list that is what is made of the other
+pub mapped_in : {A B : Type 0} (f : A → B) (xs : List A) (ys : List B) → list_map f xs ≡ ys → (i : ℕ) (x : A)
+    → slice_get xs i ≡ Some x → slice_get ys i ≡ Some (f x)
+mapped_in f xs ys is i x e = ap (λ zs. slice_get zs i) (sym is) ∙ mapped_at f xs i x e
+
 -- a subscription of which the course says that it has its run, in a broker that was told so
 pub gapless_run : ((mids : List World) (new : World) (s : ℕ) (subscriber : Subscriber) → Leads world_begun mids new
     → slice_get new.subscribers s ≡ Some subscriber → HasRun new.sequence subscriber)
@@ -29,7 +35,7 @@ pub gapless_run : ((mids : List World) (new : World) (s : ℕ) (subscriber : Sub
     → HasRun new.sequence subscriber × (slice_get new.endpoints s ≡ Some (endpoint_of subscriber))
 gapless_run law schema new world s subscriber told found = (
   subst (λ sequence. HasRun sequence subscriber) told.1.sequence (law told.0.0 world s subscriber told.0.1 found),
-  ap (λ es. slice_get es s) (sym told.1.ends) ∙ mapped_at endpoint_of world.subscribers s subscriber found,
+  mapped_in endpoint_of world.subscribers new.endpoints told.1.ends s subscriber found,
 )
 
 -- nothing is placed behind a close, nor accepted behind one
@@ -52,11 +58,17 @@ empty_have_columns schema key row found = absurd (let no = sym (map.get-empty ro
 
 pub singly_run : ((mids : List World) (new : World) (s : ℕ) (subscriber : Subscriber) → Leads world_begun mids new
     → slice_get new.subscribers s ≡ Some subscriber → AreChangesets new.sequence → HaveColumns subscriber.base
-    → HasSingleTables subscriber.base subscriber)
+    → HasSingleTables subscriber.base subscriber.accepted subscriber.tables)
     → (schema : List Shape) (new : State) (world : World) (s : ℕ) (subscriber : Subscriber)
     → IsTold schema world_begun new world → slice_get world.subscribers s ≡ Some subscriber
-    → AreChangesets world.sequence → HasSingleTables (empty_tables schema) subscriber
-singly_run law schema new world s subscriber told found valid =
-    let base = all_get (BeginsEmpty schema) world.subscribers s subscriber told.1.bases found in
-    subst (λ t. HasSingleTables t subscriber) base
-    (law told.0.0 world s subscriber told.0.1 found valid (subst HaveColumns (sym base) (empty_have_columns schema)))
+    → AreChangesets world.sequence → slice_get new.endpoints s ≡ Some (endpoint_of subscriber)
+    → (end : Endpoint) × (slice_get new.endpoints s ≡ Some end)
+    × HasSingleTables (empty_tables schema) subscriber.accepted end.tables
+singly_run law schema new world s subscriber told found valid at =
+    let base = all_get (BeginsEmpty schema) world.subscribers s subscriber told.1.bases found in (
+      endpoint_of subscriber,
+      at,
+      subst (λ t. HasSingleTables t subscriber.accepted subscriber.tables) base
+          (law told.0.0 world s subscriber told.0.1 found valid
+          (subst HaveColumns (sym base) (empty_have_columns schema))),
+    )

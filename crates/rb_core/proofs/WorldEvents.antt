@@ -1,12 +1,19 @@
 -- Each event preserves the invariant of a world, by the cases of its outcome.
 use Rattle.std.proofs.Common.{◌≡◌, ◌↔◌, ℕ, Bool, true, false, cond, List, [], ◌∷◌, ◌++◌, Option, Some, None, Result, Ok}
-use Rattle.std.proofs.Common.{Err, length, nat_le, ◌≤◌, ◌+◌, slice_get, slice_set, refl, sym, ap, ◌∙◌, arith}
-use Rattle.std.specs.Prelude.{⊤, not, ◌==◌, ◌-◌}
+use Rattle.std.proofs.Common.{Err, length, nat_le, ◌≤◌, ◌+◌, slice_get, slice_set, refl, sym, ap, subst, ◌∙◌, arith}
+use Rattle.std.specs.Prelude.{IfSome, ⊤, not, ◌==◌, ◌-◌}
+use Rattle.std.specs.List.{AllByRecursion}
 use Rattle.std.proofs.lemmas.Bool.{leb-false}
 use Rattle.std.proofs.lemmas.List.{length-append, length-set, map_push}
+use Rattle.cs_invert.specs.Inverse.{withdrawal_of}
+use Rattle.cs_model.proofs.CallerLemmas.{all_push}
+use Rattle.cs_model.specs.declared.schema.SectionFault.{SectionFault}
+use Rattle.cs_model.specs.declared.shape.Shape.{Shape}
+use Rattle.cs_model.specs.Schema.{refusal_of}
 use Rattle.cs_model.specs.Section.{Section}
 use Rattle.cs_parse.specs.declared.end.EndError.{EndError}
-use Rattle.cs_parse.specs.End.{admitted_answer}
+use Rattle.cs_parse.specs.declared.fault.ParseFault.{ParseFault}
+use Rattle.cs_parse.specs.End.{admitted, admitted_answer}
 use Rattle.cs_parse.specs.Progress as stream
 use Rattle.rb_desk.specs.Calls as desk
 use Rattle.rb_desk.specs.declared.delivery.Delivery.{Delivery}
@@ -16,7 +23,7 @@ use Rattle.rb_desk.specs.Outline as outline
 use Rattle.rb_desk.specs.Picture.{Picture}
 use Rattle.rb_sequence.specs.declared.item.Item.{Item}
 use Rattle.rb_sequence.specs.Entry.{Entry}
-use Rattle.rb_subscriber.specs.Accept.{accept, AcceptsDelivery}
+use Rattle.rb_subscriber.specs.Accept.{accept, AcceptsDelivery, IsAdmitted}
 use Rattle.rb_subscriber.specs.declared.refusal.AcceptRefusal.{AcceptRefusal}
 use Rattle.rb_subscriber.specs.Endpoint.{Endpoint, new_endpoint}
 use Rattle.rb_core.specs.declared.event.Event.{Event}
@@ -30,14 +37,16 @@ use Rattle.rb_core.specs.Outcome.{acked_by_desk, acked_at, acked_for, nacked_by_
 use Rattle.rb_core.specs.Outcome.{reconnected_for, unsubscribed_with, unsubscribed_for, delivery_of, with_endpoint}
 use Rattle.rb_core.specs.Outcome.{outcome, entry_of, withdrawn_from, withdrawn_by, withdrawn_for}
 use Rattle.rb_core.specs.Outcome as outcome
-use Rattle.rb_core.specs.State.{State, empty_tables, member_of_end, IsWorld, is_withdrawn}
+use Rattle.rb_core.specs.State.{State, empty_tables, member_of_end, AdmitsBody, AdmitsStaged, IsWorld, is_withdrawn}
 use Rattle.rb_core.proofs.DeskLaws.{KeepsLimits, KeepsPictures, DeskShows, beside, subscribe_keeps, take_keeps}
 use Rattle.rb_core.proofs.DeskLaws.{take_any_keeps, ack_keeps, nack_keeps, expire_keeps, reconnect_keeps}
 use Rattle.rb_core.proofs.DeskLaws.{unsubscribe_keeps, close_keeps, place_keeps}
 use Rattle.rb_core.proofs.Worlds.{apart, worlds_changed, same_outline, handed_over, placed_next, set_end, same_end}
 use Rattle.rb_core.proofs.Worlds.{found_end, marks_changed}
 use Rattle.rb_core.proofs.Marks.{marks_within}
+use Rattle.rb_core.proofs.Moving.{all_get, all_set}
 use Rattle.rb_core.proofs.Numbers.{found_within}
+use Rattle.rb_core.proofs.Pairs.{all_find}
 
 -- an end accepts where it takes the step, and only there
 abbrev pub AcceptsBySteps : Type 0
@@ -50,12 +59,24 @@ world_events_unless : (b : Bool) (x y : Reply × State) → IsWorld x.1 → (b �
 world_events_unless true x y h k = h
 world_events_unless false x y h k = k refl
 
--- one publisher becomes another
-publisher_set : (old : State) (p : ℕ) (publisher : PublisherState) → IsWorld old
+-- one publisher becomes another, which staged what the schema admits
+publisher_set : (old : State) (p : ℕ) (publisher : PublisherState) → IsWorld old → AdmitsStaged old.schema publisher
     → IsWorld (outcome.with_publisher old p publisher)
-publisher_set old p publisher good =
+publisher_set old p publisher good admits =
     apart old (slice_set old.publishers p publisher) old.intake old.hand good
     (omega (arith, good.few, length-set old.publishers p publisher)) good.waiting
+    (record {
+      staged = all_set (AdmitsStaged old.schema) old.publishers p publisher good.admitted.staged admits;
+      intake = good.admitted.intake;
+      hand = good.admitted.hand;
+      sequence = good.admitted.sequence;
+    })
+
+-- what a publisher of the world staged is admitted
+staged_admitted : (old : State) (p : ℕ) (publisher : PublisherState) → IsWorld old → slice_get old.publishers p
+    ≡ Some publisher → AdmitsStaged old.schema publisher
+staged_admitted old p publisher good is =
+    all_get (AdmitsStaged old.schema) old.publishers p publisher good.admitted.staged is
 
 -- ---- publishers
 
@@ -64,26 +85,51 @@ publisher_keeps old good =
     let new : PublisherState = record { stream = stream.nothing; staged = None; sent = 0 } in
     world_events_unless (nat_le 64 (length old.publishers)) _ _ good
     (λ room. apart old (old.publishers ++ new ∷ []) old.intake old.hand good
-    (omega (arith, leb-false _ _ room, length-append old.publishers (new ∷ []))) good.waiting)
+    (omega (arith, leb-false _ _ room, length-append old.publishers (new ∷ []))) good.waiting
+    (record {
+      staged = all_push (AdmitsStaged old.schema) old.publishers new good.admitted.staged tt;
+      intake = good.admitted.intake;
+      hand = good.admitted.hand;
+      sequence = good.admitted.sequence;
+    }))
 
-feed_keeps : (old : State) (p : ℕ) (bytes : List ℕ) (found : Option PublisherState) → IsWorld old
-    → IsWorld (fed_by old p bytes found).1
-feed_keeps old p bytes None good = good
-feed_keeps old p bytes (Some publisher) good = publisher_set old p _ good
+feed_keeps : (old : State) (p : ℕ) (bytes : List ℕ) (found : Option PublisherState) → slice_get old.publishers p ≡ found
+    → IsWorld old → IsWorld (fed_by old p bytes found).1
+feed_keeps old p bytes None is good = good
+feed_keeps old p bytes (Some publisher) is good =
+    publisher_set old p (record publisher { stream = stream.advanced publisher.stream bytes }) good
+    (staged_admitted old p publisher good is)
 
-reset_keeps : (old : State) (p : ℕ) (found : Option PublisherState) → IsWorld old → IsWorld (reset_by old p found).1
-reset_keeps old p None good = good
-reset_keeps old p (Some publisher) good = publisher_set old p _ good
+reset_keeps : (old : State) (p : ℕ) (found : Option PublisherState) → slice_get old.publishers p ≡ found → IsWorld old
+    → IsWorld (reset_by old p found).1
+reset_keeps old p None is good = good
+reset_keeps old p (Some publisher) is good =
+    publisher_set old p (record publisher { stream = stream.nothing }) good (staged_admitted old p publisher good is)
 
-staged_keeps : (old : State) (p : ℕ) (publisher : PublisherState) (r : Result (List Section) EndError) → IsWorld old
+-- a stream's end is admitted, or refused
+admitted_end : (schema : List Shape) (found : List Section) (fault : Option SectionFault) (changeset : List Section)
+    → refusal_of schema found ≡ fault → admitted found fault ≡ Ok changeset → AdmitsBody schema changeset
+admitted_end schema found None changeset is e =
+    let same : found ≡ changeset = cc e in
+    subst (AdmitsBody schema) same is
+admitted_end schema found (Some fault) changeset is e = absurd cc
+
+ends_admitted : (schema : List Shape) (answer : Result (List Section) ParseFault) (changeset : List Section)
+    → admitted_answer schema answer ≡ Ok changeset → AdmitsBody schema changeset
+ends_admitted schema (Ok found) changeset e = admitted_end schema found (refusal_of schema found) changeset refl e
+ends_admitted schema (Err fault) changeset e = absurd cc
+
+staged_keeps : (old : State) (p : ℕ) (publisher : PublisherState) (r : Result (List Section) EndError)
+    → ((changeset : List Section) → r ≡ Ok changeset → AdmitsBody old.schema changeset) → IsWorld old
     → IsWorld (staged_by old p publisher r).1
-staged_keeps old p publisher (Ok changeset) good = publisher_set old p _ good
-staged_keeps old p publisher (Err error) good = good
+staged_keeps old p publisher (Ok changeset) admits good = publisher_set old p _ good (admits changeset refl)
+staged_keeps old p publisher (Err error) admits good = good
 
 ended_by_keeps : (old : State) (p : ℕ) (publisher : PublisherState) (kept : Option Staged) → IsWorld old
     → IsWorld (ended_by old p publisher kept).1
 ended_by_keeps old p publisher None good =
-    staged_keeps old p publisher (admitted_answer old.schema (stream.answer_at_end publisher.stream)) good
+    staged_keeps old p publisher (admitted_answer old.schema (stream.answer_at_end publisher.stream))
+    (ends_admitted old.schema (stream.answer_at_end publisher.stream)) good
 ended_by_keeps old p publisher (Some staged) good = good
 
 end_keeps : (old : State) (p : ℕ) (found : Option PublisherState) → IsWorld old → IsWorld (ended_for old p found).1
@@ -91,59 +137,78 @@ end_keeps old p None good = good
 end_keeps old p (Some publisher) good = ended_by_keeps old p publisher publisher.staged good
 
 sent_while_keeps : (old : State) (p : ℕ) (publisher : PublisherState) (staged : Staged) (closing : Option ℕ)
-    → IsWorld old → IsWorld (sent_while old p publisher staged closing).1
-sent_while_keeps old p publisher staged (Some last) good = good
-sent_while_keeps old p publisher staged None good =
+    → AdmitsBody old.schema staged.body → IsWorld old → IsWorld (sent_while old p publisher staged closing).1
+sent_while_keeps old p publisher staged (Some last) admits good = good
+sent_while_keeps old p publisher staged None admits good =
     let left : PublisherState = record publisher { staged = None; sent = publisher.sent + 1 } in
     let item : Item =
     record { publisher = p; own = publisher.sent + 1; origin = staged.origin; body = staged.body } in
     world_events_unless (nat_le old.desk.limits.intake (length old.intake)) _ _ good
     (λ room. apart old (slice_set old.publishers p left) (old.intake ++ item ∷ []) old.hand good
     (omega (arith, good.few, length-set old.publishers p left))
-    (omega (arith, leb-false _ _ room, length-append old.intake (item ∷ []))))
+    (omega (arith, leb-false _ _ room, length-append old.intake (item ∷ [])))
+    (record {
+      staged = all_set (AdmitsStaged old.schema) old.publishers p left good.admitted.staged tt;
+      intake = all_push (λ (i : Item). AdmitsBody old.schema i.body) old.intake item good.admitted.intake admits;
+      hand = good.admitted.hand;
+      sequence = good.admitted.sequence;
+    }))
 
-sent_by_keeps : (old : State) (p : ℕ) (publisher : PublisherState) (kept : Option Staged) → IsWorld old
+sent_by_keeps : (old : State) (p : ℕ) (publisher : PublisherState) (kept : Option Staged)
+    → IfSome kept (λ staged. AdmitsBody old.schema staged.body) → IsWorld old
     → IsWorld (sent_by old p publisher kept).1
-sent_by_keeps old p publisher None good = good
-sent_by_keeps old p publisher (Some staged) good = sent_while_keeps old p publisher staged old.desk.closing good
+sent_by_keeps old p publisher None admits good = good
+sent_by_keeps old p publisher (Some staged) admits good =
+    sent_while_keeps old p publisher staged old.desk.closing admits good
 
-send_keeps : (old : State) (p : ℕ) (found : Option PublisherState) → IsWorld old → IsWorld (sent_for old p found).1
-send_keeps old p None good = good
-send_keeps old p (Some publisher) good = sent_by_keeps old p publisher publisher.staged good
+send_keeps : (old : State) (p : ℕ) (found : Option PublisherState) → slice_get old.publishers p ≡ found → IsWorld old
+    → IsWorld (sent_for old p found).1
+send_keeps old p None is good = good
+send_keeps old p (Some publisher) is good =
+    sent_by_keeps old p publisher publisher.staged (staged_admitted old p publisher good is) good
 
-withdraw_from_keeps : (old : State) (p n : ℕ) (publisher : PublisherState) (found : Option Entry)
+-- a schema admits the withdrawal of what it admits
+abbrev pub WithdrawalsAdmitted : Type 0
+WithdrawalsAdmitted = (tables : List Shape) (sections : List Section) → refusal_of tables sections ≡ None
+    → refusal_of tables (withdrawal_of sections) ≡ None
+
+withdraw_from_keeps : WithdrawalsAdmitted → (old : State) (p n : ℕ) (publisher : PublisherState) (found : Option Entry)
     → entry_of old n ≡ found → IsWorld old → IsWorld (withdrawn_from old p publisher n found).1
-withdraw_from_keeps old p n publisher None is good = good
-withdraw_from_keeps old p n publisher (Some entry) is good =
+withdraw_from_keeps law old p n publisher None is good = good
+withdraw_from_keeps law old p n publisher (Some entry) is good =
     let within = found_within (λ (e : Entry). e.number) n old.sequence entry good.entries is in
     world_events_unless (not (entry.item.publisher == p)) _ _ good
     (λ mine. world_events_unless (is_withdrawn old n) _ _ good
-    (λ fresh. marks_changed _ _ (publisher_set old p _ good)
+    (λ fresh. marks_changed _ _ (publisher_set old p _ good (law old.schema entry.item.body
+    (all_find (IsAdmitted old.schema) (λ (e : Entry). e.number == n) old.sequence entry good.admitted.sequence is)))
     (marks_within (n - 1) old.withdrawn (length old.sequence) within good.marks)))
 
-withdraw_by_keeps : (old : State) (p n : ℕ) (publisher : PublisherState) (kept : Option Staged) → IsWorld old
-    → IsWorld (withdrawn_by old p publisher n kept).1
-withdraw_by_keeps old p n publisher None good = withdraw_from_keeps old p n publisher (entry_of old n) refl good
-withdraw_by_keeps old p n publisher (Some staged) good = good
+withdraw_by_keeps : WithdrawalsAdmitted → (old : State) (p n : ℕ) (publisher : PublisherState) (kept : Option Staged)
+    → IsWorld old → IsWorld (withdrawn_by old p publisher n kept).1
+withdraw_by_keeps law old p n publisher None good =
+    withdraw_from_keeps law old p n publisher (entry_of old n) refl good
+withdraw_by_keeps law old p n publisher (Some staged) good = good
 
-withdraw_keeps : (old : State) (p n : ℕ) (found : Option PublisherState) → IsWorld old
+withdraw_keeps : WithdrawalsAdmitted → (old : State) (p n : ℕ) (found : Option PublisherState) → IsWorld old
     → IsWorld (withdrawn_for old p n found).1
-withdraw_keeps old p n None good = good
-withdraw_keeps old p n (Some publisher) good = withdraw_by_keeps old p n publisher publisher.staged good
+withdraw_keeps law old p n None good = good
+withdraw_keeps law old p n (Some publisher) good = withdraw_by_keeps law old p n publisher publisher.staged good
 
 -- ---- the sequence
 
 placed_keeps : KeepsPictures → DeskShows → (mid : State) (item : Item) (r : Result ℕ DeskRefusal)
-    → desk.prepare mid.desk ≡ r → IsWorld mid → IsWorld (outcome.placed mid item r).1
-placed_keeps keeps shows mid item (Ok number) is good =
+    → desk.prepare mid.desk ≡ r → AdmitsBody mid.schema item.body → IsWorld mid
+    → IsWorld (outcome.placed mid item r).1
+placed_keeps keeps shows mid item (Ok number) is admits good =
     placed_next mid (desk.place mid.desk) number item good (place_keeps keeps mid.desk number is good.picture)
-    (shows.places mid.desk number is)
-placed_keeps keeps shows mid item (Err why) is good = good
+    (shows.places mid.desk number is) admits
+placed_keeps keeps shows mid item (Err why) is admits good = good
 
-turned_keeps : KeepsPictures → DeskShows → (mid : State) (hand : Option Item) → IsWorld mid
-    → IsWorld (turned_with mid hand).1
-turned_keeps keeps shows mid None good = good
-turned_keeps keeps shows mid (Some item) good = placed_keeps keeps shows mid item (desk.prepare mid.desk) refl good
+turned_keeps : KeepsPictures → DeskShows → (mid : State) (hand : Option Item)
+    → IfSome hand (λ item. AdmitsBody mid.schema item.body) → IsWorld mid → IsWorld (turned_with mid hand).1
+turned_keeps keeps shows mid None admits good = good
+turned_keeps keeps shows mid (Some item) admits good =
+    placed_keeps keeps shows mid item (desk.prepare mid.desk) refl admits good
 
 -- no more waits once an item was pulled
 fewer_wait : (hand : Option Item) (intake : List Item) → length (outcome.rest_of hand intake) ≤ length intake
@@ -151,11 +216,33 @@ fewer_wait (Some item) intake = omega arith
 fewer_wait None [] = omega arith
 fewer_wait None (item ∷ rest) = omega arith
 
+-- what is pulled was in the intake
+hand_admitted : (schema : List Shape) (hand : Option Item) (intake : List Item)
+    → IfSome hand (λ item. AdmitsBody schema item.body) → AllByRecursion (λ item. AdmitsBody schema item.body) intake
+    → IfSome (outcome.hand_of hand intake) (λ item. AdmitsBody schema item.body)
+hand_admitted schema (Some item) intake held waiting = held
+hand_admitted schema None [] held waiting = tt
+hand_admitted schema None (item ∷ rest) held waiting = waiting.0
+
+rest_admitted : (schema : List Shape) (hand : Option Item) (intake : List Item)
+    → AllByRecursion (λ item. AdmitsBody schema item.body) intake
+    → AllByRecursion (λ item. AdmitsBody schema item.body) (outcome.rest_of hand intake)
+rest_admitted schema (Some item) intake waiting = waiting
+rest_admitted schema None [] waiting = tt
+rest_admitted schema None (item ∷ rest) waiting = waiting.1
+
 turn_keeps : KeepsPictures → DeskShows → (old : State) → IsWorld old
     → IsWorld (turned_with (outcome.pulled old) (outcome.pulled old).hand).1
 turn_keeps keeps shows old good =
-    turned_keeps keeps shows (outcome.pulled old) (outcome.pulled old).hand
-    (apart old old.publishers _ _ good good.few (omega (arith, good.waiting, fewer_wait old.hand old.intake)))
+    let held = hand_admitted old.schema old.hand old.intake good.admitted.hand good.admitted.intake in
+    turned_keeps keeps shows (outcome.pulled old) (outcome.pulled old).hand held
+    (apart old old.publishers _ _ good good.few (omega (arith, good.waiting, fewer_wait old.hand old.intake))
+    (record {
+      staged = good.admitted.staged;
+      intake = rest_admitted old.schema old.hand old.intake good.admitted.intake;
+      hand = held;
+      sequence = good.admitted.sequence;
+    }))
 
 end_sequence_keeps : KeepsPictures → DeskShows → (old : State) → IsWorld old → IsWorld (outcome.closed old).1
 end_sequence_keeps keeps shows old good =
@@ -339,27 +426,28 @@ world_events_unsubscribed_keeps keeps shows old s (Some end) is good =
 
 -- ---- all of these
 
-pub event_keeps : KeepsPictures → DeskShows → AcceptsBySteps → (old : State) (event : Event) → IsWorld old
-    → IsWorld (outcome old event).1
+pub event_keeps : KeepsPictures → DeskShows → AcceptsBySteps → WithdrawalsAdmitted → (old : State) (event : Event)
+    → IsWorld old → IsWorld (outcome old event).1
 unfolding outcome
-event_keeps keeps shows steps old event.Publisher good = publisher_keeps old good
-event_keeps keeps shows steps old (event.Feed p bytes) good = feed_keeps old p bytes (slice_get old.publishers p) good
-event_keeps keeps shows steps old (event.Reset p) good = reset_keeps old p (slice_get old.publishers p) good
-event_keeps keeps shows steps old (event.End p) good = end_keeps old p (slice_get old.publishers p) good
-event_keeps keeps shows steps old (event.Send p) good = send_keeps old p (slice_get old.publishers p) good
-event_keeps keeps shows steps old (event.Withdraw p n) good =
-    withdraw_keeps old p n (slice_get old.publishers p) good
-event_keeps keeps shows steps old event.Turn good = turn_keeps keeps shows old good
-event_keeps keeps shows steps old event.Close good = end_sequence_keeps keeps shows old good
-event_keeps keeps shows steps old (event.Subscribe start) good = subscription_keeps keeps shows old start good
-event_keeps keeps shows steps old (event.Take s now) good =
+event_keeps keeps shows steps law old event.Publisher good = publisher_keeps old good
+event_keeps keeps shows steps law old (event.Feed p bytes) good =
+    feed_keeps old p bytes (slice_get old.publishers p) refl good
+event_keeps keeps shows steps law old (event.Reset p) good = reset_keeps old p (slice_get old.publishers p) refl good
+event_keeps keeps shows steps law old (event.End p) good = end_keeps old p (slice_get old.publishers p) good
+event_keeps keeps shows steps law old (event.Send p) good = send_keeps old p (slice_get old.publishers p) refl good
+event_keeps keeps shows steps law old (event.Withdraw p n) good =
+    withdraw_keeps law old p n (slice_get old.publishers p) good
+event_keeps keeps shows steps law old event.Turn good = turn_keeps keeps shows old good
+event_keeps keeps shows steps law old event.Close good = end_sequence_keeps keeps shows old good
+event_keeps keeps shows steps law old (event.Subscribe start) good = subscription_keeps keeps shows old start good
+event_keeps keeps shows steps law old (event.Take s now) good =
     taken_keeps keeps shows old s now (slice_get old.endpoints s) good
-event_keeps keeps shows steps old (event.TakeAny now) good = taken_any_keeps keeps shows old now good
-event_keeps keeps shows steps old (event.Accept d) good = accepted_as_keeps steps old (delivery_of old d) good
-event_keeps keeps shows steps old (event.Ack d) good = acked_keeps keeps shows old (delivery_of old d) good
-event_keeps keeps shows steps old (event.Nack d) good = nacked_keeps keeps shows old (delivery_of old d) good
-event_keeps keeps shows steps old (event.Expire now) good = world_events_expired_keeps keeps shows old now good
-event_keeps keeps shows steps old (event.Reconnect s cursor) good =
+event_keeps keeps shows steps law old (event.TakeAny now) good = taken_any_keeps keeps shows old now good
+event_keeps keeps shows steps law old (event.Accept d) good = accepted_as_keeps steps old (delivery_of old d) good
+event_keeps keeps shows steps law old (event.Ack d) good = acked_keeps keeps shows old (delivery_of old d) good
+event_keeps keeps shows steps law old (event.Nack d) good = nacked_keeps keeps shows old (delivery_of old d) good
+event_keeps keeps shows steps law old (event.Expire now) good = world_events_expired_keeps keeps shows old now good
+event_keeps keeps shows steps law old (event.Reconnect s cursor) good =
     world_events_reconnected_keeps keeps shows old s cursor (slice_get old.endpoints s) refl good
-event_keeps keeps shows steps old (event.Unsubscribe s) good =
+event_keeps keeps shows steps law old (event.Unsubscribe s) good =
     world_events_unsubscribed_keeps keeps shows old s (slice_get old.endpoints s) refl good

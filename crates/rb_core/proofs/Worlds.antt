@@ -1,7 +1,12 @@
 -- The invariant of a world, part by part.
 use Rattle.std.proofs.Common.{◌≡◌, ℕ, zero, suc, ◌<◌, ◌≤◌, Bool, List, [], ◌∷◌, ◌++◌, length, map, Option, Some, None}
 use Rattle.std.proofs.Common.{option_map, slice_get, slice_set, refl, sym, ap, ◌∙◌, arith}
+use Rattle.std.proofs.Common.{◌==◌, find}
+use Rattle.std.specs.Borrow.{Bor}
+use Rattle.std.specs.Prelude.{IfSome}
+use Rattle.std.specs.Option.{option_copied}
 use Rattle.std.specs.List.{AllByRecursion}
+use Rattle.cs_model.specs.declared.shape.Shape.{Shape}
 use Rattle.std.proofs.lemmas.List.{length-append, length-map, map-set}
 use Rattle.std.proofs.lemmas.Option.{slice_get-map, slice_get_within}
 use Rattle.cs_model.proofs.CallerLemmas.{all_push}
@@ -11,12 +16,14 @@ use Rattle.rb_desk.specs.Outline as outline
 use Rattle.rb_desk.specs.Picture.{Picture}
 use Rattle.rb_sequence.specs.declared.item.Item.{Item}
 use Rattle.rb_sequence.specs.Entry.{Entry}
+use Rattle.rb_subscriber.specs.Accept.{IsAdmitted}
 use Rattle.rb_subscriber.specs.Endpoint.{Endpoint}
 use Rattle.rb_core.specs.declared.publisher.PublisherState.{PublisherState}
-use Rattle.rb_core.specs.State.{State, member_of_end, IsOf, IsWorld}
+use Rattle.rb_core.specs.State.{State, member_of_end, AdmitsAll, AdmitsBody, IsOf, IsWorld}
 use Rattle.rb_core.proofs.DeskLaws.{KeepsLimits}
 use Rattle.rb_core.proofs.Moving.{all_map}
 use Rattle.rb_core.proofs.Numbers.{numbered_push}
+use Rattle.rb_core.proofs.Pairs.{all_find}
 
 -- ---- lists
 
@@ -65,13 +72,23 @@ end_within w s member good found =
     ap (λ (ms : List Member). slice_get ms s) good.members ∙ found in
     omega (arith, slice_get_within (map member_of_end w.endpoints) s member there, length-map w.endpoints member_of_end)
 
+-- what is found among admitted entries is admitted
+pub found_admitted : (schema : List Shape) (sequence : List Entry) (n : ℕ) (found : Option (Bor Entry))
+    → option_copied found ≡ find (λ (e : Entry). e.number == n) sequence → AllByRecursion (IsAdmitted schema) sequence
+    → IfSome found (λ entry. IsAdmitted schema entry.now)
+found_admitted schema sequence n None is all = tt
+found_admitted schema sequence n (Some entry) is all =
+    all_find (IsAdmitted schema) (λ (e : Entry). e.number == n) sequence entry.now all (sym is)
+
 -- ---- parts that change
 
--- of publishers and of what waits only the number matters, and the hand is no matter
+-- publishers, intake and hand change: they are few, and the schema admits what is in them
 pub apart : (old : State) (publishers : List PublisherState) (intake : List Item) (hand : Option Item) → IsWorld old
     → length publishers ≤ 64 → length intake ≤ old.desk.limits.intake
+    → AdmitsAll old.schema publishers intake hand old.sequence
     → IsWorld (record old { publishers = publishers; intake = intake; hand = hand })
-apart old publishers intake hand good few waiting = record {
+apart old publishers intake hand good few waiting admits = record {
+  admitted = admits;
   picture = good.picture;
   front = good.front;
   few = few;
@@ -88,6 +105,7 @@ apart old publishers intake hand good few waiting = record {
 pub marks_changed : (old : State) (marks : List Bool) → IsWorld old → length marks ≤ length old.sequence
     → IsWorld (record old { withdrawn = marks })
 marks_changed old marks good few = record {
+  admitted = good.admitted;
   picture = good.picture;
   front = good.front;
   few = good.few;
@@ -111,6 +129,7 @@ pub worlds_changed : (old : State) (desk : Picture) (endpoints : List Endpoint) 
     → map member_of_end endpoints ≡ (outline_of desk).members → length old.endpoints ≤ length endpoints
     → IsWorld (record old { desk = desk; endpoints = endpoints })
 worlds_changed old desk endpoints good picture front next members more = record {
+  admitted = good.admitted;
   picture = picture.0;
   front = front ∙ good.front;
   few = good.few;
@@ -140,6 +159,7 @@ handed_over old desk delivery good picture hands =
     let next : desk.next_delivery ≡ suc delivery.number = ap (λ (o : Outline). o.next_delivery) hands.kept in
     let number : delivery.number ≡ suc (length old.deliveries) = hands.given ∙ good.next in
     record {
+      admitted = good.admitted;
       picture = picture.0;
       front = front ∙ good.front;
       few = good.few;
@@ -159,13 +179,19 @@ abbrev pub entry_as : ℕ → Item → Entry
 entry_as number item = record { number = number; item = item }
 
 pub placed_next : (old : State) (desk : Picture) (number : ℕ) (item : Item) → IsWorld old → KeepsLimits old.desk desk
-    → outline.Places (outline_of old.desk) (outline_of desk) number
+    → outline.Places (outline_of old.desk) (outline_of desk) number → AdmitsBody old.schema item.body
     → IsWorld (record old { hand = None; sequence = old.sequence ++ entry_as number item ∷ []; desk = desk })
-placed_next old desk number item good picture places =
+placed_next old desk number item good picture places admits =
     let front : desk.front ≡ number = ap (λ (o : Outline). o.front) places.kept in
     let is : number ≡ suc (length old.sequence) = places.next ∙ ap suc good.front in
     let longer = worlds_one_more old.sequence (entry_as number item) in
     record {
+      admitted = record {
+        staged = good.admitted.staged;
+        intake = good.admitted.intake;
+        hand = tt;
+        sequence = all_push (IsAdmitted old.schema) old.sequence (entry_as number item) good.admitted.sequence admits;
+      };
       picture = picture.0;
       front = omega (arith, front, is, longer);
       few = good.few;

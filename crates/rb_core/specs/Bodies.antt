@@ -1,5 +1,5 @@
 -- The changesets in a world: what is staged, what waits, what is in hand and what is placed.
-use Rattle.std.specs.Prelude.{ℕ, List, Option, IfSome}
+use Rattle.std.specs.Prelude.{List, Option, IfSome}
 use Rattle.std.specs.List.{AllByRecursion}
 use Rattle.cs_model.specs.Bytes.{AreBytes}
 use Rattle.cs_model.specs.Changeset.{IsChangeset}

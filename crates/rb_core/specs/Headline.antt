@@ -1,27 +1,44 @@
--- The headline: what every run keeps, said of what its events and answers tell.
-use Rattle.std.specs.Prelude.{◌≡◌, ℕ, true, List, take, Some, slice_get}
+-- The headline: what every run keeps. It speaks of the broker's own state, and of what its events
+-- and answers report.
+use Rattle.std.specs.Prelude.{◌≡◌, ℕ, true, List, map, take, Some, slice_get}
 use Rattle.cs_model.specs.declared.shape.Shape.{Shape}
+use Rattle.cs_parse.specs.Progress.{Took}
 use Rattle.rb_sequence.specs.Entry.{Entry}
-use Rattle.rb_core.specs.declared.event.Event.{Event}
-use Rattle.rb_core.specs.Moves.{HasRun, HasSingleTables, StaysClosed, items_of, IsFront}
 use Rattle.rb_sequence.specs.Items.{own_of}
-use Rattle.rb_core.specs.Moves.{IsSending}
+use Rattle.rb_subscriber.specs.Accept.{HasSingleTables}
+use Rattle.rb_subscriber.specs.Endpoint.{Endpoint}
+use Rattle.rb_core.specs.declared.event.Event.{Event}
+use Rattle.rb_core.specs.declared.publisher.PublisherState.{PublisherState}
+use Rattle.rb_core.specs.Moves.{HasRun, IsFront, IsSending, StaysClosed, items_of}
 use Rattle.rb_core.specs.Run.{Answer}
 use Rattle.rb_core.specs.State.{State, empty_tables}
-use Rattle.rb_core.specs.Told.{world_told}
-use Rattle.rb_core.specs.World.{Sender, Subscriber}
+use Rattle.rb_core.specs.Told.{Paired, world_told}
+use Rattle.rb_core.specs.World.{Sender, Subscriber, endpoint_of}
 
--- What a subscription accepted is a gapless run of the sequence. Each publisher's entries are the
--- front of what it sent, in that order; each sending is placed once; each entry is a sending.
+-- the publisher's stream has taken what the publisher was fed
+abbrev pub HasTakenFed : PublisherState → Sender → Type 0
+HasTakenFed publisher sender = Took publisher.stream sender.text
+
+-- What a subscription accepted is a gapless run of the sequence. The broker's endpoints are those
+-- of the subscriptions: each has the start, link, mark and tables of its subscription, and its
+-- cursor is the last number that the subscription accepted. Where what a subscription accepted
+-- applies singly, without conflict, to empty tables, the tables of its endpoint are what one thread
+-- gets that applies it so.
+-- Each publisher's entries are the front of what it sent, in that order; each sending is placed
+-- once; each entry is a sending. Each publisher's stream has taken what the publisher was fed.
 -- Nothing is placed once the first n events have closed the sequence, and nothing accepted once
--- they have closed a subscription. Where what a subscription accepted applies singly, without
--- conflict, to empty tables, its tables are what one thread gets that applies it so.
+-- they have closed a subscription.
 pub record KeepsHeadline (schema : List Shape) (events : List Event) (answers : List Answer)
     (new : State)
     : Type 0 where
   pub gapless : (s : ℕ) (subscriber : Subscriber)
       → slice_get (world_told schema events answers).subscribers s ≡ Some subscriber
       → HasRun new.sequence subscriber
+  pub endpoints : map endpoint_of (world_told schema events answers).subscribers ≡ new.endpoints
+  pub tables : (s : ℕ) (subscriber : Subscriber)
+      → slice_get (world_told schema events answers).subscribers s ≡ Some subscriber
+      → (end : Endpoint) × (slice_get new.endpoints s ≡ Some end)
+      × HasSingleTables (empty_tables schema) subscriber.accepted end.tables
   pub in_order : (p : ℕ) (sender : Sender)
       → slice_get (world_told schema events answers).senders p ≡ Some sender
       → IsFront (own_of p (items_of new.sequence)) sender.sent
@@ -31,6 +48,7 @@ pub record KeepsHeadline (schema : List Shape) (events : List Event) (answers : 
   pub sent : (i : ℕ) (entry : Entry) → slice_get new.sequence i ≡ Some entry → (sender : Sender)
       × (slice_get (world_told schema events answers).senders entry.item.publisher ≡ Some sender)
       × IsSending sender entry.item
+  pub streams : Paired HasTakenFed new.publishers (world_told schema events answers).senders
   pub closed : (n last : ℕ)
       → (world_told schema (take n events) (take n answers)).closing ≡ Some last
       → (new.desk.closing ≡ Some last)
@@ -41,6 +59,3 @@ pub record KeepsHeadline (schema : List Shape) (events : List Event) (answers : 
       → subscriber.closed ≡ true → (after : Subscriber)
       × (slice_get (world_told schema events answers).subscribers s ≡ Some after)
       × StaysClosed subscriber after
-  pub tables : (s : ℕ) (subscriber : Subscriber)
-      → slice_get (world_told schema events answers).subscribers s ≡ Some subscriber
-      → HasSingleTables (empty_tables schema) subscriber

@@ -11,7 +11,7 @@ use Rattle.cs_invert.specs.Inverse.{withdrawal_of}
 use Rattle.rb_desk.specs.declared.delivery.Delivery.{Delivery}
 use Rattle.rb_sequence.specs.declared.item.Item.{Item}
 use Rattle.rb_sequence.specs.Entry.{Entry}
-use Rattle.rb_subscriber.specs.Accept.{part, brought, AcceptsDelivery, AppliesSingly}
+use Rattle.rb_subscriber.specs.Accept.{part, brought, AcceptsDelivery}
 use Rattle.rb_subscriber.specs.Endpoint.{Endpoint}
 use Rattle.rb_core.specs.World.{Sender, Subscriber, World, endpoint_of}
 
@@ -171,7 +171,7 @@ pub record Accepts (old new : World) : Type 0 where
   pub kept : new ≡ with_subscriber old s
       (record subscriber {
         accepted = subscriber.accepted
-            ++ brought (endpoint_of subscriber) old.sequence delivery;
+            ++ brought old.sequence delivery;
         tables = end.tables;
       })
 
@@ -213,12 +213,6 @@ Leads old (mid ∷ rest) new = Moves old mid × Leads mid rest new
 -- a subscription has accepted one contiguous run of the sequence after its start
 abbrev pub HasRun : List Entry → Subscriber → Type 0
 HasRun sequence q = q.accepted ≡ part sequence q.start (length q.accepted)
-
--- where what a subscription accepted applies singly to these tables, without conflict, its tables
--- are what that gives
-abbrev pub HasSingleTables : tables.TableState → Subscriber → Type 0
-HasSingleTables first q = (tables : tables.TableState) → AppliesSingly first q.accepted tables
-    → q.tables ≡ tables
 
 -- `r` is closed, with the accepted entries and the tables of `q`
 pub record StaysClosed (q r : Subscriber) : Type 0 where

@@ -1,11 +1,14 @@
 -- The broker's state as a value, and its invariant.
 use Rattle.std.specs.Prelude.{◌≡◌, ℕ, suc, ◌+◌, ◌<◌, ◌≤◌, true, List, [], ◌∷◌, length, map}
-use Rattle.std.specs.Prelude.{replicate, Option, Some, None, refl, Bool, false, zero, ◌-◌, get_or}
+use Rattle.std.specs.Prelude.{replicate, Option, Some, None, IfSome, refl, Bool, false, zero, ◌-◌}
+use Rattle.std.specs.Prelude.{get_or}
 use Rattle.std.specs.Coded.{Coded, code_by, coded×, coded_list, coded_option, coded_bool}
 use Rattle.std.specs.FinMap as map
 use Rattle.std.specs.List.{AllByRecursion}
 use Rattle.cs_model.specs.contracts.shape.Shape as shape
 use Rattle.cs_model.specs.declared.shape.Shape.{Shape}
+use Rattle.cs_model.specs.Schema.{refusal_of}
+use Rattle.cs_model.specs.Section.{Section}
 use Rattle.cs_apply.specs.State as tables
 use Rattle.rb_desk.specs.contracts.delivery.Delivery as delivery
 use Rattle.rb_desk.specs.declared.delivery.Delivery.{Delivery}
@@ -17,6 +20,7 @@ use Rattle.rb_sequence.specs.contracts.item.Item as item
 use Rattle.rb_sequence.specs.declared.item.Item.{Item}
 use Rattle.rb_sequence.specs.Entry.{Entry, entry_code}
 use Rattle.rb_sequence.specs.Items.{AreNumbered}
+use Rattle.rb_subscriber.specs.Accept.{IsAdmitted}
 use Rattle.rb_subscriber.specs.Endpoint.{Endpoint, endpoint_code}
 use Rattle.rb_core.specs.contracts.publisher.PublisherState as publisher
 use Rattle.rb_core.specs.declared.publisher.PublisherState.{PublisherState}
@@ -82,12 +86,30 @@ member_of_end e = record { start = e.start; link = e.link; closed = e.closed }
 abbrev pub IsOf : List Endpoint → List Entry → Delivery → Type 0
 IsOf endpoints sequence d = (d.sub < length endpoints) × (d.last ≤ length sequence)
 
--- The invariant of a world. Its desk shows a picture, whose front is the sequence's last number.
+-- the schema admits a changeset
+abbrev pub AdmitsBody : List Shape → List Section → Type 0
+AdmitsBody schema body = refusal_of schema body ≡ None
+
+-- the schema admits what the publisher staged
+abbrev pub AdmitsStaged : List Shape → PublisherState → Type 0
+AdmitsStaged schema publisher = IfSome publisher.staged (λ staged. AdmitsBody schema staged.body)
+
+-- The schema admits everything that is staged, waits in the intake, is in hand or is placed.
+pub record AdmitsAll (schema : List Shape) (publishers : List PublisherState) (waiting : List Item)
+    (pulled : Option Item) (placed : List Entry) : Type 0 where
+  pub staged : AllByRecursion (AdmitsStaged schema) publishers
+  pub intake : AllByRecursion (λ item. AdmitsBody schema item.body) waiting
+  pub hand : IfSome pulled (λ item. AdmitsBody schema item.body)
+  pub sequence : AllByRecursion (IsAdmitted schema) placed
+
+-- The invariant of a world. Its schema admits everything that is staged, sent or placed. Its desk
+-- shows a picture, whose front is the sequence's last number.
 -- There are at most 64 publishers, and the intake has no more items than the picture's limits say.
 -- The desk's subscriptions are those of the endpoints. Entries and deliveries are numbered from 1.
 -- The subscription of each delivery exists, and its numbers are placed. There are no more marks
 -- than entries.
 pub record IsWorld (w : State) : Type 0 where
+  pub admitted : AdmitsAll w.schema w.publishers w.intake w.hand w.sequence
   pub picture : IsPicture w.desk
   pub front : w.desk.front ≡ length w.sequence
   pub few : length w.publishers ≤ 64

@@ -1,6 +1,6 @@
 -- The world that events and replies report: what was fed, staged, sent, placed, delivered and
 -- accepted, without a look at the broker.
-use Rattle.std.specs.Prelude.{◌≡◌, ◌==◌, ℕ, suc, ◌-◌, ◌<◌, true, false, map, List, [], ◌∷◌, ◌++◌}
+use Rattle.std.specs.Prelude.{◌≡◌, ◌==◌, ℕ, ◌-◌, ◌<◌, true, false, map, List, [], ◌∷◌, ◌++◌}
 use Rattle.std.specs.Prelude.{length, ◌↔◌}
 use Rattle.std.specs.Prelude.{Option, Some, None, Result, Ok, Err, slice_get}
 use Rattle.std.specs.List.{AllByRecursion, find}
@@ -18,7 +18,7 @@ use Rattle.cs_group.specs.Group.{group_of}
 use Rattle.rb_desk.specs.declared.delivery.Delivery.{Delivery}
 use Rattle.rb_sequence.specs.declared.item.Item.{Item}
 use Rattle.rb_sequence.specs.Entry.{Entry}
-use Rattle.rb_subscriber.specs.Accept.{part, joined_bodies}
+use Rattle.rb_subscriber.specs.Accept.{brought, joined_bodies}
 use Rattle.rb_core.specs.declared.event.Event.{Event}
 use Rattle.rb_core.specs.declared.event.Event.TheVariants as event
 use Rattle.rb_core.specs.declared.publisher.PublisherState.{PublisherState}
@@ -165,16 +165,11 @@ with_accepted entries q =
 abbrev pub delivery_told : ℕ → Subscriber → Option Delivery
 delivery_told d q = find (λ delivery. delivery.number == d) q.deliveries
 
--- the entries that a delivery names: its first number to its last
-abbrev pub entries_of : List Entry → Delivery → List Entry
-entries_of sequence delivery =
-    part sequence (delivery.first - 1) (suc delivery.last - delivery.first)
-
--- It accepts the delivery of this number: the entries that the delivery names go to the end of what
+-- It accepts the delivery of this number: the entries that the delivery brings go to the end of what
 -- it accepted, and the group of their bodies is applied to its tables.
 abbrev pub accepted_told : List Entry → Option Delivery → Subscriber → Subscriber
 accepted_told sequence None q = q
-accepted_told sequence (Some delivery) q = with_accepted (entries_of sequence delivery) q
+accepted_told sequence (Some delivery) q = with_accepted (brought sequence delivery) q
 
 abbrev pub accepted : List Entry → ℕ → Subscriber → Subscriber
 accepted sequence d q = accepted_told sequence (delivery_told d q) q

@@ -1,8 +1,11 @@
 //! The changesets of placed entries as one.
 
-ghost use Rattle.std.specs.Prelude.{◌≡◌, IfOk};
+ghost use Rattle.std.specs.Prelude.{◌≡◌, List, IfOk, IfSome};
+ghost use Rattle.std.specs.List.{AllByRecursion};
+ghost use Rattle.cs_model.specs.declared.shape.Shape.{Shape};
 ghost use Rattle.std.specs.Option.{option_map};
 ghost use Rattle.rb_core.specs.Combined.{combined_of, placed_span};
+ghost use Rattle.rb_subscriber.specs.Accept.{IsAdmitted};
 
 use crate::world::World;
 use cs_model::Changeset;
@@ -24,14 +27,16 @@ impl World {
     {
         match span(self.sequence(), first, last) {
             None => Ok(None),
-            Some(entries) => Ok(Some(combined(alloc, entries)?)),
+            Some(entries) => Ok(Some(combined(alloc, self.schema(), &entries)?)),
         }
     }
 }
 
 // the entries numbered `first` to `last`, if 1 <= `first` <= `last` and `last` is placed
 fn span(sequence: &[Entry], first: u64, last: u64) -> Option<&[Entry]>
-    ensures { option_map (λ entries. entries.now) result ≡ placed_span sequence.now first last }
+    ensures span { option_map (λ entries. entries.now) result ≡ placed_span sequence.now first last }
+    ensures admitted { (schema : List Shape) → AllByRecursion (IsAdmitted schema) sequence.now
+        → IfSome result (λ entries. AllByRecursion (IsAdmitted schema) entries.now) }
 {
     if first == 0 || last < first || (sequence.len() as u64) < last {
         return None;

@@ -6,10 +6,10 @@ ghost use Rattle.std.specs.Prelude.{◌≡◌, ◌≤◌, ℕ, true, length, Lis
 ghost use Rattle.cs_apply.specs.Columns.{HaveColumns};
 ghost use Rattle.rb_core.specs.Moves.{Leads, HasRun, StaysClosed, items_of, IsFront};
 ghost use Rattle.rb_sequence.specs.Items.{own_of};
-ghost use Rattle.rb_core.specs.Moves.{HasSingleTables, IsSending};
+ghost use Rattle.rb_core.specs.Moves.{IsSending};
 ghost use Rattle.rb_core.specs.World.{Sender, Subscriber, World, world_begun};
 ghost use Rattle.rb_sequence.specs.Entry.{Entry};
-ghost use Rattle.rb_subscriber.specs.Accept.{AreChangesets};
+ghost use Rattle.rb_subscriber.specs.Accept.{AreChangesets, HasSingleTables};
 
 use cs_apply::laws::rows_keep_columns;
 use rb_subscriber::laws::{accepted_apply_singly, accepting_is_step};
@@ -68,7 +68,7 @@ pub fn tables_apply_singly()
     ensures { (mids : List World) (new : World) (s : ℕ) (subscriber : Subscriber)
         → Leads world_begun mids new → slice_get new.subscribers s ≡ Some subscriber
         → AreChangesets new.sequence → HaveColumns subscriber.base
-        → HasSingleTables subscriber.base subscriber }
+        → HasSingleTables subscriber.base subscriber.accepted subscriber.tables }
 {
     accepting_is_step();
     accepted_apply_singly();

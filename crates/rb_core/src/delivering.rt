@@ -1,8 +1,8 @@
 //! Events of deliveries: accept, acknowledge, negatively acknowledge, expire.
 
-ghost use Rattle.std.specs.Prelude.{◌≡◌, IfOk, IfSome, OnErr};
+ghost use Rattle.std.specs.Prelude.{◌≡◌, ℕ, IfOk, IfSome, OnErr, Some};
 ghost use Rattle.std.specs.Option.{option_copied};
-ghost use Rattle.rb_core.specs.Outcome.{delivery_of};
+ghost use Rattle.rb_core.specs.Outcome.{delivery_of, nacked_for};
 ghost use Rattle.rb_core.specs.Memory.{MayRunOut};
 ghost use Rattle.rb_core.specs.Outcome as outcome;
 ghost use Rattle.rb_core.specs.declared.event.Event.TheVariants as event;
@@ -89,6 +89,16 @@ impl Parts {
         let Some(delivery) = self.known(delivery) else {
             return refused(BrokerRefusal::NoDelivery);
         };
+        self.give_back(delivery)
+    }
+
+    // negatively acknowledges this delivery
+    fn give_back(&mut self, delivery: Delivery) -> Result<Reply, AllocError>
+        ensures ok { IfOk result (λ reply. nacked_for self.old (Some delivery) ≡ (reply, self.new)) }
+        ensures err { OnErr result (self.new ≡ self.old) }
+        ensures memory { OnErr result ((d : ℕ) → MayRunOut (event.Nack d)
+            (nacked_for self.old (Some delivery)).0) }
+    {
         match self
             .desk
             .nack(delivery.sub(), delivery.link(), delivery.number())

@@ -4,7 +4,7 @@
 //! The events and their replies determine what was sent and accepted (*world_told*), without a look
 //! at the broker.
 
-ghost use Rattle.std.specs.Prelude.{◌≡◌, ◌++◌, ℕ, true, List, Some, None, length, slice_get};
+ghost use Rattle.std.specs.Prelude.{◌≡◌, ◌++◌, ℕ, true, List, Some, None, length, map, slice_get};
 ghost use Rattle.cs_apply.specs.declared.conflict.Conflict.{Conflict};
 ghost use Rattle.cs_model.specs.Bytes.{AreBytes};
 ghost use Rattle.cs_model.specs.declared.shape.Shape.{Shape};
@@ -16,25 +16,26 @@ ghost use Rattle.rb_core.specs.declared.reply.BrokerRefusal.TheVariants as refus
 ghost use Rattle.rb_core.specs.declared.reply.Reply.{Reply};
 ghost use Rattle.rb_core.specs.declared.reply.Reply.TheVariants as reply;
 ghost use Rattle.rb_core.specs.Bodies.{HasChangesets};
-ghost use Rattle.rb_core.specs.Headline.{KeepsHeadline};
+ghost use Rattle.rb_core.specs.Headline.{HasTakenFed, KeepsHeadline};
 ghost use Rattle.rb_core.specs.Moves.{Leads, HasRun, StaysClosed, items_of, IsFront};
 ghost use Rattle.rb_sequence.specs.Items.{own_of};
-ghost use Rattle.rb_core.specs.Moves.{HasSingleTables, IsSending};
+ghost use Rattle.rb_core.specs.Moves.{IsSending};
 ghost use Rattle.rb_core.specs.Outcome.{outcome, delivery_of};
 ghost use Rattle.rb_core.specs.Run.{Answer, IsRunOf, RunsOn};
 ghost use Rattle.rb_core.specs.State.{State, IsWorld, empty_tables};
 ghost use Rattle.rb_core.specs.Texts.{FeedsByText, EndsByText};
-ghost use Rattle.rb_core.specs.Told.{world_told, IsToldBy};
+ghost use Rattle.rb_core.specs.Told.{Paired, world_told, IsToldBy};
 ghost use Rattle.rb_core.specs.World.{Sender, Subscriber, World, world_begun, endpoint_of};
 ghost use Rattle.rb_desk.specs.declared.delivery.Delivery.{Delivery};
 ghost use Rattle.rb_desk.specs.Limits.{Limits};
 ghost use Rattle.rb_sequence.specs.Entry.{Entry};
-ghost use Rattle.rb_subscriber.specs.Accept.{brought, ConflictsSingly};
+ghost use Rattle.rb_subscriber.specs.Accept.{brought, ConflictsSingly, HasSingleTables};
 ghost use Rattle.rb_subscriber.specs.declared.refusal.AcceptRefusal.TheVariants as why;
 ghost use Rattle.rb_subscriber.specs.Endpoint.{Endpoint};
 
 use crate::courses;
 use cs_apply::laws::rows_keep_columns;
+use cs_invert::laws::withdrawals_are_admitted;
 use cs_parse::laws::{
     feeding_tells_faults, progress_goes_on, progress_tells, reading_is_spelling, refusing_is_fault,
 };
@@ -50,6 +51,7 @@ pub fn events_keep_worlds()
         → IsWorld old → outcome old event ≡ (given, new) → IsWorld new }
 {
     accepting_is_step();
+    withdrawals_are_admitted();
     calls_keep_limits();
     calls_keep_pictures();
     calls_show_in_outline();
@@ -105,27 +107,36 @@ pub fn runs_are_told()
 }
 
 /// In every run, each publisher's stream has taken the bytes fed since the stream began, as events
-/// and replies report them. So `streams_answer_by_text` holds for that text.
+/// and replies report them. So `streams_answer_by_text` holds for that text. There are as many
+/// publishers as the events added.
 pub fn streams_take_what_is_fed()
-    ensures { (limits : Limits) (schema : List Shape) (events : List Event)
+    ensures stream { (limits : Limits) (schema : List Shape) (events : List Event)
         (answers : List Answer) (new : State) (p : ℕ) (publisher : PublisherState)
         → IsRunOf limits schema events answers new
         → slice_get new.publishers p ≡ Some publisher
         → (sender : Sender) × (slice_get (world_told schema events answers).senders p ≡ Some sender)
         × Took publisher.stream sender.text }
+    ensures all { (limits : Limits) (schema : List Shape) (events : List Event)
+        (answers : List Answer) (new : State) → IsRunOf limits schema events answers new
+        → Paired HasTakenFed new.publishers (world_told schema events answers).senders }
 {
     runs_are_told();
 }
 
 /// At any time of any run, a subscription has accepted one contiguous run of the sequence after its
-/// start. No number is skipped, and none comes twice. Its endpoint is in the same state.
+/// start. No number is skipped, and none comes twice. Its endpoint in the broker is in the same
+/// state: start, cursor, link, mark and tables are those of what it accepted. The broker has no
+/// other endpoints.
 pub fn accepted_is_gapless()
-    ensures { (limits : Limits) (schema : List Shape) (events : List Event)
+    ensures run { (limits : Limits) (schema : List Shape) (events : List Event)
         (answers : List Answer) (new : State) (s : ℕ) (subscriber : Subscriber)
         → IsRunOf limits schema events answers new
         → slice_get (world_told schema events answers).subscribers s ≡ Some subscriber
         → HasRun new.sequence subscriber
         × (slice_get new.endpoints s ≡ Some (endpoint_of subscriber)) }
+    ensures all { (limits : Limits) (schema : List Shape) (events : List Event)
+        (answers : List Answer) (new : State) → IsRunOf limits schema events answers new
+        → map endpoint_of (world_told schema events answers).subscribers ≡ new.endpoints }
 {
     runs_are_told();
     courses::accepted_is_gapless();
@@ -185,27 +196,31 @@ pub fn bodies_are_changesets()
     reading_is_spelling();
 }
 
-/// At any time of any run: where the changesets that a subscription accepted apply singly, without
-/// conflict, to empty tables, its tables are what one thread gets that applies them so.
+/// At any time of any run, each subscription has an endpoint in the broker. Where the changesets
+/// that the subscription accepted apply singly, without conflict, to empty tables, the endpoint's
+/// tables are what one thread gets that applies them so.
 pub fn tables_apply_singly()
     ensures { (limits : Limits) (schema : List Shape) (events : List Event)
         (answers : List Answer) (new : State) (s : ℕ) (subscriber : Subscriber)
         → IsRunOf limits schema events answers new
         → slice_get (world_told schema events answers).subscribers s ≡ Some subscriber
-        → HasSingleTables (empty_tables schema) subscriber }
+        → (end : Endpoint) × (slice_get new.endpoints s ≡ Some end)
+        × HasSingleTables (empty_tables schema) subscriber.accepted end.tables }
 {
     runs_are_told();
+    accepted_is_gapless();
     bodies_are_changesets();
     courses::tables_apply_singly();
 }
 
-/// Every run keeps the headline: these laws together, and what `run` says of its own events.
+/// Every run keeps the headline: the laws above together. `run` says the same of its own events.
 pub fn runs_keep_the_headline()
     ensures { (limits : Limits) (schema : List Shape) (events : List Event)
         (answers : List Answer) (new : State) → IsRunOf limits schema events answers new
         → KeepsHeadline schema events answers new }
 {
     runs_are_told();
+    streams_take_what_is_fed();
     accepted_is_gapless();
     sendings_come_once_in_order();
     nothing_after_close();
@@ -225,7 +240,7 @@ pub fn conflicts_are_single()
         × (slice_get (world_told schema events answers).subscribers delivery.sub
         ≡ Some subscriber)
         × ConflictsSingly subscriber.tables
-        (brought (endpoint_of subscriber) old.sequence delivery) }
+        (brought old.sequence delivery) }
 {
     runs_are_told();
     bodies_are_changesets();

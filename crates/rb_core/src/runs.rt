@@ -1,22 +1,22 @@
 //! Whole runs: a list of events, served from an empty world.
 
-ghost use Rattle.std.specs.Prelude.{◌≡◌, ℕ, true, List, Some, IfOk, slice_get, take};
+ghost use Rattle.std.specs.Prelude.{◌≡◌, ℕ, true, List, Some, IfOk, map, slice_get, take};
 ghost use Rattle.std.specs.List.{AllByRecursion};
 ghost use Rattle.cs_model.specs.Bytes.{AreBytes};
-ghost use Rattle.rb_core.specs.Moves.{HasRun, HasSingleTables, StaysClosed, items_of};
+ghost use Rattle.rb_core.specs.Headline.{HasTakenFed};
+ghost use Rattle.rb_core.specs.Moves.{HasRun, StaysClosed, items_of};
 ghost use Rattle.rb_sequence.specs.Items.{own_of};
 ghost use Rattle.rb_core.specs.Moves.{IsFront, IsSending};
 ghost use Rattle.rb_core.specs.Run.{Run, FeedsBytes};
 ghost use Rattle.rb_core.specs.State.{empty_tables, empty_world};
-ghost use Rattle.rb_core.specs.Told.{world_told};
+ghost use Rattle.rb_core.specs.Told.{Paired, world_told};
 ghost use Rattle.rb_core.specs.World.{Sender, Subscriber, endpoint_of};
 ghost use Rattle.rb_sequence.specs.Entry.{Entry};
+ghost use Rattle.rb_subscriber.specs.Accept.{HasSingleTables};
+ghost use Rattle.rb_subscriber.specs.Endpoint.{Endpoint};
 
 use crate::event::Event;
-use crate::laws::{
-    accepted_is_gapless, nothing_after_close, runs_are_told, sendings_come_once_in_order,
-    tables_apply_singly,
-};
+use crate::laws::runs_keep_the_headline;
 use crate::reply::Reply;
 use crate::world::World;
 use cs_model::Schema;
@@ -44,6 +44,9 @@ pub fn run(
         → slice_get (world_told schema events.now r.1.items).subscribers s ≡ Some subscriber
         → HasRun r.0.sequence subscriber
         × (slice_get r.0.endpoints s ≡ Some (endpoint_of subscriber))) }
+    // There are no other endpoints.
+    ensures endpoints { IfOk result (λ r.
+        map endpoint_of (world_told schema events.now r.1.items).subscribers ≡ r.0.endpoints) }
     // A publisher's entries in the sequence are a prefix of what it sent, in that order.
     ensures in_order { IfOk result (λ r. (p : ℕ) (sender : Sender)
         → slice_get (world_told schema events.now r.1.items).senders p ≡ Some sender
@@ -56,6 +59,9 @@ pub fn run(
     ensures sent { IfOk result (λ r. (i : ℕ) (entry : Entry) → slice_get r.0.sequence i ≡ Some entry
         → (sender : Sender) × (slice_get (world_told schema events.now r.1.items).senders
         entry.item.publisher ≡ Some sender) × IsSending sender entry.item) }
+    // Each publisher's stream has taken what the publisher was fed.
+    ensures streams { IfOk result (λ r. Paired HasTakenFed r.0.publishers
+        (world_told schema events.now r.1.items).senders) }
     // If the first n events close the sequence, it stays closed and nothing more is placed.
     ensures closed { IfOk result (λ r. (n last : ℕ)
         → (world_told schema (take n events.now) (take n r.1.items)).closing ≡ Some last
@@ -68,17 +74,14 @@ pub fn run(
         → subscriber.closed ≡ true
         → (after : Subscriber) × (slice_get (world_told schema events.now r.1.items).subscribers s
         ≡ Some after) × StaysClosed subscriber after) }
-    // Where what a subscription accepted applies singly, without conflict, to empty tables, its
-    // tables are what one thread gets that applies it so.
+    // Where what a subscription accepted applies singly, without conflict, to empty tables, the
+    // tables of its endpoint are what one thread gets that applies it so.
     ensures tables { IfOk result (λ r. (s : ℕ) (subscriber : Subscriber)
         → slice_get (world_told schema events.now r.1.items).subscribers s ≡ Some subscriber
-        → HasSingleTables (empty_tables schema) subscriber) }
+        → (end : Endpoint) × (slice_get r.0.endpoints s ≡ Some end)
+        × HasSingleTables (empty_tables schema) subscriber.accepted end.tables) }
 {
-    runs_are_told();
-    accepted_is_gapless();
-    sendings_come_once_in_order();
-    nothing_after_close();
-    tables_apply_singly();
+    runs_keep_the_headline();
     served(alloc, config, schema, events)
 }
 

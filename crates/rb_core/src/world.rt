@@ -1,12 +1,14 @@
 //! `World`, the public interface of the crate: events go in, replies come out.
 
 ghost use Rattle.std.specs.Prelude.{◌≡◌, ◌+◌, length, IfOk, OnErr, MatchOption, slice_get, Option};
+ghost use Rattle.std.specs.List.{AllByRecursion};
 ghost use Rattle.std.specs.Option.{option_map, option_copied};
 ghost use Rattle.std.specs.FinMap as map;
 ghost use Rattle.cs_apply.specs.Seen.{listed};
 ghost use Rattle.rb_core.specs.Memory.{MayRunOut};
 ghost use Rattle.rb_core.specs.Outcome.{outcome, entry_of};
 ghost use Rattle.rb_core.specs.State.{empty_world, IsWorld, how_many_wait};
+ghost use Rattle.rb_subscriber.specs.Accept.{IsAdmitted};
 
 use crate::event::Event;
 use crate::laws::events_keep_worlds;
@@ -70,9 +72,17 @@ impl World {
         self.parts.moved_by(alloc, event)
     }
 
-    /// The entries, in order.
+    /// The schema of its tables.
+    pub(crate) fn schema(&self) -> &Schema
+        ensures { result.now ≡ self.now.schema }
+    {
+        &self.parts.schema
+    }
+
+    /// The entries, in order. The schema admits their bodies.
     pub(crate) fn sequence(&self) -> &[Entry]
-        ensures { result.now ≡ self.now.sequence }
+        ensures entries { result.now ≡ self.now.sequence }
+        ensures admitted { AllByRecursion (IsAdmitted self.now.schema) self.now.sequence }
     {
         &self.parts.sequence
     }

@@ -37,11 +37,14 @@ abbrev pub expired_lane : ℕ → ℕ → Ticket → Lane → Lane
 expired_lane timeout clock latest kept =
     record kept { held = map (expired_by timeout clock latest) kept.held }
 
+-- does so with the spans of an open subscription
 abbrev pub expired_sub : ℕ → ℕ → (Held → Ticket) → Sub → Sub
 expired_sub timeout clock ticket sub =
     record sub {
-      lane = record sub.lane
-          { held = map (expired_held timeout clock ticket) sub.lane.held };
+      lane = record sub.lane {
+        held = if sub.closed then sub.lane.held else map (expired_held timeout clock ticket)
+            sub.lane.held;
+      };
     }
 
 -- how many stored spans of open subscriptions are due

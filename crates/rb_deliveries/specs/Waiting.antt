@@ -45,8 +45,9 @@ abbrev pub earliest : List Held → Option Ticket
 earliest [] = None
 earliest (h ∷ rest) = first_ticket (moment_of h.span.status) (earliest rest)
 
+-- the earliest moment of an open subscription
 abbrev pub sub_moment : Sub → Option Ticket
-sub_moment sub = earliest sub.lane.held
+sub_moment sub = if sub.closed then None else earliest sub.lane.held
 
 -- whether what was taken at this moment is due
 abbrev pub is_past : ℕ → ℕ → Ticket → Bool

@@ -1,7 +1,7 @@
 //! `Deliveries`: what is stored of all subscriptions' deliveries, and which of them comes first.
 
 ghost use Rattle.std.specs.Prelude.{◌≡◌, ◌≤◌, ◌<◌, ◌+◌, ◌++◌, ◌∷◌, [], length, map, slice_get};
-ghost use Rattle.std.specs.Prelude.{Some, IfOk, IfSome, OnOk, OnErr};
+ghost use Rattle.std.specs.Prelude.{nat_lt, Some, IfOk, IfSome, OnOk, OnErr};
 ghost use Rattle.std.specs.List.{AllByRecursion};
 ghost use Rattle.std.specs.Option.{option_copied, option_map};
 ghost use Rattle.rb_deliveries.specs.declared.sub.Sub.{Sub};
@@ -92,7 +92,7 @@ impl Deliveries {
         self.subs.reserve(1)?;
         let made = Sub::behind(alloc, start, link, ticket);
         let first = made.ticket(self.window);
-        let moment = made.lane.earliest();
+        let moment = made.moment();
         push_both(alloc, &mut self.line, &mut self.moments, first, moment)?;
         self.subs.push_reserved(made);
         Ok(())
@@ -218,6 +218,14 @@ impl Deliveries {
         Some((winner.place as u64, held.span))
     }
 
+    /// Whether a span of an open subscription is due.
+    pub fn any_due(&self, timeout: u64, clock: u64) -> bool
+        ensures value { result ≡ nat_lt 0 (all_due timeout clock self.now.subs) }
+        ensures joined { AllByRecursion (λ sub. AreJoined sub.lane) self.now.subs }
+    {
+        first_past(&self.moments, timeout, clock).is_some()
+    }
+
     /// Makes the spans that are due ready again, and returns how many there are. Their tickets come
     /// after `latest`, in the order of their deliveries' numbers, which are below `next`.
     pub fn expire(&mut self, timeout: u64, clock: u64, latest: Ticket, next: u64) -> u64
@@ -255,7 +263,7 @@ fn stand(subs: &[Sub], line: &mut Tournament, moments: &mut Tournament, window: 
         → StandsAgain window s sub line.old moments.old line.new moments.new }
 {
     line.set(s, subs[s].ticket(window));
-    moments.set(s, subs[s].lane.earliest());
+    moments.set(s, subs[s].moment());
 }
 
 // adds a place to both, or to none

@@ -26,7 +26,7 @@ impl Sub {
     ghost use Rattle.rb_deliveries.specs.Subs.{AreGiven, new_sub, sub_out_as, delivered_sub};
     ghost use Rattle.rb_deliveries.specs.Subs.{returned_sub, settled_sub, reconnected_sub};
     ghost use Rattle.rb_deliveries.specs.Subs.{closed_sub};
-    ghost use Rattle.rb_deliveries.specs.Waiting.{sub_ticket};
+    ghost use Rattle.rb_deliveries.specs.Waiting.{sub_moment, sub_ticket};
 
     /// A subscription after this number, under this link. The numbers after it are cut with this
     /// ticket.
@@ -121,6 +121,18 @@ impl Sub {
         Some(self.lane.ticket())
     }
 
+    /// The earliest moment at which a span in flight was taken, if it is open.
+    pub(crate) fn moment(&self) -> Option<Ticket>
+        ensures value { result ≡ sub_moment self.now }
+        ensures joined { AreJoined self.now.lane }
+    {
+        let moment = self.lane.earliest();
+        if self.closed {
+            return None;
+        }
+        moment
+    }
+
     /// How many spans are due.
     pub(crate) fn how_many_due(&self, timeout: u64, clock: u64) -> u64
         ensures value { result ≡ due_in timeout clock self.now }
@@ -133,14 +145,16 @@ impl Sub {
         many
     }
 
-    /// Makes the spans that are due ready again. Their tickets come after `latest`, in the order of
-    /// their deliveries' numbers, which are below `next`.
+    /// Makes the spans that are due ready again, if it is open. Their tickets come after `latest`,
+    /// in the order of their deliveries' numbers, which are below `next`.
     pub(crate) fn expire(&mut self, timeout: u64, clock: u64, latest: Ticket, next: u64)
         requires { AreGiven next latest.turn self.old.lane.held }
         ensures { self.new ≡ expired_sub timeout clock
             (by_number (turns_from latest.front latest.turn)) self.old }
     {
-        self.lane.expire(timeout, clock, latest, next);
+        if !self.closed {
+            self.lane.expire(timeout, clock, latest, next);
+        }
     }
 
     /// Continues after this number, under this link. The numbers after it are cut with this ticket.

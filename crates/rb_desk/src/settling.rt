@@ -1,6 +1,6 @@
 //! Calls that end a delivery: acknowledge, negatively acknowledge, expire.
 
-ghost use Rattle.std.specs.Prelude.{◌≡◌, ◌+◌, IfOk, OnErr};
+ghost use Rattle.std.specs.Prelude.{◌≡◌, ◌<◌, ◌+◌, IfOk, OnErr};
 ghost use Rattle.rb_desk.specs.Calls.{ack, nack, expire};
 ghost use Rattle.rb_desk.specs.Answers.{DeskAnswers};
 
@@ -69,15 +69,21 @@ impl Desk {
     /// were taken: its numbers are ready again. `now` is a tick of the caller's clock; the desk's
     /// clock is the greatest tick so far. Returns how many deliveries expired.
     ///
-    /// Refuses nothing. Returns `AllocError` if there are no numbers left to issue, and does not
-    /// change the desk then.
+    /// Does not allocate, and refuses nothing. Returns `AllocError` only where a delivery expires
+    /// and no more turns are left below 2^64 than deliveries were made so far. It does not change
+    /// the desk then.
     #[tactic(auto, unfolding(crate::specs::Calls::expire))]
     pub fn expire(&mut self, now: u64) -> Result<u64, AllocError>
         ensures ok { IfOk result (λ many. expire self.old now ≡ (many, self.new)) }
         ensures err { OnErr result (self.new ≡ self.old) }
+        ensures memory { OnErr result (0 < (expire self.old now).0) }
     {
         let clock = self.clock.max(now);
         let timeout = self.config.timeout();
+        if !self.deliveries.any_due(timeout, clock) {
+            self.clock = clock;
+            return Ok(0);
+        }
         let next = self.next_delivery;
         let turn = turn_behind(self.turn, next)?;
         let latest = Ticket {

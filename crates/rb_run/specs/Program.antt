@@ -1,25 +1,33 @@
--- The command line: which words the program takes, and what they ask for.
-use Rattle.std.specs.Prelude.{◌≡◌, Bool, true, false, List, [], ◌∷◌, Some, Result, Ok}
-use Rattle.std.specs.Prelude.{Err, codes}
+-- The command line: which words the program takes, what they ask for, and how the program ends that
+-- does this.
+use Rattle.std.specs.Prelude.{◌≡◌, ℕ, Bool, true, false, List, [], ◌∷◌, Option, Some, None, Result}
+use Rattle.std.specs.Prelude.{Ok, Err, codes, ◌⊎◌}
+use Rattle.std.specs.Io.KnownBytes.{Keeps}
 use Rattle.clap.specs.Faults.{fault_of}
 use Rattle.clap.specs.Kinds.{Kinds, HasKind}
 use Rattle.clap.specs.Simple.{App, Shape, new_rule, new_shape, subcommand_of}
 use Rattle.clap.specs.Walk.{Rule, Text}
 use Rattle.clap.specs.declared.builder.action.ArgAction.TheVariants.{Set, SetTrue}
 use Rattle.clap.specs.Values.{kind_of}
+use Rattle.clap.specs.declared.error.Error.{Error}
 use Rattle.clap.specs.declared.error.kind.ErrorKind.{ErrorKind}
 use Rattle.clap.specs.declared.error.kind.ErrorKind.TheVariants.{OutOfMemory}
 use Rattle.clap.specs.declared.error.kind.ErrorKind.TheVariants.{DisplayHelp, DisplayVersion}
 use Rattle.rb_desk.specs.Limits.{Limits}
 use Rattle.rb_desk.specs.declared.config.ConfigFault.{ConfigFault}
 use Rattle.rb_run.specs.declared.ending.Ending.{Ending}
-use Rattle.rb_run.specs.declared.ending.Ending.TheVariants.{Done, Stopped, Misused, Unshown}
+use Rattle.rb_run.specs.declared.ending.Ending.TheVariants.{Done, Stopped, Misused, OutOfRange}
 use Rattle.rb_run.specs.declared.job.Job.{Job}
 use Rattle.rb_run.specs.declared.job.Job.TheVariants as job
+use Rattle.rb_run.specs.Endings.{ending_of, ending_of_show}
 use Rattle.rb_run.specs.Options.{answering_by, config_by, form_by, is_called}
 use Rattle.rb_script.specs.declared.answering.Answering.{Answering}
-use Rattle.rb_script.specs.declared.fault.ScriptFault.TheVariants.{Memory}
+use Rattle.rb_script.specs.declared.fault.ScriptFault.{ScriptFault}
+use Rattle.rb_script.specs.declared.fault.ScriptFault.TheVariants.{Memory, Write}
 use Rattle.rb_script.specs.declared.row_form.RowForm.{RowForm}
+use Rattle.rb_script.specs.declared.show_fault.ShowFault.{ShowFault}
+use Rattle.rb_script.specs.Ends.{ScriptEnds}
+use Rattle.rb_script.specs.Showing.{ShowEnds}
 
 -- an option that takes a number, with its usual number
 abbrev pub limit_option : Text → Text → Rule
@@ -96,39 +104,49 @@ AsksFor (job.Range fault) words = AreTaken false words × (config_in words ≡ E
 AsksFor (job.Show form) words = AreTaken true words × (form ≡ form_in words)
 AsksFor (job.Print e) words = HasKind (wrong_in words) e
 
--- the status is 0, 1 or 3, as the script ends
-abbrev pub HasTried : Ending → Type 0
-HasTried Misused = ⊥
-HasTried (Unshown fault) = ⊥
-HasTried ending = Unit {0}
+-- A script is answered under these limits and in this way: there is a result that it ends with, and
+-- the program ends as that says. The reader had r0 left and has r; the writer held w0 and holds w.
+abbrev pub HasAnswered : Answering → Limits → Ending → Option (List ℕ) → Option (List ℕ)
+    → Option (List ℕ) → Option (List ℕ) → Type 0
+HasAnswered how limits ending r0 r w0 w = (script : Result (Unit {0}) ScriptFault)
+    × ScriptEnds how limits script r0 r w0 w × (ending ≡ ending_of script)
 
--- the status is 0 or 1, as the showing ends
-abbrev pub HasShown : Ending → Type 0
-HasShown Done = Unit {0}
-HasShown (Unshown fault) = Unit {0}
-HasShown ending = ⊥
+-- The same of rows that are shown in this form.
+abbrev pub HasShown : RowForm → Ending → Option (List ℕ) → Option (List ℕ) → Option (List ℕ)
+    → Option (List ℕ) → Type 0
+HasShown form ending r0 r w0 w = (shown : Result (Unit {0}) ShowFault)
+    × ShowEnds form shown r0 r w0 w × (ending ≡ ending_of_show shown)
 
--- the status is 0 or 1, as the printing ends
+-- the program is done, or the writer failed
 abbrev pub HasPrinted : Ending → Type 0
 HasPrinted Done = Unit {0}
-HasPrinted (Stopped fault) = Unit {0}
+HasPrinted (Stopped (Write why)) = Unit {0}
 HasPrinted ending = ⊥
 
--- How the program ends that prints a text of this kind. Out of memory stops it, help and the
--- version are printed, and any other text means that the words are wrong.
-abbrev pub EndsShown : ErrorKind → Ending → Type 0
-EndsShown OutOfMemory ending = ending ≡ Stopped Memory
-EndsShown DisplayHelp ending = HasPrinted ending
-EndsShown DisplayVersion ending = HasPrinted ending
-EndsShown kind ending = ending ≡ Misused
+-- How the program ends that has such a text. Out of memory stops it, and help and the version are
+-- printed. Any other text means that the words are wrong, and nothing is written.
+abbrev pub EndsShown : ErrorKind → Error → Ending → Option (List ℕ) → Option (List ℕ) → Type 0
+EndsShown OutOfMemory text ending w0 w = (ending ≡ Stopped Memory) × Keeps w0 w
+EndsShown DisplayHelp text ending w0 w = HasPrinted ending
+EndsShown DisplayVersion text ending w0 w = HasPrinted ending
+EndsShown kind text ending w0 w = (ending ≡ Misused text) × Keeps w0 w
 
--- how the program ends that does this
-abbrev pub EndsFor : Job → Ending → Type 0
-EndsFor (job.Script limits how) ending = HasTried ending
-EndsFor (job.Range fault) ending = ending ≡ Misused
-EndsFor (job.Show form) ending = HasShown ending
-EndsFor (job.Print e) ending = EndsShown (kind_of e) ending
+-- What the program that does this reads and writes, and how it ends. Only for a script and for rows
+-- is anything read.
+abbrev pub EndsFor : Job → Ending → Option (List ℕ) → Option (List ℕ) → Option (List ℕ)
+    → Option (List ℕ) → Type 0
+EndsFor (job.Script limits how) ending r0 r w0 w = HasAnswered how limits ending r0 r w0 w
+EndsFor (job.Range fault) ending r0 r w0 w = (ending ≡ OutOfRange fault) × Keeps r0 r × Keeps w0 w
+EndsFor (job.Show form) ending r0 r w0 w = HasShown form ending r0 r w0 w
+EndsFor (job.Print text) ending r0 r w0 w = EndsShown (kind_of text) text ending w0 w × Keeps r0 r
 
 -- the program does what the words ask for, and ends so
-abbrev pub EndsAsAsked : List Text → Ending → Type 0
-EndsAsAsked words ending = (todo : Job) × AsksFor todo words × EndsFor todo ending
+abbrev pub EndsAsAsked : List Text → Ending → Option (List ℕ) → Option (List ℕ) → Option (List ℕ)
+    → Option (List ℕ) → Type 0
+EndsAsAsked words ending r0 r w0 w =
+    (todo : Job) × AsksFor todo words × EndsFor todo ending r0 r w0 w
+
+-- The same on streams whose bytes aren't known, as standard input and standard output; or memory
+-- for a buffer ran out.
+abbrev pub EndsUnseen : List Text → Ending → Type 0
+EndsUnseen words ending = (ending ≡ Stopped Memory) ⊎ EndsAsAsked words ending None None None None

@@ -1,11 +1,22 @@
-//! The ways the program ends, and their exit statuses.
+//! The ways the program ends, what it says then, and its exit statuses.
 
-ghost use Rattle.std.specs.Prelude.{◌≡◌};
-ghost use Rattle.rb_run.specs.Endings.{ending_of, ending_of_show, status_of};
+ghost use Rattle.std.specs.Prelude.{◌≡◌, codes, IfSome, OnOk};
+ghost use Rattle.std.specs.Io.KnownBytes.{Appends};
+ghost use Rattle.std.specs.IoError.{error_kind};
+ghost use Rattle.std.specs.Process.{exit_status};
+ghost use Rattle.rb_run.specs.Endings.{IsTold, ending_of, ending_of_show, ending_of_words};
+ghost use Rattle.rb_run.specs.Endings.{message, status_of};
 
+use crate::options::range;
+use clap::Error;
+use rb_core::ConfigFault;
 use rb_script::{RefusedLine, ScriptFault, ShowFault};
+use std::fmt::Display;
+use std::io;
+use std::io::Write;
+use std::process::ExitCode;
 
-/// How the program ends, which determines its exit status.
+/// How the program ends, which determines what it says on standard error and its exit status.
 #[derive(Debug, Drop)]
 pub enum Ending {
     /// The request is done: a script is answered to its end, refusals included, or all rows are
@@ -17,8 +28,12 @@ pub enum Ending {
     Refused(RefusedLine),
     /// The showing of rows stopped.
     Unshown(ShowFault),
-    /// The command line is faulty.
-    Misused,
+    /// The words of the command line aren't the program's, for this reason.
+    Misused(Error),
+    /// The word of an option isn't a number in its range.
+    OutOfRange(ConfigFault),
+    /// A word of the command line isn't UTF-8.
+    NotText,
 }
 
 impl Ending {
@@ -43,6 +58,16 @@ impl Ending {
         }
     }
 
+    /// The ending for words that can't be had, for this reason.
+    pub fn of_words(why: &io::Error) -> Ending
+        ensures { result ≡ ending_of_words (error_kind why.now) }
+    {
+        match why.kind() {
+            io::ErrorKind::InvalidData => Ending::NotText,
+            _ => Ending::Stopped(ScriptFault::Memory),
+        }
+    }
+
     /// The exit status: 0, 1, 2 or 3.
     pub fn status(&self) -> u8
         ensures { result ≡ status_of self.now }
@@ -50,8 +75,45 @@ impl Ending {
         match self {
             Ending::Done => 0,
             Ending::Stopped(_) | Ending::Unshown(_) => 1,
-            Ending::Misused => 2,
+            Ending::Misused(_) | Ending::OutOfRange(_) | Ending::NotText => 2,
             Ending::Refused(_) => 3,
         }
     }
+
+    /// The same, as `main` returns it.
+    pub fn code(&self) -> ExitCode
+        ensures { exit_status result ≡ status_of self.now }
+    {
+        ExitCode::from(self.status())
+    }
+
+    /// Says on `errors` why it ends so: a line that begins with the program's name, or what the
+    /// parser of command lines says. Says nothing if the request is done.
+    pub fn tell<E: Write>(&self, errors: &mut E) -> io::Result<()>
+        ensures { OnOk result (IsTold self.now (E.contents errors.old) (E.contents errors.new)) }
+    {
+        match self {
+            Ending::Done => Ok(()),
+            Ending::Stopped(fault) => write_line(errors, fault),
+            Ending::Refused(line) => write_line(errors, line),
+            Ending::Unshown(fault) => write_line(errors, fault),
+            Ending::Misused(text) => write_text(errors, text),
+            Ending::OutOfRange(fault) => write_line(errors, range(*fault)),
+            Ending::NotText => write_line(errors, "an argument isn't UTF-8"),
+        }
+    }
+}
+
+// Writes the program's name and this text, in a line.
+fn write_line<E: Write, D: Display + Drop>(errors: &mut E, text: D) -> io::Result<()>
+    ensures { OnOk result (IfSome (D.output text) (λ shown.
+        Appends (E.contents errors.old) (E.contents errors.new) (message shown))) }
+{
+    writeln!(errors, "rb_run: {text}")?;
+    errors.flush()
+}
+
+fn write_text<E: Write>(errors: &mut E, text: &Error) -> io::Result<()> {
+    write!(errors, "{text}")?;
+    errors.flush()
 }

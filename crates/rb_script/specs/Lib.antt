@@ -6,6 +6,7 @@ pub mod Lines
 pub mod Output
 pub mod Streams
 pub mod Script
+pub mod ScriptSchema
 pub mod Refusing
 pub mod Answering
 pub mod Feeding

@@ -3,7 +3,6 @@
 
 ghost use Rattle.std.specs.Prelude.{◌≡◌, ◌++◌, ◌∷◌, [], ℕ, List, Some, None, slice_get};
 ghost use Rattle.std.specs.List.{AllByRecursion};
-ghost use Rattle.cs_model.specs.declared.shape.Shape.{Shape};
 ghost use Rattle.rb_desk.specs.IsPicture.{AreInRange};
 ghost use Rattle.rb_desk.specs.Limits.{Limits};
 ghost use Rattle.rb_core.specs.Headline.{KeepsHeadline};
@@ -17,6 +16,7 @@ ghost use Rattle.rb_script.specs.declared.lines.Stage.TheVariants.{Tables};
 ghost use Rattle.rb_script.specs.declared.answering.Answering.{Answering};
 ghost use Rattle.rb_script.specs.Answering.{answered_lines, lines_reached, numbered_answers};
 ghost use Rattle.rb_script.specs.Answering.{is_refusal, plainly, script_output, script_stop};
+ghost use Rattle.rb_script.specs.ScriptSchema.{schema_of_script};
 ghost use Rattle.rb_script.specs.Lines.{line_answer, world_of};
 ghost use Rattle.rb_script.specs.Output.{answers, first_place, written};
 ghost use Rattle.rb_script.specs.Refusing.{line_refused};
@@ -34,12 +34,11 @@ pub fn lines_are_answered()
         ≡ lines_answers config (Tables []) (lines ++ last ∷ []) }
 {}
 
-/// The events in a script's lines, with the replies to them, are a run. It leads from an empty
-/// world to the world after all lines.
+/// The events in a script's lines, with the replies to them, are a run. It leads from the empty
+/// world of the tables that the script declares to the world after all lines.
 pub fn scripts_are_runs()
     ensures { (config : Limits) (lines : List (List ℕ))
-        → (schema : List Shape)
-        × Run (empty_world config schema) (lines_events lines)
+        → Run (empty_world config (schema_of_script lines)) (lines_events lines)
         (lines_replies config (Tables []) lines)
         (world_of config (stage_after config (Tables []) lines)) }
 {}
@@ -54,26 +53,27 @@ pub fn scripts_feed_bytes()
 /// law of runs holds for scripts.
 pub fn accepted_lines_are_gapless()
     ensures { (config : Limits) (lines : List (List ℕ)) → AreInRange config
-        → (schema : List Shape) × ((s : ℕ) (subscriber : Subscriber)
-        → slice_get (world_told schema (lines_events lines)
+        → (s : ℕ) (subscriber : Subscriber)
+        → slice_get (world_told (schema_of_script lines) (lines_events lines)
         (lines_replies config (Tables []) lines)).subscribers s ≡ Some subscriber
-        → HasRun (world_of config (stage_after config (Tables []) lines)).sequence subscriber) }
+        → HasRun (world_of config (stage_after config (Tables []) lines)).sequence subscriber }
 {
     scripts_are_runs();
     scripts_feed_bytes();
     accepted_is_gapless();
 }
 
-/// The headline of a script, whatever its lines are and whether or not the last one has its end:
-/// what is written is the answers to its lines, and of what these tell every run's headline holds.
+/// The headline of a script, whatever its lines are and whether or not the last one has its end.
+/// What is written is the answers to its lines, and these keep the headline: under the schema that
+/// the script's own `table` lines declare, and of the world after its last line.
 pub fn scripts_keep_the_headline()
     ensures { (config : Limits) (lines : List (List ℕ)) (last : List ℕ) → AreInRange config
         → AllByRecursion IsLine lines → IsLine last
         → (answers config (ended_lines lines ++ last)
         ≡ lines_answers config (Tables []) (lines ++ last ∷ []))
-        × ((schema : List Shape) × KeepsHeadline schema (lines_events (lines ++ last ∷ []))
+        × KeepsHeadline (schema_of_script (lines ++ last ∷ [])) (lines_events (lines ++ last ∷ []))
         (lines_replies config (Tables []) (lines ++ last ∷ []))
-        (world_of config (stage_after config (Tables []) (lines ++ last ∷ [])))) }
+        (world_of config (stage_after config (Tables []) (lines ++ last ∷ []))) }
 {
     lines_are_answered();
     scripts_are_runs();
@@ -98,8 +98,9 @@ pub fn lines_are_found()
         → lines_of (ended_lines lines ++ last) ≡ lines ++ last ∷ [] }
 {}
 
-/// The headline of a script, however it is answered: what is written is the answers to the lines
-/// that are reached, and of what these tell every run's headline holds.
+/// The headline of a script, however it is answered. What is written is the answers to the lines
+/// that are reached, and these keep the headline: under the schema that the `table` lines among them
+/// declare, and of the world after the last of them.
 pub fn answerings_keep_the_headline()
     ensures { (how : Answering) (config : Limits) (lines : List (List ℕ)) (last : List ℕ)
         → AreInRange config → AllByRecursion IsLine lines → IsLine last
@@ -107,9 +108,9 @@ pub fn answerings_keep_the_headline()
         × (reached ≡ lines_reached how config (Tables []) (lines ++ last ∷ []))
         × (script_output how config (lines_of (ended_lines lines ++ last))
         ≡ numbered_answers how 1 (answered_lines config (Tables []) reached))
-        × ((schema : List Shape) × KeepsHeadline schema (lines_events reached)
+        × KeepsHeadline (schema_of_script reached) (lines_events reached)
         (lines_replies config (Tables []) reached)
-        (world_of config (stage_after config (Tables []) reached))) }
+        (world_of config (stage_after config (Tables []) reached)) }
 {
     lines_are_found();
     scripts_are_runs();

@@ -16,8 +16,8 @@ use Rattle.rb_desk.specs.declared.delivery.Delivery.{Delivery}
 use Rattle.rb_sequence.specs.Entry.{Entry}
 use Rattle.rb_subscriber.specs.declared.refusal.AcceptRefusal.{AcceptRefusal}
 use Rattle.rb_subscriber.specs.declared.refusal.AcceptRefusal.TheVariants as refusal
-use Rattle.rb_subscriber.specs.Accept.{brought, joined_bodies, IsAdmitted, if_admitted, first_outside_entry, applied}
-use Rattle.rb_subscriber.specs.Accept.{applied_if_admitted, accept, AcceptsDelivery}
+use Rattle.rb_subscriber.specs.Accept.{joined_bodies, IsAdmitted, if_admitted, first_outside_entry, applied}
+use Rattle.rb_subscriber.specs.Accept.{applied_if_admitted, refusal_before, taken_unless_refused, accept_brought, AcceptsBrought}
 use Rattle.rb_subscriber.specs.Endpoint.{Endpoint}
 
 -- ---- tests
@@ -40,14 +40,51 @@ above last cursor less = grind (arith, nat_tests)
 -- ---- refusals
 
 -- what isn't refused goes on
-accept_not_refused : (b : Bool) (why : AcceptRefusal) (rest : Result Endpoint AcceptRefusal) (new : Endpoint)
-    → cond b (Err why) rest ≡ Ok new → (b ≡ false) × (rest ≡ Ok new)
-accept_not_refused true why rest new e = absurd cc
-accept_not_refused false why rest new e = (refl, e)
+accept_not_refused : (b : Bool) (why : AcceptRefusal) (rest : Option AcceptRefusal) → cond b (Some why) rest ≡ None
+    → (b ≡ false) × (rest ≡ None)
+accept_not_refused true why rest e = absurd cc
+accept_not_refused false why rest e = (refl, e)
 
-accept_goes_on : (b : Bool) (why : AcceptRefusal) (rest : Result Endpoint AcceptRefusal) (new : Endpoint) → b ≡ false
-    → rest ≡ Ok new → cond b (Err why) rest ≡ Ok new
-accept_goes_on b why rest new tested e = ap (λ c. cond c (Err why) rest) tested ∙ e
+accept_goes_on : (b : Bool) (why : AcceptRefusal) (rest : Option AcceptRefusal) → b ≡ false → rest ≡ None
+    → cond b (Some why) rest ≡ None
+accept_goes_on b why rest tested e = ap (λ c. cond c (Some why) rest) tested ∙ e
+
+-- a delivery that its entries alone can refuse
+pub record FollowsCursor (old : Endpoint) (delivery : Delivery) : Type 0 where
+  pub not_closed : old.closed ≡ false
+  pub linked : delivery.link ≡ old.link
+  pub next : delivery.first ≡ suc old.cursor
+  pub some : suc old.cursor ≤ delivery.last
+
+pub none_is_due : (old : Endpoint) (delivery : Delivery) → refusal_before old delivery ≡ None → FollowsCursor old delivery
+unfolding refusal_before
+none_is_due old delivery e =
+    let closed = accept_not_refused old.closed refusal.Closed _ e in
+    let link = accept_not_refused (not (delivery.link == old.link)) refusal.StaleLink _ closed.1 in
+    let seen = accept_not_refused (nat_le delivery.last old.cursor) refusal.Seen _ link.1 in
+    let gap = accept_not_refused (not (delivery.first == suc old.cursor)) (refusal.Gap (suc old.cursor)) None seen.1 in
+    record {
+      not_closed = closed.0;
+      linked = same_numbers delivery.link old.link link.0;
+      next = same_numbers delivery.first (suc old.cursor) gap.0;
+      some = leb-false delivery.last old.cursor seen.0;
+    }
+
+pub due_is_none : (old : Endpoint) (delivery : Delivery) → FollowsCursor old delivery → refusal_before old delivery ≡ None
+unfolding refusal_before
+due_is_none old delivery a =
+    let gap = accept_goes_on (not (delivery.first == suc old.cursor)) (refusal.Gap (suc old.cursor)) None
+    (numbers_tested delivery.first (suc old.cursor) a.next) refl in
+    let seen = accept_goes_on (nat_le delivery.last old.cursor) refusal.Seen _
+    (above delivery.last old.cursor a.some) gap in
+    let link = accept_goes_on (not (delivery.link == old.link)) refusal.StaleLink _
+    (numbers_tested delivery.link old.link a.linked) seen in
+    accept_goes_on old.closed refusal.Closed _ a.not_closed link
+
+unrefused : (o : Option AcceptRefusal) (taken : Result Endpoint AcceptRefusal) (new : Endpoint)
+    → taken_unless_refused o taken ≡ Ok new → (o ≡ None) × (taken ≡ Ok new)
+unrefused None taken new e = (refl, e)
+unrefused (Some why) taken new e = absurd cc
 
 -- ---- which entries are admitted
 
@@ -58,7 +95,7 @@ admitted_by : (schema : List Shape) (entry : Entry) (entries : List Entry) (faul
 admitted_by schema entry entries None is e rest = (is, rest e)
 admitted_by schema entry entries (Some fault) is e rest = absurd cc
 
-all_admitted : (schema : List Shape) (entries : List Entry) → first_outside_entry schema entries ≡ None
+pub all_admitted : (schema : List Shape) (entries : List Entry) → first_outside_entry schema entries ≡ None
     → AllByRecursion (IsAdmitted schema) entries
 all_admitted schema [] e = tt
 all_admitted schema (entry ∷ entries) e =
@@ -100,43 +137,36 @@ opened_is old last entries new (Some entry) is e = absurd cc
 -- ---- the step
 
 abbrev tested : Endpoint → List Entry → Delivery → Result Endpoint AcceptRefusal
-tested old sequence delivery =
-    applied_if_admitted old delivery.last (brought old sequence delivery)
-    (first_outside_entry old.tables.schema (brought old sequence delivery))
+tested old entries delivery =
+    applied_if_admitted old delivery.last entries (first_outside_entry old.tables.schema entries)
 
-pub accepted_steps : (old : Endpoint) (sequence : List Entry) (delivery : Delivery) (new : Endpoint)
-    → accept old sequence delivery ≡ Ok new → AcceptsDelivery old sequence delivery new
-unfolding accept
-accepted_steps old sequence delivery new e =
-    let closed = accept_not_refused old.closed refusal.Closed _ new e in
-    let link = accept_not_refused (not (delivery.link == old.link)) refusal.StaleLink _ new closed.1 in
-    let seen = accept_not_refused (nat_le delivery.last old.cursor) refusal.Seen _ new link.1 in
-    let gap = accept_not_refused (not (delivery.first == suc old.cursor)) (refusal.Gap (suc old.cursor))
-    (tested old sequence delivery) new seen.1 in
-    let open_ = opened_is old delivery.last (brought old sequence delivery) new
-    (first_outside_entry old.tables.schema (brought old sequence delivery)) refl gap.1 in
+pub accepted_steps : (old : Endpoint) (entries : List Entry) (delivery : Delivery) (new : Endpoint)
+    → accept_brought old entries delivery ≡ Ok new → AcceptsBrought old entries delivery new
+unfolding accept_brought
+accepted_steps old entries delivery new e =
+    let free = unrefused (refusal_before old delivery) (tested old entries delivery) new e in
+    let due = none_is_due old delivery free.0 in
+    let open_ = opened_is old delivery.last entries new (first_outside_entry old.tables.schema entries) refl free.1 in
     record {
-      not_closed = closed.0;
-      linked = same_numbers delivery.link old.link link.0;
-      next = same_numbers delivery.first (suc old.cursor) gap.0;
-      some = leb-false delivery.last old.cursor seen.0;
+      not_closed = due.not_closed;
+      linked = due.linked;
+      next = due.next;
+      some = due.some;
       admitted = open_.0;
       tables = open_.1.tables;
       kept = open_.1.kept;
     }
 
-pub steps_accepted : (old : Endpoint) (sequence : List Entry) (delivery : Delivery) (new : Endpoint)
-    → AcceptsDelivery old sequence delivery new → accept old sequence delivery ≡ Ok new
-unfolding accept
-steps_accepted old sequence delivery new a =
-    let entries = brought old sequence delivery in
-    let done : tested old sequence delivery ≡ Ok new =
-    ap (applied_if_admitted old delivery.last entries) (none_outside old.tables.schema entries a.admitted)
-    ∙ ap (applied old delivery.last) a.tables ∙ ap (λ x. Ok x) (sym a.kept) in
-    let gap = accept_goes_on (not (delivery.first == suc old.cursor)) (refusal.Gap (suc old.cursor))
-    (tested old sequence delivery) new (numbers_tested delivery.first (suc old.cursor) a.next) done in
-    let seen = accept_goes_on (nat_le delivery.last old.cursor) refusal.Seen _ new
-    (above delivery.last old.cursor a.some) gap in
-    let link = accept_goes_on (not (delivery.link == old.link)) refusal.StaleLink _ new
-    (numbers_tested delivery.link old.link a.linked) seen in
-    accept_goes_on old.closed refusal.Closed _ new a.not_closed link
+pub steps_accepted : (old : Endpoint) (entries : List Entry) (delivery : Delivery) (new : Endpoint)
+    → AcceptsBrought old entries delivery new → accept_brought old entries delivery ≡ Ok new
+unfolding accept_brought
+steps_accepted old entries delivery new a =
+    let due : FollowsCursor old delivery = record {
+      not_closed = a.not_closed;
+      linked = a.linked;
+      next = a.next;
+      some = a.some;
+    } in
+    ap (λ o. taken_unless_refused o (tested old entries delivery)) (due_is_none old delivery due)
+    ∙ ap (applied_if_admitted old delivery.last entries) (none_outside old.tables.schema entries a.admitted)
+    ∙ ap (applied old delivery.last) a.tables ∙ ap (λ x. Ok x) (sym a.kept)

@@ -1,5 +1,6 @@
 -- Entries one after another: the first that isn't admitted, and the sections of all bodies.
-use Rattle.std.proofs.Common.{◌≡◌, ℕ, ◌+◌, ◌<◌, ◌≤◌, true, false, List, [], ◌∷◌, ◌++◌, length, take, drop, take_all}
+use Rattle.std.specs.List.{AllByRecursion}
+use Rattle.std.proofs.Common.{◌≡◌, ℕ, zero, suc, arith, ◌+◌, ◌<◌, ◌≤◌, true, false, List, [], ◌∷◌, ◌++◌, length, take, drop, take_all}
 use Rattle.std.proofs.Common.{Option, Some, None, Result, Ok, Err, sym, ap, subst, ◌∙◌, append_assoc}
 use Rattle.std.specs.Prelude.{OnOk, IfErr, is_err, slice_index_or}
 use Rattle.std.proofs.lemmas.List.{drop_more, drop_all, take_more, append-nil}
@@ -10,7 +11,7 @@ use Rattle.cs_model.specs.declared.schema.SectionFault.{SectionFault}
 use Rattle.cs_model.specs.declared.shape.Shape.{Shape}
 use Rattle.cs_model.specs.Schema.{refusal_of}
 use Rattle.rb_sequence.specs.Entry.{Entry}
-use Rattle.rb_subscriber.specs.Accept.{joined_bodies, if_admitted, first_outside_entry, AreChangesets}
+use Rattle.rb_subscriber.specs.Accept.{joined_bodies, if_admitted, first_outside_entry, AreChangesets, IsAdmitted}
 
 -- the entry at a place stands in front of those behind it
 pub at_front : (entries : List Entry) (i : ℕ) (entry : Entry) → i < length entries → entry
@@ -55,6 +56,15 @@ pub none_found : (schema : List Shape) (entries : List Entry) (i : ℕ) → leng
     → first_outside_entry schema entries ≡ first_outside_entry schema (drop i entries) → None
     ≡ first_outside_entry schema entries
 none_found schema entries i all so_far = sym (so_far ∙ ap (first_outside_entry schema) (drop_all i entries all))
+
+-- what all of these are, each of them is
+pub admitted_at : (schema : List Shape) (entries : List Entry) (i : ℕ) (entry : Entry) → i < length entries → entry
+    ≡ slice_index_or entries i entry → AllByRecursion (IsAdmitted schema) entries → refusal_of schema entry.item.body
+    ≡ None
+admitted_at schema [] i entry less is all = absurd (omega (arith, less))
+admitted_at schema (first ∷ entries) zero entry less is all = ap (λ (e : Entry). refusal_of schema e.item.body) is ∙ all.0
+admitted_at schema (first ∷ entries) (suc i) entry less is all =
+    admitted_at schema entries i entry (omega (arith, less)) is all.1
 
 -- ---- changesets
 

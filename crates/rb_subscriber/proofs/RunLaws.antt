@@ -1,5 +1,5 @@
 -- What is accepted is one contiguous run, and its group leaves what its bodies leave.
-use Rattle.std.proofs.Common.{◌≡◌, ◌↔◌, ℕ, ◌+◌, ◌-◌, ◌≤◌, List, [], ◌∷◌, ◌++◌, length, take, drop, Result, Ok, Err}
+use Rattle.std.proofs.Common.{◌≡◌, ◌↔◌, ℕ, suc, ◌+◌, ◌-◌, ◌≤◌, List, [], ◌∷◌, ◌++◌, length, take, drop, Result, Ok, Err}
 use Rattle.std.proofs.Common.{refl, sym, ap, subst, ◌∙◌, arith}
 use Rattle.std.specs.Prelude.{OnOk}
 use Rattle.std.proofs.Math.Seq.{take-add}
@@ -14,7 +14,7 @@ use Rattle.cs_apply.specs.State as tables
 use Rattle.cs_group.specs.Group.{group_of}
 use Rattle.rb_desk.specs.declared.delivery.Delivery.{Delivery}
 use Rattle.rb_sequence.specs.Entry.{Entry}
-use Rattle.rb_subscriber.specs.Accept.{part, brought, joined_bodies, accept, accepted_entries, AppliesSingly}
+use Rattle.rb_subscriber.specs.Accept.{part, brought, joined_bodies, accept, accept_brought, accepted_entries, AppliesSingly}
 use Rattle.rb_subscriber.specs.declared.refusal.AcceptError.{AcceptError}
 use Rattle.rb_subscriber.specs.Accept.{AcceptAnswers, AreChangesets}
 use Rattle.rb_subscriber.specs.Endpoint.{Endpoint}
@@ -42,13 +42,22 @@ part_stays xs more after n fits =
 
 -- ---- what was accepted
 
+-- what a delivery brings right after a number
+pub brought_after : (sequence : List Entry) (delivery : Delivery) (cursor : ℕ) → delivery.first ≡ suc cursor
+    → brought sequence delivery ≡ part sequence cursor (delivery.last - cursor)
+brought_after sequence delivery cursor next =
+    let from : delivery.first - 1 ≡ cursor = omega (arith, next) in
+    let many : suc delivery.last - delivery.first ≡ delivery.last - cursor = omega (arith, next) in
+    ap (λ n. part sequence n (suc delivery.last - delivery.first)) from ∙ ap (part sequence cursor) many
+
 pub run_goes_on : (old : Endpoint) (sequence : List Entry) (delivery : Delivery) (new : Endpoint) → old.start
     ≤ old.cursor → accept old sequence delivery ≡ Ok new
-    → accepted_entries sequence new ≡ accepted_entries sequence old ++ brought old sequence delivery
+    → accepted_entries sequence new ≡ accepted_entries sequence old ++ brought sequence delivery
 run_goes_on old sequence delivery new begun e =
-    let a = accepted_steps old sequence delivery new e in
+    let a = accepted_steps old (brought sequence delivery) delivery new e in
     ap (accepted_entries sequence) a.kept
     ∙ parts sequence old.start old.cursor delivery.last begun (omega (arith, a.some))
+    ∙ ap (λ es. accepted_entries sequence old ++ es) (sym (brought_after sequence delivery old.cursor a.next))
 
 pub run_stays : (endpoint : Endpoint) (sequence more : List Entry) → endpoint.start ≤ endpoint.cursor → endpoint.cursor
     ≤ length sequence → accepted_entries (sequence ++ more) endpoint ≡ accepted_entries sequence endpoint
@@ -90,28 +99,27 @@ abbrev pub GroupsLeaveSame : Type 0
 GroupsLeaveSame = (old new : tables.TableState) (sections : List Section) → IsChangeset sections → HaveColumns old
     → single old sections ≡ Ok new → single old (group_of sections) ≡ Ok new
 
-pub tables_singly : RunContinues → GroupsLeaveSame → (old : Endpoint) (sequence : List Entry) (delivery : Delivery)
-    (new : Endpoint) (tables : tables.TableState) → AreChangesets (brought old sequence delivery)
-    → HaveColumns old.tables → accept old sequence delivery ≡ Ok new
-    → AppliesSingly old.tables (brought old sequence delivery) tables → new.tables ≡ tables
-tables_singly goes group old sequence delivery new tables valid have e singly =
-    let entries = brought old sequence delivery in
+pub tables_singly : RunContinues → GroupsLeaveSame → (old : Endpoint) (entries : List Entry) (delivery : Delivery)
+    (new : Endpoint) (tables : tables.TableState) → AreChangesets entries
+    → HaveColumns old.tables → accept_brought old entries delivery ≡ Ok new
+    → AppliesSingly old.tables entries tables → new.tables ≡ tables
+tables_singly goes group old entries delivery new tables valid have e singly =
     let other = group old.tables tables (joined_bodies entries) (joined_valid entries valid) have
     (singly_joined goes old.tables entries tables singly) in
-    cc (sym (accepted_steps old sequence delivery new e).tables ∙ other)
+    cc (sym (accepted_steps old entries delivery new e).tables ∙ other)
 
 -- so it is where a call returns Ok, of which the bodies and the rows are known
-pub singly_answers : (old new : Endpoint) (sequence : List Entry) (delivery : Delivery) (result : Result ℕ AcceptError)
-    → ((tables : tables.TableState) → AreChangesets (brought old sequence delivery) → HaveColumns old.tables
-    → accept old sequence delivery ≡ Ok new → AppliesSingly old.tables (brought old sequence delivery) tables
+pub singly_answers : (old new : Endpoint) (entries : List Entry) (delivery : Delivery) (result : Result ℕ AcceptError)
+    → ((tables : tables.TableState) → AreChangesets entries → HaveColumns old.tables
+    → accept_brought old entries delivery ≡ Ok new → AppliesSingly old.tables entries tables
     → new.tables ≡ tables)
-    → AcceptAnswers result (accept old sequence delivery) old new
-    → OnOk result (AreChangesets (brought old sequence delivery) × HaveColumns old.tables)
-    → OnOk result ((tables : tables.TableState) → AppliesSingly old.tables (brought old sequence delivery) tables
+    → AcceptAnswers result (accept_brought old entries delivery) old new
+    → OnOk result (AreChangesets entries × HaveColumns old.tables)
+    → OnOk result ((tables : tables.TableState) → AppliesSingly old.tables entries tables
     → new.tables ≡ tables)
-singly_answers old new sequence delivery (Ok cursor) law answers known = λ tables.
+singly_answers old new entries delivery (Ok cursor) law answers known = λ tables.
     law tables known.0 known.1 answers.0
-singly_answers old new sequence delivery (Err why) law answers known = tt
+singly_answers old new entries delivery (Err why) law answers known = tt
 
 -- rows keep their columns
 abbrev pub RowsKeepColumns : Type 0

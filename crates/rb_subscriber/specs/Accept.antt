@@ -26,9 +26,10 @@ use Rattle.rb_subscriber.specs.Endpoint.{Endpoint}
 abbrev pub part : {A : Type 0} → List A → ℕ → ℕ → List A
 part items after n = take n (drop after items)
 
--- the entries of a delivery after the cursor
-abbrev pub brought : Endpoint → List Entry → Delivery → List Entry
-brought old sequence delivery = part sequence old.cursor (delivery.last - old.cursor)
+-- the entries of a sequence that a delivery brings: those with its numbers, first to last
+abbrev pub brought : List Entry → Delivery → List Entry
+brought sequence delivery =
+    part sequence (delivery.first - 1) (suc delivery.last - delivery.first)
 
 -- the sections of all bodies, one entry's after another's
 abbrev pub joined_bodies : List Entry → List Section
@@ -67,15 +68,34 @@ applied_if_admitted old last entries None =
     applied old last (single old.tables (group_of (joined_bodies entries)))
 applied_if_admitted old last entries (Some entry) = Err (refusal.Shape entry.number)
 
--- Accept: the endpoint after a delivery, or the first refusal in this order
-unfoldable pub accept : Endpoint → List Entry → Delivery → Result Endpoint AcceptRefusal
-accept old sequence delivery =
-    if old.closed then Err refusal.Closed
-    else if not (delivery.link == old.link) then Err refusal.StaleLink
-    else if nat_le delivery.last old.cursor then Err refusal.Seen
-    else if not (delivery.first == suc old.cursor) then Err (refusal.Gap (suc old.cursor))
-    else applied_if_admitted old delivery.last (brought old sequence delivery)
-    (first_outside_entry old.tables.schema (brought old sequence delivery))
+-- why a delivery is refused before anything is asked of its entries; the first in this order
+unfoldable pub refusal_before : Endpoint → Delivery → Option AcceptRefusal
+refusal_before old delivery =
+    if old.closed then Some refusal.Closed
+    else if not (delivery.link == old.link) then Some refusal.StaleLink
+    else if nat_le delivery.last old.cursor then Some refusal.Seen
+    else if not (delivery.first == suc old.cursor) then Some (refusal.Gap (suc old.cursor))
+    else None
+
+-- a refusal that asks nothing of the entries
+abbrev pub AsksNoEntries : AcceptRefusal → Type 0
+AsksNoEntries (refusal.Shape number) = ⊥
+AsksNoEntries (refusal.Conflict conflict) = ⊥
+AsksNoEntries other = Unit {0}
+
+abbrev pub taken_unless_refused : Option AcceptRefusal → Result Endpoint AcceptRefusal
+    → Result Endpoint AcceptRefusal
+taken_unless_refused None taken = taken
+taken_unless_refused (Some why) taken = Err why
+
+-- Accept: the endpoint after a delivery that brings these entries, or the first refusal
+unfoldable pub accept_brought : Endpoint → List Entry → Delivery → Result Endpoint AcceptRefusal
+accept_brought old entries delivery = taken_unless_refused (refusal_before old delivery)
+    (applied_if_admitted old delivery.last entries (first_outside_entry old.tables.schema entries))
+
+-- the same, of the entries that the delivery brings from a sequence
+abbrev pub accept : Endpoint → List Entry → Delivery → Result Endpoint AcceptRefusal
+accept old sequence delivery = accept_brought old (brought sequence delivery) delivery
 
 -- Whether the call reaches the tables: the delivery is accepted, or a change conflicts.
 abbrev pub AsksTables : Result Endpoint AcceptRefusal → Type 0
@@ -102,20 +122,24 @@ OnConflict other P = Unit {0}
 
 -- ---- as a step
 
--- An endpoint accepts a delivery. The endpoint isn't closed, the delivery is of its current link,
--- and it begins right after the cursor. The endpoint's tables admit the entries. The group of their
--- bodies applies without conflict. The cursor moves to the delivery's last number, and nothing but
--- cursor and tables changes.
-pub record AcceptsDelivery (old : Endpoint) (sequence : List Entry) (delivery : Delivery)
+-- An endpoint accepts a delivery that brings these entries. The endpoint isn't closed, the delivery
+-- is of its current link, and it begins right after the cursor. The endpoint's tables admit the
+-- entries. The group of their bodies applies without conflict. The cursor moves to the delivery's
+-- last number, and nothing but cursor and tables changes.
+pub record AcceptsBrought (old : Endpoint) (entries : List Entry) (delivery : Delivery)
     (new : Endpoint) : Type 0 where
   pub not_closed : old.closed ≡ false
   pub linked : delivery.link ≡ old.link
   pub next : delivery.first ≡ suc old.cursor
   pub some : suc old.cursor ≤ delivery.last
-  pub admitted : AllByRecursion (IsAdmitted old.tables.schema) (brought old sequence delivery)
-  pub tables : single old.tables (group_of (joined_bodies (brought old sequence delivery)))
-      ≡ Ok new.tables
+  pub admitted : AllByRecursion (IsAdmitted old.tables.schema) entries
+  pub tables : single old.tables (group_of (joined_bodies entries)) ≡ Ok new.tables
   pub kept : new ≡ record old { cursor = delivery.last; tables = new.tables }
+
+-- the same, of the entries that the delivery brings from a sequence
+abbrev pub AcceptsDelivery : Endpoint → List Entry → Delivery → Endpoint → Type 0
+AcceptsDelivery old sequence delivery new =
+    AcceptsBrought old (brought sequence delivery) delivery new
 
 -- ---- what was accepted
 
@@ -128,6 +152,12 @@ abbrev pub AppliesSingly : tables.TableState → List Entry → tables.TableStat
 AppliesSingly old [] new = new ≡ old
 AppliesSingly old (entry ∷ entries) new = (mid : tables.TableState)
     × (single old entry.item.body ≡ Ok mid) × AppliesSingly mid entries new
+
+-- Where these entries apply singly, without conflict, to the first tables, the tables now are what
+-- one thread gets that applies them so.
+abbrev pub HasSingleTables : tables.TableState → List Entry → tables.TableState → Type 0
+HasSingleTables first entries now = (tables : tables.TableState) → AppliesSingly first entries tables
+    → now ≡ tables
 
 -- bodies applied one after another, of which one conflicts: those before it apply, and it doesn't
 abbrev pub ConflictsSingly : tables.TableState → List Entry → Type 0

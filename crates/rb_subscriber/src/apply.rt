@@ -1,27 +1,34 @@
 //! The bodies of entries: which the tables don't admit, their group, and applying it to tables.
 
 ghost use Rattle.std.specs.Prelude.{◌≡◌, ◌∷◌, [], true, false, Ok, OnOk, OnErr, IfOk, IfErr};
-ghost use Rattle.std.specs.Prelude.{IfNone};
+ghost use Rattle.std.specs.Prelude.{◌++◌, IfNone, IfSome, None};
+ghost use Rattle.std.specs.List.{AllByRecursion};
 ghost use Rattle.std.specs.Option.{option_copied};
 ghost use Rattle.cs_apply.specs.Errors.{ReportsConflict};
 ghost use Rattle.cs_apply.specs.Single.{single};
 ghost use Rattle.cs_group.specs.Group.{group_of};
-ghost use Rattle.rb_subscriber.specs.Accept.{AreChangesets, first_outside_entry, joined_bodies};
+ghost use Rattle.cs_model.specs.Schema.{refusal_of};
+ghost use Rattle.rb_subscriber.specs.Accept.{AreChangesets, IsAdmitted, first_outside_entry};
+ghost use Rattle.rb_subscriber.specs.Accept.{joined_bodies};
 
+use crate::brought::Brought;
 use cs_apply::{ApplyError, Tables};
-use cs_group::combine_admitted;
-use cs_group::laws::groups_apply;
+use cs_group::laws::{admitted_never_clash, groups_apply};
+use cs_group::{Group, GroupError};
 use cs_model::{Changeset, Schema};
 use rb_sequence::Entry;
 use std::alloc::{AllocError, Global};
 
-/// The first entry whose body has a section that the schema doesn't admit. If there is none, all
-/// bodies were read, and they are changesets.
-pub(crate) fn outside<'a>(schema: &Schema, entries: &'a [Entry]) -> Option<&'a Entry>
-    ensures first { option_copied result ≡ first_outside_entry schema.now entries.now }
-    ensures valid { IfNone result (AreChangesets entries.now) }
+/// The first entry whose body has a section that the schema doesn't admit. If there is none, the
+/// schema admits all bodies, and they are changesets.
+pub(crate) fn outside<'a, E: Brought>(schema: &Schema, entries: &'a E) -> Option<&'a Entry>
+    ensures first { option_copied result ≡ first_outside_entry schema.now (E.entries entries.now) }
+    ensures valid { IfNone result (AreChangesets (E.entries entries.now)) }
+    ensures admitted { IfNone result
+        (AllByRecursion (IsAdmitted schema.now) (E.entries entries.now)) }
 {
-    for entry in entries {
+    for index in 0..entries.count() {
+        let entry = entries.entry(index);
         let body = entry.body();
         // for what its clause says: the body is a changeset
         let _sections = body.iter();
@@ -32,16 +39,44 @@ pub(crate) fn outside<'a>(schema: &Schema, entries: &'a [Entry]) -> Option<&'a E
     None
 }
 
-/// The changesets of entries as one, their group ("The Session Extension", changegroups). A schema
+/// The changesets of entries as one, their group ("The Session Extension", changegroups). The schema
 /// admits them all, so no two sections clash. Returns `AllocError` if memory runs out.
-pub fn combined(alloc: Global, entries: &[Entry]) -> Result<Changeset, AllocError>
-    ensures { IfOk result (λ made. made ≡ group_of (joined_bodies entries.now)) }
+pub fn combined<E: Brought>(
+    alloc: Global,
+    schema: &Schema,
+    entries: &E,
+) -> Result<Changeset, AllocError>
+    requires { AllByRecursion (IsAdmitted schema.now) (E.entries entries.now) }
+    ensures { IfOk result (λ made. made ≡ group_of (joined_bodies (E.entries entries.now))) }
 {
-    let mut bodies = Vec::with_capacity(alloc, entries.len())?;
-    for entry in entries {
-        bodies.push(entry.body())?;
+    let mut group = Group::new(alloc);
+    for index in 0..entries.count() {
+        add(alloc, schema, &mut group, entries.entry(index).body())?;
     }
-    combine_admitted(alloc, &bodies)
+    group.output(alloc)
+}
+
+// Adds a changeset to a group. The schema admits it, and all that is in the group, so it can't
+// clash.
+fn add<'a>(
+    alloc: Global,
+    schema: &Schema,
+    group: &mut Group<'a>,
+    body: &'a Changeset,
+) -> Result<(), AllocError>
+    requires group { refusal_of schema.now group.old ≡ None }
+    requires body { refusal_of schema.now body.now ≡ None }
+    ensures ok { OnOk result (group.new ≡ group.old ++ body.now) }
+    ensures admitted { OnOk result (refusal_of schema.now group.new ≡ None) }
+{
+    admitted_never_clash();
+    // for what its clause says: no table is refused
+    let _tables = schema.tables();
+    match group.add(alloc, body) {
+        Ok(()) => Ok(()),
+        Err(GroupError::Memory) => Err(AllocError),
+        Err(GroupError::Schema { .. }) => unreachable!(),
+    }
 }
 
 // Applies a body as it is. If it doesn't conflict, the tables are those that its group leaves. An
@@ -63,30 +98,50 @@ fn applies_alone(alloc: Global, tables: &mut Tables, entry: &Entry) -> Result<bo
 }
 
 // Applies the group of the bodies of entries.
-fn apply_group(alloc: Global, tables: &mut Tables, entries: &[Entry]) -> Result<(), ApplyError>
-    ensures ok { OnOk result (single tables.old (group_of (joined_bodies entries.now))
+fn apply_group<E: Brought>(
+    alloc: Global,
+    tables: &mut Tables,
+    entries: &E,
+) -> Result<(), ApplyError>
+    requires { AllByRecursion (IsAdmitted tables.old.schema) (E.entries entries.now) }
+    ensures ok { OnOk result (single tables.old (group_of (joined_bodies (E.entries entries.now)))
         ≡ Ok tables.new) }
     ensures refused { IfErr result
-        (λ e. ReportsConflict e (single tables.old (group_of (joined_bodies entries.now)))) }
+        (λ e. ReportsConflict e (single tables.old (group_of (joined_bodies (E.entries entries.now))))) }
     ensures err { OnErr result (tables.new ≡ tables.old) }
 {
-    let Ok(changeset) = combined(alloc, entries) else {
+    let Ok(changeset) = combined(alloc, tables.schema(), entries) else {
         return Err(ApplyError::Memory);
     };
     tables.apply(alloc, &changeset)
 }
 
+// The entry, if it is the only one.
+fn only<E: Brought>(entries: &E) -> Option<&Entry>
+    ensures { IfSome result (λ entry. E.entries entries.now ≡ entry.now ∷ []) }
+{
+    if entries.count() == 1 {
+        return Some(entries.entry(0));
+    }
+    None
+}
+
 /// Applies the group of the bodies of entries: all of its changes, or none. An error does not
 /// change the tables. A single body is applied as it is, and grouped only if it conflicts: its
 /// group leaves the same tables, and grouping costs more than applying.
-pub(crate) fn apply(alloc: Global, tables: &mut Tables, entries: &[Entry]) -> Result<(), ApplyError>
-    ensures ok { OnOk result (single tables.old (group_of (joined_bodies entries.now))
+pub(crate) fn apply<E: Brought>(
+    alloc: Global,
+    tables: &mut Tables,
+    entries: &E,
+) -> Result<(), ApplyError>
+    requires { AllByRecursion (IsAdmitted tables.old.schema) (E.entries entries.now) }
+    ensures ok { OnOk result (single tables.old (group_of (joined_bodies (E.entries entries.now)))
         ≡ Ok tables.new) }
     ensures refused { IfErr result
-        (λ e. ReportsConflict e (single tables.old (group_of (joined_bodies entries.now)))) }
+        (λ e. ReportsConflict e (single tables.old (group_of (joined_bodies (E.entries entries.now))))) }
     ensures err { OnErr result (tables.new ≡ tables.old) }
 {
-    let [entry] = entries else {
+    let Some(entry) = only(entries) else {
         return apply_group(alloc, tables, entries);
     };
     match applies_alone(alloc, tables, entry) {

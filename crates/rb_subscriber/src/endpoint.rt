@@ -1,13 +1,15 @@
 //! `Endpoint`: accepts deliveries and holds the subscriber's tables.
 
-ghost use Rattle.std.specs.Prelude.{◌≡◌, ◌≤◌, ◌-◌, true, length, OnOk};
+ghost use Rattle.std.specs.Prelude.{◌≡◌, ◌≤◌, ◌<◌, ◌-◌, suc, true, length, IfNone, IfSome, OnOk};
 ghost use Rattle.cs_apply.specs.Columns.{HaveColumns};
-ghost use Rattle.cs_apply.specs.State.{TableState};
-ghost use Rattle.rb_subscriber.specs.Accept.{accept, AcceptAnswers, AppliesSingly, AreChangesets};
-ghost use Rattle.rb_subscriber.specs.Accept.{brought, ConflictsSingly, OnConflict, part};
+ghost use Rattle.rb_subscriber.specs.Accept.{accept, accept_brought, AcceptAnswers, AppliesSingly};
+ghost use Rattle.rb_subscriber.specs.Accept.{AreChangesets, AsksNoEntries, refusal_before};
+ghost use Rattle.rb_subscriber.specs.Accept.{brought, ConflictsSingly, HasSingleTables, OnConflict};
+ghost use Rattle.rb_subscriber.specs.Accept.{part};
 ghost use Rattle.rb_subscriber.specs.Endpoint.{new_endpoint};
 
 use crate::apply::{apply, outside};
+use crate::brought::Brought;
 use crate::laws::{accepted_apply_singly, conflicts_are_single};
 use crate::refusal::{AcceptError, AcceptRefusal};
 use cs_apply::{ApplyError, Tables};
@@ -69,6 +71,7 @@ impl Endpoint {
     /// Refuses, in this order, `Closed`, `StaleLink`, `Seen`, `Gap`, `Shape`, `Conflict`. `Memory`
     /// may replace a conflict, but no other refusal. An error does not change the endpoint. A
     /// conflict comes only if the changesets conflict too when they are applied one after another.
+    #[tactic(auto, unfolding(crate::specs::Accept::accept_brought))]
     pub fn accept(
         &mut self,
         alloc: Global,
@@ -78,51 +81,82 @@ impl Endpoint {
         requires { delivery.now.last ≤ length sequence.now }
         ensures answers { AcceptAnswers result (accept self.old sequence.now delivery.now) self.old
             self.new }
-        ensures singly { OnOk result ((tables : TableState)
-            → AppliesSingly self.old.tables (brought self.old sequence.now delivery.now) tables
-            → self.new.tables ≡ tables) }
+        ensures singly { OnOk result (HasSingleTables self.old.tables
+            (brought sequence.now delivery.now) self.new.tables) }
         ensures conflicts { OnConflict result (ConflictsSingly self.old.tables
-            (brought self.old sequence.now delivery.now)) }
+            (brought sequence.now delivery.now)) }
+    {
+        if let Some(why) = self.refuses(delivery) {
+            return Err(why.into());
+        }
+        let entries = between(sequence, delivery.first() - 1, delivery.last());
+        self.accept_brought(alloc, &entries, delivery)
+    }
+
+    /// Why a delivery is refused whatever its entries are, if it is: `Closed`, `StaleLink`, `Seen`,
+    /// `Gap`. If it isn't, it begins right after the cursor.
+    #[tactic(auto, unfolding(crate::specs::Accept::refusal_before))]
+    pub fn refuses(&self, delivery: &Delivery) -> Option<AcceptRefusal>
+        ensures why { result ≡ refusal_before self.now delivery.now }
+        ensures early { IfSome result AsksNoEntries }
+        ensures next { IfNone result ((delivery.now.first ≡ suc self.now.cursor)
+            × (self.now.cursor < delivery.now.last)) }
+    {
+        if self.closed {
+            return Some(AcceptRefusal::Closed);
+        }
+        if delivery.link() != self.link {
+            return Some(AcceptRefusal::StaleLink);
+        }
+        if delivery.last() <= self.cursor {
+            return Some(AcceptRefusal::Seen);
+        }
+        // the cursor is below the delivery's last number
+        let expected = self.cursor + 1;
+        if delivery.first() != expected {
+            return Some(AcceptRefusal::Gap { expected });
+        }
+        None
+    }
+
+    /// Accepts a delivery that brings these entries: `accept`, wherever the entries stand.
+    pub fn accept_brought<E: Brought>(
+        &mut self,
+        alloc: Global,
+        entries: &E,
+        delivery: &Delivery,
+    ) -> Result<u64, AcceptError>
+        ensures answers { AcceptAnswers result
+            (accept_brought self.old (E.entries entries.now) delivery.now) self.old self.new }
+        ensures singly { OnOk result
+            (HasSingleTables self.old.tables (E.entries entries.now) self.new.tables) }
+        ensures conflicts { OnConflict result
+            (ConflictsSingly self.old.tables (E.entries entries.now)) }
     {
         accepted_apply_singly();
         conflicts_are_single();
-        self.accept_next(alloc, sequence, delivery)
+        self.accept_next(alloc, entries, delivery)
     }
 
-    // `accept`, and what the laws ask for where the tables are reached: the bodies are changesets,
-    // and each row has its columns.
-    #[tactic(auto, unfolding(crate::specs::Accept::accept))]
-    fn accept_next(
+    // `accept_brought`, and what the laws ask for where the tables are reached: the bodies are
+    // changesets, and each row has its columns.
+    #[tactic(auto, unfolding(crate::specs::Accept::accept_brought))]
+    fn accept_next<E: Brought>(
         &mut self,
         alloc: Global,
-        sequence: &[Entry],
+        entries: &E,
         delivery: &Delivery,
     ) -> Result<u64, AcceptError>
-        requires { delivery.now.last ≤ length sequence.now }
-        ensures answers { AcceptAnswers result (accept self.old sequence.now delivery.now) self.old
-            self.new }
-        ensures ok { OnOk result (AreChangesets (brought self.old sequence.now delivery.now)
+        ensures answers { AcceptAnswers result
+            (accept_brought self.old (E.entries entries.now) delivery.now) self.old self.new }
+        ensures ok { OnOk result (AreChangesets (E.entries entries.now)
             × HaveColumns self.old.tables) }
-        ensures conflict { OnConflict result
-            (AreChangesets (brought self.old sequence.now delivery.now)
+        ensures conflict { OnConflict result (AreChangesets (E.entries entries.now)
             × HaveColumns self.old.tables) }
     {
-        if self.closed {
-            return Err(AcceptRefusal::Closed.into());
+        if let Some(why) = self.refuses(delivery) {
+            return Err(why.into());
         }
-        if delivery.link() != self.link {
-            return Err(AcceptRefusal::StaleLink.into());
-        }
-        let last = delivery.last();
-        if last <= self.cursor {
-            return Err(AcceptRefusal::Seen.into());
-        }
-        // the cursor is below `last`
-        let expected = self.cursor + 1;
-        if delivery.first() != expected {
-            return Err(AcceptRefusal::Gap { expected }.into());
-        }
-        let entries = between(sequence, self.cursor, last);
         if let Some(entry) = outside(self.tables.schema(), entries) {
             let number = entry.number();
             return Err(AcceptRefusal::Shape { number }.into());
@@ -134,8 +168,8 @@ impl Endpoint {
             }
             Err(ApplyError::Memory) => return Err(AcceptError::Memory),
         }
-        self.cursor = last;
-        Ok(last)
+        self.cursor = delivery.last();
+        Ok(self.cursor)
     }
 
     /// Changes the link: deliveries under the old one are stale. Cursor and tables stay.

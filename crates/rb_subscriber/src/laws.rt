@@ -8,18 +8,19 @@ ghost use Rattle.cs_apply.specs.State.{TableState};
 ghost use Rattle.rb_desk.specs.declared.delivery.Delivery.{Delivery};
 ghost use Rattle.rb_sequence.specs.Entry.{Entry};
 ghost use Rattle.rb_subscriber.specs.Endpoint.{Endpoint};
-ghost use Rattle.rb_subscriber.specs.Accept.{accept, AcceptsDelivery, brought, accepted_entries};
+ghost use Rattle.rb_subscriber.specs.Accept.{accept, accept_brought, AcceptsBrought, brought};
+ghost use Rattle.rb_subscriber.specs.Accept.{accepted_entries};
 ghost use Rattle.rb_subscriber.specs.Accept.{AppliesSingly, AreChangesets, ConflictsSingly};
 ghost use Rattle.rb_subscriber.specs.declared.refusal.AcceptRefusal.TheVariants as refusal;
 
 use cs_apply::laws::{applying_goes_on, rows_keep_columns};
 use cs_group::laws::groups_apply;
 
-/// `accept` returns an endpoint exactly if *AcceptsDelivery* holds of the delivery and that
-/// endpoint.
+/// `accept_brought` returns an endpoint exactly if *AcceptsBrought* holds of the entries, the
+/// delivery and that endpoint.
 pub fn accepting_is_step()
-    ensures { (old : Endpoint) (sequence : List Entry) (delivery : Delivery) (new : Endpoint)
-        → (accept old sequence delivery ≡ Ok new) ↔ AcceptsDelivery old sequence delivery new }
+    ensures { (old : Endpoint) (entries : List Entry) (delivery : Delivery) (new : Endpoint)
+        → (accept_brought old entries delivery ≡ Ok new) ↔ AcceptsBrought old entries delivery new }
 {}
 
 /// What an endpoint has accepted is one contiguous run of the sequence after its start. An accepted
@@ -30,7 +31,7 @@ pub fn accepted_is_a_run()
         (new : Endpoint)
         → old.start ≤ old.cursor → accept old sequence delivery ≡ Ok new
         → accepted_entries sequence new ≡ accepted_entries sequence old
-        ++ brought old sequence delivery }
+        ++ brought sequence delivery }
     ensures stays { (endpoint : Endpoint) (sequence more : List Entry)
         → endpoint.start ≤ endpoint.cursor → endpoint.cursor ≤ length sequence
         → accepted_entries (sequence ++ more) endpoint ≡ accepted_entries sequence endpoint }
@@ -40,10 +41,10 @@ pub fn accepted_is_a_run()
 /// after it are what that gives. The changesets are valid, and the rows have their columns, as
 /// those of entries and of `Tables` do.
 pub fn accepted_apply_singly()
-    ensures { (old : Endpoint) (sequence : List Entry) (delivery : Delivery) (new : Endpoint)
-        (tables : TableState) → AreChangesets (brought old sequence delivery)
-        → HaveColumns old.tables → accept old sequence delivery ≡ Ok new
-        → AppliesSingly old.tables (brought old sequence delivery) tables → new.tables ≡ tables }
+    ensures { (old : Endpoint) (entries : List Entry) (delivery : Delivery) (new : Endpoint)
+        (tables : TableState) → AreChangesets entries
+        → HaveColumns old.tables → accept_brought old entries delivery ≡ Ok new
+        → AppliesSingly old.tables entries tables → new.tables ≡ tables }
 {
     applying_goes_on();
     groups_apply();
@@ -52,10 +53,10 @@ pub fn accepted_apply_singly()
 /// A delivery is refused for a conflict only where its changesets, applied one after another,
 /// conflict too: those before some changeset apply, and that one doesn't.
 pub fn conflicts_are_single()
-    ensures { (old : Endpoint) (sequence : List Entry) (delivery : Delivery) (conflict : Conflict)
-        → AreChangesets (brought old sequence delivery) → HaveColumns old.tables
-        → accept old sequence delivery ≡ Err (refusal.Conflict conflict)
-        → ConflictsSingly old.tables (brought old sequence delivery) }
+    ensures { (old : Endpoint) (entries : List Entry) (delivery : Delivery) (conflict : Conflict)
+        → AreChangesets entries → HaveColumns old.tables
+        → accept_brought old entries delivery ≡ Err (refusal.Conflict conflict)
+        → ConflictsSingly old.tables entries }
 {
     applying_goes_on();
     groups_apply();

@@ -4,10 +4,12 @@
 #![tactic(auto)]
 
 mod apply;
+mod brought;
 mod endpoint;
 pub mod laws;
 mod refusal;
 
 pub use apply::combined;
+pub use brought::Brought;
 pub use endpoint::Endpoint;
 pub use refusal::{AcceptError, AcceptRefusal};

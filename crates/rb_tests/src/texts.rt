@@ -1,6 +1,7 @@
 //! The texts of limits, refusals, faults and replies.
 
 use cs_apply::{Conflict, ConflictKind};
+use cs_parse::{FaultKind, ParseFault};
 use rb_core::{BrokerRefusal, Reply};
 use rb_desk::{ConfigFault, DeskError, DeskRefusal};
 use rb_script::ScriptFault;
@@ -158,6 +159,13 @@ fn replies_say_what_was_done(rt: HostRuntime) -> Result<(), Fail> {
     let table = [
         (Reply::Publisher(3), "publisher 3"),
         (Reply::Fed, "the bytes are fed"),
+        (
+            Reply::Fault(ParseFault {
+                at: 8,
+                kind: FaultKind::Real,
+            }),
+            "a REAL value, which isn't read, at byte 8",
+        ),
         (Reply::Reset, "the stream is empty"),
         (Reply::Staged, "a changeset is staged"),
         (Reply::Sent(4), "sending 4"),

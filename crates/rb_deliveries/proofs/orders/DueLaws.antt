@@ -2,7 +2,9 @@
 use Rattle.std.proofs.Common.{◌≡◌, ℕ, zero, suc, ◌+◌, ◌<◌, ◌≤◌, Bool, true, false, List, [], ◌∷◌, ◌*◌, length}
 use Rattle.std.proofs.Common.{map, filter}
 use Rattle.std.proofs.Common.{Option, Some, None, IfSome, slice_get, slice_set, refl, sym, ap, subst, ◌∙◌, arith, cond}
-use Rattle.std.proofs.Common.{if◌then◌else◌}
+use Rattle.std.proofs.Common.{if◌then◌else◌, nat_lt}
+use Rattle.std.specs.Option.{is_some}
+use Rattle.std.proofs.lemmas.Bool.{lt-ltb}
 use Rattle.std.specs.List.{AllByRecursion}
 use Rattle.std.proofs.lemmas.List.{map-set}
 use Rattle.rb_deliveries.specs.declared.span.Status.TheVariants.{Ready}
@@ -17,7 +19,7 @@ use Rattle.rb_deliveries.specs.Subs.{Belongs, IsGiven, AreGiven}
 use Rattle.rb_deliveries.specs.Tournament.{winner_of_two, at_place, winner_from, earlier_of}
 use Rattle.rb_deliveries.specs.Waiting.{earliest, sub_moment, sub_ticket, is_past, FirstPast, AreWaiting, StandsAgain}
 use Rattle.rb_deliveries.proofs.orders.MomentLaws.{past_later, some_due, none_due, undue_held, undue_same}
-use Rattle.rb_deliveries.proofs.orders.MomentLaws.{expired_undue}
+use Rattle.rb_deliveries.proofs.orders.MomentLaws.{held_undue, expired_undue}
 use Rattle.rb_deliveries.proofs.orders.WaitingLaws.{earlier_fronts, not_earlier}
 
 -- ---- the earliest of all
@@ -89,15 +91,21 @@ module _ (timeout clock : ℕ) (ticket : Held → Ticket) where
 
   pub expired_twice : (sub : Sub) → expired_sub timeout clock ticket (expired_sub timeout clock ticket sub)
       ≡ expired_sub timeout clock ticket sub
-  expired_twice sub = ap (λ held. record sub { lane = record sub.lane { held = held } })
-      (undue_same timeout clock ticket (map (expired_held timeout clock ticket) sub.lane.held)
-      (expired_undue timeout clock ticket sub.lane.held))
+  expired_twice sub = ap (λ held. record sub { lane = record sub.lane { held = held } }) (by sub.closed)
+    where
+      by : (b : Bool) → (if b then (if b then sub.lane.held else map (expired_held timeout clock ticket) sub.lane.held)
+          else map (expired_held timeout clock ticket)
+          (if b then sub.lane.held else map (expired_held timeout clock ticket) sub.lane.held))
+          ≡ (if b then sub.lane.held else map (expired_held timeout clock ticket) sub.lane.held)
+      by true = refl
+      by false = undue_same timeout clock ticket (map (expired_held timeout clock ticket) sub.lane.held)
+          (expired_undue timeout clock ticket sub.lane.held)
 
   pub none_left : (sub : Sub) → due_in timeout clock (expired_sub timeout clock ticket sub) ≡ 0
   none_left sub = by sub.closed
     where
-      by : (b : Bool) → (if b then 0 else due_held timeout clock (map (expired_held timeout clock ticket)
-          sub.lane.held)) ≡ 0
+      by : (b : Bool) → (if b then 0 else due_held timeout clock
+          (if b then sub.lane.held else map (expired_held timeout clock ticket) sub.lane.held)) ≡ 0
       by true = refl
       by false = undue_held timeout clock (map (expired_held timeout clock ticket) sub.lane.held)
           (expired_undue timeout clock ticket sub.lane.held)
@@ -119,18 +127,33 @@ module _ (timeout clock : ℕ) (ticket : Held → Ticket) where
   all_expired [] h = (refl, refl)
   all_expired (sub ∷ subs) h =
       let rest = all_expired subs h.1 in
-      let undue = none_due timeout clock sub.lane.held h.0 in (
-        (λ k. ap (λ held. record sub { lane = record sub.lane { held = held } })
-            (undue_same timeout clock ticket sub.lane.held undue) k ∷ rest.0 k),
-        omega (arith, rest.1, by sub.closed (undue_held timeout clock sub.lane.held undue)),
+      let own = by sub.closed h.0 in (
+        (λ k. ap (λ held. record sub { lane = record sub.lane { held = held } }) own.0 k ∷ rest.0 k),
+        omega (arith, rest.1, own.1),
       )
     where
-      by : (b : Bool) → due_held timeout clock sub.lane.held ≡ 0
-          → (if b then 0 else due_held timeout clock sub.lane.held) ≡ 0
-      by true e = refl
-      by false e = e
+      by : (b : Bool) → IfSome (if b then None else earliest sub.lane.held) (λ t. is_past timeout clock t ≡ false)
+          → ((if b then sub.lane.held else map (expired_held timeout clock ticket) sub.lane.held) ≡ sub.lane.held)
+          × ((if b then 0 else due_held timeout clock sub.lane.held) ≡ 0)
+      by true h = (refl, refl)
+      by false h =
+          let undue = none_due timeout clock sub.lane.held h in
+          (undue_same timeout clock ticket sub.lane.held undue, undue_held timeout clock sub.lane.held undue)
 
-  pub given_expired : (next turn : ℕ) (held : List Held) → AllByRecursion (λ h. IsGiven next h.span.status) held
+  -- where none is due, all stay as they are
+  pub none_expire : (subs : List Sub) → all_due timeout clock subs ≡ 0
+      → map (expired_sub timeout clock ticket) subs ≡ subs
+  none_expire [] h = refl
+  none_expire (sub ∷ subs) h =
+      (λ k. ap (λ held. record sub { lane = record sub.lane { held = held } }) (by sub.closed (omega (arith, h))) k
+      ∷ none_expire subs (omega (arith, h)) k)
+    where
+      by : (b : Bool) → (if b then 0 else due_held timeout clock sub.lane.held) ≡ 0
+          → (if b then sub.lane.held else map (expired_held timeout clock ticket) sub.lane.held) ≡ sub.lane.held
+      by true h = refl
+      by false h = undue_same timeout clock ticket sub.lane.held (held_undue timeout clock sub.lane.held h)
+
+  given_expired : (next turn : ℕ) (held : List Held) → AllByRecursion (λ h. IsGiven next h.span.status) held
       → AllByRecursion (λ h. IsGiven next h.span.status) (map (expired_held timeout clock ticket) held)
   given_expired next turn [] h = tt
   given_expired next turn (x ∷ held) h = (by (is_due timeout clock x.span.status), given_expired next turn held h.1)
@@ -141,6 +164,15 @@ module _ (timeout clock : ℕ) (ticket : Held → Ticket) where
       } else x).span.status
       by true = tt
       by false = h.0
+
+  pub given_expired_sub : (next turn : ℕ) (sub : Sub) → AllByRecursion (λ h. IsGiven next h.span.status) sub.lane.held
+      → AllByRecursion (λ h. IsGiven next h.span.status) (expired_sub timeout clock ticket sub).lane.held
+  given_expired_sub next turn sub h = by sub.closed
+    where
+      by : (b : Bool) → AllByRecursion (λ h. IsGiven next h.span.status)
+          (if b then sub.lane.held else map (expired_held timeout clock ticket) sub.lane.held)
+      by true = h
+      by false = given_expired next turn sub.lane.held h
 
 -- ---- sums over subscriptions
 
@@ -153,36 +185,44 @@ due_after timeout clock (x ∷ subs) zero sub new is =
     omega (arith, ap (due_in timeout clock) same)
 due_after timeout clock (x ∷ subs) (suc s) sub new is = omega (arith, due_after timeout clock subs s sub new is)
 
--- how many spans are due, closed subscriptions counted too
-abbrev pub sum_due : ℕ → ℕ → List Sub → ℕ
-sum_due timeout clock [] = 0
-sum_due timeout clock (sub ∷ subs) = due_held timeout clock sub.lane.held + sum_due timeout clock subs
-
-pub sum_after : (timeout clock : ℕ) (subs : List Sub) (s : ℕ) (sub new : Sub) → slice_get subs s ≡ Some sub
-    → sum_due timeout clock (slice_set subs s new) + due_held timeout clock sub.lane.held
-    ≡ sum_due timeout clock subs + due_held timeout clock new.lane.held
-sum_after timeout clock [] s sub new is = absurd (let e : None ≡ Some sub = is in cc)
-sum_after timeout clock (x ∷ subs) zero sub new is =
-    let same : x ≡ sub = cc in
-    omega (arith, ap (λ (sub : Sub). due_held timeout clock sub.lane.held) same)
-sum_after timeout clock (x ∷ subs) (suc s) sub new is = omega (arith, sum_after timeout clock subs s sub new is)
-
 -- the subscription whose moment is past has a span that is due
 pub past_has_due : (timeout clock : ℕ) (subs : List Sub) (s : ℕ) → ((t : Ticket)
     × (slice_get (map sub_moment subs) s ≡ Some (Some t)) × (is_past timeout clock t ≡ true))
-    → (sub : Sub) × (slice_get subs s ≡ Some sub) × (1 ≤ due_held timeout clock sub.lane.held)
+    → (sub : Sub) × (slice_get subs s ≡ Some sub) × (1 ≤ due_in timeout clock sub)
 past_has_due timeout clock [] s past = absurd (let e : None ≡ Some (Some past.0) = past.1 in cc)
 past_has_due timeout clock (sub ∷ subs) zero past = (
   sub,
   refl,
-  some_due timeout clock sub.lane.held past.0 (let e : earliest sub.lane.held
-      ≡ Some past.0 = inner past.1 in e) past.2,
+  by sub.closed (inner past.1),
 )
   where
     inner : {X : Type 0} {a b : X} → Some a ≡ Some b → a ≡ b
     inner e = cc
+
+    by : (b : Bool) → (if b then None else earliest sub.lane.held) ≡ Some past.0
+        → 1 ≤ (if b then 0 else due_held timeout clock sub.lane.held)
+    by true is = absurd (let e : None ≡ Some past.0 = is in cc)
+    by false is = some_due timeout clock sub.lane.held past.0 is past.2
 past_has_due timeout clock (sub ∷ subs) (suc s) past =
     let rest = past_has_due timeout clock subs s past in (rest.0, rest.1, rest.2)
+
+pub due_part : (timeout clock : ℕ) (subs : List Sub) (s : ℕ) (sub : Sub) → slice_get subs s ≡ Some sub
+    → due_in timeout clock sub ≤ all_due timeout clock subs
+due_part timeout clock subs s sub is =
+    omega (
+      arith,
+      due_after timeout clock subs s sub (expired_sub timeout clock (λ h. h.ticket) sub) is,
+      none_left timeout clock (λ h. h.ticket) sub,
+    )
+
+-- so a moment is past exactly where a span is due
+pub any_past : (timeout clock : ℕ) (subs : List Sub) (o : Option ℕ) → FirstPast timeout clock (map sub_moment subs) o
+    → is_some o ≡ nat_lt 0 (all_due timeout clock subs)
+any_past timeout clock subs None past = sym (ap (nat_lt 0) (all_expired timeout clock (λ h. h.ticket) subs past).1)
+any_past timeout clock subs (Some s) past =
+    let f = past_has_due timeout clock subs s past in
+    sym (lt-ltb 0 (all_due timeout clock subs)
+    (omega (arith, f.2, due_part timeout clock subs s f.0 f.1)))
 
 -- ---- what stands after a change
 
@@ -212,15 +252,6 @@ all_given next turn subs s sub h p = all_stand (λ sub. AreGiven next turn sub.l
 abbrev pub HasDue : ℕ → ℕ → List (Option Ticket) → ℕ → Type 0
 HasDue timeout clock moments s = (t : Ticket) × (slice_get moments s ≡ Some (Some t))
     × (is_past timeout clock t ≡ true)
-
-pub due_part : (timeout clock : ℕ) (subs : List Sub) (s : ℕ) (sub : Sub) → slice_get subs s ≡ Some sub
-    → due_in timeout clock sub ≤ all_due timeout clock subs
-due_part timeout clock subs s sub is =
-    omega (
-      arith,
-      due_after timeout clock subs s sub (expired_sub timeout clock (λ h. h.ticket) sub) is,
-      none_left timeout clock (λ h. h.ticket) sub,
-    )
 
 pub set_there : (xs : List Sub) (i : ℕ) (x : Sub) → i < length xs → slice_get (slice_set xs i x) i ≡ Some x
 set_there [] i x h = absurd (omega (arith, h))

@@ -154,7 +154,7 @@ cut_stays batch front timeout clock ticket c a one =
 
 -- so all spans of a lane become what those that were taken before do
 lane_turns : (batch front timeout clock : ℕ) (ticket : Held → Ticket) (sub : Sub) → 1 ≤ batch
-    → lane_held batch front (expired_sub timeout clock ticket sub).lane
+    → lane_held batch front (record sub.lane { held = map (expired_held timeout clock ticket) sub.lane.held })
     ≡ map (expired_held timeout clock ticket) (lane_held batch front sub.lane)
 lane_turns batch front timeout clock ticket sub one =
     sym (map-append (expired_held timeout clock ticket) sub.lane.held
@@ -174,7 +174,9 @@ sub_parts batch front turn number D due timeout clock s tk sub one r b num tells
     by : (c : Bool) → (c ≡ false → AllByRecursion (ExpireReports due timeout clock s) (lane_held batch front sub.lane))
         → ExpireOrderParts D due (next_turn front turn) tk
         (filter_map (ready_at s)
-        (cond c [] (lane_held batch front (expired_sub timeout clock (by_number tk) sub).lane)))
+        (cond c [] (lane_held batch front (record sub.lane {
+          held = cond c sub.lane.held (map (expired_held timeout clock (by_number tk)) sub.lane.held);
+        }))))
         (filter_map (ready_at s) (cond c [] (lane_held batch front sub.lane)))
         (filter_map (out_at s) (cond c [] (lane_held batch front sub.lane)))
     by true tells = record { early = refl; late = refl; plain = tt }

@@ -146,6 +146,17 @@ module _ (timeout clock : ℕ) where
   undue_held (x ∷ xs) h = ap (λ b. length (cond b (x ∷ filter (λ h. is_due timeout clock h.span.status) xs)
       (filter (λ h. is_due timeout clock h.span.status) xs))) h.0 ∙ undue_held xs h.1
 
+  pub held_undue : (xs : List Held) → due_held timeout clock xs ≡ 0 → Undue xs
+  held_undue [] h = tt
+  held_undue (x ∷ xs) h =
+      let both = by (is_due timeout clock x.span.status) h in (both.0, held_undue xs both.1)
+    where
+      by : (b : Bool) → length (cond b (x ∷ filter (λ h. is_due timeout clock h.span.status) xs)
+          (filter (λ h. is_due timeout clock h.span.status) xs)) ≡ 0
+          → (b ≡ false) × (due_held timeout clock xs ≡ 0)
+      by true h = absurd (omega (arith, h))
+      by false h = (refl, h)
+
   pub undue_same : (ticket : Held → Ticket) (xs : List Held) → Undue xs → map (expired_held timeout clock ticket) xs
       ≡ xs
   undue_same ticket [] h = refl

@@ -74,12 +74,19 @@ belongs_expired front turn turn' number timeout clock D tk (sub ∷ subs) le dra
     all_known [] h num = tt
     all_known (x ∷ held) h num = (known x h.0 num.0, all_known held h.1 num.1)
 
+    open_known : (c : Bool) → AllByRecursion (IsKnown front turn number) sub.lane.held
+        → AllByRecursion (IsKnown front turn' number)
+        (cond c sub.lane.held (map (expired_held timeout clock (by_number tk)) sub.lane.held))
+    open_known true h = all_then (IsKnown front turn number) (IsKnown front turn' number) sub.lane.held
+        (λ h k. (k.0, (k.1.0, omega (arith, le, k.1.1)), k.2)) h
+    open_known false h = all_known sub.lane.held h num.0
+
     each : Belongs front turn number sub → Belongs front turn' number (expired_sub timeout clock (by_number tk) sub)
     each b = record {
       is_offered = b.is_offered;
       is_next = b.is_next;
       is_drawn = (b.is_drawn.0, omega (arith, b.is_drawn.1));
-      are_known = all_known sub.lane.held b.are_known num.0;
+      are_known = open_known sub.closed b.are_known;
     }
 
 -- with the turns behind this one, by the deliveries' numbers

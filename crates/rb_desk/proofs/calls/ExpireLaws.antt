@@ -29,7 +29,7 @@ use Rattle.rb_deliveries.proofs.subs.KnownLaws.{all_get}
 use Rattle.rb_desk.proofs.calls.CuttingLaws.{same_picture}
 use Rattle.rb_deliveries.proofs.spans.JoinLaws.{joins_lane}
 
--- a subscription of which the spans that are due went back, whatever their tickets are
+-- a subscription of which the spans that are due went back if it is open, whatever their tickets are
 pub record ExpiresNow (timeout clock : ℕ) (old new : Sub) : Type 0 where
   pub start : new.start ≡ old.start
   pub floor : new.lane.floor ≡ old.lane.floor
@@ -37,7 +37,7 @@ pub record ExpiresNow (timeout clock : ℕ) (old new : Sub) : Type 0 where
   pub link : new.link ≡ old.link
   pub closed : new.closed ≡ old.closed
   pub next : new.lane.next ≡ old.lane.next
-  pub spans : spans_of new.lane.held ≡ gone_back timeout clock (spans_of old.lane.held)
+  pub spans : old.closed ≡ false → spans_of new.lane.held ≡ gone_back timeout clock (spans_of old.lane.held)
 
 -- each of the subscriptions
 abbrev pub AllExpire : ℕ → ℕ → List Sub → List Sub → Type 0
@@ -68,7 +68,8 @@ sub_expires timeout clock ticket sub =
       link = refl;
       closed = refl;
       next = refl;
-      spans = held_expire timeout clock ticket sub.lane.held;
+      spans = λ opened. ap (λ c. spans_of (cond c sub.lane.held (map (expired_held timeout clock ticket)
+          sub.lane.held))) opened ∙ held_expire timeout clock ticket sub.lane.held;
     }
 
 pub subs_expire : (timeout clock : ℕ) (ticket : Held → Ticket) (subs : List Sub)
@@ -111,16 +112,16 @@ sub_goes_back : (batch front timeout clock : ℕ) (old new : Sub) → ExpiresNow
 sub_goes_back batch front timeout clock old new e =
     (λ i. shown_as (e.start i) (e.floor i) (e.offered i) (e.link i) (e.closed i)
     (spans_of (cond (e.closed i) [] (lane_held batch front new.lane))))
-    ∙ ap (shown_as old.start old.lane.floor old.offered old.link old.closed) (by old.closed)
+    ∙ ap (shown_as old.start old.lane.floor old.offered old.link old.closed) (by old.closed refl)
   where
     shown_as : ℕ → ℕ → ℕ → ℕ → Bool → List Span → Subscription
     shown_as start floor offered link closed spans =
         record { start = start; floor = floor; offered = offered; link = link; closed = closed; spans = spans }
 
-    by : (t : Bool) → spans_of (cond t [] (lane_held batch front new.lane))
+    by : (t : Bool) → old.closed ≡ t → spans_of (cond t [] (lane_held batch front new.lane))
         ≡ gone_back timeout clock (spans_of (cond t [] (lane_held batch front old.lane)))
-    by true = refl
-    by false = lane_expires batch front timeout clock old.lane new.lane e.next e.spans
+    by true is = refl
+    by false is = lane_expires batch front timeout clock old.lane new.lane e.next (e.spans is)
 
 -- what all show
 pub expired_subscriptions : (batch front timeout clock : ℕ) (subs subs' : List Sub) → AllExpire timeout clock subs subs'
@@ -193,15 +194,15 @@ sub_leaves : (batch front : ℕ) (due : ℕ × ℕ → Bool) (timeout clock s : 
     → filter_map (out_at s) (sub_held batch front new)
     ≡ filter (λ e. not (due e.1)) (filter_map (out_at s) (sub_held batch front old))
 sub_leaves batch front due timeout clock s old new one tells e =
-    ap (λ c. filter_map (out_at s) (cond c [] (lane_held batch front new.lane))) e.closed ∙ by old.closed tells
+    ap (λ c. filter_map (out_at s) (cond c [] (lane_held batch front new.lane))) e.closed ∙ by old.closed refl tells
   where
-    by : (c : Bool) → (c ≡ false → AllByRecursion (ExpireReports due timeout clock s) old.lane.held)
+    by : (c : Bool) → old.closed ≡ c → (c ≡ false → AllByRecursion (ExpireReports due timeout clock s) old.lane.held)
         → filter_map (out_at s) (cond c [] (lane_held batch front new.lane))
         ≡ filter (λ e. not (due e.1)) (filter_map (out_at s) (cond c [] (lane_held batch front old.lane)))
-    by true tells = refl
-    by false tells =
+    by true is tells = refl
+    by false is tells =
         lane_out batch front s new.lane one ∙ spans_leave due timeout clock s old.lane.held new.lane.held (tells refl)
-        e.spans
+        (e.spans is)
         ∙ ap (filter (λ e. not (due e.1))) (sym (lane_out batch front s old.lane one))
 
 -- and of all from number s on

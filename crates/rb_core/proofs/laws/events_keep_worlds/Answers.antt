@@ -3,6 +3,7 @@ use Rattle.rb_core.specs.declared.reply.Reply.{Reply}
 use Rattle.rb_core.specs.State.{State, IsWorld}
 use Rattle.rb_core.proofs.DeskLaws.{DeskShows, KeepsPictures}
 use Rattle.rb_core.proofs.WorldEvents.{event_keeps}
+use Rattle.rb_subscriber.specs.Accept.{brought}
 use Rattle.rb_core.proofs.laws.events_keep_worlds.Goals as goal
 
 pub returns : goal.returns
@@ -22,4 +23,6 @@ returns c = λ old event given new good is.
     let keeps : KeepsPictures = λ old step good.
     (c.calls_keep_pictures.ensures old step good, c.calls_keep_limits.ensures old step) in
     subst (λ (x : Reply × State). IsWorld x.1) is
-    (event_keeps keeps shows c.accepting_is_step.ensures old event good)
+    (event_keeps keeps shows
+    (λ old sequence delivery. c.accepting_is_step.ensures old (brought sequence delivery) delivery)
+    c.withdrawals_are_admitted.ensures old event good)

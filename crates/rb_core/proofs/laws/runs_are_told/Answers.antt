@@ -1,5 +1,6 @@
 use Rattle.std.specs.Prelude.{[]}
 use Rattle.rb_core.proofs.TellRuns.{TellRunsLaws, tell_runs_are_told, tell_runs_go_on, run_is_world}
+use Rattle.rb_subscriber.specs.Accept.{brought}
 use Rattle.rb_core.proofs.laws.runs_are_told.Goals as goal
 
 -- all laws that are called
@@ -16,7 +17,7 @@ laws_of c = record {
   unsubscribe = c.calls_show_in_outline.ensures.unsubscribe;
   take = c.calls_show_in_outline.ensures.take;
   take_any = c.calls_show_in_outline.ensures.take_any;
-  accept = c.accepting_is_step.ensures;
+  accept = (λ old sequence delivery. c.accepting_is_step.ensures old (brought sequence delivery) delivery);
   ack = c.calls_show_in_outline.ensures.ack;
   nack = c.calls_show_in_outline.ensures.nack;
   expire = c.calls_show_in_outline.ensures.expire;

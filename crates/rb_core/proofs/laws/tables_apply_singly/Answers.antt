@@ -7,3 +7,4 @@ returns c = λ limits schema events answers new s subscriber run found.
     singly_run c.tables_apply_singly.ensures schema new (world_told schema events answers) s subscriber
     (c.runs_are_told.ensures.told limits schema events answers new run) found
     (c.bodies_are_changesets.ensures limits schema events answers new run).sequence
+    (c.accepted_is_gapless.ensures.run limits schema events answers new s subscriber run found).1

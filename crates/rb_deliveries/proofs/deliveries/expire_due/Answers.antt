@@ -4,14 +4,13 @@ use Rattle.std.proofs.lemmas.Option.{get_or_from_slice_get, slice_get_within}
 use Rattle.rb_deliveries.specs.declared.sub.Sub.{Sub}
 use Rattle.rb_deliveries.specs.declared.ticket.Held.{Held}
 use Rattle.rb_deliveries.specs.declared.ticket.Ticket.{Ticket}
-use Rattle.rb_deliveries.specs.Expiry.{due_in, due_held, expired_sub, expired_held, by_number, turns_from}
+use Rattle.rb_deliveries.specs.Expiry.{due_in, expired_sub, by_number, turns_from}
 use Rattle.std.specs.List.{AllByRecursion}
 use Rattle.rb_deliveries.specs.Subs.{AreGiven, IsGiven}
 use Rattle.rb_deliveries.proofs.subs.KnownLaws.{all_get}
 use Rattle.rb_deliveries.specs.Waiting.{FirstPast}
-use Rattle.rb_deliveries.proofs.orders.DueLaws.{past_has_due, map_expired, none_left, due_after, sum_after, all_expired}
-use Rattle.rb_deliveries.proofs.orders.DueLaws.{waiting_after, given_expired, all_given, due_part, set_there, HasDue}
-use Rattle.rb_deliveries.proofs.orders.MomentLaws.{undue_held, expired_undue}
+use Rattle.rb_deliveries.proofs.orders.DueLaws.{past_has_due, map_expired, none_left, due_after, all_expired}
+use Rattle.rb_deliveries.proofs.orders.DueLaws.{waiting_after, given_expired_sub, all_given, due_part, set_there, HasDue}
 use Rattle.rb_deliveries.proofs.deliveries.expire_due.Goals as goal
 
 pub overflow_add-many : goal.overflow_add-many
@@ -49,11 +48,13 @@ loop-past-smaller c =
     let tickets : Held → Ticket = by_number (turns_from c.args.latest.front c.args.latest.turn) in
     let made : c.expire.new.self ≡ expired_sub c.args.timeout c.args.clock tickets f.0 =
     c.expire.ensures ∙ ap (expired_sub c.args.timeout c.args.clock tickets) same in
-    let left = undue_held c.args.timeout c.args.clock
-    (map (expired_held c.args.timeout c.args.clock tickets) f.0.lane.held)
-    (expired_undue c.args.timeout c.args.clock tickets f.0.lane.held) in
-    let sum = sum_after c.args.timeout c.args.clock c.loop-past.subs.items c.in-Some.s f.0 c.expire.new.self f.1 in
-    omega (arith, sum, f.2, left, ap (λ (sub : Sub). due_held c.args.timeout c.args.clock sub.lane.held) made)
+    omega (
+      arith,
+      due_after c.args.timeout c.args.clock c.loop-past.subs.items c.in-Some.s f.0 c.expire.new.self f.1,
+      f.2,
+      ap (due_in c.args.timeout c.args.clock) made,
+      none_left c.args.timeout c.args.clock tickets f.0,
+    )
 
 pub loop-past-preserved : goal.loop-past-preserved
 loop-past-preserved c =
@@ -89,7 +90,7 @@ loop-past-preserved c =
           ∙ set_there c.loop-past.subs.items c.in-Some.s c.expire.new.self within));
       given = all_given c.args.next c.args.latest.turn c.loop-past.subs.items c.in-Some.s c.expire.new.self i.given (
         subst (λ (sub : Sub). AllByRecursion (λ h. IsGiven c.args.next h.span.status) sub.lane.held) (sym made)
-            (given_expired c.args.timeout c.args.clock tickets c.args.next c.args.latest.turn f.0.lane.held given.0),
+            (given_expired_sub c.args.timeout c.args.clock tickets c.args.next c.args.latest.turn f.0 given.0),
         given.1,
       );
       past = c.first_past-past-in-Some.ensures;

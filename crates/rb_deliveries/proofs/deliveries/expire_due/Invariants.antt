@@ -3,7 +3,6 @@ use Rattle.std.specs.List.{AllByRecursion}
 use Rattle.rb_deliveries.specs.Expiry.{all_due, expired_sub, by_number, turns_from}
 use Rattle.rb_deliveries.specs.Subs.{AreGiven}
 use Rattle.rb_deliveries.specs.Waiting.{AreWaiting, FirstPast}
-use Rattle.rb_deliveries.proofs.orders.DueLaws.{sum_due}
 use Rattle.rb_deliveries.proofs.deliveries.expire_due.Given as goal
 
 -- With those that are left, all expire and are counted. What is found next is past, or nothing is.
@@ -18,4 +17,4 @@ invariant-loop-past l = record {
 }
 
 abbrev pub decreases-loop-past : goal.decreases-loop-past
-decreases-loop-past l = sum_due l.timeout l.clock l.subs.items
+decreases-loop-past l = all_due l.timeout l.clock l.subs.items

@@ -1,8 +1,9 @@
-use Rattle.std.proofs.Common.{◌≡◌, take}
-use Rattle.cs_group.specs.Adding.{sections_added}
+use Rattle.std.proofs.Common.{◌≡◌, take, None}
+use Rattle.cs_model.specs.Schema.{refusal_of}
 use Rattle.rb_subscriber.specs.Accept.{joined_bodies}
 use Rattle.rb_subscriber.proofs.apply.combined.Given as goal
 
--- the changesets of the entries so far
-abbrev pub invariant-loop-entry : goal.invariant-loop-entry
-invariant-loop-entry l = sections_added l.bodies.items ≡ joined_bodies (take l.entry-index l.entries)
+-- the group has the bodies of the entries so far, which the schema admits
+abbrev pub invariant-loop-index : goal.invariant-loop-index
+invariant-loop-index g l = (l.group ≡ joined_bodies (take l.index (g.E.Brought.entries l.entries)))
+    × (refusal_of l.schema l.group ≡ None)

@@ -3,7 +3,8 @@ use Rattle.rb_subscriber.specs.Accept.{AreChangesets, first_outside_entry}
 use Rattle.rb_subscriber.proofs.apply.outside.Given as goal
 
 -- none of the entries so far is outside, and they are changesets
-abbrev pub invariant-loop-entry : goal.invariant-loop-entry
-invariant-loop-entry l =
-    (first_outside_entry l.schema l.entries ≡ first_outside_entry l.schema (drop l.entry-index l.entries))
-    × AreChangesets (take l.entry-index l.entries)
+abbrev pub invariant-loop-index : goal.invariant-loop-index
+invariant-loop-index g l =
+    let all = g.E.Brought.entries l.entries in
+    (first_outside_entry l.schema all ≡ first_outside_entry l.schema (drop l.index all))
+    × AreChangesets (take l.index all)

@@ -2,5 +2,5 @@ use Rattle.rb_subscriber.proofs.RunLaws.{tables_singly}
 use Rattle.rb_subscriber.proofs.laws.accepted_apply_singly.Goals as goal
 
 pub returns : goal.returns
-returns c = λ old sequence delivery new tables.
-    tables_singly c.applying_goes_on.ensures c.groups_apply.ensures.same old sequence delivery new tables
+returns c = λ old entries delivery new tables.
+    tables_singly c.applying_goes_on.ensures c.groups_apply.ensures.same old entries delivery new tables

@@ -2,5 +2,5 @@ use Rattle.rb_subscriber.proofs.ConflictLaws.{conflict_singly}
 use Rattle.rb_subscriber.proofs.laws.conflicts_are_single.Goals as goal
 
 pub returns : goal.returns
-returns c = λ old sequence delivery conflict.
-    conflict_singly c.applying_goes_on.ensures c.groups_apply.ensures.conflicts old sequence delivery conflict
+returns c = λ old entries delivery conflict.
+    conflict_singly c.applying_goes_on.ensures c.groups_apply.ensures.conflicts old entries delivery conflict

@@ -2,12 +2,12 @@ use Rattle.std.proofs.Common.{◌≡◌, ◌∙◌, max, map, ap, sym}
 use Rattle.rb_desk.specs.Shown.{shown}
 use Rattle.rb_deliveries.specs.Expiry.{expired_sub, by_number, turns_from, all_due}
 use Rattle.rb_deliveries.proofs.subs.ExpiredLaws.{belongs_turned_back}
-use Rattle.rb_desk.proofs.calls.ExpireCall.{expire_is}
+use Rattle.rb_desk.proofs.calls.ExpireCall.{expire_is, none_expires, some_expires, said_on_err}
 use Rattle.rb_deliveries.proofs.subs.KnownLaws.{few_map}
 use Rattle.rb_desk.proofs.desk.Desk.expire.Goals as goal
 
-pub invariant_of-self : goal.invariant_of-self
-invariant_of-self c =
+pub invariant_of-self-2 : goal.invariant_of-self-2
+invariant_of-self-2 c =
     rw (c.expire-many.ensures.kept, c.in_ok-turn.ensures) (
       c.self.invariant.0,
       belongs_turned_back c.self.inside.front c.self.inside.turn c.self.inside.next_delivery
@@ -15,6 +15,22 @@ invariant_of-self c =
       few_map c.self.inside.deliveries.subs _ c.self.invariant.2,
       c.self.invariant.3,
     )
+
+pub returns-then-not-any_due-clause-ok : goal.returns-then-not-any_due-clause-ok
+returns-then-not-any_due-clause-ok c =
+    rw (← c.self.view_is)
+    (none_expires c.self.inside.config c.self.inside.front c.self.inside.turn c.self.inside.clock c.args.now
+    c.self.inside.next_link c.self.inside.next_delivery c.self.inside.closing c.self.inside.deliveries.subs
+    c.self.invariant.0.0 c.self.invariant.1 c.any_due.ensures.joined c.timeout-timeout.result c.max-clock.result
+    c.timeout-timeout.ensures c.max-clock.ensures (sym c.any_due.ensures.value ∙ c.if-not-any_due.true))
+
+pub returns-in_err-turn-clause-memory : goal.returns-in_err-turn-clause-memory
+returns-in_err-turn-clause-memory c =
+    said_on_err c.from_residual.result (rw (← c.self.view_is)
+    (some_expires c.self.inside.config c.self.inside.front c.self.inside.turn c.self.inside.clock c.args.now
+    c.self.inside.next_link c.self.inside.next_delivery c.self.inside.closing c.self.inside.deliveries.subs
+    c.self.invariant.0.0 c.self.invariant.1 c.any_due.ensures.joined c.timeout-timeout.result c.max-clock.result
+    c.timeout-timeout.ensures c.max-clock.ensures (sym c.any_due.ensures.value ∙ c.if-not-any_due.false)))
 
 pub returns-clause-ok : goal.returns-clause-ok
 returns-clause-ok c =

@@ -1,6 +1,6 @@
 use Rattle.std.proofs.Common.{◌≡◌, [], take, drop}
 use Rattle.cs_group.specs.Adding.{first_refused, sections_in}
-use Rattle.cs_group.proofs.group.combine.Given as goal
+use Rattle.cs_group.proofs.group.grouped.Given as goal
 
 -- the changesets so far are in the group, and the ones that are left decide what is refused
 abbrev pub invariant-loop-changeset : goal.invariant-loop-changeset

@@ -1,0 +1,96 @@
+#!/usr/bin/env python3
+"""Lists definitions of specs/ that a public contract cites and docs/DEFINITIONS.md doesn't have, a line each.
+
+A contract is what `ensures` and `requires` say of a function that other crates can call: one that the crate's root
+exports, or a method of a type or trait that it exports. A definition counts if its file is one of specs/: types that
+the source declares have their docstrings. Nothing is the right answer.
+    checks/definitions.py       ends with status 1 where it lists a name
+"""
+import re
+import sys
+from pathlib import Path
+
+ROOT = Path(__file__).resolve().parent.parent
+IMPORT = re.compile(r"ghost use Rattle\.(\w+)\.specs\.([\w.]+?)(?:\.\{([^}]*)\}| as (\w+));")
+WORD = re.compile(r"[A-Za-z_][\w'-]*")
+
+
+def imported(text, ours):
+    """The definitions of our crates that a file brings in, by name; modules brought in as a name."""
+    names, modules = {}, {}
+    for crate, module, group, alias in IMPORT.findall(text):
+        if crate not in ours or "declared" in module or "contracts" in module:
+            continue
+        if alias:
+            modules[alias] = f"{crate}, {module}.antt"
+        for item in group.split(","):
+            if item.strip():
+                real, _, other = item.strip().partition(" as ")
+                names[other or real] = (real, f"{crate}, {module}.antt")
+    return names, modules
+
+
+def exports(crate):
+    """What the crate's root exports: names, and the modules of which all is public."""
+    root = crate / "src/lib.rt"
+    text = root.read_text() if root.exists() else ""
+    names = set()
+    for group in re.findall(r"pub use ([^;]+);", text):
+        names.update(WORD.findall(group))
+    return names, set(re.findall(r"pub mod (\w+);", text))
+
+
+def contracts(text, names, public):
+    """The clauses of functions with these names, or of all if the module is public, and of methods of these types."""
+    lines = text.splitlines()
+    owner = None
+    for start, line in enumerate(lines):
+        block = re.match(r"(?:pub )?(?:impl|trait)(?:<[^>]*>)? (?:[\w:<>', ]+ for )?&?(?:'\w+ )?(\w+)", line)
+        if block:
+            owner = block.group(1)
+        elif line == "}":
+            owner = None
+        function = re.match(r"\s*(pub )?(?:unsafe |extern \"C\" )*fn (\w+)", line)
+        if not function:
+            continue
+        is_method = owner in names and (function.group(1) or "pub trait " + owner in text)
+        is_free = owner is None and function.group(1) and (public or function.group(2) in names)
+        if not (is_method or is_free or 'extern "C"' in line):
+            continue
+        clauses = []
+        for later in lines[start:]:
+            if later.strip() in ("{", "{}"):
+                yield "\n".join(clauses)
+                break
+            if later.rstrip().endswith(" {") and not clauses and "ensures" not in later:
+                break
+            if clauses or re.match(r"\s*(ensures|requires)\b", later):
+                clauses.append(later)
+
+
+def main():
+    ours = {path.name for path in (ROOT / "crates").iterdir()}
+    known = set(re.findall(r"\*([\w'-]+)\*", (ROOT / "docs/DEFINITIONS.md").read_text()))
+    sources = sorted((ROOT / "crates").glob("*/src/**/*.rt"))
+    if not sources or not known:
+        sys.exit("definitions.py: no source or no definition was found")
+    missing = set()
+    for path in sources:
+        text = path.read_text()
+        names, modules = imported(text, ours)
+        crate = path.relative_to(ROOT / "crates").parts[0]
+        exported, public = exports(ROOT / "crates" / crate)
+        for clause in contracts(text, exported, path.stem in public):
+            clause = re.sub(r"\b(ensures|requires) [\w-]+ \{", r"\1 {", clause)
+            for alias, name in re.findall(r"\b(\w+)\.(\w+)", clause):
+                if alias in modules and name not in known:
+                    missing.add((name, modules[alias]))
+            for word in WORD.findall(clause):
+                if word in names and names[word][0] not in known:
+                    missing.add(names[word])
+    for name, where in sorted(missing):
+        print(f"{name} ({where})")
+    sys.exit(1 if missing else 0)
+
+
+main()

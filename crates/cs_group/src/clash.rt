@@ -1,0 +1,150 @@
+//! The first clash, told without memory. Once memory has run out, no map of names can be made, so
+//! each section is compared with each one before it. That takes time quadratic in the number of
+//! sections.
+
+ghost use Rattle.std.specs.Prelude.{◌≡◌, ◌++◌, [], take};
+ghost use Rattle.cs_model.specs.Changeset.{IsChangeset};
+ghost use Rattle.cs_group.specs.Adding.{ReportsClash, ReportsIfSchema, first_refused};
+ghost use Rattle.cs_group.specs.Adding.{sections_in, sections_of};
+ghost use Rattle.cs_group.specs.Group.{clashes, differs_from, first_clash};
+
+use crate::error::GroupError;
+use cs_model::{Changeset, SectionRef, SectionRefs, TextChangeset};
+
+/// A changeset in either form, borrowed.
+#[derive(Clone, Copy)]
+pub(crate) enum AnyChangeset<'a> {
+    /// It has its changes.
+    Owned(&'a Changeset),
+    /// Its changes stand in the text that encodes it.
+    InText(&'a TextChangeset<'a>),
+}
+
+impl<'a> AnyChangeset<'a> {
+    /// Returns an iterator over the sections, in order.
+    pub(crate) fn iter(&self) -> SectionRefs<'a>
+        ensures same { result ≡ sections_of self.now }
+        ensures valid { IsChangeset (sections_of self.now) }
+    {
+        match *self {
+            AnyChangeset::Owned(changeset) => changeset.iter(),
+            AnyChangeset::InText(changeset) => changeset.iter(),
+        }
+    }
+}
+
+// whether a section's table has the name of an earlier section's and another shape
+fn differs(section: &SectionRef, earlier: &SectionRef) -> bool
+    ensures { result ≡ differs_from section.now earlier.now }
+{
+    earlier.name() == section.name() && earlier.shape() != section.shape()
+}
+
+// whether a section clashes with one of these
+fn clashes_with(earlier: &[SectionRef], section: &SectionRef) -> bool
+    ensures { result ≡ clashes earlier.now section.now }
+{
+    earlier.iter().any(|other| differs(section, other))
+}
+
+// Whether a section clashes with one of the first sections of a changeset, as many as `count`.
+fn clashes_with_first(count: usize, changeset: &AnyChangeset, section: &SectionRef) -> bool
+    ensures { result ≡ clashes (take count (sections_of changeset.now)) section.now }
+{
+    let mut left = count;
+    for other in changeset.iter() {
+        if left == 0 {
+            return false;
+        }
+        if differs(section, &other) {
+            return true;
+        }
+        left -= 1;
+    }
+    false
+}
+
+// whether a section clashes with one of these changesets
+fn clashes_with_any(earlier: &[Changeset], section: &SectionRef) -> bool
+    ensures { result ≡ clashes (sections_in earlier.now) section.now }
+{
+    for changeset in earlier {
+        if clashes_with_first(changeset.len(), &AnyChangeset::Owned(changeset), section) {
+            return true;
+        }
+    }
+    false
+}
+
+// The first section of a changeset that clashes with one before it in the changeset, or with these
+// sections or changesets.
+fn first_clash_in(
+    added: &[SectionRef],
+    earlier: &[Changeset],
+    changeset: &AnyChangeset,
+) -> Option<usize>
+    ensures { result
+        ≡ first_clash (added.now ++ sections_in earlier.now) (sections_of changeset.now) }
+{
+    let mut index = 0;
+    for section in changeset.iter() {
+        if clashes_with(added, &section)
+            || clashes_with_any(earlier, &section)
+            || clashes_with_first(index, changeset, &section)
+        {
+            return Some(index);
+        }
+        index += 1;
+    }
+    None
+}
+
+// the same of changesets, each with those before it
+fn first_refused_of(changesets: &[Changeset]) -> Option<usize>
+    ensures { result ≡ first_refused [] changesets.now }
+{
+    for (i, changeset) in changesets.iter().enumerate() {
+        let found = first_clash_in(&[], &changesets[..i], &AnyChangeset::Owned(changeset));
+        if found.is_some() {
+            return found;
+        }
+    }
+    None
+}
+
+// the error that reports a clash, or that memory ran out and there is none
+fn error_of(clash: Option<usize>) -> GroupError
+    ensures { ReportsClash result clash }
+{
+    match clash {
+        Some(section) => GroupError::Schema { section },
+        None => GroupError::Memory,
+    }
+}
+
+/// The error of adding a changeset to these sections. `error` is where the adding stopped, and can
+/// be `Memory` though a section clashes.
+pub(crate) fn error_of_one(
+    error: GroupError,
+    added: &[SectionRef],
+    changeset: &AnyChangeset,
+) -> GroupError
+    requires { ReportsIfSchema error (first_clash added.now (sections_of changeset.now)) }
+    ensures { ReportsClash result (first_clash added.now (sections_of changeset.now)) }
+{
+    match error {
+        GroupError::Schema { .. } => error,
+        GroupError::Memory => error_of(first_clash_in(added, &[], changeset)),
+    }
+}
+
+/// The same for combining these changesets.
+pub(crate) fn error_of_all(error: GroupError, changesets: &[Changeset]) -> GroupError
+    requires { ReportsIfSchema error (first_refused [] changesets.now) }
+    ensures { ReportsClash result (first_refused [] changesets.now) }
+{
+    match error {
+        GroupError::Schema { .. } => error,
+        GroupError::Memory => error_of(first_refused_of(changesets)),
+    }
+}

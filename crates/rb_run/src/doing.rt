@@ -1,0 +1,99 @@
+//! Does what the words of a command line ask for, from a reader to a writer.
+
+ghost use Rattle.std.specs.Prelude.{map, string_bytes};
+ghost use Rattle.clap.specs.Values.{kind_of};
+ghost use Rattle.rb_run.specs.Program.{EndsAsAsked, EndsFor, EndsShown, HasAnswered, HasPrinted};
+ghost use Rattle.rb_run.specs.Program.{HasShown};
+
+use crate::ending::Ending;
+use crate::job::Job;
+use clap::Error;
+use clap::error::ErrorKind;
+use rb_core::Config;
+use rb_script::{Answering, RowForm, ScriptFault, run_script, show};
+use std::alloc::Global;
+use std::io;
+use std::io::{Read, Write};
+
+/// Does what these words ask for. The first is the program's name.
+///
+/// Answers the script in `reader` on `writer`, shows the rows in it there, or prints help or the
+/// version. If the words are faulty, nothing is read and nothing written, and the ending says what
+/// is wrong.
+pub fn asked<R: Read, W: Write>(
+    alloc: Global,
+    words: &[String],
+    reader: &mut R,
+    writer: &mut W,
+) -> Ending
+    ensures { EndsAsAsked (map string_bytes words.now) result
+        (R.remaining reader.old) (R.remaining reader.new)
+        (W.contents writer.old) (W.contents writer.new) }
+{
+    done(alloc, Job::of(alloc, words), reader, writer)
+}
+
+fn done<R: Read, W: Write>(alloc: Global, job: Job, reader: &mut R, writer: &mut W) -> Ending
+    ensures { EndsFor job result (R.remaining reader.old) (R.remaining reader.new)
+        (W.contents writer.old) (W.contents writer.new) }
+{
+    match job {
+        Job::Script(config, how) => answered(alloc, config, how, reader, writer),
+        Job::Range(fault) => Ending::OutOfRange(fault),
+        Job::Show(form) => showed(alloc, form, reader, writer),
+        Job::Print(text) => printed(text, writer),
+    }
+}
+
+// Answers a script.
+fn answered<R: Read, W: Write>(
+    alloc: Global,
+    config: Config,
+    how: Answering,
+    reader: &mut R,
+    writer: &mut W,
+) -> Ending
+    ensures { HasAnswered how config result (R.remaining reader.old) (R.remaining reader.new)
+        (W.contents writer.old) (W.contents writer.new) }
+{
+    Ending::of(run_script(alloc, reader, writer, config, how))
+}
+
+// Shows rows.
+fn showed<R: Read, W: Write>(alloc: Global, form: RowForm, reader: &mut R, writer: &mut W) -> Ending
+    ensures { HasShown form result (R.remaining reader.old) (R.remaining reader.new)
+        (W.contents writer.old) (W.contents writer.new) }
+{
+    Ending::of_show(show(alloc, reader, writer, form))
+}
+
+// Prints help or the version. Any other text says what is wrong, and goes into the ending.
+fn printed<W: Write>(text: Error, writer: &mut W) -> Ending
+    ensures { EndsShown (kind_of text) text result (W.contents writer.old)
+        (W.contents writer.new) }
+{
+    if text.kind() == ErrorKind::OutOfMemory {
+        return Ending::Stopped(ScriptFault::Memory);
+    }
+    if text.use_stderr() {
+        return Ending::Misused(text);
+    }
+    told(&text, writer)
+}
+
+// Prints a text. Nobody misses what a closed pipe doesn't take.
+fn told<W: Write>(text: &Error, writer: &mut W) -> Ending
+    ensures { HasPrinted result }
+{
+    match write_out(text, writer) {
+        Err(why) if why.kind() != io::ErrorKind::BrokenPipe => {
+            Ending::Stopped(ScriptFault::Write(why))
+        }
+        _ => Ending::Done,
+    }
+}
+
+fn write_out<W: Write>(text: &Error, writer: &mut W) -> io::Result<()> {
+    write!(writer, "{text}")?;
+    writer.flush()
+}
