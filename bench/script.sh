@@ -14,7 +14,7 @@ cd "$(dirname "$0")/.."
 : "${RT:=rt}"
 : "${PROGRAM:=crates/rb_run/out/rb_run}"
 : "${SIZES:=1000 10000 100000}"
-SINGLY='script --capacity 1048576 --batch 1 --window 64'
+SINGLY='script --capacity 16777216 --batch 1 --window 64'
 
 for package in gcc libc6-dev libsqlite3-dev; do
     dpkg -s "$package" >/dev/null 2>&1 || apt-get install -y "$package" >&2
@@ -31,10 +31,10 @@ row() {
     shift
     "$work/lines" "$@" >"$work/script"
     lines="$(wc -l <"$work/script")"
-    "$PROGRAM" script --capacity 1048576 <"$work/script" >"$work/answers" || fail "$name: the program fails"
+    "$PROGRAM" script --capacity 16777216 <"$work/script" >"$work/answers" || fail "$name: the program fails"
     answers="$(wc -l <"$work/answers")"
     [ "$lines" -gt 0 ] && [ "$answers" -eq "$lines" ] || fail "$name: $answers answers to $lines lines"
-    took="$("$work/lines" measure "$work/script" "$PROGRAM" script --capacity 1048576)" || fail "$name: nothing is measured"
+    took="$("$work/lines" measure "$work/script" "$PROGRAM" script --capacity 16777216)" || fail "$name: nothing is measured"
     echo "$lines $(wc -c <"$work/script") $took" |
         awk -v name="$name" '{ printf "| %s | %d | %.1f | %.0f | %.0f | %d |\n", name, $1, $2 / 1000000, $3, $3 * 1000000 / $1, $4 / 1024 }'
 }

@@ -1,16 +1,18 @@
 #!/bin/sh
 # Checks that memory is given back: by the exports for C at every call, and by the program at its end. It prints the numbers.
-#   sh checks/leaks.sh        needs gcc, and what `rt run` and `rt lib` leave (docs/C.md and README.md)
+#   sh checks/leaks.sh        needs gcc, what `rt run` and `rt lib` leave (docs/C.md and README.md), and `rt test` in
+#                             crates/rb_threads
 # RT names the prover's command where it isn't `rt`.
 cd "$(dirname "$0")/.." || exit 2
 : "${RT:=rt}"
 program=crates/rb_run/out/rb_run library=crates/changeset_c/out/libchangeset_c.a
+tests=crates/rb_threads/out/rb_threads_tests
 fail() {
     echo "leaks.sh: $1" >&2
     exit "$2"
 }
 
-for made in $program $library; do
+for made in $program $library $tests; do
     [ -e $made ] || fail "no $made: see README.md" 2
 done
 work=$(mktemp -d) || exit 2
@@ -101,4 +103,10 @@ left_of_100=$left most_of_100=$most
 measure nothing_kept 1000
 told 'as much in use at the end of both' test -n "$left" -a "$left" = "$left_of_100"
 told 'as much in use at most' test -n "$most" -a "$most" = "$most_of_100"
+
+# entries at both ends of the longest sequence: two segments of 1.5 MB are made, and not all 256
+COUNT_TELL=1 LD_PRELOAD="$work/count.so" "$tests" cells::the_longest_sequence >"$work/out" 2>"$work/err"
+most=$(sed -n 's/.*at most \([0-9]*\),.*/\1/p' "$work/err")
+echo "the longest sequence, status $?: $(cat "$work/err")"
+told 'two entries far apart take less than 4,000,000 bytes' test -n "$most" -a "${most:-0}" -lt 4000000
 [ $bad -eq 0 ] || fail "$bad of $count checks failed" 1

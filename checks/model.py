@@ -331,7 +331,7 @@ class Publisher:
 
 
 LIMITS = {'batch': (1, 256, 16), 'window': (1, 64, 4), 'timeout': (1, 1000000000, 10),
-          'capacity': (1, 1048576, 65536), 'intake': (1, 4096, 64)}
+          'capacity': (1, 16777216, 65536), 'intake': (1, 4096, 64)}
 
 
 class World:

@@ -130,7 +130,7 @@ batch 0 256
 batch 257 256
 window 65 64
 timeout 1000000001 1000000000
-capacity 1048577 1048576
+capacity 16777217 16777216
 intake 4097 4096
 intake 07 4096
 intake x 4096
@@ -171,7 +171,7 @@ for line in table publisher feed reset end send turn close subscribe take takean
     need "no word of '$line'" grep -qw "$line" "$out"
 done
 for option in 'batch .* 1 to 256 .*16' 'window .* 1 to 64 .*4' 'timeout .* 1 to 1000000000 .*10' \
-    'capacity .* 1 to 1048576 .*65536' 'intake .* 1 to 4096 .*64' numbers strict; do
+    'capacity .* 1 to 16777216 .*65536' 'intake .* 1 to 4096 .*64' numbers strict; do
     need "no line of '--$option'" grep -q -e "--$option" "$out"
 done
 need "no word of what 'reset' forgets" grep -q '^ *reset P .* fault$' "$out"

@@ -120,6 +120,7 @@ long changeset_combine(void) { return 0; }
 long changeset_invert(void) { return 0; }
 END
 gcc -c "$work/none.c" -o "$work/none.o" && ar cr crates/changeset_c/out/libchangeset_c.a "$work/none.o" || exit 2
+make crates/rb_threads/out/rb_threads_tests "$exits"
 fails 'header.sh, no toolchain' 'no .*liblibc_c' sh checks/header.sh
 fails 'leaks.sh, no toolchain' 'no .*liblibc_c' sh checks/leaks.sh
 ar cr "$work/kit/c/liblibc_c.a"

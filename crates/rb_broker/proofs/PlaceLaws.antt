@@ -1,19 +1,12 @@
--- What the desk's `prepare` and `place` say of its capacity.
-use Rattle.std.proofs.Common.{◌≡◌, ℕ, ◌≤◌, Ok, Option, Some, None, refl}
-use Rattle.std.proofs.Common.{arith}
+-- What the desk's `place` and `close` say of its capacity.
+use Rattle.std.proofs.Common.{◌≡◌, refl}
 use Rattle.rb_desk.specs.Picture.{Picture}
-use Rattle.rb_desk.specs.Calls.{prepare, place, next_place}
-
--- a number that is prepared is within the capacity
-next_within : (p : Picture) (closing : Option ℕ) (n : ℕ) → next_place p closing ≡ Ok n
-    → (1 ≤ n) × (n ≤ p.limits.capacity)
-next_within p (Some last) n e = absurd (cc e)
-next_within p None n e = grind arith
-
-pub prepared_within : (p : Picture) (n : ℕ) → prepare p ≡ Ok n → (1 ≤ n) × (n ≤ p.limits.capacity)
-unfolding prepare
-prepared_within p n e = next_within p p.closing n e
+use Rattle.rb_desk.specs.Calls.{place, close}
 
 pub place_keeps_limits : (p : Picture) → (place p).limits ≡ p.limits
 unfolding place
 place_keeps_limits p = refl
+
+pub close_keeps_limits : (p : Picture) → (close p).1.limits ≡ p.limits
+unfolding close
+close_keeps_limits p = refl

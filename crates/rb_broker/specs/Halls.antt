@@ -25,7 +25,7 @@ opened_code = code_by (Limits × (List Shape × (Cells × TableId)))
 
 -- no broker's
 abbrev pub no_cells : Cells
-no_cells = record { capacity = 0; shelves = record { tag = []; buckets = [] }; closing = 0 }
+no_cells = record { capacity = 0; segments = []; closing = 0 }
 
 abbrev pub no_queue : TableId
 no_queue = record {

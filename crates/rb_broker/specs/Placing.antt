@@ -1,14 +1,14 @@
 -- What one hold of the broker's lock does that places an item.
-use Rattle.std.specs.Prelude.{◌≡◌, ℕ, ◌⊎◌, Result, Ok, Err}
+use Rattle.std.specs.Prelude.{◌≡◌, ◌⊎◌, ℕ, Option, Some, None, Result, Ok, Err}
 use Rattle.rb_desk.specs.declared.refusal.DeskRefusal.{DeskRefusal}
 use Rattle.rb_desk.specs.declared.refusal.DeskRefusal.TheVariants as desk
 use Rattle.rb_desk.specs.Picture.{Picture}
-use Rattle.rb_desk.specs.Calls.{prepare, place}
-use Rattle.rb_sequence.specs.Cells.{Cells, CellToken, IsTokenOf}
+use Rattle.rb_desk.specs.Calls.{prepare, place, close}
+use Rattle.rb_sequence.specs.Cells.{Cells, CellToken, IsLastToken, IsTokenOf, LastToken}
 use Rattle.rb_sequence.specs.Entry.{Entry}
 use Rattle.rb_broker.specs.declared.refusal.PlaceRefusal.{PlaceRefusal}
 use Rattle.rb_broker.specs.declared.refusal.PlaceRefusal.TheVariants.{Closed, SequenceFull}
-use Rattle.rb_broker.specs.declared.refusal.PlaceRefusal.TheVariants.{Occupied, Memory}
+use Rattle.rb_broker.specs.declared.refusal.PlaceRefusal.TheVariants.{Occupied}
 use Rattle.rb_broker.specs.declared.refusal.RefusedItem.{RefusedItem}
 
 -- the token shows that the cell of the entry's number holds the entry
@@ -21,7 +21,7 @@ pub record ShowsEntry (cells : Cells) (told : CellToken) (e : Entry) : Type 0 wh
 abbrev pub IsWhy : Result ℕ DeskRefusal → ℕ → PlaceRefusal → Type 0
 IsWhy (Err desk.Closed) n why = why ≡ Closed
 IsWhy (Err other) n why = why ≡ SequenceFull
-IsWhy (Ok next) n why = (why ≡ Occupied) ⊎ (why ≡ Memory)
+IsWhy (Ok next) n why = why ≡ Occupied
 
 -- What the hold returns and leaves. The entry is in its cell, and the desk has placed its number;
 -- or the item comes back, and the desk is as before.
@@ -30,3 +30,14 @@ PlacesEntry (Ok told) cells entry old new = ShowsEntry cells told entry
     × (prepare old ≡ Ok entry.number) × (new ≡ place old)
 PlacesEntry (Err refused) cells entry old new = (refused.item ≡ entry.item)
     × IsWhy (prepare old) entry.number refused.why × (new ≡ old)
+
+-- why no number is placed that has no cell
+abbrev pub RefusesPlace : Picture → PlaceRefusal → Type 0
+RefusesPlace picture why = IsWhy (prepare picture) 0 why
+
+-- What the hold returns and leaves that closes. The token is of the closing cell. Either the cell
+-- was set and the desk is as before; or the desk is closed, and the token shows its closing number.
+abbrev pub ClosesBoth : Option LastToken → Cells → Picture → Picture → Type 0
+ClosesBoth (Some told) cells old new = IsLastToken cells told
+    × ((new ≡ old) ⊎ ((told.last ≡ (close old).0) × (new ≡ (close old).1)))
+ClosesBoth None cells old new = new ≡ (close old).1

@@ -2,15 +2,16 @@
 
 ghost use Rattle.std.specs.Prelude.{◌≡◌, ◌<◌, ◌++◌, ◌∷◌, [], ℕ, suc, length, IfOk, IfErr, OnOk};
 ghost use Rattle.std.specs.Prelude.{OnErr};
-ghost use Rattle.std.specs.Prelude.{MatchOption};
+ghost use Rattle.std.specs.Prelude.{IfSome, MatchOption};
 ghost use Rattle.std.specs.Arc.{arc_value};
 ghost use Rattle.cs_parse.specs.Progress.{nothing};
 ghost use Rattle.rb_intake.specs.Passes.{IsAllPulled};
 ghost use Rattle.rb_sequence.specs.Items.{CountsUp};
+ghost use Rattle.rb_sequence.specs.Cells.{IsLastToken};
 ghost use Rattle.rb_broker.specs.Placing.{ShowsEntry};
 
 use crate::hall::Hall;
-use crate::locked::Locked;
+use crate::locked::{Locked, refused};
 use crate::opened::Opened;
 use crate::publisher::Publisher;
 use crate::refusal::{AddRefusal, PlaceRefusal, RefusedItem};
@@ -18,7 +19,7 @@ use cs_model::Schema;
 use cs_parse::PieceParser;
 use rb_desk::Config;
 use rb_intake::{Intake, MakerPass, PublisherPass, SequencerPass};
-use rb_sequence::{Entry, Item, Sequence, Told};
+use rb_sequence::{Entry, Item, Preparer, ReadyError, Sequence, Told, ToldLast};
 use std::alloc::{AllocError, Global};
 use std::collections::BTreeSet;
 use std::marker::PhantomData;
@@ -41,11 +42,13 @@ pub struct Broker<L: Hall> {
     config: Config,
     schema: Arc<Schema>,
     sequence: Sequence,
+    preparer: Preparer,
     intake: Intake,
     // a pass is of one thread: it stands in a lock that nobody takes
     maker: Mutex<Maker<L>>,
     locked: Mutex<Locked<L>>,
     ghost cells: { sequence ≡ L.cells },
+    ghost prepares: { preparer ≡ L.cells },
     ghost queue: { intake.queue ≡ L.queue },
 }
 
@@ -62,6 +65,8 @@ impl<L: Hall> Broker<L> {
             config,
             schema,
             sequence,
+            preparer,
+            filler,
             intake,
             sequencer,
             maker,
@@ -71,6 +76,7 @@ impl<L: Hall> Broker<L> {
             config,
             schema,
             sequence,
+            preparer,
             intake,
             maker: Mutex::new(Maker {
                 pass: maker,
@@ -78,6 +84,7 @@ impl<L: Hall> Broker<L> {
             }),
             locked: Mutex::new(Locked {
                 desk,
+                filler,
                 of: PhantomData,
             }),
         };
@@ -91,7 +98,7 @@ impl<L: Hall> Broker<L> {
         self.config
     }
 
-    /// Its sequence, which anyone reads without waiting.
+    /// Its sequence, which anyone reads without waiting. Only the broker changes it.
     pub fn sequence(&self) -> &Sequence
         ensures { result.now ≡ L.cells }
     {
@@ -151,16 +158,21 @@ impl<L: Hall> Broker<L> {
     }
 
     /// Places an item under this number, in one hold of the lock: its cell is set, and the desk has
-    /// placed the number. Its text is written before the hold. `Sequencer::turn` calls it.
+    /// placed the number. All memory is allocated before the hold: the item's text, its box and, for
+    /// the first number of a segment, its cells. `Sequencer::turn` calls it. It asks for the
+    /// sequencer's pass, of which there is one, so that nobody else places.
     ///
     /// Each refusal hands the item back.
     pub fn place_next<R: Wait>(
         &self,
         rt: &R,
         alloc: Global,
+        _pass: &mut SequencerPass,
         item: Item,
         number: u64,
     ) -> Result<Told, RefusedItem>
+        requires { _pass.old.queue ≡ L.queue }
+        ensures pass { _pass.new ≡ _pass.old }
         ensures ok { IfOk result (λ told. ShowsEntry L.cells told
             (record { number = number; item = item })) }
         ensures err { IfErr result (λ refused. refused.item ≡ item) }
@@ -170,7 +182,29 @@ impl<L: Hall> Broker<L> {
             return Err(RefusedItem { why, item });
         };
         let entry = Entry::new(number, item, text);
+        if number == 0 || number > self.sequence.capacity() {
+            let locked = self.locked.lock(rt);
+            return Err(refused(locked.refuses(), entry));
+        }
+        match self.preparer.ready(alloc, entry) {
+            Ok(ready) => {
+                let mut locked = self.locked.lock(rt);
+                locked.place(ready)
+            }
+            Err(ReadyError::Memory(entry)) => Err(refused(PlaceRefusal::Memory, entry)),
+            Err(ReadyError::Occupied(entry)) => Err(refused(PlaceRefusal::Occupied, entry)),
+        }
+    }
+
+    /// Closes the sequence after its last number, in one hold of the lock: the closing cell is set,
+    /// and the desk is closed. The token shows the number. If it is closed already, returns a token
+    /// of the same cell.
+    ///
+    /// Returns `None` if the closing cell is set and doesn't show yet.
+    pub fn close<R: Wait>(&self, rt: &R) -> Option<ToldLast>
+        ensures { IfSome result (λ told. IsLastToken L.cells told) }
+    {
         let mut locked = self.locked.lock(rt);
-        locked.place(rt, alloc, &self.sequence, entry)
+        locked.close(&self.sequence)
     }
 }

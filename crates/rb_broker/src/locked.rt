@@ -1,55 +1,74 @@
-//! What the broker's lock holds: the desk.
+//! What the broker's lock holds: the desk, and what sets the cells of the sequence.
 
 ghost use Rattle.std.specs.Prelude.{◌≡◌};
-ghost use Rattle.rb_broker.specs.Placing.{PlacesEntry};
+ghost use Rattle.rb_sequence.specs.Cells.{IsReadyFor};
+ghost use Rattle.rb_broker.specs.Placing.{ClosesBoth, PlacesEntry, RefusesPlace};
 
 use crate::hall::Hall;
 use crate::refusal::{PlaceRefusal, RefusedItem};
 use rb_desk::{Desk, DeskRefusal};
-use rb_sequence::{Entry, FillError, Sequence, Told};
-use std::alloc::Global;
+use rb_sequence::{Entry, Filler, Ready, Sequence, Told, ToldLast};
 use std::marker::PhantomData;
-use std::sync::Wait;
 
-/// The desk of a broker. Its capacity is that of the broker's sequence.
+/// The desk of a broker, and the filler of its sequence. The desk's capacity is the sequence's.
 #[derive(Drop)]
 pub(crate) struct Locked<L: Hall> {
     pub(crate) desk: Desk,
+    pub(crate) filler: Filler,
     pub(crate) of: PhantomData<L>,
     ghost fits: { desk.limits.capacity ≡ L.cells.capacity },
+    ghost fills: { filler ≡ L.cells },
 }
 
 impl<L: Hall> Locked<L> {
-    /// Sets the cell of the entry's number, and places that number.
-    pub(crate) fn place<R: Wait>(
-        &mut self,
-        rt: &R,
-        alloc: Global,
-        sequence: &Sequence,
-        entry: Entry,
-    ) -> Result<Told, RefusedItem>
-        requires { sequence.now ≡ L.cells }
-        ensures { PlacesEntry result L.cells entry self.old.desk self.new.desk }
+    /// Sets the cell of the entry's number, and places that number. Does not allocate.
+    pub(crate) fn place(&mut self, ready: Ready) -> Result<Told, RefusedItem>
+        requires { IsReadyFor L.cells ready }
+        ensures { PlacesEntry result L.cells ready.entry self.old.desk self.new.desk }
     {
-        let number = entry.number();
+        let number = ready.number();
         match self.desk.prepare() {
-            Err(DeskRefusal::Closed) => Err(refused(PlaceRefusal::Closed, entry)),
-            Err(_) => Err(refused(PlaceRefusal::SequenceFull, entry)),
-            Ok(next) if next != number => Err(refused(PlaceRefusal::Occupied, entry)),
-            Ok(_) => match sequence.fill(rt, alloc, entry) {
+            Err(DeskRefusal::Closed) => Err(refused(PlaceRefusal::Closed, ready.into_entry())),
+            Err(_) => Err(refused(PlaceRefusal::SequenceFull, ready.into_entry())),
+            Ok(next) if next != number => {
+                Err(refused(PlaceRefusal::Occupied, ready.into_entry()))
+            }
+            Ok(_) => match self.filler.fill(ready) {
                 Ok(told) => {
                     self.desk.place();
                     Ok(told)
                 }
-                Err(FillError::Memory(entry)) => Err(refused(PlaceRefusal::Memory, entry)),
-                Err(FillError::Occupied(entry)) => Err(refused(PlaceRefusal::Occupied, entry)),
+                Err(entry) => Err(refused(PlaceRefusal::Occupied, entry)),
             },
         }
     }
+
+    /// Why a number without a cell isn't placed.
+    pub(crate) fn refuses(&self) -> PlaceRefusal
+        ensures { RefusesPlace self.now.desk result }
+    {
+        match self.desk.prepare() {
+            Err(DeskRefusal::Closed) => PlaceRefusal::Closed,
+            Err(_) => PlaceRefusal::SequenceFull,
+            Ok(_) => PlaceRefusal::Occupied,
+        }
+    }
+
+    /// Sets the closing cell and closes the desk, unless the closing cell is set.
+    pub(crate) fn close(&mut self, sequence: &Sequence) -> Option<ToldLast>
+        requires { sequence.now ≡ L.cells }
+        ensures { ClosesBoth result L.cells self.old.desk self.new.desk }
+    {
+        if let Some(told) = sequence.closing() {
+            return Some(told);
+        }
+        let last = self.desk.close();
+        self.filler.fill_closing(last).ok()
+    }
 }
 
-// the item of an entry that isn't placed, and why
-fn refused(why: PlaceRefusal, entry: Entry) -> RefusedItem
+/// The item of an entry that isn't placed, and why.
+pub(crate) fn refused(why: PlaceRefusal, entry: Entry) -> RefusedItem
     ensures { result ≡ record { why = why; item = entry.item } }
 {
     RefusedItem {

@@ -5,7 +5,7 @@ ghost use Rattle.std.specs.Prelude.{◌≡◌, IfOk};
 use cs_model::Schema;
 use rb_desk::{Config, Desk};
 use rb_intake::{Intake, MakerPass, SequencerPass};
-use rb_sequence::Sequence;
+use rb_sequence::{Filler, Preparer, Sequence};
 use std::alloc::{AllocError, Global};
 use std::marker::Model;
 use std::sync::Arc;
@@ -18,6 +18,8 @@ pub struct Opened {
     pub(crate) config: Config,
     pub(crate) schema: Arc<Schema>,
     pub(crate) sequence: Sequence,
+    pub(crate) preparer: Preparer,
+    pub(crate) filler: Filler,
     pub(crate) intake: Intake,
     pub(crate) sequencer: SequencerPass,
     pub(crate) maker: MakerPass,
@@ -44,7 +46,8 @@ impl Model for Opened {
     ghost invariant = { λ o. (o.sequencer
         ≡ record { queue = o.intake.queue; pulled = []; ended = [] })
         × (o.maker ≡ record { queue = o.intake.queue; made = 0 })
-        × (o.desk ≡ empty_picture o.config) × (o.sequence.capacity ≡ o.config.capacity) };
+        × (o.desk ≡ empty_picture o.config) × (o.sequence.capacity ≡ o.config.capacity)
+        × (o.preparer ≡ o.sequence) × (o.filler ≡ o.sequence) };
 }
 
 impl Opened {
@@ -55,12 +58,14 @@ impl Opened {
         ensures schema { IfOk result (λ o. o.schema ≡ schema) }
     {
         let schema = Arc::new(alloc, schema)?;
-        let sequence = Sequence::new(alloc, config.capacity())?;
+        let (sequence, preparer, filler) = Sequence::new(alloc, config.capacity())?;
         let (intake, sequencer, maker) = Intake::new(alloc, config.intake() as usize)?;
         Ok(Opened {
             config,
             schema,
             sequence,
+            preparer,
+            filler,
             intake,
             sequencer,
             maker,

@@ -139,9 +139,13 @@ abbrev pub settled_lane : Lane → ℕ → Lane
 settled_lane kept first =
     raised_lane kept (risen kept.floor (restated first Settled kept.cutting kept.held))
 
--- a batch has 1 to 256 numbers, and at most 1,048,576 are placed
+-- the most numbers that can be placed
+abbrev pub most_numbers : ℕ
+most_numbers = 16777216
+
+-- a batch has 1 to 256 numbers, and at most `most_numbers` are placed
 abbrev pub AreLimited : ℕ → ℕ → Type 0
-AreLimited batch front = (1 ≤ batch) × (batch ≤ 256) × (front ≤ 1048576)
+AreLimited batch front = (1 ≤ batch) × (batch ≤ 256) × (front ≤ most_numbers)
 
 -- a span has at least one number, and a number after its last one exists
 abbrev pub HasNumbers : Span → Type 0

@@ -7,7 +7,8 @@ ghost use Rattle.std.specs.Option.{option_copied, option_map};
 ghost use Rattle.rb_deliveries.specs.declared.sub.Sub.{Sub};
 ghost use Rattle.rb_deliveries.specs.Expiry.{all_due, expired_sub, by_number, turns_from};
 ghost use Rattle.rb_deliveries.specs.KeptSubs.{with_sub};
-ghost use Rattle.rb_deliveries.specs.Lanes.{AreJoined, AreLimited, HasNumbers, settled_lane};
+ghost use Rattle.rb_deliveries.specs.Lanes.{AreJoined, AreLimited, HasNumbers, most_numbers};
+ghost use Rattle.rb_deliveries.specs.Lanes.{settled_lane};
 ghost use Rattle.rb_deliveries.specs.Subs.{AreGiven, Belongs, IsJoinedAt, new_sub, delivered_sub};
 ghost use Rattle.rb_deliveries.specs.Subs.{returned_sub, settled_sub, reconnected_sub, closed_sub};
 ghost use Rattle.rb_deliveries.specs.Subs.{first_to_deliver, span_to_deliver};
@@ -82,7 +83,7 @@ impl Deliveries {
         link: u64,
         ticket: Ticket,
     ) -> Result<(), AllocError>
-        requires { start ≤ 1048576 }
+        requires { start ≤ most_numbers }
         ensures ok { OnOk result (self.new ≡ record {
           window = self.old.window;
           subs = self.old.subs ++ new_sub start link ticket ∷ [];
@@ -165,7 +166,7 @@ impl Deliveries {
     /// this ticket.
     pub fn reconnect(&mut self, alloc: Global, s: u64, cursor: u64, link: u64, ticket: Ticket)
         requires there { s < length self.old.subs }
-        requires cursor { cursor ≤ 1048576 }
+        requires cursor { cursor ≤ most_numbers }
         ensures { (sub : Sub) → slice_get self.old.subs s ≡ Some sub
             → self.new ≡ with_sub self.old s (reconnected_sub sub cursor link ticket) }
     {
@@ -230,7 +231,7 @@ impl Deliveries {
     /// after `latest`, in the order of their deliveries' numbers, which are below `next`.
     pub fn expire(&mut self, timeout: u64, clock: u64, latest: Ticket, next: u64) -> u64
         requires belong { AllByRecursion (Belongs latest.front latest.turn next) self.old.subs }
-        requires few { (latest.front ≤ 1048576) × (length self.old.subs ≤ 1024) }
+        requires few { (latest.front ≤ most_numbers) × (length self.old.subs ≤ 1024) }
         requires turns { latest.turn + next < 18446744073709551616 }
         ensures many { result ≡ all_due timeout clock self.old.subs }
         ensures kept { self.new ≡ record {

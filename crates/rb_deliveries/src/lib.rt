@@ -14,5 +14,5 @@ mod tournament;
 
 pub use deliveries::Deliveries;
 pub use span::{Span, Status};
-pub use sub::Sub;
+pub use sub::{MOST_NUMBERS, Sub};
 pub use ticket::Ticket;

@@ -2,13 +2,16 @@
 
 ghost use Rattle.std.specs.Prelude.{◌≡◌, ◌≤◌, OnSome, OnOk, OnErr};
 ghost use Rattle.rb_deliveries.specs.Lanes.{AreJoined, AreLimited, HasNumbers, is_none_left};
-ghost use Rattle.rb_deliveries.specs.Lanes.{lane_spans, settled_lane, spans_of};
+ghost use Rattle.rb_deliveries.specs.Lanes.{lane_spans, most_numbers, settled_lane, spans_of};
 ghost use Rattle.rb_deliveries.specs.Spans.{first_ready, how_many_out};
 
 use crate::lane::Lane;
 use crate::span::Span;
 use crate::ticket::Ticket;
 use std::alloc::{AllocError, Global};
+
+/// The most numbers that can be placed.
+pub const MOST_NUMBERS: u64 = 16_777_216;
 
 /// A subscription: the number after which it began, the greatest number delivered, its current
 /// link, whether it is closed, and its spans.
@@ -31,7 +34,7 @@ impl Sub {
     /// A subscription after this number, under this link. The numbers after it are cut with this
     /// ticket.
     pub(crate) fn behind(alloc: Global, start: u64, link: u64, ticket: Ticket) -> Sub
-        requires { start ≤ 1048576 }
+        requires { start ≤ most_numbers }
         ensures { result ≡ new_sub start link ticket }
     {
         Sub {
@@ -159,7 +162,7 @@ impl Sub {
 
     /// Continues after this number, under this link. The numbers after it are cut with this ticket.
     pub(crate) fn reconnect(&mut self, alloc: Global, cursor: u64, link: u64, ticket: Ticket)
-        requires { cursor ≤ 1048576 }
+        requires { cursor ≤ most_numbers }
         ensures { self.new ≡ reconnected_sub self.old cursor link ticket }
     {
         self.link = link;

@@ -1,6 +1,7 @@
 -- The limits of a broker, and their ranges.
 use Rattle.std.specs.Prelude.{ℕ, Bool, ◌&&◌, not, nat_le, Option, Some, None, if◌then◌else◌, refl}
 use Rattle.std.specs.Coded.{Coded, code_by, coded×, coded_ℕ}
+use Rattle.rb_deliveries.specs.Lanes.{most_numbers}
 use Rattle.rb_desk.specs.declared.config.ConfigFault.{ConfigFault}
 use Rattle.rb_desk.specs.declared.config.ConfigFault.TheVariants.{Batch, Window, Timeout, Capacity}
 use Rattle.rb_desk.specs.declared.config.ConfigFault.TheVariants.{Intake, Appliers}
@@ -46,7 +47,7 @@ first_out_of_range batch window timeout capacity intake appliers =
     if not (is_in_range 256 batch) then Some Batch
     else if not (is_in_range 64 window) then Some Window
     else if not (is_in_range 1000000000 timeout) then Some Timeout
-    else if not (is_in_range 1048576 capacity) then Some Capacity
+    else if not (is_in_range most_numbers capacity) then Some Capacity
     else if not (is_in_range 4096 intake) then Some Intake
     else if not (is_in_range 16 appliers) then Some Appliers
     else None

@@ -4,7 +4,7 @@ use Rattle.std.specs.Prelude.{Option, Some, Result, Ok, Err, slice_get, slice_se
 use Rattle.rb_deliveries.specs.declared.span.Span.{Span}
 use Rattle.rb_deliveries.specs.declared.sub.Sub.{Sub}
 use Rattle.rb_deliveries.specs.Spans.{first_ready, how_many_out}
-use Rattle.rb_deliveries.specs.Lanes.{AreJoined, lane_spans, spans_of}
+use Rattle.rb_deliveries.specs.Lanes.{AreJoined, lane_spans, most_numbers, spans_of}
 use Rattle.rb_deliveries.specs.Orders.{order, ready_at, out_at}
 use Rattle.rb_deliveries.specs.Subs.{sub_held, delivered_sub}
 use Rattle.rb_desk.specs.declared.delivery.Delivery.{Delivery}
@@ -41,7 +41,7 @@ shown limits front closing clock next_link next_delivery subs = record {
 
 -- the limits are in their ranges, and the front within the capacity
 abbrev pub IsWithin : Limits → ℕ → Type 0
-IsWithin limits front = (1 ≤ limits.batch) × (limits.batch ≤ 256) × (limits.capacity ≤ 1048576)
+IsWithin limits front = (1 ≤ limits.batch) × (limits.batch ≤ 256) × (limits.capacity ≤ most_numbers)
     × (front ≤ limits.capacity)
 
 -- The subscription `found`, with number s, is delivered a span, as delivery `number`, at tick

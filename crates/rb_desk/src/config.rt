@@ -3,6 +3,7 @@
 ghost use Rattle.std.specs.Prelude.{◌≡◌, ◌≤◌, IfOk, IfErr, Ok, Err, None, Some};
 ghost use Rattle.rb_desk.specs.Limits.{is_in_range, first_out_of_range};
 
+use rb_deliveries::MOST_NUMBERS;
 use std::marker::Model;
 use thiserror::Error;
 
@@ -26,7 +27,7 @@ pub enum ConfigFault {
     Window,
     #[error("timeout is 1 to 1000000000")]
     Timeout,
-    #[error("capacity is 1 to 1048576")]
+    #[error("capacity is 1 to 16777216")]
     Capacity,
     #[error("intake is 1 to 4096")]
     Intake,
@@ -152,7 +153,7 @@ impl Config {
         self.timeout
     }
 
-    /// The most entries of the sequence, 1 to 1,048,576.
+    /// The most entries of the sequence, 1 to 16,777,216.
     pub fn capacity(&self) -> u64
         ensures { result ≡ self.now.capacity }
     {
@@ -191,7 +192,7 @@ fn first_fault(
         Some(ConfigFault::Window)
     } else if !within(timeout, 1_000_000_000) {
         Some(ConfigFault::Timeout)
-    } else if !within(capacity, 1_048_576) {
+    } else if !within(capacity, MOST_NUMBERS) {
         Some(ConfigFault::Capacity)
     } else if !within(intake, 4_096) {
         Some(ConfigFault::Intake)

@@ -43,8 +43,8 @@ message text = codes "rb_run: " ++ (text ++ codes "\n")
 
 -- What is said of an ending is appended to the known bytes. Texts that no contract knows are left
 -- out: those of faults, of a refused line, and of the parser of command lines.
-abbrev pub IsTold : Ending → Option (List ℕ) → Option (List ℕ) → Type 0
-IsTold Done old new = Keeps old new
-IsTold (OutOfRange fault) old new = Appends old new (message (range_text fault))
-IsTold NotText old new = Appends old new (message (codes "an argument isn't UTF-8"))
-IsTold ending old new = Unit {0}
+abbrev pub IsReported : Ending → Option (List ℕ) → Option (List ℕ) → Type 0
+IsReported Done old new = Keeps old new
+IsReported (OutOfRange fault) old new = Appends old new (message (range_text fault))
+IsReported NotText old new = Appends old new (message (codes "an argument isn't UTF-8"))
+IsReported ending old new = Unit {0}

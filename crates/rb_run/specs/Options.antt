@@ -49,7 +49,7 @@ abbrev pub range_text : ConfigFault → List ℕ
 range_text Batch = codes "--batch takes a number from 1 to 256"
 range_text Window = codes "--window takes a number from 1 to 64"
 range_text Timeout = codes "--timeout takes a number from 1 to 1000000000"
-range_text Capacity = codes "--capacity takes a number from 1 to 1048576"
+range_text Capacity = codes "--capacity takes a number from 1 to 16777216"
 range_text Intake = codes "--intake takes a number from 1 to 4096"
 range_text Appliers = codes "--appliers takes a number from 1 to 16"
 

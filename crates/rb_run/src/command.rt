@@ -112,7 +112,7 @@ fn script<'a>(alloc: Global) -> Result<Command<'a>, AllocError>
         alloc,
         "capacity",
         "65536",
-        "The most entries of the sequence, 1 to 1048576",
+        "The most entries of the sequence, 1 to 16777216",
     );
     let intake = limit(
         alloc,

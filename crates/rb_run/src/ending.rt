@@ -4,7 +4,7 @@ ghost use Rattle.std.specs.Prelude.{◌≡◌, codes, IfSome, OnOk};
 ghost use Rattle.std.specs.Io.KnownBytes.{Appends};
 ghost use Rattle.std.specs.IoError.{error_kind};
 ghost use Rattle.std.specs.Process.{exit_status};
-ghost use Rattle.rb_run.specs.Endings.{IsTold, ending_of, ending_of_show, ending_of_words};
+ghost use Rattle.rb_run.specs.Endings.{IsReported, ending_of, ending_of_show, ending_of_words};
 ghost use Rattle.rb_run.specs.Endings.{message, status_of};
 
 use crate::options::range;
@@ -90,7 +90,7 @@ impl Ending {
     /// Says on `errors` why it ends so: a line that begins with the program's name, or what the
     /// parser of command lines says. Says nothing if the request is done.
     pub fn tell<E: Write>(&self, errors: &mut E) -> io::Result<()>
-        ensures { OnOk result (IsTold self.now (E.contents errors.old) (E.contents errors.new)) }
+        ensures { OnOk result (IsReported self.now (E.contents errors.old) (E.contents errors.new)) }
     {
         match self {
             Ending::Done => Ok(()),

@@ -110,7 +110,7 @@ pub fn range(fault: ConfigFault) -> &'static str
         ConfigFault::Batch => "--batch takes a number from 1 to 256",
         ConfigFault::Window => "--window takes a number from 1 to 64",
         ConfigFault::Timeout => "--timeout takes a number from 1 to 1000000000",
-        ConfigFault::Capacity => "--capacity takes a number from 1 to 1048576",
+        ConfigFault::Capacity => "--capacity takes a number from 1 to 16777216",
         ConfigFault::Intake => "--intake takes a number from 1 to 4096",
         ConfigFault::Appliers => "--appliers takes a number from 1 to 16",
     }

@@ -1,25 +1,25 @@
 -- The cells of a sequence, and the tokens that show what is in one.
-use Rattle.std.specs.Prelude.{◌≡◌, ℕ, ◌≤◌, refl}
-use Rattle.std.specs.Coded.{Coded, code_by, coded×, coded_ℕ}
-use Rattle.boxcar.specs.Table.{Shelves, shelves_coded, id_at}
+use Rattle.std.specs.Prelude.{◌≡◌, ℕ, suc, ◌≤◌, List, [], ◌∷◌, refl}
+use Rattle.std.specs.Coded.{Coded, code_by, coded×, coded_ℕ, coded_list}
+use Rattle.boxcar.specs.Slot.{Named, named_coded}
 use Rattle.rb_sequence.specs.Entry.{Entry, entry_code}
-use Rattle.rb_sequence.specs.declared.sequence.FillError.{FillError}
-use Rattle.rb_sequence.specs.declared.sequence.FillError.TheVariants.{Memory, Occupied}
+use Rattle.rb_sequence.specs.Segments.{IsLocated, id_at}
+use Rattle.rb_sequence.specs.declared.cells.ReadyError.{ReadyError}
+use Rattle.rb_sequence.specs.declared.cells.ReadyError.TheVariants.{Memory, Occupied}
 
--- A sequence: its capacity, the shelves on which its cells stand, and its closing cell. What is in
--- the cells isn't part of it: that is shown by tokens.
+-- A sequence: its capacity, the slots of its segments, and its closing cell. What is in the cells
+-- isn't part of it: that is shown by tokens.
 pub record Cells : Type 0 where
   pub capacity : ℕ
-  pub shelves : Shelves
+  pub segments : List Named
   pub closing : ℕ
 
--- What a token shows for good: the cell of this number holds this entry. The cell is named by its
--- bucket, the name of the bucket's shelf, and its own name.
+-- What a token shows for good: the cell of this number holds this entry. The cell is named by the
+-- slot of its segment, and by its own name.
 pub record CellToken : Type 0 where
   pub number : ℕ
   pub entry : Entry
-  pub bucket : ℕ
-  pub shelf : ℕ
+  pub segment : ℕ
   pub cell : ℕ
 
 -- What a token of a closing cell shows for good: the sequence is closed after this number.
@@ -27,43 +27,66 @@ pub record LastToken : Type 0 where
   pub last : ℕ
   pub cell : ℕ
 
--- the token is of a cell of this sequence
-abbrev pub IsTokenOf : Cells → CellToken → Type 0
-IsTokenOf s t = t.shelf ≡ id_at s.shelves.buckets t.bucket
-
--- the token is of this sequence's closing cell
-abbrev pub IsLastToken : Cells → LastToken → Type 0
-IsLastToken s t = t.cell ≡ s.closing
+-- An entry that is ready for its cell, with the slot of the cell's segment.
+pub record ReadyEntry : Type 0 where
+  pub entry : Entry
+  pub segment : ℕ
 
 -- a sequence has a cell for this number
 abbrev pub HasCell : Cells → ℕ → Type 0
 HasCell s n = (1 ≤ n) × (n ≤ s.capacity)
 
--- the value comes back
-abbrev pub HandsBack : {T : Type 0} → T → FillError T → Type 0
-HandsBack x (Memory y) = y ≡ x
-HandsBack x (Occupied y) = y ≡ x
+-- the slot is that of the segment with the cell of this number
+abbrev pub IsSegmentOf : Cells → ℕ → ℕ → Type 0
+IsSegmentOf s n slot = (k j : ℕ) → IsLocated n k j → slot ≡ id_at s.segments k
+
+-- the token is of a cell of this sequence, and its entry has the cell's number
+pub record IsTokenOf (s : Cells) (t : CellToken) : Type 0 where
+  pub has : HasCell s t.number
+  pub numbered : t.entry.number ≡ t.number
+  pub segment : IsSegmentOf s t.number t.segment
+
+-- two tokens of one number, whose segments are one
+abbrev pub AreOfOneCell : CellToken → CellToken → Type 0
+AreOfOneCell t u = (t.number ≡ u.number) × (t.segment ≡ u.segment)
+
+-- the token is of this sequence's closing cell
+abbrev pub IsLastToken : Cells → LastToken → Type 0
+IsLastToken s t = t.cell ≡ s.closing
+
+-- the entry is ready for a cell of this sequence
+abbrev pub IsReadyFor : Cells → ReadyEntry → Type 0
+IsReadyFor s r = HasCell s r.entry.number × IsSegmentOf s r.entry.number r.segment
+
+-- each token is of this sequence, and shows the entry of the next number, from n
+abbrev pub AreInCells : Cells → ℕ → List CellToken → Type 0
+AreInCells cells n [] = Unit {0}
+AreInCells cells n (t ∷ rest) = IsTokenOf cells t × (t.number ≡ n) × AreInCells cells (suc n) rest
+
+-- the entry comes back
+abbrev pub HandsBack : Entry → ReadyError → Type 0
+HandsBack entry (Memory back) = back ≡ entry
+HandsBack entry (Occupied back) = back ≡ entry
 
 -- sequences and tokens are stored as their parts
 abbrev pub cells_code : Coded Cells
-cells_code = code_by (ℕ × (Shelves × ℕ)) (coded× coded_ℕ (coded× shelves_coded coded_ℕ))
-    (λ s. (s.capacity, (s.shelves, s.closing)))
-    (λ p. record { capacity = p.0; shelves = p.1.0; closing = p.1.1 })
+cells_code = code_by (ℕ × (List Named × ℕ))
+    (coded× coded_ℕ (coded× (coded_list named_coded) coded_ℕ))
+    (λ s. (s.capacity, (s.segments, s.closing)))
+    (λ p. record { capacity = p.0; segments = p.1.0; closing = p.1.1 })
     (λ _. refl)
 
 abbrev pub token_code : Coded CellToken
-token_code = code_by (ℕ × (Entry × (ℕ × (ℕ × ℕ))))
-    (coded× coded_ℕ (coded× entry_code (coded× coded_ℕ (coded× coded_ℕ coded_ℕ))))
-    (λ t. (t.number, (t.entry, (t.bucket, (t.shelf, t.cell)))))
-    (λ p. record {
-      number = p.0;
-      entry = p.1.0;
-      bucket = p.1.1.0;
-      shelf = p.1.1.1.0;
-      cell = p.1.1.1.1;
-    })
+token_code = code_by (ℕ × (Entry × (ℕ × ℕ)))
+    (coded× coded_ℕ (coded× entry_code (coded× coded_ℕ coded_ℕ)))
+    (λ t. (t.number, (t.entry, (t.segment, t.cell))))
+    (λ p. record { number = p.0; entry = p.1.0; segment = p.1.1.0; cell = p.1.1.1 })
     (λ _. refl)
 
 abbrev pub last_token_code : Coded LastToken
 last_token_code = code_by (ℕ × ℕ) (coded× coded_ℕ coded_ℕ) (λ t. (t.last, t.cell))
     (λ p. record { last = p.0; cell = p.1 }) (λ _. refl)
+
+abbrev pub ready_code : Coded ReadyEntry
+ready_code = code_by (Entry × ℕ) (coded× entry_code coded_ℕ) (λ r. (r.entry, r.segment))
+    (λ p. record { entry = p.0; segment = p.1 }) (λ _. refl)

@@ -1,3 +1,4 @@
+pub mod Segments
 pub mod Entry
 pub mod Items
 pub mod Cells

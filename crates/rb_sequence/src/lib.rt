@@ -3,12 +3,19 @@
 //! shows, is what `get_told` returns, on any thread and without waiting.
 #![tactic(auto)]
 
+mod cells;
 mod entry;
 mod item;
+pub mod laws;
+mod ready;
+mod segment;
 mod sequence;
 mod told;
 
+pub use cells::ReadyError;
 pub use entry::Entry;
 pub use item::Item;
-pub use sequence::{FillError, Sequence};
-pub use told::{HoldsAny, HoldsItsNumber, Told, ToldLast};
+pub use ready::Ready;
+pub use segment::{Cell, HoldsAny, HoldsItsCells, HoldsItsNumber};
+pub use sequence::{Filler, MOST_ENTRIES, Preparer, Sequence};
+pub use told::{Told, ToldLast};

@@ -1,116 +1,115 @@
-//! `Sequence`: write-once cells, one for each number, which any thread reads without waiting.
+//! `Sequence`, which anyone reads, and the two values that its owner keeps: `Preparer` allocates
+//! what an entry needs, and `Filler` sets cells.
 
-ghost use Rattle.std.specs.Prelude.{◌≡◌, ◌≤◌, IfOk, IfErr, IfSome};
-ghost use Rattle.rb_sequence.specs.Cells.{HandsBack, HasCell, IsTokenOf, IsLastToken};
+ghost use Rattle.std.specs.Prelude.{◌≡◌, ◌≤◌, IfErr, IfOk, IfSome};
+ghost use Rattle.rb_sequence.specs.Cells.{HandsBack, HasCell, IsLastToken, IsReadyFor, IsTokenOf};
 
+use crate::cells::{Cells, ReadyError};
 use crate::entry::Entry;
-use crate::told::{HoldsAny, HoldsItsNumber, Told, ToldLast};
-use boxcar::slot::OnceSlot;
-use boxcar::table::Table;
-use boxcar::tag::Tag;
+use crate::ready::Ready;
+use crate::told::{Told, ToldLast};
 use std::alloc::{AllocError, Global};
 use std::marker::Model;
-use std::sync::Wait;
+use std::sync::Arc;
+
+/// The most entries that a sequence can hold.
+pub const MOST_ENTRIES: u64 = 16_777_216;
 
 /// A sequence of entries: a cell for each number from 1 to the capacity, and a closing cell. A cell
-/// is set once, and shows its entry from then on. The memory for cells is taken as they are set.
+/// is set once, and shows its entry from then on. Cells stand in segments of 65,536; a segment is
+/// made when its first entry is made ready.
+///
+/// Any thread reads it, and none waits. Only the `Preparer` and the `Filler` that were made with it
+/// change it.
 #[derive(Drop)]
 pub struct Sequence {
-    capacity: u64,
-    cells: Table<Box<Entry>, HoldsItsNumber, Global>,
-    closing: OnceSlot<u64, HoldsAny>,
+    cells: Arc<Cells>,
 }
 
 impl Model for Sequence {
+    ghost use Rattle.std.specs.Arc.{arc_value};
     ghost use Rattle.rb_sequence.specs.Cells.{Cells, cells_code};
 
     ghost Value = { Cells };
 
     ghost coded = { cells_code };
 
-    ghost view = { λ s. record {
-      capacity = s.capacity;
-      shelves = s.cells;
-      closing = s.closing.id;
-    } };
+    ghost view = { λ s. arc_value s.cells };
 }
 
-/// Why a cell isn't set. It hands the value back.
-#[derive(Debug, Drop)]
-pub enum FillError<T> {
-    /// Memory ran out.
-    Memory(T),
-    /// The cell holds a value, or another thread sets it.
-    Occupied(T),
+/// Makes entries ready for the cells of one sequence. `Sequence::new` makes it, and nothing else
+/// does.
+#[derive(Drop)]
+pub struct Preparer {
+    cells: Arc<Cells>,
+}
+
+impl Model for Preparer {
+    ghost use Rattle.std.specs.Arc.{arc_value};
+    ghost use Rattle.rb_sequence.specs.Cells.{Cells, cells_code};
+
+    ghost Value = { Cells };
+
+    ghost coded = { cells_code };
+
+    ghost view = { λ s. arc_value s.cells };
+}
+
+/// Sets the cells of one sequence. `Sequence::new` makes it, and nothing else does.
+#[derive(Drop)]
+pub struct Filler {
+    cells: Arc<Cells>,
+}
+
+impl Model for Filler {
+    ghost use Rattle.std.specs.Arc.{arc_value};
+    ghost use Rattle.rb_sequence.specs.Cells.{Cells, cells_code};
+
+    ghost Value = { Cells };
+
+    ghost coded = { cells_code };
+
+    ghost view = { λ s. arc_value s.cells };
 }
 
 impl Sequence {
-    /// A sequence with empty cells. Returns `AllocError` if memory runs out.
-    pub fn new(alloc: Global, capacity: u64) -> Result<Sequence, AllocError>
-        ensures { IfOk result (λ s. s.capacity ≡ capacity) }
+    /// A sequence with empty cells, what makes entries ready for them, and what sets them. Returns
+    /// `AllocError` if memory runs out.
+    pub fn new(alloc: Global, capacity: u64) -> Result<(Sequence, Preparer, Filler), AllocError>
+        requires { capacity ≤ 16777216 }
+        ensures capacity { IfOk result (λ made. made.0.capacity ≡ capacity) }
+        ensures preparer { IfOk result (λ made. made.1 ≡ made.0) }
+        ensures filler { IfOk result (λ made. made.2 ≡ made.0) }
     {
-        let tag = Tag::empty();
-        let closing = OnceSlot::new(&tag);
-        Ok(Sequence {
-            capacity,
-            cells: Table::new(alloc, tag)?,
-            closing,
-        })
+        let cells = Arc::new(alloc, Cells::new(alloc, capacity)?)?;
+        let prepares = Arc::try_clone(&cells)?;
+        let fills = Arc::try_clone(&cells)?;
+        Ok((
+            Sequence { cells },
+            Preparer { cells: prepares },
+            Filler { cells: fills },
+        ))
     }
 
     /// How many entries it can hold.
     pub fn capacity(&self) -> u64
         ensures { result ≡ self.now.capacity }
     {
-        self.capacity
-    }
-
-    /// Sets the cell of an entry's number. The token shows that it holds the entry.
-    ///
-    /// Returns `Memory`, or `Occupied` if the cell is set or another thread sets it; both hand the
-    /// entry back. Waits only for a thread that makes the memory for this cell.
-    pub fn fill<R: Wait>(
-        &self,
-        rt: &R,
-        alloc: Global,
-        entry: Entry,
-    ) -> Result<Told, FillError<Entry>>
-        requires { HasCell self.now entry.number }
-        ensures ok { IfOk result (λ told. IsTokenOf self.now told × (told.entry ≡ entry)
-            × (told.number ≡ entry.number)) }
-        ensures err { IfErr result (HandsBack entry) }
-    {
-        let number = entry.number();
-        let index = (number - 1) as usize;
-        let boxed = match Box::new(alloc, entry) {
-            Ok(boxed) => boxed,
-            Err(failed) => return Err(FillError::Memory(failed.value)),
-        };
-        if self.cells.reserve_at(index).is_err() {
-            return Err(FillError::Memory(Box::into_inner(boxed)));
-        }
-        match self.cells.set_placed(rt, index, boxed) {
-            Ok(placed) => Ok(Told { number, placed }),
-            Err(boxed) => Err(FillError::Occupied(Box::into_inner(boxed))),
-        }
+        self.cells.capacity()
     }
 
     /// The entry with this number, if its cell is set.
     pub fn get(&self, number: u64) -> Option<&Entry>
         ensures { IfSome result (λ entry. entry.now.number ≡ number) }
     {
-        let index = number.checked_sub(1)?;
-        Some(self.cells.get(index as usize)?.as_ref())
+        self.cells.get(number)
     }
 
     /// A token of the cell with this number, if it is set.
     pub fn tell(&self, number: u64) -> Option<Told>
         ensures { IfSome result (λ told. IsTokenOf self.now told × (told.number ≡ number)) }
     {
-        let index = number.checked_sub(1)?;
-        let placed = self.cells.witness(index as usize)?;
-        self.cells.value(&placed);
-        Some(Told { number, placed })
+        self.cells.tell(number)
     }
 
     /// The entry that a token shows.
@@ -118,36 +117,55 @@ impl Sequence {
         requires { IsTokenOf self.now told.now }
         ensures { result.now ≡ told.now.entry }
     {
-        self.cells.value(&told.placed).as_ref()
-    }
-
-    /// Two tokens of one number show one entry. Does nothing else.
-    pub fn same(&self, first: &Told, second: &Told)
-        requires first { IsTokenOf self.now first.now }
-        requires second { IsTokenOf self.now second.now }
-        requires number { first.now.number ≡ second.now.number }
-        ensures { first.now.entry ≡ second.now.entry }
-    {
-        self.cells.agrees(&first.placed, &second.placed);
-    }
-
-    /// Sets the closing cell. The token shows that the sequence is closed after this number.
-    ///
-    /// Returns the number if the cell is set, or another thread sets it.
-    pub fn fill_closing(&self, last: u64) -> Result<ToldLast, u64>
-        ensures ok { IfOk result (λ told. IsLastToken self.now told × (told.last ≡ last)) }
-        ensures err { IfErr result (λ number. number ≡ last) }
-    {
-        let written = self.closing.set_written(last)?;
-        Ok(ToldLast { last, written })
+        self.cells.get_told(told)
     }
 
     /// A token of the closing cell, if it is set.
     pub fn closing(&self) -> Option<ToldLast>
         ensures { IfSome result (λ told. IsLastToken self.now told) }
     {
-        let written = self.closing.witness()?;
-        let last = *self.closing.value(&written);
-        Some(ToldLast { last, written })
+        self.cells.closing()
+    }
+}
+
+impl Preparer {
+    /// Makes an entry ready for its cell: allocates the segment, if it isn't there, and a box for
+    /// the entry. Changes nothing that a reader sees.
+    ///
+    /// Returns `Memory` if memory runs out, and `Occupied` if another thread makes the segment at
+    /// this moment. Both hand the entry back.
+    pub fn ready(&self, alloc: Global, entry: Entry) -> Result<Ready, ReadyError>
+        requires { HasCell self.now entry.number }
+        ensures ok { IfOk result (λ ready. IsReadyFor self.now ready × (ready.entry ≡ entry)) }
+        ensures err { IfErr result (HandsBack entry) }
+    {
+        self.cells.ready(alloc, entry)
+    }
+}
+
+impl Filler {
+    /// Sets the cell of an entry that is ready for it. The token shows that the cell holds the
+    /// entry. Does not allocate or wait.
+    ///
+    /// Hands the entry back if the cell is set.
+    pub fn fill(&mut self, ready: Ready) -> Result<Told, Entry>
+        requires { IsReadyFor self.old ready }
+        ensures ok { IfOk result (λ told. IsTokenOf self.old told × (told.entry ≡ ready.entry)) }
+        ensures err { IfErr result (λ entry. entry ≡ ready.entry) }
+        ensures same { self.new ≡ self.old }
+    {
+        self.cells.fill(ready)
+    }
+
+    /// Sets the closing cell. The token shows that the sequence is closed after this number. Does
+    /// not allocate or wait.
+    ///
+    /// Returns the number if the cell is set.
+    pub fn fill_closing(&mut self, last: u64) -> Result<ToldLast, u64>
+        ensures ok { IfOk result (λ told. IsLastToken self.old told × (told.last ≡ last)) }
+        ensures err { IfErr result (λ number. number ≡ last) }
+        ensures same { self.new ≡ self.old }
+    {
+        self.cells.fill_closing(last)
     }
 }

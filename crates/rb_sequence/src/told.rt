@@ -1,43 +1,26 @@
 //! Tokens: what shows, for good, what a cell of a sequence holds.
 
 ghost use Rattle.std.specs.Prelude.{◌≡◌};
+ghost use Rattle.rb_sequence.specs.Cells.{AreOfOneCell};
 
 use crate::entry::Entry;
-use boxcar::slot::{SlotRule, Written};
-use boxcar::table::{Keeps, Placed};
-use std::alloc::Global;
+use crate::segment::{Cell, locate};
+use boxcar::slot::Written;
 use std::marker::Model;
 
-/// The rule of the cells: the cell of a number holds an entry with that number.
-#[derive(Debug)]
-pub struct HoldsItsNumber;
-
-impl Keeps<Box<Entry>> for HoldsItsNumber {
-    ghost use Rattle.std.specs.Prelude.{◌≡◌, suc};
-
-    ghost holds = { λ _ index entry. entry.value.number ≡ suc index };
-}
-
-/// The rule of the closing cell: it may hold any number.
-#[derive(Debug)]
-pub struct HoldsAny;
-
-impl SlotRule<u64> for HoldsAny {
-    ghost use Rattle.std.specs.Prelude.{⊤};
-
-    ghost holds = { λ _ _. ⊤ };
-}
-
-/// Shows that a cell holds an entry. Any thread may keep it, and it never becomes wrong.
+/// Shows that a cell holds an entry. Any thread may keep it, and it never becomes wrong. It takes
+/// the eight bytes of its number.
 #[derive(Drop)]
 pub struct Told {
     pub(crate) number: u64,
-    pub(crate) placed: Placed<Box<Entry>, HoldsItsNumber, Global>,
+    pub(crate) segment: Written<Vec<Cell>>,
+    pub(crate) cell: Written<Box<Entry>>,
 }
 
 impl Model for Told {
-    ghost use Rattle.std.specs.Prelude.{◌≡◌, suc};
+    ghost use Rattle.std.specs.Prelude.{◌≡◌, ◌≤◌, ℕ};
     ghost use Rattle.rb_sequence.specs.Cells.{CellToken, token_code};
+    ghost use Rattle.rb_sequence.specs.Segments.{IsLocated, id_at};
 
     ghost Value = { CellToken };
 
@@ -45,14 +28,13 @@ impl Model for Told {
 
     ghost view = { λ t. record {
       number = t.number;
-      entry = t.placed.value.value;
-      bucket = t.placed.bucket;
-      shelf = t.placed.row;
-      cell = t.placed.item;
+      entry = t.cell.value.value;
+      segment = t.segment.of;
+      cell = t.cell.of;
     } };
 
-    ghost invariant = { λ t. (t.number ≡ suc t.placed.index)
-        × (t.placed.value.value.number ≡ t.number) };
+    ghost invariant = { λ t. (1 ≤ t.number) × (t.cell.value.value.number ≡ t.number)
+        × ((k j : ℕ) → IsLocated t.number k j → t.cell.of ≡ id_at t.segment.value.items j) };
 }
 
 impl Told {
@@ -70,8 +52,19 @@ impl Told {
     {
         Told {
             number: self.number,
-            placed: self.placed.again(),
+            segment: self.segment.again(),
+            cell: self.cell.again(),
         }
+    }
+
+    /// Two tokens of one number of one sequence show one entry. Does nothing else.
+    pub fn same(&self, other: &Told)
+        requires { AreOfOneCell self.now other.now }
+        ensures { self.now.entry ≡ other.now.entry }
+    {
+        let _place = locate(self.number);
+        self.segment.agrees(&other.segment);
+        self.cell.agrees(&other.cell);
     }
 }
 

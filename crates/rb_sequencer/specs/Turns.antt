@@ -28,12 +28,6 @@ abbrev pub in_hand : Option Item → List Item
 in_hand None = []
 in_hand (Some item) = item ∷ []
 
--- each token is of this sequence, and shows the entry of the next number, from n
-abbrev pub AreInCells : Cells → ℕ → List CellToken → Type 0
-AreInCells cells n [] = Unit {0}
-AreInCells cells n (t ∷ rest) = IsTokenOf cells t × (t.number ≡ n) × (t.entry.number ≡ n)
-    × AreInCells cells (suc n) rest
-
 -- the token of the entry with this number, if it is placed
 abbrev pub token_of : List CellToken → ℕ → Option CellToken
 token_of tokens zero = None

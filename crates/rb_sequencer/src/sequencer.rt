@@ -3,9 +3,9 @@
 ghost use Rattle.std.specs.Prelude.{◌≡◌, ◌++◌, ◌∷◌, [], ℕ, suc, length, Some, None, IsSome};
 ghost use Rattle.std.specs.Option.{option_copied};
 ghost use Rattle.std.specs.List.{AllByRecursion};
-ghost use Rattle.rb_sequence.specs.Cells.{IsTokenOf};
+ghost use Rattle.rb_sequence.specs.Cells.{AreInCells, IsTokenOf};
 ghost use Rattle.rb_sequence.specs.Items.{CountsUp, own_of};
-ghost use Rattle.rb_sequencer.specs.Turns.{AreInCells, IsTurn, PlacesHand, FillsHand, in_hand};
+ghost use Rattle.rb_sequencer.specs.Turns.{IsTurn, PlacesHand, FillsHand, in_hand};
 ghost use Rattle.rb_sequencer.specs.Turns.{items_placed, token_of};
 
 use crate::turn::Turn;
@@ -28,7 +28,8 @@ pub struct Sequencer<L: Hall> {
 impl<L: Hall> Model for Sequencer<L> {
     ghost use Rattle.std.specs.Prelude.{◌≡◌, ◌++◌, ℕ};
     ghost use Rattle.rb_sequence.specs.Items.{CountsUp};
-    ghost use Rattle.rb_sequencer.specs.Turns.{AreInCells, SequencerState, in_hand, items_placed};
+    ghost use Rattle.rb_sequence.specs.Cells.{AreInCells};
+    ghost use Rattle.rb_sequencer.specs.Turns.{SequencerState, in_hand, items_placed};
     ghost use Rattle.rb_sequencer.specs.Turns.{sequencer_code};
 
     ghost Value = { SequencerState };
@@ -122,7 +123,7 @@ impl<L: Hall> Sequencer<L> {
         }
         let number = self.told.len() as u64 + 1;
         let item = self.hand.take().unwrap();
-        match broker.place_next(rt, alloc, item, number) {
+        match broker.place_next(rt, alloc, &mut self.pass, item, number) {
             Ok(told) => {
                 let shown = told.again();
                 self.told.push_reserved(told);

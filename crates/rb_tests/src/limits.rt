@@ -6,7 +6,7 @@ use rb_desk::{Config, ConfigFault};
 fn ranges_of_limits(rt: HostRuntime) {
     let table = [
         ([1, 1, 1, 1, 1, 1], None),
-        ([256, 64, 1_000_000_000, 1_048_576, 4_096, 16], None),
+        ([256, 64, 1_000_000_000, 16_777_216, 4_096, 16], None),
         ([0, 1, 1, 1, 1, 1], Some(ConfigFault::Batch)),
         ([257, 1, 1, 1, 1, 1], Some(ConfigFault::Batch)),
         ([1, 0, 1, 1, 1, 1], Some(ConfigFault::Window)),
@@ -14,7 +14,7 @@ fn ranges_of_limits(rt: HostRuntime) {
         ([1, 1, 0, 1, 1, 1], Some(ConfigFault::Timeout)),
         ([1, 1, 1_000_000_001, 1, 1, 1], Some(ConfigFault::Timeout)),
         ([1, 1, 1, 0, 1, 1], Some(ConfigFault::Capacity)),
-        ([1, 1, 1, 1_048_577, 1, 1], Some(ConfigFault::Capacity)),
+        ([1, 1, 1, 16_777_217, 1, 1], Some(ConfigFault::Capacity)),
         ([1, 1, 1, 1, 0, 1], Some(ConfigFault::Intake)),
         ([1, 1, 1, 1, 4_097, 1], Some(ConfigFault::Intake)),
         ([1, 1, 1, 1, 1, 0], Some(ConfigFault::Appliers)),

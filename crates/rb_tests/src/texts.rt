@@ -25,7 +25,7 @@ fn limits_say_their_range(rt: HostRuntime) -> Result<(), Fail> {
         (ConfigFault::Batch, "batch is 1 to 256"),
         (ConfigFault::Window, "window is 1 to 64"),
         (ConfigFault::Timeout, "timeout is 1 to 1000000000"),
-        (ConfigFault::Capacity, "capacity is 1 to 1048576"),
+        (ConfigFault::Capacity, "capacity is 1 to 16777216"),
         (ConfigFault::Intake, "intake is 1 to 4096"),
         (ConfigFault::Appliers, "appliers is 1 to 16"),
     ];

@@ -9,4 +9,8 @@ mod given;
 #[cfg(test)]
 mod rows;
 #[cfg(test)]
+mod segments;
+#[cfg(test)]
 mod threads;
+#[cfg(test)]
+mod tokens;

@@ -75,7 +75,10 @@ fn placed<L: Hall, R: Wait + Abort>(
     for _ in 0..2 {
         match sequencer.turn(rt, alloc, broker) {
             Turn::Placed(told) => return Some(told.number()),
-            Turn::Refused(PlaceRefusal::Memory) => assert!(rt; sequencer.hand().is_some()),
+            Turn::Refused(PlaceRefusal::Memory) => {
+                let next = sequencer.placed().wrapping_add(1);
+                assert!(rt; sequencer.hand().is_some() && broker.sequence().get(next).is_none());
+            }
             Turn::Idle | Turn::Refused(_) => return None,
         }
     }
@@ -83,7 +86,7 @@ fn placed<L: Hall, R: Wait + Abort>(
 }
 
 // sends what is fed, and places it
-fn put<L: Hall, R: Wait + Abort>(
+pub(crate) fn put<L: Hall, R: Wait + Abort>(
     rt: &R,
     alloc: Global,
     broker: &Broker<L>,
@@ -278,7 +281,8 @@ fn is_closed<L: Hall, R: Wait + Abort>(
     publisher: &mut Publisher<L>,
 ) -> Result<(), Fail> {
     let set = stage(alloc, publisher, &insert(1))?;
-    assert!(rt; broker.sequence().fill_closing(0).is_ok());
+    assert_eq!(rt; broker.close(rt).map(|told| told.last()), Some(0));
+    assert_eq!(rt; broker.close(rt).map(|told| told.last()), Some(0));
     let Err(SendRefusal::Closed(last, set)) = publisher.send(rt, broker, set) else {
         return Err(Fail::new("the sequence is closed"));
     };

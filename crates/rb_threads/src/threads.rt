@@ -38,8 +38,9 @@ fn eight_publishers_through_an_intake_of_one(rt: HostRuntime) -> Result<(), Fail
 
 #[test]
 fn eight_publishers_through_an_intake_of_64(rt: HostRuntime) -> Result<(), Fail> {
-    let opened = opened(rt.alloc(), 16_000, 64)?;
-    all_arrive::<Brand, _>(&rt, rt.alloc(), opened, 8, 2_000)
+    // a reader crosses the border of two segments while it is filled
+    let opened = opened(rt.alloc(), 68_000, 64)?;
+    all_arrive::<Brand, _>(&rt, rt.alloc(), opened, 8, 8_500)
 }
 
 // Each of `publishers` threads sends this often; all arrive, each publisher's in sending order.

@@ -288,12 +288,12 @@ due_at_most timeout clock (x ∷ held) = by (is_due timeout clock x.span.status)
 
 pub few_due : (timeout clock front turn number : ℕ) (subs : List Sub)
     → AllByRecursion (Belongs front turn number) subs → AllByRecursion (λ sub. AreJoined sub.lane) subs
-    → front ≤ 1048576 → all_due timeout clock subs ≤ 1048577 * length subs
+    → front ≤ 16777216 → all_due timeout clock subs ≤ 16777217 * length subs
 few_due timeout clock front turn number [] belong joined le = omega arith
 few_due timeout clock front turn number (sub ∷ subs) belong joined le =
     omega (arith, few_due timeout clock front turn number subs belong.1 joined.1 le, by sub.closed)
   where
-    by : (b : Bool) → (if b then 0 else due_held timeout clock sub.lane.held) ≤ 1048577
+    by : (b : Bool) → (if b then 0 else due_held timeout clock sub.lane.held) ≤ 16777217
     by true = omega arith
     by false = omega (
       arith,

@@ -1,0 +1,47 @@
+//! `Ready`: an entry with all the memory that its cell needs.
+
+ghost use Rattle.std.specs.Prelude.{◌≡◌};
+
+use crate::entry::Entry;
+use crate::segment::Cell;
+use boxcar::slot::Written;
+use std::marker::Model;
+
+/// An entry that is ready for its cell: its segment is made, and it has a box. Filling the cell
+/// allocates nothing more.
+#[derive(Drop)]
+pub struct Ready {
+    pub(crate) number: u64,
+    pub(crate) segment: Written<Vec<Cell>>,
+    pub(crate) entry: Box<Entry>,
+}
+
+impl Model for Ready {
+    ghost use Rattle.std.specs.Prelude.{◌≡◌, ◌≤◌};
+    ghost use Rattle.rb_sequence.specs.Cells.{ReadyEntry, ready_code};
+
+    ghost Value = { ReadyEntry };
+
+    ghost coded = { ready_code };
+
+    ghost view = { λ r. record { entry = r.entry.value; segment = r.segment.of } };
+
+    ghost invariant = { λ r. (1 ≤ r.number) × (r.entry.value.number ≡ r.number) };
+}
+
+impl Ready {
+    /// The number of its entry.
+    pub fn number(&self) -> u64
+        ensures { result ≡ self.now.entry.number }
+    {
+        self.number
+    }
+
+    /// The entry, without its box.
+    pub fn into_entry(self) -> Entry
+        ensures { result ≡ self.entry }
+    {
+        let Ready { entry, .. } = self;
+        Box::into_inner(entry)
+    }
+}
