@@ -1,7 +1,7 @@
 -- The command line: which words the program takes, what they ask for, and how the program ends that
 -- does this.
-use Rattle.std.specs.Prelude.{◌≡◌, ℕ, Bool, true, false, List, [], ◌∷◌, Option, Some, None, Result}
-use Rattle.std.specs.Prelude.{Ok, Err, codes, ◌⊎◌}
+use Rattle.std.specs.Prelude.{◌≡◌, ℕ, Bool, true, false, List, [], ◌∷◌, Option, Some, Result}
+use Rattle.std.specs.Prelude.{Ok, Err, codes}
 use Rattle.std.specs.Io.KnownBytes.{Keeps}
 use Rattle.clap.specs.Faults.{fault_of}
 use Rattle.clap.specs.Kinds.{Kinds, HasKind}
@@ -145,8 +145,3 @@ abbrev pub EndsAsAsked : List Text → Ending → Option (List ℕ) → Option (
     → Option (List ℕ) → Type 0
 EndsAsAsked words ending r0 r w0 w =
     (todo : Job) × AsksFor todo words × EndsFor todo ending r0 r w0 w
-
--- The same on streams whose bytes aren't known, as standard input and standard output; or memory
--- for a buffer ran out.
-abbrev pub EndsUnseen : List Text → Ending → Type 0
-EndsUnseen words ending = (ending ≡ Stopped Memory) ⊎ EndsAsAsked words ending None None None None

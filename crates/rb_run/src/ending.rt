@@ -90,7 +90,8 @@ impl Ending {
     /// Says on `errors` why it ends so: a line that begins with the program's name, or what the
     /// parser of command lines says. Says nothing if the request is done.
     pub fn tell<E: Write>(&self, errors: &mut E) -> io::Result<()>
-        ensures { OnOk result (IsReported self.now (E.contents errors.old) (E.contents errors.new)) }
+        ensures { OnOk result
+            (IsReported self.now (E.contents errors.old) (E.contents errors.new)) }
     {
         match self {
             Ending::Done => Ok(()),

@@ -11,14 +11,13 @@ mod ending;
 mod job;
 mod options;
 
-ghost use Rattle.std.specs.Prelude.{◌≡◌, map, string_bytes, MatchResult};
+ghost use Rattle.std.specs.Prelude.{◌≡◌, map, string_bytes, MatchResult, None};
 ghost use Rattle.std.specs.IoError.{error_kind};
 ghost use Rattle.rb_run.specs.Endings.{ending_of_words};
-ghost use Rattle.rb_run.specs.Program.{EndsUnseen};
+ghost use Rattle.rb_run.specs.Program.{EndsAsAsked};
 
 use doing::asked;
 use ending::Ending;
-use rb_script::ScriptFault;
 use std::io::BufWriter;
 use std::process::ExitCode;
 use std::{env, io};
@@ -42,7 +41,7 @@ fn words_of(rt: &HostRuntime) -> io::Result<Vec<String>> {
 // Does what the command line asks for, if its words can be had.
 fn run(rt: &HostRuntime, words: io::Result<Vec<String>>) -> Ending
     ensures { MatchResult words
-        (λ words. EndsUnseen (map string_bytes words.items) result)
+        (λ words. EndsAsAsked (map string_bytes words.items) result None None None None)
         (λ why. result ≡ ending_of_words (error_kind why)) }
 {
     match words {
@@ -53,11 +52,12 @@ fn run(rt: &HostRuntime, words: io::Result<Vec<String>>) -> Ending
 
 // Does what these words ask for, from standard input to standard output.
 fn called(rt: &HostRuntime, words: &[String]) -> Ending
-    ensures { EndsUnseen (map string_bytes words.now) result }
+    ensures { EndsAsAsked (map string_bytes words.now) result None None None None }
 {
     let alloc = rt.alloc();
     match BufWriter::with_capacity(alloc, 65_536, rt.stdout()) {
         Ok(mut writer) => asked(alloc, words, &mut rt.stdin(), &mut writer),
-        Err(_) => Ending::Stopped(ScriptFault::Memory),
+        // without a buffer the answers go out in parts
+        Err(_) => asked(alloc, words, &mut rt.stdin(), &mut rt.stdout()),
     }
 }
