@@ -4,3 +4,5 @@ pub mod calls
 pub mod pictures
 -- What each call changes in the outline.
 pub mod outlines
+-- The journal leads to the picture, and how many steps it has of a kind.
+pub mod journals

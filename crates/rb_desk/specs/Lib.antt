@@ -4,6 +4,8 @@ pub mod Calls
 pub mod Answers
 pub mod Shown
 pub mod Steps
+pub mod Journal
+pub mod Journaled
 pub mod IsPicture
 pub mod Rows
 pub mod Outline

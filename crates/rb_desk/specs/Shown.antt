@@ -1,18 +1,19 @@
 -- The picture that a desk shows, computed from what it stores, and what `take` finds and delivers.
 use Rattle.std.specs.Prelude.{◌≡◌, ℕ, suc, ◌<◌, ◌≤◌, max, Bool, false, ◌&&◌, ◌==◌, None, List, map}
 use Rattle.std.specs.Prelude.{Option, Some, Result, Ok, Err, slice_get, slice_set, if◌then◌else◌}
+use Rattle.std.specs.Prelude.{⊤}
 use Rattle.rb_deliveries.specs.declared.span.Span.{Span}
 use Rattle.rb_deliveries.specs.declared.sub.Sub.{Sub}
 use Rattle.rb_deliveries.specs.Spans.{first_ready, how_many_out}
 use Rattle.rb_deliveries.specs.Lanes.{AreJoined, lane_spans, most_numbers, spans_of}
 use Rattle.rb_deliveries.specs.Orders.{order, ready_at, out_at}
-use Rattle.rb_deliveries.specs.Subs.{sub_held, delivered_sub}
+use Rattle.rb_deliveries.specs.Subs.{sub_held, sub_out_as, delivered_sub}
 use Rattle.rb_desk.specs.declared.delivery.Delivery.{Delivery}
 use Rattle.rb_desk.specs.declared.refusal.DeskRefusal.{DeskRefusal}
 use Rattle.rb_desk.specs.declared.refusal.DeskRefusal.TheVariants.{Empty, Drained}
 use Rattle.rb_desk.specs.declared.refusal.DeskError.{DeskError}
 use Rattle.rb_desk.specs.declared.refusal.DeskError.TheVariants.{Memory}
-use Rattle.rb_desk.specs.Calls.{take, refused_call}
+use Rattle.rb_desk.specs.Calls.{take, ack, nack, reconnect, unsubscribe, refused_call}
 use Rattle.rb_desk.specs.Limits.{Limits}
 use Rattle.rb_desk.specs.Picture.{Picture, Subscription}
 
@@ -93,4 +94,55 @@ FindsToTake (Ok span) limits front closing subs s link cursor =
 FindsToTake (Err why) limits front closing subs s link cursor =
     (clock next_link next_delivery now : ℕ)
     → take (shown limits front closing clock next_link next_delivery subs) s link cursor now
+    ≡ refused_call (shown limits front closing clock next_link next_delivery subs) why
+
+-- ---- what the other calls find
+
+-- The span is in flight to this subscription, which has this link, as the delivery of this number.
+pub record IsInFlight (subs : List Sub) (s link number : ℕ) (span : Span) : Type 0 where
+  pub sub : Sub
+  pub found : slice_get subs s ≡ Some sub
+  pub linked : sub.link ≡ link
+  pub out : sub_out_as number sub ≡ Some span
+  pub joined : AreJoined sub.lane
+
+-- the subscription is open, and may continue after this cursor
+pub record MayReconnect (subs : List Sub) (s cursor : ℕ) : Type 0 where
+  pub sub : Sub
+  pub found : slice_get subs s ≡ Some sub
+  pub is_open : sub.closed ≡ false
+  pub from : sub.lane.floor ≤ cursor
+  pub to : cursor ≤ sub.offered
+
+-- the subscription is open, and has this link
+pub record MayClose (subs : List Sub) (s link : ℕ) : Type 0 where
+  pub sub : Sub
+  pub found : slice_get subs s ≡ Some sub
+  pub linked : sub.link ≡ link
+  pub is_open : sub.closed ≡ false
+  pub joined : AreJoined sub.lane
+
+-- What these calls find, or why they refuse, whatever the limits, the front, the clock and the next
+-- numbers are.
+abbrev pub FindsInFlight : Result Span DeskRefusal → List Sub → ℕ → ℕ → ℕ → Type 0
+FindsInFlight (Ok span) subs s link number = IsInFlight subs s link number span
+FindsInFlight (Err why) subs s link number =
+    (limits : Limits) (front : ℕ) (closing : Option ℕ) (clock next_link next_delivery cursor : ℕ)
+    → (ack (shown limits front closing clock next_link next_delivery subs) s link number cursor
+    ≡ refused_call (shown limits front closing clock next_link next_delivery subs) why)
+    × (nack (shown limits front closing clock next_link next_delivery subs) s link number
+    ≡ refused_call (shown limits front closing clock next_link next_delivery subs) why)
+
+abbrev pub FindsToReconnect : Result ⊤ DeskRefusal → List Sub → ℕ → ℕ → Type 0
+FindsToReconnect (Ok done) subs s cursor = MayReconnect subs s cursor
+FindsToReconnect (Err why) subs s cursor =
+    (limits : Limits) (front : ℕ) (closing : Option ℕ) (clock next_link next_delivery : ℕ)
+    → reconnect (shown limits front closing clock next_link next_delivery subs) s cursor
+    ≡ refused_call (shown limits front closing clock next_link next_delivery subs) why
+
+abbrev pub FindsToClose : Result ⊤ DeskRefusal → List Sub → ℕ → ℕ → Type 0
+FindsToClose (Ok done) subs s link = MayClose subs s link
+FindsToClose (Err why) subs s link =
+    (limits : Limits) (front : ℕ) (closing : Option ℕ) (clock next_link next_delivery : ℕ)
+    → unsubscribe (shown limits front closing clock next_link next_delivery subs) s link
     ≡ refused_call (shown limits front closing clock next_link next_delivery subs) why

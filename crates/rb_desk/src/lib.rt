@@ -3,9 +3,11 @@
 //! desk shows.
 #![tactic(auto)]
 
+mod board;
 mod config;
 mod delivery;
 mod desk;
+mod journal;
 pub mod laws;
 mod placing;
 mod refusal;
@@ -13,6 +15,7 @@ mod settling;
 mod step;
 mod subscribing;
 mod taking;
+mod tally;
 
 pub use config::{Config, ConfigFault};
 pub use delivery::Delivery;
@@ -20,3 +23,4 @@ pub use desk::Desk;
 pub use rb_deliveries::{Span, Status};
 pub use refusal::{DeskError, DeskRefusal};
 pub use step::Step;
+pub use tally::{MOST_STEPS, TalliedBoard};

@@ -5,10 +5,13 @@ ghost use Rattle.std.specs.Prelude.{◌≡◌};
 use std::alloc::AllocError;
 use thiserror::Error;
 
-/// Why a call of `Desk` is refused. Each variant names the calls that return it. The refused call
+/// Why a call of `Desk` or `TalliedBoard` is refused. Each variant names the calls that return it. The refused call
 /// does not change the desk. If several apply, the call returns the first in its own documentation.
 #[derive(Clone, Copy, Debug, PartialEq, Eq, Error)]
 pub enum DeskRefusal {
+    /// Every call but `close`, before its other refusals: 268,435,455 steps were made.
+    #[error("the journal is full")]
+    JournalFull,
     /// `take`, `ack`, `nack`, `reconnect`, `unsubscribe`: no subscription has this number.
     #[error("there is no such subscription")]
     NoSuch,
@@ -49,8 +52,8 @@ pub enum DeskRefusal {
     SequenceFull,
 }
 
-/// What stops `subscribe`, `take`, `take_any`, `nack` or `reconnect`. The stopped call does not
-/// change the desk.
+/// What stops a call that is one step of a desk, other than `place` and `close`. The stopped call
+/// does not change the desk, its journal included.
 #[derive(Clone, Copy, Debug, PartialEq, Eq, Error)]
 pub enum DeskError {
     /// The call is refused.

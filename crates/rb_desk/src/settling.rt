@@ -2,21 +2,22 @@
 
 ghost use Rattle.std.specs.Prelude.{◌≡◌, ◌<◌, ◌+◌, IfOk, OnErr};
 ghost use Rattle.rb_desk.specs.Calls.{ack, nack, expire};
-ghost use Rattle.rb_desk.specs.Answers.{DeskAnswers};
+ghost use Rattle.rb_desk.specs.Answers.{DeskAnswers, call_refusal};
+ghost use Rattle.rb_desk.specs.Shown.{FindsInFlight};
 
-use crate::desk::Desk;
+use crate::board::Board;
 use crate::refusal::{DeskError, DeskRefusal};
 use crate::subscribing::after;
-use rb_deliveries::Ticket;
+use rb_deliveries::{Deliveries, Span, Ticket};
 use std::alloc::AllocError;
 
-impl Desk {
+impl Board {
     /// Settles a delivery's numbers. The subscriber must have accepted all of them; `cursor` is the
     /// last number that it accepted. Returns the floor, up to which everything is settled now.
     ///
     /// Refuses `NoSuch`, `StaleLink`, `NotInFlight`, `NotAccepted`.
     #[tactic(auto, unfolding(crate::specs::Calls::ack))]
-    pub fn ack(
+    pub(crate) fn ack(
         &mut self,
         sub: u64,
         link: u64,
@@ -26,43 +27,54 @@ impl Desk {
         ensures answer { ack self.old sub link delivery cursor ≡ (result, self.new) }
         ensures err { OnErr result (self.new ≡ self.old) }
     {
-        let Some(found) = self.deliveries.get(sub) else {
-            return Err(DeskRefusal::NoSuch);
-        };
-        if found.link != link {
-            return Err(DeskRefusal::StaleLink);
-        }
-        let Some(span) = found.out_as(delivery) else {
-            return Err(DeskRefusal::NotInFlight);
-        };
+        let span = in_flight(&self.deliveries, sub, link, delivery)?;
         if cursor < span.last {
             return Err(DeskRefusal::NotAccepted { cursor });
         }
         Ok(self.deliveries.settle(sub, span.first))
     }
 
+    /// Why `ack` would refuse these numbers, or `None` where it would not.
+    pub(crate) fn refuses_ack(
+        &self,
+        sub: u64,
+        link: u64,
+        delivery: u64,
+        cursor: u64,
+    ) -> Option<DeskRefusal>
+        ensures { result ≡ call_refusal (ack self.now sub link delivery cursor).0 }
+    {
+        let span = match in_flight(&self.deliveries, sub, link, delivery) {
+            Err(why) => return Some(why),
+            Ok(span) => span,
+        };
+        if cursor < span.last {
+            return Some(DeskRefusal::NotAccepted { cursor });
+        }
+        None
+    }
+
     /// Negatively acknowledges a delivery: its numbers are ready again, after all that are ready.
     ///
     /// Refuses `NoSuch`, `StaleLink`, `NotInFlight`.
     #[tactic(auto, unfolding(crate::specs::Calls::nack))]
-    pub fn nack(&mut self, sub: u64, link: u64, delivery: u64) -> Result<(), DeskError>
+    pub(crate) fn nack(&mut self, sub: u64, link: u64, delivery: u64) -> Result<(), DeskError>
         ensures { DeskAnswers result (nack self.old sub link delivery) self.old self.new }
     {
-        let Some(found) = self.deliveries.get(sub) else {
-            return Err(DeskRefusal::NoSuch.into());
-        };
-        if found.link != link {
-            return Err(DeskRefusal::StaleLink.into());
-        }
-        let Some(span) = found.out_as(delivery) else {
-            return Err(DeskRefusal::NotInFlight.into());
-        };
+        let span = in_flight(&self.deliveries, sub, link, delivery)?;
         let front = self.front;
         let turn = after(self.turn)?;
         let ticket = Ticket { front, turn };
         self.deliveries.give_back(sub, span.first, ticket);
         self.turn = turn;
         Ok(())
+    }
+
+    /// Why `nack` would refuse these numbers, or `None` where it would not.
+    pub(crate) fn refuses_nack(&self, sub: u64, link: u64, delivery: u64) -> Option<DeskRefusal>
+        ensures { result ≡ call_refusal (nack self.now sub link delivery).0 }
+    {
+        in_flight(&self.deliveries, sub, link, delivery).err()
     }
 
     /// Expires every delivery that has been out for `timeout` ticks or longer, in the order they
@@ -73,7 +85,7 @@ impl Desk {
     /// and no more turns are left below 2^64 than deliveries were made so far. It does not change
     /// the desk then.
     #[tactic(auto, unfolding(crate::specs::Calls::expire))]
-    pub fn expire(&mut self, now: u64) -> Result<u64, AllocError>
+    pub(crate) fn expire(&mut self, now: u64) -> Result<u64, AllocError>
         ensures ok { IfOk result (λ many. expire self.old now ≡ (many, self.new)) }
         ensures err { OnErr result (self.new ≡ self.old) }
         ensures memory { OnErr result (0 < (expire self.old now).0) }
@@ -94,6 +106,28 @@ impl Desk {
         self.clock = clock;
         self.turn = turn;
         Ok(many)
+    }
+}
+
+// the span that is in flight to the subscription as this delivery, or why there is none
+#[tactic(auto, unfolding(crate::specs::Calls::ack, crate::specs::Calls::nack))]
+fn in_flight(
+    deliveries: &Deliveries,
+    sub: u64,
+    link: u64,
+    delivery: u64,
+) -> Result<Span, DeskRefusal>
+    ensures { FindsInFlight result deliveries.now.subs sub link delivery }
+{
+    let Some(found) = deliveries.get(sub) else {
+        return Err(DeskRefusal::NoSuch);
+    };
+    if found.link != link {
+        return Err(DeskRefusal::StaleLink);
+    }
+    match found.out_as(delivery) {
+        Some(span) => Ok(span),
+        None => Err(DeskRefusal::NotInFlight),
     }
 }
 

@@ -8,12 +8,12 @@ ghost use Rattle.rb_deliveries.specs.Lanes.{AreLimited, HasNumbers};
 
 use crate::config::Config;
 use crate::delivery::Delivery;
-use crate::desk::Desk;
+use crate::board::Board;
 use crate::refusal::{DeskError, DeskRefusal};
 use crate::subscribing::after;
 use rb_deliveries::{Deliveries, Span};
 
-impl Desk {
+impl Board {
     /// Delivers a subscription's ready span with the lowest numbers; it is in flight from now on.
     /// `cursor` is the last number that the subscriber has accepted. `now` is a tick of the
     /// caller's clock; the desk's clock is the greatest tick so far.
@@ -21,7 +21,7 @@ impl Desk {
     /// Refuses `NoSuch`, `StaleLink`, `Closed`, `WindowFull`. If nothing is ready, refuses
     /// `Drained` if the sequence is closed and all of it is settled, else `Empty`.
     #[tactic(auto, unfolding(crate::specs::Calls::take))]
-    pub fn take(
+    pub(crate) fn take(
         &mut self,
         sub: u64,
         link: u64,
@@ -51,7 +51,7 @@ impl Desk {
 
     /// Why `take` would refuse these numbers, or `None` where it would not. Does not change the
     /// desk.
-    pub fn refuses_take(&self, sub: u64, link: u64, cursor: u64) -> Option<DeskRefusal>
+    pub(crate) fn refuses_take(&self, sub: u64, link: u64, cursor: u64) -> Option<DeskRefusal>
         ensures { (now : ℕ) → result ≡ call_refusal (take self.now sub link cursor now).0 }
     {
         to_take(
@@ -71,7 +71,7 @@ impl Desk {
     ///
     /// Refuses `Empty` if there is none.
     #[tactic(auto, unfolding(crate::specs::Calls::take_any))]
-    pub fn take_any(&mut self, now: u64) -> Result<Delivery, DeskError>
+    pub(crate) fn take_any(&mut self, now: u64) -> Result<Delivery, DeskError>
         ensures { DeskAnswers result (take_any self.old now) self.old self.new }
     {
         let front = self.front;
@@ -90,7 +90,7 @@ impl Desk {
     }
 
     /// Why `take_any` would refuse, or `None` where it would not. Does not change the desk.
-    pub fn refuses_take_any(&self) -> Option<DeskRefusal>
+    pub(crate) fn refuses_take_any(&self) -> Option<DeskRefusal>
         ensures { (now : ℕ) → result ≡ call_refusal (take_any self.now now).0 }
     {
         let front = self.front;

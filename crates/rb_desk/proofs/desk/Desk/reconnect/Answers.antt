@@ -1,86 +1,16 @@
-use Rattle.std.proofs.Common.{◌≡◌, ◌∙◌, Some, Ok, Err, ap, sym, refl, arith, slice_get}
-use Rattle.std.proofs.lemmas.Result.{err_from_is_err_and}
-use Rattle.std.proofs.lemmas.Option.{slice_get_within}
-use Rattle.rb_deliveries.specs.Subs.{Belongs}
-use Rattle.rb_desk.proofs.calls.CallLaws.{reconnect_ok, reconnect_bad, ok_call, memory_answers}
-use Rattle.rb_deliveries.proofs.subs.KnownLaws.{few_set, all_get}
-use Rattle.rb_desk.proofs.calls.CuttingLaws.{reconnected_shown, belongs_reconnected}
+use Rattle.std.proofs.Common.{◌≤◌, refl, rules}
+use Rattle.rb_desk.specs.Calls.{reconnect}
+use Rattle.rb_desk.specs.Picture.{Picture}
+use Rattle.rb_desk.specs.Steps.{after_step}
+use Rattle.rb_desk.specs.declared.step.Step.TheVariants as step
+use Rattle.rb_desk.proofs.journals.KeepLaws.{call_kept}
 use Rattle.rb_desk.proofs.desk.Desk.reconnect.Goals as goal
 
-pub returns-in_err-next_link : goal.returns-in_err-next_link
-returns-in_err-next_link c =
-    let d = c.self.inside in
-    let here : slice_get d.deliveries.subs c.args.sub ≡ Some c.in-Some.found.now = sym c.in-Some.ensures.value in
-    let memory = err_from_is_err_and c.from_residual.result c.from_residual.ensures.1 in
-    let call = reconnect_ok d.config d.front d.closing d.clock
-    d.next_link d.next_delivery d.deliveries.subs c.args.sub c.in-Some.found.now here
-    c.args.cursor c.if-found.false (omega (arith, c.floor-floor.ensures, c.if-cursor-floor.false))
-    c.if-offered-cursor.false in
-    memory_answers _ _ _ _ (memory.1 ∙ ap Err (memory.2 ∙ c.in_err-next_link.ensures))
-    (rw (← c.self.view_is) (ok_call _ _ _ call)) refl
-
-pub returns-in_err-turn : goal.returns-in_err-turn
-returns-in_err-turn c =
-    let d = c.self.inside in
-    let here : slice_get d.deliveries.subs c.args.sub ≡ Some c.in-Some.found.now = sym c.in-Some.ensures.value in
-    let memory = err_from_is_err_and c.from_residual-in_err-turn.result c.from_residual-in_err-turn.ensures.1 in
-    let call = reconnect_ok d.config d.front d.closing d.clock
-    d.next_link d.next_delivery d.deliveries.subs c.args.sub c.in-Some.found.now here
-    c.args.cursor c.if-found.false (omega (arith, c.floor-floor.ensures, c.if-cursor-floor.false))
-    c.if-offered-cursor.false in
-    memory_answers _ _ _ _ (memory.1 ∙ ap Err (memory.2 ∙ c.in_err-turn.ensures))
-    (rw (← c.self.view_is) (ok_call _ _ _ call)) refl
-
-pub reconnect-requires-clause-there : goal.reconnect-requires-clause-there
-reconnect-requires-clause-there c =
-    slice_get_within c.self.inside.deliveries.subs c.args.sub c.in-Some.found.now (sym c.in-Some.ensures.value)
-
-pub reconnect-requires-clause-cursor : goal.reconnect-requires-clause-cursor
-reconnect-requires-clause-cursor c =
-    let d = c.self.inside in
-    let here : slice_get d.deliveries.subs c.args.sub ≡ Some c.in-Some.found.now = sym c.in-Some.ensures.value in
-    let offered =
-    (all_get (Belongs d.front d.turn d.next_delivery) d.deliveries.subs
-    c.args.sub c.in-Some.found.now c.self.invariant.1 here).is_offered in
-    omega (arith, offered, c.if-offered-cursor.false, c.self.invariant.0)
-
-pub invariant_of-self : goal.invariant_of-self
-invariant_of-self c =
-    let d = c.self.inside in
-    let here : slice_get d.deliveries.subs c.args.sub ≡ Some c.in-Some.found.now = sym c.in-Some.ensures.value in
-    let made = c.reconnect.ensures c.in-Some.found.now here in
-    let offered =
-    (all_get (Belongs d.front d.turn d.next_delivery) d.deliveries.subs
-    c.args.sub c.in-Some.found.now c.self.invariant.1 here).is_offered in
-    rw (made, c.in_ok-turn.ensures) (
-      c.self.invariant.0,
-      belongs_reconnected d.front d.turn d.next_link
-          d.next_delivery c.args.sub c.args.cursor d.deliveries.subs c.in-Some.found.now
-          (omega (arith, offered, c.if-offered-cursor.false)) c.self.invariant.1 here,
-      few_set d.deliveries.subs c.args.sub _ c.self.invariant.2,
-      c.self.invariant.3,
-    )
-
-pub returns : goal.returns
-returns c =
-    let d = c.self.inside in
-    let here : slice_get d.deliveries.subs c.args.sub ≡ Some c.in-Some.found.now = sym c.in-Some.ensures.value in
-    let made = c.reconnect.ensures c.in-Some.found.now here in
-    let shows = reconnected_shown d.config d.front d.turn d.clock
-    d.next_link d.next_delivery c.args.sub c.args.cursor d.closing
-    d.deliveries.subs c.in-Some.found.now c.self.invariant.0.0 c.self.invariant.1 here c.if-found.false in
-    rw (← c.self.view_is, made, c.in_ok-turn.ensures, c.in_ok-next_link.ensures)
-    (reconnect_ok d.config d.front d.closing d.clock
-    d.next_link d.next_delivery d.deliveries.subs c.args.sub c.in-Some.found.now here
-    c.args.cursor c.if-found.false (omega (arith, c.floor-floor.ensures, c.if-cursor-floor.false))
-    c.if-offered-cursor.false ∙ ap (λ p. (Ok d.next_link, p)) (sym shows))
-
-pub returns-then-cursor-floor : goal.returns-then-cursor-floor
-returns-then-cursor-floor c =
-    let d = c.self.inside in
-    let here : slice_get d.deliveries.subs c.args.sub ≡ Some c.in-Some.found.now = sym c.in-Some.ensures.value in
-    let floor : c.floor-floor.result ≡ c.in-Some.found.now.lane.floor = c.floor-floor.ensures in
-    let bad = reconnect_bad d.config d.front d.closing d.clock
-    d.next_link d.next_delivery d.deliveries.subs c.args.sub c.in-Some.found.now here
-    c.args.cursor c.if-found.false (rw (← floor) c.then-cursor-floor.either) in
-    rw c.into-then-cursor-floor.ensures (rw floor (rw (← c.self.view_is) bad, refl))
+pub invariant_of-self-2 : goal.invariant_of-self-2
+unfolding after_step
+invariant_of-self-2 c =
+    let p : Picture = c.self.inside.board.picture in
+    let room : 2 ≤ c.reserve.new.self.room = search rules in
+    call_kept c.calls_keep_limits.ensures c.self.inside.board c.reconnect.new.self (reconnect p c.args.sub c.args.cursor).1
+    (step.Reconnect c.args.sub c.args.cursor) c.self.inside.journal c.reserve.new.self c.push.new.self
+    c.self.invariant c.in_ok-link.ensures.1 refl c.reserve.ensures.steps room c.push.ensures.steps c.push.ensures.room

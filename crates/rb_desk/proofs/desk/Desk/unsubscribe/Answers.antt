@@ -1,38 +1,16 @@
-use Rattle.std.proofs.Common.{◌≡◌, ◌∙◌, Some, Ok, ap, sym, slice_get}
-use Rattle.std.proofs.lemmas.Option.{slice_get_within}
-use Rattle.rb_desk.proofs.calls.CallLaws.{unsubscribe_kept}
-use Rattle.rb_desk.proofs.calls.CuttingLaws.{unsubscribed_shown, belongs_unsubscribed}
-use Rattle.rb_deliveries.proofs.subs.KnownLaws.{few_set}
+use Rattle.std.proofs.Common.{◌≤◌, refl, rules}
+use Rattle.rb_desk.specs.Calls.{unsubscribe}
+use Rattle.rb_desk.specs.Picture.{Picture}
+use Rattle.rb_desk.specs.Steps.{after_step}
+use Rattle.rb_desk.specs.declared.step.Step.TheVariants as step
+use Rattle.rb_desk.proofs.journals.KeepLaws.{call_kept}
 use Rattle.rb_desk.proofs.desk.Desk.unsubscribe.Goals as goal
 
-pub close-requires : goal.close-requires
-close-requires c =
-    slice_get_within c.self.inside.deliveries.subs c.args.sub c.in-Some.found.now (sym c.in-Some.ensures.value)
-
-pub invariant_of-self : goal.invariant_of-self
-invariant_of-self c =
-    let d = c.self.inside in
-    let here : slice_get d.deliveries.subs c.args.sub ≡ Some c.in-Some.found.now = sym c.in-Some.ensures.value in
-    let made = c.close.ensures c.in-Some.found.now here in
-    rw made (
-      c.self.invariant.0,
-      belongs_unsubscribed d.front d.turn d.next_delivery
-          c.args.sub d.deliveries.subs c.in-Some.found.now c.self.invariant.1 here
-          c.in-Some.ensures.joined,
-      few_set d.deliveries.subs c.args.sub _ c.self.invariant.2,
-      c.self.invariant.3,
-    )
-
-pub returns-clause-answer : goal.returns-clause-answer
-returns-clause-answer c =
-    let d = c.self.inside in
-    let here : slice_get d.deliveries.subs c.args.sub ≡ Some c.in-Some.found.now = sym c.in-Some.ensures.value in
-    let made = c.close.ensures c.in-Some.found.now here in
-    rw (← c.self.view_is, made)
-    (unsubscribe_kept d.config d.front d.closing d.clock
-    d.next_link d.next_delivery d.deliveries.subs c.args.sub c.in-Some.found.now here
-    c.args.link c.if-found-link.false c.if-found.false
-    ∙ ap (λ p. (Ok tt, p))
-    (sym (unsubscribed_shown d.config d.front d.clock d.next_link
-    d.next_delivery c.args.sub d.closing d.deliveries.subs c.in-Some.found.now
-    here)))
+pub invariant_of-self-2 : goal.invariant_of-self-2
+unfolding after_step
+invariant_of-self-2 c =
+    let p : Picture = c.self.inside.board.picture in
+    let room : 2 ≤ c.reserve.new.self.room = search rules in
+    call_kept c.calls_keep_limits.ensures c.self.inside.board c.unsubscribe.new.self (unsubscribe p c.args.sub c.args.link).1
+    (step.Unsubscribe c.args.sub c.args.link) c.self.inside.journal c.reserve.new.self c.push.new.self
+    c.self.invariant c.in_ok-unsubscribe.ensures.ok refl c.reserve.ensures.steps room c.push.ensures.steps c.push.ensures.room

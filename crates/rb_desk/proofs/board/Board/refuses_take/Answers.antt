@@ -2,7 +2,7 @@ use Rattle.std.proofs.Common.{◌∙◌, ap}
 use Rattle.rb_desk.specs.Answers.{call_refusal}
 use Rattle.rb_desk.specs.Calls.{take}
 use Rattle.rb_desk.proofs.calls.CallLaws.{finds_why, error_is_why}
-use Rattle.rb_desk.proofs.desk.Desk.refuses_take.Goals as goal
+use Rattle.rb_desk.proofs.board.Board.refuses_take.Goals as goal
 
 pub returns : goal.returns
 returns c now =

@@ -5,7 +5,7 @@ use Rattle.rb_desk.specs.Shown.{shown, shown_sub}
 use Rattle.rb_deliveries.specs.Subs.{first_to_deliver, span_to_deliver}
 use Rattle.rb_desk.proofs.calls.AnyLaws.{any_goes_first, any_taken, none_taken}
 use Rattle.rb_desk.proofs.calls.CallLaws.{why_of}
-use Rattle.rb_desk.proofs.desk.Desk.refuses_take_any.Goals as goal
+use Rattle.rb_desk.proofs.board.Board.refuses_take_any.Goals as goal
 
 pub returns-in-Some : goal.returns-in-Some
 returns-in-Some c now =
