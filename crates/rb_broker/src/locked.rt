@@ -1,8 +1,8 @@
 //! What the broker's lock holds: the desk, and what sets the cells of the sequence.
 
-ghost use Rattle.std.specs.Prelude.{◌≡◌};
+ghost use Rattle.std.specs.Prelude.{◌≡◌, ℕ, Err};
 ghost use Rattle.rb_sequence.specs.Cells.{IsReadyFor};
-ghost use Rattle.rb_broker.specs.Placing.{ClosesBoth, PlacesEntry, RefusesPlace};
+ghost use Rattle.rb_broker.specs.Placing.{ClosesBoth, IsWhy, PlacesEntry, RefusesPlace};
 
 use crate::hall::Hall;
 use crate::refusal::{PlaceRefusal, RefusedItem};
@@ -16,7 +16,7 @@ pub(crate) struct Locked<L: Hall> {
     pub(crate) desk: Desk,
     pub(crate) filler: Filler,
     pub(crate) of: PhantomData<L>,
-    ghost fits: { desk.limits.capacity ≡ L.cells.capacity },
+    ghost fits: { desk.picture.limits.capacity ≡ L.cells.capacity },
     ghost fills: { filler ≡ L.cells },
 }
 
@@ -28,8 +28,7 @@ impl<L: Hall> Locked<L> {
     {
         let number = ready.number();
         match self.desk.prepare() {
-            Err(DeskRefusal::Closed) => Err(refused(PlaceRefusal::Closed, ready.into_entry())),
-            Err(_) => Err(refused(PlaceRefusal::SequenceFull, ready.into_entry())),
+            Err(why) => Err(refused(place_refusal(why), ready.into_entry())),
             Ok(next) if next != number => {
                 Err(refused(PlaceRefusal::Occupied, ready.into_entry()))
             }
@@ -48,8 +47,7 @@ impl<L: Hall> Locked<L> {
         ensures { RefusesPlace self.now.desk result }
     {
         match self.desk.prepare() {
-            Err(DeskRefusal::Closed) => PlaceRefusal::Closed,
-            Err(_) => PlaceRefusal::SequenceFull,
+            Err(why) => place_refusal(why),
             Ok(_) => PlaceRefusal::Occupied,
         }
     }
@@ -64,6 +62,17 @@ impl<L: Hall> Locked<L> {
         }
         let last = self.desk.close();
         self.filler.fill_closing(last).ok()
+    }
+}
+
+// why an item isn't placed where the desk's `prepare` refuses
+fn place_refusal(why: DeskRefusal) -> PlaceRefusal
+    ensures { (number : ℕ) → IsWhy (Err why) number result }
+{
+    match why {
+        DeskRefusal::JournalFull => PlaceRefusal::JournalFull,
+        DeskRefusal::Closed => PlaceRefusal::Closed,
+        _ => PlaceRefusal::SequenceFull,
     }
 }
 

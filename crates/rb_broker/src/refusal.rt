@@ -19,6 +19,9 @@ pub enum AddRefusal {
 /// Why `Broker::place_next` places no item. The broker is as before.
 #[derive(Clone, Copy, Debug, PartialEq, Eq, Error)]
 pub enum PlaceRefusal {
+    /// The desk's journal is full.
+    #[error("the journal is full")]
+    JournalFull,
     /// The sequence is closed.
     #[error("the sequence is closed")]
     Closed,

@@ -20,6 +20,8 @@ use Rattle.rb_core.specs.State.{State, IsWorld, member_of_end}
 use Rattle.rb_core.specs.Told.{Paired, IsToldBy}
 use Rattle.rb_core.specs.World.{World, endpoint_of}
 use Rattle.rb_core.proofs.TellSubscriptions.{SubscribeShows}
+use Rattle.rb_desk.proofs.journals.KeepLaws.{call_after}
+use Rattle.rb_desk.specs.Journaled.{answer_after}
 
 paired_length : {A B : Type 0} (R : A → B → Type 0) (xs : List A) (ys : List B) → Paired R xs ys → length xs
     ≡ length ys
@@ -57,10 +59,11 @@ pub subscriber_counts : SubscribeShows → (schema : List Shape) (old : State) (
     → outcome old (event.Subscribe start) ≡ (reply.Subscriber s link, new) → s ≡ length world.subscribers
 unfolding outcome
 subscriber_counts shows schema old world start s link new good h e =
-    by (desk.subscribe old.desk start).0 (desk.subscribe old.desk start).1 refl e
+    by (answer_after old.steps (desk.subscribe old.desk start).0) (desk.subscribe old.desk start).1
+    (call_after old.steps (desk.subscribe old.desk start)) e
   where
     by : (answer : Result (ℕ × ℕ) DeskRefusal) (picture : Picture)
-        → desk.subscribe old.desk start ≡ (answer, picture)
+        → ((made : ℕ × ℕ) → answer ≡ Ok made → desk.subscribe old.desk start ≡ (Ok made, picture))
         → out.subscribed_by old start answer picture ≡ (reply.Subscriber s link, new) → s ≡ length world.subscribers
     by (Err why) picture is e =
         absurd (let both : reply.Refused (refusal.Desk why) ≡ reply.Subscriber s link = ap reply_of e in cc)
@@ -68,7 +71,7 @@ subscriber_counts shows schema old world start s link new good h e =
         let both : reply.Subscriber made.0 made.1 ≡ reply.Subscriber s link = ap reply_of e in
         let same : made.0 ≡ s = cc in
         let last : made.0 ≡ length (outline_of old.desk).members =
-        (shows old.desk start made.0 made.1 picture is).last in
+        (shows old.desk start made.0 made.1 picture (is made refl)).last in
         sym same ∙ last ∙ ap (λ (ms : List Member). length ms) (sym good.members)
         ∙ length-map old.endpoints member_of_end
         ∙ ap (λ (es : List Endpoint). length es) (sym h.ends) ∙ length-map world.subscribers endpoint_of

@@ -44,10 +44,6 @@ pub record DeskShows : Type 0 where
   pub closes : (old : Picture) (last : ℕ) (new : Picture) → IsPicture old → close old ≡ (last, new)
       → outline.Closes (outline_of old) (outline_of new) last
 
--- a call's answer beside the picture that it leaves
-abbrev pub beside : {A : Type 0} → Picture → Result A DeskRefusal → Result A DeskRefusal × Picture
-beside new answer = (answer, new)
-
 -- ---- what each call keeps
 
 pub subscribe_keeps : KeepsPictures → (old : Picture) (start : ℕ) → IsPicture old

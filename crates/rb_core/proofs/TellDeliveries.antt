@@ -41,7 +41,9 @@ use Rattle.rb_core.proofs.Gapless.{part_length}
 use Rattle.rb_core.proofs.Pairs.{map_set, set_same, all_find, found_in, find_passes, found_first, found_last}
 use Rattle.rb_core.proofs.Telling.{TellingGoes, nothing_told, move_told, all_unused, later_numbers, BeginsEmpty}
 use Rattle.rb_core.proofs.Telling.{changed_is, subscriber_of_end, subscriber_of_member, still_offered}
-use Rattle.rb_core.proofs.Telling.{telling_with_both, with_desk}
+use Rattle.rb_core.proofs.Telling.{telling_with_both, with_desk, told_any_steps}
+use Rattle.rb_desk.proofs.journals.KeepLaws.{call_after}
+use Rattle.rb_desk.specs.Journaled.{answer_after}
 
 -- what the desk shows of deliveries, and where it shows nothing
 abbrev pub TakeShows : Type 0
@@ -147,14 +149,15 @@ offered_tells schema old world delivery picture event is shown good h =
     })
 
 took_tells : TakeShows → (schema : List Shape) (old : State) (world : World) (s now : ℕ) (end : Endpoint)
-    (answer : Result Delivery DeskRefusal) (picture : Picture) → desk.take old.desk s end.link end.cursor now
-    ≡ (answer, picture) → IsWorld old
+    (answer : Result Delivery DeskRefusal) (picture : Picture)
+    → ((made : Delivery) → answer ≡ Ok made → desk.take old.desk s end.link end.cursor now ≡ (Ok made, picture))
+    → IsWorld old
     → IsToldBy schema old world → TellingGoes schema world (event.Take s now) (out.delivered_by old answer picture)
 took_tells shows schema old world s now end (Err why) picture is good h =
     nothing_told schema world (event.Take s now) (reply.Refused (refusal.Desk why)) old refl h
 took_tells shows schema old world s now end (Ok delivery) picture is good h =
     offered_tells schema old world delivery picture (event.Take s now) refl
-    (shows old.desk s end.link end.cursor now delivery picture good.picture is).1 good h
+    (shows old.desk s end.link end.cursor now delivery picture good.picture (is delivery refl)).1 good h
 
 taken_tells : TakeShows → (schema : List Shape) (old : State) (world : World) (s now : ℕ) (found : Option Endpoint)
     → IsWorld old → IsToldBy schema old world
@@ -162,8 +165,9 @@ taken_tells : TakeShows → (schema : List Shape) (old : State) (world : World) 
 taken_tells shows schema old world s now None good h =
     nothing_told schema world (event.Take s now) (reply.Refused (refusal.Desk NoSuch)) old refl h
 taken_tells shows schema old world s now (Some end) good h =
-    took_tells shows schema old world s now end (desk.take old.desk s end.link end.cursor now).0
-    (desk.take old.desk s end.link end.cursor now).1 refl good h
+    let call = desk.take old.desk s end.link end.cursor now in
+    took_tells shows schema old world s now end (answer_after old.steps call.0) call.1
+    (call_after old.steps call) good h
 
 pub take_tells : TakeShows → (schema : List Shape) (old : State) (world : World) (s now : ℕ) → IsWorld old
     → IsToldBy schema old world → TellingGoes schema world (event.Take s now) (out.delivered old s now)
@@ -171,19 +175,21 @@ take_tells shows schema old world s now good h =
     taken_tells shows schema old world s now (slice_get old.endpoints s) good h
 
 any_tells : TakeAnyShows → (schema : List Shape) (old : State) (world : World) (now : ℕ)
-    (answer : Result Delivery DeskRefusal) (picture : Picture) → desk.take_any old.desk now ≡ (answer, picture)
+    (answer : Result Delivery DeskRefusal) (picture : Picture)
+    → ((made : Delivery) → answer ≡ Ok made → desk.take_any old.desk now ≡ (Ok made, picture))
     → IsWorld old → IsToldBy schema old world
     → TellingGoes schema world (event.TakeAny now) (out.delivered_by old answer picture)
 any_tells shows schema old world now (Err why) picture is good h =
     nothing_told schema world (event.TakeAny now) (reply.Refused (refusal.Desk why)) old refl h
 any_tells shows schema old world now (Ok delivery) picture is good h =
     offered_tells schema old world delivery picture (event.TakeAny now) refl
-    (shows old.desk now delivery picture good.picture is) good h
+    (shows old.desk now delivery picture good.picture (is delivery refl)) good h
 
 pub take_any_tells : TakeAnyShows → (schema : List Shape) (old : State) (world : World) (now : ℕ) → IsWorld old
     → IsToldBy schema old world → TellingGoes schema world (event.TakeAny now) (out.delivered_any old now)
 take_any_tells shows schema old world now good h =
-    any_tells shows schema old world now (desk.take_any old.desk now).0 (desk.take_any old.desk now).1 refl good h
+    let call = desk.take_any old.desk now in
+    any_tells shows schema old world now (answer_after old.steps call.0) call.1 (call_after old.steps call) good h
 
 -- ---- one is accepted
 
@@ -282,16 +288,14 @@ accept_tells steps schema old world d good h =
 
 -- ---- what the desk alone knows
 
-abbrev tell_deliveries_pair : {A : Type 0} → Result A DeskRefusal → Picture → Result A DeskRefusal × Picture
-tell_deliveries_pair answer picture = (answer, picture)
-
 -- it shows nothing else
 tell_deliveries_same_outline : (schema : List Shape) (old : State) (world : World) (picture : Picture)
     → outline_of picture ≡ outline_of old.desk → IsToldBy schema old world
-    → IsToldBy schema (record old { desk = picture }) world
+    → IsToldBy schema (record old { desk = picture; steps = suc old.steps }) world
 tell_deliveries_same_outline schema old world picture same h =
-    with_desk schema old world picture (ap (λ (o : Outline). o.closing) same) (ap (λ (o : Outline). o.next_link) same)
-    (ap (λ (o : Outline). o.next_delivery) same) h
+    told_any_steps schema (record old { desk = picture }) world (suc old.steps)
+    (with_desk schema old world picture (ap (λ (o : Outline). o.closing) same) (ap (λ (o : Outline). o.next_link) same)
+    (ap (λ (o : Outline). o.next_delivery) same) h)
 
 settled_tells : (schema : List Shape) (old : State) (world : World) (d : ℕ) (answer : Result ℕ DeskRefusal)
     (picture : Picture) → ((floor : ℕ) → answer ≡ Ok floor → outline_of picture ≡ outline_of old.desk)
@@ -300,7 +304,7 @@ settled_tells : (schema : List Shape) (old : State) (world : World) (d : ℕ) (a
 settled_tells schema old world d (Err why) picture shown h =
     nothing_told schema world (event.Ack d) (reply.Refused (refusal.Desk why)) old refl h
 settled_tells schema old world d (Ok floor) picture shown h =
-    nothing_told schema world (event.Ack d) (reply.Floor floor) (record old { desk = picture }) refl
+    nothing_told schema world (event.Ack d) (reply.Floor floor) (record old { desk = picture; steps = suc old.steps }) refl
     (tell_deliveries_same_outline schema old world picture (shown floor refl) h)
 
 acked_at_tells : AckShows → (schema : List Shape) (old : State) (world : World) (d : ℕ) (delivery : Delivery)
@@ -310,9 +314,9 @@ acked_at_tells shows schema old world d delivery None h =
     nothing_told schema world (event.Ack d) (reply.Refused refusal.NoDelivery) old refl h
 acked_at_tells shows schema old world d delivery (Some end) h =
     let call = desk.ack old.desk delivery.sub delivery.link delivery.number end.cursor in
-    settled_tells schema old world d call.0 call.1
+    settled_tells schema old world d (answer_after old.steps call.0) call.1
     (λ floor ok. shows old.desk delivery.sub delivery.link delivery.number end.cursor floor call.1
-    (ap (λ answer. tell_deliveries_pair answer call.1) ok)) h
+    (call_after old.steps call floor ok)) h
 
 acked_tells : AckShows → (schema : List Shape) (old : State) (world : World) (d : ℕ) (found : Option Delivery)
     → IsToldBy schema old world → TellingGoes schema world (event.Ack d) (out.acked_for old found)
@@ -331,7 +335,8 @@ returned_tells : (schema : List Shape) (old : State) (world : World) (d : ℕ) (
 returned_tells schema old world d (Err why) picture shown h =
     nothing_told schema world (event.Nack d) (reply.Refused (refusal.Desk why)) old refl h
 returned_tells schema old world d (Ok done) picture shown h =
-    nothing_told schema world (event.Nack d) reply.Returned (record old { desk = picture }) refl
+    nothing_told schema world (event.Nack d) reply.Returned (record old { desk = picture; steps = suc old.steps })
+    refl
     (tell_deliveries_same_outline schema old world picture (shown refl) h)
 
 nacked_tells : NackShows → (schema : List Shape) (old : State) (world : World) (d : ℕ) (found : Option Delivery)
@@ -340,17 +345,26 @@ nacked_tells shows schema old world d None h =
     nothing_told schema world (event.Nack d) (reply.Refused refusal.NoDelivery) old refl h
 nacked_tells shows schema old world d (Some delivery) h =
     let call = desk.nack old.desk delivery.sub delivery.link delivery.number in
-    returned_tells schema old world d call.0 call.1
-    (λ ok. shows old.desk delivery.sub delivery.link delivery.number call.1
-    (ap (λ answer. tell_deliveries_pair answer call.1) ok)) h
+    returned_tells schema old world d (answer_after old.steps call.0) call.1
+    (λ ok. shows old.desk delivery.sub delivery.link delivery.number call.1 (call_after old.steps call tt ok)) h
 
 pub nack_tells : NackShows → (schema : List Shape) (old : State) (world : World) (d : ℕ) → IsToldBy schema old world
     → TellingGoes schema world (event.Nack d) (out.nacked old d)
 nack_tells shows schema old world d h = nacked_tells shows schema old world d (out.delivery_of old d) h
 
+expired_tells : (schema : List Shape) (old : State) (world : World) (now : ℕ) (answer : Result ℕ DeskRefusal)
+    (picture : Picture) → outline_of picture ≡ outline_of old.desk → IsToldBy schema old world
+    → TellingGoes schema world (event.Expire now) (out.expired_by_desk old answer picture)
+expired_tells schema old world now (Err why) picture shown h =
+    nothing_told schema world (event.Expire now) (reply.Refused (refusal.Desk why)) old refl h
+expired_tells schema old world now (Ok count) picture shown h =
+    nothing_told schema world (event.Expire now) (reply.Expired count)
+    (record old { desk = picture; steps = suc old.steps }) refl
+    (tell_deliveries_same_outline schema old world picture shown h)
+
 pub expire_tells : ExpireShows → (schema : List Shape) (old : State) (world : World) (now : ℕ)
     → IsToldBy schema old world → TellingGoes schema world (event.Expire now) (out.expired old now)
 expire_tells shows schema old world now h =
     let call = desk.expire old.desk now in
-    nothing_told schema world (event.Expire now) (reply.Expired call.0) (record old { desk = call.1 }) refl
-    (tell_deliveries_same_outline schema old world call.1 (shows old.desk now call.0 call.1 refl) h)
+    expired_tells schema old world now (answer_after old.steps (Ok call.0)) call.1
+    (shows old.desk now call.0 call.1 refl) h

@@ -1,6 +1,6 @@
 -- What a turn reports, and what a close reports.
 use Rattle.std.proofs.Common.{◌≡◌, ℕ, suc, ◌<◌, inl, inr, List, [], ◌∷◌, ◌++◌, length, Option, Some, None, Result, Ok}
-use Rattle.std.proofs.Common.{Err, refl, sym, ap, subst, ◌∙◌}
+use Rattle.std.proofs.Common.{◌+◌, Err, refl, sym, ap, subst, ◌∙◌}
 use Rattle.std.specs.Prelude.{IfSome}
 use Rattle.std.specs.List.{AllByRecursion}
 use Rattle.cs_model.specs.declared.shape.Shape.{Shape}
@@ -20,6 +20,8 @@ use Rattle.rb_core.specs.Told as say
 use Rattle.rb_core.specs.Told.{told, AreBelow, IsToldBy}
 use Rattle.rb_core.specs.World.{World}
 use Rattle.rb_core.proofs.Telling.{Course, IsTold, no_move, one_move, both_courses, TellingGoes, nothing_told}
+use Rattle.rb_desk.proofs.journals.KeepLaws.{call_after}
+use Rattle.rb_desk.specs.Journaled.{answer_after, closing_steps}
 use Rattle.rb_core.proofs.Telling.{move_told}
 
 -- what the desk shows of a placement, and of the end
@@ -104,13 +106,13 @@ idle world None (item ∷ rest) in_hand none = absurd (let some : Some item ≡ 
 
 placed_tells : PlaceShows → (schema : List Shape) (world : World) (mid : State) (item : Item)
     (answer : Result ℕ DeskRefusal) → mid.desk.front ≡ length mid.sequence → mid.hand ≡ Some item
-    → desk.prepare mid.desk ≡ answer
+    → ((number : ℕ) → answer ≡ Ok number → desk.prepare mid.desk ≡ Ok number)
     → Course world (say.pulled world) → IsToldBy schema mid (say.pulled world)
     → TellingGoes schema world event.Turn (out.placed mid item answer)
 placed_tells shows schema world mid item (Err why) front in_hand is course h = (course, h)
 placed_tells shows schema world mid item (Ok number) front in_hand is course h =
     let pulled = say.pulled world in
-    let shown = shows mid.desk number is in
+    let shown = shows mid.desk number (is number refl) in
     let kept = shown.kept in
     let holds : pulled.hand ≡ Some item = h.hand ∙ in_hand in
     let new = say.placed_from pulled number (Some item) in
@@ -154,7 +156,9 @@ turned_tells shows schema world mid None front in_hand course h =
     let same = idle world world.hand world.intake refl (h.hand ∙ in_hand) in
     nothing_told schema world event.Turn reply.Idle mid refl (subst (IsToldBy schema mid) (sym same) h)
 turned_tells shows schema world mid (Some item) front in_hand course h =
-    placed_tells shows schema world mid item (desk.prepare mid.desk) front in_hand refl course h
+    placed_tells shows schema world mid item (answer_after mid.steps (desk.prepare mid.desk)) front in_hand
+    (λ number is. ap (λ (r : Result ℕ DeskRefusal × Picture). r.0)
+    (call_after mid.steps (desk.prepare mid.desk, mid.desk) number is)) course h
 
 pub turn_tells : PlaceShows → (schema : List Shape) (old : State) (world : World) → IsWorld old
     → IsToldBy schema old world → TellingGoes schema world event.Turn (out.turned old)
@@ -186,8 +190,8 @@ close_tells shows schema old world good h =
     let kept = shown.kept in
     let moves = ends_told world old.desk.front last old.desk.closing h.closing good.picture.closed shown.front
     (good.front ∙ ap (λ (entries : List Entry). length entries) (sym h.sequence)) in
-    move_told schema world (ended_with world (Some last)) event.Close (reply.Closed last) (record old { desk = new })
-    refl moves (record {
+    move_told schema world (ended_with world (Some last)) event.Close (reply.Closed last)
+    (record old { desk = new; steps = old.steps + length (closing_steps old.desk.closing) }) refl moves (record {
       served = h.served;
       senders = h.senders;
       intake = h.intake;

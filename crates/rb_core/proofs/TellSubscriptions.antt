@@ -1,5 +1,5 @@
 -- What is reported of subscriptions that begin, continue under another link, and are closed.
-use Rattle.std.proofs.Common.{◌≡◌, ℕ, ◌+◌, ◌<◌, ◌≤◌, inl, inr, false, true, List, [], ◌∷◌, ◌++◌, length, map, Option}
+use Rattle.std.proofs.Common.{◌≡◌, ℕ, suc, ◌+◌, ◌<◌, ◌≤◌, inl, inr, false, true, List, [], ◌∷◌, ◌++◌, length, map, Option}
 use Rattle.std.proofs.Common.{Some, None, Result, Ok, Err, refl, sym, ap, subst, ◌∙◌, arith}
 use Rattle.std.specs.Prelude.{⊤, slice_get}
 use Rattle.std.specs.List.{AllByRecursion}
@@ -27,6 +27,9 @@ use Rattle.rb_core.specs.Told.{told, IsDelivered, AreBelow, IsToldBy}
 use Rattle.rb_core.specs.World.{Subscriber, World, endpoint_of}
 use Rattle.rb_core.proofs.Moving.{all_map, get_push}
 use Rattle.rb_core.proofs.Telling.{TellingGoes, nothing_told, move_told, all_new, BeginsEmpty, changed_is}
+use Rattle.rb_core.proofs.Telling.{told_any_steps}
+use Rattle.rb_desk.proofs.journals.KeepLaws.{call_after}
+use Rattle.rb_desk.specs.Journaled.{answer_after}
 use Rattle.rb_core.proofs.Telling.{subscriber_of_end, telling_with_both, with_desk, with_link}
 
 -- what the desk shows of one that begins, goes on and ends
@@ -76,14 +79,14 @@ pushed_offers subs q deliveries all =
     (λ d h. (h.0, get_push subs q h.0 d.sub h.1, h.2)) all
 
 subscribed_tells : SubscribeShows → (schema : List Shape) (old : State) (world : World) (start : ℕ)
-    (answer : Result (ℕ × ℕ) DeskRefusal) (picture : Picture) → desk.subscribe old.desk start ≡ (answer, picture)
-    → IsWorld old → IsToldBy schema old world
+    (answer : Result (ℕ × ℕ) DeskRefusal) (picture : Picture)
+    → ((made : ℕ × ℕ) → answer ≡ Ok made → desk.subscribe old.desk start ≡ (Ok made, picture)) → IsWorld old → IsToldBy schema old world
     → TellingGoes schema world (event.Subscribe start) (out.subscribed_by old start answer picture)
 subscribed_tells shows schema old world start (Err why) picture is good h =
     nothing_told schema world (event.Subscribe start) (reply.Refused (refusal.Desk why)) old refl h
 subscribed_tells shows schema old world start (Ok made) picture is good h =
     let link = made.1 in
-    let shown = shows old.desk start made.0 link picture is in
+    let shown = shows old.desk start made.0 link picture (is made refl) in
     let kept = shown.kept in
     let q = tell_subscriptions_one schema start link in
     let end = new_endpoint start link (empty_tables old.schema) in
@@ -124,8 +127,9 @@ subscribed_tells shows schema old world start (Ok made) picture is good h =
 pub subscribe_tells : SubscribeShows → (schema : List Shape) (old : State) (world : World) (start : ℕ) → IsWorld old
     → IsToldBy schema old world → TellingGoes schema world (event.Subscribe start) (out.subscribed old start)
 subscribe_tells shows schema old world start good h =
-    subscribed_tells shows schema old world start (desk.subscribe old.desk start).0 (desk.subscribe old.desk start).1
-    refl good h
+    let call = desk.subscribe old.desk start in
+    subscribed_tells shows schema old world start (answer_after old.steps call.0) call.1 (call_after old.steps call)
+    good h
 
 -- ---- one goes on under another link
 
@@ -133,13 +137,14 @@ abbrev tell_subscriptions_under : ℕ → Endpoint → Endpoint
 tell_subscriptions_under link end = record end { link = link }
 
 linked_tells : ReconnectShows → (schema : List Shape) (old : State) (world : World) (s cursor : ℕ) (end : Endpoint)
-    (answer : Result ℕ DeskRefusal) (picture : Picture) → desk.reconnect old.desk s cursor ≡ (answer, picture)
+    (answer : Result ℕ DeskRefusal) (picture : Picture)
+    → ((link : ℕ) → answer ≡ Ok link → desk.reconnect old.desk s cursor ≡ (Ok link, picture))
     → slice_get old.endpoints s ≡ Some end → IsWorld old → IsToldBy schema old world
     → TellingGoes schema world (event.Reconnect s cursor) (out.reconnected_with old s end answer picture)
 linked_tells shows schema old world s cursor end (Err why) picture is found good h =
     nothing_told schema world (event.Reconnect s cursor) (reply.Refused (refusal.Desk why)) old refl h
 linked_tells shows schema old world s cursor end (Ok link) picture is found good h =
-    let shown = shows old.desk s cursor link picture is in
+    let shown = shows old.desk s cursor link picture (is link refl) in
     let kept = shown.kept in
     let at = subscriber_of_end schema old world s end h found in
     let q = at.0 in
@@ -161,7 +166,8 @@ linked_tells shows schema old world s cursor end (Ok link) picture is found good
     (changed_is world s (say.reconnected link) q at.1) in
     move_told schema world new (event.Reconnect s cursor) (reply.Link link)
     (out.reconnected_with old s end (Ok link) picture).1 is_new
-    (inr (inr (inr (inr (inr (inr (inr (inr (inr (inr (inl reconnects))))))))))) linked
+    (inr (inr (inr (inr (inr (inr (inr (inr (inr (inr (inl reconnects)))))))))))
+    (told_any_steps schema _ new (suc old.steps) linked)
 
 reconnected_tells : ReconnectShows → (schema : List Shape) (old : State) (world : World) (s cursor : ℕ)
     (found : Option Endpoint) → slice_get old.endpoints s ≡ found → IsWorld old → IsToldBy schema old world
@@ -169,8 +175,9 @@ reconnected_tells : ReconnectShows → (schema : List Shape) (old : State) (worl
 reconnected_tells shows schema old world s cursor None found good h =
     nothing_told schema world (event.Reconnect s cursor) (reply.Refused (refusal.Desk NoSuch)) old refl h
 reconnected_tells shows schema old world s cursor (Some end) found good h =
-    linked_tells shows schema old world s cursor end (desk.reconnect old.desk s cursor).0
-    (desk.reconnect old.desk s cursor).1 refl found good h
+    let call = desk.reconnect old.desk s cursor in
+    linked_tells shows schema old world s cursor end (answer_after old.steps call.0) call.1
+    (call_after old.steps call) found good h
 
 pub reconnect_tells : ReconnectShows → (schema : List Shape) (old : State) (world : World) (s cursor : ℕ) → IsWorld old
     → IsToldBy schema old world → TellingGoes schema world (event.Reconnect s cursor) (out.reconnected old s cursor)
@@ -183,13 +190,14 @@ abbrev tell_subscriptions_ended : Endpoint → Endpoint
 tell_subscriptions_ended end = record end { closed = true }
 
 left_tells : UnsubscribeShows → (schema : List Shape) (old : State) (world : World) (s : ℕ) (end : Endpoint)
-    (answer : Result ⊤ DeskRefusal) (picture : Picture) → desk.unsubscribe old.desk s end.link ≡ (answer, picture)
+    (answer : Result ⊤ DeskRefusal) (picture : Picture)
+    → ((done : ⊤) → answer ≡ Ok done → desk.unsubscribe old.desk s end.link ≡ (Ok done, picture))
     → slice_get old.endpoints s ≡ Some end → IsToldBy schema old world
     → TellingGoes schema world (event.Unsubscribe s) (out.unsubscribed_with old s end answer picture)
 left_tells shows schema old world s end (Err why) picture is found h =
     nothing_told schema world (event.Unsubscribe s) (reply.Refused (refusal.Desk why)) old refl h
 left_tells shows schema old world s end (Ok done) picture is found h =
-    let shown = shows old.desk s end.link picture is in
+    let shown = shows old.desk s end.link picture (is done refl) in
     let kept = shown.kept in
     let at = subscriber_of_end schema old world s end h found in
     let q = at.0 in
@@ -202,7 +210,8 @@ left_tells shows schema old world s end (Ok done) picture is found h =
     let leaves : Unsubscribes world new = record { s = s; subscriber = q; found = at.1; kept = refl } in
     move_told schema world new (event.Unsubscribe s) reply.Unsubscribed
     (out.unsubscribed_with old s end (Ok done) picture).1 (changed_is world s say.unsubscribed q at.1)
-    (inr (inr (inr (inr (inr (inr (inr (inr (inr (inr (inr (inl leaves)))))))))))) tells
+    (inr (inr (inr (inr (inr (inr (inr (inr (inr (inr (inr (inl leaves))))))))))))
+    (told_any_steps schema _ new (suc old.steps) tells)
 
 unsubscribed_tells : UnsubscribeShows
     → (schema : List Shape) (old : State) (world : World) (s : ℕ) (found : Option Endpoint) → slice_get old.endpoints s
@@ -211,8 +220,8 @@ unsubscribed_tells : UnsubscribeShows
 unsubscribed_tells shows schema old world s None found h =
     nothing_told schema world (event.Unsubscribe s) (reply.Refused (refusal.Desk NoSuch)) old refl h
 unsubscribed_tells shows schema old world s (Some end) found h =
-    left_tells shows schema old world s end (desk.unsubscribe old.desk s end.link).0
-    (desk.unsubscribe old.desk s end.link).1 refl found h
+    let call = desk.unsubscribe old.desk s end.link in
+    left_tells shows schema old world s end (answer_after old.steps call.0) call.1 (call_after old.steps call) found h
 
 pub unsubscribe_tells : UnsubscribeShows → (schema : List Shape) (old : State) (world : World) (s : ℕ)
     → IsToldBy schema old world → TellingGoes schema world (event.Unsubscribe s) (out.unsubscribed old s)

@@ -168,6 +168,24 @@ telling_with_both schema old world s q r end found base same is h = record {
 
 -- ---- the desk
 
+-- how many steps it has made is not told
+pub told_any_steps : (schema : List Shape) (state : State) (world : World) (steps : ℕ) → IsToldBy schema state world
+    → IsToldBy schema (record state { steps = steps }) world
+told_any_steps schema state world steps h = record {
+  served = h.served;
+  senders = h.senders;
+  intake = h.intake;
+  hand = h.hand;
+  sequence = h.sequence;
+  closing = h.closing;
+  ends = h.ends;
+  deliveries = h.deliveries;
+  links = h.links;
+  numbers = h.numbers;
+  bases = h.bases;
+  withdrawn = h.withdrawn;
+}
+
 -- the desk changes in nothing that is told
 pub with_desk : (schema : List Shape) (old : State) (world : World) (desk : Picture) → desk.closing ≡ old.desk.closing
     → desk.next_link ≡ old.desk.next_link → desk.next_delivery ≡ old.desk.next_delivery → IsToldBy schema old world

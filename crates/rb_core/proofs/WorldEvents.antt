@@ -1,6 +1,6 @@
 -- Each event preserves the invariant of a world, by the cases of its outcome.
 use Rattle.std.proofs.Common.{◌≡◌, ◌↔◌, ℕ, Bool, true, false, cond, List, [], ◌∷◌, ◌++◌, Option, Some, None, Result, Ok}
-use Rattle.std.proofs.Common.{Err, length, nat_le, ◌≤◌, ◌+◌, slice_get, slice_set, refl, sym, ap, subst, ◌∙◌, arith}
+use Rattle.std.proofs.Common.{Err, suc, length, nat_le, ◌≤◌, ◌+◌, slice_get, slice_set, refl, sym, ap, subst, ◌∙◌, arith}
 use Rattle.std.specs.Prelude.{IfSome, ⊤, not, ◌==◌, ◌-◌}
 use Rattle.std.specs.List.{AllByRecursion}
 use Rattle.std.proofs.lemmas.Bool.{leb-false}
@@ -33,16 +33,18 @@ use Rattle.rb_core.specs.declared.publisher.Staged.{Staged}
 use Rattle.rb_core.specs.declared.reply.Reply.{Reply}
 use Rattle.rb_core.specs.Outcome.{fed_by, reset_by, staged_by, ended_by, ended_for, sent_while, sent_by, sent_for}
 use Rattle.rb_core.specs.Outcome.{turned_with, subscribed_by, delivered_for, accepted_by, accepted_at, accepted_as}
-use Rattle.rb_core.specs.Outcome.{acked_by_desk, acked_at, acked_for, nacked_by_desk, nacked_for, reconnected_with}
+use Rattle.rb_core.specs.Outcome.{expired_by_desk, acked_by_desk, acked_at, acked_for, nacked_by_desk, nacked_for, reconnected_with}
 use Rattle.rb_core.specs.Outcome.{reconnected_for, unsubscribed_with, unsubscribed_for, delivery_of, with_endpoint}
 use Rattle.rb_core.specs.Outcome.{outcome, entry_of, withdrawn_from, withdrawn_by, withdrawn_for}
 use Rattle.rb_core.specs.Outcome as outcome
 use Rattle.rb_core.specs.State.{State, empty_tables, member_of_end, AdmitsBody, AdmitsStaged, IsWorld, is_withdrawn}
-use Rattle.rb_core.proofs.DeskLaws.{KeepsLimits, KeepsPictures, DeskShows, beside, subscribe_keeps, take_keeps}
+use Rattle.rb_core.proofs.DeskLaws.{KeepsLimits, KeepsPictures, DeskShows, subscribe_keeps, take_keeps}
 use Rattle.rb_core.proofs.DeskLaws.{take_any_keeps, ack_keeps, nack_keeps, expire_keeps, reconnect_keeps}
 use Rattle.rb_core.proofs.DeskLaws.{unsubscribe_keeps, close_keeps, place_keeps}
 use Rattle.rb_core.proofs.Worlds.{apart, worlds_changed, same_outline, handed_over, placed_next, set_end, same_end}
-use Rattle.rb_core.proofs.Worlds.{found_end, marks_changed}
+use Rattle.rb_core.proofs.Worlds.{found_end, marks_changed, any_steps}
+use Rattle.rb_desk.proofs.journals.KeepLaws.{call_after}
+use Rattle.rb_desk.specs.Journaled.{answer_after, closing_steps}
 use Rattle.rb_core.proofs.Marks.{marks_within}
 use Rattle.rb_core.proofs.Moving.{all_get, all_set}
 use Rattle.rb_core.proofs.Numbers.{found_within}
@@ -197,18 +199,22 @@ withdraw_keeps law old p n (Some publisher) good = withdraw_by_keeps law old p n
 -- ---- the sequence
 
 placed_keeps : KeepsPictures → DeskShows → (mid : State) (item : Item) (r : Result ℕ DeskRefusal)
-    → desk.prepare mid.desk ≡ r → AdmitsBody mid.schema item.body → IsWorld mid
+    → ((number : ℕ) → r ≡ Ok number → desk.prepare mid.desk ≡ Ok number) → AdmitsBody mid.schema item.body → IsWorld mid
     → IsWorld (outcome.placed mid item r).1
 placed_keeps keeps shows mid item (Ok number) is admits good =
-    placed_next mid (desk.place mid.desk) number item good (place_keeps keeps mid.desk number is good.picture)
-    (shows.places mid.desk number is) admits
+    let ready = is number refl in
+    any_steps _ (suc mid.steps)
+    (placed_next mid (desk.place mid.desk) number item good (place_keeps keeps mid.desk number ready good.picture)
+    (shows.places mid.desk number ready) admits)
 placed_keeps keeps shows mid item (Err why) is admits good = good
 
 turned_keeps : KeepsPictures → DeskShows → (mid : State) (hand : Option Item)
     → IfSome hand (λ item. AdmitsBody mid.schema item.body) → IsWorld mid → IsWorld (turned_with mid hand).1
 turned_keeps keeps shows mid None admits good = good
 turned_keeps keeps shows mid (Some item) admits good =
-    placed_keeps keeps shows mid item (desk.prepare mid.desk) refl admits good
+    placed_keeps keeps shows mid item (answer_after mid.steps (desk.prepare mid.desk))
+    (λ number is. ap (λ (r : Result ℕ DeskRefusal × Picture). r.0)
+    (call_after mid.steps (desk.prepare mid.desk, mid.desk) number is)) admits good
 
 -- no more waits once an item was pulled
 fewer_wait : (hand : Option Item) (intake : List Item) → length (outcome.rest_of hand intake) ≤ length intake
@@ -248,9 +254,10 @@ end_sequence_keeps : KeepsPictures → DeskShows → (old : State) → IsWorld o
 end_sequence_keeps keeps shows old good =
     let new = (desk.close old.desk).1 in
     let ends = shows.closes old.desk (desk.close old.desk).0 new good.picture refl in
-    worlds_changed old new old.endpoints good (close_keeps keeps old.desk good.picture)
+    any_steps _ (old.steps + length (closing_steps old.desk.closing))
+    (worlds_changed old new old.endpoints good (close_keeps keeps old.desk good.picture)
     (ap (λ (o : Outline). o.front) ends.kept) (ap (λ (o : Outline). o.next_delivery) ends.kept)
-    (good.members ∙ sym (ap (λ (o : Outline). o.members) ends.kept)) (omega arith)
+    (good.members ∙ sym (ap (λ (o : Outline). o.members) ends.kept)) (omega arith))
 
 -- ---- subscriptions
 
@@ -264,22 +271,26 @@ world_events_subscribed_keeps old start (Ok made) new good picture joins =
     let members = map_push member_of_end old.endpoints end
     ∙ ap (λ (ms : List Member). ms ++ member_of_end end ∷ []) good.members
     ∙ sym (ap (λ (o : Outline). o.members) join.kept) in
-    worlds_changed old new (old.endpoints ++ end ∷ []) good picture (ap (λ (o : Outline). o.front) join.kept)
+    any_steps _ (suc old.steps)
+    (worlds_changed old new (old.endpoints ++ end ∷ []) good picture (ap (λ (o : Outline). o.front) join.kept)
     (ap (λ (o : Outline). o.next_delivery) join.kept) members
-    (omega (arith, length-append old.endpoints (end ∷ [])))
+    (omega (arith, length-append old.endpoints (end ∷ []))))
 world_events_subscribed_keeps old start (Err why) new good picture joins = good
 
 subscription_keeps : KeepsPictures → DeskShows → (old : State) (start : ℕ) → IsWorld old
-    → IsWorld (subscribed_by old start (desk.subscribe old.desk start).0 (desk.subscribe old.desk start).1).1
+    → IsWorld (subscribed_by old start (answer_after old.steps (desk.subscribe old.desk start).0)
+    (desk.subscribe old.desk start).1).1
 subscription_keeps keeps shows old start good =
     let call = desk.subscribe old.desk start in
-    world_events_subscribed_keeps old start call.0 call.1 good (subscribe_keeps keeps old.desk start good.picture)
-    (λ made is. shows.subscribes old.desk start made.0 made.1 call.1 (ap (beside call.1) is))
+    world_events_subscribed_keeps old start (answer_after old.steps call.0) call.1 good
+    (subscribe_keeps keeps old.desk start good.picture)
+    (λ made is. shows.subscribes old.desk start made.0 made.1 call.1 (call_after old.steps call made is))
 
 handed_keeps : (old : State) (r : Result Delivery DeskRefusal) (new : Picture) → IsWorld old → KeepsLimits old.desk new
     → ((delivery : Delivery) → r ≡ Ok delivery → outline.Delivers (outline_of old.desk) (outline_of new) delivery)
     → IsWorld (outcome.delivered_by old r new).1
-handed_keeps old (Ok delivery) new good picture hands = handed_over old new delivery good picture (hands delivery refl)
+handed_keeps old (Ok delivery) new good picture hands =
+    any_steps _ (suc old.steps) (handed_over old new delivery good picture (hands delivery refl))
 handed_keeps old (Err why) new good picture hands = good
 
 taken_keeps : KeepsPictures → DeskShows → (old : State) (s now : ℕ) (found : Option Endpoint) → IsWorld old
@@ -287,16 +298,18 @@ taken_keeps : KeepsPictures → DeskShows → (old : State) (s now : ℕ) (found
 taken_keeps keeps shows old s now None good = good
 taken_keeps keeps shows old s now (Some end) good =
     let call = desk.take old.desk s end.link end.cursor now in
-    handed_keeps old call.0 call.1 good (take_keeps keeps old.desk s end.link end.cursor now good.picture)
+    handed_keeps old (answer_after old.steps call.0) call.1 good
+    (take_keeps keeps old.desk s end.link end.cursor now good.picture)
     (λ delivery is. (shows.takes old.desk s end.link end.cursor now delivery call.1 good.picture
-    (ap (beside call.1) is)).1)
+    (call_after old.steps call delivery is)).1)
 
 taken_any_keeps : KeepsPictures → DeskShows → (old : State) (now : ℕ) → IsWorld old
-    → IsWorld (outcome.delivered_by old (desk.take_any old.desk now).0 (desk.take_any old.desk now).1).1
+    → IsWorld (outcome.delivered_by old (answer_after old.steps (desk.take_any old.desk now).0)
+    (desk.take_any old.desk now).1).1
 taken_any_keeps keeps shows old now good =
     let call = desk.take_any old.desk now in
-    handed_keeps old call.0 call.1 good (take_any_keeps keeps old.desk now good.picture)
-    (λ delivery is. shows.takes_any old.desk now delivery call.1 good.picture (ap (beside call.1) is))
+    handed_keeps old (answer_after old.steps call.0) call.1 good (take_any_keeps keeps old.desk now good.picture)
+    (λ delivery is. shows.takes_any old.desk now delivery call.1 good.picture (call_after old.steps call delivery is))
 
 -- ---- deliveries
 
@@ -325,7 +338,8 @@ accepted_as_keeps steps old (Some delivery) good =
 
 settled_keeps : (old : State) (r : Result ℕ DeskRefusal) (new : Picture) → IsWorld old → KeepsLimits old.desk new
     → ((floor : ℕ) → r ≡ Ok floor → outline_of new ≡ outline_of old.desk) → IsWorld (acked_by_desk old r new).1
-settled_keeps old (Ok floor) new good picture same = same_outline old new good picture (same floor refl)
+settled_keeps old (Ok floor) new good picture same =
+    any_steps _ (suc old.steps) (same_outline old new good picture (same floor refl))
 settled_keeps old (Err why) new good picture same = good
 
 acked_at_keeps : KeepsPictures → DeskShows → (old : State) (delivery : Delivery) (found : Option Endpoint) → IsWorld old
@@ -333,10 +347,10 @@ acked_at_keeps : KeepsPictures → DeskShows → (old : State) (delivery : Deliv
 acked_at_keeps keeps shows old delivery None good = good
 acked_at_keeps keeps shows old delivery (Some end) good =
     let call = desk.ack old.desk delivery.sub delivery.link delivery.number end.cursor in
-    settled_keeps old call.0 call.1 good
+    settled_keeps old (answer_after old.steps call.0) call.1 good
     (ack_keeps keeps old.desk delivery.sub delivery.link delivery.number end.cursor good.picture)
     (λ floor is. shows.acks old.desk delivery.sub delivery.link delivery.number end.cursor floor call.1
-    (ap (beside call.1) is))
+    (call_after old.steps call floor is))
 
 acked_keeps : KeepsPictures → DeskShows → (old : State) (found : Option Delivery) → IsWorld old
     → IsWorld (acked_for old found).1
@@ -346,7 +360,8 @@ acked_keeps keeps shows old (Some delivery) good =
 
 returned_keeps : (old : State) (r : Result ⊤ DeskRefusal) (new : Picture) → IsWorld old → KeepsLimits old.desk new
     → (r ≡ Ok tt → outline_of new ≡ outline_of old.desk) → IsWorld (nacked_by_desk old r new).1
-returned_keeps old (Ok done) new good picture same = same_outline old new good picture (same refl)
+returned_keeps old (Ok done) new good picture same =
+    any_steps _ (suc old.steps) (same_outline old new good picture (same refl))
 returned_keeps old (Err why) new good picture same = good
 
 nacked_keeps : KeepsPictures → DeskShows → (old : State) (found : Option Delivery) → IsWorld old
@@ -354,16 +369,22 @@ nacked_keeps : KeepsPictures → DeskShows → (old : State) (found : Option Del
 nacked_keeps keeps shows old None good = good
 nacked_keeps keeps shows old (Some delivery) good =
     let call = desk.nack old.desk delivery.sub delivery.link delivery.number in
-    returned_keeps old call.0 call.1 good
+    returned_keeps old (answer_after old.steps call.0) call.1 good
     (nack_keeps keeps old.desk delivery.sub delivery.link delivery.number good.picture)
-    (λ is. shows.nacks old.desk delivery.sub delivery.link delivery.number call.1 (ap (beside call.1) is))
+    (λ is. shows.nacks old.desk delivery.sub delivery.link delivery.number call.1 (call_after old.steps call tt is))
+
+expired_by_keeps : (old : State) (r : Result ℕ DeskRefusal) (new : Picture) → IsWorld old → KeepsLimits old.desk new
+    → outline_of new ≡ outline_of old.desk → IsWorld (expired_by_desk old r new).1
+expired_by_keeps old (Ok count) new good picture same =
+    any_steps _ (suc old.steps) (same_outline old new good picture same)
+expired_by_keeps old (Err why) new good picture same = good
 
 world_events_expired_keeps : KeepsPictures → DeskShows → (old : State) (now : ℕ) → IsWorld old
     → IsWorld (outcome.expired old now).1
 world_events_expired_keeps keeps shows old now good =
     let call = desk.expire old.desk now in
-    same_outline old call.1 good (expire_keeps keeps old.desk now good.picture)
-    (shows.expires old.desk now call.0 call.1 refl)
+    expired_by_keeps old (answer_after old.steps (Ok call.0)) call.1 good
+    (expire_keeps keeps old.desk now good.picture) (shows.expires old.desk now call.0 call.1 refl)
 
 -- ---- links
 
@@ -391,9 +412,10 @@ linked_keeps : (old : State) (s : ℕ) (end : Endpoint) (r : Result ℕ DeskRefu
 linked_keeps old s end (Ok link) new here good picture relinks =
     let h = relinks link refl in
     let is = found_end old s end h.member good here h.found in
-    changed_end old s (record end { link = link }) (record h.member { link = link }) new good picture
+    any_steps _ (suc old.steps)
+    (changed_end old s (record end { link = link }) (record h.member { link = link }) new good picture
     (ap (λ (o : Outline). o.front) h.kept) (ap (λ (o : Outline). o.next_delivery) h.kept)
-    (ap (λ (o : Outline). o.members) h.kept) (ap (λ (m : Member). record m { link = link }) (sym is))
+    (ap (λ (o : Outline). o.members) h.kept) (ap (λ (m : Member). record m { link = link }) (sym is)))
 linked_keeps old s end (Err why) new here good picture relinks = good
 
 world_events_reconnected_keeps : KeepsPictures → DeskShows → (old : State) (s cursor : ℕ) (found : Option Endpoint)
@@ -401,8 +423,9 @@ world_events_reconnected_keeps : KeepsPictures → DeskShows → (old : State) (
 world_events_reconnected_keeps keeps shows old s cursor None is good = good
 world_events_reconnected_keeps keeps shows old s cursor (Some end) is good =
     let call = desk.reconnect old.desk s cursor in
-    linked_keeps old s end call.0 call.1 is good (reconnect_keeps keeps old.desk s cursor good.picture)
-    (λ link e. shows.reconnects old.desk s cursor link call.1 (ap (beside call.1) e))
+    linked_keeps old s end (answer_after old.steps call.0) call.1 is good
+    (reconnect_keeps keeps old.desk s cursor good.picture)
+    (λ link e. shows.reconnects old.desk s cursor link call.1 (call_after old.steps call link e))
 
 left_keeps : (old : State) (s : ℕ) (end : Endpoint) (r : Result ⊤ DeskRefusal) (new : Picture)
     → slice_get old.endpoints s ≡ Some end → IsWorld old → KeepsLimits old.desk new
@@ -411,9 +434,10 @@ left_keeps : (old : State) (s : ℕ) (end : Endpoint) (r : Result ⊤ DeskRefusa
 left_keeps old s end (Ok done) new here good picture leaves =
     let h = leaves refl in
     let is = found_end old s end h.member good here h.found in
-    changed_end old s (record end { closed = true }) (record h.member { closed = true }) new good picture
+    any_steps _ (suc old.steps)
+    (changed_end old s (record end { closed = true }) (record h.member { closed = true }) new good picture
     (ap (λ (o : Outline). o.front) h.kept) (ap (λ (o : Outline). o.next_delivery) h.kept)
-    (ap (λ (o : Outline). o.members) h.kept) (ap (λ (m : Member). record m { closed = true }) (sym is))
+    (ap (λ (o : Outline). o.members) h.kept) (ap (λ (m : Member). record m { closed = true }) (sym is)))
 left_keeps old s end (Err why) new here good picture leaves = good
 
 world_events_unsubscribed_keeps : KeepsPictures → DeskShows → (old : State) (s : ℕ) (found : Option Endpoint)
@@ -421,8 +445,9 @@ world_events_unsubscribed_keeps : KeepsPictures → DeskShows → (old : State) 
 world_events_unsubscribed_keeps keeps shows old s None is good = good
 world_events_unsubscribed_keeps keeps shows old s (Some end) is good =
     let call = desk.unsubscribe old.desk s end.link in
-    left_keeps old s end call.0 call.1 is good (unsubscribe_keeps keeps old.desk s end.link good.picture)
-    (λ e. shows.unsubscribes old.desk s end.link call.1 (ap (beside call.1) e))
+    left_keeps old s end (answer_after old.steps call.0) call.1 is good
+    (unsubscribe_keeps keeps old.desk s end.link good.picture)
+    (λ e. shows.unsubscribes old.desk s end.link call.1 (call_after old.steps call tt e))
 
 -- ---- all of these
 

@@ -118,6 +118,22 @@ marks_changed old marks good few = record {
   marks = few;
 }
 
+-- nothing depends on how many steps the desk has made
+pub any_steps : (w : State) (steps : ℕ) → IsWorld w → IsWorld (record w { steps = steps })
+any_steps w steps good = record {
+  admitted = good.admitted;
+  picture = good.picture;
+  front = good.front;
+  few = good.few;
+  waiting = good.waiting;
+  members = good.members;
+  entries = good.entries;
+  deliveries = good.deliveries;
+  next = good.next;
+  are_of = good.are_of;
+  marks = good.marks;
+}
+
 -- what waits is within the limits of a later picture
 still_waits : (old : State) (desk : Picture) → IsWorld old → desk.limits ≡ old.desk.limits
     → length old.intake ≤ desk.limits.intake

@@ -1,6 +1,8 @@
 -- What an event does: the reply, and the world after it. A refused event does not change the world,
--- except that a refused turn pulls the next item into the hand.
-use Rattle.std.specs.Prelude.{ℕ, ◌+◌, ⊤, true, List, [], ◌∷◌, ◌++◌, length, Option, Some}
+-- except that a refused turn pulls the next item into the hand. Where an event is a step of the
+-- desk, the desk's own refusals come after those of the world, and `JournalFull` is the first of
+-- them.
+use Rattle.std.specs.Prelude.{ℕ, suc, ◌+◌, ⊤, true, List, [], ◌∷◌, ◌++◌, length, Option, Some}
 use Rattle.std.specs.Prelude.{None, Result, Ok, Err, ◌==◌, slice_get, slice_set, nat_le}
 use Rattle.std.specs.Prelude.{if◌then◌else◌, ◌-◌, not}
 use Rattle.std.specs.List.{find}
@@ -17,6 +19,7 @@ use Rattle.cs_parse.specs.End.{admitted_answer}
 use Rattle.cs_parse.specs.Progress as stream
 use Rattle.cs_parse.specs.Progress.{Progress}
 use Rattle.rb_desk.specs.Calls as desk
+use Rattle.rb_desk.specs.Journaled.{answer_after, closing_steps}
 use Rattle.rb_desk.specs.declared.delivery.Delivery.{Delivery}
 use Rattle.rb_desk.specs.declared.refusal.DeskRefusal.{DeskRefusal}
 use Rattle.rb_desk.specs.declared.refusal.DeskRefusal.TheVariants.{NoSuch}
@@ -212,20 +215,24 @@ placed mid item (Ok number) = (
     sequence = mid.sequence
         ++ record { number = number; item = item } ∷ [];
     desk = desk.place mid.desk;
+    steps = suc mid.steps;
   },
 )
 placed mid item (Err why) = refused mid (refusal.Desk why)
 
 abbrev pub turned_with : State → Option Item → Reply × State
 turned_with mid None = (reply.Idle, mid)
-turned_with mid (Some item) = placed mid item (desk.prepare mid.desk)
+turned_with mid (Some item) = placed mid item (answer_after mid.steps (desk.prepare mid.desk))
 
 abbrev pub turned : State → Reply × State
 turned old = turned_with (pulled old) (pulled old).hand
 
--- Close: nothing more is placed.
+-- Close: nothing more is placed. The first one is a step of the desk.
 abbrev pub closed_by : State → ℕ × Picture → Reply × State
-closed_by old call = (reply.Closed call.0, record old { desk = call.1 })
+closed_by old call = (
+  reply.Closed call.0,
+  record old { desk = call.1; steps = old.steps + length (closing_steps old.desk.closing) },
+)
 
 abbrev pub closed : State → Reply × State
 closed old = closed_by old (desk.close old.desk)
@@ -238,6 +245,7 @@ subscribed_by old start (Ok made) picture = (
   reply.Subscriber made.0 made.1,
   record old {
     desk = picture;
+    steps = suc old.steps;
     endpoints = old.endpoints
         ++ new_endpoint start made.1 (empty_tables old.schema) ∷ [];
   },
@@ -245,21 +253,25 @@ subscribed_by old start (Ok made) picture = (
 subscribed_by old start (Err why) picture = refused old (refusal.Desk why)
 
 abbrev pub subscribed : State → ℕ → Reply × State
-subscribed old start = subscribed_by old start (desk.subscribe old.desk start).0
-    (desk.subscribe old.desk start).1
+subscribed old start = subscribed_by old start
+    (answer_after old.steps (desk.subscribe old.desk start).0) (desk.subscribe old.desk start).1
 
 -- Take: as the desk does, with the endpoint's link and cursor.
 abbrev pub delivered_by : State → Result Delivery DeskRefusal → Picture → Reply × State
 delivered_by old (Ok delivery) picture = (
   reply.Delivery delivery,
-  record old { desk = picture; deliveries = old.deliveries ++ delivery ∷ [] },
+  record old {
+    desk = picture;
+    steps = suc old.steps;
+    deliveries = old.deliveries ++ delivery ∷ [];
+  },
 )
 delivered_by old (Err why) picture = refused old (refusal.Desk why)
 
 abbrev pub delivered_for : State → ℕ → ℕ → Option Endpoint → Reply × State
 delivered_for old s now None = refused old (refusal.Desk NoSuch)
 delivered_for old s now (Some end) =
-    delivered_by old (desk.take old.desk s end.link end.cursor now).0
+    delivered_by old (answer_after old.steps (desk.take old.desk s end.link end.cursor now).0)
     (desk.take old.desk s end.link end.cursor now).1
 
 abbrev pub delivered : State → ℕ → ℕ → Reply × State
@@ -267,7 +279,7 @@ delivered old s now = delivered_for old s now (slice_get old.endpoints s)
 
 -- TakeAny: as the desk does.
 abbrev pub delivered_any : State → ℕ → Reply × State
-delivered_any old now = delivered_by old (desk.take_any old.desk now).0
+delivered_any old now = delivered_by old (answer_after old.steps (desk.take_any old.desk now).0)
     (desk.take_any old.desk now).1
 
 -- Accept: as the delivery's endpoint does, whether or not the delivery is in flight.
@@ -289,13 +301,16 @@ accepted old d = accepted_as old (delivery_of old d)
 
 -- Ack: as the desk does, with the delivery's link and its endpoint's cursor.
 abbrev pub acked_by_desk : State → Result ℕ DeskRefusal → Picture → Reply × State
-acked_by_desk old (Ok floor) picture = (reply.Floor floor, record old { desk = picture })
+acked_by_desk old (Ok floor) picture =
+    (reply.Floor floor, record old { desk = picture; steps = suc old.steps })
 acked_by_desk old (Err why) picture = refused old (refusal.Desk why)
 
 abbrev pub acked_at : State → Delivery → Option Endpoint → Reply × State
 acked_at old delivery None = refused old refusal.NoDelivery
 acked_at old delivery (Some end) =
-    acked_by_desk old (desk.ack old.desk delivery.sub delivery.link delivery.number end.cursor).0
+    acked_by_desk old
+    (answer_after old.steps
+    (desk.ack old.desk delivery.sub delivery.link delivery.number end.cursor).0)
     (desk.ack old.desk delivery.sub delivery.link delivery.number end.cursor).1
 
 abbrev pub acked_for : State → Option Delivery → Reply × State
@@ -307,35 +322,42 @@ acked old d = acked_for old (delivery_of old d)
 
 -- Nack: as the desk does, with the delivery's link.
 abbrev pub nacked_by_desk : State → Result ⊤ DeskRefusal → Picture → Reply × State
-nacked_by_desk old (Ok done) picture = (reply.Returned, record old { desk = picture })
+nacked_by_desk old (Ok done) picture =
+    (reply.Returned, record old { desk = picture; steps = suc old.steps })
 nacked_by_desk old (Err why) picture = refused old (refusal.Desk why)
 
 abbrev pub nacked_for : State → Option Delivery → Reply × State
 nacked_for old None = refused old refusal.NoDelivery
 nacked_for old (Some delivery) =
-    nacked_by_desk old (desk.nack old.desk delivery.sub delivery.link delivery.number).0
+    nacked_by_desk old
+    (answer_after old.steps (desk.nack old.desk delivery.sub delivery.link delivery.number).0)
     (desk.nack old.desk delivery.sub delivery.link delivery.number).1
 
 abbrev pub nacked : State → ℕ → Reply × State
 nacked old d = nacked_for old (delivery_of old d)
 
 -- Expire: as the desk does.
-abbrev pub expired_by_desk : State → ℕ × Picture → Reply × State
-expired_by_desk old call = (reply.Expired call.0, record old { desk = call.1 })
+abbrev pub expired_by_desk : State → Result ℕ DeskRefusal → Picture → Reply × State
+expired_by_desk old (Ok count) picture =
+    (reply.Expired count, record old { desk = picture; steps = suc old.steps })
+expired_by_desk old (Err why) picture = refused old (refusal.Desk why)
 
 abbrev pub expired : State → ℕ → Reply × State
-expired old now = expired_by_desk old (desk.expire old.desk now)
+expired old now = expired_by_desk old (answer_after old.steps (Ok (desk.expire old.desk now).0))
+    (desk.expire old.desk now).1
 
 -- Reconnect: as the desk does; the endpoint continues under the new link.
 abbrev pub reconnected_with : State → ℕ → Endpoint → Result ℕ DeskRefusal → Picture → Reply × State
-reconnected_with old s end (Ok link) picture =
-    (reply.Link link, record (with_endpoint old s (record end { link = link })) { desk = picture })
+reconnected_with old s end (Ok link) picture = (
+  reply.Link link,
+  record (with_endpoint old s (record end { link = link })) { desk = picture; steps = suc old.steps },
+)
 reconnected_with old s end (Err why) picture = refused old (refusal.Desk why)
 
 abbrev pub reconnected_for : State → ℕ → ℕ → Option Endpoint → Reply × State
 reconnected_for old s cursor None = refused old (refusal.Desk NoSuch)
 reconnected_for old s cursor (Some end) =
-    reconnected_with old s end (desk.reconnect old.desk s cursor).0
+    reconnected_with old s end (answer_after old.steps (desk.reconnect old.desk s cursor).0)
     (desk.reconnect old.desk s cursor).1
 
 abbrev pub reconnected : State → ℕ → ℕ → Reply × State
@@ -346,14 +368,14 @@ abbrev pub unsubscribed_with : State → ℕ → Endpoint → Result ⊤ DeskRef
 unsubscribed_with old s end (Ok done) picture = (
   reply.Unsubscribed,
   record (with_endpoint old s (record end { closed = true }))
-      { desk = picture },
+      { desk = picture; steps = suc old.steps },
 )
 unsubscribed_with old s end (Err why) picture = refused old (refusal.Desk why)
 
 abbrev pub unsubscribed_for : State → ℕ → Option Endpoint → Reply × State
 unsubscribed_for old s None = refused old (refusal.Desk NoSuch)
 unsubscribed_for old s (Some end) =
-    unsubscribed_with old s end (desk.unsubscribe old.desk s end.link).0
+    unsubscribed_with old s end (answer_after old.steps (desk.unsubscribe old.desk s end.link).0)
     (desk.unsubscribe old.desk s end.link).1
 
 abbrev pub unsubscribed : State → ℕ → Reply × State

@@ -2,7 +2,7 @@
 use Rattle.std.specs.Prelude.{◌≡◌, ℕ, suc, ◌+◌, ◌<◌, ◌≤◌, true, List, [], ◌∷◌, length, map}
 use Rattle.std.specs.Prelude.{replicate, Option, Some, None, IfSome, refl, Bool, false, zero, ◌-◌}
 use Rattle.std.specs.Prelude.{get_or}
-use Rattle.std.specs.Coded.{Coded, code_by, coded×, coded_list, coded_option, coded_bool}
+use Rattle.std.specs.Coded.{Coded, code_by, coded×, coded_list, coded_option, coded_bool, coded_ℕ}
 use Rattle.std.specs.FinMap as map
 use Rattle.std.specs.List.{AllByRecursion}
 use Rattle.cs_model.specs.contracts.shape.Shape as shape
@@ -27,9 +27,9 @@ use Rattle.rb_core.specs.declared.publisher.PublisherState.{PublisherState}
 
 -- A world. It has the schema, the publishers, and the intake of sent items in order. The item in
 -- hand has left the intake and has no number yet. It has the sequence, the desk's picture with the
--- limits, the subscriptions' endpoints, and all deliveries in order. It has a mark for each entry
--- up to the last withdrawn one, which says whether the entry is withdrawn. Publishers and
--- subscriptions are numbered from 0, entries and deliveries from 1.
+-- limits, how many steps the desk has made, the subscriptions' endpoints, and all deliveries in
+-- order. It has a mark for each entry up to the last withdrawn one, which says whether the entry is
+-- withdrawn. Publishers and subscriptions are numbered from 0, entries and deliveries from 1.
 pub record State : Type 0 where
   pub schema : List Shape
   pub publishers : List PublisherState
@@ -37,6 +37,7 @@ pub record State : Type 0 where
   pub hand : Option Item
   pub sequence : List Entry
   pub desk : Picture
+  pub steps : ℕ
   pub endpoints : List Endpoint
   pub deliveries : List Delivery
   pub withdrawn : List Bool
@@ -50,6 +51,7 @@ empty_world limits schema = record {
   hand = None;
   sequence = [];
   desk = empty_picture limits;
+  steps = 0;
   endpoints = [];
   deliveries = [];
   withdrawn = [];
@@ -136,19 +138,20 @@ world_code =
     × (List PublisherState
     × (List Item
     × (Option Item
-    × (List Entry × (Picture × (List Endpoint × (List Delivery × List Bool))))))))
+    × (List Entry × (Picture × (ℕ × (List Endpoint × (List Delivery × List Bool)))))))))
     (coded× (coded_list shape.the_row.coded)
     (coded× (coded_list publisher.the_row.coded) (coded× (coded_list item.the_row.coded)
     (coded× (coded_option item.the_row.coded)
-    (coded× (coded_list entry_code) (coded× picture_code (coded× (coded_list endpoint_code)
-    (coded× (coded_list delivery.the_row.coded) (coded_list coded_bool)))))))))
+    (coded× (coded_list entry_code) (coded× picture_code (coded× coded_ℕ
+    (coded× (coded_list endpoint_code)
+    (coded× (coded_list delivery.the_row.coded) (coded_list coded_bool))))))))))
     (λ w. (
       w.schema,
       (
         w.publishers,
         (
           w.intake,
-          (w.hand, (w.sequence, (w.desk, (w.endpoints, (w.deliveries, w.withdrawn))))),
+          (w.hand, (w.sequence, (w.desk, (w.steps, (w.endpoints, (w.deliveries, w.withdrawn)))))),
         ),
       ),
     ))
@@ -159,8 +162,9 @@ world_code =
       hand = p.1.1.1.0;
       sequence = p.1.1.1.1.0;
       desk = p.1.1.1.1.1.0;
-      endpoints = p.1.1.1.1.1.1.0;
-      deliveries = p.1.1.1.1.1.1.1.0;
-      withdrawn = p.1.1.1.1.1.1.1.1;
+      steps = p.1.1.1.1.1.1.0;
+      endpoints = p.1.1.1.1.1.1.1.0;
+      deliveries = p.1.1.1.1.1.1.1.1.0;
+      withdrawn = p.1.1.1.1.1.1.1.1.1;
     })
     (λ _. refl)

@@ -116,6 +116,10 @@ impl Parts {
         ensures memory { OnErr result (MayRunOut (event.Expire now)
             (outcome.expired self.old now).0) }
     {
-        Ok(Reply::Expired(self.desk.expire(now)?))
+        match self.desk.expire(now) {
+            Ok(count) => Ok(Reply::Expired(count)),
+            Err(DeskError::Refused(why)) => refused(BrokerRefusal::Desk(why)),
+            Err(DeskError::Memory) => Err(AllocError),
+        }
     }
 }

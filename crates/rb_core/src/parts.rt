@@ -6,7 +6,7 @@ ghost use Rattle.rb_core.specs.State.{empty_world};
 
 use crate::publisher::PublisherState;
 use cs_model::Schema;
-use rb_desk::{Config, Delivery, Desk};
+use rb_desk::{Config, Delivery, TalliedBoard};
 use rb_sequence::{Entry, Item};
 use rb_subscriber::Endpoint;
 use std::alloc::Global;
@@ -23,7 +23,7 @@ pub(crate) struct Parts {
     pub(crate) intake: VecDeque<Item>,
     pub(crate) hand: Option<Item>,
     pub(crate) sequence: Vec<Entry>,
-    pub(crate) desk: Desk,
+    pub(crate) desk: TalliedBoard,
     pub(crate) endpoints: Vec<Endpoint>,
     pub(crate) deliveries: Vec<Delivery>,
     /// Whether the entry at each place is withdrawn. An entry past its end isn't.
@@ -44,7 +44,8 @@ impl Model for Parts {
       intake = w.intake.items;
       hand = w.hand;
       sequence = w.sequence.items;
-      desk = w.desk;
+      desk = w.desk.picture;
+      steps = w.desk.steps;
       endpoints = w.endpoints.items;
       deliveries = w.deliveries.items;
       withdrawn = w.withdrawn.items;
@@ -62,7 +63,7 @@ impl Parts {
             intake: VecDeque::new(alloc),
             hand: None,
             sequence: Vec::new(alloc),
-            desk: Desk::new(alloc, config),
+            desk: TalliedBoard::new(alloc, config),
             endpoints: Vec::new(alloc),
             deliveries: Vec::new(alloc),
             withdrawn: Vec::new(alloc),

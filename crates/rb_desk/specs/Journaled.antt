@@ -3,7 +3,7 @@
 use Rattle.std.specs.Prelude.{◌≡◌, ℕ, suc, ◌+◌, Bool, true, false, nat_le, List, [], ◌∷◌, ◌++◌}
 use Rattle.std.specs.Prelude.{length, Option, Some, None, Result, Ok, Err, IsOk, if◌then◌else◌, refl}
 use Rattle.std.specs.Coded.{Coded, code_by, coded×, coded_list, coded_ℕ}
-use Rattle.std.specs.List.{filter}
+use Rattle.std.specs.List.{count_by}
 use Rattle.rb_desk.specs.contracts.step.Step as step
 use Rattle.rb_desk.specs.declared.refusal.DeskError.{DeskError}
 use Rattle.rb_desk.specs.declared.refusal.DeskError.TheVariants.{Refused, Memory}
@@ -94,12 +94,7 @@ is_own Close = false
 
 -- how many steps of a kind there are
 abbrev pub counted : (Step → Bool) → List Step → ℕ
-counted kind steps = length (filter kind steps)
-
--- the tally that a step of a kind adds
-abbrev pub one_if : Bool → ℕ
-one_if true = 1
-one_if false = 0
+counted kind steps = count_by kind steps
 
 -- states are stored as their parts
 abbrev pub journaled_code : Coded Journaled

@@ -1,7 +1,8 @@
 //! Laws of the desk: what holds of every picture and of every list of calls. Each law is a public
 //! function that does nothing; its contract is the law. Call the function to use the law.
 
-ghost use Rattle.std.specs.Prelude.{◌≡◌, ℕ, ◌≤◌, List, Ok, Err};
+ghost use Rattle.std.specs.Prelude.{◌≡◌, ℕ, ◌+◌, ◌≤◌, ◌++◌, ◌∷◌, Bool, if◌then◌else◌, List, []};
+ghost use Rattle.std.specs.Prelude.{length, Ok, Err};
 ghost use Rattle.rb_desk.specs.declared.delivery.Delivery.{Delivery};
 ghost use Rattle.rb_desk.specs.declared.refusal.DeskRefusal.{DeskRefusal};
 ghost use Rattle.rb_desk.specs.declared.step.Step.{Step};
@@ -13,6 +14,7 @@ ghost use Rattle.rb_desk.specs.Steps.{after_step, replayed, replay, links_given,
 ghost use Rattle.rb_desk.specs.Steps.{RisesAbove, FloorsRise};
 ghost use Rattle.rb_desk.specs.Outline.{outline_of};
 ghost use Rattle.rb_desk.specs.Outline as outline;
+ghost use Rattle.rb_desk.specs.Journaled.{Journaled, counted, is_own, journaled};
 ghost use Rattle.rb_desk.specs.IsPicture.{AreInRange, IsPicture};
 
 /// Every call preserves the invariant of a picture (*IsPicture*), whatever its operands are.
@@ -92,4 +94,17 @@ pub fn refused_calls_change_nothing()
         → reconnect old s cursor ≡ (Err why, new) → new ≡ old }
     ensures unsubscribe { (old : Picture) (s link : ℕ) (why : DeskRefusal) (new : Picture)
         → unsubscribe old s link ≡ (Err why, new) → new ≡ old }
+{}
+
+/// How many steps of a kind a journal has: none at first, and one more with each step of the kind.
+/// So if a ledger's book grows by one in each call of a subscription's own that isn't refused
+/// (*is_own*), and in no other, it holds how many of these steps the journal has.
+pub fn steps_are_counted()
+    ensures none { (kind : Step → Bool) → counted kind [] ≡ 0 }
+    ensures more { (kind : Step → Bool) (steps : List Step) (step : Step)
+        → counted kind (steps ++ step ∷ []) ≡ counted kind steps + (if kind step then 1 else 0) }
+    ensures few { (kind : Step → Bool) (steps : List Step) → counted kind steps ≤ length steps }
+    ensures own { (old : Journaled) (step : Step) (picture : Picture)
+        → counted is_own (journaled old step picture).steps
+        ≡ counted is_own old.steps + (if is_own step then 1 else 0) }
 {}

@@ -45,6 +45,7 @@ desk_text (desk.NotAccepted cursor) = refl
 desk_text (desk.BadCursor floor offered) = refl
 desk_text (desk.StartAhead front) = refl
 desk_text desk.TooMany = refl
+desk_text desk.JournalFull = refl
 desk_text desk.SequenceFull = refl
 
 end_text : (why : AcceptRefusal) → is_refusal (line_of (end_refusal_text why)) ≡ true

@@ -47,6 +47,7 @@ desk_refusal_text (desk.BadCursor floor offered) = codes "refused BadCursor "
     ++ (decimal floor ++ (codes " " ++ decimal offered))
 desk_refusal_text (desk.StartAhead front) = codes "refused StartAhead " ++ decimal front
 desk_refusal_text desk.TooMany = codes "refused TooMany"
+desk_refusal_text desk.JournalFull = codes "refused JournalFull"
 desk_refusal_text desk.SequenceFull = codes "refused SequenceFull"
 
 -- why a subscription's endpoint refuses

@@ -78,6 +78,7 @@ pub fn text_of_desk_refusal(alloc: Global, why: DeskRefusal) -> Result<String, A
     ensures { IfOk result (λ text. string_bytes text ≡ desk_refusal_text why) }
 {
     match why {
+        DeskRefusal::JournalFull => format!(in alloc; "refused JournalFull"),
         DeskRefusal::NoSuch => format!(in alloc; "refused NoSuch"),
         DeskRefusal::StaleLink => format!(in alloc; "refused StaleLink"),
         DeskRefusal::Closed => format!(in alloc; "refused Closed"),

@@ -92,8 +92,8 @@ impl<L: Hall> Sequencer<L> {
 
     /// Takes one turn. If the hand is empty, pulls the next item. Then places the item in hand.
     ///
-    /// Returns `Idle` if nothing waits. `Refused` leaves the item in hand: the sequence is closed
-    /// or full, its cell is set, or memory ran out.
+    /// Returns `Idle` if nothing waits. `Refused` leaves the item in hand: the journal is full, the
+    /// sequence is closed or full, its cell is set, or memory ran out.
     pub fn turn<R: Wait>(&mut self, rt: &R, alloc: Global, broker: &Broker<L>) -> Turn
         ensures { IsTurn L.cells self.old self.new result }
     {

@@ -68,6 +68,7 @@ fn desks_say_why(rt: HostRuntime) -> Result<(), Fail> {
         ),
         (DeskRefusal::TooMany, "there are 1,024 subscriptions"),
         (DeskRefusal::SequenceFull, "the sequence is full"),
+        (DeskRefusal::JournalFull, "the journal is full"),
     ];
     says(&rt, rt.alloc(), &table)?;
     let errors = [

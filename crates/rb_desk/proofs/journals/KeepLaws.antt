@@ -1,13 +1,29 @@
 -- One step more: the journal still leads to the picture, its length is the tally, and a closing has room.
 use Rattle.std.proofs.Common.{◌≡◌, ℕ, suc, ◌+◌, ◌≤◌, List, [], ◌∷◌, ◌++◌, length, Option, Some, None, Ok, refl, sym}
-use Rattle.std.proofs.Common.{ap, ◌∙◌, length-append, arith}
+use Rattle.std.proofs.Common.{ap, ◌∙◌, length-append, arith, Bool, true, false, cond, Result, Err}
 use Rattle.rb_desk.specs.Calls.{prepare, place, close, last_number}
 use Rattle.rb_desk.specs.Journal.{Log}
-use Rattle.rb_desk.specs.Journaled.{Tallied, tallied}
+use Rattle.rb_desk.specs.Journaled.{Tallied, tallied, answer_after, is_full}
+use Rattle.rb_desk.specs.declared.refusal.DeskRefusal.{DeskRefusal}
+use Rattle.rb_desk.specs.declared.refusal.DeskRefusal.TheVariants.{JournalFull}
 use Rattle.rb_desk.specs.Picture.{Picture, empty_picture}
 use Rattle.rb_desk.specs.Steps.{after_step, placed_if, replayed, replay}
 use Rattle.rb_desk.specs.declared.step.Step.{Step}
 use Rattle.rb_desk.specs.declared.step.Step.TheVariants.{Place, Close}
+
+-- ---- a call after so many steps
+
+ok_unless : {A : Type 0} (full : Bool) (answer : Result A DeskRefusal) (a : A)
+    → cond full (Err JournalFull) answer ≡ Ok a → answer ≡ Ok a
+ok_unless true answer a is = absurd cc
+ok_unless false answer a is = is
+
+-- what is Ok after so many steps is Ok
+pub call_after : {A : Type 0} (steps : ℕ) (call : Result A DeskRefusal × Picture) (a : A)
+    → answer_after steps call.0 ≡ Ok a → call ≡ (Ok a, call.1)
+call_after {A} steps call a is = ap (λ (r : Result A DeskRefusal). (r, call.1)) (ok_unless (is_full steps) call.0 a is)
+
+-- ---- what is kept
 
 -- what a desk keeps of its board and its journal
 abbrev pub IsKept : Tallied → Log → Type 0
