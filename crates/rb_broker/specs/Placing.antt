@@ -4,7 +4,7 @@ use Rattle.rb_desk.specs.declared.refusal.DeskRefusal.{DeskRefusal}
 use Rattle.rb_desk.specs.declared.refusal.DeskRefusal.TheVariants as desk
 use Rattle.rb_desk.specs.declared.step.Step.TheVariants.{Place}
 use Rattle.rb_desk.specs.Calls.{prepare, place, close}
-use Rattle.rb_desk.specs.Journaled.{Journaled, answer_after, closing_steps, journaled}
+use Rattle.rb_desk.specs.Journaled.{JournaledPicture, answer_after, closing_steps, journaled}
 use Rattle.rb_sequence.specs.Cells.{Cells, CellToken, IsLastToken, IsTokenOf, LastToken}
 use Rattle.rb_sequence.specs.Entry.{Entry}
 use Rattle.rb_broker.specs.declared.refusal.PlaceRefusal.{PlaceRefusal}
@@ -26,30 +26,32 @@ IsWhy (Err desk.Closed) n why = why ≡ Closed
 IsWhy (Err other) n why = why ≡ SequenceFull
 IsWhy (Ok next) n why = why ≡ Occupied
 
--- what the desk's `prepare` returns
-abbrev pub prepared : Journaled → Result ℕ DeskRefusal
-prepared desk = answer_after (length desk.steps) (prepare desk.picture)
+-- the number that the desk would place, or why none
+abbrev pub number_to_place : JournaledPicture → Result ℕ DeskRefusal
+number_to_place desk = answer_after (length desk.steps) (prepare desk.picture)
 
 -- What the hold returns and leaves. The entry is in its cell, and the desk has placed its number;
 -- or the item comes back, and the desk is as before.
-abbrev pub PlacesEntry : Result CellToken RefusedItem → Cells → Entry → Journaled → Journaled → Type 0
+abbrev pub PlacesEntry : Result CellToken RefusedItem → Cells → Entry → JournaledPicture
+    → JournaledPicture → Type 0
 PlacesEntry (Ok told) cells entry old new = ShowsEntry cells told entry
-    × (prepared old ≡ Ok entry.number) × (new ≡ journaled old Place (place old.picture))
+    × (number_to_place old ≡ Ok entry.number) × (new ≡ journaled old Place (place old.picture))
 PlacesEntry (Err refused) cells entry old new = (refused.item ≡ entry.item)
-    × IsWhy (prepared old) entry.number refused.why × (new ≡ old)
+    × IsWhy (number_to_place old) entry.number refused.why × (new ≡ old)
 
 -- why no number is placed that has no cell
-abbrev pub RefusesPlace : Journaled → PlaceRefusal → Type 0
-RefusesPlace desk why = IsWhy (prepared desk) 0 why
+abbrev pub RefusesPlace : JournaledPicture → PlaceRefusal → Type 0
+RefusesPlace desk why = IsWhy (number_to_place desk) 0 why
 
 -- the desk is closed
-abbrev pub ClosesDesk : Journaled → Journaled → Type 0
+abbrev pub ClosesDesk : JournaledPicture → JournaledPicture → Type 0
 ClosesDesk old new = (new.picture ≡ (close old.picture).1)
     × (new.steps ≡ old.steps ++ closing_steps old.picture.closing)
 
 -- What the hold returns and leaves that closes. The token is of the closing cell. Either the cell
 -- was set and the desk is as before; or the desk is closed, and the token shows its closing number.
-abbrev pub ClosesBoth : Option LastToken → Cells → Journaled → Journaled → Type 0
+abbrev pub ClosesBoth : Option LastToken → Cells → JournaledPicture → JournaledPicture
+    → Type 0
 ClosesBoth (Some told) cells old new = IsLastToken cells told
     × ((new ≡ old) ⊎ ((told.last ≡ (close old.picture).0) × ClosesDesk old new))
 ClosesBoth None cells old new = ClosesDesk old new

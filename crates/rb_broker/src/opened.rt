@@ -46,7 +46,8 @@ impl Model for Opened {
     ghost invariant = { λ o. (o.sequencer
         ≡ record { queue = o.intake.queue; pulled = []; ended = [] })
         × (o.maker ≡ record { queue = o.intake.queue; made = 0 })
-        × (o.desk ≡ record { picture = empty_picture o.config; steps = [] }) × (o.sequence.capacity ≡ o.config.capacity)
+        × (o.desk ≡ record { picture = empty_picture o.config; steps = [] })
+        × (o.sequence.capacity ≡ o.config.capacity)
         × (o.preparer ≡ o.sequence) × (o.filler ≡ o.sequence) };
 }
 

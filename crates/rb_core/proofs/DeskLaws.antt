@@ -1,7 +1,6 @@
 -- The desk's laws in the form that the lemmas here use: what a call preserves, and what it changes in the outline.
-use Rattle.std.proofs.Common.{◌≡◌, ℕ, Result, Ok, refl, subst}
+use Rattle.std.proofs.Common.{◌≡◌, ℕ, Ok, refl, subst}
 use Rattle.rb_desk.specs.declared.delivery.Delivery.{Delivery}
-use Rattle.rb_desk.specs.declared.refusal.DeskRefusal.{DeskRefusal}
 use Rattle.rb_desk.specs.declared.step.Step.{Step}
 use Rattle.rb_desk.specs.declared.step.Step.TheVariants as step
 use Rattle.rb_desk.specs.Calls.{subscribe, take, take_any, ack, nack, expire, reconnect, unsubscribe, prepare, place}

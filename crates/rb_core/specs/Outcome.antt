@@ -350,7 +350,8 @@ expired old now = expired_by_desk old (answer_after old.steps (Ok (desk.expire o
 abbrev pub reconnected_with : State → ℕ → Endpoint → Result ℕ DeskRefusal → Picture → Reply × State
 reconnected_with old s end (Ok link) picture = (
   reply.Link link,
-  record (with_endpoint old s (record end { link = link })) { desk = picture; steps = suc old.steps },
+  record (with_endpoint old s (record end { link = link }))
+      { desk = picture; steps = suc old.steps },
 )
 reconnected_with old s end (Err why) picture = refused old (refusal.Desk why)
 

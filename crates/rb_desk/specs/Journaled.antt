@@ -1,7 +1,8 @@
 -- A desk with its journal, and what its calls return and leave. A tallied board is the same with
 -- the number of steps alone.
-use Rattle.std.specs.Prelude.{◌≡◌, ℕ, suc, ◌+◌, Bool, true, false, nat_le, List, [], ◌∷◌, ◌++◌}
-use Rattle.std.specs.Prelude.{length, Option, Some, None, Result, Ok, Err, IsOk, if◌then◌else◌, refl}
+use Rattle.std.specs.Prelude.{◌≡◌, ℕ, suc, Bool, true, false, nat_le, List, [], ◌∷◌, ◌++◌}
+use Rattle.std.specs.Prelude.{length, Option, Some, None, Result, Ok, Err, IsOk, if◌then◌else◌}
+use Rattle.std.specs.Prelude.{refl}
 use Rattle.std.specs.Coded.{Coded, code_by, coded×, coded_list, coded_ℕ}
 use Rattle.std.specs.List.{count_by}
 use Rattle.rb_desk.specs.contracts.step.Step as step
@@ -17,17 +18,17 @@ use Rattle.rb_desk.specs.Picture.{Picture, picture_code}
 use Rattle.rb_desk.specs.Steps.{replay}
 
 -- A desk: its picture, and all steps that were made, in order.
-pub record Journaled : Type 0 where
+pub record JournaledPicture : Type 0 where
   pub picture : Picture
   pub steps : List Step
 
 -- A board with a tally: its picture, and how many steps were made.
-pub record Tallied : Type 0 where
+pub record TalliedPicture : Type 0 where
   pub picture : Picture
   pub steps : ℕ
 
 -- the picture is what the steps lead to
-abbrev pub IsReplay : Journaled → Type 0
+abbrev pub IsReplay : JournaledPicture → Type 0
 IsReplay desk = replay desk.picture.limits desk.steps ≡ desk.picture
 
 -- ---- answers
@@ -49,20 +50,20 @@ CallAnswers (Err (Refused why)) call next old new = (call ≡ Err why) × (new �
 CallAnswers (Err Memory) call next old new = IsOk call × (new ≡ old)
 
 -- a call of the picture on a tallied board: an Ok is one step more
-abbrev pub tallied : Tallied → Picture → Tallied
+abbrev pub tallied : TalliedPicture → Picture → TalliedPicture
 tallied old picture = record { picture = picture; steps = suc old.steps }
 
 abbrev pub TallyAnswers : {A : Type 0} → Result A DeskError → Result A DeskRefusal × Picture
-    → Tallied → Tallied → Type 0
+    → TalliedPicture → TalliedPicture → Type 0
 TallyAnswers result call old new =
     CallAnswers result (answer_after old.steps call.0) (tallied old call.1) old new
 
 -- a call of the picture on a desk: an Ok puts its step at the end of the journal
-abbrev pub journaled : Journaled → Step → Picture → Journaled
+abbrev pub journaled : JournaledPicture → Step → Picture → JournaledPicture
 journaled old step picture = record { picture = picture; steps = old.steps ++ step ∷ [] }
 
-abbrev pub JournalAnswers : {A : Type 0} → Result A DeskError → Result A DeskRefusal × Picture → Step
-    → Journaled → Journaled → Type 0
+abbrev pub JournalAnswers : {A : Type 0} → Result A DeskError → Result A DeskRefusal × Picture
+    → Step → JournaledPicture → JournaledPicture → Type 0
 JournalAnswers result call step old new =
     CallAnswers result (answer_after (length old.steps) call.0) (journaled old step call.1) old new
 
@@ -93,15 +94,15 @@ is_own Place = false
 is_own Close = false
 
 -- how many steps of a kind there are
-abbrev pub counted : (Step → Bool) → List Step → ℕ
-counted kind steps = count_by kind steps
+abbrev pub counted_steps : (Step → Bool) → List Step → ℕ
+counted_steps kind steps = count_by kind steps
 
 -- states are stored as their parts
-abbrev pub journaled_code : Coded Journaled
+abbrev pub journaled_code : Coded JournaledPicture
 journaled_code = code_by (Picture × List Step)
     (coded× picture_code (coded_list step.the_row.coded))
     (λ d. (d.picture, d.steps)) (λ p. record { picture = p.0; steps = p.1 }) (λ _. refl)
 
-abbrev pub tallied_code : Coded Tallied
+abbrev pub tallied_code : Coded TalliedPicture
 tallied_code = code_by (Picture × ℕ) (coded× picture_code coded_ℕ)
     (λ b. (b.picture, b.steps)) (λ p. record { picture = p.0; steps = p.1 }) (λ _. refl)

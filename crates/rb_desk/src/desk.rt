@@ -34,9 +34,9 @@ pub struct Desk {
 impl Model for Desk {
     ghost use Rattle.std.specs.Prelude.{◌≡◌, ◌≤◌, None, length};
     ghost use Rattle.rb_desk.specs.Steps.{replay};
-    ghost use Rattle.rb_desk.specs.Journaled.{Journaled, journaled_code};
+    ghost use Rattle.rb_desk.specs.Journaled.{JournaledPicture, journaled_code};
 
-    ghost Value = { Journaled };
+    ghost Value = { JournaledPicture };
 
     ghost coded = { journaled_code };
 

@@ -14,7 +14,7 @@ ghost use Rattle.rb_desk.specs.Steps.{after_step, replayed, replay, links_given,
 ghost use Rattle.rb_desk.specs.Steps.{RisesAbove, FloorsRise};
 ghost use Rattle.rb_desk.specs.Outline.{outline_of};
 ghost use Rattle.rb_desk.specs.Outline as outline;
-ghost use Rattle.rb_desk.specs.Journaled.{Journaled, counted, is_own, journaled};
+ghost use Rattle.rb_desk.specs.Journaled.{JournaledPicture, counted_steps, is_own, journaled};
 ghost use Rattle.rb_desk.specs.IsPicture.{AreInRange, IsPicture};
 
 /// Every call preserves the invariant of a picture (*IsPicture*), whatever its operands are.
@@ -100,11 +100,13 @@ pub fn refused_calls_change_nothing()
 /// So if a ledger's book grows by one in each call of a subscription's own that isn't refused
 /// (*is_own*), and in no other, it holds how many of these steps the journal has.
 pub fn steps_are_counted()
-    ensures none { (kind : Step → Bool) → counted kind [] ≡ 0 }
+    ensures none { (kind : Step → Bool) → counted_steps kind [] ≡ 0 }
     ensures more { (kind : Step → Bool) (steps : List Step) (step : Step)
-        → counted kind (steps ++ step ∷ []) ≡ counted kind steps + (if kind step then 1 else 0) }
-    ensures few { (kind : Step → Bool) (steps : List Step) → counted kind steps ≤ length steps }
-    ensures own { (old : Journaled) (step : Step) (picture : Picture)
-        → counted is_own (journaled old step picture).steps
-        ≡ counted is_own old.steps + (if is_own step then 1 else 0) }
+        → counted_steps kind (steps ++ step ∷ [])
+        ≡ counted_steps kind steps + (if kind step then 1 else 0) }
+    ensures few { (kind : Step → Bool) (steps : List Step)
+        → counted_steps kind steps ≤ length steps }
+    ensures own { (old : JournaledPicture) (step : Step) (picture : Picture)
+        → counted_steps is_own (journaled old step picture).steps
+        ≡ counted_steps is_own old.steps + (if is_own step then 1 else 0) }
 {}

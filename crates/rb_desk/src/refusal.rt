@@ -5,8 +5,9 @@ ghost use Rattle.std.specs.Prelude.{◌≡◌};
 use std::alloc::AllocError;
 use thiserror::Error;
 
-/// Why a call of `Desk` or `TalliedBoard` is refused. Each variant names the calls that return it. The refused call
-/// does not change the desk. If several apply, the call returns the first in its own documentation.
+/// Why a call of `Desk` or `TalliedBoard` is refused. Each variant names the calls that return it.
+/// The refused call does not change the desk. If several apply, the call returns the first in its
+/// own documentation.
 #[derive(Clone, Copy, Debug, PartialEq, Eq, Error)]
 pub enum DeskRefusal {
     /// Every call but `close`, before its other refusals: 268,435,455 steps were made.

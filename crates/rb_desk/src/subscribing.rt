@@ -57,7 +57,12 @@ impl Board {
     /// Refuses `NoSuch`, `Closed`, and `BadCursor` if the cursor isn't between the floor and the
     /// last number delivered.
     #[tactic(auto, unfolding(crate::specs::Calls::reconnect))]
-    pub(crate) fn reconnect(&mut self, alloc: Global, sub: u64, cursor: u64) -> Result<u64, DeskError>
+    pub(crate) fn reconnect(
+        &mut self,
+        alloc: Global,
+        sub: u64,
+        cursor: u64,
+    ) -> Result<u64, DeskError>
         ensures { DeskAnswers result (reconnect self.old sub cursor) self.old self.new }
     {
         to_reconnect(&self.deliveries, sub, cursor)?;

@@ -6,9 +6,9 @@ ghost use Rattle.rb_desk.specs.Answers.{DeskAnswers, call_refusal};
 ghost use Rattle.rb_desk.specs.Shown.{why_none, WhenDelivered, FindsToTake};
 ghost use Rattle.rb_deliveries.specs.Lanes.{AreLimited, HasNumbers};
 
+use crate::board::Board;
 use crate::config::Config;
 use crate::delivery::Delivery;
-use crate::board::Board;
 use crate::refusal::{DeskError, DeskRefusal};
 use crate::subscribing::after;
 use rb_deliveries::{Deliveries, Span};

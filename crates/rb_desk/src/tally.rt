@@ -4,7 +4,8 @@ ghost use Rattle.std.specs.Prelude.{◌≡◌, ◌<◌, ◌≤◌, ◌+◌, ℕ,
 ghost use Rattle.rb_desk.specs.Answers.{call_refusal};
 ghost use Rattle.rb_desk.specs.Calls.{subscribe, take, take_any, ack, nack, expire, reconnect};
 ghost use Rattle.rb_desk.specs.Calls.{unsubscribe, prepare, place, close};
-ghost use Rattle.rb_desk.specs.Journaled.{TallyAnswers, answer_after, closing_steps, is_full, tallied};
+ghost use Rattle.rb_desk.specs.Journaled.{TallyAnswers, answer_after, closing_steps, is_full};
+ghost use Rattle.rb_desk.specs.Journaled.{tallied};
 ghost use Rattle.rb_desk.specs.Picture.{empty_picture};
 ghost use Rattle.rb_desk.specs.declared.refusal.DeskError.TheVariants.{Memory};
 
@@ -29,9 +30,9 @@ pub struct TalliedBoard {
 
 impl Model for TalliedBoard {
     ghost use Rattle.std.specs.Prelude.{◌≡◌, ◌≤◌, None};
-    ghost use Rattle.rb_desk.specs.Journaled.{Tallied, tallied_code};
+    ghost use Rattle.rb_desk.specs.Journaled.{TalliedPicture, tallied_code};
 
-    ghost Value = { Tallied };
+    ghost Value = { TalliedPicture };
 
     ghost coded = { tallied_code };
 

@@ -125,11 +125,7 @@ fn each_call_is_a_step(rt: HostRuntime) -> Result<(), Fail> {
         (take(1, 0), None, 6),
         (take(1, 0), Some(DeskRefusal::WindowFull), 6),
         (ack(3, 2), Some(DeskRefusal::NotInFlight), 6),
-        (
-            ack(1, 1),
-            Some(DeskRefusal::NotAccepted { cursor: 1 }),
-            6,
-        ),
+        (ack(1, 1), Some(DeskRefusal::NotAccepted { cursor: 1 }), 6),
         (ack(1, 2), None, 7),
         (nack(2), Some(DeskRefusal::StaleLink), 7),
         (nack(1), None, 8),

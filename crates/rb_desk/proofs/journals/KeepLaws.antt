@@ -1,9 +1,9 @@
 -- One step more: the journal still leads to the picture, its length is the tally, and a closing has room.
-use Rattle.std.proofs.Common.{◌≡◌, ℕ, suc, ◌+◌, ◌≤◌, List, [], ◌∷◌, ◌++◌, length, Option, Some, None, Ok, refl, sym}
+use Rattle.std.proofs.Common.{◌≡◌, ℕ, suc, ◌≤◌, List, [], ◌∷◌, ◌++◌, length, Some, None, Ok, refl, sym}
 use Rattle.std.proofs.Common.{ap, ◌∙◌, length-append, arith, Bool, true, false, cond, Result, Err}
 use Rattle.rb_desk.specs.Calls.{prepare, place, close, last_number}
 use Rattle.rb_desk.specs.Journal.{Log}
-use Rattle.rb_desk.specs.Journaled.{Tallied, tallied, answer_after, is_full}
+use Rattle.rb_desk.specs.Journaled.{TalliedPicture, tallied, answer_after, is_full}
 use Rattle.rb_desk.specs.declared.refusal.DeskRefusal.{DeskRefusal}
 use Rattle.rb_desk.specs.declared.refusal.DeskRefusal.TheVariants.{JournalFull}
 use Rattle.rb_desk.specs.Picture.{Picture, empty_picture}
@@ -26,12 +26,12 @@ call_after {A} steps call a is = ap (λ (r : Result A DeskRefusal). (r, call.1))
 -- ---- what is kept
 
 -- what a desk keeps of its board and its journal
-abbrev pub IsKept : Tallied → Log → Type 0
-IsKept board log = (replay board.picture.limits log.steps ≡ board.picture) × (board.steps ≡ length log.steps)
+abbrev pub JournalAgrees : TalliedPicture → Log → Type 0
+JournalAgrees board log = (replay board.picture.limits log.steps ≡ board.picture) × (board.steps ≡ length log.steps)
     × (board.picture.closing ≡ None → 1 ≤ log.room)
 
-abbrev pub KeepsLimits : Type 0
-KeepsLimits = (p : Picture) (step : Step) → (after_step p step).limits ≡ p.limits
+abbrev pub StepsKeepLimits : Type 0
+StepsKeepLimits = (p : Picture) (step : Step) → (after_step p step).limits ≡ p.limits
 
 replayed_last : (p : Picture) (steps : List Step) (step : Step)
     → replayed p (steps ++ step ∷ []) ≡ after_step (replayed p steps) step
@@ -39,7 +39,7 @@ replayed_last p [] step = refl
 replayed_last p (first ∷ steps) step = replayed_last (after_step p first) steps step
 
 -- a step that leads to the new picture is the journal's last
-pub replays_on : KeepsLimits → (old new : Picture) (steps after : List Step) (step : Step)
+pub replays_on : StepsKeepLimits → (old new : Picture) (steps after : List Step) (step : Step)
     → replay old.limits steps ≡ old → after_step old step ≡ new → after ≡ steps ++ step ∷ []
     → replay new.limits after ≡ new
 replays_on keep old new steps after step is leads grown =
@@ -52,39 +52,39 @@ one_longer steps after step grown =
     let all = ap length grown ∙ length-append steps (step ∷ []) in omega (arith, all)
 
 -- a call that isn't refused: it made room for two steps, and pushed its own
-pub call_kept : KeepsLimits → (old new : Tallied) (picture : Picture) (step : Step) (before ready after : Log)
-    → IsKept old before → new ≡ tallied old picture → after_step old.picture step ≡ picture
+pub call_kept : StepsKeepLimits → (old new : TalliedPicture) (picture : Picture) (step : Step) (before ready after : Log)
+    → JournalAgrees old before → new ≡ tallied old picture → after_step old.picture step ≡ picture
     → ready.steps ≡ before.steps → 2 ≤ ready.room → after.steps ≡ ready.steps ++ step ∷ []
-    → suc after.room ≡ ready.room → IsKept new after
+    → suc after.room ≡ ready.room → JournalAgrees new after
 call_kept keep old new picture step before ready after kept made leads same room grown used =
     let whole : after.steps ≡ before.steps ++ step ∷ [] = grown ∙ ap (λ xs. xs ++ step ∷ []) same in
     let longer = one_longer before.steps after.steps step whole in
-    let one = ap (λ (b : Tallied). b.steps) made in (
+    let one = ap (λ (b : TalliedPicture). b.steps) made in (
       replays_on keep old.picture new.picture before.steps after.steps step kept.0
-          (leads ∙ ap (λ (b : Tallied). b.picture) (sym made)) whole,
+          (leads ∙ ap (λ (b : TalliedPicture). b.picture) (sym made)) whole,
       omega (arith, longer, one, kept.1),
       λ _. omega (arith, room, used),
     )
 
 -- ---- placing and closing
 
-placed_step : (p : Picture) (n : ℕ) → prepare p ≡ Ok n → after_step p Place ≡ place p
+place_step : (p : Picture) (n : ℕ) → prepare p ≡ Ok n → after_step p Place ≡ place p
 unfolding after_step
-placed_step p n is = ap (placed_if p) is
+place_step p n is = ap (placed_if p) is
 
 place_closing : (p : Picture) → (place p).closing ≡ p.closing
 unfolding place
 place_closing p = refl
 
-pub place_kept : KeepsLimits → (old new : Tallied) (n : ℕ) (before after : Log)
-    → IsKept old before → prepare old.picture ≡ Ok n → new ≡ tallied old (place old.picture)
-    → after.steps ≡ before.steps ++ Place ∷ [] → after.room ≡ before.room → IsKept new after
+pub place_kept : StepsKeepLimits → (old new : TalliedPicture) (n : ℕ) (before after : Log)
+    → JournalAgrees old before → prepare old.picture ≡ Ok n → new ≡ tallied old (place old.picture)
+    → after.steps ≡ before.steps ++ Place ∷ [] → after.room ≡ before.room → JournalAgrees new after
 place_kept keep old new n before after kept ready made grown same =
     let longer = one_longer before.steps after.steps Place grown in
-    let one = ap (λ (b : Tallied). b.steps) made in
-    let picture = ap (λ (b : Tallied). b.picture) made in (
+    let one = ap (λ (b : TalliedPicture). b.steps) made in
+    let picture = ap (λ (b : TalliedPicture). b.picture) made in (
       replays_on keep old.picture new.picture before.steps after.steps Place kept.0
-          (placed_step old.picture n ready ∙ sym picture) grown,
+          (place_step old.picture n ready ∙ sym picture) grown,
       omega (arith, longer, one, kept.1),
       λ none. let had = kept.2 (sym (place_closing old.picture) ∙ ap (λ (p : Picture). p.closing) (sym picture) ∙ none) in
           omega (arith, had, same),
@@ -96,21 +96,21 @@ close_again p last is =
     ap (λ c. (last_number p c, record p { closing = Some (last_number p c) })) is
     ∙ ap (λ c. (last, record p { closing = c })) (sym is)
 
-closes : (p new : Picture) (last : ℕ) → close p ≡ (last, new) → new.closing ≡ None → ⊥
+close_closes : (p new : Picture) (last : ℕ) → close p ≡ (last, new) → new.closing ≡ None → ⊥
 unfolding close
-closes p new last is none = cc (ap (λ (r : ℕ × Picture). r.1.closing) is ∙ none)
+close_closes p new last is none = cc (ap (λ (r : ℕ × Picture). r.1.closing) is ∙ none)
 
-closed_step : (p new : Picture) (last : ℕ) → close p ≡ (last, new) → after_step p Close ≡ new
+close_step : (p new : Picture) (last : ℕ) → close p ≡ (last, new) → after_step p Close ≡ new
 unfolding after_step
-closed_step p new last is = ap (λ (r : ℕ × Picture). r.1) is
+close_step p new last is = ap (λ (r : ℕ × Picture). r.1) is
 
-pub close_kept : KeepsLimits → (old new : Tallied) (last : ℕ) (before after : Log)
-    → IsKept old before → close old.picture ≡ (last, new.picture) → new.steps ≡ suc old.steps
-    → after.steps ≡ before.steps ++ Close ∷ [] → IsKept new after
+pub close_kept : StepsKeepLimits → (old new : TalliedPicture) (last : ℕ) (before after : Log)
+    → JournalAgrees old before → close old.picture ≡ (last, new.picture) → new.steps ≡ suc old.steps
+    → after.steps ≡ before.steps ++ Close ∷ [] → JournalAgrees new after
 close_kept keep old new last before after kept is one grown =
     let longer = one_longer before.steps after.steps Close grown in (
       replays_on keep old.picture new.picture before.steps after.steps Close kept.0
-          (closed_step old.picture new.picture last is) grown,
+          (close_step old.picture new.picture last is) grown,
       omega (arith, longer, one, kept.1),
-      λ none. absurd (closes old.picture new.picture last is none),
+      λ none. absurd (close_closes old.picture new.picture last is none),
     )

@@ -1,6 +1,6 @@
 use Rattle.std.proofs.Common.{◌∙◌, ap, subst, sym}
 use Rattle.rb_desk.specs.Limits.{Limits}
-use Rattle.rb_desk.specs.Journaled.{Journaled}
+use Rattle.rb_desk.specs.Journaled.{JournaledPicture}
 use Rattle.rb_sequence.specs.Cells.{Cells, IsReadyFor}
 use Rattle.rb_broker.proofs.PlaceLaws.{place_keeps_limits}
 use Rattle.rb_broker.proofs.locked.Locked.place.Goals as goal
@@ -12,7 +12,7 @@ fill-requires g c = subst (λ (s : Cells). IsReadyFor s c.args.ready) (sym c.arg
 -- the capacity stays, and the filler is of the same cells
 pub invariant_of-self : goal.invariant_of-self
 invariant_of-self g c = record {
-  fits = ap (λ (d : Journaled). d.picture.limits.capacity) c.place.ensures.new
+  fits = ap (λ (d : JournaledPicture). d.picture.limits.capacity) c.place.ensures.new
       ∙ ap (λ (l : Limits). l.capacity) (place_keeps_limits c.args.self.now.desk.picture) ∙ c.args.self.now.fits;
   fills = c.fill.ensures.same ∙ c.args.self.now.fills;
 }

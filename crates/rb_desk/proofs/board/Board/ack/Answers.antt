@@ -1,4 +1,4 @@
-use Rattle.std.proofs.Common.{◌≡◌, ◌∙◌, Some, Ok, ap, sym, slice_get}
+use Rattle.std.proofs.Common.{◌≡◌, ◌∙◌, Ok, ap, sym}
 use Rattle.std.proofs.lemmas.Option.{slice_get_within}
 use Rattle.rb_deliveries.specs.Spans.{raised, with_status}
 use Rattle.rb_deliveries.specs.declared.span.Status.TheVariants.{Settled}

@@ -1,4 +1,4 @@
-use Rattle.std.proofs.Common.{◌≡◌, suc, None, rules, arith}
+use Rattle.std.proofs.Common.{◌≡◌, suc, None, rules}
 use Rattle.rb_desk.proofs.journals.KeepLaws.{close_again, close_kept}
 use Rattle.rb_desk.proofs.desk.Desk.close.Goals as goal
 
