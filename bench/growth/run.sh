@@ -1,6 +1,7 @@
 #!/bin/bash
 # Measures how an entry's cost grows with the entries before it: what placing does before the broker's lock and under it,
-# over 2,000,000 cells; the events of a changeset in a world, first and after 1,000,000; and the memory of an entry. It works
+# over 2,000,000 cells; the events of a changeset in a world, first and after 1,000,000; a desk's steps, which its journal
+# keeps; and the memory of an entry. It works
 # on a clone of the last commit, into which it puts its program (main.rt.in) as one more crate; RT names the prover's command
 # where it isn't `rt`. The gate runs none of it.
 #   bash bench/growth/run.sh       PRIORITY is a command before the program, as `chrt -f 50`
@@ -36,6 +37,8 @@ taken() {
 
 taken cells 2000000 20
 taken world 1000000 20
+taken steps 1000 0
+taken steps 10000000 0
 for mode in cells world; do
     for entries in 1000 100000; do
         taken $mode $entries 20

@@ -24,9 +24,6 @@ opened_code = code_by (Limits × (List Shape × (Cells × TableId)))
     (λ _. refl)
 
 -- no broker's
-abbrev pub no_cells : Cells
-no_cells = record { capacity = 0; segments = []; closing = 0 }
-
 abbrev pub no_queue : TableId
 no_queue = record {
   words = 0;

@@ -16,7 +16,8 @@ pub trait Hall {
 }
 
 impl Hall for Brand {
-    ghost use Rattle.rb_broker.specs.Halls.{no_cells, no_queue};
+    ghost use Rattle.rb_broker.specs.Halls.{no_queue};
+    ghost use Rattle.rb_sequence.specs.Cells.{no_cells};
 
     ghost cells = { no_cells };
 

@@ -14,6 +14,10 @@ pub record Cells : Type 0 where
   pub segments : List Named
   pub closing : ℕ
 
+-- no sequence's
+abbrev pub no_cells : Cells
+no_cells = record { capacity = 0; segments = []; closing = 0 }
+
 -- What a token shows for good: the cell of this number holds this entry. The cell is named by the
 -- slot of its segment, and by its own name.
 pub record CellToken : Type 0 where

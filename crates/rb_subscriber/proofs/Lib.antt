@@ -2,3 +2,5 @@ pub mod AcceptLaws
 pub mod ApplyLaws
 pub mod RunLaws
 pub mod ConflictLaws
+pub mod TokenLaws
+pub mod AloneLaws

@@ -7,9 +7,17 @@ mod apply;
 mod brought;
 mod endpoint;
 pub mod laws;
+mod look;
 mod refusal;
+mod register;
+mod shown;
+mod step_ledger;
+mod subscription;
 
 pub use apply::combined;
 pub use brought::Brought;
 pub use endpoint::Endpoint;
-pub use refusal::{AcceptError, AcceptRefusal};
+pub use refusal::{AcceptAloneError, AcceptError, AcceptRefusal};
+pub use register::{Auditor, MOST_SUBSCRIPTIONS, Register};
+pub use step_ledger::StepLedger;
+pub use subscription::Subscription;

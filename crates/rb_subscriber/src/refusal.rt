@@ -42,6 +42,20 @@ pub enum AcceptError {
     Memory,
 }
 
+/// What stops `Subscription::accept_alone`. The stopped call does not change the subscription.
+#[derive(Clone, Copy, Debug, PartialEq, Eq, Error)]
+pub enum AcceptAloneError {
+    /// The delivery is refused.
+    #[error("{0}")]
+    Refused(AcceptRefusal),
+    /// The cell of this number, one of the delivery's, showed nothing.
+    #[error("the entry {number} isn't seen yet")]
+    Unseen { number: u64 },
+    /// Memory ran out. It may replace a conflict, but no other refusal.
+    #[error("out of memory")]
+    Memory,
+}
+
 impl From<AcceptRefusal> for AcceptError {
     ghost use Rattle.std.specs.Prelude.{◌≡◌};
     ghost use Rattle.rb_subscriber.specs.declared.refusal.AcceptError.TheVariants.{Refused};

@@ -1,0 +1,107 @@
+use Rattle.std.proofs.Common.{◌≡◌, ◌≤◌, ◌<◌, ◌+◌, ◌-◌, ◌++◌, suc, ℕ, length, Some, None, Ok, Err, sym, ap, ◌∙◌, subst, arith, refl, List}
+use Rattle.std.specs.Prelude.{slice_index_or, OnOk, IfOk}
+use Rattle.rb_desk.specs.declared.delivery.Delivery.{Delivery}
+use Rattle.rb_sequence.specs.Cells.{Cells, CellToken, IsTokenOf}
+use Rattle.rb_subscriber.specs.Accept.{accept_brought, AcceptsBrought, AcceptAnswers, AppliesSingly, HasSingleTables, refusal_before}
+use Rattle.rb_subscriber.specs.Endpoint.{Endpoint}
+use Rattle.cs_apply.specs.State as tables
+use Rattle.rb_subscriber.specs.AcceptAlone.{DueAnswers, LookAnswers}
+use Rattle.rb_sequence.specs.Cells.{AreInCells}
+use Rattle.rb_subscriber.specs.Shown.{AreShown, AreTokens, entries_told}
+use Rattle.rb_subscriber.specs.Subscription.{SubscriptionState, cursor_of, endpoint_of}
+use Rattle.rb_subscriber.specs.contracts.subscription.Subscription.{the_view}
+use Rattle.rb_subscriber.proofs.AloneLaws.{AloneKept, alone_kept, due_ok, look_answers}
+use Rattle.rb_subscriber.proofs.TokenLaws.{are_tokens}
+use Rattle.rb_subscriber.proofs.subscription.Subscription.accept_due.Goals as goal
+
+pub returns-in_default-clause-answers : goal.returns-in_default-clause-answers
+returns-in_default-clause-answers g c =
+    let d = c.args.delivery.now in
+    let s = c.self.inside in
+    let old = c.args.self.now in
+    let with_told : List CellToken → SubscriptionState = λ told. record {
+      sub = s.sub;
+      start = s.end.start;
+      link = s.end.link;
+      closed = s.end.closed;
+      base = s.base;
+      tables = s.end.tables;
+      told = told;
+      steps = s.steps;
+    } in
+    let same = ap with_told c.room.ensures.same ∙ c.self.view_is in
+    let schema = c.schema.ensures.same ∙ ap (λ (t : tables.TableState). t.schema) c.tables.ensures
+    ∙ ap (λ (x : SubscriptionState). x.tables.schema) c.self.view_is in
+    look_answers g.L.StepLedger.cells d old _ c.look.result c.requires.free same
+    (subst (λ cs. LookAnswers cs d old.tables.schema c.look.result) c.requires.cells
+    (subst (λ sch. LookAnswers c.args.sequence.now d sch c.look.result) schema c.look.ensures))
+
+pub invariant_of-entries : goal.invariant_of-entries
+invariant_of-entries g c = record {
+  tokens = subst (λ ts. AreTokens c.args.sequence.now ts) (sym c.deref.ensures.value)
+      (are_tokens c.args.sequence.now c.first-first.result c.in-Ok.shown.items c.in-Ok.ensures.ok.0);
+}
+
+pub invariant_of-self-in-Ok-accept_brought : goal.invariant_of-self-in-Ok-accept_brought
+invariant_of-self-in-Ok-accept_brought g c =
+    let cells = g.L.StepLedger.cells in
+    let d = c.args.delivery.now in
+    let e = c.self.inside.end in
+    let new = c.accept_brought.new.self in
+    let shown = c.in-Ok.shown.items in
+    let told = c.self.inside.told.items in
+    let base = c.self.inside.base in
+    let back = ap entries_told c.deref.ensures.value in
+    let answers = c.in-Ok-accept_brought.ensures.answers in
+    let ok : accept_brought e (entries_told shown) d ≡ Ok new =
+    subst (λ es. accept_brought e es d ≡ Ok new) back answers.0 in
+    let accepts = (c.accepting_is_step.ensures e (entries_told shown) d new).0 ok in
+    let goes = subst (λ es. (t : tables.TableState) → AppliesSingly e.tables es t → new.tables ≡ t) back
+    c.in-Ok-accept_brought.ensures.singly in
+    let first = c.first-first.ensures in
+    let are : AreShown cells d shown = (
+      subst (λ n. AreInCells cells n shown) first
+          (subst (λ cs. AreInCells cs c.first-first.result shown) c.requires.cells c.in-Ok.ensures.ok.0),
+      c.in-Ok.ensures.ok.1 ∙ (λ i. suc (c.last-last.ensures i) - first i),
+    ) in
+    let inv = c.self.invariant in
+    let kept = alone_kept cells base told shown d e new inv.0 inv.1 inv.2 are accepts goes in
+    let more : c.add.new.told.items ≡ told ++ shown =
+    c.add.ensures ∙ ap (λ (xs : List CellToken). xs ++ shown) c.room.ensures.same in
+    (
+      kept.cursor ∙ ap (λ (xs : List CellToken). new.start + length xs) (sym more),
+      subst (λ xs. AreInCells cells (suc new.start) xs) (sym more) kept.tokens,
+      subst (λ (xs : List CellToken). HasSingleTables base (entries_told xs) new.tables) (sym more) kept.singly,
+      inv.3,
+      inv.4,
+    )
+
+pub returns-in-Ok-accept_brought-clause-answers : goal.returns-in-Ok-accept_brought-clause-answers
+returns-in-Ok-accept_brought-clause-answers g c =
+    let cells = g.L.StepLedger.cells in
+    let d = c.args.delivery.now in
+    let e = c.self.inside.end in
+    let new = c.accept_brought.new.self in
+    let shown = c.in-Ok.shown.items in
+    let told = c.self.inside.told.items in
+    let base = c.self.inside.base in
+    let back = ap entries_told c.deref.ensures.value in
+    let answers = c.in-Ok-accept_brought.ensures.answers in
+    let ok : accept_brought e (entries_told shown) d ≡ Ok new =
+    subst (λ es. accept_brought e es d ≡ Ok new) back answers.0 in
+    let accepts = (c.accepting_is_step.ensures e (entries_told shown) d new).0 ok in
+    let goes = subst (λ es. (t : tables.TableState) → AppliesSingly e.tables es t → new.tables ≡ t) back
+    c.in-Ok-accept_brought.ensures.singly in
+    let first = c.first-first.ensures in
+    let are : AreShown cells d shown = (
+      subst (λ n. AreInCells cells n shown) first
+          (subst (λ cs. AreInCells cs c.first-first.result shown) c.requires.cells c.in-Ok.ensures.ok.0),
+      c.in-Ok.ensures.ok.1 ∙ (λ i. suc (c.last-last.ensures i) - first i),
+    ) in
+    let inv = c.self.invariant in
+    let kept = alone_kept cells base told shown d e new inv.0 inv.1 inv.2 are accepts goes in
+    let more : c.add.new.told.items ≡ told ++ shown =
+    c.add.ensures ∙ ap (λ (xs : List CellToken). xs ++ shown) c.room.ensures.same in
+    rw (← c.self.view_is)
+    (due_ok cells d c.self.inside.sub c.self.inside.steps c.in-Ok-accept_brought.cursor base told
+    c.add.new.told.items shown e new more inv.0 are ok answers.1 accepts kept)

@@ -1,0 +1,40 @@
+//! What the cells show of a delivery, found without memory.
+
+ghost use Rattle.std.specs.Prelude.{◌≡◌, ◌≤◌};
+ghost use Rattle.rb_subscriber.specs.AcceptAlone.{LookAnswers, outside_after};
+
+use crate::refusal::{AcceptAloneError, AcceptRefusal};
+use cs_model::Schema;
+use rb_desk::Delivery;
+use rb_sequence::Sequence;
+
+/// Why a delivery isn't accepted where there is no room for its tokens: `Unseen`, `Shape`, or
+/// `Memory`.
+pub(crate) fn look(sequence: &Sequence, schema: &Schema, delivery: &Delivery) -> AcceptAloneError
+    requires { (1 ≤ delivery.now.first) × (delivery.now.first ≤ delivery.now.last) }
+    ensures { LookAnswers sequence.now delivery.now schema.now result }
+{
+    let mut outside = None;
+    for past in 0..delivery.last() - (delivery.first() - 1) {
+        let number = delivery.first() + past;
+        let Some(told) = sequence.tell(number) else {
+            return AcceptAloneError::Unseen { number };
+        };
+        let body = sequence.get_told(&told).body();
+        outside = after(outside, schema.admits(body).is_err(), number);
+    }
+    match outside {
+        Some(number) => AcceptAloneError::Refused(AcceptRefusal::Shape { number }),
+        None => AcceptAloneError::Memory,
+    }
+}
+
+// the first number outside, with one more entry looked at
+fn after(outside: Option<u64>, is_refused: bool, number: u64) -> Option<u64>
+    ensures { result ≡ outside_after outside is_refused number }
+{
+    match outside {
+        None if is_refused => Some(number),
+        other => other,
+    }
+}

@@ -1,0 +1,190 @@
+//! `Register`: what only a broker's lock holds. It makes subscriptions, counts their steps and sets
+//! their links.
+
+ghost use Rattle.std.specs.Prelude.{◌≡◌, ◌+◌, ◌<◌, ◌^◌, IfNone, IfSome};
+ghost use Rattle.rb_subscriber.specs.Register.{AuditorState, RegisterState};
+ghost use Rattle.rb_subscriber.specs.Subscription.{new_subscription};
+
+use crate::endpoint::Endpoint;
+use crate::step_ledger::StepLedger;
+use crate::subscription::Subscription;
+use cs_apply::Tables;
+use std::alloc::Global;
+use std::marker::Model;
+use std::sync::ledger::{Blank, Book, Share};
+
+/// The most subscriptions that are ever made.
+pub const MOST_SUBSCRIPTIONS: u64 = 1_024;
+
+/// The register of a broker's subscriptions: the book of the ledger of their steps, and the parts of
+/// the ledger that no subscription has yet. There is one for each ledger, so who has none can't make
+/// a subscription, count a step or set a link.
+#[derive(Drop)]
+pub struct Register<L: StepLedger> {
+    book: Book<L>,
+    rest: Share<L>,
+    made: u64,
+}
+
+impl<L: StepLedger> Model for Register<L> {
+    ghost use Rattle.std.specs.Prelude.{◌≡◌, ◌+◌};
+    ghost use Rattle.rb_subscriber.specs.Register.{RegisterState, register_code};
+
+    ghost Value = { RegisterState };
+
+    ghost coded = { register_code };
+
+    ghost view = { λ r. record { total = r.book.total; made = r.made } };
+
+    ghost invariant = { λ r. (r.rest.parts + r.made ≡ L.all) × (r.rest.amount ≡ 0) };
+}
+
+/// Hears the subscriptions of a register one after another, and adds up their steps. A subscription
+/// that was heard is gone.
+#[derive(Drop)]
+pub struct Auditor<L: StepLedger> {
+    sum: u64,
+    heard: u64,
+    share: Share<L>,
+}
+
+impl<L: StepLedger> Model for Auditor<L> {
+    ghost use Rattle.std.specs.Prelude.{◌≡◌};
+    ghost use Rattle.rb_subscriber.specs.Register.{AuditorState, auditor_code};
+
+    ghost Value = { AuditorState };
+
+    ghost coded = { auditor_code };
+
+    ghost view = { λ a. record { sum = a.sum; heard = a.heard } };
+
+    ghost invariant = { λ a. (a.share.parts ≡ a.heard) × (a.share.amount ≡ a.sum) };
+}
+
+impl<L: StepLedger> Register<L> {
+    /// The register of a new ledger, with no subscription and no step, and its auditor.
+    pub fn open(blank: Blank) -> (Register<L>, Auditor<L>)
+        requires name { blank.name ≡ L.name }
+        requires parts { (blank.parts ≡ L.parts) × (L.all ≡ L.parts) }
+        ensures { result ≡ (record { total = 0; made = 0 }, record { sum = 0; heard = 0 }) }
+    {
+        let (book, mut rest) = blank.open::<L>();
+        let share = rest.empty();
+        let register = Register {
+            book,
+            rest,
+            made: 0,
+        };
+        let auditor = Auditor {
+            sum: 0,
+            heard: 0,
+            share,
+        };
+        (register, auditor)
+    }
+
+    /// How many subscriptions it made.
+    pub fn made(&self) -> u64
+        ensures { result ≡ self.now.made }
+    {
+        self.made
+    }
+
+    /// Makes a subscription that has accepted nothing: under the desk's number and link, after number
+    /// `start`, with these tables. `base` is a copy of them, which stays as it is.
+    pub fn subscribe(
+        &mut self,
+        alloc: Global,
+        sub: u64,
+        link: u64,
+        start: u64,
+        tables: Tables,
+        base: Tables,
+    ) -> Subscription<L>
+        requires room { (self.old.made < 1024) × (L.all ≡ 1024) }
+        requires base { base ≡ tables }
+        ensures new { result ≡ new_subscription sub start link tables }
+        ensures made { self.new ≡ record self.old { made = self.old.made + 1 } }
+    {
+        let share = self.rest.split_off(1, 0);
+        self.made += 1;
+        Subscription {
+            sub,
+            end: Endpoint::new(start, link, tables),
+            base,
+            told: Vec::new(alloc),
+            steps: 0,
+            share,
+        }
+    }
+
+    /// Counts a step of a subscription.
+    pub fn count(&mut self, subscription: &mut Subscription<L>)
+        requires { self.old.total + 1 < 2 ^ 64 }
+        ensures subscription { subscription.new
+            ≡ record subscription.old { steps = subscription.old.steps + 1 } }
+        ensures total { self.new ≡ record self.old { total = self.old.total + 1 } }
+    {
+        self.book.audit(&mut subscription.share);
+        self.book.add(&mut subscription.share, 1);
+        subscription.steps += 1;
+    }
+
+    /// Sets a subscription's link: deliveries under the old one are stale.
+    pub fn relink(&self, subscription: &mut Subscription<L>, link: u64)
+        ensures { subscription.new ≡ record subscription.old { link = link } }
+    {
+        subscription.end.reconnect(link);
+    }
+
+    /// The number of all steps counted, which is the sum that the auditor heard. Returns `None`
+    /// unless the auditor heard every subscription that was made.
+    pub fn audit(&mut self, auditor: &mut Auditor<L>) -> Option<u64>
+        requires { (L.all ≡ L.parts) × (L.all ≡ 1024) }
+        ensures sum { IfSome result (λ sum. (sum ≡ auditor.old.sum) × (sum ≡ self.old.total)
+            × (auditor.old.heard ≡ self.old.made)) }
+        ensures none { IfNone result (auditor.old.heard ≡ self.old.made → ⊥) }
+        ensures same { (auditor.new ≡ auditor.old) × (self.new ≡ self.old) }
+    {
+        let made = self.made;
+        if auditor.heard != made {
+            return None;
+        }
+        let Register { book, rest, .. } = self;
+        book.audit(&mut auditor.share);
+        rest.give(&mut auditor.share, MOST_SUBSCRIPTIONS - made, 0);
+        book.audit(&mut auditor.share);
+        auditor.share.give(rest, MOST_SUBSCRIPTIONS - made, 0);
+        Some(auditor.sum)
+    }
+}
+
+impl<L: StepLedger> Auditor<L> {
+    /// Hears a subscription: adds its steps to the sum. The subscription is gone.
+    pub fn hear(&mut self, subscription: Subscription<L>)
+        requires { (self.old.sum + subscription.steps < 2 ^ 64) × (self.old.heard + 1 < 2 ^ 64) }
+        ensures { self.new ≡ record {
+          sum = self.old.sum + subscription.steps;
+          heard = self.old.heard + 1;
+        } }
+    {
+        let Subscription { steps, share, .. } = subscription;
+        self.share.merge(share);
+        self.sum += steps;
+        self.heard += 1;
+    }
+
+    /// The sum of the steps of the subscriptions that it heard.
+    pub fn sum(&self) -> u64
+        ensures { result ≡ self.now.sum }
+    {
+        self.sum
+    }
+
+    /// How many subscriptions it heard.
+    pub fn heard(&self) -> u64
+        ensures { result ≡ self.now.heard }
+    {
+        self.heard
+    }
+}

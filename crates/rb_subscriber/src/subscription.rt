@@ -1,0 +1,206 @@
+//! `Subscription`: what one thread accepts of the cells, and the tokens that show it.
+
+ghost use Rattle.std.specs.Prelude.{◌≡◌, ◌<◌, suc, true, None, IfNone, IfSome};
+ghost use Rattle.std.specs.Option.{option_copied};
+ghost use Rattle.rb_sequence.specs.Cells.{AreInCells};
+ghost use Rattle.rb_subscriber.specs.Accept.{AsksNoEntries, HasSingleTables, refusal_before};
+ghost use Rattle.rb_subscriber.specs.AcceptAlone.{AloneAnswers, ConflictsAlone, DueAnswers};
+ghost use Rattle.rb_subscriber.specs.Shown.{entries_told};
+ghost use Rattle.rb_subscriber.specs.Subscription.{cursor_of, endpoint_of, token_of};
+
+use crate::endpoint::Endpoint;
+use crate::laws::accepting_is_step;
+use crate::look::look;
+use crate::refusal::{AcceptAloneError, AcceptError, AcceptRefusal};
+use crate::shown::{Shown, add, fetch, room};
+use crate::step_ledger::StepLedger;
+use cs_apply::Tables;
+use rb_desk::Delivery;
+use rb_sequence::{Sequence, Told};
+use std::alloc::Global;
+use std::marker::Model;
+use std::sync::ledger::Share;
+
+/// A subscription of a broker with threads, owned by one thread. It reads the entries of a delivery
+/// from the cells, applies them to its own tables, and keeps a token for each entry that it
+/// accepted. It shares nothing that could change, so it waits for nobody. Only a `Register` makes
+/// one, counts its steps and sets its link.
+#[derive(Drop)]
+pub struct Subscription<L: StepLedger> {
+    pub(crate) sub: u64,
+    pub(crate) end: Endpoint,
+    pub(crate) base: Tables,
+    pub(crate) told: Vec<Told>,
+    pub(crate) steps: u64,
+    pub(crate) share: Share<L>,
+}
+
+impl<L: StepLedger> Model for Subscription<L> {
+    ghost use Rattle.std.specs.Prelude.{◌≡◌, ◌+◌, suc, length};
+    ghost use Rattle.rb_sequence.specs.Cells.{AreInCells};
+    ghost use Rattle.rb_subscriber.specs.Accept.{HasSingleTables};
+    ghost use Rattle.rb_subscriber.specs.Shown.{entries_told};
+    ghost use Rattle.rb_subscriber.specs.Subscription.{SubscriptionState, subscription_code};
+
+    ghost Value = { SubscriptionState };
+
+    ghost coded = { subscription_code };
+
+    ghost view = { λ s. record {
+      sub = s.sub;
+      start = s.end.start;
+      link = s.end.link;
+      closed = s.end.closed;
+      base = s.base;
+      tables = s.end.tables;
+      told = s.told.items;
+      steps = s.steps;
+    } };
+
+    ghost invariant = { λ s. (s.end.cursor ≡ s.end.start + length s.told.items)
+        × AreInCells L.cells (suc s.end.start) s.told.items
+        × HasSingleTables s.base (entries_told s.told.items) s.end.tables
+        × (s.share.parts ≡ 1)
+        × (s.share.amount ≡ s.steps) };
+}
+
+impl<L: StepLedger> Subscription<L> {
+    /// Accepts a delivery: reads its entries from the cells, applies the group of their changesets,
+    /// keeps their tokens, and moves the cursor to the delivery's last number, which it returns.
+    /// `sequence` is that of its broker. If the changesets apply one after another without
+    /// conflict, their group leaves the same tables.
+    ///
+    /// Refuses, in this order, `Closed`, `StaleLink`, `Seen`, `Gap`, `Unseen`, `Shape`, `Conflict`.
+    /// `Memory` may replace a conflict, but no other refusal. An error does not change the
+    /// subscription. A conflict comes only if the changesets conflict too when they are applied one
+    /// after another. `Unseen` comes only if the cell of its number showed nothing: the entry isn't
+    /// placed yet, or its placement isn't seen by this thread yet.
+    pub fn accept_alone(
+        &mut self,
+        alloc: Global,
+        sequence: &Sequence,
+        delivery: &Delivery,
+    ) -> Result<u64, AcceptAloneError>
+        requires { sequence.now ≡ L.cells }
+        ensures answers { AloneAnswers L.cells delivery.now result self.old self.new }
+        ensures conflicts { ConflictsAlone L.cells delivery.now self.old.tables result }
+    {
+        match self.refuses(delivery) {
+            Some(why) => Err(AcceptAloneError::Refused(why)),
+            None => self.accept_due(alloc, sequence, delivery),
+        }
+    }
+
+    // why it is refused whatever the cells show
+    fn refuses(&self, delivery: &Delivery) -> Option<AcceptRefusal>
+        ensures why { result ≡ refusal_before (endpoint_of self.now) delivery.now }
+        ensures early { IfSome result AsksNoEntries }
+        ensures next { IfNone result ((delivery.now.first ≡ suc (cursor_of self.now))
+            × (cursor_of self.now < delivery.now.last)) }
+    {
+        let _told = &self.told;
+        self.end.refuses(delivery)
+    }
+
+    // `accept_alone`, for a delivery that begins right after the cursor
+    fn accept_due(
+        &mut self,
+        alloc: Global,
+        sequence: &Sequence,
+        delivery: &Delivery,
+    ) -> Result<u64, AcceptAloneError>
+        requires cells { sequence.now ≡ L.cells }
+        requires free { refusal_before (endpoint_of self.old) delivery.now ≡ None }
+        requires due { (delivery.now.first ≡ suc (cursor_of self.old))
+            × (cursor_of self.old < delivery.now.last) }
+        ensures answers { DueAnswers L.cells delivery.now result self.old self.new }
+        ensures conflicts { ConflictsAlone L.cells delivery.now self.old.tables result }
+    {
+        accepting_is_step();
+        let (first, last) = (delivery.first(), delivery.last());
+        let count = (last - first + 1) as usize;
+        let Some(room) = room(alloc, &mut self.told, count) else {
+            return Err(look(sequence, self.end.tables().schema(), delivery));
+        };
+        let shown = match fetch(sequence, room, first, last) {
+            Ok(shown) => shown,
+            Err(number) => return Err(AcceptAloneError::Unseen { number }),
+        };
+        let entries = Shown {
+            sequence,
+            told: &shown,
+        };
+        match self.end.accept_brought(alloc, &entries, delivery) {
+            Ok(cursor) => {
+                add(&mut self.told, shown);
+                Ok(cursor)
+            }
+            Err(AcceptError::Refused(why)) => Err(AcceptAloneError::Refused(why)),
+            Err(AcceptError::Memory) => Err(AcceptAloneError::Memory),
+        }
+    }
+
+    /// Closes it permanently: it accepts nothing more.
+    pub fn close(&mut self)
+        ensures { self.new ≡ record self.old { closed = true } }
+    {
+        self.end.close();
+    }
+
+    /// Its number at the desk.
+    pub fn sub(&self) -> u64
+        ensures { result ≡ self.now.sub }
+    {
+        self.sub
+    }
+
+    /// Its current link.
+    pub fn link(&self) -> u64
+        ensures { result ≡ self.now.link }
+    {
+        self.end.link()
+    }
+
+    /// The number after which it began.
+    pub fn start(&self) -> u64
+        ensures { result ≡ self.now.start }
+    {
+        self.end.start()
+    }
+
+    /// The last number that it accepted; at first, its start. It has accepted the entries from its
+    /// start on, one after another, each as its cell shows it.
+    pub fn cursor(&self) -> u64
+        ensures cursor { result ≡ cursor_of self.now }
+        ensures shown { AreInCells L.cells (suc self.now.start) self.now.told }
+    {
+        let _told = &self.told;
+        self.end.cursor()
+    }
+
+    /// Its tables. If the changesets that it accepted apply one after another without conflict to
+    /// the tables that it began with, they are what that gives.
+    pub fn tables(&self) -> &Tables
+        ensures value { result.now ≡ self.now.tables }
+        ensures singly { HasSingleTables self.now.base (entries_told self.now.told)
+            self.now.tables }
+    {
+        let _told = &self.told;
+        self.end.tables()
+    }
+
+    /// The token of the entry with this number, if it accepted it.
+    pub fn told(&self, number: u64) -> Option<&Told>
+        ensures { option_copied result ≡ token_of self.now.start self.now.told number }
+    {
+        let place = number.checked_sub(self.end.start())?.checked_sub(1)?;
+        self.told.get(place as usize)
+    }
+
+    /// How many of its steps were counted.
+    pub fn steps(&self) -> u64
+        ensures { result ≡ self.now.steps }
+    {
+        self.steps
+    }
+}
