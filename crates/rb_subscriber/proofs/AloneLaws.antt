@@ -19,8 +19,8 @@ use Rattle.rb_subscriber.specs.declared.refusal.AcceptAloneError.{AcceptAloneErr
 use Rattle.rb_subscriber.specs.declared.refusal.AcceptAloneError.TheVariants.{Refused, Unseen, Memory}
 use Rattle.rb_subscriber.specs.AcceptAlone.{DueAnswers, LookAnswers}
 use Rattle.rb_sequence.specs.Cells.{AreInCells}
-use Rattle.rb_subscriber.specs.Shown.{AreShown, entries_told}
-use Rattle.rb_subscriber.specs.Subscription.{SubscriptionState, endpoint_of}
+use Rattle.rb_subscriber.specs.Shown.{ShowDelivery, entries_told}
+use Rattle.rb_subscriber.specs.Subscription.{SubscriptionState, own_endpoint}
 use Rattle.rb_subscriber.proofs.TokenLaws.{in_cells_append}
 
 -- what applies singly applies in two parts
@@ -47,7 +47,7 @@ pub alone_kept : (cells : Cells) (base : tables.TableState) (told shown : List C
     (old new : Endpoint) → old.cursor ≡ old.start + length told
     → AreInCells cells (suc old.start) told
     → HasSingleTables base (entries_told told) old.tables
-    → AreShown cells delivery shown
+    → ShowDelivery cells delivery shown
     → AcceptsBrought old (entries_told shown) delivery new
     → ((t : tables.TableState) → AppliesSingly old.tables (entries_told shown) t → new.tables ≡ t)
     → AloneKept cells base told shown new
@@ -68,9 +68,9 @@ alone_kept cells base told shown delivery old new cursor tokens singly are accep
 
 -- ---- the answers
 
-pub ends_at : (e : Endpoint) (n : ℕ) → e.cursor ≡ n
+pub cursor_as : (e : Endpoint) (n : ℕ) → e.cursor ≡ n
     → record { start = e.start; cursor = n; link = e.link; closed = e.closed; tables = e.tables } ≡ e
-ends_at e n is = ap (λ (k : ℕ). the_end e k) (sym is)
+cursor_as e n is = ap (λ (k : ℕ). the_end e k) (sym is)
   where
     the_end : Endpoint → ℕ → Endpoint
     the_end e k = record { start = e.start; cursor = k; link = e.link; closed = e.closed; tables = e.tables }
@@ -78,7 +78,7 @@ ends_at e n is = ap (λ (k : ℕ). the_end e k) (sym is)
 pub due_ok : (cells : Cells) (d : Delivery) (sub steps cursor : ℕ) (base : tables.TableState)
     (told grown shown : List CellToken) (e new : Endpoint) → grown ≡ told ++ shown
     → e.cursor ≡ e.start + length told
-    → AreShown cells d shown
+    → ShowDelivery cells d shown
     → accept_brought e (entries_told shown) d ≡ Ok new
     → cursor ≡ new.cursor
     → AcceptsBrought e (entries_told shown) d new
@@ -105,8 +105,8 @@ pub due_ok : (cells : Cells) (d : Delivery) (sub steps cursor : ℕ) (base : tab
 due_ok cells d sub steps cursor base told grown shown e new more at are ok says accepts kept =
     let far : new.cursor ≡ new.start + length grown =
     kept.cursor ∙ ap (λ xs. new.start + length xs) (sym more) in
-    let from = ends_at e (e.start + length told) at in
-    let to = ends_at new (new.start + length grown) far in (
+    let from = cursor_as e (e.start + length told) at in
+    let to = cursor_as new (new.start + length grown) far in (
       shown,
       are,
       ap (λ (x : Endpoint). accept_brought x (entries_told shown) d) from ∙ ok ∙ ap (λ x. Ok x) (sym to),
@@ -131,39 +131,39 @@ applied_asks : (old : Endpoint) (last : ℕ) (r : Result tables.TableState Confl
 applied_asks old last (Ok rows) = tt
 applied_asks old last (Err conflict) = tt
 
-asks_tables : (old : Endpoint) (entries : List Entry) (d : Delivery) → refusal_before old d ≡ None
+reaches_tables : (old : Endpoint) (entries : List Entry) (d : Delivery) → refusal_before old d ≡ None
     → first_outside_entry old.tables.schema entries ≡ None → AsksTables (accept_brought old entries d)
 unfolding accept_brought
-asks_tables old entries d free none =
+reaches_tables old entries d free none =
     let taken = ap (λ o. taken_unless_refused o (applied_if_admitted old d.last entries
     (first_outside_entry old.tables.schema entries))) free
     ∙ ap (applied_if_admitted old d.last entries) none in
     subst AsksTables (sym taken) (applied_asks old d.last (single old.tables (group_of (joined_bodies entries))))
 
-shape_refused : (old : Endpoint) (entries : List Entry) (d : Delivery) (entry : Entry) → refusal_before old d ≡ None
+outside_refused : (old : Endpoint) (entries : List Entry) (d : Delivery) (entry : Entry) → refusal_before old d ≡ None
     → first_outside_entry old.tables.schema entries ≡ Some entry
     → accept_brought old entries d ≡ Err (refusal.Shape entry.number)
 unfolding accept_brought
-shape_refused old entries d entry free some =
+outside_refused old entries d entry free some =
     ap (λ o. taken_unless_refused o (applied_if_admitted old d.last entries
     (first_outside_entry old.tables.schema entries))) free
     ∙ ap (applied_if_admitted old d.last entries) some
 
-pub look_answers : (cells : Cells) (d : Delivery) (old new : SubscriptionState) (e : AcceptAloneError)
-    → refusal_before (endpoint_of old) d ≡ None → new ≡ old → LookAnswers cells d old.tables.schema e
+pub looked_answers : (cells : Cells) (d : Delivery) (old new : SubscriptionState) (e : AcceptAloneError)
+    → refusal_before (own_endpoint old) d ≡ None → new ≡ old → LookAnswers cells d old.tables.schema e
     → DueAnswers cells d (Err e) old new
-look_answers cells d old new (Unseen number) free same look = (same, look.0, look.1)
-look_answers cells d old new Memory free same look =
-    (same, look.0, look.1, asks_tables (endpoint_of old) (entries_told look.0) d free look.2)
-look_answers cells d old new (Refused (refusal.Shape number)) free same look = (
+looked_answers cells d old new (Unseen number) free same look = (same, look.0, look.1)
+looked_answers cells d old new Memory free same look =
+    (same, look.0, look.1, reaches_tables (own_endpoint old) (entries_told look.0) d free look.2)
+looked_answers cells d old new (Refused (refusal.Shape number)) free same look = (
   same,
   look.0,
   look.1,
-  shape_refused (endpoint_of old) (entries_told look.0) d look.2.0 free look.2.1
+  outside_refused (own_endpoint old) (entries_told look.0) d look.2.0 free look.2.1
       ∙ ap (λ n. Err (refusal.Shape n)) look.2.2,
 )
-look_answers cells d old new (Refused refusal.Closed) free same look = absurd look
-look_answers cells d old new (Refused refusal.StaleLink) free same look = absurd look
-look_answers cells d old new (Refused refusal.Seen) free same look = absurd look
-look_answers cells d old new (Refused (refusal.Gap expected)) free same look = absurd look
-look_answers cells d old new (Refused (refusal.Conflict conflict)) free same look = absurd look
+looked_answers cells d old new (Refused refusal.Closed) free same look = absurd look
+looked_answers cells d old new (Refused refusal.StaleLink) free same look = absurd look
+looked_answers cells d old new (Refused refusal.Seen) free same look = absurd look
+looked_answers cells d old new (Refused (refusal.Gap expected)) free same look = absurd look
+looked_answers cells d old new (Refused (refusal.Conflict conflict)) free same look = absurd look

@@ -9,7 +9,7 @@ use Rattle.cs_model.specs.Schema.{refusal_of}
 use Rattle.rb_sequence.specs.Cells.{Cells, CellToken, IsTokenOf}
 use Rattle.rb_sequence.specs.Entry.{Entry}
 use Rattle.rb_subscriber.specs.Accept.{first_outside_entry, if_admitted}
-use Rattle.rb_subscriber.specs.AcceptAlone.{IsOutside, outside_after}
+use Rattle.rb_subscriber.specs.AcceptAlone.{IsFirstOutside, outside_after}
 use Rattle.rb_sequence.specs.Cells.{AreInCells}
 use Rattle.rb_subscriber.specs.Shown.{AreTokens, entries_told}
 
@@ -19,23 +19,23 @@ in_cells_append cells n m [] more a b is = subst (λ k. AreInCells cells k more)
 in_cells_append cells n m (t ∷ some) more a b is =
     (a.0, a.1, in_cells_append cells (suc n) m some more a.2 b (omega (arith, is)))
 
-pub in_cells_more : (cells : Cells) (n : ℕ) (tokens : List CellToken) (t : CellToken) → AreInCells cells n tokens
+pub one_more_shown : (cells : Cells) (n : ℕ) (tokens : List CellToken) (t : CellToken) → AreInCells cells n tokens
     → IsTokenOf cells t → t.number ≡ n + length tokens → AreInCells cells n (tokens ++ t ∷ [])
-in_cells_more cells n tokens t all told number =
+one_more_shown cells n tokens t all told number =
     in_cells_append cells n (n + length tokens) tokens (t ∷ []) all (told, number, tt) refl
 
-pub are_tokens : (cells : Cells) (n : ℕ) (tokens : List CellToken) → AreInCells cells n tokens → AreTokens cells tokens
-are_tokens cells n [] all i d less = absurd (omega (arith, less))
-are_tokens cells n (t ∷ tokens) all zero d less = all.0
-are_tokens cells n (t ∷ tokens) all (suc i) d less =
-    are_tokens cells (suc n) tokens all.2 i d (omega (arith, less))
+pub tokens_by_place : (cells : Cells) (n : ℕ) (tokens : List CellToken) → AreInCells cells n tokens → AreTokens cells tokens
+tokens_by_place cells n [] all i d less = absurd (omega (arith, less))
+tokens_by_place cells n (t ∷ tokens) all zero d less = all.0
+tokens_by_place cells n (t ∷ tokens) all (suc i) d less =
+    tokens_by_place cells (suc n) tokens all.2 i d (omega (arith, less))
 
 -- ---- the first that isn't admitted
 
-some_step : (fault : Option SectionFault) (entry x : Entry) (later after : Option Entry)
+found_goes_on : (fault : Option SectionFault) (entry x : Entry) (later after : Option Entry)
     → (later ≡ Some x → after ≡ Some x) → if_admitted fault entry later ≡ Some x → if_admitted fault entry after ≡ Some x
-some_step None entry x later after goes e = goes e
-some_step (Some fault) entry x later after goes e = e
+found_goes_on None entry x later after goes e = goes e
+found_goes_on (Some fault) entry x later after goes e = e
 
 none_step : (fault : Option SectionFault) (entry : Entry) (later after o : Option Entry)
     → (later ≡ None → after ≡ o) → if_admitted fault entry later ≡ None → if_admitted fault entry after ≡ o
@@ -46,7 +46,7 @@ some_stays : (schema : List Shape) (entries more : List Entry) (x : Entry) → f
     → first_outside_entry schema (entries ++ more) ≡ Some x
 some_stays schema [] more x e = absurd cc
 some_stays schema (entry ∷ entries) more x e =
-    some_step (refusal_of schema entry.item.body) entry x (first_outside_entry schema entries)
+    found_goes_on (refusal_of schema entry.item.body) entry x (first_outside_entry schema entries)
     (first_outside_entry schema (entries ++ more)) (some_stays schema entries more x) e
 
 none_goes_on : (schema : List Shape) (entries more : List Entry) → first_outside_entry schema entries ≡ None
@@ -64,7 +64,7 @@ pub outside_one : (schema : List Shape) (shown : List CellToken) (t : CellToken)
     (r : Result (Unit {0}) SectionFault) (number : ℕ) → t.entry.number ≡ number
     → OnOk r (refusal_of schema t.entry.item.body ≡ None)
     → IfErr r (λ fault. refusal_of schema t.entry.item.body ≡ Some fault)
-    → IsOutside schema shown so_far → IsOutside schema (shown ++ t ∷ []) (outside_after so_far (is_err r) number)
+    → IsFirstOutside schema shown so_far → IsFirstOutside schema (shown ++ t ∷ []) (outside_after so_far (is_err r) number)
 outside_one schema shown t (Some before) r number is ok refused h = (
   h.0,
   ap (first_outside_entry schema) (split_told shown (t ∷ []))

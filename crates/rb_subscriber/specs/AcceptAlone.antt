@@ -8,8 +8,8 @@ use Rattle.rb_sequence.specs.Cells.{Cells, CellToken}
 use Rattle.rb_sequence.specs.Entry.{Entry}
 use Rattle.rb_subscriber.specs.Accept.{accept_brought, refusal_before, AsksTables, ConflictsSingly}
 use Rattle.rb_subscriber.specs.Accept.{first_outside_entry}
-use Rattle.rb_subscriber.specs.Shown.{AreShown, entries_told}
-use Rattle.rb_subscriber.specs.Subscription.{SubscriptionState, cursor_of, endpoint_of}
+use Rattle.rb_subscriber.specs.Shown.{ShowDelivery, entries_told}
+use Rattle.rb_subscriber.specs.Subscription.{SubscriptionState, cursor_of, own_endpoint}
 use Rattle.rb_subscriber.specs.declared.refusal.AcceptAloneError.{AcceptAloneError}
 use Rattle.rb_subscriber.specs.declared.refusal.AcceptAloneError.TheVariants.{Refused, Unseen}
 use Rattle.rb_subscriber.specs.declared.refusal.AcceptAloneError.TheVariants.{Memory}
@@ -23,18 +23,18 @@ use Rattle.rb_subscriber.specs.declared.refusal.AcceptRefusal.TheVariants as ref
 abbrev pub DueAnswers : Cells → Delivery → Result ℕ AcceptAloneError → SubscriptionState
     → SubscriptionState → Type 0
 DueAnswers cells delivery (Ok cursor) old new =
-    (shown : List CellToken) × AreShown cells delivery shown
-    × (accept_brought (endpoint_of old) (entries_told shown) delivery ≡ Ok (endpoint_of new))
+    (shown : List CellToken) × ShowDelivery cells delivery shown
+    × (accept_brought (own_endpoint old) (entries_told shown) delivery ≡ Ok (own_endpoint new))
     × (cursor ≡ cursor_of new)
     × (new ≡ record old { told = old.told ++ shown; tables = new.tables })
 DueAnswers cells delivery (Err (Refused why)) old new = (new ≡ old)
-    × (shown : List CellToken) × AreShown cells delivery shown
-    × (accept_brought (endpoint_of old) (entries_told shown) delivery ≡ Err why)
+    × (shown : List CellToken) × ShowDelivery cells delivery shown
+    × (accept_brought (own_endpoint old) (entries_told shown) delivery ≡ Err why)
 DueAnswers cells delivery (Err (Unseen number)) old new = (new ≡ old)
     × (delivery.first ≤ number) × (number ≤ delivery.last)
 DueAnswers cells delivery (Err Memory) old new = (new ≡ old)
-    × (shown : List CellToken) × AreShown cells delivery shown
-    × AsksTables (accept_brought (endpoint_of old) (entries_told shown) delivery)
+    × (shown : List CellToken) × ShowDelivery cells delivery shown
+    × AsksTables (accept_brought (own_endpoint old) (entries_told shown) delivery)
 
 -- what it returns for any delivery
 abbrev pub answers_by : Option AcceptRefusal → Cells → Delivery → Result ℕ AcceptAloneError
@@ -45,21 +45,21 @@ answers_by (Some why) cells delivery result old new = (result ≡ Err (Refused w
 abbrev pub AloneAnswers : Cells → Delivery → Result ℕ AcceptAloneError → SubscriptionState
     → SubscriptionState → Type 0
 AloneAnswers cells delivery result old new =
-    answers_by (refusal_before (endpoint_of old) delivery) cells delivery result old new
+    answers_by (refusal_before (own_endpoint old) delivery) cells delivery result old new
 
 -- a conflict comes only if what the cells show conflicts too when it is applied one after another
 abbrev pub ConflictsAlone : Cells → Delivery → TableState → Result ℕ AcceptAloneError → Type 0
 ConflictsAlone cells delivery old (Err (Refused (refusal.Conflict conflict))) =
-    (shown : List CellToken) × AreShown cells delivery shown
+    (shown : List CellToken) × ShowDelivery cells delivery shown
     × ConflictsSingly old (entries_told shown)
 ConflictsAlone cells delivery old other = Unit {0}
 
 -- ---- what the cells show before there is room for it
 
 -- the number of the first entry that isn't admitted, if there is one
-abbrev pub IsOutside : List Shape → List CellToken → Option ℕ → Type 0
-IsOutside schema shown None = first_outside_entry schema (entries_told shown) ≡ None
-IsOutside schema shown (Some number) = (entry : Entry)
+abbrev pub IsFirstOutside : List Shape → List CellToken → Option ℕ → Type 0
+IsFirstOutside schema shown None = first_outside_entry schema (entries_told shown) ≡ None
+IsFirstOutside schema shown (Some number) = (entry : Entry)
     × (first_outside_entry schema (entries_told shown) ≡ Some entry) × (entry.number ≡ number)
 
 -- the same with one entry more, which is refused or not
@@ -73,7 +73,7 @@ abbrev pub LookAnswers : Cells → Delivery → List Shape → AcceptAloneError 
 LookAnswers cells delivery schema (Unseen number) =
     (delivery.first ≤ number) × (number ≤ delivery.last)
 LookAnswers cells delivery schema (Refused (refusal.Shape number)) = (shown : List CellToken)
-    × AreShown cells delivery shown × IsOutside schema shown (Some number)
+    × ShowDelivery cells delivery shown × IsFirstOutside schema shown (Some number)
 LookAnswers cells delivery schema (Refused other) = ⊥
-LookAnswers cells delivery schema Memory = (shown : List CellToken) × AreShown cells delivery shown
-    × IsOutside schema shown None
+LookAnswers cells delivery schema Memory = (shown : List CellToken) × ShowDelivery cells delivery shown
+    × IsFirstOutside schema shown None

@@ -13,6 +13,6 @@ AreTokens cells tokens = (i : ℕ) (d : CellToken) → i < length tokens
     → IsTokenOf cells (slice_index_or tokens i d)
 
 -- the cells show a delivery: these are tokens of its numbers, first to last
-abbrev pub AreShown : Cells → Delivery → List CellToken → Type 0
-AreShown cells delivery shown = AreInCells cells delivery.first shown
+abbrev pub ShowDelivery : Cells → Delivery → List CellToken → Type 0
+ShowDelivery cells delivery shown = AreInCells cells delivery.first shown
     × (length shown ≡ suc delivery.last - delivery.first)

@@ -24,8 +24,8 @@ abbrev pub cursor_of : SubscriptionState → ℕ
 cursor_of s = s.start + length s.told
 
 -- the endpoint that it is
-abbrev pub endpoint_of : SubscriptionState → Endpoint
-endpoint_of s = record {
+abbrev pub own_endpoint : SubscriptionState → Endpoint
+own_endpoint s = record {
   start = s.start;
   cursor = cursor_of s;
   link = s.link;
@@ -47,13 +47,13 @@ new_subscription sub start link tables = record {
 }
 
 -- the token of the entry with this number, if it is accepted
-abbrev pub token_of : ℕ → List CellToken → ℕ → Option CellToken
-token_of start told number =
+abbrev pub accepted_token : ℕ → List CellToken → ℕ → Option CellToken
+accepted_token start told number =
     if nat_lt start number then slice_get told (number - suc start) else None
 
 -- a subscription is stored as its parts
-abbrev pub subscription_code : Coded SubscriptionState
-subscription_code =
+abbrev pub subscription_state_code : Coded SubscriptionState
+subscription_state_code =
     code_by (ℕ × (ℕ × (ℕ × (Bool
     × (tables.TableState × (tables.TableState × (List CellToken × ℕ)))))))
     (coded× coded_ℕ (coded× coded_ℕ (coded× coded_ℕ (coded× coded_bool (coded× tables.state_code

@@ -16,9 +16,9 @@ use std::sync::ledger::{Blank, Book, Share};
 /// The most subscriptions that are ever made.
 pub const MOST_SUBSCRIPTIONS: u64 = 1_024;
 
-/// The register of a broker's subscriptions: the book of the ledger of their steps, and the parts of
-/// the ledger that no subscription has yet. There is one for each ledger, so who has none can't make
-/// a subscription, count a step or set a link.
+/// The register of a broker's subscriptions: the book of the ledger of their steps, and the parts
+/// of the ledger that no subscription has yet. There is one for each ledger, so who has none can't
+/// make a subscription, count a step or set a link.
 #[derive(Drop)]
 pub struct Register<L: StepLedger> {
     book: Book<L>,
@@ -90,8 +90,8 @@ impl<L: StepLedger> Register<L> {
         self.made
     }
 
-    /// Makes a subscription that has accepted nothing: under the desk's number and link, after number
-    /// `start`, with these tables. `base` is a copy of them, which stays as it is.
+    /// Makes a subscription that has accepted nothing: under the desk's number and link, after
+    /// number `start`, with these tables. `base` is a copy of them, which stays as it is.
     pub fn subscribe(
         &mut self,
         alloc: Global,

@@ -6,7 +6,7 @@ ghost use Rattle.rb_sequence.specs.Cells.{AreInCells};
 ghost use Rattle.rb_subscriber.specs.Accept.{AsksNoEntries, HasSingleTables, refusal_before};
 ghost use Rattle.rb_subscriber.specs.AcceptAlone.{AloneAnswers, ConflictsAlone, DueAnswers};
 ghost use Rattle.rb_subscriber.specs.Shown.{entries_told};
-ghost use Rattle.rb_subscriber.specs.Subscription.{cursor_of, endpoint_of, token_of};
+ghost use Rattle.rb_subscriber.specs.Subscription.{cursor_of, own_endpoint, accepted_token};
 
 use crate::endpoint::Endpoint;
 use crate::laws::accepting_is_step;
@@ -40,11 +40,11 @@ impl<L: StepLedger> Model for Subscription<L> {
     ghost use Rattle.rb_sequence.specs.Cells.{AreInCells};
     ghost use Rattle.rb_subscriber.specs.Accept.{HasSingleTables};
     ghost use Rattle.rb_subscriber.specs.Shown.{entries_told};
-    ghost use Rattle.rb_subscriber.specs.Subscription.{SubscriptionState, subscription_code};
+    ghost use Rattle.rb_subscriber.specs.Subscription.{SubscriptionState, subscription_state_code};
 
     ghost Value = { SubscriptionState };
 
-    ghost coded = { subscription_code };
+    ghost coded = { subscription_state_code };
 
     ghost view = { λ s. record {
       sub = s.sub;
@@ -93,7 +93,7 @@ impl<L: StepLedger> Subscription<L> {
 
     // why it is refused whatever the cells show
     fn refuses(&self, delivery: &Delivery) -> Option<AcceptRefusal>
-        ensures why { result ≡ refusal_before (endpoint_of self.now) delivery.now }
+        ensures why { result ≡ refusal_before (own_endpoint self.now) delivery.now }
         ensures early { IfSome result AsksNoEntries }
         ensures next { IfNone result ((delivery.now.first ≡ suc (cursor_of self.now))
             × (cursor_of self.now < delivery.now.last)) }
@@ -110,7 +110,7 @@ impl<L: StepLedger> Subscription<L> {
         delivery: &Delivery,
     ) -> Result<u64, AcceptAloneError>
         requires cells { sequence.now ≡ L.cells }
-        requires free { refusal_before (endpoint_of self.old) delivery.now ≡ None }
+        requires free { refusal_before (own_endpoint self.old) delivery.now ≡ None }
         requires due { (delivery.now.first ≡ suc (cursor_of self.old))
             × (cursor_of self.old < delivery.now.last) }
         ensures answers { DueAnswers L.cells delivery.now result self.old self.new }
@@ -191,7 +191,7 @@ impl<L: StepLedger> Subscription<L> {
 
     /// The token of the entry with this number, if it accepted it.
     pub fn told(&self, number: u64) -> Option<&Told>
-        ensures { option_copied result ≡ token_of self.now.start self.now.told number }
+        ensures { option_copied result ≡ accepted_token self.now.start self.now.told number }
     {
         let place = number.checked_sub(self.end.start())?.checked_sub(1)?;
         self.told.get(place as usize)

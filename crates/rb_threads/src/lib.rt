@@ -11,6 +11,8 @@ mod rows;
 #[cfg(test)]
 mod segments;
 #[cfg(test)]
+mod subscriptions;
+#[cfg(test)]
 mod texts;
 #[cfg(test)]
 mod threads;

@@ -3,8 +3,8 @@ use Rattle.std.specs.Prelude.{OnOk, IfErr}
 use Rattle.std.proofs.lemmas.List.{length-append}
 use Rattle.cs_model.specs.Schema.{refusal_of}
 use Rattle.rb_sequence.specs.Entry.{Entry}
-use Rattle.rb_subscriber.specs.AcceptAlone.{IsOutside, outside_after}
-use Rattle.rb_subscriber.proofs.TokenLaws.{in_cells_more, outside_one}
+use Rattle.rb_subscriber.specs.AcceptAlone.{IsFirstOutside, outside_after}
+use Rattle.rb_subscriber.proofs.TokenLaws.{one_more_shown, outside_one}
 use Rattle.rb_subscriber.proofs.look.look.Goals as goal
 
 pub loop-past-preserved : goal.loop-past-preserved
@@ -21,9 +21,9 @@ loop-past-preserved c =
     let refused = subst (λ b. IfErr c.admits.result (λ fault. refusal_of schema b ≡ Some fault)) body
     c.admits.ensures.refused in (
       inv.0 ++ t ∷ [],
-      in_cells_more cells c.args.delivery.now.first inv.0 t inv.1 c.in-Some.ensures.0 number,
+      one_more_shown cells c.args.delivery.now.first inv.0 t inv.1 c.in-Some.ensures.0 number,
       omega (arith, length-append inv.0 (t ∷ []), inv.2),
-      subst (IsOutside schema (inv.0 ++ t ∷ []))
+      subst (IsFirstOutside schema (inv.0 ++ t ∷ []))
           (sym (c.after-outside.ensures ∙ ap (λ b. outside_after c.loop-past.outside b (c.first-in-loop-past.result + c.loop-past.past)) c.is_err.ensures.value))
           (outside_one schema inv.0 t c.loop-past.outside c.admits.result
           (c.first-in-loop-past.result + c.loop-past.past)

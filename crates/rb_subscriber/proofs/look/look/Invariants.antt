@@ -1,6 +1,6 @@
 use Rattle.std.proofs.Common.{◌≡◌, List, length}
 use Rattle.rb_sequence.specs.Cells.{CellToken}
-use Rattle.rb_subscriber.specs.AcceptAlone.{IsOutside}
+use Rattle.rb_subscriber.specs.AcceptAlone.{IsFirstOutside}
 use Rattle.rb_sequence.specs.Cells.{AreInCells}
 use Rattle.rb_subscriber.proofs.look.look.Given as goal
 
@@ -8,4 +8,4 @@ use Rattle.rb_subscriber.proofs.look.look.Given as goal
 abbrev pub invariant-loop-past : goal.invariant-loop-past
 invariant-loop-past l = (shown : List CellToken) × AreInCells l.sequence l.delivery.first shown
     × (length shown ≡ l.past)
-    × IsOutside l.schema shown l.outside
+    × IsFirstOutside l.schema shown l.outside

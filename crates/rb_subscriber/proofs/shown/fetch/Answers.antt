@@ -2,7 +2,7 @@ use Rattle.std.proofs.Common.{◌≡◌, ◌≤◌, ◌-◌, ◌+◌, suc, ◌�
 use Rattle.std.proofs.lemmas.List.{length-append}
 use Rattle.std.specs.Vec.{vec_capacity}
 use Rattle.rb_sequence.specs.Cells.{AreInCells}
-use Rattle.rb_subscriber.proofs.TokenLaws.{in_cells_more}
+use Rattle.rb_subscriber.proofs.TokenLaws.{one_more_shown}
 use Rattle.rb_subscriber.proofs.shown.fetch.Goals as goal
 
 pub loop-past-preserved : goal.loop-past-preserved
@@ -15,7 +15,7 @@ loop-past-preserved c =
     let number : t.number ≡ c.args.first + length old =
     c.in-Some.ensures.1 ∙ ap (λ (n : ℕ). c.args.first + n) (sym inv.1) in (
       subst (λ xs. AreInCells cells c.args.first xs) (sym items)
-          (in_cells_more cells c.args.first old t inv.0 c.in-Some.ensures.0 number),
+          (one_more_shown cells c.args.first old t inv.0 c.in-Some.ensures.0 number),
       omega (arith, ap length items, length-append old (t ∷ []), inv.1),
       omega (arith, c.push_reserved.ensures.len, inv.2),
       subst (λ n. suc c.args.last - c.args.first ≤ n) (sym c.push_reserved.ensures.capacity) inv.3,

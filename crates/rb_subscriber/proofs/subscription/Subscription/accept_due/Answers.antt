@@ -7,11 +7,11 @@ use Rattle.rb_subscriber.specs.Endpoint.{Endpoint}
 use Rattle.cs_apply.specs.State as tables
 use Rattle.rb_subscriber.specs.AcceptAlone.{DueAnswers, LookAnswers}
 use Rattle.rb_sequence.specs.Cells.{AreInCells}
-use Rattle.rb_subscriber.specs.Shown.{AreShown, AreTokens, entries_told}
-use Rattle.rb_subscriber.specs.Subscription.{SubscriptionState, cursor_of, endpoint_of}
+use Rattle.rb_subscriber.specs.Shown.{ShowDelivery, AreTokens, entries_told}
+use Rattle.rb_subscriber.specs.Subscription.{SubscriptionState, cursor_of, own_endpoint}
 use Rattle.rb_subscriber.specs.contracts.subscription.Subscription.{the_view}
-use Rattle.rb_subscriber.proofs.AloneLaws.{AloneKept, alone_kept, due_ok, look_answers}
-use Rattle.rb_subscriber.proofs.TokenLaws.{are_tokens}
+use Rattle.rb_subscriber.proofs.AloneLaws.{AloneKept, alone_kept, due_ok, looked_answers}
+use Rattle.rb_subscriber.proofs.TokenLaws.{tokens_by_place}
 use Rattle.rb_subscriber.proofs.subscription.Subscription.accept_due.Goals as goal
 
 pub returns-in_default-clause-answers : goal.returns-in_default-clause-answers
@@ -32,14 +32,14 @@ returns-in_default-clause-answers g c =
     let same = ap with_told c.room.ensures.same ∙ c.self.view_is in
     let schema = c.schema.ensures.same ∙ ap (λ (t : tables.TableState). t.schema) c.tables.ensures
     ∙ ap (λ (x : SubscriptionState). x.tables.schema) c.self.view_is in
-    look_answers g.L.StepLedger.cells d old _ c.look.result c.requires.free same
+    looked_answers g.L.StepLedger.cells d old _ c.look.result c.requires.free same
     (subst (λ cs. LookAnswers cs d old.tables.schema c.look.result) c.requires.cells
     (subst (λ sch. LookAnswers c.args.sequence.now d sch c.look.result) schema c.look.ensures))
 
 pub invariant_of-entries : goal.invariant_of-entries
 invariant_of-entries g c = record {
   tokens = subst (λ ts. AreTokens c.args.sequence.now ts) (sym c.deref.ensures.value)
-      (are_tokens c.args.sequence.now c.first-first.result c.in-Ok.shown.items c.in-Ok.ensures.ok.0);
+      (tokens_by_place c.args.sequence.now c.first-first.result c.in-Ok.shown.items c.in-Ok.ensures.ok.0);
 }
 
 pub invariant_of-self-in-Ok-accept_brought : goal.invariant_of-self-in-Ok-accept_brought
@@ -59,7 +59,7 @@ invariant_of-self-in-Ok-accept_brought g c =
     let goes = subst (λ es. (t : tables.TableState) → AppliesSingly e.tables es t → new.tables ≡ t) back
     c.in-Ok-accept_brought.ensures.singly in
     let first = c.first-first.ensures in
-    let are : AreShown cells d shown = (
+    let are : ShowDelivery cells d shown = (
       subst (λ n. AreInCells cells n shown) first
           (subst (λ cs. AreInCells cs c.first-first.result shown) c.requires.cells c.in-Ok.ensures.ok.0),
       c.in-Ok.ensures.ok.1 ∙ (λ i. suc (c.last-last.ensures i) - first i),
@@ -93,7 +93,7 @@ returns-in-Ok-accept_brought-clause-answers g c =
     let goes = subst (λ es. (t : tables.TableState) → AppliesSingly e.tables es t → new.tables ≡ t) back
     c.in-Ok-accept_brought.ensures.singly in
     let first = c.first-first.ensures in
-    let are : AreShown cells d shown = (
+    let are : ShowDelivery cells d shown = (
       subst (λ n. AreInCells cells n shown) first
           (subst (λ cs. AreInCells cs c.first-first.result shown) c.requires.cells c.in-Ok.ensures.ok.0),
       c.in-Ok.ensures.ok.1 ∙ (λ i. suc (c.last-last.ensures i) - first i),
