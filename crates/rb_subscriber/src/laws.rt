@@ -35,6 +35,9 @@ pub fn accepted_is_a_run()
     ensures stays { (endpoint : Endpoint) (sequence more : List Entry)
         → endpoint.start ≤ endpoint.cursor → endpoint.cursor ≤ length sequence
         → accepted_entries (sequence ++ more) endpoint ≡ accepted_entries sequence endpoint }
+    ensures brought { (sequence : List Entry) (delivery : Delivery) (cursor : ℕ)
+        → delivery.first ≡ suc cursor
+        → brought sequence delivery ≡ part sequence cursor (delivery.last - cursor) }
 {}
 
 /// If the changesets of an accepted delivery, applied one after another, don't conflict, the tables
