@@ -1,6 +1,7 @@
 -- Each call returns what its definition says, and the desk shows the picture after it.
 pub mod CallLaws
 pub mod FindLaws
+pub mod TakeLaws
 pub mod OpenLaws
 pub mod HandLaws
 pub mod SearchLaws

@@ -78,6 +78,13 @@ pub fn calls_show_in_outline()
         → close old ≡ (last, new) → outline.Closes (outline_of old) (outline_of new) last }
 {}
 
+/// A delivery that `take` makes has the number and the link that it was asked for.
+pub fn takes_are_as_asked()
+    ensures { (old : Picture) (s link cursor now : ℕ) (delivery : Delivery) (new : Picture)
+        → take old s link cursor now ≡ (Ok delivery, new)
+        → (delivery.sub ≡ s) × (delivery.link ≡ link) }
+{}
+
 /// A refused call does not change the picture.
 pub fn refused_calls_change_nothing()
     ensures subscribe { (old : Picture) (start : ℕ) (why : DeskRefusal) (new : Picture)
