@@ -1,14 +1,15 @@
 //! Subscriptions over cells that are filled by hand: each refusal, and one that reads while another
 //! thread fills.
 
-ghost use Rattle.std.specs.Prelude.{◌≡◌, ◌+◌, ◌<◌, ◌≤◌, IfOk, OnOk};
+ghost use Rattle.std.specs.Prelude.{◌≡◌, ◌+◌, ◌<◌, IfOk, OnOk};
+ghost use Rattle.rb_sequence.specs.Cells.{IsReadyFor};
 
 use crate::cells::set;
-use crate::given::{entry_of, insert, schema};
+use crate::given::{entry, entry_of, insert, schema};
 use cs_apply::{Conflict, ConflictKind, Tables};
 use cs_model::{CopyIn, Schema};
 use rb_desk::{Config, Delivery, Desk};
-use rb_sequence::{Filler, Preparer, Sequence, Told};
+use rb_sequence::{Filler, Preparer, Ready, ReadyError, Sequence, Told};
 use rb_subscriber::{
     AcceptAloneError, AcceptRefusal, Auditor, Register, StepLedger, Subscription,
 };
@@ -43,8 +44,9 @@ struct Fills<L: StepLedger> {
     preparer: Preparer,
     filler: Filler,
     of: PhantomData<L>,
-    ghost prepares: { preparer ≡ filler },
-    ghost capacity: { filler.capacity ≡ 128 },
+    ghost prepares: { preparer ≡ L.cells },
+    ghost fills: { filler ≡ L.cells },
+    ghost capacity: { L.cells.capacity ≡ 128 },
 }
 
 impl<L: StepLedger> Fills<L> {
@@ -58,6 +60,27 @@ impl<L: StepLedger> Fills<L> {
             Ok(_) => Ok(()),
             Err(_) => Err(Fail::new("the cell is set")),
         }
+    }
+
+    // The entry of this number, with the memory for its cell.
+    fn due(&self, alloc: Global, number: u64) -> Result<Due<L>, Fail> {
+        if number < 1 || number > 128 {
+            return Err(Fail::new("there is no such cell"));
+        }
+        match self.preparer.ready(alloc, entry(alloc, number)?) {
+            Ok(ready) => Ok(Due {
+                ready,
+                of: PhantomData,
+            }),
+            Err(ReadyError::Memory(_)) => Err(AllocError.into()),
+            Err(ReadyError::Occupied(_)) => Err(Fail::new("nobody else makes the segment")),
+        }
+    }
+
+    // Fills the cell of what is ready for it, and says whether it wasn't set.
+    fn fill_due(&mut self, due: Due<L>) -> bool {
+        let Due { ready, .. } = due;
+        self.filler.fill(ready).is_ok()
     }
 }
 
@@ -88,7 +111,7 @@ impl<L: StepLedger> Desks<L> {
 
 // A desk that has placed this many numbers and delivers two at once, with a register, and who audits
 // it.
-fn desks<L: StepLedger>(
+fn opened_desks<L: StepLedger>(
     alloc: Global,
     placed: u64,
     blank: Blank,
@@ -172,7 +195,8 @@ fn accepts_in_turn<L: StepLedger, R: Abort>(
     filler: Filler,
     blank: Blank,
 ) -> Result<(), Fail>
-    requires cells { (sequence ≡ L.cells) × (preparer ≡ filler) × (filler.capacity ≡ 128) }
+    requires cells { (sequence ≡ L.cells) × (preparer ≡ L.cells) × (filler ≡ L.cells) }
+    requires capacity { L.cells.capacity ≡ 128 }
     requires name { blank.name ≡ L.name }
     requires parts { (blank.parts ≡ L.parts) × (L.all ≡ L.parts) × (L.all ≡ 1024) }
 {
@@ -180,7 +204,7 @@ fn accepts_in_turn<L: StepLedger, R: Abort>(
         sequence,
         of: PhantomData,
     };
-    let mut fills = Fills {
+    let mut fills: Fills<L> = Fills {
         preparer,
         filler,
         of: PhantomData,
@@ -190,7 +214,7 @@ fn accepts_in_turn<L: StepLedger, R: Abort>(
     }
     fills.fill(alloc, 4, &insert(1))?;
     fills.fill(alloc, 5, &insert(5))?;
-    let (mut desks, mut auditor) = desks(alloc, 6, blank)?;
+    let (mut desks, mut auditor) = opened_desks(alloc, 6, blank)?;
     let mut one = desks.subscribe(alloc, 0)?;
     let mut other = desks.subscribe(alloc, 4)?;
     from_the_start(rt, alloc, &reads, &mut desks, &mut one)?;
@@ -261,10 +285,18 @@ fn past_the_cells<L: StepLedger, R: Abort>(
     Ok(())
 }
 
+/// An entry that is ready for its cell.
+#[derive(Drop)]
+struct Due<L: StepLedger> {
+    ready: Ready,
+    of: PhantomData<L>,
+    ghost is: { IsReadyFor L.cells ready },
+}
+
 // What a thread does.
 #[derive(Drop)]
 enum Job<L: StepLedger> {
-    Fill(Fills<L>),
+    Fill(Fills<L>, Vec<Due<L>>),
     Accept(Subscription<L>, Vec<Delivery>),
 }
 
@@ -277,7 +309,8 @@ fn accepts_beside<L: StepLedger + Send + Sync, R: Threads + Abort + Sync>(
     filler: Filler,
     blank: Blank,
 ) -> Result<(), Fail>
-    requires cells { (sequence ≡ L.cells) × (preparer ≡ filler) × (filler.capacity ≡ 128) }
+    requires cells { (sequence ≡ L.cells) × (preparer ≡ L.cells) × (filler ≡ L.cells) }
+    requires capacity { L.cells.capacity ≡ 128 }
     requires name { blank.name ≡ L.name }
     requires parts { (blank.parts ≡ L.parts) × (L.all ≡ L.parts) × (L.all ≡ 1024) }
 {
@@ -285,20 +318,24 @@ fn accepts_beside<L: StepLedger + Send + Sync, R: Threads + Abort + Sync>(
         sequence,
         of: PhantomData,
     };
-    let fills = Fills {
+    let fills: Fills<L> = Fills {
         preparer,
         filler,
         of: PhantomData,
     };
-    let (mut desks, _auditor) = desks(alloc, 100, blank)?;
+    let (mut desks, _auditor) = opened_desks(alloc, 100, blank)?;
     let subscription = desks.subscribe(alloc, 0)?;
     let mut deliveries = Vec::new(alloc);
     for _ in 0..50 {
         deliveries.push(desks.take(alloc, &subscription)?)?;
     }
+    let mut dues = Vec::new(alloc);
+    for number in 1..=100 {
+        dues.push(fills.due(alloc, number)?)?;
+    }
     let mut jobs = Vec::new(alloc);
     jobs.push(Job::Accept(subscription, deliveries))?;
-    jobs.push(Job::Fill(fills))?;
+    jobs.push(Job::Fill(fills, dues))?;
     let reads = &reads;
     let done = thread::map_vec(rt, jobs, &|job| work(alloc, reads, job))?;
     for one in &done {
@@ -315,16 +352,19 @@ fn work<L: StepLedger>(
     job: Job<L>,
 ) -> Result<(), &'static str> {
     match job {
-        Job::Fill(fills) => fill_all(alloc, fills),
+        Job::Fill(mut fills, dues) => fill_all(&mut fills, dues),
         Job::Accept(subscription, deliveries) => {
             accept_all(alloc, reads, subscription, &deliveries)
         }
     }
 }
 
-fn fill_all<L: StepLedger>(alloc: Global, mut fills: Fills<L>) -> Result<(), &'static str> {
-    for number in 1..=100 {
-        if fills.fill(alloc, number, &insert(number)).is_err() {
+fn fill_all<L: StepLedger>(
+    fills: &mut Fills<L>,
+    dues: Vec<Due<L>>,
+) -> Result<(), &'static str> {
+    for due in dues {
+        if !fills.fill_due(due) {
             return Err("a cell isn't filled");
         }
     }
