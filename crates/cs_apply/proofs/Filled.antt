@@ -56,7 +56,7 @@ get_put rows k q None = map.get-remove keys_total rows k q ∙ ap (λ b. cond b 
 get_put rows k q (Some row) = map.get-insert keys_total rows k row q
     ∙ ap (λ b. cond b (Some row) (map.get rows q)) (tied q k)
 
-in_place : (b : Bool) (row : Option (List Value)) (r : Option (Option (List Value))) → row_in (cond b (Some row) r)
+pub in_place : (b : Bool) (row : Option (List Value)) (r : Option (Option (List Value))) → row_in (cond b (Some row) r)
     ≡ cond b row (row_in r)
 in_place true row r = refl
 in_place false row r = refl

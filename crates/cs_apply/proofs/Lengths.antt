@@ -15,10 +15,10 @@ use Rattle.cs_model.specs.declared.change.Op.{Op}
 use Rattle.cs_model.specs.declared.change.Op.TheVariants.{Insert, Update, Delete}
 use Rattle.cs_model.specs.declared.row_key.RowKey.{RowKey}
 use Rattle.cs_model.specs.declared.shape.Shape.{Shape}
-use Rattle.cs_model.specs.Changeset.{AreRecords, IsChange, IsChangeset, IsField, Obeys}
+use Rattle.cs_model.specs.Changeset.{AreRecords, IsChange, IsChangeset, Obeys}
 use Rattle.cs_model.specs.Key.{key_of, row_key_cmp}
 use Rattle.cs_model.specs.Row.{values_of}
-use Rattle.cs_model.specs.Rule.{Rule, Given, Key, meets, new_rules, old_rule, row_rule}
+use Rattle.cs_model.specs.Rule.{Given, Key, meets, new_rules, old_rule, row_rule}
 use Rattle.cs_model.specs.Schema.{same_bytes, same_shape, table_index}
 use Rattle.cs_model.specs.Section.{Section}
 use Rattle.cs_model.proofs.CallerLemmas.{all_append}

@@ -6,3 +6,4 @@ pub mod Orders
 pub mod Sections
 pub mod OneByOne
 pub mod Lengths
+pub mod Copied

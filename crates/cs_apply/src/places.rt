@@ -13,11 +13,12 @@ ghost use Rattle.cs_model.specs.declared.row_key.RowKey.{RowKey};
 ghost use Rattle.cs_apply.specs.Effect.{inserted};
 ghost use Rattle.cs_apply.specs.Errors.{ReportsKind};
 ghost use Rattle.cs_apply.specs.Seen.{listed};
-ghost use Rattle.cs_apply.specs.Steps.{empty_after, filled, rows_in, put, set_at, undone, Back};
+ghost use Rattle.cs_apply.specs.Steps.{empty_after, filled, rows_of, rows_in, put};
+ghost use Rattle.cs_apply.specs.Steps.{set_at, undone, Back};
 
 use crate::change_error::ChangeError;
 use crate::conflict::ConflictKind;
-use cs_model::{Row, RowKey};
+use cs_model::{CopyIn, Row, RowKey};
 use indexmap::IndexMap;
 use indexmap::map::Entry;
 use std::alloc::{AllocError, Global};
@@ -97,6 +98,26 @@ impl Places {
         Ok(pairs)
     }
 
+    /// Copies the rows into new memory, without empty places and without steps. Returns
+    /// `AllocError` if memory runs out.
+    pub(crate) fn copied(&self, alloc: Global) -> Result<Places, AllocError>
+        ensures rows { IfOk result (λ copy. rows_in copy ≡ rows_in self.now) }
+        ensures log { IfOk result (λ copy. copy.log.items ≡ []) }
+    {
+        // for its clause that no two keys are equal
+        let _places = self.rows.len();
+        let pairs = self.filled(alloc)?;
+        let mut rows = IndexMap::with_capacity(alloc, pairs.len())?;
+        for pair in &pairs {
+            add_copy(&mut rows, alloc, pair.0, pair.1)?;
+        }
+        Ok(Places {
+            rows,
+            log: Vec::new(alloc),
+            empty: 0,
+        })
+    }
+
     /// Sets or clears the row at a place, and logs the old one. An `Err` does not change the rows.
     pub(crate) fn set(&mut self, place: usize, row: Option<Row>) -> Result<(), AllocError>
         ensures ok { OnOk result ((key : RowKey) (old : Option (List Value))
@@ -172,6 +193,24 @@ impl Places {
             self.empty = 0;
         }
     }
+}
+
+// Inserts copies of a key and its row.
+fn add_copy(
+    rows: &mut IndexMap<RowKey, Option<Row>>,
+    alloc: Global,
+    key: &RowKey,
+    row: &Row,
+) -> Result<(), AllocError>
+    ensures { OnOk result (rows_of rows.new.entries
+        ≡ map.insert (rows_of rows.old.entries) key.now row.now) }
+{
+    // for its clause that no two keys are equal
+    let _places = rows.len();
+    let key = key.copy_in(alloc)?;
+    let row = row.copy_in(alloc)?;
+    rows.insert(key, Some(row))?;
+    Ok(())
 }
 
 // The approximate number of empty places after these steps.

@@ -1,4 +1,4 @@
-//! The tables of one replica, and `apply`, which applies a changeset to them.
+//! The tables of one replica, `apply`, which applies a changeset to them, and their copy.
 
 ghost use Rattle.std.specs.Prelude.{◌≡◌, length, IfOk, IfErr, OnOk, OnErr, Ok};
 ghost use Rattle.std.specs.Option.{option_copied};
@@ -12,7 +12,7 @@ ghost use Rattle.cs_apply.specs.Errors.{ReportsConflict};
 use crate::changes::change_all;
 use crate::conflict::ApplyError;
 use crate::places::Places;
-use cs_model::{Changeset, Row, RowKey, Schema};
+use cs_model::{Changeset, CopyIn, Row, RowKey, Schema};
 use std::alloc::{AllocError, Global};
 use std::marker::Model;
 use std::sync::Arc;
@@ -108,5 +108,18 @@ impl Tables {
             self.places.take_back(places);
         }
         applied
+    }
+}
+
+impl CopyIn for Tables {
+    /// Copies the tables, so that a change to the copy or to these leaves the others as they are.
+    /// The copy shares the schema, and leaves out the places of deleted rows. Returns `AllocError`
+    /// if memory runs out.
+    fn copy_in(&self, alloc: Global) -> Result<Tables, AllocError> {
+        Ok(Tables {
+            schema: Arc::try_clone(&self.schema)?,
+            kept: Vec::from_slice(alloc, &self.kept)?,
+            places: self.places.copied(alloc)?,
+        })
     }
 }

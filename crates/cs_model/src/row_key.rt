@@ -6,6 +6,7 @@ ghost use Rattle.cs_model.specs.KeyBytes.{key_bytes, key_record};
 
 use crate::change::Op;
 use crate::change_ref::{ChangeRef, RecordRef};
+use crate::copy::CopyIn;
 use crate::field::field_push;
 use crate::seq::{Octets, Seq};
 use crate::shape::Shape;
@@ -37,6 +38,16 @@ impl RowKey {
     {
         let bytes = key_of_row(alloc, &shape.flags, change)?;
         Ok(RowKey { table, bytes })
+    }
+}
+
+impl CopyIn for RowKey {
+    fn copy_in(&self, alloc: Global) -> Result<RowKey, AllocError> {
+        let bytes = self.bytes.copy_in(alloc)?;
+        Ok(RowKey {
+            table: self.table,
+            bytes,
+        })
     }
 }
 

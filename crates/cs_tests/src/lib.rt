@@ -8,6 +8,8 @@ mod applied;
 #[cfg(test)]
 mod changes;
 #[cfg(test)]
+mod copied;
+#[cfg(test)]
 mod fields;
 #[cfg(test)]
 mod fixture;

@@ -1,4 +1,4 @@
-use Rattle.std.proofs.Common.{ap, sym, subst, ◌∙◌}
+use Rattle.std.proofs.Common.{sym, subst, ◌∙◌}
 use Rattle.std.specs.Arc.{arc_value}
 use Rattle.cs_apply.specs.Columns.{RowsHaveColumns}
 use Rattle.cs_apply.specs.Steps.{rows_in, rows_of}
