@@ -10,9 +10,7 @@ use cs_apply::{Conflict, ConflictKind, Tables};
 use cs_model::{CopyIn, Schema};
 use rb_desk::{Config, Delivery, Desk};
 use rb_sequence::{Filler, Preparer, Ready, ReadyError, Sequence, Told};
-use rb_subscriber::{
-    AcceptAloneError, AcceptRefusal, Auditor, Register, StepLedger, Subscription,
-};
+use rb_subscriber::{AcceptAloneError, AcceptRefusal, Auditor, Register, StepLedger, Subscription};
 use std::alloc::{AllocError, Global};
 use std::marker::{Brand, PhantomData};
 use std::process::Abort;
@@ -101,7 +99,10 @@ impl<L: StepLedger> Desks<L> {
         let tables = Tables::new(alloc, Arc::try_clone(&self.schema)?, kept);
         let base = tables.copy_in(alloc)?;
         let (sub, link) = self.desk.subscribe(alloc, start)?;
-        Ok(self.register.subscribe(alloc, sub, link, start, tables, base))
+        Ok(
+            self.register
+                .subscribe(alloc, sub, link, start, tables, base),
+        )
     }
 
     fn take(&mut self, alloc: Global, to: &Subscription<L>) -> Result<Delivery, Fail> {
@@ -346,11 +347,7 @@ fn accepts_beside<L: StepLedger + Send + Sync, R: Threads + Abort + Sync>(
     Ok(())
 }
 
-fn work<L: StepLedger>(
-    alloc: Global,
-    reads: &Reads<L>,
-    job: Job<L>,
-) -> Result<(), &'static str> {
+fn work<L: StepLedger>(alloc: Global, reads: &Reads<L>, job: Job<L>) -> Result<(), &'static str> {
     match job {
         Job::Fill(mut fills, dues) => fill_all(&mut fills, dues),
         Job::Accept(subscription, deliveries) => {
@@ -359,10 +356,7 @@ fn work<L: StepLedger>(
     }
 }
 
-fn fill_all<L: StepLedger>(
-    fills: &mut Fills<L>,
-    dues: Vec<Due<L>>,
-) -> Result<(), &'static str> {
+fn fill_all<L: StepLedger>(fills: &mut Fills<L>, dues: Vec<Due<L>>) -> Result<(), &'static str> {
     for due in dues {
         if !fills.fill_due(due) {
             return Err("a cell isn't filled");

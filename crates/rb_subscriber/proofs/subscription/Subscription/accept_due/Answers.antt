@@ -67,8 +67,7 @@ invariant_of-self-in-Ok-accept_brought g c =
     let inv = c.self.invariant in
     let kept = alone_kept cells base told shown d e new inv.0 inv.1 inv.2 are accepts goes in
     let more : c.add.new.told.items ≡ told ++ shown =
-    c.add.ensures ∙ ap (λ (xs : List CellToken). xs ++ shown) c.room.ensures.same in
-    (
+    c.add.ensures ∙ ap (λ (xs : List CellToken). xs ++ shown) c.room.ensures.same in (
       kept.cursor ∙ ap (λ (xs : List CellToken). new.start + length xs) (sym more),
       subst (λ xs. AreInCells cells (suc new.start) xs) (sym more) kept.tokens,
       subst (λ (xs : List CellToken). HasSingleTables base (entries_told xs) new.tables) (sym more) kept.singly,
