@@ -1,6 +1,6 @@
 -- What a subscription is after it accepted.
-use Rattle.std.proofs.Common.{◌≡◌, ℕ, suc, ◌+◌, ◌-◌, ◌<◌, ◌≤◌, List, [], ◌∷◌, ◌++◌, length, map, sym, ap, ◌∙◌, refl}
-use Rattle.std.proofs.Common.{subst, arith, Option, Some, None, Result, Ok, Err}
+use Rattle.std.proofs.Common.{◌≡◌, ℕ, suc, ◌+◌, List, [], ◌∷◌, ◌++◌, length, sym, ap, ◌∙◌, refl}
+use Rattle.std.proofs.Common.{subst, arith, Some, None, Result, Ok, Err}
 use Rattle.std.proofs.lemmas.List.{map-append, length-append}
 use Rattle.cs_apply.specs.Single.{single}
 use Rattle.cs_apply.specs.State as tables
@@ -12,7 +12,6 @@ use Rattle.cs_group.specs.Group.{group_of}
 use Rattle.rb_subscriber.specs.Accept.{accept_brought, AcceptsBrought, AppliesSingly, AsksTables, HasSingleTables, applied}
 use Rattle.rb_subscriber.specs.Accept.{applied_if_admitted, first_outside_entry, joined_bodies, refusal_before}
 use Rattle.rb_subscriber.specs.Accept.{taken_unless_refused}
-use Rattle.rb_subscriber.specs.declared.refusal.AcceptRefusal.{AcceptRefusal}
 use Rattle.rb_subscriber.specs.declared.refusal.AcceptRefusal.TheVariants as refusal
 use Rattle.rb_subscriber.specs.Endpoint.{Endpoint}
 use Rattle.rb_subscriber.specs.declared.refusal.AcceptAloneError.{AcceptAloneError}

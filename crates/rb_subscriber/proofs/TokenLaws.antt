@@ -1,7 +1,7 @@
 -- Tokens of numbers that follow each other.
-use Rattle.std.proofs.Common.{◌≡◌, ℕ, zero, suc, ◌+◌, ◌-◌, ◌<◌, ◌≤◌, List, [], ◌∷◌, ◌++◌, length, map, sym, ap, ◌∙◌, refl}
-use Rattle.std.proofs.Common.{subst, arith, Option, Some, None, Result, Ok, Err, Bool, true, false}
-use Rattle.std.specs.Prelude.{slice_index_or, OnOk, IfErr, is_err}
+use Rattle.std.proofs.Common.{◌≡◌, ℕ, zero, suc, ◌+◌, List, [], ◌∷◌, ◌++◌, length, ap, ◌∙◌, refl}
+use Rattle.std.proofs.Common.{subst, arith, Option, Some, None, Result, Ok, Err}
+use Rattle.std.specs.Prelude.{OnOk, IfErr, is_err}
 use Rattle.std.proofs.lemmas.List.{map-append}
 use Rattle.cs_model.specs.declared.schema.SectionFault.{SectionFault}
 use Rattle.cs_model.specs.declared.shape.Shape.{Shape}

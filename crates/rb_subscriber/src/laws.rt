@@ -1,7 +1,7 @@
 //! Laws of endpoints: what holds of every delivery. Each law is a public function that does
 //! nothing; its contract is the law. Call the function to use the law.
 
-ghost use Rattle.std.specs.Prelude.{◌≡◌, ◌≤◌, ◌↔◌, ◌++◌, List, Ok, Err, length};
+ghost use Rattle.std.specs.Prelude.{◌≡◌, ◌≤◌, ◌↔◌, ◌++◌, ◌-◌, ℕ, suc, List, Ok, Err, length};
 ghost use Rattle.cs_apply.specs.declared.conflict.Conflict.{Conflict};
 ghost use Rattle.cs_apply.specs.Columns.{HaveColumns};
 ghost use Rattle.cs_apply.specs.State.{TableState};
@@ -9,7 +9,7 @@ ghost use Rattle.rb_desk.specs.declared.delivery.Delivery.{Delivery};
 ghost use Rattle.rb_sequence.specs.Entry.{Entry};
 ghost use Rattle.rb_subscriber.specs.Endpoint.{Endpoint};
 ghost use Rattle.rb_subscriber.specs.Accept.{accept, accept_brought, AcceptsBrought, brought};
-ghost use Rattle.rb_subscriber.specs.Accept.{accepted_entries};
+ghost use Rattle.rb_subscriber.specs.Accept.{accepted_entries, part};
 ghost use Rattle.rb_subscriber.specs.Accept.{AppliesSingly, AreChangesets, ConflictsSingly};
 ghost use Rattle.rb_subscriber.specs.declared.refusal.AcceptRefusal.TheVariants as refusal;
 

@@ -1,6 +1,5 @@
-use Rattle.std.proofs.Common.{◌≡◌, ◌≤◌, ◌-◌, ◌+◌, suc, ◌∷◌, [], ◌++◌, length, sym, ap, ◌∙◌, subst, arith, ℕ}
+use Rattle.std.proofs.Common.{◌≡◌, ◌≤◌, ◌-◌, ◌+◌, suc, ◌∷◌, [], length, sym, ap, ◌∙◌, subst, arith, ℕ}
 use Rattle.std.proofs.lemmas.List.{length-append}
-use Rattle.std.specs.Vec.{vec_capacity}
 use Rattle.rb_sequence.specs.Cells.{AreInCells}
 use Rattle.rb_subscriber.proofs.TokenLaws.{one_more_shown}
 use Rattle.rb_subscriber.proofs.shown.fetch.Goals as goal

@@ -1,16 +1,12 @@
-use Rattle.std.proofs.Common.{◌≡◌, ◌≤◌, ◌<◌, ◌+◌, ◌-◌, ◌++◌, suc, ℕ, length, Some, None, Ok, Err, sym, ap, ◌∙◌, subst, arith, refl, List}
-use Rattle.std.specs.Prelude.{slice_index_or, OnOk, IfOk}
-use Rattle.rb_desk.specs.declared.delivery.Delivery.{Delivery}
-use Rattle.rb_sequence.specs.Cells.{Cells, CellToken, IsTokenOf}
-use Rattle.rb_subscriber.specs.Accept.{accept_brought, AcceptsBrought, AcceptAnswers, AppliesSingly, HasSingleTables, refusal_before}
-use Rattle.rb_subscriber.specs.Endpoint.{Endpoint}
+use Rattle.std.proofs.Common.{◌≡◌, ◌+◌, ◌-◌, ◌++◌, suc, length, Ok, sym, ap, ◌∙◌, subst, List}
+use Rattle.rb_sequence.specs.Cells.{CellToken}
+use Rattle.rb_subscriber.specs.Accept.{accept_brought, AppliesSingly, HasSingleTables}
 use Rattle.cs_apply.specs.State as tables
-use Rattle.rb_subscriber.specs.AcceptAlone.{DueAnswers, LookAnswers}
+use Rattle.rb_subscriber.specs.AcceptAlone.{LookAnswers}
 use Rattle.rb_sequence.specs.Cells.{AreInCells}
 use Rattle.rb_subscriber.specs.Shown.{ShowDelivery, AreTokens, entries_told}
-use Rattle.rb_subscriber.specs.Subscription.{SubscriptionState, cursor_of, own_endpoint}
-use Rattle.rb_subscriber.specs.contracts.subscription.Subscription.{the_view}
-use Rattle.rb_subscriber.proofs.AloneLaws.{AloneKept, alone_kept, due_ok, looked_answers}
+use Rattle.rb_subscriber.specs.Subscription.{SubscriptionState}
+use Rattle.rb_subscriber.proofs.AloneLaws.{alone_kept, due_ok, looked_answers}
 use Rattle.rb_subscriber.proofs.TokenLaws.{tokens_by_place}
 use Rattle.rb_subscriber.proofs.subscription.Subscription.accept_due.Goals as goal
 
