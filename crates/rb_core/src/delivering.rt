@@ -94,7 +94,8 @@ impl Parts {
 
     // negatively acknowledges this delivery
     fn give_back(&mut self, delivery: Delivery) -> Result<Reply, AllocError>
-        ensures ok { IfOk result (λ reply. nacked_for self.old (Some delivery) ≡ (reply, self.new)) }
+        ensures ok { IfOk result (λ reply.
+            nacked_for self.old (Some delivery) ≡ (reply, self.new)) }
         ensures err { OnErr result (self.new ≡ self.old) }
         ensures memory { OnErr result ((d : ℕ) → MayRunOut (event.Nack d)
             (nacked_for self.old (Some delivery)).0) }

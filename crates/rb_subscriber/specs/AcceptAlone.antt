@@ -75,5 +75,5 @@ LookAnswers cells delivery schema (Unseen number) =
 LookAnswers cells delivery schema (Refused (refusal.Shape number)) = (shown : List CellToken)
     × ShowDelivery cells delivery shown × IsFirstOutside schema shown (Some number)
 LookAnswers cells delivery schema (Refused other) = ⊥
-LookAnswers cells delivery schema Memory = (shown : List CellToken) × ShowDelivery cells delivery shown
-    × IsFirstOutside schema shown None
+LookAnswers cells delivery schema Memory = (shown : List CellToken)
+    × ShowDelivery cells delivery shown × IsFirstOutside schema shown None

@@ -110,8 +110,8 @@ impl<L: StepLedger> Desks<L> {
     }
 }
 
-// A desk that has placed this many numbers and delivers two at once, with a register, and who audits
-// it.
+// A desk that has placed this many numbers and delivers two at once, with a register, and who
+// audits it.
 fn opened_desks<L: StepLedger>(
     alloc: Global,
     placed: u64,
