@@ -29,7 +29,7 @@ not_refused_first old false why rest d new e = (refl, e)
 span_as_asked : (old : Picture) (s : ℕ) (q : Subscription) (cursor now : ℕ) (o : Option Span) (d : Delivery)
     (new : Picture) → delivered_span old s q cursor now o ≡ (Ok d, new) → (d.sub ≡ s) × (d.link ≡ q.link)
 span_as_asked old s q cursor now None d new e = absurd (
-  let same : Err (none_ready old q cursor old.closing) ≡ Ok d = ap (λ (p : TakeResult). p.0) e in cc)
+    let same : Err (none_ready old q cursor old.closing) ≡ Ok d = ap (λ (p : TakeResult). p.0) e in cc)
 span_as_asked old s q cursor now (Some span) d new e =
     let ok : Ok (delivery_from old s q span) ≡ Ok d = ap (λ (p : TakeResult). p.0) e in
     let same : delivery_from old s q span ≡ d = cc in
@@ -38,7 +38,7 @@ span_as_asked old s q cursor now (Some span) d new e =
 found_as_asked : (old : Picture) (s link cursor now : ℕ) (o : Option Subscription) (d : Delivery) (new : Picture)
     → delivered_from old s link cursor now o ≡ (Ok d, new) → (d.sub ≡ s) × (d.link ≡ link)
 found_as_asked old s link cursor now None d new e = absurd (
-  let same : Err refusal.NoSuch ≡ Ok d = ap (λ (p : TakeResult). p.0) e in cc)
+    let same : Err refusal.NoSuch ≡ Ok d = ap (λ (p : TakeResult). p.0) e in cc)
 found_as_asked old s link cursor now (Some q) d new e =
     let linked = not_refused_first old (not (link == q.link)) refusal.StaleLink _ d new e in
     let open_ = not_refused_first old q.closed refusal.Closed _ d new linked.1 in
