@@ -38,3 +38,8 @@ is_accepted cells s n all after last =
       of = at.of;
       number = at.number;
     }
+
+-- what is found is that token
+pub found_is : (found : Option CellToken) (t u : CellToken) → Some t ≡ found → found ≡ Some u → t ≡ u
+found_is found t u is there =
+    let both : Some t ≡ Some u = is ∙ there in cc

@@ -8,6 +8,7 @@ use crate::cells::set;
 use crate::given::{entry, entry_of, insert, schema};
 use cs_apply::{Conflict, ConflictKind, Tables};
 use cs_model::{CopyIn, Schema};
+use rb_close::meet;
 use rb_desk::{Config, Delivery, Desk};
 use rb_sequence::{Filler, Preparer, Ready, ReadyError, Sequence, Told};
 use rb_subscriber::{AcceptAloneError, AcceptRefusal, Auditor, Register, StepLedger, Subscription};
@@ -218,7 +219,9 @@ fn accepts_in_turn<L: StepLedger, R: Abort>(
     let (mut desks, mut auditor) = opened_desks(alloc, 6, blank)?;
     let mut one = desks.subscribe(alloc, 0)?;
     let mut other = desks.subscribe(alloc, 4)?;
+    let mut third = desks.subscribe(alloc, 1)?;
     from_the_start(rt, alloc, &reads, &mut desks, &mut one)?;
+    meets(rt, alloc, &reads, &mut desks, &one, &mut third)?;
     past_the_cells(rt, alloc, &reads, &mut fills, &mut desks, &mut other)?;
     desks.register.count(&mut one);
     desks.register.count(&mut one);
@@ -227,6 +230,7 @@ fn accepts_in_turn<L: StepLedger, R: Abort>(
     auditor.hear(one);
     assert_eq!(rt; desks.register.audit(&mut auditor), None);
     auditor.hear(other);
+    auditor.hear(third);
     assert_eq!(rt; desks.register.audit(&mut auditor), Some(3));
     Ok(())
 }
@@ -263,6 +267,24 @@ fn from_the_start<L: StepLedger, R: Abort>(
     one.close();
     let closed = no(AcceptRefusal::Closed);
     assert_eq!(rt; refused(rt, alloc, reads, one, &second)?, closed);
+    Ok(())
+}
+
+// Two that have accepted 1 to 2 and 2 to 3 have the second in common.
+fn meets<L: StepLedger, R: Abort>(
+    rt: &R,
+    alloc: Global,
+    reads: &Reads<L>,
+    desks: &mut Desks<L>,
+    one: &Subscription<L>,
+    third: &mut Subscription<L>,
+) -> Result<(), Fail>
+    ensures { desks.new.register ≡ desks.old.register }
+{
+    assert_eq!(rt; meet(one, third), (1, 1));
+    let delivery = desks.take(alloc, third)?;
+    assert_eq!(rt; refused(rt, alloc, reads, third, &delivery)?, None);
+    assert_eq!(rt; (meet(one, third), meet(third, one)), ((1, 2), (1, 2)));
     Ok(())
 }
 

@@ -4,4 +4,4 @@ use Rattle.rb_close.proofs.meeting.meet.Given as goal
 
 -- the numbers so far
 abbrev pub invariant-loop-number : goal.invariant-loop-number
-invariant-loop-number l = (n : ℕ) → l.after < n → n ≤ l.number → ShareEntry l.one l.other n
+invariant-loop-number g l = (n : ℕ) → l.after < n → n ≤ l.number → ShareEntry l.one l.other n
