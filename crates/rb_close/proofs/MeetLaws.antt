@@ -12,14 +12,14 @@ pub record IsAccepted (cells : Cells) (s : SubscriptionState) (n : ℕ) : Type 0
   pub of : IsTokenOf cells token
   pub number : token.number ≡ n
 
-record IsAt (cells : Cells) (tokens : List CellToken) (i n : ℕ) : Type 0 where
+record HasTokenAt (cells : Cells) (tokens : List CellToken) (i n : ℕ) : Type 0 where
   token : CellToken
   there : slice_get tokens i ≡ Some token
   of : IsTokenOf cells token
   number : token.number ≡ n
 
 token_at : (cells : Cells) (from i n : ℕ) (tokens : List CellToken) → AreInCells cells from tokens → i < length tokens
-    → n ≡ from + i → IsAt cells tokens i n
+    → n ≡ from + i → HasTokenAt cells tokens i n
 token_at cells from i n [] all less is = absurd (omega (arith, less))
 token_at cells from zero n (t ∷ tokens) all less is =
     record { token = t; there = refl; of = all.0; number = all.1 ∙ omega (arith, is) }
@@ -40,6 +40,6 @@ is_accepted cells s n all after last =
     }
 
 -- what is found is that token
-pub found_is : (found : Option CellToken) (t u : CellToken) → Some t ≡ found → found ≡ Some u → t ≡ u
-found_is found t u is there =
+pub same_token : (found : Option CellToken) (t u : CellToken) → Some t ≡ found → found ≡ Some u → t ≡ u
+same_token found t u is there =
     let both : Some t ≡ Some u = is ∙ there in cc

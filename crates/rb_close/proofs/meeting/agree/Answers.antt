@@ -1,6 +1,6 @@
 use Rattle.std.proofs.Common.{◌≡◌, ◌∙◌, subst, sym, ap}
 use Rattle.rb_sequence.specs.Cells.{CellToken, IsTokenOf}
-use Rattle.rb_close.proofs.MeetLaws.{found_is, is_accepted}
+use Rattle.rb_close.proofs.MeetLaws.{same_token, is_accepted}
 use Rattle.rb_close.proofs.meeting.agree.Goals as goal
 
 pub same-requires : goal.same-requires
@@ -11,8 +11,8 @@ same-requires g c =
     is_accepted cells c.args.other.now c.args.number c.cursor-2.ensures.shown c.requires.other.0 c.requires.other.1 in
     let token = c.in-Some-Some.token.now in
     let twin = c.in-Some-Some.twin.now in
-    let mine : token ≡ one.token = found_is _ token one.token c.in-Some-Some.ensures one.there in
-    let theirs : twin ≡ other.token = found_is _ twin other.token c.in-Some-Some.ensures' other.there in
+    let mine : token ≡ one.token = same_token _ token one.token c.in-Some-Some.ensures one.there in
+    let theirs : twin ≡ other.token = same_token _ twin other.token c.in-Some-Some.ensures' other.there in
     c.one_number_is_one_cell.ensures cells token twin
     (subst (λ (t : CellToken). IsTokenOf cells t) (sym mine) one.of)
     (subst (λ (t : CellToken). IsTokenOf cells t) (sym theirs) other.of)
