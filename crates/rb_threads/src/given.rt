@@ -42,14 +42,7 @@ pub fn opened(alloc: Global, capacity: u64, intake: u64) -> Result<Opened, Fail>
 pub fn entry(alloc: Global, number: u64) -> Result<Entry, Fail>
     ensures { IfOk result (λ e. e.number ≡ number) }
 {
-    entry_of(alloc, number, &insert(number))
-}
-
-/// The entry with this number, and this changeset.
-pub fn entry_of(alloc: Global, number: u64, text: &[u8]) -> Result<Entry, Fail>
-    ensures { IfOk result (λ e. e.number ≡ number) }
-{
-    let body = match parse(alloc, text) {
+    let body = match parse(alloc, &insert(number)) {
         Ok(body) => body,
         Err(ParseError::Memory) => return Err(AllocError.into()),
         Err(ParseError::Fault(fault)) => return Err(fault.into()),

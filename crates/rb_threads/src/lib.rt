@@ -11,8 +11,6 @@ mod rows;
 #[cfg(test)]
 mod segments;
 #[cfg(test)]
-mod subscriptions;
-#[cfg(test)]
 mod texts;
 #[cfg(test)]
 mod threads;
