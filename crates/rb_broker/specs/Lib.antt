@@ -1,4 +1,5 @@
 pub mod Halls
+pub mod Holding
 pub mod Placing
 pub mod Publishers
 pub mod Refusing

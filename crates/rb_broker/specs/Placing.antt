@@ -1,5 +1,6 @@
--- What one hold of the broker's lock does that places an item.
-use Rattle.std.specs.Prelude.{◌≡◌, ◌⊎◌, ◌++◌, ℕ, length, Option, Some, None, Result, Ok, Err}
+-- What one hold of the broker's lock does that places an item, and one that closes.
+use Rattle.std.specs.Prelude.{◌≡◌, ◌++◌, ℕ, length, Option, Some, None, IfSome, Result, Ok, Err}
+use Rattle.std.specs.Option.{option_map}
 use Rattle.rb_desk.specs.declared.refusal.DeskRefusal.{DeskRefusal}
 use Rattle.rb_desk.specs.declared.refusal.DeskRefusal.TheVariants as desk
 use Rattle.rb_desk.specs.declared.step.Step.TheVariants.{Place}
@@ -10,7 +11,7 @@ use Rattle.rb_sequence.specs.Entry.{Entry}
 use Rattle.rb_broker.specs.declared.refusal.PlaceRefusal.{PlaceRefusal}
 use Rattle.rb_broker.specs.declared.refusal.PlaceRefusal.TheVariants.{JournalFull}
 use Rattle.rb_broker.specs.declared.refusal.PlaceRefusal.TheVariants.{Closed, SequenceFull}
-use Rattle.rb_broker.specs.declared.refusal.PlaceRefusal.TheVariants.{Occupied}
+use Rattle.rb_broker.specs.declared.refusal.PlaceRefusal.TheVariants.{Occupied, Memory}
 use Rattle.rb_broker.specs.declared.refusal.RefusedItem.{RefusedItem}
 
 -- the token shows that the cell of the entry's number holds the entry
@@ -19,12 +20,26 @@ pub record ShowsEntry (cells : Cells) (told : CellToken) (e : Entry) : Type 0 wh
   pub number : told.number ≡ e.number
   pub entry : told.entry ≡ e
 
+-- The token shows the desk's closing number in the closing cell; there is none before the closing.
+abbrev pub ShowsClosing : Cells → Option ℕ → Option LastToken → Type 0
+ShowsClosing cells closing told = (option_map (λ t. t.last) told ≡ closing)
+    × IfSome told (λ t. IsLastToken cells t)
+
+-- a refusal because the sequence is closed shows its last number
+abbrev pub ShowsWhy : Cells → PlaceRefusal → Type 0
+ShowsWhy cells JournalFull = Unit {0}
+ShowsWhy cells (Closed told) = IsLastToken cells told
+ShowsWhy cells SequenceFull = Unit {0}
+ShowsWhy cells Occupied = Unit {0}
+ShowsWhy cells Memory = Unit {0}
+
 -- why an item isn't placed under this number, by what the desk's `prepare` returns
-abbrev pub IsWhy : Result ℕ DeskRefusal → ℕ → PlaceRefusal → Type 0
-IsWhy (Err desk.JournalFull) n why = why ≡ JournalFull
-IsWhy (Err desk.Closed) n why = why ≡ Closed
-IsWhy (Err other) n why = why ≡ SequenceFull
-IsWhy (Ok next) n why = why ≡ Occupied
+abbrev pub IsWhy : Cells → Option ℕ → Result ℕ DeskRefusal → ℕ → PlaceRefusal → Type 0
+IsWhy cells closing (Err desk.JournalFull) n why = why ≡ JournalFull
+IsWhy cells closing (Err desk.Closed) n why =
+    (told : LastToken) × ShowsClosing cells closing (Some told) × (why ≡ Closed told)
+IsWhy cells closing (Err other) n why = why ≡ SequenceFull
+IsWhy cells closing (Ok next) n why = why ≡ Occupied
 
 -- the number that the desk would place, or why none
 abbrev pub number_to_place : JournaledPicture → Result ℕ DeskRefusal
@@ -37,21 +52,19 @@ abbrev pub PlacesEntry : Result CellToken RefusedItem → Cells → Entry → Jo
 PlacesEntry (Ok told) cells entry old new = ShowsEntry cells told entry
     × (number_to_place old ≡ Ok entry.number) × (new ≡ journaled old Place (place old.picture))
 PlacesEntry (Err refused) cells entry old new = (refused.item ≡ entry.item)
-    × IsWhy (number_to_place old) entry.number refused.why × (new ≡ old)
+    × IsWhy cells old.picture.closing (number_to_place old) entry.number refused.why × (new ≡ old)
 
 -- why no number is placed that has no cell
-abbrev pub RefusesPlace : JournaledPicture → PlaceRefusal → Type 0
-RefusesPlace desk why = IsWhy (number_to_place desk) 0 why
+abbrev pub RefusesPlace : Cells → JournaledPicture → PlaceRefusal → Type 0
+RefusesPlace cells desk why = IsWhy cells desk.picture.closing (number_to_place desk) 0 why
 
--- the desk is closed
-abbrev pub ClosesDesk : JournaledPicture → JournaledPicture → Type 0
-ClosesDesk old new = (new.picture ≡ (close old.picture).1)
-    × (new.steps ≡ old.steps ++ closing_steps old.picture.closing)
-
--- What the hold returns and leaves that closes. The token is of the closing cell. Either the cell
--- was set and the desk is as before; or the desk is closed, and the token shows its closing number.
+-- What the hold returns and leaves that closes. The desk is closed, and the token shows its closing
+-- number in the closing cell; or, if that cell is set and the desk isn't closed, the desk is as
+-- before.
 abbrev pub ClosesBoth : Option LastToken → Cells → JournaledPicture → JournaledPicture
     → Type 0
 ClosesBoth (Some told) cells old new = IsLastToken cells told
-    × ((new ≡ old) ⊎ ((told.last ≡ (close old.picture).0) × ClosesDesk old new))
-ClosesBoth None cells old new = ClosesDesk old new
+    × (told.last ≡ (close old.picture).0)
+    × (new.picture ≡ (close old.picture).1)
+    × (new.steps ≡ old.steps ++ closing_steps old.picture.closing)
+ClosesBoth None cells old new = (old.picture.closing ≡ None) × (new ≡ old)

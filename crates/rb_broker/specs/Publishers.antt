@@ -1,5 +1,5 @@
 -- A publisher of a broker, and what it stages.
-use Rattle.std.specs.Prelude.{◌≡◌, ℕ, List, Option, Some, None, refl}
+use Rattle.std.specs.Prelude.{◌≡◌, ◌<◌, ℕ, suc, List, [], Option, Some, None, Result, Ok, Err, refl}
 use Rattle.std.specs.Coded.{Coded, code_by, coded×, coded_list, coded_option, coded_ℕ}
 use Rattle.cs_model.specs.contracts.origin.Origin as origin
 use Rattle.cs_model.specs.contracts.shape.Shape as shape
@@ -8,7 +8,9 @@ use Rattle.cs_model.specs.declared.origin.Origin.TheVariants.{Sent, Withdraws}
 use Rattle.cs_model.specs.declared.shape.Shape.{Shape}
 use Rattle.cs_model.specs.Section.{Section, section_code}
 use Rattle.cs_invert.specs.Inverse.{withdrawal_of}
-use Rattle.cs_parse.specs.Progress.{Progress, progress_code}
+use Rattle.cs_parse.specs.Progress.{Progress, nothing, progress_code}
+use Rattle.rb_broker.specs.declared.refusal.AddRefusal.{AddRefusal}
+use Rattle.rb_broker.specs.declared.refusal.AddRefusal.TheVariants.{TooMany, Memory}
 use Rattle.rb_sequence.specs.Cells.{Cells, CellToken, IsTokenOf, token_code}
 use Rattle.rb_sequence.specs.contracts.item.Item as item
 use Rattle.rb_sequence.specs.declared.item.Item.{Item}
@@ -40,6 +42,18 @@ WithdrawsShown cells (Withdraws n) (Some told) p body = IsTokenOf cells told × 
 
 abbrev pub IsStaged : Cells → StagedView → Type 0
 IsStaged cells s = WithdrawsShown cells s.origin s.withdraws s.publisher s.body
+
+-- a publisher that has done nothing yet
+abbrev pub new_publisher : ℕ → List Shape → PublisherView
+new_publisher number schema =
+    record { number = number; schema = schema; stream = nothing; sent = []; withdrawn = [] }
+
+-- What the maker of publishers, who made so many, returns, and how many it made then. The new one
+-- has the next number, counted from 0, and there are at most 64.
+abbrev pub MakesPublisher : List Shape → Result PublisherView AddRefusal → ℕ → ℕ → Type 0
+MakesPublisher schema (Ok p) old new = (p ≡ new_publisher old schema) × (old < 64) × (new ≡ suc old)
+MakesPublisher schema (Err TooMany) old new = (old ≡ 64) × (new ≡ old)
+MakesPublisher schema (Err Memory) old new = (old < 64) × (new ≡ old)
 
 -- the item that a staged set becomes
 abbrev pub item_of : StagedView → ℕ → Item

@@ -1,5 +1,5 @@
 -- What a publisher's calls hand back, and the entries that it withdrew.
-use Rattle.std.specs.Prelude.{◌≡◌, ℕ, List, [], Bool, None, Some, Result, Ok, Err}
+use Rattle.std.specs.Prelude.{◌≡◌, ℕ, List, [], Bool, true, None, Some, Result, Ok, Err}
 use Rattle.std.specs.List.{list_any}
 use Rattle.std.specs.Ordering.{nat_cmp}
 use Rattle.std.specs.BTreeMap.{is_at}
@@ -20,21 +20,30 @@ abbrev pub SendsNothing : {L : Type 0} → Cells → StagedView → SendRefusal 
 SendsNothing cells set (send.Closed last back) = IsLastToken cells last × (back ≡ set)
 SendsNothing cells set (send.Full back) = back ≡ set
 
--- `Schema` names the first section that clashes, in the changeset that the cell of this number shows
-abbrev pub ClashesShown : Cells → ℕ → WithdrawRefusal → Type 0
-ClashesShown cells number (withdraw.Schema section) = (told : CellToken) × IsTokenOf cells told
-    × (told.number ≡ number) × (first_clash [] told.entry.item.body ≡ Some section)
-ClashesShown cells number other = Unit {0}
-
--- the set that this publisher was fed, or the stream's error
-abbrev pub EndsWith : ℕ → Result StagedView EndError → Result (List Section) EndError → Type 0
-EndsWith p (Ok set) answer = (answer ≡ Ok set.body)
-    × (set ≡ record { publisher = p; origin = Sent; body = set.body; withdraws = None })
-EndsWith p (Err error) answer = answer ≡ Err error
-
 -- the numbers of withdrawn entries with one more, and whether one is among them
 abbrev pub with_number : ℕ → List ℕ → List ℕ
 with_number n numbers = insert_key nat_cmp numbers n
 
 abbrev pub has_number : ℕ → List ℕ → Bool
 has_number n numbers = list_any (is_at (nat_cmp n)) numbers
+
+-- Why publisher p, who withdrew these entries, can't withdraw the entry of this number. It is another
+-- publisher's, or withdrawn already; `Schema` names the first section that clashes in the changeset
+-- that the cell shows.
+abbrev pub RefusesWithdrawal : Cells → ℕ → List ℕ → ℕ → WithdrawRefusal → Type 0
+RefusesWithdrawal cells p withdrawn number withdraw.NotPlaced = Unit {0}
+RefusesWithdrawal cells p withdrawn number withdraw.NotYours =
+    (told : CellToken) × IsTokenOf cells told × (told.number ≡ number)
+    × (told.entry.item.publisher ≡ p → ⊥)
+RefusesWithdrawal cells p withdrawn number withdraw.AlreadyWithdrawn =
+    has_number number withdrawn ≡ true
+RefusesWithdrawal cells p withdrawn number (withdraw.Schema section) =
+    (told : CellToken) × IsTokenOf cells told × (told.number ≡ number)
+    × (first_clash [] told.entry.item.body ≡ Some section)
+RefusesWithdrawal cells p withdrawn number withdraw.Memory = Unit {0}
+
+-- the set that this publisher was fed, or the stream's error
+abbrev pub EndsWith : ℕ → Result StagedView EndError → Result (List Section) EndError → Type 0
+EndsWith p (Ok set) answer = (answer ≡ Ok set.body)
+    × (set ≡ record { publisher = p; origin = Sent; body = set.body; withdraws = None })
+EndsWith p (Err error) answer = answer ≡ Err error

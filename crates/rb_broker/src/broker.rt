@@ -1,65 +1,67 @@
 //! `Broker`: what all threads share. Its lock holds the desk.
 
-ghost use Rattle.std.specs.Prelude.{◌≡◌, ◌<◌, ◌++◌, ◌∷◌, [], ℕ, suc, length, IfOk, IfErr, OnOk};
+ghost use Rattle.std.specs.Prelude.{◌≡◌, ◌++◌, ◌∷◌, [], ℕ, suc, length, IfOk, IfErr, OnOk};
 ghost use Rattle.std.specs.Prelude.{OnErr};
 ghost use Rattle.std.specs.Prelude.{IfSome, MatchOption};
 ghost use Rattle.std.specs.Arc.{arc_value};
-ghost use Rattle.cs_parse.specs.Progress.{nothing};
 ghost use Rattle.rb_intake.specs.Passes.{IsAllPulled};
 ghost use Rattle.rb_sequence.specs.Items.{CountsUp};
 ghost use Rattle.rb_sequence.specs.Cells.{IsLastToken};
-ghost use Rattle.rb_broker.specs.Placing.{ShowsEntry};
+ghost use Rattle.rb_broker.specs.Placing.{ShowsEntry, ShowsWhy};
 
 use crate::hall::Hall;
 use crate::locked::{Locked, refused};
+use crate::maker::PublisherMaker;
 use crate::opened::Opened;
-use crate::publisher::Publisher;
-use crate::refusal::{AddRefusal, PlaceRefusal, RefusedItem};
+use crate::refusal::{PlaceRefusal, RefusedItem};
 use cs_model::Schema;
-use cs_parse::PieceParser;
 use rb_desk::Config;
-use rb_intake::{Intake, MakerPass, PublisherPass, SequencerPass};
+use rb_intake::{Intake, PublisherPass, SequencerPass};
 use rb_sequence::{Entry, Item, Preparer, ReadyError, Sequence, Told, ToldLast};
-use std::alloc::{AllocError, Global};
-use std::collections::BTreeSet;
+use rb_subscriber::{Auditor, Register};
+use std::alloc::Global;
 use std::marker::PhantomData;
 use std::sync::{Arc, Mutex, Wait};
-
-/// The most publishers of a broker.
-pub const MOST_PUBLISHERS: u64 = 64;
-
-// the pass that makes publishers of this broker
-#[derive(Drop)]
-struct Maker<L: Hall> {
-    pass: MakerPass,
-    of: PhantomData<L>,
-    ghost queue: { pass.queue ≡ L.queue },
-}
 
 /// A broker. Threads share it by reference.
 #[derive(Drop)]
 pub struct Broker<L: Hall> {
     config: Config,
-    schema: Arc<Schema>,
+    pub(crate) schema: Arc<Schema>,
     sequence: Sequence,
     preparer: Preparer,
-    intake: Intake,
-    // a pass is of one thread: it stands in a lock that nobody takes
-    maker: Mutex<Maker<L>>,
-    locked: Mutex<Locked<L>>,
+    pub(crate) intake: Intake,
+    pub(crate) locked: Mutex<Locked<L>>,
     ghost cells: { sequence ≡ L.cells },
     ghost prepares: { preparer ≡ L.cells },
     ghost queue: { intake.queue ≡ L.queue },
 }
 
+/// A broker that was started, with what its owners are made of. Each of the three goes to whoever
+/// is to be the only one of its kind.
+#[derive(Drop)]
+pub struct Started<L: Hall> {
+    pub broker: Broker<L>,
+    /// The pass for its sequencer.
+    pub sequencer: SequencerPass,
+    /// Makes its publishers.
+    pub publishers: PublisherMaker<L>,
+    /// Audits its subscriptions.
+    pub auditor: Auditor<L>,
+}
+
 impl<L: Hall> Broker<L> {
-    /// Starts a broker that was opened, in a hall of its own, with the pass for its sequencer.
-    pub fn start(opened: Opened) -> (Broker<L>, SequencerPass)
+    /// Starts a broker that was opened, in a hall of its own.
+    pub fn start(opened: Opened) -> Started<L>
         requires cells { opened.cells ≡ L.cells }
         requires queue { opened.queue ≡ L.queue }
-        ensures pass { result.1 ≡ record { queue = L.queue; pulled = []; ended = [] } }
-        ensures limits { result.0.config ≡ opened.limits }
-        ensures schema { arc_value result.0.schema ≡ opened.schema }
+        requires ledger { (opened.ledger ≡ L.name) × (L.parts ≡ 1024) × (L.all ≡ 1024) }
+        ensures sequencer { result.sequencer
+            ≡ record { queue = L.queue; pulled = []; ended = [] } }
+        ensures publishers { result.publishers ≡ 0 }
+        ensures auditor { result.auditor ≡ record { sum = 0; heard = 0 } }
+        ensures limits { result.broker.config ≡ opened.limits }
+        ensures schema { arc_value result.broker.schema ≡ opened.schema }
     {
         let Opened {
             config,
@@ -71,24 +73,32 @@ impl<L: Hall> Broker<L> {
             sequencer,
             maker,
             desk,
+            blank,
         } = opened;
+        let (register, auditor) = Register::open(blank);
         let broker = Broker {
             config,
             schema,
             sequence,
             preparer,
             intake,
-            maker: Mutex::new(Maker {
-                pass: maker,
-                of: PhantomData,
-            }),
             locked: Mutex::new(Locked {
                 desk,
                 filler,
-                of: PhantomData,
+                register,
+                closing: None,
             }),
         };
-        (broker, sequencer)
+        let publishers = PublisherMaker {
+            pass: maker,
+            of: PhantomData,
+        };
+        Started {
+            broker,
+            sequencer,
+            publishers,
+            auditor,
+        }
     }
 
     /// Its limits.
@@ -103,30 +113,6 @@ impl<L: Hall> Broker<L> {
         ensures { result.now ≡ L.cells }
     {
         &self.sequence
-    }
-
-    /// Makes a publisher, with an empty stream. No other has its number.
-    ///
-    /// Refuses `TooMany` if there are 64 publishers, and `Memory`.
-    pub fn publisher(&mut self, alloc: Global) -> Result<Publisher<L>, AddRefusal>
-        ensures number { IfOk result (λ p. p.number < 64) }
-        ensures schema { IfOk result (λ p. p.schema ≡ arc_value self.old.schema) }
-        ensures new { IfOk result (λ p. (p.stream ≡ nothing) × (p.sent ≡ []) × (p.withdrawn ≡ [])) }
-    {
-        let Ok(schema) = Arc::try_clone(&self.schema) else {
-            return Err(AddRefusal::Memory);
-        };
-        let maker = self.maker.get_mut();
-        if maker.pass.made() >= MOST_PUBLISHERS {
-            return Err(AddRefusal::TooMany);
-        }
-        Ok(Publisher {
-            schema,
-            stream: PieceParser::new(alloc),
-            pass: self.intake.publisher(&mut maker.pass),
-            withdrawn: BTreeSet::new(alloc),
-            of: PhantomData,
-        })
     }
 
     /// Sends an item under a publisher's pass. `Publisher::send` calls it.
@@ -175,7 +161,8 @@ impl<L: Hall> Broker<L> {
         ensures pass { _pass.new ≡ _pass.old }
         ensures ok { IfOk result (λ told. ShowsEntry L.cells told
             (record { number = number; item = item })) }
-        ensures err { IfErr result (λ refused. refused.item ≡ item) }
+        ensures err { IfErr result (λ refused. (refused.item ≡ item)
+            × ShowsWhy L.cells refused.why) }
     {
         let Ok(text) = item.text(alloc) else {
             let why = PlaceRefusal::Memory;
@@ -197,14 +184,15 @@ impl<L: Hall> Broker<L> {
     }
 
     /// Closes the sequence after its last number, in one hold of the lock: the closing cell is set,
-    /// and the desk is closed. The token shows the number. If it is closed already, returns a token
-    /// of the same cell.
+    /// and the desk is closed. The token shows the number. If it is closed already, returns the
+    /// same token.
     ///
-    /// Returns `None` if the closing cell is set and doesn't show yet.
+    /// Returns `None` if the closing cell is set though the sequence isn't closed. Nothing else
+    /// sets it, so this does not happen.
     pub fn close<R: Wait>(&self, rt: &R) -> Option<ToldLast>
         ensures { IfSome result (λ told. IsLastToken L.cells told) }
     {
         let mut locked = self.locked.lock(rt);
-        locked.close(&self.sequence)
+        locked.close()
     }
 }

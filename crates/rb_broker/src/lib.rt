@@ -1,19 +1,26 @@
-//! The broker that threads share: publishers send into its intake, and a sequencer places what it
-//! pulls. Theorem: a sending goes into the intake as it was staged, under its publisher's next own
-//! number, or comes back; a placed item is what its cell shows from then on.
+//! The broker that threads share: publishers send into its intake, a sequencer places what it pulls,
+//! and subscriptions take and acknowledge through its lock. Theorem: whenever the lock is free the
+//! desk is the replay of its journal, and the steps that owners count are those in the journal.
 #![tactic(auto)]
 
 mod broker;
+mod calls;
 mod hall;
+mod holds;
 mod locked;
+mod maker;
 mod opened;
 mod publisher;
 mod refusal;
 mod staged;
 
-pub use broker::{Broker, MOST_PUBLISHERS};
+pub use broker::{Broker, Started};
 pub use hall::Hall;
+pub use maker::{MOST_PUBLISHERS, PublisherMaker};
 pub use opened::Opened;
 pub use publisher::Publisher;
-pub use refusal::{AddRefusal, PlaceRefusal, RefusedItem, SendRefusal, WithdrawRefusal};
+pub use refusal::{
+    AddRefusal, PlaceRefusal, RefusedItem, RefusedTables, SendRefusal, SubscribeError, TakeError,
+    WithdrawRefusal,
+};
 pub use staged::StagedSet;

@@ -1,23 +1,35 @@
-//! What the broker's lock holds: the desk, and what sets the cells of the sequence.
+//! What the broker's lock holds: the desk, what sets the cells of the sequence, and the register of
+//! the subscriptions.
 
-ghost use Rattle.std.specs.Prelude.{◌≡◌, ℕ, Err};
+ghost use Rattle.std.specs.Prelude.{◌≡◌, ℕ, Err, length};
+ghost use Rattle.rb_desk.specs.Journaled.{counted_steps, is_own};
 ghost use Rattle.rb_sequence.specs.Cells.{IsReadyFor};
 ghost use Rattle.rb_broker.specs.Placing.{ClosesBoth, IsWhy, PlacesEntry, RefusesPlace};
+ghost use Rattle.rb_broker.specs.Placing.{ShowsClosing, number_to_place};
 
 use crate::hall::Hall;
 use crate::refusal::{PlaceRefusal, RefusedItem};
+use rb_desk::laws::{only_subscribe_adds, steps_are_counted};
 use rb_desk::{Desk, DeskRefusal};
-use rb_sequence::{Entry, Filler, Ready, Sequence, Told, ToldLast};
-use std::marker::PhantomData;
+use rb_sequence::{Entry, Filler, Ready, Told, ToldLast};
+use rb_subscriber::Register;
 
-/// The desk of a broker, and the filler of its sequence. The desk's capacity is the sequence's.
+/// The desk of a broker, the filler of its sequence, and the register of its subscriptions. The
+/// desk's capacity is the sequence's. The register has counted the steps that the desk's journal
+/// has of the subscriptions' own, and made as many subscriptions as the desk.
 #[derive(Drop)]
 pub(crate) struct Locked<L: Hall> {
     pub(crate) desk: Desk,
     pub(crate) filler: Filler,
-    pub(crate) of: PhantomData<L>,
+    pub(crate) register: Register<L>,
+    // shows the desk's closing number, once there is one
+    pub(crate) closing: Option<ToldLast>,
     ghost fits: { desk.picture.limits.capacity ≡ L.cells.capacity },
     ghost fills: { filler ≡ L.cells },
+    ghost closes: { ShowsClosing L.cells desk.picture.closing closing },
+    ghost all: { L.all ≡ 1024 },
+    ghost total: { register.total ≡ counted_steps is_own desk.steps },
+    ghost made: { register.made ≡ length desk.picture.subscriptions },
 }
 
 impl<L: Hall> Locked<L> {
@@ -26,9 +38,11 @@ impl<L: Hall> Locked<L> {
         requires { IsReadyFor L.cells ready }
         ensures { PlacesEntry result L.cells ready.entry self.old.desk self.new.desk }
     {
+        steps_are_counted();
+        only_subscribe_adds();
         let number = ready.number();
         match self.desk.prepare() {
-            Err(why) => Err(refused(place_refusal(why), ready.into_entry())),
+            Err(why) => Err(refused(self.place_refusal(why), ready.into_entry())),
             Ok(next) if next != number => {
                 Err(refused(PlaceRefusal::Occupied, ready.into_entry()))
             }
@@ -44,35 +58,41 @@ impl<L: Hall> Locked<L> {
 
     /// Why a number without a cell isn't placed.
     pub(crate) fn refuses(&self) -> PlaceRefusal
-        ensures { RefusesPlace self.now.desk result }
+        ensures { RefusesPlace L.cells self.now.desk result }
     {
         match self.desk.prepare() {
-            Err(why) => place_refusal(why),
+            Err(why) => self.place_refusal(why),
             Ok(_) => PlaceRefusal::Occupied,
         }
     }
 
-    /// Sets the closing cell and closes the desk, unless the closing cell is set.
-    pub(crate) fn close(&mut self, sequence: &Sequence) -> Option<ToldLast>
-        requires { sequence.now ≡ L.cells }
+    // why an item isn't placed where the desk's `prepare` refuses
+    fn place_refusal(&self, why: DeskRefusal) -> PlaceRefusal
+        requires { number_to_place self.now.desk ≡ Err why }
+        ensures { (number : ℕ) → IsWhy L.cells self.now.desk.picture.closing (Err why) number
+            result }
+    {
+        match (why, &self.closing) {
+            (DeskRefusal::JournalFull, _) => PlaceRefusal::JournalFull,
+            (DeskRefusal::Closed, Some(told)) => PlaceRefusal::Closed(told.again()),
+            _ => PlaceRefusal::SequenceFull,
+        }
+    }
+
+    /// Sets the closing cell and closes the desk, unless it is closed. Returns `None` if the cell
+    /// is set already. Does not allocate.
+    pub(crate) fn close(&mut self) -> Option<ToldLast>
         ensures { ClosesBoth result L.cells self.old.desk self.new.desk }
     {
-        if let Some(told) = sequence.closing() {
-            return Some(told);
+        steps_are_counted();
+        only_subscribe_adds();
+        if let Some(told) = &self.closing {
+            return Some(told.again());
         }
-        let last = self.desk.close();
-        self.filler.fill_closing(last).ok()
-    }
-}
-
-// why an item isn't placed where the desk's `prepare` refuses
-fn place_refusal(why: DeskRefusal) -> PlaceRefusal
-    ensures { (number : ℕ) → IsWhy (Err why) number result }
-{
-    match why {
-        DeskRefusal::JournalFull => PlaceRefusal::JournalFull,
-        DeskRefusal::Closed => PlaceRefusal::Closed,
-        _ => PlaceRefusal::SequenceFull,
+        let told = self.filler.fill_closing(self.desk.front()).ok()?;
+        self.desk.close();
+        self.closing = Some(told.again());
+        Some(told)
     }
 }
 

@@ -6,13 +6,15 @@ use cs_model::Schema;
 use rb_desk::{Config, Desk};
 use rb_intake::{Intake, MakerPass, SequencerPass};
 use rb_sequence::{Filler, Preparer, Sequence};
+use rb_subscriber::MOST_SUBSCRIPTIONS;
 use std::alloc::{AllocError, Global};
 use std::marker::Model;
 use std::sync::Arc;
+use std::sync::ledger::Blank;
 
-/// The parts of a new broker. Contracts see its limits, its tables, the cells of its sequence and
-/// the queue of its intake. `Broker::start` makes the broker of it, in a hall that has these cells
-/// and this queue.
+/// The parts of a new broker. Contracts see its limits, its tables, the cells of its sequence, the
+/// queue of its intake with its size, and the ledger of its subscriptions' steps. `Broker::start`
+/// makes the broker of it, in a hall that has these cells, this queue and this ledger.
 #[derive(Drop)]
 pub struct Opened {
     pub(crate) config: Config,
@@ -24,6 +26,7 @@ pub struct Opened {
     pub(crate) sequencer: SequencerPass,
     pub(crate) maker: MakerPass,
     pub(crate) desk: Desk,
+    pub(crate) blank: Blank,
 }
 
 impl Model for Opened {
@@ -41,6 +44,8 @@ impl Model for Opened {
       schema = arc_value o.schema;
       cells = o.sequence;
       queue = o.intake.queue;
+      room = o.intake.capacity;
+      ledger = o.blank.name;
     } };
 
     ghost invariant = { λ o. (o.sequencer
@@ -48,6 +53,7 @@ impl Model for Opened {
         × (o.maker ≡ record { queue = o.intake.queue; made = 0 })
         × (o.desk ≡ record { picture = empty_picture o.config; steps = [] })
         × (o.sequence.capacity ≡ o.config.capacity)
+        × (o.blank.parts ≡ 1024)
         × (o.preparer ≡ o.sequence) × (o.filler ≡ o.sequence) };
 }
 
@@ -57,6 +63,7 @@ impl Opened {
     pub fn new(alloc: Global, config: Config, schema: Schema) -> Result<Opened, AllocError>
         ensures limits { IfOk result (λ o. o.limits ≡ config) }
         ensures schema { IfOk result (λ o. o.schema ≡ schema) }
+        ensures room { IfOk result (λ o. o.room ≡ config.intake) }
     {
         let schema = Arc::new(alloc, schema)?;
         let (sequence, preparer, filler) = Sequence::new(alloc, config.capacity())?;
@@ -71,6 +78,7 @@ impl Opened {
             sequencer,
             maker,
             desk: Desk::new(alloc, config)?,
+            blank: Blank::new(MOST_SUBSCRIPTIONS),
         })
     }
 }

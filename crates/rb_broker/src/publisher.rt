@@ -1,14 +1,12 @@
 //! `Publisher`: a stream of bytes that becomes staged changesets, and their way into the intake.
 
-ghost use Rattle.std.specs.Prelude.{◌≡◌, ◌++◌, ◌∷◌, [], suc, length, true, IfOk, IfErr, OnOk};
+ghost use Rattle.std.specs.Prelude.{◌≡◌, ◌++◌, ◌∷◌, [], suc, length, false, IfOk, IfErr, OnOk};
 ghost use Rattle.std.specs.Prelude.{OnErr};
-ghost use Rattle.std.specs.Prelude.{Err, false};
 ghost use Rattle.cs_model.specs.declared.origin.Origin.TheVariants.{Withdraws};
 ghost use Rattle.cs_parse.specs.End.{admitted_answer, left_by};
 ghost use Rattle.cs_parse.specs.Progress.{FeedAnswers, answer_at_end, nothing};
 ghost use Rattle.rb_broker.specs.Publishers.{item_of};
-ghost use Rattle.rb_broker.specs.declared.refusal.WithdrawRefusal.TheVariants.{AlreadyWithdrawn};
-ghost use Rattle.rb_broker.specs.Refusing.{ClashesShown, EndsWith, SendsNothing, has_number};
+ghost use Rattle.rb_broker.specs.Refusing.{EndsWith, RefusesWithdrawal, SendsNothing, has_number};
 ghost use Rattle.rb_broker.specs.Refusing.{with_number};
 
 use crate::broker::Broker;
@@ -164,8 +162,9 @@ impl<L: Hall> Publisher<L> {
 
     /// Stages the withdrawal of entry `number`, which this publisher sent.
     ///
-    /// Refuses `NotPlaced`, `NotYours`, `AlreadyWithdrawn` if an earlier call withdrew the entry,
-    /// and `Schema` if two of its sections clash.
+    /// Refuses, in this order, `NotPlaced` if the entry's cell shows nothing, `NotYours`,
+    /// `AlreadyWithdrawn` if an earlier call withdrew the entry, and `Schema` if two of its sections
+    /// clash.
     pub fn withdraw(
         &mut self,
         alloc: Global,
@@ -178,10 +177,9 @@ impl<L: Hall> Publisher<L> {
         ensures ok { OnOk result (self.new
             ≡ record self.old { withdrawn = with_number number self.old.withdrawn }) }
         ensures err { OnErr result (self.new ≡ self.old) }
-        ensures why { result ≡ Err AlreadyWithdrawn
-            → has_number number self.old.withdrawn ≡ true }
         ensures once { OnOk result (has_number number self.old.withdrawn ≡ false) }
-        ensures clash { IfErr result (ClashesShown L.cells number) }
+        ensures why { IfErr result (RefusesWithdrawal L.cells self.old.number self.old.withdrawn
+            number) }
     {
         let told = sequence.tell(number).ok_or(WithdrawRefusal::NotPlaced)?;
         let entry = sequence.get_told(&told);

@@ -2,10 +2,12 @@
 
 use crate::hall::Hall;
 use crate::staged::StagedSet;
+use cs_apply::Tables;
+use rb_desk::DeskError;
 use rb_sequence::{Item, ToldLast};
 use thiserror::Error;
 
-/// Why `Broker::publisher` makes no publisher. The broker is as before.
+/// Why `PublisherMaker::make` makes no publisher. The maker is as before.
 #[derive(Clone, Copy, Debug, PartialEq, Eq, Error)]
 pub enum AddRefusal {
     /// There are 64 publishers.
@@ -17,14 +19,14 @@ pub enum AddRefusal {
 }
 
 /// Why `Broker::place_next` places no item. The broker is as before.
-#[derive(Clone, Copy, Debug, PartialEq, Eq, Error)]
+#[derive(Debug, Drop, Error)]
 pub enum PlaceRefusal {
     /// The desk's journal is full.
     #[error("the journal is full")]
     JournalFull,
-    /// The sequence is closed.
+    /// The sequence is closed. The token shows its last number.
     #[error("the sequence is closed")]
-    Closed,
+    Closed(ToldLast),
     /// The sequence has reached its capacity.
     #[error("the sequence is full")]
     SequenceFull,
@@ -74,4 +76,36 @@ pub enum WithdrawRefusal {
     /// Memory ran out.
     #[error("out of memory")]
     Memory,
+}
+
+/// Why `Broker::subscribe` makes no subscription. The broker is as before.
+#[derive(Clone, Copy, Debug, PartialEq, Eq, Error)]
+pub enum SubscribeError {
+    /// The tables are of another schema than the broker's.
+    #[error("the tables are of another schema")]
+    OtherSchema,
+    /// The desk refuses the subscription, or memory ran out.
+    #[error("{0}")]
+    Desk(DeskError),
+}
+
+/// Tables for which `Broker::subscribe` made no subscription, and why.
+#[derive(Debug, Drop)]
+pub struct RefusedTables {
+    /// Why there is no subscription.
+    pub why: SubscribeError,
+    /// The tables, as they were.
+    pub tables: Tables,
+}
+
+/// Why `Broker::take` delivers nothing. The broker and the subscription are as before.
+#[derive(Debug, Drop, Error)]
+pub enum TakeError {
+    /// The sequence is closed, and the subscription has accepted and settled all of it. The token
+    /// shows its last number.
+    #[error("everything up to the last number is settled")]
+    Drained(ToldLast),
+    /// The desk refuses the call, or memory ran out. It isn't the desk's `Drained`.
+    #[error("{0}")]
+    Desk(DeskError),
 }

@@ -1,12 +1,16 @@
--- What two subscriptions show of a number that both have accepted.
-use Rattle.std.specs.Prelude.{◌≡◌, ℕ, Some}
+-- What two owners show of a number that both have.
+use Rattle.std.specs.Prelude.{◌≡◌, ℕ, Option, Some}
 use Rattle.rb_sequence.specs.Cells.{CellToken}
 use Rattle.rb_subscriber.specs.Subscription.{SubscriptionState, accepted_token}
 
--- Both have accepted the entry of this number, and show the same one.
-pub record ShareEntry (one other : SubscriptionState) (n : ℕ) : Type 0 where
+-- both tokens are there, and show the same entry
+pub record ShareEntry (one other : Option CellToken) : Type 0 where
   pub token : CellToken
   pub twin : CellToken
-  pub here : accepted_token one.start one.told n ≡ Some token
-  pub there : accepted_token other.start other.told n ≡ Some twin
+  pub here : one ≡ Some token
+  pub there : other ≡ Some twin
   pub same : token.entry ≡ twin.entry
+
+-- the token of the entry with this number, if the subscription accepted it
+abbrev pub token_accepted : SubscriptionState → ℕ → Option CellToken
+token_accepted s n = accepted_token s.start s.told n

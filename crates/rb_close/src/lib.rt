@@ -4,4 +4,4 @@
 
 mod meeting;
 
-pub use meeting::meet;
+pub use meeting::{meet, meet_sequencer};

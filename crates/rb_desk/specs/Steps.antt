@@ -52,6 +52,23 @@ abbrev pub delivery_number : Result Delivery DeskRefusal → Option ℕ
 delivery_number (Ok delivery) = Some delivery.number
 delivery_number (Err why) = None
 
+-- how many subscriptions a step makes: a subscription that isn't refused makes one
+abbrev pub made_of : Result (ℕ × ℕ) DeskRefusal → ℕ
+made_of (Ok pair) = 1
+made_of (Err why) = 0
+
+abbrev pub subscriptions_made : Picture → Step → ℕ
+subscriptions_made old (Subscribe start) = made_of (subscribe old start).0
+subscriptions_made old (Take s link cursor now) = 0
+subscriptions_made old (TakeAny now) = 0
+subscriptions_made old (Ack s link delivery cursor) = 0
+subscriptions_made old (Nack s link delivery) = 0
+subscriptions_made old (Expire now) = 0
+subscriptions_made old (Reconnect s cursor) = 0
+subscriptions_made old (Unsubscribe s link) = 0
+subscriptions_made old Place = 0
+subscriptions_made old Close = 0
+
 abbrev pub link_given : Picture → Step → Option ℕ
 link_given old (Subscribe start) = second_of (subscribe old start).0
 link_given old (Take s link cursor now) = None

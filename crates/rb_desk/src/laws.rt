@@ -1,17 +1,18 @@
 //! Laws of the desk: what holds of every picture and of every list of calls. Each law is a public
 //! function that does nothing; its contract is the law. Call the function to use the law.
 
-ghost use Rattle.std.specs.Prelude.{◌≡◌, ℕ, ◌+◌, ◌≤◌, ◌++◌, ◌∷◌, Bool, if◌then◌else◌, List, []};
-ghost use Rattle.std.specs.Prelude.{length, Ok, Err};
+ghost use Rattle.std.specs.Prelude.{◌≡◌, ℕ, suc, ◌+◌, ◌<◌, ◌≤◌, ◌++◌, ◌∷◌, Bool, List, []};
+ghost use Rattle.std.specs.Prelude.{if◌then◌else◌, length, Some, Ok, Err};
 ghost use Rattle.rb_desk.specs.declared.delivery.Delivery.{Delivery};
 ghost use Rattle.rb_desk.specs.declared.refusal.DeskRefusal.{DeskRefusal};
+ghost use Rattle.rb_desk.specs.declared.refusal.DeskRefusal.TheVariants.{Drained};
 ghost use Rattle.rb_desk.specs.declared.step.Step.{Step};
 ghost use Rattle.rb_desk.specs.Limits.{Limits};
 ghost use Rattle.rb_desk.specs.Picture.{Picture, empty_picture};
 ghost use Rattle.rb_desk.specs.Calls.{subscribe, take, take_any, ack, nack, expire, reconnect};
 ghost use Rattle.rb_desk.specs.Calls.{unsubscribe, prepare, place, close};
 ghost use Rattle.rb_desk.specs.Steps.{after_step, replayed, replay, links_given, numbers_given};
-ghost use Rattle.rb_desk.specs.Steps.{RisesAbove, FloorsRise};
+ghost use Rattle.rb_desk.specs.Steps.{RisesAbove, FloorsRise, subscriptions_made};
 ghost use Rattle.rb_desk.specs.Outline.{outline_of};
 ghost use Rattle.rb_desk.specs.Outline as outline;
 ghost use Rattle.rb_desk.specs.Journaled.{JournaledPicture, counted_steps, is_own, journaled};
@@ -83,6 +84,41 @@ pub fn takes_are_as_asked()
     ensures { (old : Picture) (s link cursor now : ℕ) (delivery : Delivery) (new : Picture)
         → take old s link cursor now ≡ (Ok delivery, new)
         → (delivery.sub ≡ s) × (delivery.link ≡ link) }
+{}
+
+/// `take` refuses `Drained` only after a closing, where the cursor is the closing number.
+pub fn drained_is_at_the_end()
+    ensures { (old : Picture) (s link cursor now last : ℕ)
+        → (take old s link cursor now).0 ≡ Err (Drained last)
+        → (cursor ≡ last) × (old.closing ≡ Some last) }
+{}
+
+/// Only a subscription that isn't refused changes how many there are. Its number is how many there
+/// were before it.
+pub fn only_subscribe_adds()
+    ensures steps { (old : Picture) (step : Step) → length (after_step old step).subscriptions
+        ≡ length old.subscriptions + subscriptions_made old step }
+    ensures subscribe { (old : Picture) (start s link : ℕ) → (subscribe old start).0 ≡ Ok (s, link)
+        → (s ≡ length old.subscriptions) × (length old.subscriptions < 1024)
+        × (length (subscribe old start).1.subscriptions ≡ suc (length old.subscriptions)) }
+    ensures take { (old : Picture) (s link cursor now : ℕ)
+        → length (take old s link cursor now).1.subscriptions ≡ length old.subscriptions }
+    ensures take_any { (old : Picture) (now : ℕ)
+        → length (take_any old now).1.subscriptions ≡ length old.subscriptions }
+    ensures ack { (old : Picture) (s link number cursor : ℕ)
+        → length (ack old s link number cursor).1.subscriptions ≡ length old.subscriptions }
+    ensures nack { (old : Picture) (s link number : ℕ)
+        → length (nack old s link number).1.subscriptions ≡ length old.subscriptions }
+    ensures expire { (old : Picture) (now : ℕ)
+        → length (expire old now).1.subscriptions ≡ length old.subscriptions }
+    ensures reconnect { (old : Picture) (s cursor : ℕ)
+        → length (reconnect old s cursor).1.subscriptions ≡ length old.subscriptions }
+    ensures unsubscribe { (old : Picture) (s link : ℕ)
+        → length (unsubscribe old s link).1.subscriptions ≡ length old.subscriptions }
+    ensures place { (old : Picture) → length (place old).subscriptions
+        ≡ length old.subscriptions }
+    ensures close { (old : Picture) → length (close old).1.subscriptions
+        ≡ length old.subscriptions }
 {}
 
 /// A refused call does not change the picture.

@@ -6,6 +6,7 @@ ghost use Rattle.rb_sequence.specs.Cells.{AreOfOneCell};
 use crate::entry::Entry;
 use crate::segment::{Cell, locate};
 use boxcar::slot::Written;
+use std::fmt;
 use std::marker::Model;
 
 /// Shows that a cell holds an entry. Any thread may keep it, and it never becomes wrong. It takes
@@ -104,5 +105,13 @@ impl ToldLast {
             last: self.last,
             written: self.written.again(),
         }
+    }
+}
+
+impl fmt::Debug for ToldLast {
+    fn fmt<W: fmt::Write>(&self, f: &mut fmt::Formatter<W>) -> fmt::Result {
+        f.debug_struct("ToldLast")
+            .field("last", &self.last)
+            .finish_non_exhaustive()
     }
 }

@@ -1,6 +1,8 @@
 -- Tokens of numbers that follow each other.
 use Rattle.std.proofs.Common.{◌≡◌, ℕ, zero, suc, ◌+◌, List, [], ◌∷◌, ◌++◌, length, ap, ◌∙◌, refl}
-use Rattle.std.proofs.Common.{subst, arith, Option, Some, None, Result, Ok, Err}
+use Rattle.std.proofs.Common.{◌<◌, Bor, IfSome, is_some, nat_lt, slice_index_or, subst, sym, arith, Option, Some, None, Result}
+use Rattle.std.proofs.Common.{Ok, Err}
+use Rattle.std.proofs.lemmas.Bool.{ltb-true}
 use Rattle.std.specs.Prelude.{OnOk, IfErr, is_err}
 use Rattle.std.proofs.lemmas.List.{map-append}
 use Rattle.cs_model.specs.declared.schema.SectionFault.{SectionFault}
@@ -29,6 +31,15 @@ tokens_by_place cells n [] all i d less = absurd (omega (arith, less))
 tokens_by_place cells n (t ∷ tokens) all zero d less = all.0
 tokens_by_place cells n (t ∷ tokens) all (suc i) d less =
     tokens_by_place cells (suc n) tokens all.2 i d (omega (arith, less))
+
+-- what stands at a place is the token of the number there
+token_at : (cells : Cells) (n i : ℕ) (d : CellToken) (tokens : List CellToken) → AreInCells cells n tokens
+    → i < length tokens
+    → IsTokenOf cells (slice_index_or tokens i d) × ((slice_index_or tokens i d).number ≡ n + i)
+token_at cells n i d [] all less = absurd (omega (arith, less))
+token_at cells n zero d (t ∷ tokens) all less = (all.0, all.1 ∙ omega arith)
+token_at cells n (suc i) d (t ∷ tokens) all less =
+    let later = token_at cells (suc n) i d tokens all.2 (omega (arith, less)) in (later.0, omega (arith, later.1))
 
 -- ---- the first that isn't admitted
 
@@ -82,3 +93,13 @@ outside_one schema shown t None (Err fault) number is ok refused h = (
       ∙ ap (λ f. if_admitted f t.entry None) refused,
   is,
 )
+
+-- what is lent of a place is a token of the number there
+pub lent_token : (cells : Cells) (n i number : ℕ) (tokens : List CellToken) (r : Option (Bor CellToken))
+    → AreInCells cells n tokens → is_some r ≡ nat_lt i (length tokens)
+    → IfSome r (λ t. t.now ≡ slice_index_or tokens i t.now) → n + i ≡ number
+    → IfSome r (λ told. IsTokenOf cells told.now × (told.now.number ≡ number))
+lent_token cells n i number tokens None all there is at = tt
+lent_token cells n i number tokens (Some told) all there is at =
+    let found = token_at cells n i told.now tokens all (ltb-true i (length tokens) (sym there)) in
+    subst (λ (t : CellToken). IsTokenOf cells t × (t.number ≡ number)) (sym is) (found.0, found.1 ∙ at)

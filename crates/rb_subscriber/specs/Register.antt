@@ -1,6 +1,7 @@
 -- The register of a broker's subscriptions, and who audits it.
-use Rattle.std.specs.Prelude.{ℕ, refl}
+use Rattle.std.specs.Prelude.{ℕ, ◌+◌, List, [], ◌∷◌, refl}
 use Rattle.std.specs.Coded.{Coded, code_by, coded×, coded_ℕ}
+use Rattle.rb_subscriber.specs.Subscription.{SubscriptionState}
 
 -- how many steps were counted, of all subscriptions, and how many subscriptions were made
 pub record RegisterState : Type 0 where
@@ -19,3 +20,8 @@ pub record AuditorState : Type 0 where
 abbrev pub auditor_code : Coded AuditorState
 auditor_code = code_by (ℕ × ℕ) (coded× coded_ℕ coded_ℕ) (λ a. (a.sum, a.heard))
     (λ p. record { sum = p.0; heard = p.1 }) (λ _. refl)
+
+-- the steps of all these subscriptions together
+abbrev pub all_steps : List SubscriptionState → ℕ
+all_steps [] = 0
+all_steps (s ∷ rest) = s.steps + all_steps rest

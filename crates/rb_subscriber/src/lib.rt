@@ -18,6 +18,6 @@ pub use apply::combined;
 pub use brought::Brought;
 pub use endpoint::Endpoint;
 pub use refusal::{AcceptAloneError, AcceptError, AcceptRefusal};
-pub use register::{Auditor, MOST_SUBSCRIPTIONS, Register};
+pub use register::{Auditor, MOST_SUBSCRIPTIONS, Missing, Register};
 pub use step_ledger::StepLedger;
 pub use subscription::Subscription;

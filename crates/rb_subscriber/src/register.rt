@@ -1,8 +1,8 @@
 //! `Register`: what only a broker's lock holds. It makes subscriptions, counts their steps and sets
 //! their links.
 
-ghost use Rattle.std.specs.Prelude.{◌≡◌, ◌+◌, ◌<◌, ◌^◌, IfNone, IfSome};
-ghost use Rattle.rb_subscriber.specs.Register.{AuditorState, RegisterState};
+ghost use Rattle.std.specs.Prelude.{◌≡◌, ◌+◌, ◌<◌, ◌^◌, length, IfErr, IfOk, OnErr};
+ghost use Rattle.rb_subscriber.specs.Register.{AuditorState, RegisterState, all_steps};
 ghost use Rattle.rb_subscriber.specs.Subscription.{new_subscription};
 
 use crate::endpoint::Endpoint;
@@ -36,11 +36,11 @@ impl<L: StepLedger> Model for Register<L> {
 
     ghost view = { λ r. record { total = r.book.total; made = r.made } };
 
-    ghost invariant = { λ r. (r.rest.parts + r.made ≡ L.all) × (r.rest.amount ≡ 0) };
+    ghost invariant = { λ r. (r.rest.parts + r.made ≡ L.all) × (L.all ≡ L.parts)
+        × (r.rest.amount ≡ 0) };
 }
 
-/// Hears the subscriptions of a register one after another, and adds up their steps. A subscription
-/// that was heard is gone.
+/// Hears the subscriptions of a register, and adds up their steps. One that was heard is gone.
 #[derive(Drop)]
 pub struct Auditor<L: StepLedger> {
     sum: u64,
@@ -59,6 +59,12 @@ impl<L: StepLedger> Model for Auditor<L> {
     ghost view = { λ a. record { sum = a.sum; heard = a.heard } };
 
     ghost invariant = { λ a. (a.share.parts ≡ a.heard) × (a.share.amount ≡ a.sum) };
+}
+
+/// Why `Register::audit` counts nothing: a subscription is missing. These come back as they were.
+#[derive(Drop)]
+pub struct Missing<L: StepLedger> {
+    pub subscriptions: Vec<Subscription<L>>,
 }
 
 impl<L: StepLedger> Register<L> {
@@ -137,43 +143,75 @@ impl<L: StepLedger> Register<L> {
         subscription.end.reconnect(link);
     }
 
-    /// The number of all steps counted, which is the sum that the auditor heard. Returns `None`
-    /// unless the auditor heard every subscription that was made.
-    pub fn audit(&mut self, auditor: &mut Auditor<L>) -> Option<u64>
-        requires { (L.all ≡ L.parts) × (L.all ≡ 1024) }
-        ensures sum { IfSome result (λ sum. (sum ≡ auditor.old.sum) × (sum ≡ self.old.total)
-            × (auditor.old.heard ≡ self.old.made)) }
-        ensures none { IfNone result (auditor.old.heard ≡ self.old.made → ⊥) }
+    /// Hears these subscriptions, which are gone then. Returns how many steps were counted in all:
+    /// it is the sum of the steps of all subscriptions that the auditor heard.
+    ///
+    /// Returns `Missing` if the auditor has not heard all that were made, with these. Nothing is
+    /// heard then.
+    pub fn audit(
+        &mut self,
+        auditor: &mut Auditor<L>,
+        subscriptions: Vec<Subscription<L>>,
+    ) -> Result<u64, Missing<L>>
+        requires all { L.all ≡ 1024 }
+        requires few { self.old.total < 2 ^ 64 }
+        ensures total { IfOk result (λ sum. (sum ≡ self.old.total)
+            × (sum ≡ auditor.old.sum + all_steps subscriptions.items)) }
+        ensures heard { IfOk result (λ sum.
+            (auditor.new ≡ record { sum = sum; heard = self.old.made })
+            × (auditor.old.heard + length subscriptions.items ≡ self.old.made)) }
+        ensures missing { IfErr result (λ missing.
+            (missing.subscriptions.items ≡ subscriptions.items)
+            × (auditor.old.heard + length subscriptions.items ≡ self.old.made → ⊥)) }
+        ensures err { OnErr result (auditor.new ≡ auditor.old) }
+        ensures same { self.new ≡ self.old }
+    {
+        let given = subscriptions.len() as u64;
+        if self.made.checked_sub(auditor.heard) != Some(given) {
+            return Err(Missing { subscriptions });
+        }
+        for subscription in subscriptions {
+            self.hear(auditor, subscription);
+        }
+        self.compare(auditor);
+        Ok(auditor.sum)
+    }
+
+    // adds the steps of a subscription to the auditor's sum
+    fn hear(&mut self, auditor: &mut Auditor<L>, subscription: Subscription<L>)
+        requires few { self.old.total < 2 ^ 64 }
+        requires more { auditor.old.heard < self.old.made }
+        ensures auditor { auditor.new ≡ record {
+          sum = auditor.old.sum + subscription.steps;
+          heard = auditor.old.heard + 1;
+        } }
+        ensures same { self.new ≡ self.old }
+    {
+        let Subscription { steps, share, .. } = subscription;
+        auditor.share.merge(share);
+        self.book.audit(&mut auditor.share);
+        auditor.sum += steps;
+        auditor.heard += 1;
+    }
+
+    // Once all are heard, the parts of the ledger are together, so the sum is the total. Changes
+    // nothing.
+    fn compare(&mut self, auditor: &mut Auditor<L>)
+        requires all { L.all ≡ 1024 }
+        requires heard { auditor.old.heard ≡ self.old.made }
+        ensures sum { auditor.old.sum ≡ self.old.total }
         ensures same { (auditor.new ≡ auditor.old) × (self.new ≡ self.old) }
     {
         let made = self.made;
-        if auditor.heard != made {
-            return None;
-        }
         let Register { book, rest, .. } = self;
         book.audit(&mut auditor.share);
         rest.give(&mut auditor.share, MOST_SUBSCRIPTIONS - made, 0);
         book.audit(&mut auditor.share);
         auditor.share.give(rest, MOST_SUBSCRIPTIONS - made, 0);
-        Some(auditor.sum)
     }
 }
 
 impl<L: StepLedger> Auditor<L> {
-    /// Hears a subscription: adds its steps to the sum. The subscription is gone.
-    pub fn hear(&mut self, subscription: Subscription<L>)
-        requires { (self.old.sum + subscription.steps < 2 ^ 64) × (self.old.heard + 1 < 2 ^ 64) }
-        ensures { self.new ≡ record {
-          sum = self.old.sum + subscription.steps;
-          heard = self.old.heard + 1;
-        } }
-    {
-        let Subscription { steps, share, .. } = subscription;
-        self.share.merge(share);
-        self.sum += steps;
-        self.heard += 1;
-    }
-
     /// The sum of the steps of the subscriptions that it heard.
     pub fn sum(&self) -> u64
         ensures { result ≡ self.now.sum }

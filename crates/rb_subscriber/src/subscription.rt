@@ -2,7 +2,7 @@
 
 ghost use Rattle.std.specs.Prelude.{◌≡◌, ◌<◌, suc, true, None, IfNone, IfSome};
 ghost use Rattle.std.specs.Option.{option_copied};
-ghost use Rattle.rb_sequence.specs.Cells.{AreInCells};
+ghost use Rattle.rb_sequence.specs.Cells.{AreInCells, IsTokenOf};
 ghost use Rattle.rb_subscriber.specs.Accept.{AsksNoEntries, HasSingleTables, refusal_before};
 ghost use Rattle.rb_subscriber.specs.AcceptAlone.{AloneAnswers, ConflictsAlone, DueAnswers};
 ghost use Rattle.rb_subscriber.specs.Shown.{entries_told};
@@ -189,9 +189,12 @@ impl<L: StepLedger> Subscription<L> {
         self.end.tables()
     }
 
-    /// The token of the entry with this number, if it accepted it.
+    /// The token of the entry with this number, if it accepted it. It is of the broker's cells.
     pub fn told(&self, number: u64) -> Option<&Told>
-        ensures { option_copied result ≡ accepted_token self.now.start self.now.told number }
+        ensures token { option_copied result
+            ≡ accepted_token self.now.start self.now.told number }
+        ensures shown { IfSome result (λ told. IsTokenOf L.cells told.now
+            × (told.now.number ≡ number)) }
     {
         let place = number.checked_sub(self.end.start())?.checked_sub(1)?;
         self.told.get(place as usize)

@@ -43,7 +43,21 @@ pub(crate) fn fill(
     requires has { HasCell filler.old number }
     ensures { filler.new ≡ filler.old }
 {
-    let ready = match preparer.ready(alloc, entry(alloc, number)?) {
+    set(alloc, preparer, filler, entry(alloc, number)?)
+}
+
+// the same, of this entry
+pub(crate) fn set(
+    alloc: Global,
+    preparer: &Preparer,
+    filler: &mut Filler,
+    entry: Entry,
+) -> Result<Result<u64, u64>, Fail>
+    requires cells { preparer.now ≡ filler.old }
+    requires has { HasCell filler.old entry.number }
+    ensures { filler.new ≡ filler.old }
+{
+    let ready = match preparer.ready(alloc, entry) {
         Ok(ready) => ready,
         Err(ReadyError::Memory(_)) => return Err(AllocError.into()),
         Err(ReadyError::Occupied(_)) => return Err(Fail::new("nobody else makes the segment")),

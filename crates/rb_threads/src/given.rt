@@ -1,10 +1,10 @@
-//! What the tests are given: a table, changesets of one INSERT, items and brokers.
+//! What the tests are given: a table, changesets of one INSERT, items, brokers and publishers.
 
 ghost use Rattle.std.specs.Prelude.{◌≡◌, IfOk};
 
 use cs_model::{Octets, Origin, Schema, Seq, Shape};
 use cs_parse::{ParseError, parse};
-use rb_broker::Opened;
+use rb_broker::{AddRefusal, Broker, Hall, Opened, Publisher, PublisherMaker};
 use rb_desk::Config;
 use rb_sequence::{Entry, Item};
 use std::alloc::{AllocError, Global};
@@ -42,7 +42,14 @@ pub fn opened(alloc: Global, capacity: u64, intake: u64) -> Result<Opened, Fail>
 pub fn entry(alloc: Global, number: u64) -> Result<Entry, Fail>
     ensures { IfOk result (λ e. e.number ≡ number) }
 {
-    let body = match parse(alloc, &insert(number)) {
+    entry_of(alloc, number, &insert(number))
+}
+
+/// The entry with this number, and this changeset.
+pub fn entry_of(alloc: Global, number: u64, text: &[u8]) -> Result<Entry, Fail>
+    ensures { IfOk result (λ e. e.number ≡ number) }
+{
+    let body = match parse(alloc, text) {
         Ok(body) => body,
         Err(ParseError::Memory) => return Err(AllocError.into()),
         Err(ParseError::Fault(fault)) => return Err(fault.into()),
@@ -55,4 +62,17 @@ pub fn entry(alloc: Global, number: u64) -> Result<Entry, Fail>
     };
     let text = item.text(alloc)?;
     Ok(Entry::new(number, item, text))
+}
+
+/// One publisher more.
+pub fn publisher<L: Hall>(
+    alloc: Global,
+    maker: &mut PublisherMaker<L>,
+    broker: &Broker<L>,
+) -> Result<Publisher<L>, Fail> {
+    match maker.make(alloc, broker) {
+        Ok(publisher) => Ok(publisher),
+        Err(AddRefusal::Memory) => Err(AllocError.into()),
+        Err(AddRefusal::TooMany) => Err(Fail::new("there are too many publishers")),
+    }
 }

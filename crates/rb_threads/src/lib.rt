@@ -3,13 +3,23 @@
 #![tactic(auto)]
 
 #[cfg(test)]
+mod bench;
+#[cfg(test)]
+mod calls;
+#[cfg(test)]
 mod cells;
+#[cfg(test)]
+mod deliveries;
 #[cfg(test)]
 mod given;
 #[cfg(test)]
 mod rows;
 #[cfg(test)]
 mod segments;
+#[cfg(test)]
+mod subscribers;
+#[cfg(test)]
+mod subscriptions;
 #[cfg(test)]
 mod texts;
 #[cfg(test)]

@@ -3,13 +3,12 @@
 
 ghost use Rattle.std.specs.Prelude.{◌≡◌, IfOk};
 
-use crate::given::{insert, opened};
+use crate::bench::Bench;
+use crate::given::{insert, opened, publisher};
 use cs_model::Origin;
-use rb_broker::{
-    AddRefusal, Broker, Hall, MOST_PUBLISHERS, Opened, PlaceRefusal, Publisher, SendRefusal,
-    StagedSet, WithdrawRefusal,
-};
-use rb_sequence::{Sequence, Told};
+use rb_broker::{AddRefusal, Hall, MOST_PUBLISHERS, Opened, PlaceRefusal, Publisher, SendRefusal};
+use rb_broker::{StagedSet, WithdrawRefusal};
+use rb_sequence::Told;
 use rb_sequencer::{Sequencer, Turn};
 use std::alloc::Global;
 use std::marker::Brand;
@@ -36,7 +35,7 @@ fn full_intake(rt: HostRuntime) -> Result<(), Fail> {
 
 #[test]
 fn withdrawal(rt: HostRuntime) -> Result<(), Fail> {
-    let opened = opened(rt.alloc(), 4, 4)?;
+    let opened = opened(rt.alloc(), 2, 4)?;
     withdraws::<Brand, _>(&rt, rt.alloc(), opened)
 }
 
@@ -53,7 +52,7 @@ fn closed_sequence(rt: HostRuntime) -> Result<(), Fail> {
 }
 
 // stages what is fed
-fn stage<L: Hall>(
+pub(crate) fn stage<L: Hall>(
     alloc: Global,
     publisher: &mut Publisher<L>,
     bytes: &[u8],
@@ -66,12 +65,12 @@ fn stage<L: Hall>(
 
 // The number that a turn places. If memory runs out, the item is in hand, and the next turn tries
 // it again.
-fn placed<L: Hall, R: Wait + Abort>(
+pub(crate) fn placed<L: Hall, R: Wait + Abort>(
     rt: &R,
     alloc: Global,
-    broker: &Broker<L>,
-    sequencer: &mut Sequencer<L>,
+    bench: &mut Bench<L>,
 ) -> Option<u64> {
+    let (sequencer, broker) = (&mut bench.sequencer, &bench.broker);
     for _ in 0..2 {
         match sequencer.turn(rt, alloc, broker) {
             Turn::Placed(told) => return Some(told.number()),
@@ -89,16 +88,14 @@ fn placed<L: Hall, R: Wait + Abort>(
 pub(crate) fn put<L: Hall, R: Wait + Abort>(
     rt: &R,
     alloc: Global,
-    broker: &Broker<L>,
-    publisher: &mut Publisher<L>,
-    sequencer: &mut Sequencer<L>,
+    bench: &mut Bench<L>,
     bytes: &[u8],
 ) -> Result<Option<u64>, Fail> {
-    let set = stage(alloc, publisher, bytes)?;
-    if publisher.send(rt, broker, set).is_err() {
+    let set = stage(alloc, &mut bench.publisher, bytes)?;
+    if bench.publisher.send(rt, &bench.broker, set).is_err() {
         return Err(Fail::new("the intake is full"));
     }
-    Ok(placed(rt, alloc, broker, sequencer))
+    Ok(placed(rt, alloc, bench))
 }
 
 fn fills_the_intake<L: Hall, R: Wait + Abort>(
@@ -108,34 +105,29 @@ fn fills_the_intake<L: Hall, R: Wait + Abort>(
 ) -> Result<(), Fail>
     requires cells { opened.cells ≡ L.cells }
     requires queue { opened.queue ≡ L.queue }
+    requires ledger { (opened.ledger ≡ L.name) × (L.parts ≡ 1024) × (L.all ≡ 1024) }
 {
-    let (mut broker, pass) = Broker::<L>::start(opened);
-    let mut sequencer = Sequencer::new(alloc, pass);
-    let Ok(mut publisher) = broker.publisher(alloc) else {
-        return Err(Fail::new("no publisher"));
-    };
-    fills(rt, alloc, &broker, &mut publisher, &mut sequencer)?;
-    fills_the_sequence(rt, alloc, &broker, &mut publisher, &mut sequencer)
+    let mut bench = Bench::<L>::start(alloc, opened)?;
+    fills(rt, alloc, &mut bench)?;
+    fills_the_sequence(rt, alloc, &mut bench)
 }
 
 fn fills<L: Hall, R: Wait + Abort>(
     rt: &R,
     alloc: Global,
-    broker: &Broker<L>,
-    publisher: &mut Publisher<L>,
-    sequencer: &mut Sequencer<L>,
+    bench: &mut Bench<L>,
 ) -> Result<(), Fail> {
-    let set = stage(alloc, publisher, &insert(1))?;
-    assert_eq!(rt; publisher.send(rt, broker, set).ok(), Some(1));
-    let set = stage(alloc, publisher, &insert(2))?;
-    let Err(SendRefusal::Full(set)) = publisher.send(rt, broker, set) else {
+    let set = stage(alloc, &mut bench.publisher, &insert(1))?;
+    assert_eq!(rt; bench.publisher.send(rt, &bench.broker, set).ok(), Some(1));
+    let set = stage(alloc, &mut bench.publisher, &insert(2))?;
+    let Err(SendRefusal::Full(set)) = bench.publisher.send(rt, &bench.broker, set) else {
         return Err(Fail::new("the intake is full"));
     };
-    assert_eq!(rt; placed(rt, alloc, broker, sequencer), Some(1));
-    assert_eq!(rt; publisher.send(rt, broker, set).ok(), Some(2));
-    assert_eq!(rt; placed(rt, alloc, broker, sequencer), Some(2));
-    assert_eq!(rt; placed(rt, alloc, broker, sequencer), None);
-    assert!(rt; sequencer.hand().is_none());
+    assert_eq!(rt; placed(rt, alloc, bench), Some(1));
+    assert_eq!(rt; bench.publisher.send(rt, &bench.broker, set).ok(), Some(2));
+    assert_eq!(rt; placed(rt, alloc, bench), Some(2));
+    assert_eq!(rt; placed(rt, alloc, bench), None);
+    assert!(rt; bench.sequencer.hand().is_none());
     Ok(())
 }
 
@@ -143,16 +135,13 @@ fn fills<L: Hall, R: Wait + Abort>(
 fn fills_the_sequence<L: Hall, R: Wait + Abort>(
     rt: &R,
     alloc: Global,
-    broker: &Broker<L>,
-    publisher: &mut Publisher<L>,
-    sequencer: &mut Sequencer<L>,
+    bench: &mut Bench<L>,
 ) -> Result<(), Fail> {
-    let number = put(rt, alloc, broker, publisher, sequencer, &insert(3))?;
-    assert_eq!(rt; number, None);
-    assert_eq!(rt; own_in_hand(sequencer), Some(3));
-    assert_eq!(rt; placed(rt, alloc, broker, sequencer), None);
-    assert_eq!(rt; own_in_hand(sequencer), Some(3));
-    has_two(rt, sequencer);
+    assert_eq!(rt; put(rt, alloc, bench, &insert(3))?, None);
+    assert_eq!(rt; own_in_hand(&bench.sequencer), Some(3));
+    assert_eq!(rt; placed(rt, alloc, bench), None);
+    assert_eq!(rt; own_in_hand(&bench.sequencer), Some(3));
+    has_two(rt, &bench.sequencer);
     Ok(())
 }
 
@@ -179,35 +168,28 @@ fn has_two<L: Hall, R: Abort>(rt: &R, sequencer: &Sequencer<L>) {
 fn withdraws<L: Hall, R: Wait + Abort>(rt: &R, alloc: Global, opened: Opened) -> Result<(), Fail>
     requires cells { opened.cells ≡ L.cells }
     requires queue { opened.queue ≡ L.queue }
+    requires ledger { (opened.ledger ≡ L.name) × (L.parts ≡ 1024) × (L.all ≡ 1024) }
 {
-    let (mut broker, pass) = Broker::<L>::start(opened);
-    let mut sequencer = Sequencer::new(alloc, pass);
-    let Ok(mut publisher) = broker.publisher(alloc) else {
-        return Err(Fail::new("no publisher"));
-    };
-    let Ok(mut other) = broker.publisher(alloc) else {
-        return Err(Fail::new("no publisher"));
-    };
-    let number = put(rt, alloc, &broker, &mut publisher, &mut sequencer, &CHANGED)?;
-    assert_eq!(rt; number, Some(1));
-    takes_back(rt, alloc, &broker, &mut publisher, &mut sequencer)?;
-    is_refused(rt, alloc, broker.sequence(), &mut publisher, &mut other)
+    let mut bench = Bench::<L>::start(alloc, opened)?;
+    takes_back(rt, alloc, &mut bench)?;
+    let mut other = publisher(alloc, &mut bench.publishers, &bench.broker)?;
+    is_refused(rt, alloc, &mut bench, &mut other)
 }
 
-// the withdrawal of entry 1 is entry 2
+// the withdrawal of entry 1 is entry 2, the last that the sequence has room for
 fn takes_back<L: Hall, R: Wait + Abort>(
     rt: &R,
     alloc: Global,
-    broker: &Broker<L>,
-    publisher: &mut Publisher<L>,
-    sequencer: &mut Sequencer<L>,
+    bench: &mut Bench<L>,
 ) -> Result<(), Fail> {
-    let sequence = broker.sequence();
-    let set = publisher.withdraw(alloc, sequence, 1)?;
+    assert_eq!(rt; put(rt, alloc, bench, &CHANGED)?, Some(1));
+    let set = bench
+        .publisher
+        .withdraw(alloc, bench.broker.sequence(), 1)?;
     assert_eq!(rt; set.withdraws().map(Told::number), Some(1));
-    assert_eq!(rt; publisher.send(rt, broker, set).ok(), Some(2));
-    assert_eq!(rt; placed(rt, alloc, broker, sequencer), Some(2));
-    let Some(entry) = sequence.get(2) else {
+    assert_eq!(rt; bench.publisher.send(rt, &bench.broker, set).ok(), Some(2));
+    assert_eq!(rt; placed(rt, alloc, bench), Some(2));
+    let Some(entry) = bench.broker.sequence().get(2) else {
         return Err(Fail::new("entry 2 is placed"));
     };
     let text: &[u8] = entry.text();
@@ -219,16 +201,15 @@ fn takes_back<L: Hall, R: Wait + Abort>(
 fn is_refused<L: Hall, R: Abort>(
     rt: &R,
     alloc: Global,
-    sequence: &Sequence,
-    publisher: &mut Publisher<L>,
+    bench: &mut Bench<L>,
     other: &mut Publisher<L>,
-) -> Result<(), Fail>
-    requires { sequence.now ≡ L.cells }
-{
+) -> Result<(), Fail> {
+    let (publisher, sequence) = (&mut bench.publisher, bench.broker.sequence());
     let again = publisher.withdraw(alloc, sequence, 1);
     assert_eq!(rt; again.err(), Some(WithdrawRefusal::AlreadyWithdrawn));
     let missing = publisher.withdraw(alloc, sequence, 3);
     assert_eq!(rt; missing.err(), Some(WithdrawRefusal::NotPlaced));
+    assert!(rt; publisher.withdraw(alloc, sequence, 2).is_ok());
     let stranger = other.withdraw(alloc, sequence, 1);
     assert_eq!(rt; stranger.err(), Some(WithdrawRefusal::NotYours));
     Ok(())
@@ -237,23 +218,25 @@ fn is_refused<L: Hall, R: Abort>(
 fn makes_publishers<L: Hall, R: Abort>(rt: &R, alloc: Global, opened: Opened) -> Result<(), Fail>
     requires cells { opened.cells ≡ L.cells }
     requires queue { opened.queue ≡ L.queue }
+    requires ledger { (opened.ledger ≡ L.name) × (L.parts ≡ 1024) × (L.all ≡ 1024) }
 {
-    let (mut broker, pass) = Broker::<L>::start(opened);
-    drop(pass);
-    makes(rt, alloc, &mut broker)
+    let mut bench = Bench::<L>::start(alloc, opened)?;
+    makes(rt, alloc, &mut bench)
 }
 
 // each publisher has the next number, and there is no 65th
-fn makes<L: Hall, R: Abort>(rt: &R, alloc: Global, broker: &mut Broker<L>) -> Result<(), Fail> {
-    for number in 0..MOST_PUBLISHERS {
-        assert_eq!(rt; next_number(alloc, broker)?, number);
+fn makes<L: Hall, R: Abort>(rt: &R, alloc: Global, bench: &mut Bench<L>) -> Result<(), Fail> {
+    assert_eq!(rt; bench.publisher.number(), 0);
+    for number in 1..MOST_PUBLISHERS {
+        assert_eq!(rt; next_number(alloc, bench)?, number);
     }
-    assert_eq!(rt; next_number(alloc, broker), Err(AddRefusal::TooMany));
+    assert_eq!(rt; next_number(alloc, bench), Err(AddRefusal::TooMany));
+    assert_eq!(rt; bench.publishers.made(), MOST_PUBLISHERS);
     Ok(())
 }
 
-fn next_number<L: Hall>(alloc: Global, broker: &mut Broker<L>) -> Result<u64, AddRefusal> {
-    let publisher = broker.publisher(alloc)?;
+fn next_number<L: Hall>(alloc: Global, bench: &mut Bench<L>) -> Result<u64, AddRefusal> {
+    let publisher = bench.publishers.make(alloc, &bench.broker)?;
     Ok(publisher.number())
 }
 
@@ -264,30 +247,44 @@ fn sends_after_the_end<L: Hall, R: Wait + Abort>(
 ) -> Result<(), Fail>
     requires cells { opened.cells ≡ L.cells }
     requires queue { opened.queue ≡ L.queue }
+    requires ledger { (opened.ledger ≡ L.name) × (L.parts ≡ 1024) × (L.all ≡ 1024) }
 {
-    let (mut broker, pass) = Broker::<L>::start(opened);
-    drop(pass);
-    let Ok(mut publisher) = broker.publisher(alloc) else {
-        return Err(Fail::new("no publisher"));
-    };
-    is_closed(rt, alloc, &broker, &mut publisher)
+    let mut bench = Bench::<L>::start(alloc, opened)?;
+    is_closed(rt, alloc, &mut bench)?;
+    stays_in_hand(rt, alloc, &mut bench)
 }
 
 // the sequence is closed at 0: the set comes back with that number
 fn is_closed<L: Hall, R: Wait + Abort>(
     rt: &R,
     alloc: Global,
-    broker: &Broker<L>,
-    publisher: &mut Publisher<L>,
+    bench: &mut Bench<L>,
 ) -> Result<(), Fail> {
-    let set = stage(alloc, publisher, &insert(1))?;
-    assert_eq!(rt; broker.close(rt).map(|told| told.last()), Some(0));
-    assert_eq!(rt; broker.close(rt).map(|told| told.last()), Some(0));
-    let Err(SendRefusal::Closed(last, set)) = publisher.send(rt, broker, set) else {
+    let publisher = &mut bench.publisher;
+    let first = stage(alloc, publisher, &insert(1))?;
+    assert_eq!(rt; publisher.send(rt, &bench.broker, first).ok(), Some(1));
+    let set = stage(alloc, publisher, &insert(2))?;
+    for _ in 0..2 {
+        assert_eq!(rt; bench.broker.close(rt).map(|told| told.last()), Some(0));
+    }
+    let Err(SendRefusal::Closed(last, set)) = publisher.send(rt, &bench.broker, set) else {
         return Err(Fail::new("the sequence is closed"));
     };
-    assert_eq!(rt; last.last(), 0);
-    assert_eq!(rt; set.publisher(), 0);
-    assert_eq!(rt; publisher.sent(), 0);
+    assert_eq!(rt; (last.last(), set.publisher(), publisher.sent()), (0, 0, 1));
+    Ok(())
+}
+
+// what was sent before the end isn't placed after it
+fn stays_in_hand<L: Hall, R: Wait + Abort>(
+    rt: &R,
+    alloc: Global,
+    bench: &mut Bench<L>,
+) -> Result<(), Fail> {
+    let turn = bench.sequencer.turn(rt, alloc, &bench.broker);
+    let Turn::Refused(PlaceRefusal::Closed(told)) = turn else {
+        return Err(Fail::new("the sequence is closed"));
+    };
+    assert_eq!(rt; told.last(), 0);
+    assert_eq!(rt; own_in_hand(&bench.sequencer), Some(1));
     Ok(())
 }

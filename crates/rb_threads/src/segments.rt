@@ -2,10 +2,10 @@
 
 ghost use Rattle.std.specs.Prelude.{◌≡◌};
 
+use crate::bench::Bench;
 use crate::given::opened;
 use crate::rows::put;
-use rb_broker::{Broker, Hall, Opened, Publisher};
-use rb_sequencer::Sequencer;
+use rb_broker::{Hall, Opened};
 use std::alloc::Global;
 use std::marker::Brand;
 use std::process::Abort;
@@ -28,38 +28,33 @@ fn crosses_the_border<L: Hall, R: Wait + Abort>(
 ) -> Result<(), Fail>
     requires cells { opened.cells ≡ L.cells }
     requires queue { opened.queue ≡ L.queue }
+    requires ledger { (opened.ledger ≡ L.name) × (L.parts ≡ 1024) × (L.all ≡ 1024) }
 {
-    let (mut broker, pass) = Broker::<L>::start(opened);
-    let mut sequencer = Sequencer::new(alloc, pass);
-    let Ok(mut publisher) = broker.publisher(alloc) else {
-        return Err(Fail::new("no publisher"));
-    };
-    fills_both(rt, alloc, &broker, &mut publisher, &mut sequencer)
+    let mut bench = Bench::<L>::start(alloc, opened)?;
+    fills_both(rt, alloc, &mut bench)
 }
 
 // Empty changesets fill the first segment and the one cell of the second. Then the sequence is full.
 fn fills_both<L: Hall, R: Wait + Abort>(
     rt: &R,
     alloc: Global,
-    broker: &Broker<L>,
-    publisher: &mut Publisher<L>,
-    sequencer: &mut Sequencer<L>,
+    bench: &mut Bench<L>,
 ) -> Result<(), Fail> {
     for number in 1..=SEGMENT {
-        let placed = put(rt, alloc, broker, publisher, sequencer, b"")?;
+        let placed = put(rt, alloc, bench, b"")?;
         assert_eq!(rt; placed, Some(number));
     }
-    assert!(rt; broker.sequence().get(SEGMENT + 1).is_none());
-    let placed = put(rt, alloc, broker, publisher, sequencer, b"")?;
+    assert!(rt; bench.broker.sequence().get(SEGMENT + 1).is_none());
+    let placed = put(rt, alloc, bench, b"")?;
     assert_eq!(rt; placed, Some(SEGMENT + 1));
     for number in [1, SEGMENT, SEGMENT + 1] {
-        let entry = broker.sequence().get(number);
+        let entry = bench.broker.sequence().get(number);
         assert_eq!(rt; entry.map(|entry| entry.number()), Some(number));
-        let told = broker.sequence().tell(number);
+        let told = bench.broker.sequence().tell(number);
         assert_eq!(rt; told.map(|told| told.number()), Some(number));
     }
-    let placed = put(rt, alloc, broker, publisher, sequencer, b"")?;
+    let placed = put(rt, alloc, bench, b"")?;
     assert_eq!(rt; placed, None);
-    assert!(rt; sequencer.hand().is_some());
+    assert!(rt; bench.sequencer.hand().is_some());
     Ok(())
 }

@@ -1,30 +1,61 @@
-//! The texts of what a turn refuses.
+//! The texts of what a broker refuses.
 
-use rb_broker::PlaceRefusal;
-use rb_sequencer::Turn;
-use std::alloc::Global;
+use rb_broker::{AddRefusal, PlaceRefusal, SubscribeError, TakeError, WithdrawRefusal};
+use rb_desk::{DeskError, DeskRefusal};
 use std::test::Fail;
 
-// what a turn says that places nothing
-fn said(alloc: Global, turn: Turn) -> Result<String, Fail> {
-    match turn {
-        Turn::Refused(why) => Ok(format!(in alloc; "{why}")?),
-        _ => Ok(String::new(alloc)),
+#[test]
+fn publishers_are_told_why(rt: HostRuntime) -> Result<(), Fail> {
+    let alloc = rt.alloc();
+    let added = [
+        (AddRefusal::TooMany, "there are 64 publishers"),
+        (AddRefusal::Memory, "out of memory"),
+    ];
+    for (why, text) in added {
+        assert_eq!(rt; format!(in alloc; "{why}")?.as_str(), text);
     }
+    let withdrawn = [
+        (WithdrawRefusal::NotPlaced, "there is no such entry"),
+        (WithdrawRefusal::NotYours, "the entry is another publisher's"),
+        (WithdrawRefusal::AlreadyWithdrawn, "the entry is withdrawn already"),
+        (
+            WithdrawRefusal::Schema { section: 7 },
+            "section 7 has another shape than an earlier section of its table",
+        ),
+        (WithdrawRefusal::Memory, "out of memory"),
+    ];
+    for (why, text) in withdrawn {
+        assert_eq!(rt; format!(in alloc; "{why}")?.as_str(), text);
+    }
+    Ok(())
 }
 
 #[test]
 fn turns_say_why(rt: HostRuntime) -> Result<(), Fail> {
-    let table = [
+    let alloc = rt.alloc();
+    let placed = [
         (PlaceRefusal::JournalFull, "the journal is full"),
-        (PlaceRefusal::Closed, "the sequence is closed"),
         (PlaceRefusal::SequenceFull, "the sequence is full"),
         (PlaceRefusal::Occupied, "the cell is set"),
         (PlaceRefusal::Memory, "out of memory"),
     ];
-    for (why, text) in table {
-        let said = said(rt.alloc(), Turn::Refused(why))?;
-        assert_eq!(rt; said.as_str(), text);
+    for (why, text) in placed {
+        assert_eq!(rt; format!(in alloc; "{why}")?.as_str(), text);
     }
+    Ok(())
+}
+
+#[test]
+fn subscribers_are_told_why(rt: HostRuntime) -> Result<(), Fail> {
+    let alloc = rt.alloc();
+    let subscribed = [
+        (SubscribeError::OtherSchema, "the tables are of another schema"),
+        (SubscribeError::Desk(DeskError::Memory), "out of memory"),
+    ];
+    for (why, text) in subscribed {
+        assert_eq!(rt; format!(in alloc; "{why}")?.as_str(), text);
+    }
+    let full = TakeError::Desk(DeskError::Refused(DeskRefusal::WindowFull));
+    assert_eq!(rt; format!(in alloc; "{full}")?.as_str(), "the window is full");
     Ok(())
 }

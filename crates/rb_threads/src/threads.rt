@@ -2,8 +2,8 @@
 
 ghost use Rattle.std.specs.Prelude.{◌≡◌, ◌<◌, ◌*◌, IfOk};
 
-use crate::given::{insert, opened};
-use rb_broker::{Broker, Hall, Opened, Publisher, SendRefusal, StagedSet};
+use crate::given::{insert, opened, publisher};
+use rb_broker::{Broker, Hall, Opened, Publisher, SendRefusal, StagedSet, Started};
 use rb_sequencer::{Sequencer, Turn};
 use std::alloc::Global;
 use std::marker::Brand;
@@ -53,17 +53,21 @@ fn all_arrive<L: Hall + Send + Sync, R: Threads + Wait + Abort + Sync>(
 ) -> Result<(), Fail>
     requires cells { opened.cells ≡ L.cells }
     requires queue { opened.queue ≡ L.queue }
+    requires ledger { (opened.ledger ≡ L.name) × (L.parts ≡ 1024) × (L.all ≡ 1024) }
     requires few { publishers * sends < 18446744073709551615 }
 {
     let all = publishers * sends;
-    let (mut broker, pass) = Broker::<L>::start(opened);
+    let Started {
+        broker,
+        sequencer,
+        publishers: mut maker,
+        ..
+    } = Broker::<L>::start(opened);
     let mut jobs = Vec::new(alloc);
-    jobs.push(Job::Place(Sequencer::new(alloc, pass), all))?;
+    jobs.push(Job::Place(Sequencer::new(alloc, sequencer), all))?;
     jobs.push(Job::Read(all))?;
     for _ in 0..publishers {
-        let Ok(publisher) = broker.publisher(alloc) else {
-            return Err(Fail::new("no publisher"));
-        };
+        let publisher = publisher(alloc, &mut maker, &broker)?;
         jobs.push(Job::Publish(publisher, sends))?;
     }
     let broker = &broker;
@@ -84,7 +88,7 @@ fn work<L: Hall, R: Wait>(
 ) -> Result<(), &'static str> {
     match job {
         Job::Publish(publisher, sends) => publish(rt, alloc, broker, publisher, sends),
-        Job::Place(sequencer, all) => place(rt, alloc, broker, sequencer, all),
+        Job::Place(mut sequencer, all) => place(rt, alloc, broker, &mut sequencer, all),
         Job::Read(all) => read(broker, all),
     }
 }
@@ -126,7 +130,7 @@ fn stage<L: Hall>(
 }
 
 // sends a set, as often as the intake is full
-fn send<L: Hall, R: Wait>(
+pub(crate) fn send<L: Hall, R: Wait>(
     rt: &R,
     broker: &Broker<L>,
     publisher: &mut Publisher<L>,
@@ -148,11 +152,11 @@ fn send<L: Hall, R: Wait>(
     Err("the intake stays full")
 }
 
-fn place<L: Hall, R: Wait>(
+pub(crate) fn place<L: Hall, R: Wait>(
     rt: &R,
     alloc: Global,
     broker: &Broker<L>,
-    mut sequencer: Sequencer<L>,
+    sequencer: &mut Sequencer<L>,
     all: u64,
 ) -> Result<(), &'static str> {
     for _ in 0..MOST_TURNS {

@@ -1,10 +1,13 @@
--- A delivery that is taken has the number and the link that were asked for.
+-- A delivery that is taken has the number and the link that were asked for; `Drained` comes only where the cursor is the
+-- closing number.
 use Rattle.std.proofs.Common.{◌≡◌, ◌==◌, ℕ, Bool, true, false, not, cond, Option, Some, None, Result, Ok, Err, refl, sym, ap, ◌∙◌}
-use Rattle.std.proofs.Common.{inl, inr}
+use Rattle.std.proofs.Common.{inl, inr, List, [], ◌∷◌}
 use Rattle.std.specs.Prelude.{slice_get}
 use Rattle.std.proofs.lemmas.Bool.{false≢true}
 use Rattle.std.proofs.lemmas.Bool.Decides.{eqb_tells}
-use Rattle.rb_desk.specs.Calls.{take, delivered_from, delivered_span, delivery_from, has_room, none_ready, refused_call}
+use Rattle.rb_desk.specs.Calls.{take, delivered_from, delivered_span, delivery_from, has_room, is_drained, none_ready}
+use Rattle.rb_desk.specs.Calls.{refused_call}
+use Rattle.rb_desk.proofs.pictures.KeepCut.{either_way}
 use Rattle.rb_deliveries.specs.Spans.{first_ready}
 use Rattle.rb_deliveries.specs.declared.span.Span.{Span}
 use Rattle.rb_desk.specs.Picture.{Picture, Subscription}
@@ -51,3 +54,55 @@ pub take_as_asked : (old : Picture) (s link cursor now : ℕ) (d : Delivery) (ne
     → take old s link cursor now ≡ (Ok d, new) → (d.sub ≡ s) × (d.link ≡ link)
 unfolding take
 take_as_asked old s link cursor now d new e = found_as_asked old s link cursor now (slice_get old.subscriptions s) d new e
+
+-- ---- drained
+
+drained_at : (m n : ℕ) → refusal.Drained m ≡ refusal.Drained n → m ≡ n
+drained_at m n e = cc
+
+not_empty : (front last : ℕ) → refusal.Empty front ≡ refusal.Drained last → ⊥
+not_empty front last e = cc
+
+tells_drained : (spans : List Span) (cursor at last front : ℕ)
+    → cond (is_drained spans cursor at) (refusal.Drained at) (refusal.Empty front) ≡ refusal.Drained last
+    → (cursor ≡ at) × (at ≡ last)
+tells_drained [] cursor at last front e = elim (eqb_tells cursor at) as (λ w. (cursor ≡ at) × (at ≡ last)) [
+  | inl same ↦ (same.1, drained_at at last (ap (λ b. cond b (refusal.Drained at) (refusal.Empty front)) (sym same.0) ∙ e))
+  | inr other ↦ absurd (not_empty front last (ap (λ b. cond b (refusal.Drained at) (refusal.Empty front)) (sym other.0) ∙ e))
+]
+tells_drained (p ∷ rest) cursor at last front e = absurd (not_empty front last e)
+
+at_the_end : (old : Picture) (q : Subscription) (cursor last : ℕ) (o : Option ℕ)
+    → none_ready old q cursor o ≡ refusal.Drained last → (cursor ≡ last) × (o ≡ Some last)
+at_the_end old q cursor last None e = absurd (not_empty old.front last e)
+at_the_end old q cursor last (Some at) e =
+    let both = tells_drained q.spans cursor at last old.front e in (both.0 ∙ both.1, ap (λ n. Some n) both.1)
+
+abbrev the_error : DeskRefusal → Result Delivery DeskRefusal
+the_error why = Err why
+
+not_ready : (old : Picture) (s : ℕ) (q : Subscription) (cursor now last : ℕ) (o : Option Span)
+    → (delivered_span old s q cursor now o).0 ≡ Err (refusal.Drained last) → (cursor ≡ last) × (old.closing ≡ Some last)
+not_ready old s q cursor now last None e =
+    let same : the_error (none_ready old q cursor old.closing) ≡ the_error (refusal.Drained last) = e in
+    let why : none_ready old q cursor old.closing ≡ refusal.Drained last = cc in
+    at_the_end old q cursor last old.closing why
+not_ready old s q cursor now last (Some span) e = absurd (let no : Ok (delivery_from old s q span) ≡ Err (refusal.Drained last) = e in cc)
+
+abbrev Ends : Picture → ℕ → ℕ → TakeResult → Type 0
+Ends old cursor last x = x.0 ≡ Err (refusal.Drained last) → (cursor ≡ last) × (old.closing ≡ Some last)
+
+pub drained_at_the_end : (old : Picture) (s link cursor now last : ℕ) → Ends old cursor last (take old s link cursor now)
+unfolding take
+drained_at_the_end old s link cursor now last = by (slice_get old.subscriptions s)
+  where
+    by : (o : Option Subscription) → Ends old cursor last (delivered_from old s link cursor now o)
+    by None = λ e. absurd (let no : Err refusal.NoSuch ≡ Err (refusal.Drained last) = e in cc)
+    by (Some q) =
+        either_way (Ends old cursor last) (not (link == q.link)) _ _
+        (λ e. absurd (let no : Err refusal.StaleLink ≡ Err (refusal.Drained last) = e in cc))
+        (either_way (Ends old cursor last) q.closed _ _
+        (λ e. absurd (let no : Err refusal.Closed ≡ Err (refusal.Drained last) = e in cc))
+        (either_way (Ends old cursor last) (not (has_room old.limits.window q)) _ _
+        (λ e. absurd (let no : Err refusal.WindowFull ≡ Err (refusal.Drained last) = e in cc))
+        (not_ready old s q cursor now last (first_ready q.spans))))

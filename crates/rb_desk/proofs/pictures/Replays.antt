@@ -1,10 +1,10 @@
 -- Calls one after another: each preserves the invariant of a picture, links and deliveries' numbers rise strictly, and
 -- the front and the floors do not fall.
-use Rattle.std.proofs.Common.{◌≡◌, ℕ, zero, suc, max, ◌<◌, ◌≤◌, true, false, not, ◌||◌, ◌==◌, ◌⊎◌, inl, inr, List, []}
+use Rattle.std.proofs.Common.{◌≡◌, ℕ, zero, suc, max, ◌+◌, ◌<◌, ◌≤◌, true, false, not, ◌||◌, ◌==◌, ◌⊎◌, inl, inr, List, []}
 use Rattle.std.proofs.Common.{◌∷◌, ◌++◌, length, map, Option, Some, None, option_map, Result, Ok, Err, find, nat_lt}
 use Rattle.std.proofs.Common.{nat_le, slice_get, slice_set, refl, sym, ap, ◌∙◌, subst, arith, length-append}
 use Rattle.std.specs.List.{cons_option}
-use Rattle.std.proofs.lemmas.Bool.{ltb-false, cases_lt}
+use Rattle.std.proofs.lemmas.Bool.{leb-false, ltb-false, cases_lt}
 use Rattle.std.proofs.lemmas.List.{length-map, length-set}
 use Rattle.std.proofs.lemmas.Option.{slice_get-map, slice_get_cases, slice_get_within}
 use Rattle.rb_desk.proofs.pictures.PictureLaws.{NoFloorFalls}
@@ -24,7 +24,7 @@ use Rattle.rb_desk.specs.Calls.{reconnected_by, unsubscribe, unsubscribed_pictur
 use Rattle.rb_desk.specs.Calls.{place, grown_subscription, close}
 use Rattle.rb_desk.specs.IsPicture.{AreInRange, IsPicture}
 use Rattle.rb_desk.specs.Steps.{links_given, numbers_given, RisesAbove, FloorsRise, placed_if, after_step, replayed}
-use Rattle.rb_desk.specs.Steps.{replay, second_of, link_of, delivery_number, link_given, number_given}
+use Rattle.rb_desk.specs.Steps.{replay, second_of, link_of, delivery_number, link_given, number_given, made_of, subscriptions_made}
 use Rattle.rb_desk.proofs.pictures.KeepHand.{keep_hand_take_keeps, keep_hand_take_any_keeps, floors_rise_take}
 use Rattle.rb_desk.proofs.pictures.KeepHand.{floors_rise_take_any}
 use Rattle.rb_desk.proofs.pictures.KeepSettle.{keep_settle_ack_keeps, keep_settle_nack_keeps, floors_rise_ack}
@@ -73,42 +73,43 @@ abbrev pub ReplaysGoesOn : ℕ → ℕ → Option ℕ → Type 0
 ReplaysGoesOn next next' None = next ≤ next'
 ReplaysGoesOn next next' (Some n) = (n ≡ next) × (next < next')
 
--- a call that gave this link and this delivery's number, or none: the limits stay, the front doesn't fall, no
--- subscription goes, and both go on
-pub record ReplaysRises (old new : Picture) (link number : Option ℕ) : Type 0 where
+-- a call that gave this link and this delivery's number, or none, and made so many subscriptions: the limits stay, the
+-- front doesn't fall, no subscription goes, and both go on
+pub record ReplaysRises (old new : Picture) (link number : Option ℕ) (made : ℕ) : Type 0 where
   pub limits : new.limits ≡ old.limits
   pub front : old.front ≤ new.front
-  pub stay : length old.subscriptions ≤ length new.subscriptions
+  pub count : length new.subscriptions ≡ length old.subscriptions + made
   pub links : ReplaysGoesOn old.next_link new.next_link link
   pub numbers : ReplaysGoesOn old.next_delivery new.next_delivery number
 
 -- a refused call
-rises_same : (p : Picture) → ReplaysRises p p None None
+rises_same : (p : Picture) → ReplaysRises p p None None 0
 rises_same p = record {
   limits = refl;
   front = omega arith;
-  stay = omega arith;
+  count = omega arith;
   links = omega arith;
   numbers = omega arith;
 }
 
 -- one subscription changes
-same_length : (p : Picture) (s : ℕ) (q : Subscription) → length p.subscriptions ≤ length (slice_set p.subscriptions s q)
+same_length : (p : Picture) (s : ℕ) (q : Subscription)
+    → length (slice_set p.subscriptions s q) ≡ length p.subscriptions + 0
 same_length p s q = omega (arith, length-set p.subscriptions s q)
 
 -- each call
-subscribe_rises : (p : Picture) (start : ℕ) → ReplaysRises p (subscribe p start).1 (second_of (subscribe p start).0)
-    None
+subscribe_rises : (p : Picture) (start : ℕ)
+    → ReplaysRises p (subscribe p start).1 (second_of (subscribe p start).0) None (made_of (subscribe p start).0)
 unfolding subscribe
 subscribe_rises p start =
-    either_way (λ (x : Result (ℕ × ℕ) DeskRefusal × Picture). ReplaysRises p x.1 (second_of x.0) None)
+    either_way (λ (x : Result (ℕ × ℕ) DeskRefusal × Picture). ReplaysRises p x.1 (second_of x.0) None (made_of x.0))
     (nat_lt p.front start) _ _ (rises_same p)
-    (either_way (λ (x : Result (ℕ × ℕ) DeskRefusal × Picture). ReplaysRises p x.1 (second_of x.0) None)
+    (either_way (λ (x : Result (ℕ × ℕ) DeskRefusal × Picture). ReplaysRises p x.1 (second_of x.0) None (made_of x.0))
     (nat_le 1024 (length p.subscriptions)) _ _ (rises_same p)
     (record {
       limits = refl;
       front = omega arith;
-      stay = omega (arith, length-append p.subscriptions (q ∷ []));
+      count = omega (arith, length-append p.subscriptions (q ∷ []));
       links = (refl, omega arith);
       numbers = omega arith;
     }))
@@ -125,7 +126,7 @@ subscribe_rises p start =
 
 -- a span is handed over
 abbrev TakeRises : Picture → Result Delivery DeskRefusal × Picture → Type 0
-TakeRises p x = ReplaysRises p x.1 None (delivery_number x.0)
+TakeRises p x = ReplaysRises p x.1 None (delivery_number x.0) 0
 
 taken_rises : (p : Picture) (s cursor now : ℕ) (q : Subscription) (o : Option Span)
     → TakeRises p (delivered_span p s q cursor now o)
@@ -134,7 +135,7 @@ taken_rises p s cursor now q (Some span) =
     record {
       limits = refl;
       front = omega arith;
-      stay = same_length p s _;
+      count = same_length p s _;
       links = omega arith;
       numbers = (refl, omega arith);
     }
@@ -158,7 +159,7 @@ any_span_rises p s now q (Some span) =
     record {
       limits = refl;
       front = omega arith;
-      stay = same_length p s _;
+      count = same_length p s _;
       links = omega arith;
       numbers = (refl, omega arith);
     }
@@ -176,127 +177,127 @@ take_any_rises p now = by (find (may_deliver p) p.ready)
     by None = rises_same p
     by (Some at) = any_of_rises p at.0 at.1 now (slice_get p.subscriptions at.0)
 
-ack_rises : (p : Picture) (s link delivery cursor : ℕ) → ReplaysRises p (ack p s link delivery cursor).1 None None
+ack_rises : (p : Picture) (s link delivery cursor : ℕ) → ReplaysRises p (ack p s link delivery cursor).1 None None 0
 unfolding ack
 ack_rises p s link delivery cursor = by (slice_get p.subscriptions s)
   where
-    of_span : (q : Subscription) (o : Option Span) → ReplaysRises p (acked_span p s q cursor o).1 None None
+    of_span : (q : Subscription) (o : Option Span) → ReplaysRises p (acked_span p s q cursor o).1 None None 0
     of_span q None = rises_same p
-    of_span q (Some span) = either_way (λ (x : Result ℕ DeskRefusal × Picture). ReplaysRises p x.1 None None)
+    of_span q (Some span) = either_way (λ (x : Result ℕ DeskRefusal × Picture). ReplaysRises p x.1 None None 0)
         (nat_lt cursor span.last) _ _ (rises_same p)
         (record {
           limits = refl;
           front = omega arith;
-          stay = same_length p s _;
+          count = same_length p s _;
           links = omega arith;
           numbers = omega arith;
         })
 
-    by : (o : Option Subscription) → ReplaysRises p (acked_by p s link delivery cursor o).1 None None
+    by : (o : Option Subscription) → ReplaysRises p (acked_by p s link delivery cursor o).1 None None 0
     by None = rises_same p
-    by (Some q) = either_way (λ (x : Result ℕ DeskRefusal × Picture). ReplaysRises p x.1 None None)
+    by (Some q) = either_way (λ (x : Result ℕ DeskRefusal × Picture). ReplaysRises p x.1 None None 0)
         (not (link == q.link)) _ _ (rises_same p) (of_span q (out_as delivery q.spans))
 
-nack_rises : (p : Picture) (s link delivery : ℕ) → ReplaysRises p (nack p s link delivery).1 None None
+nack_rises : (p : Picture) (s link delivery : ℕ) → ReplaysRises p (nack p s link delivery).1 None None 0
 unfolding nack
 nack_rises p s link delivery = by (slice_get p.subscriptions s)
   where
-    of_span : (q : Subscription) (o : Option Span) → ReplaysRises p (nacked_span p s q o).1 None None
+    of_span : (q : Subscription) (o : Option Span) → ReplaysRises p (nacked_span p s q o).1 None None 0
     of_span q None = rises_same p
     of_span q (Some span) = record {
       limits = refl;
       front = omega arith;
-      stay = same_length p s _;
+      count = same_length p s _;
       links = omega arith;
       numbers = omega arith;
     }
 
-    by : (o : Option Subscription) → ReplaysRises p (nacked_by p s link delivery o).1 None None
+    by : (o : Option Subscription) → ReplaysRises p (nacked_by p s link delivery o).1 None None 0
     by None = rises_same p
-    by (Some q) = either_way (λ (x : Result Unit DeskRefusal × Picture). ReplaysRises p x.1 None None)
+    by (Some q) = either_way (λ (x : Result Unit DeskRefusal × Picture). ReplaysRises p x.1 None None 0)
         (not (link == q.link)) _ _ (rises_same p) (of_span q (out_as delivery q.spans))
 
-expire_rises : (p : Picture) (now : ℕ) → ReplaysRises p (expire p now).1 None None
+expire_rises : (p : Picture) (now : ℕ) → ReplaysRises p (expire p now).1 None None 0
 unfolding expire
 expire_rises p now =
     record {
       limits = refl;
       front = omega arith;
-      stay = omega (arith, length-map p.subscriptions (goes_back p.limits.timeout (max p.clock now)));
+      count = omega (arith, length-map p.subscriptions (goes_back p.limits.timeout (max p.clock now)));
       links =
           omega arith;
       numbers = omega arith;
     }
 
 reconnect_rises : (p : Picture) (s cursor : ℕ)
-    → ReplaysRises p (reconnect p s cursor).1 (link_of (reconnect p s cursor).0) None
+    → ReplaysRises p (reconnect p s cursor).1 (link_of (reconnect p s cursor).0) None 0
 unfolding reconnect
 reconnect_rises p s cursor = by (slice_get p.subscriptions s)
   where
     by : (o : Option Subscription)
-        → ReplaysRises p (reconnected_by p s cursor o).1 (link_of (reconnected_by p s cursor o).0) None
+        → ReplaysRises p (reconnected_by p s cursor o).1 (link_of (reconnected_by p s cursor o).0) None 0
     by None = rises_same p
     by (Some q) =
-        either_way (λ (x : Result ℕ DeskRefusal × Picture). ReplaysRises p x.1 (link_of x.0) None) q.closed _ _
+        either_way (λ (x : Result ℕ DeskRefusal × Picture). ReplaysRises p x.1 (link_of x.0) None 0) q.closed _ _
         (rises_same p)
-        (either_way (λ (x : Result ℕ DeskRefusal × Picture). ReplaysRises p x.1 (link_of x.0) None)
+        (either_way (λ (x : Result ℕ DeskRefusal × Picture). ReplaysRises p x.1 (link_of x.0) None 0)
         (nat_lt cursor q.floor || nat_lt q.offered cursor) _ _ (rises_same p)
         (record {
           limits = refl;
           front = omega arith;
-          stay = same_length p s _;
+          count = same_length p s _;
           links = (refl, omega arith);
           numbers = omega arith;
         }))
 
-unsubscribe_rises : (p : Picture) (s link : ℕ) → ReplaysRises p (unsubscribe p s link).1 None None
+unsubscribe_rises : (p : Picture) (s link : ℕ) → ReplaysRises p (unsubscribe p s link).1 None None 0
 unfolding unsubscribe
 unsubscribe_rises p s link = by (slice_get p.subscriptions s)
   where
-    by : (o : Option Subscription) → ReplaysRises p (unsubscribed_by p s link o).1 None None
+    by : (o : Option Subscription) → ReplaysRises p (unsubscribed_by p s link o).1 None None 0
     by None = rises_same p
     by (Some q) =
-        either_way (λ (x : Result Unit DeskRefusal × Picture). ReplaysRises p x.1 None None) (not (link == q.link)) _ _
+        either_way (λ (x : Result Unit DeskRefusal × Picture). ReplaysRises p x.1 None None 0) (not (link == q.link)) _ _
         (rises_same p)
-        (either_way (λ (x : Result Unit DeskRefusal × Picture). ReplaysRises p x.1 None None) q.closed _ _
+        (either_way (λ (x : Result Unit DeskRefusal × Picture). ReplaysRises p x.1 None None 0) q.closed _ _
         (rises_same p)
         (record {
           limits = refl;
           front = omega arith;
-          stay = same_length p s _;
+          count = same_length p s _;
           links = omega arith;
           numbers = omega arith;
         }))
 
-place_rises : (p : Picture) → ReplaysRises p (place p) None None
+place_rises : (p : Picture) → ReplaysRises p (place p) None None 0
 unfolding place
 place_rises p =
     record {
       limits = refl;
       front = omega arith;
-      stay = omega (arith, length-map p.subscriptions (grown_subscription p.limits.batch (suc p.front)));
+      count = omega (arith, length-map p.subscriptions (grown_subscription p.limits.batch (suc p.front)));
       links =
           omega arith;
       numbers = omega arith;
     }
 
-close_rises : (p : Picture) → ReplaysRises p (close p).1 None None
+close_rises : (p : Picture) → ReplaysRises p (close p).1 None None 0
 unfolding close
 close_rises p = record {
   limits = refl;
   front = omega arith;
-  stay = omega arith;
+  count = omega arith;
   links = omega arith;
   numbers = omega arith;
 }
 
-placed_if_rises : (p : Picture) (r : Result ℕ DeskRefusal) → ReplaysRises p (placed_if p r) None None
+placed_if_rises : (p : Picture) (r : Result ℕ DeskRefusal) → ReplaysRises p (placed_if p r) None None 0
 placed_if_rises p (Ok n) = place_rises p
 placed_if_rises p (Err why) = rises_same p
 
 -- each step
 pub after_rises : (p : Picture) (step : Step)
-    → ReplaysRises p (after_step p step) (link_given p step) (number_given p step)
+    → ReplaysRises p (after_step p step) (link_given p step) (number_given p step) (subscriptions_made p step)
 unfolding after_step
 after_rises p (Subscribe start) = subscribe_rises p start
 after_rises p (Take s link cursor now) = take_rises p s link cursor now
@@ -322,9 +323,35 @@ front_rises_all p (step ∷ steps) = let rest = front_rises_all (after_step p st
 pub limits_stay : (p : Picture) (step : Step) → (after_step p step).limits ≡ p.limits
 limits_stay p step = (after_rises p step).limits
 
--- subscriptions stay
+-- subscriptions stay, and only one that is made is added
+pub subscriptions_counted : (p : Picture) (step : Step)
+    → length (after_step p step).subscriptions ≡ length p.subscriptions + subscriptions_made p step
+subscriptions_counted p step = (after_rises p step).count
+
 pub subscriptions_stay : (p : Picture) (step : Step) → length p.subscriptions ≤ length (after_step p step).subscriptions
-subscriptions_stay p step = (after_rises p step).stay
+subscriptions_stay p step = omega (arith, (after_rises p step).count)
+
+-- a placement adds none
+pub place_counted : (p : Picture) → length (place p).subscriptions ≡ length p.subscriptions
+place_counted p = omega (arith, (place_rises p).count)
+
+-- one that is made is the last, and there is room for it
+pub subscribe_fits : (p : Picture) (start s link : ℕ) → (subscribe p start).0 ≡ Ok (s, link)
+    → (s ≡ length p.subscriptions) × (length p.subscriptions < 1024) × (made_of (subscribe p start).0 ≡ 1)
+unfolding subscribe
+subscribe_fits p start s link =
+    either_way Fits (nat_lt p.front start) _ _ (λ ok. absurd (let no : Err _ ≡ Ok (s, link) = ok in cc))
+    (keep_cut_either Fits (nat_le 1024 (length p.subscriptions)) _ _
+    (λ many ok. absurd (let no : Err _ ≡ Ok (s, link) = ok in cc))
+    (λ few ok. let same : Ok (length p.subscriptions, p.next_link) ≡ Ok (s, link) = ok in
+    (ap (λ r. first_made r) (sym same), leb-false _ _ few, refl)))
+  where
+    first_made : Result (ℕ × ℕ) DeskRefusal → ℕ
+    first_made (Ok pair) = pair.0
+    first_made (Err why) = 0
+
+    Fits : Result (ℕ × ℕ) DeskRefusal × Picture → Type 0
+    Fits x = x.0 ≡ Ok (s, link) → (s ≡ length p.subscriptions) × (length p.subscriptions < 1024) × (made_of x.0 ≡ 1)
 
 -- what goes on gave the next one, where it gave one, and isn't lower in any case
 went_on : (next next' n : ℕ) (o : Option ℕ) → ReplaysGoesOn next next' o → o ≡ Some n → (n ≡ next) × (next < next')

@@ -1,4 +1,4 @@
-use Rattle.std.proofs.Common.{◌≡◌, sym, ap, ◌∙◌}
+use Rattle.std.proofs.Common.{sym, ap, ◌∙◌}
 use Rattle.rb_sequence.specs.Segments.{id_at}
 use Rattle.rb_sequence.proofs.told.Told.again.Goals as goal
 

@@ -12,7 +12,7 @@ invariant_of-self-in-Ok g c =
     ∙ ap (λ (xs : List CellToken). xs ++ c.in-Ok.told ∷ []) c.reserve.ensures.items in
     let holds = sym c.take.ensures.value ∙ c.unwrap-item.ensures in
     let is = ap (λ (n : ℕ). n + 1) (c.len.ensures ∙ c.reserve.ensures.len ∙ c.self.inside.told.ok.0) in
-    let placed = placed_one g.L.Hall.cells _ _ _ _ _ _ c.in-Ok.told _ c.self.invariant.1 c.self.invariant.2 holds
+    let placed = placed_one g.L.StepLedger.cells _ _ _ _ _ _ c.in-Ok.told _ c.self.invariant.1 c.self.invariant.2 holds
     c.take.ensures.after more c.in-Ok.ensures.ok is in
     let kept = c.place_next.ensures.pass in (
       ap (λ (p : SequencerKnows). p.queue) kept ∙ c.self.invariant.0,

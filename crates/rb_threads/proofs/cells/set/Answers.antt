@@ -1,6 +1,6 @@
 use Rattle.std.proofs.Common.{subst}
 use Rattle.rb_sequence.specs.Cells.{Cells, IsReadyFor}
-use Rattle.rb_threads.proofs.cells.fill.Goals as goal
+use Rattle.rb_threads.proofs.cells.set.Goals as goal
 
 -- the cells of the preparer and of the filler are the same
 pub fill-requires : goal.fill-requires

@@ -1,0 +1,73 @@
+-- What one hold of the broker's lock does for a subscription.
+use Rattle.std.specs.Prelude.{◌≡◌, ◌+◌, ℕ, true, List, Result, Ok, Err}
+use Rattle.cs_apply.specs.State as tables
+use Rattle.cs_model.specs.declared.shape.Shape.{Shape}
+use Rattle.rb_desk.specs.Calls.{subscribe}
+use Rattle.rb_desk.specs.Journaled.{JournalAnswers, JournaledPicture}
+use Rattle.rb_desk.specs.declared.delivery.Delivery.{Delivery}
+use Rattle.rb_desk.specs.declared.refusal.DeskError.{DeskError}
+use Rattle.rb_desk.specs.declared.refusal.DeskError.TheVariants.{Refused, Memory}
+use Rattle.rb_desk.specs.declared.refusal.DeskRefusal.TheVariants as desk
+use Rattle.rb_desk.specs.declared.step.Step.TheVariants.{Subscribe}
+use Rattle.rb_sequence.specs.Cells.{Cells, IsLastToken}
+use Rattle.rb_subscriber.specs.Subscription.{SubscriptionState, new_subscription}
+use Rattle.rb_broker.specs.declared.refusal.RefusedTables.{RefusedTables}
+use Rattle.rb_broker.specs.declared.refusal.SubscribeError.{SubscribeError}
+use Rattle.rb_broker.specs.declared.refusal.SubscribeError.TheVariants as subscribing
+use Rattle.rb_broker.specs.declared.refusal.TakeError.{TakeError}
+use Rattle.rb_broker.specs.declared.refusal.TakeError.TheVariants as taking
+
+-- a subscription of which one more step is counted
+abbrev pub counted : SubscriptionState → SubscriptionState
+counted s = record s { steps = s.steps + 1 }
+
+-- the same under another link, and closed
+abbrev pub relinked : ℕ → SubscriptionState → SubscriptionState
+relinked link s = record (counted s) { link = link }
+
+abbrev pub ended : SubscriptionState → SubscriptionState
+ended s = record (counted s) { closed = true }
+
+-- ---- subscribing
+
+-- the desk subscribes after `start`, and the subscription has its number and link and these tables;
+-- or the desk refuses, or memory runs out
+abbrev pub SubscribeRefused : SubscribeError → ℕ → JournaledPicture → JournaledPicture → Type 0
+SubscribeRefused subscribing.OtherSchema start old new = ⊥
+SubscribeRefused (subscribing.Desk error) start old new =
+    JournalAnswers (Err error) (subscribe old.picture start) (Subscribe start) old new
+
+abbrev pub Subscribes : Result SubscriptionState RefusedTables → tables.TableState → ℕ
+    → JournaledPicture → JournaledPicture → Type 0
+Subscribes (Ok s) base start old new = (s ≡ new_subscription s.sub start s.link base)
+    × JournalAnswers (Ok (s.sub, s.link)) (subscribe old.picture start) (Subscribe start) old new
+Subscribes (Err refused) base start old new = (refused.tables ≡ base)
+    × SubscribeRefused refused.why start old new
+
+-- Tables of another schema are refused first of all, and only they. The tables come back.
+abbrev pub IsSchemaWhy : List Shape → List Shape → SubscribeError → Type 0
+IsSchemaWhy theirs own subscribing.OtherSchema = theirs ≡ own → ⊥
+IsSchemaWhy theirs own (subscribing.Desk error) = theirs ≡ own
+
+abbrev pub RefusesTables : List Shape → tables.TableState → RefusedTables → Type 0
+RefusesTables own base refused =
+    (refused.tables ≡ base) × IsSchemaWhy base.schema own refused.why
+
+-- ---- taking
+
+-- the same as the desk's answer
+abbrev pub desk_answer : Result Delivery TakeError → Result Delivery DeskError
+desk_answer (Ok delivery) = Ok delivery
+desk_answer (Err (taking.Drained told)) = Err (Refused (desk.Drained told.last))
+desk_answer (Err (taking.Desk error)) = Err error
+
+-- `Drained` comes only where the closing cell shows the cursor. The desk's own comes with no other
+-- error.
+abbrev pub IsNotDrained : DeskError → Type 0
+IsNotDrained (Refused (desk.Drained last)) = ⊥
+IsNotDrained (Refused other) = Unit {0}
+IsNotDrained Memory = Unit {0}
+
+abbrev pub IsDrained : Cells → ℕ → TakeError → Type 0
+IsDrained cells cursor (taking.Drained told) = IsLastToken cells told × (told.last ≡ cursor)
+IsDrained cells cursor (taking.Desk error) = IsNotDrained error

@@ -1,0 +1,181 @@
+//! The broker's calls for subscriptions: each is one hold of its lock.
+
+ghost use Rattle.std.specs.Prelude.{◌≡◌, ◌+◌, IfErr, IfOk, OnErr, OnOk};
+ghost use Rattle.std.specs.Arc.{arc_value};
+ghost use Rattle.rb_subscriber.specs.Register.{all_steps};
+ghost use Rattle.rb_subscriber.specs.Subscription.{cursor_of, new_subscription};
+ghost use Rattle.rb_broker.specs.Holding.{IsDrained, RefusesTables, counted, ended, relinked};
+
+use crate::broker::Broker;
+use crate::hall::Hall;
+use crate::refusal::{RefusedTables, SubscribeError, TakeError};
+use cs_apply::Tables;
+use cs_model::CopyIn;
+use rb_desk::{Delivery, DeskError};
+use rb_subscriber::{Auditor, Missing, Subscription};
+use std::alloc::Global;
+use std::sync::Wait;
+
+/// The calls for subscriptions. Each takes the lock once, and is one call of the desk then, which
+/// refuses as the desk does. A refused call changes nothing.
+impl<L: Hall> Broker<L> {
+    /// Makes a subscription to the numbers after `start`, with these tables.
+    ///
+    /// Refuses `OtherSchema` first of all, then `StartAhead` and `TooMany` as the desk does. Memory
+    /// may run out before the desk is asked. The tables come back then.
+    pub fn subscribe<R: Wait>(
+        &self,
+        rt: &R,
+        alloc: Global,
+        tables: Tables,
+        start: u64,
+    ) -> Result<Subscription<L>, RefusedTables>
+        ensures new { IfOk result (λ s. s ≡ new_subscription s.sub start s.link tables) }
+        ensures schema { OnOk result (tables.schema ≡ arc_value self.now.schema) }
+        ensures refused { IfErr result (RefusesTables (arc_value self.now.schema) tables) }
+    {
+        if tables.schema().tables() != self.schema.tables() {
+            let why = SubscribeError::OtherSchema;
+            return Err(RefusedTables { why, tables });
+        }
+        let Ok(base) = tables.copy_in(alloc) else {
+            let why = SubscribeError::Desk(DeskError::Memory);
+            return Err(RefusedTables { why, tables });
+        };
+        let mut locked = self.locked.lock(rt);
+        locked.subscribe(alloc, tables, base, start)
+    }
+
+    /// Delivers a subscription's ready numbers, from the lowest: they are in flight from now on.
+    /// `now` is a tick of the caller's clock.
+    ///
+    /// Refuses as the desk's `take` does at the subscription's cursor. Where that is `Drained`, the
+    /// token shows the last number.
+    pub fn take<R: Wait>(
+        &self,
+        rt: &R,
+        alloc: Global,
+        subscription: &mut Subscription<L>,
+        now: u64,
+    ) -> Result<Delivery, TakeError>
+        ensures ok { OnOk result (subscription.new ≡ counted subscription.old) }
+        ensures err { OnErr result (subscription.new ≡ subscription.old) }
+        ensures of { IfOk result (λ delivery. (delivery.sub ≡ subscription.old.sub)
+            × (delivery.link ≡ subscription.old.link)) }
+        ensures drained { IfErr result (IsDrained L.cells (cursor_of subscription.old)) }
+    {
+        let mut locked = self.locked.lock(rt);
+        locked.take(alloc, subscription, now)
+    }
+
+    /// Delivers the ready numbers that have waited longest, of whichever subscription. `now` is a
+    /// tick of the caller's clock. No subscription counts the step.
+    ///
+    /// Refuses `Empty` if nothing is ready.
+    pub fn take_any<R: Wait>(
+        &self,
+        rt: &R,
+        alloc: Global,
+        now: u64,
+    ) -> Result<Delivery, DeskError> {
+        let mut locked = self.locked.lock(rt);
+        locked.take_any(alloc, now)
+    }
+
+    /// Acknowledges a delivery that the subscription has accepted. Returns its floor: everything up
+    /// to there is acknowledged.
+    ///
+    /// Refuses as the desk's `ack` does.
+    pub fn ack<R: Wait>(
+        &self,
+        rt: &R,
+        alloc: Global,
+        subscription: &mut Subscription<L>,
+        delivery: &Delivery,
+    ) -> Result<u64, DeskError>
+        ensures ok { OnOk result (subscription.new ≡ counted subscription.old) }
+        ensures err { OnErr result (subscription.new ≡ subscription.old) }
+    {
+        let mut locked = self.locked.lock(rt);
+        locked.ack(alloc, subscription, delivery)
+    }
+
+    /// Gives a delivery back: its numbers are ready again.
+    ///
+    /// Refuses as the desk's `nack` does.
+    pub fn nack<R: Wait>(
+        &self,
+        rt: &R,
+        alloc: Global,
+        subscription: &mut Subscription<L>,
+        delivery: &Delivery,
+    ) -> Result<(), DeskError>
+        ensures ok { OnOk result (subscription.new ≡ counted subscription.old) }
+        ensures err { OnErr result (subscription.new ≡ subscription.old) }
+    {
+        let mut locked = self.locked.lock(rt);
+        locked.nack(alloc, subscription, delivery)
+    }
+
+    /// Makes all deliveries ready again that were taken the timeout ago or earlier. Returns how
+    /// many these are. `now` is a tick of the caller's clock.
+    pub fn expire<R: Wait>(&self, rt: &R, alloc: Global, now: u64) -> Result<u64, DeskError> {
+        let mut locked = self.locked.lock(rt);
+        locked.expire(alloc, now)
+    }
+
+    /// Continues a subscription after its cursor, under a new link, which it returns: deliveries
+    /// under the old one are stale.
+    ///
+    /// Refuses as the desk's `reconnect` does.
+    pub fn reconnect<R: Wait>(
+        &self,
+        rt: &R,
+        alloc: Global,
+        subscription: &mut Subscription<L>,
+    ) -> Result<u64, DeskError>
+        ensures ok { IfOk result (λ link. subscription.new ≡ relinked link subscription.old) }
+        ensures err { OnErr result (subscription.new ≡ subscription.old) }
+    {
+        let mut locked = self.locked.lock(rt);
+        locked.reconnect(alloc, subscription)
+    }
+
+    /// Ends a subscription: nothing is delivered to it any more, and it is closed.
+    ///
+    /// Refuses as the desk's `unsubscribe` does.
+    pub fn unsubscribe<R: Wait>(
+        &self,
+        rt: &R,
+        alloc: Global,
+        subscription: &mut Subscription<L>,
+    ) -> Result<(), DeskError>
+        ensures ok { OnOk result (subscription.new ≡ ended subscription.old) }
+        ensures err { OnErr result (subscription.new ≡ subscription.old) }
+    {
+        let mut locked = self.locked.lock(rt);
+        locked.unsubscribe(alloc, subscription)
+    }
+
+    /// Hears these subscriptions, which are gone then. Returns how many takings, acknowledgements,
+    /// givings back, reconnections and unsubscribings the journal has: it is the sum of the steps
+    /// of all subscriptions that the auditor heard. It is no step.
+    ///
+    /// Returns `Missing`, with the subscriptions, if the auditor has not heard all that were made,
+    /// with these.
+    pub fn audit<R: Wait>(
+        &self,
+        rt: &R,
+        auditor: &mut Auditor<L>,
+        subscriptions: Vec<Subscription<L>>,
+    ) -> Result<u64, Missing<L>>
+        ensures sum { IfOk result (λ sum. (auditor.new.sum ≡ sum)
+            × (sum ≡ auditor.old.sum + all_steps subscriptions.items)) }
+        ensures missing { IfErr result (λ missing.
+            missing.subscriptions.items ≡ subscriptions.items) }
+        ensures err { OnErr result (auditor.new ≡ auditor.old) }
+    {
+        let mut locked = self.locked.lock(rt);
+        locked.audit(auditor, subscriptions)
+    }
+}

@@ -1,0 +1,415 @@
+//! Subscribers in threads of their own, beside a publisher and the sequencer: what they accepted,
+//! once they meet.
+
+ghost use Rattle.std.specs.Prelude.{◌≡◌, IfOk};
+
+use crate::given::{insert, publisher, schema};
+use crate::rows::stage;
+use crate::threads::{place, send};
+use cs_apply::Tables;
+use rb_broker::{Broker, Hall, Opened, Publisher, StagedSet, Started, TakeError, WithdrawRefusal};
+use rb_close::{meet, meet_sequencer};
+use rb_desk::{Config, Delivery, DeskError, DeskRefusal};
+use rb_sequence::Sequence;
+use rb_sequencer::Sequencer;
+use rb_subscriber::{AcceptAloneError, AcceptRefusal, Auditor, Missing, Subscription};
+use std::alloc::{AllocError, Global};
+use std::marker::Brand;
+use std::process::Abort;
+use std::sync::{Arc, Wait};
+use std::test::Fail;
+use std::thread;
+use std::thread::Threads;
+
+// after this many turns a loop that waits fails
+const MOST_TURNS: u64 = 10_000_000;
+
+// how often the publisher sends, and which of its entries it withdraws then
+const SENDS: u64 = 98;
+const WITHDRAWN: [u64; 2] = [3, 60];
+const ALL: u64 = 100;
+
+// What a thread does. It gives back what it owns.
+#[derive(Drop)]
+enum Owner<L: Hall> {
+    Publishes(Publisher<L>),
+    Places(Sequencer<L>),
+    Accepts(Subscription<L>, Course),
+}
+
+// A subscriber's random course, which its number fixes. It makes no detour if there are none.
+#[derive(Clone, Copy)]
+struct Course {
+    state: u64,
+    detours: bool,
+}
+
+impl Course {
+    // a number below 16, by a linear congruential generator
+    fn next(&mut self) -> u64 {
+        self.state = self
+            .state
+            .wrapping_mul(6_364_136_223_846_793_005)
+            .wrapping_add(1_442_695_040_888_963_407);
+        self.state >> 60
+    }
+}
+
+/// What is left once all threads have ended.
+#[derive(Drop)]
+struct Ended<L: Hall> {
+    broker: Broker<L>,
+    auditor: Auditor<L>,
+    sequencers: Vec<Sequencer<L>>,
+    subscriptions: Vec<Subscription<L>>,
+}
+
+// batches of 4, a window of 4, a timeout of 10 ticks
+fn opened(alloc: Global) -> Result<Opened, Fail> {
+    let config = Config::new(4, 4, 10, ALL, 8, 1)?;
+    Ok(Opened::new(alloc, config, schema(alloc)?)?)
+}
+
+#[test]
+fn two_subscribers_meet(rt: HostRuntime) -> Result<(), Fail> {
+    let opened = opened(rt.alloc())?;
+    two_meet::<Brand, _>(&rt, rt.alloc(), opened)
+}
+
+#[test]
+fn sixteen_subscribers_lag(rt: HostRuntime) -> Result<(), Fail> {
+    let opened = opened(rt.alloc())?;
+    sixteen_lag::<Brand, _>(&rt, rt.alloc(), opened)
+}
+
+fn two_meet<L: Hall + Send + Sync, R: Threads + Wait + Abort + Sync>(
+    rt: &R,
+    alloc: Global,
+    opened: Opened,
+) -> Result<(), Fail>
+    requires cells { opened.cells ≡ L.cells }
+    requires queue { opened.queue ≡ L.queue }
+    requires ledger { (opened.ledger ≡ L.name) × (L.parts ≡ 1024) × (L.all ≡ 1024) }
+{
+    let mut ended = all_end::<L, R>(rt, alloc, opened, 2, false)?;
+    let (Some(one), Some(other)) = (ended.subscriptions.pop(), ended.subscriptions.pop()) else {
+        return Err(Fail::new("there are two subscribers"));
+    };
+    they_meet(rt, &ended.sequencers, &one, &other)?;
+    let steps = one.steps().wrapping_add(other.steps());
+    let mut alone = Vec::new(alloc);
+    alone.push(one)?;
+    let (broker, auditor) = (&ended.broker, &mut ended.auditor);
+    let Err(Missing { mut subscriptions }) = broker.audit(rt, auditor, alone) else {
+        return Err(Fail::new("one subscription is missing"));
+    };
+    subscriptions.push(other)?;
+    assert_eq!(rt; broker.audit(rt, auditor, subscriptions).ok(), Some(steps));
+    Ok(())
+}
+
+fn they_meet<L: Hall, R: Abort>(
+    rt: &R,
+    sequencers: &[Sequencer<L>],
+    one: &Subscription<L>,
+    other: &Subscription<L>,
+) -> Result<(), Fail> {
+    assert_eq!(rt; meet(one, other), (0, ALL));
+    let Some(sequencer) = sequencers.first() else {
+        return Err(Fail::new("there is a sequencer"));
+    };
+    assert_eq!(rt; meet_sequencer(sequencer, one), (0, ALL));
+    assert_eq!(rt; meet_sequencer(sequencer, other), (0, ALL));
+    Ok(())
+}
+
+fn sixteen_lag<L: Hall + Send + Sync, R: Threads + Wait + Abort + Sync>(
+    rt: &R,
+    alloc: Global,
+    opened: Opened,
+) -> Result<(), Fail>
+    requires cells { opened.cells ≡ L.cells }
+    requires queue { opened.queue ≡ L.queue }
+    requires ledger { (opened.ledger ≡ L.name) × (L.parts ≡ 1024) × (L.all ≡ 1024) }
+{
+    let ended = all_end::<L, R>(rt, alloc, opened, 16, true)?;
+    let sequence = ended.broker.sequence();
+    let singly = applied_singly(alloc, sequence)?;
+    assert_eq!(rt; ended.subscriptions.len(), 16);
+    for subscription in &ended.subscriptions {
+        has_all(rt, alloc, sequence, &singly, subscription)?;
+    }
+    Ok(())
+}
+
+// the tables that all changesets leave, applied one after another
+fn applied_singly(alloc: Global, sequence: &Sequence) -> Result<Tables, Fail> {
+    let mut tables = empty_tables(alloc)?;
+    for number in 1..=ALL {
+        let Some(entry) = sequence.get(number) else {
+            return Err(Fail::new("a cell is empty"));
+        };
+        tables.apply(alloc, entry.body())?;
+    }
+    Ok(tables)
+}
+
+// It has accepted the entries of the sequence, each once, and has these tables.
+fn has_all<L: Hall, R: Abort>(
+    rt: &R,
+    alloc: Global,
+    sequence: &Sequence,
+    singly: &Tables,
+    subscription: &Subscription<L>,
+) -> Result<(), Fail>
+    requires { sequence.now ≡ L.cells }
+{
+    for number in 1..=ALL {
+        let (Some(told), Some(entry)) = (subscription.told(number), sequence.get(number)) else {
+            return Err(Fail::new("an entry is missing"));
+        };
+        let (own, text): (&[u8], &[u8]) = (sequence.get_told(told).text(), entry.text());
+        assert!(rt; told.number() == number && own == text);
+    }
+    assert!(rt; subscription.told(0).is_none() && subscription.told(ALL + 1).is_none());
+    let rows = subscription.tables().rows_in_order(alloc)?;
+    assert!(rt; rows == singly.rows_in_order(alloc)?);
+    Ok(())
+}
+
+// tables of the schema without rows
+fn empty_tables(alloc: Global) -> Result<Tables, Fail> {
+    let schema = Arc::new(alloc, schema(alloc)?)?;
+    let kept = vec![in alloc; true; schema.tables().len()]?;
+    Ok(Tables::new(alloc, schema, kept))
+}
+
+// Runs the publisher, the sequencer and so many subscribers to the end.
+fn all_end<L: Hall + Send + Sync, R: Threads + Wait + Abort + Sync>(
+    rt: &R,
+    alloc: Global,
+    opened: Opened,
+    subscribers: u64,
+    detours: bool,
+) -> Result<Ended<L>, Fail>
+    requires cells { opened.cells ≡ L.cells }
+    requires queue { opened.queue ≡ L.queue }
+    requires ledger { (opened.ledger ≡ L.name) × (L.parts ≡ 1024) × (L.all ≡ 1024) }
+{
+    let Started {
+        broker,
+        sequencer,
+        mut publishers,
+        auditor,
+    } = Broker::<L>::start(opened);
+    let mut owners = Vec::new(alloc);
+    owners.push(Owner::Publishes(publisher(alloc, &mut publishers, &broker)?))?;
+    owners.push(Owner::Places(Sequencer::new(alloc, sequencer)))?;
+    for state in 0..subscribers {
+        let course = Course { state, detours };
+        owners.push(subscriber(rt, alloc, &broker, course)?)?;
+    }
+    let (sequencers, subscriptions) = run(rt, alloc, &broker, owners)?;
+    Ok(Ended {
+        broker,
+        auditor,
+        sequencers,
+        subscriptions,
+    })
+}
+
+fn subscriber<L: Hall, R: Wait>(
+    rt: &R,
+    alloc: Global,
+    broker: &Broker<L>,
+    course: Course,
+) -> Result<Owner<L>, Fail> {
+    match broker.subscribe(rt, alloc, empty_tables(alloc)?, 0) {
+        Ok(subscription) => Ok(Owner::Accepts(subscription, course)),
+        Err(_) => Err(AllocError.into()),
+    }
+}
+
+// Each owner works in a thread of its own. Those that are needed afterwards come back.
+fn run<L: Hall + Send + Sync, R: Threads + Wait + Sync>(
+    rt: &R,
+    alloc: Global,
+    broker: &Broker<L>,
+    owners: Vec<Owner<L>>,
+) -> Result<(Vec<Sequencer<L>>, Vec<Subscription<L>>), Fail> {
+    let done = thread::map_vec(rt, owners, &|owner| work(rt, alloc, broker, owner))?;
+    let mut sequencers = Vec::new(alloc);
+    let mut subscriptions = Vec::new(alloc);
+    for owner in done {
+        match owner {
+            Ok(Owner::Publishes(_)) => {}
+            Ok(Owner::Places(sequencer)) => sequencers.push(sequencer)?,
+            Ok(Owner::Accepts(subscription, _)) => subscriptions.push(subscription)?,
+            Err(why) => return Err(Fail::new(why)),
+        }
+    }
+    Ok((sequencers, subscriptions))
+}
+
+fn work<L: Hall, R: Wait>(
+    rt: &R,
+    alloc: Global,
+    broker: &Broker<L>,
+    owner: Owner<L>,
+) -> Result<Owner<L>, &'static str> {
+    match owner {
+        Owner::Publishes(mut publisher) => {
+            publish(rt, alloc, broker, &mut publisher)?;
+            Ok(Owner::Publishes(publisher))
+        }
+        Owner::Places(mut sequencer) => {
+            place(rt, alloc, broker, &mut sequencer, ALL)?;
+            Ok(Owner::Places(sequencer))
+        }
+        Owner::Accepts(mut subscription, mut course) => {
+            accept_all(rt, alloc, broker, &mut subscription, &mut course)?;
+            Ok(Owner::Accepts(subscription, course))
+        }
+    }
+}
+
+// sends an INSERT of each key, then withdraws some of them
+fn publish<L: Hall, R: Wait>(
+    rt: &R,
+    alloc: Global,
+    broker: &Broker<L>,
+    publisher: &mut Publisher<L>,
+) -> Result<(), &'static str> {
+    for key in 1..=SENDS {
+        let Ok(set) = stage(alloc, publisher, &insert(key)) else {
+            return Err("nothing is staged");
+        };
+        send(rt, broker, publisher, set)?;
+    }
+    for number in WITHDRAWN {
+        let set = withdraw(alloc, broker.sequence(), publisher, number)?;
+        send(rt, broker, publisher, set)?;
+    }
+    Ok(())
+}
+
+// stages the withdrawal of an entry, once it is placed
+fn withdraw<L: Hall>(
+    alloc: Global,
+    sequence: &Sequence,
+    publisher: &mut Publisher<L>,
+    number: u64,
+) -> Result<StagedSet<L>, &'static str>
+    requires { sequence.now ≡ L.cells }
+    ensures set { IfOk result (λ set. set.publisher ≡ publisher.new.number) }
+{
+    for _ in 0..MOST_TURNS {
+        match publisher.withdraw(alloc, sequence, number) {
+            Ok(set) => return Ok(set),
+            Err(WithdrawRefusal::NotPlaced) => thread::yield_now(),
+            Err(_) => return Err("a withdrawal is refused"),
+        }
+    }
+    Err("an entry is never placed")
+}
+
+// accepts the whole sequence, by its course
+fn accept_all<L: Hall, R: Wait>(
+    rt: &R,
+    alloc: Global,
+    broker: &Broker<L>,
+    subscription: &mut Subscription<L>,
+    course: &mut Course,
+) -> Result<(), &'static str> {
+    let mut held = None;
+    for now in 0..MOST_TURNS {
+        if held.is_none() && subscription.cursor() >= ALL {
+            return Ok(());
+        }
+        let detour = if course.detours { course.next() } else { 15 };
+        held = match (detour, held) {
+            (0, _) => reconnect(rt, alloc, broker, subscription)?,
+            (1, held) => expire(rt, alloc, broker, now, held)?,
+            (2, Some(delivery)) => give_back(rt, alloc, broker, subscription, &delivery)?,
+            (_, None) => take(rt, alloc, broker, subscription, now)?,
+            (_, Some(delivery)) => accept(rt, alloc, broker, subscription, delivery)?,
+        };
+    }
+    Err("a subscriber never ends")
+}
+
+// what it held is stale
+fn reconnect<L: Hall, R: Wait>(
+    rt: &R,
+    alloc: Global,
+    broker: &Broker<L>,
+    subscription: &mut Subscription<L>,
+) -> Result<Option<Delivery>, &'static str> {
+    match broker.reconnect(rt, alloc, subscription) {
+        Ok(_) => Ok(None),
+        Err(_) => Err("a reconnection is refused"),
+    }
+}
+
+// all deliveries may expire, also the one that it holds
+fn expire<L: Hall, R: Wait>(
+    rt: &R,
+    alloc: Global,
+    broker: &Broker<L>,
+    now: u64,
+    held: Option<Delivery>,
+) -> Result<Option<Delivery>, &'static str> {
+    match broker.expire(rt, alloc, now) {
+        Ok(_) => Ok(held),
+        Err(_) => Err("nothing can expire"),
+    }
+}
+
+fn give_back<L: Hall, R: Wait>(
+    rt: &R,
+    alloc: Global,
+    broker: &Broker<L>,
+    subscription: &mut Subscription<L>,
+    delivery: &Delivery,
+) -> Result<Option<Delivery>, &'static str> {
+    match broker.nack(rt, alloc, subscription, delivery) {
+        Ok(()) | Err(DeskError::Refused(DeskRefusal::NotInFlight)) => Ok(None),
+        Err(_) => Err("what is given back is refused"),
+    }
+}
+
+fn take<L: Hall, R: Wait>(
+    rt: &R,
+    alloc: Global,
+    broker: &Broker<L>,
+    subscription: &mut Subscription<L>,
+    now: u64,
+) -> Result<Option<Delivery>, &'static str> {
+    match broker.take(rt, alloc, subscription, now) {
+        Ok(delivery) => Ok(Some(delivery)),
+        Err(TakeError::Desk(DeskError::Refused(DeskRefusal::Empty { .. }))) => {
+            thread::yield_now();
+            Ok(None)
+        }
+        Err(_) => Err("nothing is delivered"),
+    }
+}
+
+// Accepts what it holds, unless it has it already, and acknowledges it, unless it has expired.
+fn accept<L: Hall, R: Wait>(
+    rt: &R,
+    alloc: Global,
+    broker: &Broker<L>,
+    subscription: &mut Subscription<L>,
+    delivery: Delivery,
+) -> Result<Option<Delivery>, &'static str> {
+    match subscription.accept_alone(alloc, broker.sequence(), &delivery) {
+        Ok(_) | Err(AcceptAloneError::Refused(AcceptRefusal::Seen)) => {}
+        Err(AcceptAloneError::Unseen { .. }) => return Ok(Some(delivery)),
+        Err(_) => return Err("a delivery is refused"),
+    }
+    match broker.ack(rt, alloc, subscription, &delivery) {
+        Ok(_) | Err(DeskError::Refused(DeskRefusal::NotInFlight)) => Ok(None),
+        Err(_) => Err("an acknowledgement is refused"),
+    }
+}
