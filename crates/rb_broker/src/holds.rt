@@ -15,7 +15,7 @@ use crate::locked::Locked;
 use crate::refusal::{RefusedTables, SubscribeError, TakeError};
 use cs_apply::Tables;
 use rb_desk::laws::{
-    drained_is_at_the_end, only_subscribe_adds, steps_are_counted, takes_are_as_asked,
+    drained_is_at_the_end, only_subscribe_and_close, steps_are_counted, takes_are_as_asked,
 };
 use rb_desk::{Delivery, DeskError, DeskRefusal};
 use rb_subscriber::{Auditor, Missing, Subscription};
@@ -35,7 +35,7 @@ impl<L: Hall> Locked<L> {
         ensures { Subscribes result tables start self.old.desk self.new.desk }
     {
         steps_are_counted();
-        only_subscribe_adds();
+        only_subscribe_and_close();
         match self.desk.subscribe(alloc, start) {
             Ok((sub, link)) => Ok(
                 self.register
@@ -67,7 +67,7 @@ impl<L: Hall> Locked<L> {
         ensures drained { IfErr result (IsDrained L.cells (cursor_of subscription.old)) }
     {
         steps_are_counted();
-        only_subscribe_adds();
+        only_subscribe_and_close();
         takes_are_as_asked();
         drained_is_at_the_end();
         let _few = self.desk.steps();
@@ -101,7 +101,7 @@ impl<L: Hall> Locked<L> {
             self.old.desk self.new.desk }
     {
         steps_are_counted();
-        only_subscribe_adds();
+        only_subscribe_and_close();
         self.desk.take_any(alloc, now)
     }
 
@@ -121,7 +121,7 @@ impl<L: Hall> Locked<L> {
         ensures err { OnErr result (subscription.new ≡ subscription.old) }
     {
         steps_are_counted();
-        only_subscribe_adds();
+        only_subscribe_and_close();
         let _few = self.desk.steps();
         let (sub, cursor) = (subscription.sub(), subscription.cursor());
         let floor = self
@@ -146,7 +146,7 @@ impl<L: Hall> Locked<L> {
         ensures err { OnErr result (subscription.new ≡ subscription.old) }
     {
         steps_are_counted();
-        only_subscribe_adds();
+        only_subscribe_and_close();
         let _few = self.desk.steps();
         let sub = subscription.sub();
         self.desk
@@ -162,7 +162,7 @@ impl<L: Hall> Locked<L> {
             (step.Expire now) self.old.desk self.new.desk }
     {
         steps_are_counted();
-        only_subscribe_adds();
+        only_subscribe_and_close();
         self.desk.expire(alloc, now)
     }
 
@@ -180,7 +180,7 @@ impl<L: Hall> Locked<L> {
         ensures err { OnErr result (subscription.new ≡ subscription.old) }
     {
         steps_are_counted();
-        only_subscribe_adds();
+        only_subscribe_and_close();
         let _few = self.desk.steps();
         let (sub, cursor) = (subscription.sub(), subscription.cursor());
         let link = self.desk.reconnect(alloc, sub, cursor)?;
@@ -203,7 +203,7 @@ impl<L: Hall> Locked<L> {
         ensures err { OnErr result (subscription.new ≡ subscription.old) }
     {
         steps_are_counted();
-        only_subscribe_adds();
+        only_subscribe_and_close();
         let _few = self.desk.steps();
         let (sub, link) = (subscription.sub(), subscription.link());
         self.desk.unsubscribe(alloc, sub, link)?;

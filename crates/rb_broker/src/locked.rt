@@ -3,13 +3,14 @@
 
 ghost use Rattle.std.specs.Prelude.{◌≡◌, ℕ, Err, length};
 ghost use Rattle.rb_desk.specs.Journaled.{counted_steps, is_own};
+ghost use Rattle.std.proofs.Props.{props};
 ghost use Rattle.rb_sequence.specs.Cells.{IsReadyFor};
 ghost use Rattle.rb_broker.specs.Placing.{ClosesBoth, IsWhy, PlacesEntry, RefusesPlace};
 ghost use Rattle.rb_broker.specs.Placing.{ShowsClosing, number_to_place};
 
 use crate::hall::Hall;
 use crate::refusal::{PlaceRefusal, RefusedItem};
-use rb_desk::laws::{only_subscribe_adds, steps_are_counted};
+use rb_desk::laws::{only_subscribe_and_close, steps_are_counted};
 use rb_desk::{Desk, DeskRefusal};
 use rb_sequence::{Entry, Filler, Ready, Told, ToldLast};
 use rb_subscriber::Register;
@@ -26,7 +27,7 @@ pub(crate) struct Locked<L: Hall> {
     pub(crate) closing: Option<ToldLast>,
     ghost fits: { desk.picture.limits.capacity ≡ L.cells.capacity },
     ghost fills: { filler ≡ L.cells },
-    ghost closes: { ShowsClosing L.cells desk.picture.closing closing },
+    ghost closes: { ShowsClosing L.cells desk.picture.closing closing } by { Prim.hlevel props },
     ghost all: { L.all ≡ 1024 },
     ghost total: { register.total ≡ counted_steps is_own desk.steps },
     ghost made: { register.made ≡ length desk.picture.subscriptions },
@@ -39,7 +40,7 @@ impl<L: Hall> Locked<L> {
         ensures { PlacesEntry result L.cells ready.entry self.old.desk self.new.desk }
     {
         steps_are_counted();
-        only_subscribe_adds();
+        only_subscribe_and_close();
         let number = ready.number();
         match self.desk.prepare() {
             Err(why) => Err(refused(self.place_refusal(why), ready.into_entry())),
@@ -85,7 +86,7 @@ impl<L: Hall> Locked<L> {
         ensures { ClosesBoth result L.cells self.old.desk self.new.desk }
     {
         steps_are_counted();
-        only_subscribe_adds();
+        only_subscribe_and_close();
         if let Some(told) = &self.closing {
             return Some(told.again());
         }

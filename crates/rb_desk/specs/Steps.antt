@@ -1,6 +1,6 @@
 -- Calls as steps, lists of them, and the numbers that they issue.
 use Rattle.std.specs.List.{cons_option}
-use Rattle.std.specs.Prelude.{◌≡◌, ◌≤◌, suc, slice_get, ⊤, ℕ, List, [], ◌∷◌, Option, Some, None}
+use Rattle.std.specs.Prelude.{◌≡◌, ◌≤◌, suc, length, slice_get, ⊤, ℕ, List, [], ◌∷◌, Option, Some, None}
 use Rattle.std.specs.Prelude.{Result, Ok, Err}
 use Rattle.rb_desk.specs.declared.refusal.DeskRefusal.{DeskRefusal}
 use Rattle.rb_desk.specs.declared.delivery.Delivery.{Delivery}
@@ -38,6 +38,13 @@ replayed p (step ∷ steps) = replayed (after_step p step) steps
 
 abbrev pub replay : Limits → List Step → Picture
 replay limits steps = replayed (empty_picture limits) steps
+
+-- what only `subscribe` and `close` change stays: how many subscriptions there are, and the closing
+-- number; and so do the limits
+pub record KeepsFrame (old new : Picture) : Type 0 where
+  pub limits : new.limits ≡ old.limits
+  pub closing : new.closing ≡ old.closing
+  pub count : length new.subscriptions ≡ length old.subscriptions
 
 -- the link, and the delivery's number, that a step issues, if it issues one
 abbrev pub second_of : Result (ℕ × ℕ) DeskRefusal → Option ℕ

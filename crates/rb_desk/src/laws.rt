@@ -12,7 +12,7 @@ ghost use Rattle.rb_desk.specs.Picture.{Picture, empty_picture};
 ghost use Rattle.rb_desk.specs.Calls.{subscribe, take, take_any, ack, nack, expire, reconnect};
 ghost use Rattle.rb_desk.specs.Calls.{unsubscribe, prepare, place, close};
 ghost use Rattle.rb_desk.specs.Steps.{after_step, replayed, replay, links_given, numbers_given};
-ghost use Rattle.rb_desk.specs.Steps.{RisesAbove, FloorsRise, subscriptions_made};
+ghost use Rattle.rb_desk.specs.Steps.{RisesAbove, FloorsRise, KeepsFrame};
 ghost use Rattle.rb_desk.specs.Outline.{outline_of};
 ghost use Rattle.rb_desk.specs.Outline as outline;
 ghost use Rattle.rb_desk.specs.Journaled.{JournaledPicture, counted_steps, is_own, journaled};
@@ -93,32 +93,30 @@ pub fn drained_is_at_the_end()
         → (cursor ≡ last) × (old.closing ≡ Some last) }
 {}
 
-/// Only a subscription that isn't refused changes how many there are. Its number is how many there
-/// were before it.
-pub fn only_subscribe_adds()
-    ensures steps { (old : Picture) (step : Step) → length (after_step old step).subscriptions
-        ≡ length old.subscriptions + subscriptions_made old step }
+/// Only `subscribe` changes how many subscriptions there are, and only `close` the closing number.
+/// The number of a new subscription is how many there were before it.
+pub fn only_subscribe_and_close()
     ensures subscribe { (old : Picture) (start s link : ℕ) → (subscribe old start).0 ≡ Ok (s, link)
         → (s ≡ length old.subscriptions) × (length old.subscriptions < 1024)
         × (length (subscribe old start).1.subscriptions ≡ suc (length old.subscriptions)) }
+    ensures subscribe_else { (old : Picture) (start : ℕ)
+        → ((subscribe old start).1.limits ≡ old.limits)
+        × ((subscribe old start).1.closing ≡ old.closing) }
     ensures take { (old : Picture) (s link cursor now : ℕ)
-        → length (take old s link cursor now).1.subscriptions ≡ length old.subscriptions }
-    ensures take_any { (old : Picture) (now : ℕ)
-        → length (take_any old now).1.subscriptions ≡ length old.subscriptions }
+        → KeepsFrame old (take old s link cursor now).1 }
+    ensures take_any { (old : Picture) (now : ℕ) → KeepsFrame old (take_any old now).1 }
     ensures ack { (old : Picture) (s link number cursor : ℕ)
-        → length (ack old s link number cursor).1.subscriptions ≡ length old.subscriptions }
+        → KeepsFrame old (ack old s link number cursor).1 }
     ensures nack { (old : Picture) (s link number : ℕ)
-        → length (nack old s link number).1.subscriptions ≡ length old.subscriptions }
-    ensures expire { (old : Picture) (now : ℕ)
-        → length (expire old now).1.subscriptions ≡ length old.subscriptions }
+        → KeepsFrame old (nack old s link number).1 }
+    ensures expire { (old : Picture) (now : ℕ) → KeepsFrame old (expire old now).1 }
     ensures reconnect { (old : Picture) (s cursor : ℕ)
-        → length (reconnect old s cursor).1.subscriptions ≡ length old.subscriptions }
+        → KeepsFrame old (reconnect old s cursor).1 }
     ensures unsubscribe { (old : Picture) (s link : ℕ)
-        → length (unsubscribe old s link).1.subscriptions ≡ length old.subscriptions }
-    ensures place { (old : Picture) → length (place old).subscriptions
-        ≡ length old.subscriptions }
-    ensures close { (old : Picture) → length (close old).1.subscriptions
-        ≡ length old.subscriptions }
+        → KeepsFrame old (unsubscribe old s link).1 }
+    ensures place { (old : Picture) → KeepsFrame old (place old) }
+    ensures close { (old : Picture) → ((close old).1.limits ≡ old.limits)
+        × (length (close old).1.subscriptions ≡ length old.subscriptions) }
 {}
 
 /// A refused call does not change the picture.

@@ -25,6 +25,7 @@ use Rattle.rb_desk.specs.Calls.{place, grown_subscription, close}
 use Rattle.rb_desk.specs.IsPicture.{AreInRange, IsPicture}
 use Rattle.rb_desk.specs.Steps.{links_given, numbers_given, RisesAbove, FloorsRise, placed_if, after_step, replayed}
 use Rattle.rb_desk.specs.Steps.{replay, second_of, link_of, delivery_number, link_given, number_given, made_of, subscriptions_made}
+use Rattle.rb_desk.specs.Steps.{KeepsFrame}
 use Rattle.rb_desk.proofs.pictures.KeepHand.{keep_hand_take_keeps, keep_hand_take_any_keeps, floors_rise_take}
 use Rattle.rb_desk.proofs.pictures.KeepHand.{floors_rise_take_any}
 use Rattle.rb_desk.proofs.pictures.KeepSettle.{keep_settle_ack_keeps, keep_settle_nack_keeps, floors_rise_ack}
@@ -73,19 +74,21 @@ abbrev pub ReplaysGoesOn : ℕ → ℕ → Option ℕ → Type 0
 ReplaysGoesOn next next' None = next ≤ next'
 ReplaysGoesOn next next' (Some n) = (n ≡ next) × (next < next')
 
--- a call that gave this link and this delivery's number, or none, and made so many subscriptions: the limits stay, the
--- front doesn't fall, no subscription goes, and both go on
-pub record ReplaysRises (old new : Picture) (link number : Option ℕ) (made : ℕ) : Type 0 where
+-- a call that gave this link and this delivery's number, or none, made so many subscriptions and left this closing number:
+-- the limits stay, the front doesn't fall, no subscription goes, and both go on
+pub record ReplaysRises (old new : Picture) (link number : Option ℕ) (made : ℕ) (closed : Option ℕ) : Type 0 where
   pub limits : new.limits ≡ old.limits
+  pub closing : new.closing ≡ closed
   pub front : old.front ≤ new.front
   pub count : length new.subscriptions ≡ length old.subscriptions + made
   pub links : ReplaysGoesOn old.next_link new.next_link link
   pub numbers : ReplaysGoesOn old.next_delivery new.next_delivery number
 
 -- a refused call
-rises_same : (p : Picture) → ReplaysRises p p None None 0
+rises_same : (p : Picture) → ReplaysRises p p None None 0 p.closing
 rises_same p = record {
   limits = refl;
+  closing = refl;
   front = omega arith;
   count = omega arith;
   links = omega arith;
@@ -99,15 +102,16 @@ same_length p s q = omega (arith, length-set p.subscriptions s q)
 
 -- each call
 subscribe_rises : (p : Picture) (start : ℕ)
-    → ReplaysRises p (subscribe p start).1 (second_of (subscribe p start).0) None (made_of (subscribe p start).0)
+    → ReplaysRises p (subscribe p start).1 (second_of (subscribe p start).0) None (made_of (subscribe p start).0) p.closing
 unfolding subscribe
 subscribe_rises p start =
-    either_way (λ (x : Result (ℕ × ℕ) DeskRefusal × Picture). ReplaysRises p x.1 (second_of x.0) None (made_of x.0))
+    either_way (λ (x : Result (ℕ × ℕ) DeskRefusal × Picture). ReplaysRises p x.1 (second_of x.0) None (made_of x.0) p.closing)
     (nat_lt p.front start) _ _ (rises_same p)
-    (either_way (λ (x : Result (ℕ × ℕ) DeskRefusal × Picture). ReplaysRises p x.1 (second_of x.0) None (made_of x.0))
+    (either_way (λ (x : Result (ℕ × ℕ) DeskRefusal × Picture). ReplaysRises p x.1 (second_of x.0) None (made_of x.0) p.closing)
     (nat_le 1024 (length p.subscriptions)) _ _ (rises_same p)
     (record {
       limits = refl;
+      closing = refl;
       front = omega arith;
       count = omega (arith, length-append p.subscriptions (q ∷ []));
       links = (refl, omega arith);
@@ -126,7 +130,7 @@ subscribe_rises p start =
 
 -- a span is handed over
 abbrev TakeRises : Picture → Result Delivery DeskRefusal × Picture → Type 0
-TakeRises p x = ReplaysRises p x.1 None (delivery_number x.0) 0
+TakeRises p x = ReplaysRises p x.1 None (delivery_number x.0) 0 p.closing
 
 taken_rises : (p : Picture) (s cursor now : ℕ) (q : Subscription) (o : Option Span)
     → TakeRises p (delivered_span p s q cursor now o)
@@ -134,6 +138,7 @@ taken_rises p s cursor now q None = rises_same p
 taken_rises p s cursor now q (Some span) =
     record {
       limits = refl;
+      closing = refl;
       front = omega arith;
       count = same_length p s _;
       links = omega arith;
@@ -158,6 +163,7 @@ any_span_rises p s now q None = rises_same p
 any_span_rises p s now q (Some span) =
     record {
       limits = refl;
+      closing = refl;
       front = omega arith;
       count = same_length p s _;
       links = omega arith;
@@ -177,51 +183,54 @@ take_any_rises p now = by (find (may_deliver p) p.ready)
     by None = rises_same p
     by (Some at) = any_of_rises p at.0 at.1 now (slice_get p.subscriptions at.0)
 
-ack_rises : (p : Picture) (s link delivery cursor : ℕ) → ReplaysRises p (ack p s link delivery cursor).1 None None 0
+ack_rises : (p : Picture) (s link delivery cursor : ℕ) → ReplaysRises p (ack p s link delivery cursor).1 None None 0 p.closing
 unfolding ack
 ack_rises p s link delivery cursor = by (slice_get p.subscriptions s)
   where
-    of_span : (q : Subscription) (o : Option Span) → ReplaysRises p (acked_span p s q cursor o).1 None None 0
+    of_span : (q : Subscription) (o : Option Span) → ReplaysRises p (acked_span p s q cursor o).1 None None 0 p.closing
     of_span q None = rises_same p
-    of_span q (Some span) = either_way (λ (x : Result ℕ DeskRefusal × Picture). ReplaysRises p x.1 None None 0)
+    of_span q (Some span) = either_way (λ (x : Result ℕ DeskRefusal × Picture). ReplaysRises p x.1 None None 0 p.closing)
         (nat_lt cursor span.last) _ _ (rises_same p)
         (record {
           limits = refl;
+          closing = refl;
           front = omega arith;
           count = same_length p s _;
           links = omega arith;
           numbers = omega arith;
         })
 
-    by : (o : Option Subscription) → ReplaysRises p (acked_by p s link delivery cursor o).1 None None 0
+    by : (o : Option Subscription) → ReplaysRises p (acked_by p s link delivery cursor o).1 None None 0 p.closing
     by None = rises_same p
-    by (Some q) = either_way (λ (x : Result ℕ DeskRefusal × Picture). ReplaysRises p x.1 None None 0)
+    by (Some q) = either_way (λ (x : Result ℕ DeskRefusal × Picture). ReplaysRises p x.1 None None 0 p.closing)
         (not (link == q.link)) _ _ (rises_same p) (of_span q (out_as delivery q.spans))
 
-nack_rises : (p : Picture) (s link delivery : ℕ) → ReplaysRises p (nack p s link delivery).1 None None 0
+nack_rises : (p : Picture) (s link delivery : ℕ) → ReplaysRises p (nack p s link delivery).1 None None 0 p.closing
 unfolding nack
 nack_rises p s link delivery = by (slice_get p.subscriptions s)
   where
-    of_span : (q : Subscription) (o : Option Span) → ReplaysRises p (nacked_span p s q o).1 None None 0
+    of_span : (q : Subscription) (o : Option Span) → ReplaysRises p (nacked_span p s q o).1 None None 0 p.closing
     of_span q None = rises_same p
     of_span q (Some span) = record {
       limits = refl;
+      closing = refl;
       front = omega arith;
       count = same_length p s _;
       links = omega arith;
       numbers = omega arith;
     }
 
-    by : (o : Option Subscription) → ReplaysRises p (nacked_by p s link delivery o).1 None None 0
+    by : (o : Option Subscription) → ReplaysRises p (nacked_by p s link delivery o).1 None None 0 p.closing
     by None = rises_same p
-    by (Some q) = either_way (λ (x : Result Unit DeskRefusal × Picture). ReplaysRises p x.1 None None 0)
+    by (Some q) = either_way (λ (x : Result Unit DeskRefusal × Picture). ReplaysRises p x.1 None None 0 p.closing)
         (not (link == q.link)) _ _ (rises_same p) (of_span q (out_as delivery q.spans))
 
-expire_rises : (p : Picture) (now : ℕ) → ReplaysRises p (expire p now).1 None None 0
+expire_rises : (p : Picture) (now : ℕ) → ReplaysRises p (expire p now).1 None None 0 p.closing
 unfolding expire
 expire_rises p now =
     record {
       limits = refl;
+      closing = refl;
       front = omega arith;
       count = omega (arith, length-map p.subscriptions (goes_back p.limits.timeout (max p.clock now)));
       links =
@@ -230,50 +239,53 @@ expire_rises p now =
     }
 
 reconnect_rises : (p : Picture) (s cursor : ℕ)
-    → ReplaysRises p (reconnect p s cursor).1 (link_of (reconnect p s cursor).0) None 0
+    → ReplaysRises p (reconnect p s cursor).1 (link_of (reconnect p s cursor).0) None 0 p.closing
 unfolding reconnect
 reconnect_rises p s cursor = by (slice_get p.subscriptions s)
   where
     by : (o : Option Subscription)
-        → ReplaysRises p (reconnected_by p s cursor o).1 (link_of (reconnected_by p s cursor o).0) None 0
+        → ReplaysRises p (reconnected_by p s cursor o).1 (link_of (reconnected_by p s cursor o).0) None 0 p.closing
     by None = rises_same p
     by (Some q) =
-        either_way (λ (x : Result ℕ DeskRefusal × Picture). ReplaysRises p x.1 (link_of x.0) None 0) q.closed _ _
+        either_way (λ (x : Result ℕ DeskRefusal × Picture). ReplaysRises p x.1 (link_of x.0) None 0 p.closing) q.closed _ _
         (rises_same p)
-        (either_way (λ (x : Result ℕ DeskRefusal × Picture). ReplaysRises p x.1 (link_of x.0) None 0)
+        (either_way (λ (x : Result ℕ DeskRefusal × Picture). ReplaysRises p x.1 (link_of x.0) None 0 p.closing)
         (nat_lt cursor q.floor || nat_lt q.offered cursor) _ _ (rises_same p)
         (record {
           limits = refl;
+          closing = refl;
           front = omega arith;
           count = same_length p s _;
           links = (refl, omega arith);
           numbers = omega arith;
         }))
 
-unsubscribe_rises : (p : Picture) (s link : ℕ) → ReplaysRises p (unsubscribe p s link).1 None None 0
+unsubscribe_rises : (p : Picture) (s link : ℕ) → ReplaysRises p (unsubscribe p s link).1 None None 0 p.closing
 unfolding unsubscribe
 unsubscribe_rises p s link = by (slice_get p.subscriptions s)
   where
-    by : (o : Option Subscription) → ReplaysRises p (unsubscribed_by p s link o).1 None None 0
+    by : (o : Option Subscription) → ReplaysRises p (unsubscribed_by p s link o).1 None None 0 p.closing
     by None = rises_same p
     by (Some q) =
-        either_way (λ (x : Result Unit DeskRefusal × Picture). ReplaysRises p x.1 None None 0) (not (link == q.link)) _ _
+        either_way (λ (x : Result Unit DeskRefusal × Picture). ReplaysRises p x.1 None None 0 p.closing) (not (link == q.link)) _ _
         (rises_same p)
-        (either_way (λ (x : Result Unit DeskRefusal × Picture). ReplaysRises p x.1 None None 0) q.closed _ _
+        (either_way (λ (x : Result Unit DeskRefusal × Picture). ReplaysRises p x.1 None None 0 p.closing) q.closed _ _
         (rises_same p)
         (record {
           limits = refl;
+          closing = refl;
           front = omega arith;
           count = same_length p s _;
           links = omega arith;
           numbers = omega arith;
         }))
 
-place_rises : (p : Picture) → ReplaysRises p (place p) None None 0
+place_rises : (p : Picture) → ReplaysRises p (place p) None None 0 p.closing
 unfolding place
 place_rises p =
     record {
       limits = refl;
+      closing = refl;
       front = omega arith;
       count = omega (arith, length-map p.subscriptions (grown_subscription p.limits.batch (suc p.front)));
       links =
@@ -281,23 +293,38 @@ place_rises p =
       numbers = omega arith;
     }
 
-close_rises : (p : Picture) → ReplaysRises p (close p).1 None None 0
+close_rises : (p : Picture) → ReplaysRises p (close p).1 None None 0 (close p).1.closing
 unfolding close
 close_rises p = record {
   limits = refl;
+  closing = refl;
   front = omega arith;
   count = omega arith;
   links = omega arith;
   numbers = omega arith;
 }
 
-placed_if_rises : (p : Picture) (r : Result ℕ DeskRefusal) → ReplaysRises p (placed_if p r) None None 0
+placed_if_rises : (p : Picture) (r : Result ℕ DeskRefusal) → ReplaysRises p (placed_if p r) None None 0 p.closing
 placed_if_rises p (Ok n) = place_rises p
 placed_if_rises p (Err why) = rises_same p
+
+-- the closing number after a step
+abbrev pub closing_after : Picture → Step → Option ℕ
+closing_after p (Subscribe start) = p.closing
+closing_after p (Take s link cursor now) = p.closing
+closing_after p (TakeAny now) = p.closing
+closing_after p (Ack s link delivery cursor) = p.closing
+closing_after p (Nack s link delivery) = p.closing
+closing_after p (Expire now) = p.closing
+closing_after p (Reconnect s cursor) = p.closing
+closing_after p (Unsubscribe s link) = p.closing
+closing_after p Place = p.closing
+closing_after p Close = (close p).1.closing
 
 -- each step
 pub after_rises : (p : Picture) (step : Step)
     → ReplaysRises p (after_step p step) (link_given p step) (number_given p step) (subscriptions_made p step)
+    (closing_after p step)
 unfolding after_step
 after_rises p (Subscribe start) = subscribe_rises p start
 after_rises p (Take s link cursor now) = take_rises p s link cursor now
@@ -331,9 +358,45 @@ subscriptions_counted p step = (after_rises p step).count
 pub subscriptions_stay : (p : Picture) (step : Step) → length p.subscriptions ≤ length (after_step p step).subscriptions
 subscriptions_stay p step = omega (arith, (after_rises p step).count)
 
--- a placement adds none
-pub place_counted : (p : Picture) → length (place p).subscriptions ≡ length p.subscriptions
-place_counted p = omega (arith, (place_rises p).count)
+-- limits and the closing number stay, and so do the subscriptions where none is made
+frame : (p new : Picture) (link number : Option ℕ) → ReplaysRises p new link number 0 p.closing → KeepsFrame p new
+frame p new link number r = record {
+  limits = r.limits;
+  closing = r.closing;
+  count = omega (arith, r.count);
+}
+
+pub subscribe_frame : (p : Picture) (start : ℕ) → ((subscribe p start).1.limits ≡ p.limits)
+    × ((subscribe p start).1.closing ≡ p.closing)
+subscribe_frame p start = ((subscribe_rises p start).limits, (subscribe_rises p start).closing)
+
+pub take_frame : (p : Picture) (s link cursor now : ℕ) → KeepsFrame p (take p s link cursor now).1
+take_frame p s link cursor now = frame p _ _ _ (take_rises p s link cursor now)
+
+pub take_any_frame : (p : Picture) (now : ℕ) → KeepsFrame p (take_any p now).1
+take_any_frame p now = frame p _ _ _ (take_any_rises p now)
+
+pub ack_frame : (p : Picture) (s link delivery cursor : ℕ) → KeepsFrame p (ack p s link delivery cursor).1
+ack_frame p s link delivery cursor = frame p _ _ _ (ack_rises p s link delivery cursor)
+
+pub nack_frame : (p : Picture) (s link delivery : ℕ) → KeepsFrame p (nack p s link delivery).1
+nack_frame p s link delivery = frame p _ _ _ (nack_rises p s link delivery)
+
+pub expire_frame : (p : Picture) (now : ℕ) → KeepsFrame p (expire p now).1
+expire_frame p now = frame p _ _ _ (expire_rises p now)
+
+pub reconnect_frame : (p : Picture) (s cursor : ℕ) → KeepsFrame p (reconnect p s cursor).1
+reconnect_frame p s cursor = frame p _ _ _ (reconnect_rises p s cursor)
+
+pub unsubscribe_frame : (p : Picture) (s link : ℕ) → KeepsFrame p (unsubscribe p s link).1
+unsubscribe_frame p s link = frame p _ _ _ (unsubscribe_rises p s link)
+
+pub place_frame : (p : Picture) → KeepsFrame p (place p)
+place_frame p = frame p _ _ _ (place_rises p)
+
+pub close_frame : (p : Picture) → ((close p).1.limits ≡ p.limits)
+    × (length (close p).1.subscriptions ≡ length p.subscriptions)
+close_frame p = ((close_rises p).limits, omega (arith, (close_rises p).count))
 
 -- one that is made is the last, and there is room for it
 pub subscribe_fits : (p : Picture) (start s link : ℕ) → (subscribe p start).0 ≡ Ok (s, link)
