@@ -1,1 +1,3 @@
+pub mod HoldLaws
 pub mod PlaceLaws
+pub mod SchemaLaws

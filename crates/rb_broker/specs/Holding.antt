@@ -1,12 +1,12 @@
 -- What one hold of the broker's lock does for a subscription.
-use Rattle.std.specs.Prelude.{◌≡◌, ◌+◌, ℕ, true, List, Result, Ok, Err}
+use Rattle.std.specs.Prelude.{◌≡◌, ◌+◌, ℕ, true, List, Option, Some, Result, Ok, Err}
 use Rattle.cs_apply.specs.State as tables
 use Rattle.cs_model.specs.declared.shape.Shape.{Shape}
 use Rattle.rb_desk.specs.Calls.{subscribe}
 use Rattle.rb_desk.specs.Journaled.{JournalAnswers, JournaledPicture}
 use Rattle.rb_desk.specs.declared.delivery.Delivery.{Delivery}
 use Rattle.rb_desk.specs.declared.refusal.DeskError.{DeskError}
-use Rattle.rb_desk.specs.declared.refusal.DeskError.TheVariants.{Refused, Memory}
+use Rattle.rb_desk.specs.declared.refusal.DeskError.TheVariants.{Refused}
 use Rattle.rb_desk.specs.declared.refusal.DeskRefusal.TheVariants as desk
 use Rattle.rb_desk.specs.declared.step.Step.TheVariants.{Subscribe}
 use Rattle.rb_sequence.specs.Cells.{Cells, IsLastToken}
@@ -55,19 +55,23 @@ RefusesTables own base refused =
 
 -- ---- taking
 
--- the same as the desk's answer
+-- what `take` returns, as the desk returns it
+abbrev pub desk_error : TakeError → DeskError
+desk_error (taking.Drained told) = Refused (desk.Drained told.last)
+desk_error (taking.Desk error) = error
+
 abbrev pub desk_answer : Result Delivery TakeError → Result Delivery DeskError
 desk_answer (Ok delivery) = Ok delivery
-desk_answer (Err (taking.Drained told)) = Err (Refused (desk.Drained told.last))
-desk_answer (Err (taking.Desk error)) = Err error
+desk_answer (Err error) = Err (desk_error error)
 
--- `Drained` comes only where the closing cell shows the cursor. The desk's own comes with no other
--- error.
-abbrev pub IsNotDrained : DeskError → Type 0
-IsNotDrained (Refused (desk.Drained last)) = ⊥
-IsNotDrained (Refused other) = Unit {0}
-IsNotDrained Memory = Unit {0}
+-- where the desk says `Drained`, the cursor is the closing number
+abbrev pub IsAtEnd : ℕ → Option ℕ → DeskError → Type 0
+IsAtEnd cursor closing error = (last : ℕ) → error ≡ Refused (desk.Drained last)
+    → (cursor ≡ last) × (closing ≡ Some last)
 
+-- `Drained` comes with a token of the closing cell that shows the cursor; the desk's own never comes
+-- without
 abbrev pub IsDrained : Cells → ℕ → TakeError → Type 0
 IsDrained cells cursor (taking.Drained told) = IsLastToken cells told × (told.last ≡ cursor)
-IsDrained cells cursor (taking.Desk error) = IsNotDrained error
+IsDrained cells cursor (taking.Desk error) =
+    (last : ℕ) → error ≡ Refused (desk.Drained last) → ⊥

@@ -2,6 +2,7 @@
 
 ghost use Rattle.std.specs.Prelude.{◌≡◌, ◌+◌, IfErr, IfOk, OnErr, OnOk};
 ghost use Rattle.std.specs.Arc.{arc_value};
+ghost use Rattle.std.specs.Bool.{Decides};
 ghost use Rattle.rb_subscriber.specs.Register.{all_steps};
 ghost use Rattle.rb_subscriber.specs.Subscription.{cursor_of, new_subscription};
 ghost use Rattle.rb_broker.specs.Holding.{IsDrained, RefusesTables, counted, ended, relinked};
@@ -34,7 +35,7 @@ impl<L: Hall> Broker<L> {
         ensures schema { OnOk result (tables.schema ≡ arc_value self.now.schema) }
         ensures refused { IfErr result (RefusesTables (arc_value self.now.schema) tables) }
     {
-        if tables.schema().tables() != self.schema.tables() {
+        if !self.has_schema(&tables) {
             let why = SubscribeError::OtherSchema;
             return Err(RefusedTables { why, tables });
         }
@@ -44,6 +45,13 @@ impl<L: Hall> Broker<L> {
         };
         let mut locked = self.locked.lock(rt);
         locked.subscribe(alloc, tables, base, start)
+    }
+
+    // whether these tables are of the broker's schema
+    fn has_schema(&self, tables: &Tables) -> bool
+        ensures { Decides result (tables.now.schema ≡ arc_value self.now.schema) }
+    {
+        tables.schema().tables() == self.schema.tables()
     }
 
     /// Delivers a subscription's ready numbers, from the lowest: they are in flight from now on.

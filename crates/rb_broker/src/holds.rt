@@ -7,8 +7,8 @@ ghost use Rattle.rb_desk.specs.Journaled.{JournalAnswers, counted_steps, is_own}
 ghost use Rattle.rb_desk.specs.declared.step.Step.TheVariants as step;
 ghost use Rattle.rb_subscriber.specs.Register.{all_steps};
 ghost use Rattle.rb_subscriber.specs.Subscription.{cursor_of};
-ghost use Rattle.rb_broker.specs.Holding.{IsDrained, Subscribes, counted, desk_answer, ended};
-ghost use Rattle.rb_broker.specs.Holding.{relinked};
+ghost use Rattle.rb_broker.specs.Holding.{IsAtEnd, IsDrained, Subscribes, counted, desk_answer};
+ghost use Rattle.rb_broker.specs.Holding.{desk_error, ended, relinked};
 
 use crate::hall::Hall;
 use crate::locked::Locked;
@@ -81,12 +81,16 @@ impl<L: Hall> Locked<L> {
                 self.register.count(subscription);
                 Ok(delivery)
             }
-            Err(error) => Err(self.take_error(error)),
+            Err(error) => Err(self.take_error(error, cursor)),
         }
     }
 
     // why nothing is delivered, with the token of the closing cell
-    fn take_error(&self, error: DeskError) -> TakeError {
+    fn take_error(&self, error: DeskError, _cursor: u64) -> TakeError
+        requires { IsAtEnd _cursor self.now.desk.picture.closing error }
+        ensures same { desk_error result ≡ error }
+        ensures drained { IsDrained L.cells _cursor result }
+    {
         match (error, &self.closing) {
             (DeskError::Refused(DeskRefusal::Drained { .. }), Some(told)) => {
                 TakeError::Drained(told.again())

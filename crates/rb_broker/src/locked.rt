@@ -1,7 +1,8 @@
 //! What the broker's lock holds: the desk, what sets the cells of the sequence, and the register of
 //! the subscriptions.
 
-ghost use Rattle.std.specs.Prelude.{◌≡◌, ℕ, Err, length};
+ghost use Rattle.std.specs.Prelude.{◌≡◌, ℕ, Err, IsSome, length};
+ghost use Rattle.rb_desk.specs.declared.refusal.DeskRefusal.TheVariants as refusal;
 ghost use Rattle.rb_desk.specs.Journaled.{counted_steps, is_own};
 ghost use Rattle.std.proofs.Props.{props};
 ghost use Rattle.rb_sequence.specs.Cells.{IsReadyFor};
@@ -73,10 +74,21 @@ impl<L: Hall> Locked<L> {
         ensures { (number : ℕ) → IsWhy L.cells self.now.desk.picture.closing (Err why) number
             result }
     {
-        match (why, &self.closing) {
-            (DeskRefusal::JournalFull, _) => PlaceRefusal::JournalFull,
-            (DeskRefusal::Closed, Some(told)) => PlaceRefusal::Closed(told.again()),
+        match why {
+            DeskRefusal::JournalFull => PlaceRefusal::JournalFull,
+            DeskRefusal::Closed => self.closed(),
             _ => PlaceRefusal::SequenceFull,
+        }
+    }
+
+    // the refusal where the sequence is closed, with the token of the closing cell
+    fn closed(&self) -> PlaceRefusal
+        requires { IsSome self.now.desk.picture.closing }
+        ensures { IsWhy L.cells self.now.desk.picture.closing (Err refusal.Closed) 0 result }
+    {
+        match &self.closing {
+            Some(told) => PlaceRefusal::Closed(told.again()),
+            None => unreachable!(),
         }
     }
 
@@ -90,7 +102,9 @@ impl<L: Hall> Locked<L> {
         if let Some(told) = &self.closing {
             return Some(told.again());
         }
-        let told = self.filler.fill_closing(self.desk.front()).ok()?;
+        let Ok(told) = self.filler.fill_closing(self.desk.front()) else {
+            return None;
+        };
         self.desk.close();
         self.closing = Some(told.again());
         Some(told)

@@ -1,18 +1,25 @@
-use Rattle.std.proofs.Common.{◌∙◌, ap, subst, sym}
-use Rattle.rb_desk.specs.Limits.{Limits}
-use Rattle.rb_desk.specs.Journaled.{JournaledPicture}
+use Rattle.std.proofs.Common.{◌∙◌, subst, sym, arith}
 use Rattle.rb_sequence.specs.Cells.{Cells, IsReadyFor}
-use Rattle.rb_broker.proofs.PlaceLaws.{place_keeps_limits}
+use Rattle.rb_broker.proofs.HoldLaws.{one_step, shows_on, capacity_on}
 use Rattle.rb_broker.proofs.locked.Locked.place.Goals as goal
 
 -- the entry is ready for a cell of the filler
 pub fill-requires : goal.fill-requires
 fill-requires g c = subst (λ (s : Cells). IsReadyFor s c.args.ready) (sym c.args.self.now.fills) c.requires
 
--- the capacity stays, and the filler is of the same cells
+-- what the lock says of the desk goes on, and the filler is of the same cells
 pub invariant_of-self : goal.invariant_of-self
-invariant_of-self g c = record {
-  fits = ap (λ (d : JournaledPicture). d.picture.limits.capacity) c.place.ensures.new
-      ∙ ap (λ (l : Limits). l.capacity) (place_keeps_limits c.args.self.now.desk.picture) ∙ c.args.self.now.fits;
-  fills = c.fill.ensures.same ∙ c.args.self.now.fills;
-}
+invariant_of-self g c =
+    let cells = g.L.StepLedger.cells in
+    let old = c.args.self.now in
+    let new = c.place.new.self in
+    let keeps = one_step old.desk new _ _ (λ desk x p. c.steps_are_counted.ensures.own desk x p)
+    (c.only_subscribe_and_close.ensures.place old.desk.picture) c.place.ensures.new in
+    record {
+      fits = capacity_on cells old.desk new _ keeps old.fits;
+      fills = c.fill.ensures.same ∙ old.fills;
+      closes = shows_on cells old.desk new _ old.closing keeps old.closes;
+      all = old.all;
+      total = omega (arith, old.total, keeps.own);
+      made = old.made ∙ sym keeps.frame.count;
+    }

@@ -1,0 +1,117 @@
+-- What one call of the desk leaves of what the lock says of the desk: its capacity, its closing number, how many
+-- subscriptions it has, and how many steps of their own its journal has.
+use Rattle.std.proofs.Common.{◌≡◌, ◌+◌, ◌++◌, ℕ, Bool, true, false, cond, length, Option, Some, None, Result, Ok, Err}
+use Rattle.std.proofs.Common.{refl, sym, ap, ◌∙◌, subst, arith, option_map, IfSome}
+use Rattle.std.proofs.lemmas.List.{append-nil}
+use Rattle.rb_desk.specs.declared.refusal.DeskError.{DeskError}
+use Rattle.rb_desk.specs.declared.refusal.DeskError.TheVariants.{Refused, Memory}
+use Rattle.rb_desk.specs.declared.refusal.DeskRefusal.{DeskRefusal}
+use Rattle.rb_desk.specs.declared.step.Step.{Step}
+use Rattle.rb_desk.specs.declared.refusal.DeskRefusal.TheVariants.{Drained, JournalFull}
+use Rattle.rb_desk.specs.declared.step.Step.TheVariants.{Close}
+use Rattle.rb_desk.specs.Calls.{take}
+use Rattle.rb_desk.specs.Journaled.{JournalAnswers, JournaledPicture, answer_after, closing_steps, counted_steps, is_full}
+use Rattle.rb_desk.specs.Journaled.{is_own, journaled}
+use Rattle.rb_desk.specs.Limits.{Limits}
+use Rattle.rb_desk.specs.Picture.{Picture}
+use Rattle.rb_desk.specs.Steps.{KeepsFrame}
+use Rattle.rb_sequence.specs.Cells.{Cells, IsLastToken, LastToken}
+use Rattle.rb_broker.specs.Holding.{IsAtEnd}
+use Rattle.rb_broker.specs.Placing.{ShowsClosing}
+
+-- what stays of a desk, and how many own steps are added
+pub record Keeps (old new : JournaledPicture) (more : ℕ) : Type 0 where
+  pub frame : KeepsFrame old.picture new.picture
+  pub own : counted_steps is_own new.steps ≡ counted_steps is_own old.steps + more
+
+-- the law that counts the steps of a kind
+abbrev pub CountsOwn : Type 0
+CountsOwn = (old : JournaledPicture) (step : Step) (picture : Picture)
+    → counted_steps is_own (journaled old step picture).steps
+    ≡ counted_steps is_own old.steps + cond (is_own step) 1 0
+
+abbrev pub more_of : {A : Type 0} → Result A DeskError → Step → ℕ
+more_of (Ok answer) step = cond (is_own step) 1 0
+more_of (Err error) step = 0
+
+frame_same : (p : Picture) → KeepsFrame p p
+frame_same p = record { limits = refl; closing = refl; count = refl }
+
+same_desk : (old new : JournaledPicture) → new ≡ old → Keeps old new 0
+same_desk old new is = subst (λ (d : JournaledPicture). Keeps old d 0) (sym is)
+    (record { frame = frame_same old.picture; own = omega arith })
+
+-- one step more
+pub one_step : (old new : JournaledPicture) (step : Step) (next : Picture) → CountsOwn → KeepsFrame old.picture next
+    → new ≡ journaled old step next → Keeps old new (cond (is_own step) 1 0)
+one_step old new step next counts keeps is =
+    subst (λ (d : JournaledPicture). Keeps old d (cond (is_own step) 1 0)) (sym is)
+    (record { frame = keeps; own = counts old step next })
+
+-- any call that neither subscribes nor closes
+pub kept : {A : Type 0} (result : Result A DeskError) (call : Result A DeskRefusal × Picture) (step : Step)
+    (old new : JournaledPicture) → CountsOwn → KeepsFrame old.picture call.1 → JournalAnswers result call step old new
+    → Keeps old new (more_of result step)
+kept (Ok answer) call step old new counts keeps answers = one_step old new step call.1 counts keeps answers.1
+kept (Err (Refused why)) call step old new counts keeps answers = same_desk old new answers.1
+kept (Err Memory) call step old new counts keeps answers = same_desk old new answers.1
+
+-- the token of the closing cell goes on showing the closing number
+pub shows_on : (cells : Cells) (old new : JournaledPicture) (more : ℕ) (closing : Option LastToken) → Keeps old new more
+    → ShowsClosing cells old.picture.closing closing → ShowsClosing cells new.picture.closing closing
+shows_on cells old new more closing keeps shows = (shows.0 ∙ sym keeps.frame.closing, shows.1)
+
+pub capacity_on : (cells : Cells) (old new : JournaledPicture) (more : ℕ) → Keeps old new more
+    → old.picture.limits.capacity ≡ cells.capacity → new.picture.limits.capacity ≡ cells.capacity
+capacity_on cells old new more keeps fits = ap (λ (l : Limits). l.capacity) keeps.frame.limits ∙ fits
+
+-- a call that isn't a subscription's own adds none
+pub none_more : {A : Type 0} (result : Result A DeskError) (step : Step) → is_own step ≡ false → more_of result step ≡ 0
+none_more (Ok answer) step not_own = ap (λ b. cond b 1 0) not_own
+none_more (Err error) step not_own = refl
+
+-- an Ok that comes after so many steps is the call's own
+pub answered : {A : Type 0} (steps : ℕ) (r : Result A DeskRefusal) (a : A) → answer_after steps r ≡ Ok a → r ≡ Ok a
+answered {A} steps r a e = by (is_full steps) e
+  where
+    by : (b : Bool) → cond b (Err JournalFull) r ≡ Ok a → r ≡ Ok a
+    by true e = absurd (let no : Err JournalFull ≡ Ok a = e in cc)
+    by false e = e
+
+-- so is a refusal other than a full journal
+pub refused_so : {A : Type 0} (steps : ℕ) (r : Result A DeskRefusal) (last : ℕ)
+    → answer_after steps r ≡ Err (Drained last) → r ≡ Err (Drained last)
+refused_so {A} steps r last e = by (is_full steps) e
+  where
+    by : (b : Bool) → cond b (Err JournalFull) r ≡ Err (Drained last) → r ≡ Err (Drained last)
+    by true e = absurd (let no : Err JournalFull ≡ Err (Drained last) = e in cc)
+    by false e = e
+
+-- closing the sequence is no own step
+pub closing_counts : (old : JournaledPicture) (o : Option ℕ) → CountsOwn
+    → counted_steps is_own (old.steps ++ closing_steps o) ≡ counted_steps is_own old.steps
+closing_counts old None counts = omega (arith, counts old Close old.picture)
+closing_counts old (Some last) counts = ap (counted_steps is_own) (append-nil old.steps)
+
+-- a refused `take`
+pub at_end : (s link cursor now : ℕ) (error : DeskError) (old new : JournaledPicture) (step : Step)
+    → ((last : ℕ) → (take old.picture s link cursor now).0 ≡ Err (Drained last) → (cursor ≡ last)
+    × (old.picture.closing ≡ Some last))
+    → JournalAnswers (Err error) (take old.picture s link cursor now) step old new
+    → IsAtEnd cursor new.picture.closing error
+at_end s link cursor now error old new step law answers last is =
+    let so = subst (λ (e : DeskError). JournalAnswers (Err e) (take old.picture s link cursor now) step old new) is answers in
+    let both = law last (refused_so (length old.steps) (take old.picture s link cursor now).0 last so.0) in
+    (both.0, ap (λ (d : JournaledPicture). d.picture.closing) so.1 ∙ both.1)
+
+-- what is under no token isn't closed
+pub none_shown : (cells : Cells) (closing : Option ℕ) (o : Option LastToken) → o ≡ None → ShowsClosing cells closing o
+    → None ≡ closing
+none_shown cells closing o none shows = ap (option_map (λ (t : LastToken). t.last)) (sym none) ∙ shows.0
+
+pub some_shown : (cells : Cells) (closing : Option ℕ) (o : Option LastToken) (t : LastToken) → o ≡ Some t
+    → ShowsClosing cells closing o → (Some t.last ≡ closing) × IsLastToken cells t
+some_shown cells closing o t some shows = (
+  ap (option_map (λ (x : LastToken). x.last)) (sym some) ∙ shows.0,
+  subst (λ (x : Option LastToken). IfSome x (λ y. IsLastToken cells y)) some shows.1,
+)
