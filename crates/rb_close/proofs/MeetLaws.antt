@@ -1,6 +1,6 @@
 -- The token of an accepted or placed number is there, and is of its cell; a part of what is placed, entry by entry.
 use Rattle.std.proofs.Common.{◌≡◌, ℕ, zero, suc, ◌+◌, ◌-◌, ◌<◌, ◌≤◌, List, [], ◌∷◌, length, Option, Some, None, cond, refl}
-use Rattle.std.proofs.Common.{sym, ap, ◌∙◌, subst, arith, drop, slice_get, nat_lt, take}
+use Rattle.std.proofs.Common.{sym, ap, ◌∙◌, subst, arith, drop, slice_get, take}
 use Rattle.std.proofs.lemmas.Bool.{lt-ltb}
 use Rattle.rb_sequence.specs.Cells.{AreInCells, Cells, CellToken, IsTokenOf}
 use Rattle.rb_sequencer.specs.Turns.{token_of}
@@ -80,7 +80,7 @@ shows_part placed (t ∷ told) start each =
     let mine : t ≡ first.twin = let both : Some t ≡ Some first.twin = first.there in cc in
     let found : slice_get placed start ≡ Some first.token = subst (λ k. slice_get placed k ≡ Some first.token) (omega arith) first.here in
     let rest = shows_part placed told (suc start) (λ i less. subst
-        (λ k. ShareEntry (slice_get placed k) (slice_get told i)) (omega arith) (each (suc i) (omega (arith, less)))) in
+    (λ k. ShareEntry (slice_get placed k) (slice_get told i)) (omega arith) (each (suc i) (omega (arith, less)))) in
     (λ i. (ap (λ (x : CellToken). x.entry) mine ∙ sym first.same) i ∷ rest i)
     ∙ ap (take (suc (length told))) (sym (dropped placed start first.token found))
 
@@ -99,7 +99,7 @@ accepts_part placed s each =
       twin = both.twin;
       here = both.here;
       there = ap (slice_get s.told) (omega arith)
-          ∙ sym (ap (λ b. cond b (slice_get s.told (s.start + i - s.start)) None) (lt-ltb s.start (suc (s.start + i)) (omega arith)))
+          ∙ sym (ap (λ b. cond b (slice_get s.told (suc (s.start + i) - suc s.start)) None) (lt-ltb s.start (suc (s.start + i)) (omega arith)))
           ∙ both.there;
       same = both.same;
     }

@@ -47,12 +47,12 @@ pub fn meet_sequencer<L: Hall>(
         ≡ part (entries_told sequencer.now.placed) subscription.now.start
         (cursor_of subscription.now - subscription.now.start) }
 {
-    let after = subscription.start();
-    let last = after.max(subscription.cursor().min(sequencer.placed()));
-    for number in after..last {
+    let start = subscription.start();
+    let last = start.max(subscription.cursor().min(sequencer.placed()));
+    for number in start..last {
         agree_placed(sequencer, subscription, number + 1);
     }
-    (after, last)
+    (start, last)
 }
 
 // Both show the same entry for this number, which both have accepted. Does nothing else.

@@ -6,6 +6,10 @@ ghost use Rattle.std.specs.Prelude.{◌≡◌};
 use crate::bench::Bench;
 use crate::calls::{Answer, Call, Row};
 use crate::given::schema;
+use Answer::{Accepted, Closed, Desk, Done, Drained, Expired, Floor, Link, Made, Placed, Refused};
+use Call::{
+    Accept, Ack, Close, Expire, Nack, Put, Reconnect, Subscribe, Take, TakeAny, Unsubscribe,
+};
 use cs_apply::Tables;
 use cs_model::Schema;
 use rb_broker::{Hall, Opened, RefusedTables, SubscribeError};
@@ -16,9 +20,6 @@ use std::marker::Brand;
 use std::process::Abort;
 use std::sync::{Arc, Wait};
 use std::test::Fail;
-
-use Answer::{Accepted, Closed, Desk, Done, Drained, Expired, Floor, Link, Made, Placed, Refused};
-use Call::{Accept, Ack, Close, Expire, Nack, Put, Reconnect, Subscribe, Take, TakeAny, Unsubscribe};
 
 // an empty broker with batches of this size and this window
 fn opened(alloc: Global, batch: u64, window: u64) -> Result<Opened, Fail> {

@@ -6,8 +6,10 @@ ghost use Rattle.std.specs.Prelude.{◌≡◌, IfOk};
 use crate::bench::Bench;
 use crate::given::{insert, opened, publisher};
 use cs_model::Origin;
-use rb_broker::{AddRefusal, Hall, MOST_PUBLISHERS, Opened, PlaceRefusal, Publisher, SendRefusal};
-use rb_broker::{StagedSet, WithdrawRefusal};
+use rb_broker::{
+    AddRefusal, Hall, MOST_PUBLISHERS, Opened, PlaceRefusal, Publisher, SendRefusal, StagedSet,
+    WithdrawRefusal,
+};
 use rb_sequence::Told;
 use rb_sequencer::{Sequencer, Turn};
 use std::alloc::Global;
@@ -183,9 +185,7 @@ fn takes_back<L: Hall, R: Wait + Abort>(
     bench: &mut Bench<L>,
 ) -> Result<(), Fail> {
     assert_eq!(rt; put(rt, alloc, bench, &CHANGED)?, Some(1));
-    let set = bench
-        .publisher
-        .withdraw(alloc, bench.broker.sequence(), 1)?;
+    let set = bench.publisher.withdraw(alloc, bench.broker.sequence(), 1)?;
     assert_eq!(rt; set.withdraws().map(Told::number), Some(1));
     assert_eq!(rt; bench.publisher.send(rt, &bench.broker, set).ok(), Some(2));
     assert_eq!(rt; placed(rt, alloc, bench), Some(2));

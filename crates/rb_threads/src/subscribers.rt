@@ -3,9 +3,8 @@
 
 ghost use Rattle.std.specs.Prelude.{◌≡◌, IfOk};
 
-use crate::given::{insert, publisher, schema};
-use crate::rows::stage;
-use crate::threads::{place, send};
+use crate::given::{publisher, schema};
+use crate::threads::{place, send, stage};
 use cs_apply::Tables;
 use rb_broker::{Broker, Hall, Opened, Publisher, StagedSet, Started, TakeError, WithdrawRefusal};
 use rb_close::{meet, meet_sequencer};
@@ -26,7 +25,9 @@ const MOST_TURNS: u64 = 10_000_000;
 
 // how often the publisher sends, and which of its entries it withdraws then
 const SENDS: u64 = 98;
+
 const WITHDRAWN: [u64; 2] = [3, 60];
+
 const ALL: u64 = 100;
 
 // What a thread does. It gives back what it owns.
@@ -281,9 +282,7 @@ fn publish<L: Hall, R: Wait>(
     publisher: &mut Publisher<L>,
 ) -> Result<(), &'static str> {
     for key in 1..=SENDS {
-        let Ok(set) = stage(alloc, publisher, &insert(key)) else {
-            return Err("nothing is staged");
-        };
+        let set = stage(alloc, publisher, key)?;
         send(rt, broker, publisher, set)?;
     }
     for number in WITHDRAWN {

@@ -202,7 +202,7 @@ struct Stand<L: StepLedger> {
 }
 
 // Five cells are filled: the third inserts (3, 'x'), and the fourth (1, 'x') again.
-fn stand<L: StepLedger>(
+fn make_stand<L: StepLedger>(
     alloc: Global,
     reads: Reads<L>,
     mut fills: Fills<L>,
@@ -251,7 +251,7 @@ fn accepts_in_turn<L: StepLedger, R: Abort>(
         filler,
         of: PhantomData,
     };
-    let mut stand = stand(alloc, reads, fills, blank)?;
+    let mut stand = make_stand(alloc, reads, fills, blank)?;
     from_the_start(rt, alloc, &mut stand)?;
     meets(rt, alloc, &mut stand)?;
     past_the_cells(rt, alloc, &mut stand)
@@ -333,11 +333,7 @@ fn refuses_the_closed<L: StepLedger, R: Abort>(
 }
 
 // Two that have accepted 1 to 2 and 2 to 3 have the second in common.
-fn meets<L: StepLedger, R: Abort>(
-    rt: &R,
-    alloc: Global,
-    stand: &mut Stand<L>,
-) -> Result<(), Fail> {
+fn meets<L: StepLedger, R: Abort>(rt: &R, alloc: Global, stand: &mut Stand<L>) -> Result<(), Fail> {
     let delivery = stand.desks.take(alloc, &stand.third)?;
     let (reads, one, third) = (&stand.reads, &stand.one, &mut stand.third);
     assert_eq!(rt; meet(one, third), (1, 1));

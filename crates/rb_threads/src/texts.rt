@@ -16,8 +16,14 @@ fn publishers_are_told_why(rt: HostRuntime) -> Result<(), Fail> {
     }
     let withdrawn = [
         (WithdrawRefusal::NotPlaced, "there is no such entry"),
-        (WithdrawRefusal::NotYours, "the entry is another publisher's"),
-        (WithdrawRefusal::AlreadyWithdrawn, "the entry is withdrawn already"),
+        (
+            WithdrawRefusal::NotYours,
+            "the entry is another publisher's",
+        ),
+        (
+            WithdrawRefusal::AlreadyWithdrawn,
+            "the entry is withdrawn already",
+        ),
         (
             WithdrawRefusal::Schema { section: 7 },
             "section 7 has another shape than an earlier section of its table",
@@ -49,7 +55,10 @@ fn turns_say_why(rt: HostRuntime) -> Result<(), Fail> {
 fn subscribers_are_told_why(rt: HostRuntime) -> Result<(), Fail> {
     let alloc = rt.alloc();
     let subscribed = [
-        (SubscribeError::OtherSchema, "the tables are of another schema"),
+        (
+            SubscribeError::OtherSchema,
+            "the tables are of another schema",
+        ),
         (SubscribeError::Desk(DeskError::Memory), "out of memory"),
     ];
     for (why, text) in subscribed {

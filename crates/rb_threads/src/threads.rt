@@ -106,21 +106,22 @@ fn publish<L: Hall, R: Wait>(
     sends: u64,
 ) -> Result<(), &'static str> {
     for place in 0..sends {
-        let set = stage(alloc, &mut publisher, place)?;
+        let key = key(publisher.number(), place);
+        let set = stage(alloc, &mut publisher, key)?;
         send(rt, broker, &mut publisher, set)?;
     }
     Ok(())
 }
 
-fn stage<L: Hall>(
+// stages the INSERT of a key
+pub(crate) fn stage<L: Hall>(
     alloc: Global,
     publisher: &mut Publisher<L>,
-    place: u64,
+    key: u64,
 ) -> Result<StagedSet<L>, &'static str>
     ensures set { IfOk result (λ set. set.publisher ≡ publisher.new.number) }
 {
-    let piece = insert(key(publisher.number(), place));
-    if publisher.feed(alloc, &piece).is_err() {
+    if publisher.feed(alloc, &insert(key)).is_err() {
         return Err("nothing is fed");
     }
     match publisher.end(alloc) {

@@ -1,20 +1,9 @@
-use Rattle.std.proofs.Common.{◌≡◌, ◌∙◌, subst, sym, ap}
-use Rattle.rb_sequence.specs.Cells.{CellToken, IsTokenOf}
-use Rattle.rb_close.proofs.MeetLaws.{same_token, is_accepted}
+use Rattle.std.proofs.Common.{◌∙◌, sym}
 use Rattle.rb_close.proofs.meeting.agree.Goals as goal
 
 pub same-requires : goal.same-requires
 same-requires g c =
-    let cells = g.L.StepLedger.cells in
-    let one = is_accepted cells c.args.one.now c.args.number c.cursor.ensures.shown c.requires.one.0 c.requires.one.1 in
-    let other =
-    is_accepted cells c.args.other.now c.args.number c.cursor-2.ensures.shown c.requires.other.0 c.requires.other.1 in
-    let token = c.in-Some-Some.token.now in
-    let twin = c.in-Some-Some.twin.now in
-    let mine : token ≡ one.token = same_token _ token one.token c.in-Some-Some.ensures one.there in
-    let theirs : twin ≡ other.token = same_token _ twin other.token c.in-Some-Some.ensures' other.there in
-    c.one_number_is_one_cell.ensures cells token twin
-    (subst (λ (t : CellToken). IsTokenOf cells t) (sym mine) one.of)
-    (subst (λ (t : CellToken). IsTokenOf cells t) (sym theirs) other.of)
-    (ap (λ (t : CellToken). t.number) mine ∙ one.number ∙ sym other.number
-    ∙ sym (ap (λ (t : CellToken). t.number) theirs))
+    let one = c.in-Some-Some.ensures.shown in
+    let other = c.in-Some-Some.ensures'.shown in
+    c.one_number_is_one_cell.ensures g.L.StepLedger.cells c.in-Some-Some.token.now c.in-Some-Some.twin.now one.0 other.0
+    (one.1 ∙ sym other.1)

@@ -1,6 +1,6 @@
 use Rattle.std.proofs.Common.{◌≡◌, ◌∙◌, subst, sym, ap, arith}
 use Rattle.rb_sequence.specs.Cells.{CellToken, IsTokenOf}
-use Rattle.rb_close.proofs.MeetLaws.{same_token, is_accepted, is_placed}
+use Rattle.rb_close.proofs.MeetLaws.{same_token, is_placed}
 use Rattle.rb_close.proofs.meeting.agree_placed.Goals as goal
 
 pub same-requires : goal.same-requires
@@ -8,14 +8,9 @@ same-requires g c =
     let cells = g.L.StepLedger.cells in
     let one = is_placed cells c.args.sequencer.now.placed c.args.number c.placed.ensures.cells
     (omega (arith, c.requires.accepted.0)) c.requires.placed in
-    let other = is_accepted cells c.args.subscription.now c.args.number c.cursor.ensures.shown c.requires.accepted.0
-    c.requires.accepted.1 in
     let token = c.in-Some-Some.token.now in
-    let twin = c.in-Some-Some.twin.now in
     let mine : token ≡ one.token = same_token _ token one.token c.in-Some-Some.ensures one.there in
-    let theirs : twin ≡ other.token = same_token _ twin other.token c.in-Some-Some.ensures' other.there in
-    c.one_number_is_one_cell.ensures cells token twin
-    (subst (λ (t : CellToken). IsTokenOf cells t) (sym mine) one.of)
-    (subst (λ (t : CellToken). IsTokenOf cells t) (sym theirs) other.of)
-    (ap (λ (t : CellToken). t.number) mine ∙ one.number ∙ sym other.number
-    ∙ sym (ap (λ (t : CellToken). t.number) theirs))
+    let other = c.in-Some-Some.ensures'.shown in
+    c.one_number_is_one_cell.ensures cells token c.in-Some-Some.twin.now
+    (subst (λ (t : CellToken). IsTokenOf cells t) (sym mine) one.of) other.0
+    (ap (λ (t : CellToken). t.number) mine ∙ one.number ∙ sym other.1)
