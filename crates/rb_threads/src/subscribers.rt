@@ -232,45 +232,59 @@ fn subscriber<L: Hall, R: Wait>(
 }
 
 // Each owner works in a thread of its own. Those that are needed afterwards come back.
-fn run<L: Hall + Send + Sync, R: Threads + Wait + Sync>(
+fn run<L: Hall + Send + Sync, R: Threads + Wait + Abort + Sync>(
     rt: &R,
     alloc: Global,
     broker: &Broker<L>,
     owners: Vec<Owner<L>>,
 ) -> Result<(Vec<Sequencer<L>>, Vec<Subscription<L>>), Fail> {
     let done = thread::map_vec(rt, owners, &|owner| work(rt, alloc, broker, owner))?;
+    sorted_out(alloc, done)
+}
+
+fn sorted_out<L: Hall>(
+    alloc: Global,
+    mut owners: Vec<Owner<L>>,
+) -> Result<(Vec<Sequencer<L>>, Vec<Subscription<L>>), Fail> {
     let mut sequencers = Vec::new(alloc);
     let mut subscriptions = Vec::new(alloc);
-    for owner in done {
+    while let Some(owner) = owners.pop() {
         match owner {
-            Ok(Owner::Publishes(_)) => {}
-            Ok(Owner::Places(sequencer)) => sequencers.push(sequencer)?,
-            Ok(Owner::Accepts(subscription, _)) => subscriptions.push(subscription)?,
-            Err(why) => return Err(Fail::new(why)),
+            Owner::Publishes(publisher) => drop(publisher),
+            Owner::Places(sequencer) => sequencers.push(sequencer)?,
+            Owner::Accepts(subscription, _course) => subscriptions.push(subscription)?,
         }
     }
     Ok((sequencers, subscriptions))
 }
 
-fn work<L: Hall, R: Wait>(
+fn work<L: Hall, R: Wait + Abort>(
     rt: &R,
     alloc: Global,
     broker: &Broker<L>,
     owner: Owner<L>,
-) -> Result<Owner<L>, &'static str> {
+) -> Owner<L> {
     match owner {
         Owner::Publishes(mut publisher) => {
-            publish(rt, alloc, broker, &mut publisher)?;
-            Ok(Owner::Publishes(publisher))
+            ends(rt, publish(rt, alloc, broker, &mut publisher));
+            Owner::Publishes(publisher)
         }
         Owner::Places(mut sequencer) => {
-            place(rt, alloc, broker, &mut sequencer, ALL)?;
-            Ok(Owner::Places(sequencer))
+            ends(rt, place(rt, alloc, broker, &mut sequencer, ALL));
+            Owner::Places(sequencer)
         }
         Owner::Accepts(mut subscription, mut course) => {
-            accept_all(rt, alloc, broker, &mut subscription, &mut course)?;
-            Ok(Owner::Accepts(subscription, course))
+            let done = accept_all(rt, alloc, broker, &mut subscription, &mut course);
+            ends(rt, done);
+            Owner::Accepts(subscription, course)
         }
+    }
+}
+
+// stops the test where a thread fails
+fn ends<R: Abort>(rt: &R, done: Result<(), &'static str>) {
+    if let Err(why) = done {
+        panic!(rt; "{why}");
     }
 }
 
