@@ -20,7 +20,7 @@ use Rattle.rb_broker.specs.Holding.{IsAtEnd}
 use Rattle.rb_broker.specs.Placing.{ShowsClosing}
 
 -- what stays of a desk, and how many own steps are added
-pub record Keeps (old new : JournaledPicture) (more : ℕ) : Type 0 where
+pub record LockKeeps (old new : JournaledPicture) (more : ℕ) : Type 0 where
   pub frame : KeepsFrame old.picture new.picture
   pub own : counted_steps is_own new.steps ≡ counted_steps is_own old.steps + more
 
@@ -30,43 +30,43 @@ CountsOwn = (old : JournaledPicture) (step : Step) (picture : Picture)
     → counted_steps is_own (journaled old step picture).steps
     ≡ counted_steps is_own old.steps + cond (is_own step) 1 0
 
-abbrev pub more_of : {A : Type 0} → Result A DeskError → Step → ℕ
-more_of (Ok answer) step = cond (is_own step) 1 0
-more_of (Err error) step = 0
+abbrev pub own_steps : {A : Type 0} → Result A DeskError → Step → ℕ
+own_steps (Ok answer) step = cond (is_own step) 1 0
+own_steps (Err error) step = 0
 
 frame_same : (p : Picture) → KeepsFrame p p
 frame_same p = record { limits = refl; closing = refl; count = refl }
 
-same_desk : (old new : JournaledPicture) → new ≡ old → Keeps old new 0
-same_desk old new is = subst (λ (d : JournaledPicture). Keeps old d 0) (sym is)
+same_desk : (old new : JournaledPicture) → new ≡ old → LockKeeps old new 0
+same_desk old new is = subst (λ (d : JournaledPicture). LockKeeps old d 0) (sym is)
     (record { frame = frame_same old.picture; own = omega arith })
 
 -- one step more
-pub one_step : (old new : JournaledPicture) (step : Step) (next : Picture) → CountsOwn → KeepsFrame old.picture next
-    → new ≡ journaled old step next → Keeps old new (cond (is_own step) 1 0)
-one_step old new step next counts keeps is =
-    subst (λ (d : JournaledPicture). Keeps old d (cond (is_own step) 1 0)) (sym is)
+pub step_keeps : (old new : JournaledPicture) (step : Step) (next : Picture) → CountsOwn → KeepsFrame old.picture next
+    → new ≡ journaled old step next → LockKeeps old new (cond (is_own step) 1 0)
+step_keeps old new step next counts keeps is =
+    subst (λ (d : JournaledPicture). LockKeeps old d (cond (is_own step) 1 0)) (sym is)
     (record { frame = keeps; own = counts old step next })
 
 -- any call that neither subscribes nor closes
-pub kept : {A : Type 0} (result : Result A DeskError) (call : Result A DeskRefusal × Picture) (step : Step)
+pub call_keeps : {A : Type 0} (result : Result A DeskError) (call : Result A DeskRefusal × Picture) (step : Step)
     (old new : JournaledPicture) → CountsOwn → KeepsFrame old.picture call.1 → JournalAnswers result call step old new
-    → Keeps old new (more_of result step)
-kept (Ok answer) call step old new counts keeps answers = one_step old new step call.1 counts keeps answers.1
-kept (Err (Refused why)) call step old new counts keeps answers = same_desk old new answers.1
-kept (Err Memory) call step old new counts keeps answers = same_desk old new answers.1
+    → LockKeeps old new (own_steps result step)
+call_keeps (Ok answer) call step old new counts keeps answers = step_keeps old new step call.1 counts keeps answers.1
+call_keeps (Err (Refused why)) call step old new counts keeps answers = same_desk old new answers.1
+call_keeps (Err Memory) call step old new counts keeps answers = same_desk old new answers.1
 
 -- the token of the closing cell goes on showing the closing number
-pub shows_on : (cells : Cells) (old new : JournaledPicture) (more : ℕ) (closing : Option LastToken) → Keeps old new more
+pub shows_on : (cells : Cells) (old new : JournaledPicture) (more : ℕ) (closing : Option LastToken) → LockKeeps old new more
     → ShowsClosing cells old.picture.closing closing → ShowsClosing cells new.picture.closing closing
 shows_on cells old new more closing keeps shows = (shows.0 ∙ sym keeps.frame.closing, shows.1)
 
-pub capacity_on : (cells : Cells) (old new : JournaledPicture) (more : ℕ) → Keeps old new more
+pub capacity_on : (cells : Cells) (old new : JournaledPicture) (more : ℕ) → LockKeeps old new more
     → old.picture.limits.capacity ≡ cells.capacity → new.picture.limits.capacity ≡ cells.capacity
 capacity_on cells old new more keeps fits = ap (λ (l : Limits). l.capacity) keeps.frame.limits ∙ fits
 
 -- a call that isn't a subscription's own adds none
-pub none_more : {A : Type 0} (result : Result A DeskError) (step : Step) → is_own step ≡ false → more_of result step ≡ 0
+pub none_more : {A : Type 0} (result : Result A DeskError) (step : Step) → is_own step ≡ false → own_steps result step ≡ 0
 none_more (Ok answer) step not_own = ap (λ b. cond b 1 0) not_own
 none_more (Err error) step not_own = refl
 
@@ -94,12 +94,12 @@ closing_counts old None counts = omega (arith, counts old Close old.picture)
 closing_counts old (Some last) counts = ap (counted_steps is_own) (append-nil old.steps)
 
 -- a refused `take`
-pub at_end : (s link cursor now : ℕ) (error : DeskError) (old new : JournaledPicture) (step : Step)
+pub drained_there : (s link cursor now : ℕ) (error : DeskError) (old new : JournaledPicture) (step : Step)
     → ((last : ℕ) → (take old.picture s link cursor now).0 ≡ Err (Drained last) → (cursor ≡ last)
     × (old.picture.closing ≡ Some last))
     → JournalAnswers (Err error) (take old.picture s link cursor now) step old new
     → IsAtEnd cursor new.picture.closing error
-at_end s link cursor now error old new step law answers last is =
+drained_there s link cursor now error old new step law answers last is =
     let so = subst (λ (e : DeskError). JournalAnswers (Err e) (take old.picture s link cursor now) step old new) is answers in
     let both = law last (refused_so (length old.steps) (take old.picture s link cursor now).0 last so.0) in
     (both.0, ap (λ (d : JournaledPicture). d.picture.closing) so.1 ∙ both.1)

@@ -8,17 +8,17 @@ use Rattle.cs_model.specs.declared.shape.Shape.{Shape}
 use Rattle.cs_apply.specs.State.{TableState}
 use Rattle.rb_desk.specs.Journaled.{JournaledPicture}
 use Rattle.rb_subscriber.specs.Subscription.{SubscriptionState}
-use Rattle.rb_broker.specs.Holding.{IsSchemaWhy, RefusesTables, SubscribeRefused, Subscribes}
-use Rattle.rb_broker.specs.declared.refusal.RefusedTables.{RefusedTables}
+use Rattle.rb_broker.specs.Holding.{IsSchemaWhy, RefusesTables, RefusesAsDesk, MakesSubscription}
+use Rattle.rb_broker.specs.declared.refusal.RefusedSubscription.{RefusedSubscription}
 use Rattle.rb_broker.specs.declared.refusal.SubscribeError.{SubscribeError}
 use Rattle.rb_broker.specs.declared.refusal.SubscribeError.TheVariants.{Desk, OtherSchema}
 
 bytes_decide : (xs ys : List ℕ) → Decides (same_bytes xs ys) (xs ≡ ys)
 bytes_decide xs ys = slice_eq-Decides unsigned_Decides xs ys (same_bytes xs ys) refl
 
-both_true : (p q : Bool) → p && q ≡ true → (p ≡ true) × (q ≡ true)
-both_true true q e = (refl, e)
-both_true false q e = absurd (let no : false ≡ true = e in cc)
+flags_true : (p q : Bool) → p && q ≡ true → (p ≡ true) × (q ≡ true)
+flags_true true q e = (refl, e)
+flags_true false q e = absurd (let no : false ≡ true = e in cc)
 
 true_both : (p q : Bool) → p ≡ true → q ≡ true → p && q ≡ true
 true_both p q a b = ap (λ x. x && q) a ∙ b
@@ -27,7 +27,7 @@ both_decide : (a b : Shape) (p q : Bool) → Decides p (a.name ≡ b.name) → D
     → Decides (p && q) (a ≡ b)
 both_decide a b p q names flags = (
   λ e.
-      let both = both_true p q e in
+      let both = flags_true p q e in
       let name = names.0 both.0 in
       let flag = flags.0 both.1 in
       (λ i. record { name = name i; flags = flag i }),
@@ -44,13 +44,13 @@ decides_on r xs ys these those a b h = (λ e. sym a ∙ h.0 e ∙ b, λ e. h.1 (
 
 -- what the hold refuses isn't another schema
 why_is : (base : TableState) (own : List Shape) (why : SubscribeError) (start : ℕ) (old new : JournaledPicture)
-    → base.schema ≡ own → SubscribeRefused why start old new → IsSchemaWhy base.schema own why
+    → base.schema ≡ own → RefusesAsDesk why start old new → IsSchemaWhy base.schema own why
 why_is base own OtherSchema start old new same h = absurd h
 why_is base own (Desk error) start old new same h = same
 
-pub refuses_tables : (result : Result SubscriptionState RefusedTables) (base : TableState) (own : List Shape) (start : ℕ)
-    (old new : JournaledPicture) → base.schema ≡ own → Subscribes result base start old new
+pub tables_come_back : (result : Result SubscriptionState RefusedSubscription) (base : TableState) (own : List Shape) (start : ℕ)
+    (old new : JournaledPicture) → base.schema ≡ own → MakesSubscription result base start old new
     → IfErr result (RefusesTables own base)
-refuses_tables (Ok s) base own start old new same h = tt
-refuses_tables (Err refused) base own start old new same h =
+tables_come_back (Ok s) base own start old new same h = tt
+tables_come_back (Err refused) base own start old new same h =
     (h.0, why_is base own refused.why start old new same h.1)

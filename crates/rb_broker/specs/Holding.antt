@@ -11,45 +11,45 @@ use Rattle.rb_desk.specs.declared.refusal.DeskRefusal.TheVariants as desk
 use Rattle.rb_desk.specs.declared.step.Step.TheVariants.{Subscribe}
 use Rattle.rb_sequence.specs.Cells.{Cells, IsLastToken}
 use Rattle.rb_subscriber.specs.Subscription.{SubscriptionState, new_subscription}
-use Rattle.rb_broker.specs.declared.refusal.RefusedTables.{RefusedTables}
+use Rattle.rb_broker.specs.declared.refusal.RefusedSubscription.{RefusedSubscription}
 use Rattle.rb_broker.specs.declared.refusal.SubscribeError.{SubscribeError}
 use Rattle.rb_broker.specs.declared.refusal.SubscribeError.TheVariants as subscribing
 use Rattle.rb_broker.specs.declared.refusal.TakeError.{TakeError}
 use Rattle.rb_broker.specs.declared.refusal.TakeError.TheVariants as taking
 
--- a subscription of which one more step is counted
-abbrev pub counted : SubscriptionState → SubscriptionState
-counted s = record s { steps = s.steps + 1 }
+-- a subscription of which one more step is counted_step
+abbrev pub counted_step : SubscriptionState → SubscriptionState
+counted_step s = record s { steps = s.steps + 1 }
 
 -- the same under another link, and closed
-abbrev pub relinked : ℕ → SubscriptionState → SubscriptionState
-relinked link s = record (counted s) { link = link }
+abbrev pub relinked_step : ℕ → SubscriptionState → SubscriptionState
+relinked_step link s = record (counted_step s) { link = link }
 
-abbrev pub ended : SubscriptionState → SubscriptionState
-ended s = record (counted s) { closed = true }
+abbrev pub ended_step : SubscriptionState → SubscriptionState
+ended_step s = record (counted_step s) { closed = true }
 
 -- ---- subscribing
 
 -- the desk subscribes after `start`, and the subscription has its number and link and these tables;
 -- or the desk refuses, or memory runs out
-abbrev pub SubscribeRefused : SubscribeError → ℕ → JournaledPicture → JournaledPicture → Type 0
-SubscribeRefused subscribing.OtherSchema start old new = ⊥
-SubscribeRefused (subscribing.Desk error) start old new =
+abbrev pub RefusesAsDesk : SubscribeError → ℕ → JournaledPicture → JournaledPicture → Type 0
+RefusesAsDesk subscribing.OtherSchema start old new = ⊥
+RefusesAsDesk (subscribing.Desk error) start old new =
     JournalAnswers (Err error) (subscribe old.picture start) (Subscribe start) old new
 
-abbrev pub Subscribes : Result SubscriptionState RefusedTables → tables.TableState → ℕ
+abbrev pub MakesSubscription : Result SubscriptionState RefusedSubscription → tables.TableState → ℕ
     → JournaledPicture → JournaledPicture → Type 0
-Subscribes (Ok s) base start old new = (s ≡ new_subscription s.sub start s.link base)
+MakesSubscription (Ok s) base start old new = (s ≡ new_subscription s.sub start s.link base)
     × JournalAnswers (Ok (s.sub, s.link)) (subscribe old.picture start) (Subscribe start) old new
-Subscribes (Err refused) base start old new = (refused.tables ≡ base)
-    × SubscribeRefused refused.why start old new
+MakesSubscription (Err refused) base start old new = (refused.tables ≡ base)
+    × RefusesAsDesk refused.why start old new
 
 -- Tables of another schema are refused first of all, and only they. The tables come back.
 abbrev pub IsSchemaWhy : List Shape → List Shape → SubscribeError → Type 0
 IsSchemaWhy theirs own subscribing.OtherSchema = theirs ≡ own → ⊥
 IsSchemaWhy theirs own (subscribing.Desk error) = theirs ≡ own
 
-abbrev pub RefusesTables : List Shape → tables.TableState → RefusedTables → Type 0
+abbrev pub RefusesTables : List Shape → tables.TableState → RefusedSubscription → Type 0
 RefusesTables own base refused =
     (refused.tables ≡ base) × IsSchemaWhy base.schema own refused.why
 
@@ -71,7 +71,7 @@ IsAtEnd cursor closing error = (last : ℕ) → error ≡ Refused (desk.Drained 
 
 -- `Drained` comes with a token of the closing cell that shows the cursor; the desk's own never comes
 -- without
-abbrev pub IsDrained : Cells → ℕ → TakeError → Type 0
-IsDrained cells cursor (taking.Drained told) = IsLastToken cells told × (told.last ≡ cursor)
-IsDrained cells cursor (taking.Desk error) =
+abbrev pub ShowsDrained : Cells → ℕ → TakeError → Type 0
+ShowsDrained cells cursor (taking.Drained told) = IsLastToken cells told × (told.last ≡ cursor)
+ShowsDrained cells cursor (taking.Desk error) =
     (last : ℕ) → error ≡ Refused (desk.Drained last) → ⊥

@@ -5,11 +5,11 @@ ghost use Rattle.std.specs.Arc.{arc_value};
 ghost use Rattle.std.specs.Bool.{Decides};
 ghost use Rattle.rb_subscriber.specs.Register.{all_steps};
 ghost use Rattle.rb_subscriber.specs.Subscription.{cursor_of, new_subscription};
-ghost use Rattle.rb_broker.specs.Holding.{IsDrained, RefusesTables, counted, ended, relinked};
+ghost use Rattle.rb_broker.specs.Holding.{ShowsDrained, RefusesTables, counted_step, ended_step, relinked_step};
 
 use crate::broker::Broker;
 use crate::hall::Hall;
-use crate::refusal::{RefusedTables, SubscribeError, TakeError};
+use crate::refusal::{RefusedSubscription, SubscribeError, TakeError};
 use cs_apply::Tables;
 use cs_model::CopyIn;
 use rb_desk::{Delivery, DeskError};
@@ -30,18 +30,18 @@ impl<L: Hall> Broker<L> {
         alloc: Global,
         tables: Tables,
         start: u64,
-    ) -> Result<Subscription<L>, RefusedTables>
+    ) -> Result<Subscription<L>, RefusedSubscription>
         ensures new { IfOk result (λ s. s ≡ new_subscription s.sub start s.link tables) }
         ensures schema { OnOk result (tables.schema ≡ arc_value self.now.schema) }
         ensures refused { IfErr result (RefusesTables (arc_value self.now.schema) tables) }
     {
         if !self.has_schema(&tables) {
             let why = SubscribeError::OtherSchema;
-            return Err(RefusedTables { why, tables });
+            return Err(RefusedSubscription { why, tables });
         }
         let Ok(base) = tables.copy_in(alloc) else {
             let why = SubscribeError::Desk(DeskError::Memory);
-            return Err(RefusedTables { why, tables });
+            return Err(RefusedSubscription { why, tables });
         };
         let mut locked = self.locked.lock(rt);
         locked.subscribe(alloc, tables, base, start)
@@ -66,11 +66,11 @@ impl<L: Hall> Broker<L> {
         subscription: &mut Subscription<L>,
         now: u64,
     ) -> Result<Delivery, TakeError>
-        ensures ok { OnOk result (subscription.new ≡ counted subscription.old) }
+        ensures ok { OnOk result (subscription.new ≡ counted_step subscription.old) }
         ensures err { OnErr result (subscription.new ≡ subscription.old) }
         ensures of { IfOk result (λ delivery. (delivery.sub ≡ subscription.old.sub)
             × (delivery.link ≡ subscription.old.link)) }
-        ensures drained { IfErr result (IsDrained L.cells (cursor_of subscription.old)) }
+        ensures drained { IfErr result (ShowsDrained L.cells (cursor_of subscription.old)) }
     {
         let mut locked = self.locked.lock(rt);
         locked.take(alloc, subscription, now)
@@ -101,7 +101,7 @@ impl<L: Hall> Broker<L> {
         subscription: &mut Subscription<L>,
         delivery: &Delivery,
     ) -> Result<u64, DeskError>
-        ensures ok { OnOk result (subscription.new ≡ counted subscription.old) }
+        ensures ok { OnOk result (subscription.new ≡ counted_step subscription.old) }
         ensures err { OnErr result (subscription.new ≡ subscription.old) }
     {
         let mut locked = self.locked.lock(rt);
@@ -118,7 +118,7 @@ impl<L: Hall> Broker<L> {
         subscription: &mut Subscription<L>,
         delivery: &Delivery,
     ) -> Result<(), DeskError>
-        ensures ok { OnOk result (subscription.new ≡ counted subscription.old) }
+        ensures ok { OnOk result (subscription.new ≡ counted_step subscription.old) }
         ensures err { OnErr result (subscription.new ≡ subscription.old) }
     {
         let mut locked = self.locked.lock(rt);
@@ -142,7 +142,7 @@ impl<L: Hall> Broker<L> {
         alloc: Global,
         subscription: &mut Subscription<L>,
     ) -> Result<u64, DeskError>
-        ensures ok { IfOk result (λ link. subscription.new ≡ relinked link subscription.old) }
+        ensures ok { IfOk result (λ link. subscription.new ≡ relinked_step link subscription.old) }
         ensures err { OnErr result (subscription.new ≡ subscription.old) }
     {
         let mut locked = self.locked.lock(rt);
@@ -158,7 +158,7 @@ impl<L: Hall> Broker<L> {
         alloc: Global,
         subscription: &mut Subscription<L>,
     ) -> Result<(), DeskError>
-        ensures ok { OnOk result (subscription.new ≡ ended subscription.old) }
+        ensures ok { OnOk result (subscription.new ≡ ended_step subscription.old) }
         ensures err { OnErr result (subscription.new ≡ subscription.old) }
     {
         let mut locked = self.locked.lock(rt);

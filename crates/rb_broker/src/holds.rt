@@ -7,12 +7,12 @@ ghost use Rattle.rb_desk.specs.Journaled.{JournalAnswers, counted_steps, is_own}
 ghost use Rattle.rb_desk.specs.declared.step.Step.TheVariants as step;
 ghost use Rattle.rb_subscriber.specs.Register.{all_steps};
 ghost use Rattle.rb_subscriber.specs.Subscription.{cursor_of};
-ghost use Rattle.rb_broker.specs.Holding.{IsAtEnd, IsDrained, Subscribes, counted, desk_answer};
-ghost use Rattle.rb_broker.specs.Holding.{desk_error, ended, relinked};
+ghost use Rattle.rb_broker.specs.Holding.{IsAtEnd, ShowsDrained, MakesSubscription, counted_step, desk_answer};
+ghost use Rattle.rb_broker.specs.Holding.{desk_error, ended_step, relinked_step};
 
 use crate::hall::Hall;
 use crate::locked::Locked;
-use crate::refusal::{RefusedTables, SubscribeError, TakeError};
+use crate::refusal::{RefusedSubscription, SubscribeError, TakeError};
 use cs_apply::Tables;
 use rb_desk::laws::{
     drained_is_at_the_end, only_subscribe_and_close, steps_are_counted, takes_are_as_asked,
@@ -30,9 +30,9 @@ impl<L: Hall> Locked<L> {
         tables: Tables,
         base: Tables,
         start: u64,
-    ) -> Result<Subscription<L>, RefusedTables>
+    ) -> Result<Subscription<L>, RefusedSubscription>
         requires { base ≡ tables }
-        ensures { Subscribes result tables start self.old.desk self.new.desk }
+        ensures { MakesSubscription result tables start self.old.desk self.new.desk }
     {
         steps_are_counted();
         only_subscribe_and_close();
@@ -41,7 +41,7 @@ impl<L: Hall> Locked<L> {
                 self.register
                     .subscribe(alloc, sub, link, start, tables, base),
             ),
-            Err(error) => Err(RefusedTables {
+            Err(error) => Err(RefusedSubscription {
                 why: SubscribeError::Desk(error),
                 tables,
             }),
@@ -60,11 +60,11 @@ impl<L: Hall> Locked<L> {
             (cursor_of subscription.old) now)
             (step.Take subscription.old.sub subscription.old.link (cursor_of subscription.old) now)
             self.old.desk self.new.desk }
-        ensures ok { OnOk result (subscription.new ≡ counted subscription.old) }
+        ensures ok { OnOk result (subscription.new ≡ counted_step subscription.old) }
         ensures err { OnErr result (subscription.new ≡ subscription.old) }
         ensures of { IfOk result (λ delivery. (delivery.sub ≡ subscription.old.sub)
             × (delivery.link ≡ subscription.old.link)) }
-        ensures drained { IfErr result (IsDrained L.cells (cursor_of subscription.old)) }
+        ensures drained { IfErr result (ShowsDrained L.cells (cursor_of subscription.old)) }
     {
         steps_are_counted();
         only_subscribe_and_close();
@@ -89,7 +89,7 @@ impl<L: Hall> Locked<L> {
     fn take_error(&self, error: DeskError, _cursor: u64) -> TakeError
         requires { IsAtEnd _cursor self.now.desk.picture.closing error }
         ensures same { desk_error result ≡ error }
-        ensures drained { IsDrained L.cells _cursor result }
+        ensures drained { ShowsDrained L.cells _cursor result }
     {
         match (error, &self.closing) {
             (DeskError::Refused(DeskRefusal::Drained { .. }), Some(told)) => {
@@ -121,7 +121,7 @@ impl<L: Hall> Locked<L> {
             (step.Ack subscription.old.sub delivery.now.link delivery.now.number
             (cursor_of subscription.old))
             self.old.desk self.new.desk }
-        ensures ok { OnOk result (subscription.new ≡ counted subscription.old) }
+        ensures ok { OnOk result (subscription.new ≡ counted_step subscription.old) }
         ensures err { OnErr result (subscription.new ≡ subscription.old) }
     {
         steps_are_counted();
@@ -146,7 +146,7 @@ impl<L: Hall> Locked<L> {
             delivery.now.link delivery.now.number)
             (step.Nack subscription.old.sub delivery.now.link delivery.now.number)
             self.old.desk self.new.desk }
-        ensures ok { OnOk result (subscription.new ≡ counted subscription.old) }
+        ensures ok { OnOk result (subscription.new ≡ counted_step subscription.old) }
         ensures err { OnErr result (subscription.new ≡ subscription.old) }
     {
         steps_are_counted();
@@ -180,7 +180,7 @@ impl<L: Hall> Locked<L> {
             subscription.old.sub (cursor_of subscription.old))
             (step.Reconnect subscription.old.sub (cursor_of subscription.old))
             self.old.desk self.new.desk }
-        ensures ok { IfOk result (λ link. subscription.new ≡ relinked link subscription.old) }
+        ensures ok { IfOk result (λ link. subscription.new ≡ relinked_step link subscription.old) }
         ensures err { OnErr result (subscription.new ≡ subscription.old) }
     {
         steps_are_counted();
@@ -203,7 +203,7 @@ impl<L: Hall> Locked<L> {
             subscription.old.sub subscription.old.link)
             (step.Unsubscribe subscription.old.sub subscription.old.link)
             self.old.desk self.new.desk }
-        ensures ok { OnOk result (subscription.new ≡ ended subscription.old) }
+        ensures ok { OnOk result (subscription.new ≡ ended_step subscription.old) }
         ensures err { OnErr result (subscription.new ≡ subscription.old) }
     {
         steps_are_counted();

@@ -91,7 +91,7 @@ pub enum SubscribeError {
 
 /// Tables for which `Broker::subscribe` made no subscription, and why.
 #[derive(Debug, Drop)]
-pub struct RefusedTables {
+pub struct RefusedSubscription {
     /// Why there is no subscription.
     pub why: SubscribeError,
     /// The tables, as they were.

@@ -22,19 +22,19 @@ record HasTokenAt (cells : Cells) (tokens : List CellToken) (i n : ℕ) : Type 0
   of : IsTokenOf cells token
   number : token.number ≡ n
 
-token_at : (cells : Cells) (from i n : ℕ) (tokens : List CellToken) → AreInCells cells from tokens → i < length tokens
+token_in_place : (cells : Cells) (from i n : ℕ) (tokens : List CellToken) → AreInCells cells from tokens → i < length tokens
     → n ≡ from + i → HasTokenAt cells tokens i n
-token_at cells from i n [] all less is = absurd (omega (arith, less))
-token_at cells from zero n (t ∷ tokens) all less is =
+token_in_place cells from i n [] all less is = absurd (omega (arith, less))
+token_in_place cells from zero n (t ∷ tokens) all less is =
     record { token = t; there = refl; of = all.0; number = all.1 ∙ omega (arith, is) }
-token_at cells from (suc i) n (t ∷ tokens) all less is =
-    let later = token_at cells (suc from) i n tokens all.2 (omega (arith, less)) (omega (arith, is)) in
+token_in_place cells from (suc i) n (t ∷ tokens) all less is =
+    let later = token_in_place cells (suc from) i n tokens all.2 (omega (arith, less)) (omega (arith, is)) in
     record { token = later.token; there = later.there; of = later.of; number = later.number }
 
 pub is_accepted : (cells : Cells) (s : SubscriptionState) (n : ℕ) → AreInCells cells (suc s.start) s.told
     → s.start < n → n ≤ cursor_of s → IsAccepted cells s n
 is_accepted cells s n all after last =
-    let at = token_at cells (suc s.start) (n - suc s.start) n s.told all (omega (arith, after, last))
+    let at = token_in_place cells (suc s.start) (n - suc s.start) n s.told all (omega (arith, after, last))
     (omega (arith, after)) in
     record {
       token = at.token;
@@ -44,17 +44,17 @@ is_accepted cells s n all after last =
     }
 
 -- the same of a number that is placed
-pub record IsPlaced (cells : Cells) (placed : List CellToken) (n : ℕ) : Type 0 where
+pub record PlacedToken (cells : Cells) (placed : List CellToken) (n : ℕ) : Type 0 where
   pub token : CellToken
   pub there : token_of placed n ≡ Some token
   pub of : IsTokenOf cells token
   pub number : token.number ≡ n
 
-pub is_placed : (cells : Cells) (placed : List CellToken) (n : ℕ) → AreInCells cells 1 placed → 0 < n
-    → n ≤ length placed → IsPlaced cells placed n
-is_placed cells placed zero all more last = absurd (omega (arith, more))
-is_placed cells placed (suc place) all more last =
-    let at = token_at cells 1 place (suc place) placed all (omega (arith, last)) (omega arith) in
+pub placed_token : (cells : Cells) (placed : List CellToken) (n : ℕ) → AreInCells cells 1 placed → 0 < n
+    → n ≤ length placed → PlacedToken cells placed n
+placed_token cells placed zero all more last = absurd (omega (arith, more))
+placed_token cells placed (suc place) all more last =
+    let at = token_in_place cells 1 place (suc place) placed all (omega (arith, last)) (omega arith) in
     record { token = at.token; there = at.there; of = at.of; number = at.number }
 
 -- what is found is that token
@@ -64,11 +64,11 @@ same_token found t u is there =
 
 -- ---- a part, entry by entry
 
-dropped : (xs : List CellToken) (i : ℕ) (x : CellToken) → slice_get xs i ≡ Some x
+first_left : (xs : List CellToken) (i : ℕ) (x : CellToken) → slice_get xs i ≡ Some x
     → drop i (entries_told xs) ≡ x.entry ∷ drop (suc i) (entries_told xs)
-dropped [] i x there = absurd (let no : None ≡ Some x = there in cc)
-dropped (y ∷ xs) zero x there = let same : y ≡ x = cc in ap (λ (t : CellToken). t.entry ∷ entries_told xs) same
-dropped (y ∷ xs) (suc i) x there = dropped xs i x there
+first_left [] i x there = absurd (let no : None ≡ Some x = there in cc)
+first_left (y ∷ xs) zero x there = let same : y ≡ x = cc in ap (λ (t : CellToken). t.entry ∷ entries_told xs) same
+first_left (y ∷ xs) (suc i) x there = first_left xs i x there
 
 -- where each token shows what the placed one of its place shows, they show that part
 shows_part : (placed told : List CellToken) (start : ℕ)
@@ -82,7 +82,7 @@ shows_part placed (t ∷ told) start each =
     let rest = shows_part placed told (suc start) (λ i less. subst
     (λ k. ShareEntry (slice_get placed k) (slice_get told i)) (omega arith) (each (suc i) (omega (arith, less)))) in
     (λ i. (ap (λ (x : CellToken). x.entry) mine ∙ sym first.same) i ∷ rest i)
-    ∙ ap (take (suc (length told))) (sym (dropped placed start first.token found))
+    ∙ ap (take (suc (length told))) (sym (first_left placed start first.token found))
 
 -- the same of a subscription
 pub accepts_part : (placed : List CellToken) (s : SubscriptionState)

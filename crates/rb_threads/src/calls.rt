@@ -5,7 +5,7 @@ use crate::bench::Bench;
 use crate::given::{insert, schema};
 use crate::rows::put;
 use cs_apply::Tables;
-use rb_broker::{Hall, RefusedTables, SubscribeError, TakeError};
+use rb_broker::{Hall, RefusedSubscription, SubscribeError, TakeError};
 use rb_desk::{Delivery, DeskError, DeskRefusal};
 use rb_subscriber::{AcceptAloneError, AcceptRefusal, Subscription};
 use std::alloc::{AllocError, Global};
@@ -58,7 +58,7 @@ pub enum Answer {
 
 /// A broker, and what a row has made so far.
 #[derive(Drop)]
-pub struct Row<L: Hall> {
+pub struct History<L: Hall> {
     pub bench: Bench<L>,
     pub subscriptions: Vec<Subscription<L>>,
     pub deliveries: Vec<Delivery>,
@@ -78,9 +78,9 @@ fn made<T>(found: Option<T>) -> Result<T, Fail> {
     }
 }
 
-impl<L: Hall> Row<L> {
-    pub fn new(alloc: Global, bench: Bench<L>) -> Row<L> {
-        Row {
+impl<L: Hall> History<L> {
+    pub fn new(alloc: Global, bench: Bench<L>) -> History<L> {
+        History {
             bench,
             subscriptions: Vec::new(alloc),
             deliveries: Vec::new(alloc),
@@ -144,7 +144,7 @@ impl<L: Hall> Row<L> {
                 self.subscriptions.push_reserved(subscription);
                 Ok(Answer::Made)
             }
-            Err(RefusedTables { why, .. }) => match why {
+            Err(RefusedSubscription { why, .. }) => match why {
                 SubscribeError::Desk(error) => Ok(desk(error)),
                 SubscribeError::OtherSchema => Err(Fail::new("the schema is the broker's")),
             },

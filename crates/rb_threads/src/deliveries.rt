@@ -4,7 +4,7 @@
 ghost use Rattle.std.specs.Prelude.{◌≡◌};
 
 use crate::bench::Bench;
-use crate::calls::{Answer, Call, Row};
+use crate::calls::{Answer, Call, History};
 use crate::given::schema;
 use Answer::{Accepted, Closed, Desk, Done, Drained, Expired, Floor, Link, Made, Placed, Refused};
 use Call::{
@@ -12,7 +12,7 @@ use Call::{
 };
 use cs_apply::Tables;
 use cs_model::Schema;
-use rb_broker::{Hall, Opened, RefusedTables, SubscribeError};
+use rb_broker::{Hall, Opened, RefusedSubscription, SubscribeError};
 use rb_desk::{Config, DeskRefusal};
 use rb_subscriber::{AcceptRefusal, MOST_SUBSCRIPTIONS, Missing};
 use std::alloc::Global;
@@ -152,7 +152,7 @@ fn counts<L: Hall, R: Wait + Abort>(
     requires queue { opened.queue ≡ L.queue }
     requires ledger { (opened.ledger ≡ L.name) × (L.parts ≡ 1024) × (L.all ≡ 1024) }
 {
-    let mut rows = Row::<L>::new(alloc, Bench::start(alloc, opened)?);
+    let mut rows = History::<L>::new(alloc, Bench::start(alloc, opened)?);
     rows.run(rt, alloc, row)?;
     audits(rt, alloc, rows, steps)
 }
@@ -161,10 +161,10 @@ fn counts<L: Hall, R: Wait + Abort>(
 fn audits<L: Hall, R: Wait + Abort>(
     rt: &R,
     alloc: Global,
-    rows: Row<L>,
+    rows: History<L>,
     steps: u64,
 ) -> Result<(), Fail> {
-    let Row {
+    let History {
         mut bench,
         subscriptions,
         ..
@@ -197,7 +197,8 @@ fn refuses_tables<L: Hall, R: Wait + Abort>(
     let bench = Bench::<L>::start(alloc, opened)?;
     let schema = Arc::new(alloc, Schema::empty(alloc))?;
     let tables = Tables::new(alloc, schema, Vec::new(alloc));
-    let Err(RefusedTables { why, tables }) = bench.broker.subscribe(rt, alloc, tables, 5) else {
+    let Err(RefusedSubscription { why, tables }) = bench.broker.subscribe(rt, alloc, tables, 5)
+    else {
         return Err(Fail::new("the tables are of no table"));
     };
     assert_eq!(rt; why, SubscribeError::OtherSchema);
@@ -220,7 +221,7 @@ fn subscribes_often<L: Hall, R: Wait + Abort>(
     requires queue { opened.queue ≡ L.queue }
     requires ledger { (opened.ledger ≡ L.name) × (L.parts ≡ 1024) × (L.all ≡ 1024) }
 {
-    let mut rows = Row::<L>::new(alloc, Bench::start(alloc, opened)?);
+    let mut rows = History::<L>::new(alloc, Bench::start(alloc, opened)?);
     for _ in 0..MOST_SUBSCRIPTIONS {
         rows.run(rt, alloc, &[(Subscribe(0), Made)])?;
     }

@@ -1,8 +1,8 @@
 use Rattle.std.specs.Arc.{arc_value}
-use Rattle.rb_broker.proofs.SchemaLaws.{refuses_tables}
+use Rattle.rb_broker.proofs.SchemaLaws.{tables_come_back}
 use Rattle.rb_broker.proofs.broker.Broker.subscribe.Goals as goal
 
 pub returns-clause-refused : goal.returns-clause-refused
 returns-clause-refused g c =
-    refuses_tables c.subscribe.result c.args.tables (arc_value c.args.self.now.schema) c.args.start _ _
+    tables_come_back c.subscribe.result c.args.tables (arc_value c.args.self.now.schema) c.args.start _ _
     (c.has_schema.ensures.0 c.if-not-has_schema.false) c.subscribe.ensures

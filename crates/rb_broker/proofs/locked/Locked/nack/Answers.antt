@@ -1,6 +1,6 @@
 use Rattle.std.proofs.Common.{◌∙◌, sym, ap, arith}
 use Rattle.rb_subscriber.specs.Register.{RegisterState}
-use Rattle.rb_broker.proofs.HoldLaws.{one_step, shows_on, capacity_on}
+use Rattle.rb_broker.proofs.HoldLaws.{step_keeps, shows_on, capacity_on}
 use Rattle.rb_broker.proofs.locked.Locked.nack.Goals as goal
 
 -- what the lock says of the desk goes on, with one own step more
@@ -9,7 +9,7 @@ invariant_of-self-2 g c =
     let cells = g.L.StepLedger.cells in
     let old = c.args.self.now in
     let new = c.nack.new.self in
-    let keeps = one_step old.desk new _ _ (λ desk x p. c.steps_are_counted.ensures.own desk x p)
+    let keeps = step_keeps old.desk new _ _ (λ desk x p. c.steps_are_counted.ensures.own desk x p)
     (c.only_subscribe_and_close.ensures.nack old.desk.picture _ _ _) c.in_ok-nack.ensures.1 in
     let total = ap (λ (r : RegisterState). r.total) c.count.ensures.total in
     record {

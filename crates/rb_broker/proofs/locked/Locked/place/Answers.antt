@@ -1,6 +1,6 @@
 use Rattle.std.proofs.Common.{◌∙◌, subst, sym, arith}
 use Rattle.rb_sequence.specs.Cells.{Cells, IsReadyFor}
-use Rattle.rb_broker.proofs.HoldLaws.{one_step, shows_on, capacity_on}
+use Rattle.rb_broker.proofs.HoldLaws.{step_keeps, shows_on, capacity_on}
 use Rattle.rb_broker.proofs.locked.Locked.place.Goals as goal
 
 -- the entry is ready for a cell of the filler
@@ -13,7 +13,7 @@ invariant_of-self g c =
     let cells = g.L.StepLedger.cells in
     let old = c.args.self.now in
     let new = c.place.new.self in
-    let keeps = one_step old.desk new _ _ (λ desk x p. c.steps_are_counted.ensures.own desk x p)
+    let keeps = step_keeps old.desk new _ _ (λ desk x p. c.steps_are_counted.ensures.own desk x p)
     (c.only_subscribe_and_close.ensures.place old.desk.picture) c.place.ensures.new in
     record {
       fits = capacity_on cells old.desk new _ keeps old.fits;

@@ -3,7 +3,7 @@ use Rattle.rb_subscriber.specs.Register.{RegisterState}
 use Rattle.rb_desk.specs.Calls.{take}
 use Rattle.rb_desk.specs.declared.delivery.Delivery.{Delivery}
 use Rattle.rb_desk.specs.declared.refusal.DeskRefusal.{DeskRefusal}
-use Rattle.rb_broker.proofs.HoldLaws.{answered, one_step, shows_on, capacity_on}
+use Rattle.rb_broker.proofs.HoldLaws.{answered, step_keeps, shows_on, capacity_on}
 use Rattle.rb_broker.proofs.locked.Locked.take.Goals as goal
 
 -- what the lock says of the desk goes on, with one own step more
@@ -12,7 +12,7 @@ invariant_of-self g c =
     let cells = g.L.StepLedger.cells in
     let old = c.args.self.now in
     let new = c.take.new.self in
-    let keeps = one_step old.desk new _ _ (λ desk x p. c.steps_are_counted.ensures.own desk x p)
+    let keeps = step_keeps old.desk new _ _ (λ desk x p. c.steps_are_counted.ensures.own desk x p)
     (c.only_subscribe_and_close.ensures.take old.desk.picture _ _ _ _) c.in-Ok.ensures.1 in
     let total = ap (λ (r : RegisterState). r.total) c.count.ensures.total in
     record {

@@ -1,6 +1,6 @@
 use Rattle.std.proofs.Common.{◌∙◌, refl, sym, arith}
 use Rattle.rb_desk.specs.declared.step.Step.TheVariants as step
-use Rattle.rb_broker.proofs.HoldLaws.{kept, none_more, shows_on, capacity_on}
+use Rattle.rb_broker.proofs.HoldLaws.{call_keeps, none_more, shows_on, capacity_on}
 use Rattle.rb_broker.proofs.locked.Locked.take_any.Goals as goal
 
 -- what the lock says of the desk goes on
@@ -9,7 +9,7 @@ invariant_of-self g c =
     let cells = g.L.StepLedger.cells in
     let old = c.args.self.now in
     let new = c.take_any.new.self in
-    let keeps = kept c.take_any.result _ (step.TakeAny c.args.now) old.desk new (λ desk s p. c.steps_are_counted.ensures.own desk s p)
+    let keeps = call_keeps c.take_any.result _ (step.TakeAny c.args.now) old.desk new (λ desk s p. c.steps_are_counted.ensures.own desk s p)
     (c.only_subscribe_and_close.ensures.take_any old.desk.picture c.args.now) c.take_any.ensures in
     record {
       fits = capacity_on cells old.desk new _ keeps old.fits;
