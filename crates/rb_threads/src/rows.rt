@@ -67,12 +67,12 @@ pub(crate) fn stage<L: Hall>(
 
 // The number that a turn places. If memory runs out, the item is in hand, and the next turn tries
 // it again.
-pub(crate) fn placed<L: Hall, R: Wait + Abort>(
+fn placed<L: Hall, R: Wait + Abort>(
     rt: &R,
     alloc: Global,
-    bench: &mut Bench<L>,
+    broker: &Broker<L>,
+    sequencer: &mut Sequencer<L>,
 ) -> Option<u64> {
-    let (sequencer, broker) = (&mut bench.sequencer, &bench.broker);
     for _ in 0..2 {
         match sequencer.turn(rt, alloc, broker) {
             Turn::Placed(told) => return Some(told.number()),
@@ -97,7 +97,7 @@ pub(crate) fn put<L: Hall, R: Wait + Abort>(
     if bench.publisher.send(rt, &bench.broker, set).is_err() {
         return Err(Fail::new("the intake is full"));
     }
-    Ok(placed(rt, alloc, bench))
+    Ok(placed(rt, alloc, &bench.broker, &mut bench.sequencer))
 }
 
 fn fills_the_intake<L: Hall, R: Wait + Abort>(
@@ -125,10 +125,19 @@ fn fills<L: Hall, R: Wait + Abort>(
     let Err(SendRefusal::Full(set)) = bench.publisher.send(rt, &bench.broker, set) else {
         return Err(Fail::new("the intake is full"));
     };
-    assert_eq!(rt; placed(rt, alloc, bench), Some(1));
+    assert_eq!(rt;
+        placed(rt, alloc, &bench.broker, &mut bench.sequencer),
+        Some(1)
+    );
     assert_eq!(rt; bench.publisher.send(rt, &bench.broker, set).ok(), Some(2));
-    assert_eq!(rt; placed(rt, alloc, bench), Some(2));
-    assert_eq!(rt; placed(rt, alloc, bench), None);
+    assert_eq!(rt;
+        placed(rt, alloc, &bench.broker, &mut bench.sequencer),
+        Some(2)
+    );
+    assert_eq!(rt;
+        placed(rt, alloc, &bench.broker, &mut bench.sequencer),
+        None
+    );
     assert!(rt; bench.sequencer.hand().is_none());
     Ok(())
 }
@@ -141,7 +150,10 @@ fn fills_the_sequence<L: Hall, R: Wait + Abort>(
 ) -> Result<(), Fail> {
     assert_eq!(rt; put(rt, alloc, bench, &insert(3))?, None);
     assert_eq!(rt; own_in_hand(&bench.sequencer), Some(3));
-    assert_eq!(rt; placed(rt, alloc, bench), None);
+    assert_eq!(rt;
+        placed(rt, alloc, &bench.broker, &mut bench.sequencer),
+        None
+    );
     assert_eq!(rt; own_in_hand(&bench.sequencer), Some(3));
     has_two(rt, &bench.sequencer);
     Ok(())
@@ -188,7 +200,10 @@ fn takes_back<L: Hall, R: Wait + Abort>(
     let set = bench.publisher.withdraw(alloc, bench.broker.sequence(), 1)?;
     assert_eq!(rt; set.withdraws().map(Told::number), Some(1));
     assert_eq!(rt; bench.publisher.send(rt, &bench.broker, set).ok(), Some(2));
-    assert_eq!(rt; placed(rt, alloc, bench), Some(2));
+    assert_eq!(rt;
+        placed(rt, alloc, &bench.broker, &mut bench.sequencer),
+        Some(2)
+    );
     let Some(entry) = bench.broker.sequence().get(2) else {
         return Err(Fail::new("entry 2 is placed"));
     };
@@ -286,5 +301,9 @@ fn stays_in_hand<L: Hall, R: Wait + Abort>(
     };
     assert_eq!(rt; told.last(), 0);
     assert_eq!(rt; own_in_hand(&bench.sequencer), Some(1));
+    let (refused, drained) = (PlaceRefusal::Closed(told.again()), TakeError::Drained(told));
+    let said = format!(in alloc; "{refused}, {drained}")?;
+    let text = "the sequence is closed, everything up to the last number is settled";
+    assert_eq!(rt; said.as_str(), text);
     Ok(())
 }
