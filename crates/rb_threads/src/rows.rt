@@ -7,8 +7,8 @@ use crate::bench::Bench;
 use crate::given::{insert, opened, publisher};
 use cs_model::Origin;
 use rb_broker::{
-    AddRefusal, Hall, MOST_PUBLISHERS, Opened, PlaceRefusal, Publisher, SendRefusal, StagedSet,
-    WithdrawRefusal,
+    AddRefusal, Broker, Hall, MOST_PUBLISHERS, Opened, PlaceRefusal, Publisher, SendRefusal,
+    StagedSet, TakeError, WithdrawRefusal,
 };
 use rb_sequence::Told;
 use rb_sequencer::{Sequencer, Turn};
