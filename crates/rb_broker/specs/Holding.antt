@@ -17,7 +17,7 @@ use Rattle.rb_broker.specs.declared.refusal.SubscribeError.TheVariants as subscr
 use Rattle.rb_broker.specs.declared.refusal.TakeError.{TakeError}
 use Rattle.rb_broker.specs.declared.refusal.TakeError.TheVariants as taking
 
--- a subscription of which one more step is counted_step
+-- a subscription of which one more step is counted
 abbrev pub counted_step : SubscriptionState → SubscriptionState
 counted_step s = record s { steps = s.steps + 1 }
 

@@ -115,6 +115,14 @@ impl<L: Hall> Broker<L> {
         &self.sequence
     }
 
+    /// Its sequence and its intake, for its end. Nobody else has the broker then.
+    pub fn into_parts(self) -> (Sequence, Intake)
+        ensures sequence { result.0 ≡ L.cells }
+        ensures intake { result.1.queue ≡ L.queue }
+    {
+        (self.sequence, self.intake)
+    }
+
     /// Sends an item under a publisher's pass. `Publisher::send` calls it.
     pub(crate) fn push<R: Wait>(
         &self,

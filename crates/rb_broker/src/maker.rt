@@ -47,6 +47,13 @@ impl<L: Hall> PublisherMaker<L> {
         self.pass.made()
     }
 
+    /// Its pass, for the end of the broker. It makes no more publishers.
+    pub fn into_pass(self) -> MakerPass
+        ensures { result ≡ record { queue = L.queue; made = self } }
+    {
+        self.pass
+    }
+
     /// Makes a publisher, with an empty stream. No other has its number.
     ///
     /// Refuses `TooMany` if there are 64 publishers, then `Memory`. Nothing changes then.

@@ -69,6 +69,17 @@ impl<L: Hall> Publisher<L> {
         self.pass.sent()
     }
 
+    /// Its pass, for the end of the broker. It sends nothing more.
+    pub fn into_pass(self) -> PublisherPass
+        ensures { result ≡ record {
+          queue = L.queue;
+          publisher = self.number;
+          sent = self.sent;
+        } }
+    {
+        self.pass
+    }
+
     /// Feeds the next piece of a changeset. Any cut is fine.
     ///
     /// Returns `Fault` with the piece that contains a fault's byte, and for each later piece until

@@ -1,1 +1,3 @@
 pub mod MeetLaws
+pub mod FinishLaws
+pub mod HeadlineLaws

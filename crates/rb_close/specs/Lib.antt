@@ -1,1 +1,3 @@
 pub mod Meeting
+pub mod Finishing
+pub mod Headline

@@ -1,11 +1,9 @@
 //! Owners that meet: what both of them have.
 
-ghost use Rattle.std.specs.Prelude.{◌≡◌, ◌<◌, ◌-◌, ◌≤◌, ℕ, length, max, min};
-ghost use Rattle.rb_close.specs.Meeting.{ShareEntry, token_accepted};
+ghost use Rattle.std.specs.Prelude.{◌≡◌, ◌<◌, ◌≤◌, ℕ, length, max, min};
+ghost use Rattle.rb_close.specs.Meeting.{HasMet, ShareEntry, token_accepted};
 ghost use Rattle.rb_sequence.specs.Cells.{IsTokenOf};
 ghost use Rattle.rb_sequencer.specs.Turns.{token_of};
-ghost use Rattle.rb_subscriber.specs.Accept.{part};
-ghost use Rattle.rb_subscriber.specs.Shown.{entries_told};
 ghost use Rattle.rb_subscriber.specs.Subscription.{cursor_of};
 
 use rb_broker::Hall;
@@ -43,9 +41,8 @@ pub fn meet_sequencer<L: Hall>(
         (min (cursor_of subscription.now) (length sequencer.now.placed)) }
     ensures same { (n : ℕ) → result.0 < n → n ≤ result.1
         → ShareEntry (token_of sequencer.now.placed n) (token_accepted subscription.now n) }
-    ensures part { result.1 ≡ cursor_of subscription.now → entries_told subscription.now.told
-        ≡ part (entries_told sequencer.now.placed) subscription.now.start
-        (cursor_of subscription.now - subscription.now.start) }
+    ensures part { result.1 ≡ cursor_of subscription.now
+        → HasMet sequencer.now subscription.now }
 {
     let start = subscription.start();
     let last = start.max(subscription.cursor().min(sequencer.placed()));

@@ -1,6 +1,6 @@
 -- One more item among those of a publisher, and numbers that count up.
 use Rattle.std.proofs.Common.{◌≡◌, ◌≢◌, ℕ, suc, ◌+◌, true, false, ◌==◌, List, [], ◌∷◌, ◌++◌, length, cond}
-use Rattle.std.proofs.Common.{ap, ◌∙◌, inl, inr, subst, arith}
+use Rattle.std.proofs.Common.{ap, ◌∙◌, inl, inr, subst, arith, refl, sym}
 use Rattle.std.proofs.lemmas.Bool.Decides.{eqb_tells}
 use Rattle.std.proofs.lemmas.List.Elements.{filter-append}
 use Rattle.std.proofs.lemmas.List.{append-nil}
@@ -51,3 +51,11 @@ pub numbered_pulled : (p : ℕ) (sent pulled waiting : List Item) → sent ≡ p
     → CountsUp p pulled
 numbered_pulled p sent pulled waiting is all = own_numbers_front 1 (own_of p pulled) (own_of p waiting)
     (subst UpFromOne (ap (own_of p) is ∙ own_append p pulled waiting) all)
+
+-- nothing of a publisher in the front, if there is nothing of it in all
+pub none_of_front : (p : ℕ) (front back : List Item) → own_of p (front ++ back) ≡ [] → own_of p front ≡ []
+none_of_front p front back none = no_front (own_of p front) (own_of p back) (sym (own_append p front back) ∙ none)
+  where
+    no_front : (xs ys : List Item) → xs ++ ys ≡ [] → xs ≡ []
+    no_front [] ys e = refl
+    no_front (x ∷ xs) ys e = absurd (cc e)

@@ -1,6 +1,6 @@
 -- Each kind of step keeps the rule of the intake.
 use Rattle.std.proofs.Common.{◌≡◌, ◌≢◌, ℕ, zero, suc, List, [], ◌∷◌, ◌++◌, length, set, sym, refl, ap, ◌∙◌}
-use Rattle.std.proofs.Common.{subst, ⊎_elim, append_assoc, Some, None, arith, inl, inr, ◌<◌}
+use Rattle.std.proofs.Common.{subst, ⊎_elim, append_assoc, Some, None, arith, inl, inr, ◌<◌, ◌⊎◌}
 use Rattle.std.specs.List.{AllByRecursion}
 use Rattle.std.proofs.lemmas.Bool.Decides.{eqb_tells}
 use mathlib.Core.Option.{some, some-ne-none, some-injective}
@@ -10,13 +10,14 @@ use Rattle.crossbeam_queue.proofs.Lists.{at_set}
 use Rattle.rb_sequence.specs.declared.item.Item.{Item}
 use Rattle.rb_sequence.specs.Items.{own_of, CountsUp}
 use Rattle.rb_intake.specs.declared.known.Known.{Known}
-use Rattle.rb_intake.specs.declared.known.Known.TheVariants.{Starts, Makes, Sends, Pulls, Spent}
+use Rattle.rb_intake.specs.declared.known.Known.TheVariants.{Starts, Makes, Sends, Pulls, Ends, Spent}
+use Rattle.rb_intake.specs.Joined.{HasEndedAs, JoinedOnce}
 use Rattle.rb_intake.specs.Rule.{History, HasEnded, IsSo, KeepsOrder, made_one, newcomer, sequencer_first}
-use Rattle.rb_intake.specs.Rule.{maker, sent_one}
+use Rattle.rb_intake.specs.Rule.{maker, sent_one, ended_with_maker, AreFronts, AreWhole}
 use Rattle.rb_intake.specs.Rule.{pulled_one, taken_in, pulled_in, ended_in, IsPulledOr}
 use Rattle.rb_intake.proofs.Views.{EachPass, each_pass_set, each_pass_more, with_seat, here, elsewhere, all_weaker}
 use Rattle.rb_intake.proofs.Views.{all_more}
-use Rattle.rb_intake.proofs.ItemLaws.{UpFromOne, own_more, own_other, numbered_more, numbered_pulled}
+use Rattle.rb_intake.proofs.ItemLaws.{UpFromOne, own_more, own_other, numbered_more, numbered_pulled, none_of_front}
 
 -- ---- the first pass
 
@@ -51,6 +52,7 @@ first_others h pass now so j Starts isnt was = absurd (isnt (was.0 ∙ sym so.0)
 first_others h pass now so j (Makes n) isnt was = absurd (isnt (was.0 ∙ sym so.1))
 first_others h pass now so j (Sends p items) isnt was = was
 first_others h pass now so j (Pulls items ended) isnt was = absurd (isnt (was.0 ∙ sym so.0))
+first_others h pass now so j (Ends items ended n) isnt was = absurd (isnt (was.0 ∙ sym so.0))
 first_others h pass now so j Spent isnt was = tt
 
 pub forks_first : (pass : ℕ) (v : Known) → v ≡ Starts → Forks KeepsOrder pass v (sequencer_first v) (maker v)
@@ -60,7 +62,7 @@ forks_first pass v is waiting views kept at =
     let vs : List Known = set views pass (Pulls [] []) in
     let new : History = record h { maker = length vs } in
     let none : [] ≡ h.pulled = nothing_before h.pulled waiting (sym so.3 ∙ kept.1.waits) in
-    let old : EachPass (IsSo new) vs = each_pass_set (IsSo new) views pass (Pulls [] []) (so.0, none, tt)
+    let old : EachPass (IsSo new) vs = each_pass_set (IsSo new) views pass (Pulls [] []) (so.0, none, tt, tt)
     (λ j u isnt e. first_others h pass (length vs) so j u isnt (kept.1.known j u e)) in (
       new,
       record {
@@ -91,7 +93,9 @@ make_others h pass now n is_maker made j (Pulls items ended) isnt was = (
         omega (arith, made, ends.1),
         ends.2,
       )) was.2,
+  was.3,
 )
+make_others h pass now n is_maker made j (Ends items ended m) isnt was = absurd (isnt (was.3 ∙ sym is_maker))
 make_others h pass now n is_maker made j Spent isnt was = tt
 
 pub forks_make : (pass : ℕ) (v : Known) (n : ℕ) → v ≡ Makes n → Forks KeepsOrder pass v (made_one v) (newcomer v)
@@ -141,6 +145,20 @@ push_others h pass p x mine below is j (Pulls items ended) isnt was = (
         ends.1,
         ends.2 ∙ sym (own_other e.0 h.sent x (λ same. absurd (cc (ends.0, mine, same, is)))),
       )) was.2,
+  was.3,
+)
+push_others h pass p x mine below is j (Ends items ended n) isnt was = (
+  was.0,
+  was.1,
+  all_weaker (HasEnded h) (HasEnded (record h { sent = h.sent ++ x ∷ [] })) ended
+      (λ e ends. (
+        ends.0,
+        ends.1,
+        ends.2 ∙ sym (own_other e.0 h.sent x (λ same. absurd (cc (ends.0, mine, same, is)))),
+      )) was.2,
+  was.3,
+  was.4,
+  was.5,
 )
 push_others h pass p x mine below is j Spent isnt was = tt
 
@@ -186,6 +204,7 @@ pull_others h pass x reader j Starts isnt was = was
 pull_others h pass x reader j (Makes m) isnt was = was
 pull_others h pass x reader j (Sends q items) isnt was = was
 pull_others h pass x reader j (Pulls items ended) isnt was = absurd (isnt (was.0 ∙ sym reader))
+pull_others h pass x reader j (Ends items ended n) isnt was = absurd (isnt (was.0 ∙ sym reader))
 pull_others h pass x reader j Spent isnt was = tt
 
 pub pop_keeps : (pass : ℕ) (v : Known) (items : List Item) (ended : List (ℕ × List Item)) → v ≡ Pulls items ended
@@ -204,7 +223,7 @@ pop_keeps pass v items ended is x waiting views kept at =
           waits = flows;
           numbered = kept.1.numbered;
           later = kept.1.later;
-          known = each_pass_set (IsSo new) views pass (Pulls (items ++ x ∷ []) ended) (so.0, grown, so.2)
+          known = each_pass_set (IsSo new) views pass (Pulls (items ++ x ∷ []) ended) (so.0, grown, so.2, so.3)
               (λ j u isnt e. pull_others h pass x so.0 j u isnt (kept.1.known j u e));
         },
       ),
@@ -228,6 +247,29 @@ learns pass v items ended is waiting views kept at =
         all_weaker (HasEnded h) (IsPulledOr items waiting) ended
         (λ e ends. ends.2 ∙ ap (own_of e.0) (kept.1.waits ∙ ap (λ l. l ++ waiting) (sym so.1))) so.2
 
+-- ---- who was joined
+
+not_ended : (h : History) (ended : List (ℕ × List Item)) (p : ℕ) → AllByRecursion (HasEnded h) ended
+    → HasEndedAs p ended → h.pass_of p ≡ None
+not_ended h [] p all has = absurd has
+not_ended h (e ∷ rest) p all has =
+    ⊎_elim (λ same. subst (λ q. h.pass_of q ≡ None) same all.0.0) (λ later. not_ended h rest p all.1 later) has
+
+has_before : (ended : List (ℕ × List Item)) (p q : ℕ) (sent : List Item) → HasEndedAs q (ended ++ (p, sent) ∷ [])
+    → HasEndedAs q ended ⊎ (p ≡ q)
+has_before [] p q sent has = ⊎_elim (λ same. inr same) (λ none. absurd none) has
+has_before (e ∷ rest) p q sent has =
+    ⊎_elim (λ same. inl (inl same))
+    (λ later. ⊎_elim (λ before. inl (inr before)) (λ same. inr same) (has_before rest p q sent later)) has
+
+apart_more : (ended : List (ℕ × List Item)) (p : ℕ) (sent : List Item) → JoinedOnce ended → (HasEndedAs p ended → ⊥)
+    → JoinedOnce (ended ++ (p, sent) ∷ [])
+apart_more [] p sent apart new = (λ none. none, tt)
+apart_more (e ∷ rest) p sent apart new = (
+  λ has. ⊎_elim (λ before. apart.0 before) (λ same. new (inl (sym same))) (has_before rest p e.0 sent has),
+  apart_more rest p sent apart.1 (λ later. new (inr later)),
+)
+
 -- ---- a publisher's pass is joined
 
 join_others : (h : History) (pass other p : ℕ) → pass ≡ h.reader → h.pass_of p ≡ Some other → (j : ℕ) (u : Known)
@@ -237,6 +279,7 @@ join_others h pass other p reader theirs j (Makes m) isnt apart was = was
 join_others h pass other p reader theirs j (Sends q items) isnt apart was =
     (elsewhere h.pass_of p q None (λ e. apart (cc (was.0, theirs, e))) ∙ was.0, was.1, was.2)
 join_others h pass other p reader theirs j (Pulls items ended) isnt apart was = absurd (isnt (was.0 ∙ sym reader))
+join_others h pass other p reader theirs j (Ends items ended n) isnt apart was = absurd (isnt (was.0 ∙ sym reader))
 join_others h pass other p reader theirs j Spent isnt apart was = tt
 
 pub merges : (pass : ℕ) (v : Known) (other : ℕ) (w : Known) (items : List Item) (ended : List (ℕ × List Item)) (p : ℕ)
@@ -264,6 +307,7 @@ merges pass v other w items ended p sent is is' waiting views kept at two at' =
           so.1,
           all_more (HasEnded new) ended (p, sent) ends
               (here h.pass_of p None, theirs.2, theirs.1),
+          apart_more ended p sent so.3 (λ has. absurd (cc (not_ended h ended p so.2 has, theirs.0))),
         ))
         (λ j u isnt e apart. join_others h pass other p so.0 theirs.0 j u isnt apart (kept.1.known j u e)) in (
           new,
@@ -276,4 +320,95 @@ merges pass v other w items ended p sent is is' waiting views kept at two at' =
             );
             known = each_pass_set (IsSo new) (set views pass both) other Spent tt (λ j u apart e. now j u e apart);
           },
+        )
+
+-- ---- no publisher is made any more
+
+end_others : (h : History) (pass other : ℕ) → pass ≡ h.reader → other ≡ h.maker → (j : ℕ) (u : Known) → j ≢ pass
+    → j ≢ other → IsSo h j u → IsSo (record h { maker = pass }) j u
+end_others h pass other reader maker_is j Starts isnt apart was = absurd (isnt (was.0 ∙ sym reader))
+end_others h pass other reader maker_is j (Makes m) isnt apart was = absurd (apart (was.0 ∙ sym maker_is))
+end_others h pass other reader maker_is j (Sends q items) isnt apart was = was
+end_others h pass other reader maker_is j (Pulls items ended) isnt apart was = absurd (isnt (was.0 ∙ sym reader))
+end_others h pass other reader maker_is j (Ends items ended n) isnt apart was = absurd (isnt (was.0 ∙ sym reader))
+end_others h pass other reader maker_is j Spent isnt apart was = tt
+
+pub ends_keeps : (pass : ℕ) (v : Known) (other : ℕ) (w : Known) (items : List Item) (ended : List (ℕ × List Item)) (n : ℕ)
+    → v ≡ Pulls items ended → w ≡ Makes n → Merges KeepsOrder pass v other w (ended_with_maker v w) Spent
+ends_keeps pass v other w items ended n is is' waiting views kept at two at' =
+    subst (λ (u : Known). KeepsOrder waiting (set (set views pass u) other Spent))
+    (λ i. ended_with_maker (sym is i) (sym is' i)) merged
+  where
+    merged : KeepsOrder waiting (set (set views pass (Ends items ended n)) other Spent)
+    merged =
+        let h : History = kept.0 in
+        let both : Known = Ends items ended n in
+        let so : IsSo h pass (Pulls items ended) = kept.1.known pass (Pulls items ended) (at ∙ ap some is) in
+        let was : get_elem? views other ≡ some w =
+        ⊎_elim (λ x. absurd (two x.0)) (λ x. x.1) (at_set views pass other (ended_with_maker v w) w at') in
+        let theirs : IsSo h other (Makes n) = kept.1.known other (Makes n) (was ∙ ap some is') in
+        let new : History = record h { maker = pass } in
+        let now : EachPass (λ j u. j ≢ other → IsSo new j u) (set views pass both) =
+        each_pass_set (λ j u. j ≢ other → IsSo new j u) views pass both
+        (λ _. (so.0, so.1, so.2, refl, theirs.1, so.3))
+        (λ j u isnt e apart. end_others h pass other so.0 theirs.0 j u isnt apart (kept.1.known j u e)) in (
+          new,
+          record {
+            waits = kept.1.waits;
+            numbered = kept.1.numbered;
+            later = kept.1.later;
+            known = each_pass_set (IsSo new) (set views pass both) other Spent tt (λ j u apart e. now j u e apart);
+          },
+        )
+
+-- ---- the last pass
+
+pub last_keeps : (pass : ℕ) (v : Known) (items : List Item) (ended : List (ℕ × List Item)) (n : ℕ) → v ≡ Ends items ended n
+    → Pops KeepsOrder pass v (λ x w. (w ≡ pulled_one v x) × AreFronts w)
+last_keeps pass v items ended n is x waiting views kept at =
+    let h : History = kept.0 in
+    let so : IsSo h pass (Ends items ended n) = kept.1.known pass (Ends items ended n) (at ∙ ap some is) in
+    let new : History = record h { pulled = h.pulled ++ x ∷ [] } in
+    let flows : h.sent ≡ (h.pulled ++ x ∷ []) ++ waiting =
+    kept.1.waits ∙ sym (append_assoc h.pulled (x ∷ []) waiting) in
+    let grown : items ++ x ∷ [] ≡ h.pulled ++ x ∷ [] = ap (λ l. l ++ x ∷ []) so.1 in
+    let all : h.sent ≡ (items ++ x ∷ []) ++ waiting = flows ∙ ap (λ l. l ++ waiting) (sym grown) in (
+      Ends (items ++ x ∷ []) ended n,
+      (
+        new,
+        record {
+          waits = flows;
+          numbered = kept.1.numbered;
+          later = kept.1.later;
+          known = each_pass_set (IsSo new) views pass (Ends (items ++ x ∷ []) ended n) (so.0, grown, so.2, so.3, so.4, so.5)
+              (λ j u isnt e. pull_others h pass x so.0 j u isnt (kept.1.known j u e));
+        },
+      ),
+      (
+        ap (λ u. pulled_one u x) (sym is),
+        (
+          (
+            waiting,
+            all_weaker (HasEnded h) (IsPulledOr (items ++ x ∷ []) waiting) ended
+                (λ e ends. ends.2 ∙ ap (own_of e.0) all) so.2,
+          ),
+          λ p above. none_of_front p (items ++ x ∷ []) waiting
+              (ap (own_of p) (sym all) ∙ (kept.1.later p (omega (arith, above, so.4))).1),
+        ),
+      ),
+    )
+
+-- at any moment, what a joined publisher sent was pulled or waits
+pub last_learns : (pass : ℕ) (v : Known) (items : List Item) (ended : List (ℕ × List Item)) (n : ℕ) → v ≡ Ends items ended n
+    → Learns KeepsOrder pass v (AreWhole v)
+last_learns pass v items ended n is waiting views kept at = subst (λ u. AreWhole u waiting) (sym is) learned
+  where
+    learned : AreWhole (Ends items ended n) waiting
+    learned =
+        let h : History = kept.0 in
+        let so : IsSo h pass (Ends items ended n) = kept.1.known pass (Ends items ended n) (at ∙ ap some is) in
+        let all = kept.1.waits ∙ ap (λ l. l ++ waiting) (sym so.1) in (
+          all_weaker (HasEnded h) (IsPulledOr items waiting) ended (λ e ends. ends.2 ∙ ap (own_of e.0) all) so.2,
+          λ p above. ap (own_of p) (sym all) ∙ (kept.1.later p (omega (arith, above, so.4))).1,
+          so.5,
         )

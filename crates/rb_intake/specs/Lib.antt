@@ -1,2 +1,4 @@
+pub mod Joined
 pub mod Rule
 pub mod Passes
+pub mod Draining

@@ -6,8 +6,9 @@ use mathlib.Core.Option.{some}
 use lib.ListN.{get_elem?}
 use Rattle.rb_sequence.specs.declared.item.Item.{Item}
 use Rattle.rb_sequence.specs.Items.{own_of, CountsUp}
+use Rattle.rb_intake.specs.Joined.{JoinedOnce}
 use Rattle.rb_intake.specs.declared.known.Known.{Known}
-use Rattle.rb_intake.specs.declared.known.Known.TheVariants.{Starts, Makes, Sends, Pulls, Spent}
+use Rattle.rb_intake.specs.declared.known.Known.TheVariants.{Starts, Makes, Sends, Pulls, Ends, Spent}
 
 -- What happened to an intake: all items that were sent, in the order in which they came in, and
 -- those of them that were pulled. The numbers of the passes: the sequencer's, the maker's, and that
@@ -30,7 +31,9 @@ IsSo h pass Starts = (pass ≡ h.reader) × (pass ≡ h.maker) × (h.made ≡ 0)
 IsSo h pass (Makes n) = (pass ≡ h.maker) × (n ≡ h.made)
 IsSo h pass (Sends p items) = (h.pass_of p ≡ Some pass) × (items ≡ own_of p h.sent) × (p < h.made)
 IsSo h pass (Pulls items ended) = (pass ≡ h.reader) × (items ≡ h.pulled)
-    × AllByRecursion (HasEnded h) ended
+    × AllByRecursion (HasEnded h) ended × JoinedOnce ended
+IsSo h pass (Ends items ended n) = (pass ≡ h.reader) × (items ≡ h.pulled)
+    × AllByRecursion (HasEnded h) ended × (pass ≡ h.maker) × (n ≡ h.made) × JoinedOnce ended
 IsSo h pass Spent = Unit {0}
 
 -- What was sent is what was pulled, then what waits. Each publisher's own numbers count from 1.
@@ -69,12 +72,18 @@ sent_one v x = v
 
 abbrev pub pulled_one : Known → Item → Known
 pulled_one (Pulls items ended) x = Pulls (items ++ x ∷ []) ended
+pulled_one (Ends items ended n) x = Ends (items ++ x ∷ []) ended n
 pulled_one v x = v
 
 -- the sequencer's pass joins a publisher's
 abbrev pub taken_in : Known → Known → Known
 taken_in (Pulls items ended) (Sends p sent) = Pulls items (ended ++ (p, sent) ∷ [])
 taken_in v w = v
+
+-- the sequencer's pass joins the maker's
+abbrev pub ended_with_maker : Known → Known → Known
+ended_with_maker (Pulls items ended) (Makes n) = Ends items ended n
+ended_with_maker v w = v
 
 -- ---- what a pass knows, in parts
 
@@ -84,12 +93,32 @@ sent_in v = []
 
 abbrev pub pulled_in : Known → List Item
 pulled_in (Pulls items ended) = items
+pulled_in (Ends items ended n) = items
 pulled_in v = []
 
 abbrev pub ended_in : Known → List (ℕ × List Item)
 ended_in (Pulls items ended) = ended
+ended_in (Ends items ended n) = ended
 ended_in v = []
+
+abbrev pub made_in : Known → ℕ
+made_in (Ends items ended n) = n
+made_in v = 0
 
 -- what a joined publisher sent was pulled or waits
 abbrev pub IsPulledOr : List Item → List Item → ℕ × List Item → Type 0
 IsPulledOr pulled waiting e = e.1 ≡ own_of e.0 (pulled ++ waiting)
+
+-- What each joined publisher sent was pulled or waits, and nothing was sent by a publisher that was
+-- never made.
+abbrev pub AreWhole : Known → List Item → Type 0
+AreWhole v waiting = AllByRecursion (IsPulledOr (pulled_in v) waiting) (ended_in v)
+    × ((p : ℕ) → made_in v ≤ p → own_of p (pulled_in v ++ waiting) ≡ []) × JoinedOnce (ended_in v)
+
+-- what was pulled of each joined publisher is the front of what it sent
+abbrev pub AreBegun : List Item → List (ℕ × List Item) → Type 0
+AreBegun pulled ended = (waiting : List Item) × AllByRecursion (IsPulledOr pulled waiting) ended
+
+-- so it is, and nothing was pulled of a publisher that was never made
+abbrev pub AreFronts : Known → Type 0
+AreFronts v = AreBegun (pulled_in v) (ended_in v) × ((p : ℕ) → made_in v ≤ p → own_of p (pulled_in v) ≡ [])

@@ -3,10 +3,13 @@
 ghost use Rattle.std.specs.Prelude.{◌≡◌, ◌<◌, ◌++◌, ◌∷◌, [], ℕ, suc, length, IfOk, IfErr, OnOk};
 ghost use Rattle.std.specs.Prelude.{OnErr, MatchOption};
 ghost use Rattle.rb_sequence.specs.Items.{CountsUp};
-ghost use Rattle.rb_intake.specs.Passes.{IsAllPulled};
+ghost use Rattle.std.specs.Prelude.{◌+◌, ◌≤◌, vec_len, vec_capacity};
+ghost use Rattle.rb_intake.specs.Passes.{IsAllPulled, total_sent, Drains};
+ghost use Rattle.rb_intake.specs.Joined.{HasEndedAs};
+ghost use Rattle.rb_intake.specs.Draining.{PopsLast};
 
-use crate::passes::{MakerPass, PublisherPass, SequencerPass};
-use crate::rule::{Begin, Make, Pop, Push, Queue, TakeIn};
+use crate::passes::{LastPass, MakerPass, PublisherPass, SequencerPass};
+use crate::rule::{Begin, Make, Pop, PopLast, Push, Queue, TakeIn, TakeMaker};
 use rb_sequence::Item;
 use std::alloc::{AllocError, Global};
 use std::marker::Model;
@@ -121,5 +124,44 @@ impl Intake {
         } }
     {
         self.queue.absorb::<TakeIn>(&mut pass.seat, publisher.seat);
+    }
+
+    /// Takes in the pass of the maker: no publisher is made any more.
+    pub fn end(&self, pass: SequencerPass, maker: MakerPass) -> LastPass
+        requires queue { pass.queue ≡ self.now.queue }
+        requires maker { maker.queue ≡ self.now.queue }
+        ensures { result ≡ record {
+          queue = pass.queue;
+          pulled = pass.pulled;
+          ended = pass.ended;
+          made = maker.made;
+        } }
+    {
+        let mut seat = pass.seat;
+        self.queue.absorb::<TakeMaker>(&mut seat, maker.seat);
+        LastPass { seat }
+    }
+
+    // pulls the item that waits first
+    fn pop_last<R: Wait>(&self, rt: &R, pass: &mut LastPass) -> Option<Item>
+        requires queue { pass.old.queue ≡ self.now.queue }
+        ensures { PopsLast result pass.old pass.new }
+    {
+        self.queue.pop_as::<PopLast, R>(rt, &mut pass.seat)
+    }
+
+    /// Takes all items that wait, and appends them to `left`. All publishers that were made have
+    /// been joined, and there is room for what they sent and nobody pulled.
+    pub fn drain<R: Wait>(&self, rt: &R, pass: LastPass, left: &mut Vec<Item>)
+        requires queue { pass.queue ≡ self.now.queue }
+        requires all { (p : ℕ) → p < pass.made → HasEndedAs p pass.ended }
+        requires room { total_sent pass.ended + vec_len left.old
+            ≤ length pass.pulled + vec_capacity left.old }
+        ensures { Drains pass left.old.items left.new.items }
+    {
+        let mut pass = pass;
+        while let Some(item) = self.pop_last(rt, &mut pass) {
+            left.push_reserved(item);
+        }
     }
 }

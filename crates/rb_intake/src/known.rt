@@ -13,6 +13,8 @@ pub enum Known {
     Sends(u64, LinkedList<Item>),
     /// What the sequencer pulled, and what each publisher sent whose pass was joined.
     Pulls(LinkedList<Item>, LinkedList<(u64, LinkedList<Item>)>),
+    /// As `Pulls`, where no publisher is made any more, and how many were made.
+    Ends(LinkedList<Item>, LinkedList<(u64, LinkedList<Item>)>, u64),
     /// Nothing any more: a pass that was joined.
     Spent,
 }

@@ -10,4 +10,4 @@ mod rule;
 
 pub use intake::Intake;
 pub use known::Known;
-pub use passes::{MakerPass, PublisherPass, SequencerPass};
+pub use passes::{LastPass, MakerPass, PublisherPass, SequencerPass};

@@ -111,3 +111,33 @@ impl Model for SequencerPass {
         × (known p.seat ≡ Pulls (pulled_in (known p.seat)) (ended_in (known p.seat)))
         × ((q : ℕ) → CountsUp q (pulled_in (known p.seat))) };
 }
+
+/// Lets its owner pull what is left, when no publisher is made any more. It is what a sequencer's
+/// pass becomes.
+#[derive(Drop)]
+pub struct LastPass {
+    pub(crate) seat: Seat,
+}
+
+impl Model for LastPass {
+    ghost use Rattle.std.specs.Prelude.{◌≡◌, []};
+    ghost use Rattle.crossbeam_queue.specs.Passes.{view as known};
+    ghost use Rattle.rb_intake.specs.Passes.{LastKnows, last_knows_code};
+    ghost use Rattle.rb_intake.specs.Rule.{pulled_in, ended_in, made_in};
+    ghost use Rattle.rb_intake.specs.declared.known.Known.TheVariants.{Ends};
+
+    ghost Value = { LastKnows };
+
+    ghost coded = { last_knows_code };
+
+    ghost view = { λ p. record {
+      queue = p.seat.table_id;
+      pulled = pulled_in (known p.seat);
+      ended = ended_in (known p.seat);
+      made = made_in (known p.seat);
+    } };
+
+    ghost invariant = { λ p. (p.seat.me.1 ≡ [])
+        × (known p.seat
+        ≡ Ends (pulled_in (known p.seat)) (ended_in (known p.seat)) (made_in (known p.seat))) };
+}

@@ -51,6 +51,18 @@ impl Join<Known> for TakeIn {
     ghost spent = { Spent };
 }
 
+/// The sequencer's pass takes in the maker's: no publisher is made any more.
+pub(crate) struct TakeMaker;
+
+impl Join<Known> for TakeMaker {
+    ghost use Rattle.rb_intake.specs.Rule.{ended_with_maker};
+    ghost use Rattle.rb_intake.specs.declared.known.Known.TheVariants.{Spent};
+
+    ghost both = { ended_with_maker };
+
+    ghost spent = { Spent };
+}
+
 /// A publisher pushes an item, or finds the queue full.
 pub(crate) struct Push;
 
@@ -85,6 +97,23 @@ impl Lesson<Item, Known> for Pop {
     ghost use Rattle.rb_intake.specs.Rule.{pulled_in, ended_in, IsPulledOr};
 
     ghost fact = { λ v items. AllByRecursion (IsPulledOr (pulled_in v) items) (ended_in v) };
+}
+
+/// The last pass pops an item, or finds the queue empty. What was pulled of a joined publisher is
+/// the front of what it sent, and nothing was pulled of one that was never made.
+pub(crate) struct PopLast;
+
+impl Outcome<Item, Known> for PopLast {
+    ghost use Rattle.std.specs.Prelude.{◌≡◌};
+    ghost use Rattle.rb_intake.specs.Rule.{pulled_one, AreFronts};
+
+    ghost then = { λ v item w. (w ≡ pulled_one v item) × AreFronts w };
+}
+
+impl Lesson<Item, Known> for PopLast {
+    ghost use Rattle.rb_intake.specs.Rule.{AreWhole};
+
+    ghost fact = { AreWhole };
 }
 
 /// The queue under the rule, and its passes.

@@ -2,10 +2,8 @@
 use Rattle.std.specs.Prelude.{◌≡◌, ℕ, zero, suc, List, [], ◌∷◌, ◌++◌, length, map, Option, Some}
 use Rattle.std.specs.Prelude.{None}
 use Rattle.std.specs.Prelude.{slice_get, ◌⊎◌, refl}
-use Rattle.std.specs.Coded.{Coded, code_by, coded×, coded_list, coded_option, coded_ℕ}
-use Rattle.std.specs.List.{AllByRecursion}
+use Rattle.std.specs.Coded.{Coded, code_by, coded×, coded_list, coded_option}
 use Rattle.rb_sequence.specs.Cells.{Cells, CellToken, IsTokenOf, token_code}
-use Rattle.rb_sequence.specs.Items.{own_of}
 use Rattle.rb_sequence.specs.contracts.item.Item as item
 use Rattle.rb_sequence.specs.declared.item.Item.{Item}
 use Rattle.rb_intake.specs.Passes.{items_code}
@@ -13,14 +11,12 @@ use Rattle.rb_broker.specs.Placing.{ShowsWhy}
 use Rattle.rb_sequencer.specs.declared.turn.Turn.{Turn}
 use Rattle.rb_sequencer.specs.declared.turn.Turn.TheVariants.{Placed, Idle, Refused}
 
--- A sequencer: the items that it pulled, in order; the tokens of what it placed, in order; the item
--- in hand, which it pulled and hasn't placed; and the publishers whose passes it joined, each with
--- what it sent.
+-- A sequencer: the items that it pulled, in order; the tokens of what it placed, in order; and the
+-- item in hand, which it pulled and hasn't placed.
 pub record SequencerState : Type 0 where
   pub pulled : List Item
   pub placed : List CellToken
   pub hand : Option Item
-  pub ended : List (ℕ × List Item)
 
 abbrev pub items_placed : List CellToken → List Item
 items_placed tokens = map (λ t. t.entry.item) tokens
@@ -49,25 +45,20 @@ IsTurn cells old new (Placed told) = (mid : SequencerState) × TakesUp old.hand 
     × (told.number ≡ suc (length old.placed)) × (told.entry.number ≡ told.number)
     × (new ≡ record mid { placed = old.placed ++ told ∷ []; hand = None })
 IsTurn cells old new Idle = (old.hand ≡ None) × (new ≡ old)
-    × AllByRecursion (λ e. e.1 ≡ own_of e.0 new.pulled) new.ended
 IsTurn cells old new (Refused why) = TakesUp old.hand old new × ShowsWhy cells why
 
 -- it is stored as its parts
 abbrev pub sequencer_code : Coded SequencerState
-sequencer_code = code_by (List Item × (List CellToken × (Option Item × List (ℕ × List Item))))
-    (coded× items_code (coded× (coded_list token_code) (coded× (coded_option item.the_row.coded)
-    (coded_list (coded× coded_ℕ items_code)))))
-    (λ s. (s.pulled, (s.placed, (s.hand, s.ended))))
-    (λ p. record { pulled = p.0; placed = p.1.0; hand = p.1.1.0; ended = p.1.1.1 })
-    (λ _. refl)
+sequencer_code = code_by (List Item × (List CellToken × Option Item))
+    (coded× items_code (coded× (coded_list token_code) (coded_option item.the_row.coded)))
+    (λ s. (s.pulled, (s.placed, s.hand)))
+    (λ p. record { pulled = p.0; placed = p.1.0; hand = p.1.1 }) (λ _. refl)
 
 -- ---- the two halves of a turn
 
 -- an empty hand takes up the next item, or stays empty because nothing waits
 abbrev pub FillsHand : SequencerState → SequencerState → Type 0
-FillsHand old new = TakesUp old.hand old new
-    ⊎ ((old.hand ≡ None) × (new ≡ old)
-    × AllByRecursion (λ e. e.1 ≡ own_of e.0 new.pulled) new.ended)
+FillsHand old new = TakesUp old.hand old new ⊎ ((old.hand ≡ None) × (new ≡ old))
 
 -- the item in hand becomes the next entry, or stays
 abbrev pub PlacesHand : Cells → SequencerState → SequencerState → Turn → Type 0

@@ -2,9 +2,8 @@
 
 ghost use Rattle.std.specs.Prelude.{◌≡◌, ◌++◌, ◌∷◌, [], ℕ, suc, length, Some, None, IsSome};
 ghost use Rattle.std.specs.Option.{option_copied};
-ghost use Rattle.std.specs.List.{AllByRecursion};
 ghost use Rattle.rb_sequence.specs.Cells.{AreInCells, IsTokenOf};
-ghost use Rattle.rb_sequence.specs.Items.{CountsUp, own_of};
+ghost use Rattle.rb_sequence.specs.Items.{CountsUp};
 ghost use Rattle.rb_sequencer.specs.Turns.{IsTurn, PlacesHand, FillsHand, in_hand};
 ghost use Rattle.rb_sequencer.specs.Turns.{items_placed, token_of};
 
@@ -26,7 +25,7 @@ pub struct Sequencer<L: Hall> {
 }
 
 impl<L: Hall> Model for Sequencer<L> {
-    ghost use Rattle.std.specs.Prelude.{◌≡◌, ◌++◌, ℕ};
+    ghost use Rattle.std.specs.Prelude.{◌≡◌, ◌++◌, [], ℕ};
     ghost use Rattle.rb_sequence.specs.Items.{CountsUp};
     ghost use Rattle.rb_sequence.specs.Cells.{AreInCells};
     ghost use Rattle.rb_sequencer.specs.Turns.{SequencerState, in_hand, items_placed};
@@ -40,21 +39,20 @@ impl<L: Hall> Model for Sequencer<L> {
       pulled = s.pass.pulled;
       placed = s.told.items;
       hand = s.hand;
-      ended = s.pass.ended;
     } };
 
     ghost invariant = { λ s. (s.pass.queue ≡ L.queue)
         × (s.pass.pulled ≡ items_placed s.told.items ++ in_hand s.hand)
         × AreInCells L.cells 1 s.told.items
-        × ((p : ℕ) → CountsUp p s.pass.pulled) };
+        × ((p : ℕ) → CountsUp p s.pass.pulled)
+        × (s.pass.ended ≡ []) };
 }
 
 impl<L: Hall> Sequencer<L> {
     /// The sequencer of the broker that `Broker::start` made with this pass.
     pub fn new(alloc: Global, pass: SequencerPass) -> Sequencer<L>
-        requires queue { pass.queue ≡ L.queue }
-        requires none { pass.pulled ≡ [] }
-        ensures { result ≡ record { pulled = []; placed = []; hand = None; ended = pass.ended } }
+        requires { pass ≡ record { queue = L.queue; pulled = []; ended = [] } }
+        ensures { result ≡ record { pulled = []; placed = []; hand = None } }
     {
         Sequencer {
             pass,
@@ -102,6 +100,17 @@ impl<L: Hall> Sequencer<L> {
             return Turn::Idle;
         }
         self.place(rt, alloc, broker)
+    }
+
+    /// Its pass, the item in hand and the tokens of what it placed, for the end of the broker. What
+    /// the pass pulled is what was placed, then the item in hand.
+    pub fn into_parts(self) -> (SequencerPass, Option<Item>, Vec<Told>)
+        ensures pass { result.0 ≡ record { queue = L.queue; pulled = self.pulled; ended = [] } }
+        ensures hand { result.1 ≡ self.hand }
+        ensures placed { result.2.items ≡ self.placed }
+        ensures pulled { self.pulled ≡ items_placed self.placed ++ in_hand self.hand }
+    {
+        (self.pass, self.hand, self.told)
     }
 
     // fills an empty hand from the intake

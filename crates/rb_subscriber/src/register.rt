@@ -27,7 +27,7 @@ pub struct Register<L: StepLedger> {
 }
 
 impl<L: StepLedger> Model for Register<L> {
-    ghost use Rattle.std.specs.Prelude.{◌≡◌, ◌+◌};
+    ghost use Rattle.std.specs.Prelude.{◌≡◌, ◌+◌, ◌<◌, ◌^◌};
     ghost use Rattle.rb_subscriber.specs.Register.{RegisterState, register_code};
 
     ghost Value = { RegisterState };
@@ -37,7 +37,7 @@ impl<L: StepLedger> Model for Register<L> {
     ghost view = { λ r. record { total = r.book.total; made = r.made } };
 
     ghost invariant = { λ r. (r.rest.parts + r.made ≡ L.all) × (L.all ≡ L.parts)
-        × (r.rest.amount ≡ 0) };
+        × (r.rest.amount ≡ 0) × (r.book.total < 2 ^ 64) };
 }
 
 /// Hears the subscriptions of a register, and adds up their steps. One that was heard is gone.
@@ -154,7 +154,6 @@ impl<L: StepLedger> Register<L> {
         subscriptions: Vec<Subscription<L>>,
     ) -> Result<u64, Missing<L>>
         requires all { L.all ≡ 1024 }
-        requires few { self.old.total < 2 ^ 64 }
         ensures total { IfOk result (λ sum. (sum ≡ self.old.total)
             × (sum ≡ auditor.old.sum + all_steps subscriptions.items)) }
         ensures heard { IfOk result (λ sum.
@@ -179,7 +178,6 @@ impl<L: StepLedger> Register<L> {
 
     // adds the steps of a subscription to the auditor's sum
     fn hear(&mut self, auditor: &mut Auditor<L>, subscription: Subscription<L>)
-        requires few { self.old.total < 2 ^ 64 }
         requires more { auditor.old.heard < self.old.made }
         ensures auditor { auditor.new ≡ record {
           sum = auditor.old.sum + subscription.steps;

@@ -5,11 +5,17 @@
 #[cfg(test)]
 mod bench;
 #[cfg(test)]
+mod beside;
+#[cfg(test)]
 mod calls;
 #[cfg(test)]
 mod cells;
 #[cfg(test)]
 mod deliveries;
+#[cfg(test)]
+mod desks;
+#[cfg(test)]
+mod finishing;
 #[cfg(test)]
 mod given;
 #[cfg(test)]

@@ -18,5 +18,7 @@ invariant_of-self-in-Ok g c =
       ap (λ (p : SequencerKnows). p.queue) kept ∙ c.self.invariant.0,
       ap (λ (p : SequencerKnows). p.pulled) kept ∙ placed.0,
       placed.1,
-      subst (λ (pass : SequencerKnows). (p : ℕ) → CountsUp p pass.pulled) (sym kept) c.self.invariant.3,
+      subst (λ (pass : SequencerKnows). (p : ℕ) → CountsUp p pass.pulled) (sym kept)
+          c.self.invariant.3,
+      ap (λ (p : SequencerKnows). p.ended) kept ∙ c.self.invariant.4,
     )

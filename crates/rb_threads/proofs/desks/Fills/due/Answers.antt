@@ -1,6 +1,6 @@
 use Rattle.std.proofs.Common.{subst}
 use Rattle.rb_sequence.specs.Cells.{Cells, IsReadyFor}
-use Rattle.rb_threads.proofs.subscriptions.Fills.due.Goals as goal
+use Rattle.rb_threads.proofs.desks.Fills.due.Goals as goal
 
 -- the cells are those of the preparer
 pub invariant_of-result : goal.invariant_of-result

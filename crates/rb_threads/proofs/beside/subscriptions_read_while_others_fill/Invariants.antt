@@ -1,4 +1,4 @@
-use Rattle.rb_threads.proofs.subscriptions.subscriptions_read_while_others_fill.Given as goal
+use Rattle.rb_threads.proofs.beside.subscriptions_read_while_others_fill.Given as goal
 
 -- the ledger that was just made, and the cells of the sequence
 abbrev pub ghosts-accepts_beside-L-Ledger : goal.ghosts-accepts_beside-L-Ledger

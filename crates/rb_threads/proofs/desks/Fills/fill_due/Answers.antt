@@ -1,6 +1,6 @@
 use Rattle.std.proofs.Common.{subst, sym}
 use Rattle.rb_sequence.specs.Cells.{Cells, IsReadyFor}
-use Rattle.rb_threads.proofs.subscriptions.Fills.fill_due.Goals as goal
+use Rattle.rb_threads.proofs.desks.Fills.fill_due.Goals as goal
 
 -- the entry is ready for a cell of the filler
 pub fill-requires : goal.fill-requires

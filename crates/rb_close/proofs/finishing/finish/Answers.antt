@@ -1,0 +1,12 @@
+use Rattle.std.proofs.Common.{subst}
+use Rattle.rb_close.specs.Finishing.{AreAllPresent, RefusesFinish}
+use Rattle.rb_close.proofs.finishing.finish.Goals as goal
+
+-- each publisher that was made is given
+pub end-requires-clause-given : goal.end-requires-clause-given
+end-requires-clause-given g c =
+    subst (λ ps. AreAllPresent c.args.maker ps) c.deref.ensures.value c.in-Ok.ensures.given
+
+pub returns-in-Err-clause-why : goal.returns-in-Err-clause-why
+returns-in-Err-clause-why g c =
+    subst (λ ps. RefusesFinish c.args.maker ps c.in-Err.why) c.deref.ensures.value c.in-Err.ensures.err
