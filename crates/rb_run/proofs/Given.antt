@@ -26,6 +26,10 @@ given_word (Some given) found name same =
 abbrev pub versioned : App → App
 versioned a = record a { top = record a.top { has_version = true } }
 
+-- a command that needs a subcommand
+abbrev pub asking : App → App
+asking a = record a { top = record a.top { subcommand_required = true } }
+
 -- ---- the program's words
 
 program_is_simple : is_simple program ≡ true

@@ -1,6 +1,7 @@
--- The limits, how a script is answered, and how rows are shown, from the options of a command line.
+-- The limits, how many subscribers a drive has, how a script is answered, and how rows are shown, from
+-- the options of a command line.
 use Rattle.std.specs.Prelude.{ℕ, Bool, false, List, [], Option, Some, None, Result, Ok, Err, codes}
-use Rattle.std.specs.Prelude.{if◌then◌else◌}
+use Rattle.std.specs.Prelude.{if◌then◌else◌, ◌&&◌, nat_le}
 use Rattle.std.specs.Option.{option_and_then}
 use Rattle.clap.specs.Walk.{Row, Text, first_of}
 use Rattle.rb_desk.specs.Limits.{Limits, first_out_of_range}
@@ -8,6 +9,8 @@ use Rattle.rb_desk.specs.declared.config.ConfigFault.{ConfigFault}
 use Rattle.rb_desk.specs.declared.config.ConfigFault.TheVariants.{Batch, Window, Timeout, Capacity}
 use Rattle.rb_desk.specs.declared.config.ConfigFault.TheVariants.{Intake, Appliers}
 use Rattle.cs_model.specs.Schema.{same_bytes}
+use Rattle.rb_run.specs.declared.options.RangeFault.{RangeFault}
+use Rattle.rb_run.specs.declared.options.RangeFault.TheVariants.{Limit, Subscribers}
 use Rattle.rb_script.specs.declared.answering.Answering.{Answering}
 use Rattle.rb_script.specs.declared.row_form.RowForm.{RowForm}
 use Rattle.rb_script.specs.declared.row_form.RowForm.TheVariants.{Sql, Json}
@@ -53,6 +56,10 @@ range_text Capacity = codes "--capacity takes a number from 1 to 16777216"
 range_text Intake = codes "--intake takes a number from 1 to 4096"
 range_text Appliers = codes "--appliers takes a number from 1 to 16"
 
+abbrev pub fault_text : RangeFault → List ℕ
+fault_text (Limit fault) = range_text fault
+fault_text Subscribers = codes "--subscribers takes a number from 1 to 16"
+
 -- the word of an option, among what a subcommand was given; the empty word if there is none
 abbrev pub word_or_none : Option (List ℕ) → List ℕ
 word_or_none None = []
@@ -70,6 +77,26 @@ config_by found = config_of (word_of found (codes "batch")) (word_of found (code
 -- whether an option that takes no word is set
 abbrev pub is_set : Option (Text × List Row) → Text → Bool
 is_set found name = same_bytes (word_of found name) (codes "true")
+
+-- how many subscribers a drive has, if the option's word spells a number from 1 to 16
+abbrev pub subscribers_in_range : ℕ → Option ℕ
+subscribers_in_range n = if nat_le 1 n && nat_le n 16 then Some n else None
+
+abbrev pub subscribers_by : Option (Text × List Row) → Option ℕ
+subscribers_by found = subscribers_in_range (value_of (word_of found (codes "subscribers")))
+
+-- the limits and the number of subscribers of a drive, or the first option whose word isn't a number
+-- in its range
+abbrev pub with_subscribers : Limits → Option ℕ → Result (Limits × ℕ) RangeFault
+with_subscribers limits None = Err Subscribers
+with_subscribers limits (Some n) = Ok (limits, n)
+
+abbrev pub drive_from : Result Limits ConfigFault → Option ℕ → Result (Limits × ℕ) RangeFault
+drive_from (Err fault) n = Err (Limit fault)
+drive_from (Ok limits) n = with_subscribers limits n
+
+abbrev pub drive_by : Option (Text × List Row) → Result (Limits × ℕ) RangeFault
+drive_by found = drive_from (config_by found) (subscribers_by found)
 
 -- how the script is answered
 abbrev pub answering_by : Option (Text × List Row) → Answering

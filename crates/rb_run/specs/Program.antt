@@ -1,6 +1,6 @@
 -- The command line: which words the program takes, what they ask for, and how the program ends that
 -- does this.
-use Rattle.std.specs.Prelude.{◌≡◌, ℕ, Bool, true, false, List, [], ◌∷◌, Option, Some, Result}
+use Rattle.std.specs.Prelude.{◌≡◌, ◌⊎◌, ℕ, Bool, true, false, List, [], ◌∷◌, Option, Some, Result}
 use Rattle.std.specs.Prelude.{Ok, Err, codes}
 use Rattle.std.specs.Io.KnownBytes.{Keeps}
 use Rattle.clap.specs.Faults.{fault_of}
@@ -19,8 +19,12 @@ use Rattle.rb_run.specs.declared.ending.Ending.{Ending}
 use Rattle.rb_run.specs.declared.ending.Ending.TheVariants.{Done, Stopped, Misused, OutOfRange}
 use Rattle.rb_run.specs.declared.job.Job.{Job}
 use Rattle.rb_run.specs.declared.job.Job.TheVariants as job
-use Rattle.rb_run.specs.Endings.{ending_of, ending_of_show}
-use Rattle.rb_run.specs.Options.{answering_by, config_by, form_by, is_called}
+use Rattle.rb_drive.specs.Run.{DriveEnds}
+use Rattle.rb_drive.specs.declared.fault.DriveFault.{DriveFault}
+use Rattle.rb_run.specs.Endings.{ending_of, ending_of_drive, ending_of_show}
+use Rattle.rb_run.specs.Options.{answering_by, config_by, drive_by, form_by, is_called}
+use Rattle.rb_run.specs.declared.options.RangeFault.{RangeFault}
+use Rattle.rb_run.specs.declared.options.RangeFault.TheVariants.{Limit}
 use Rattle.rb_script.specs.declared.answering.Answering.{Answering}
 use Rattle.rb_script.specs.declared.fault.ScriptFault.{ScriptFault}
 use Rattle.rb_script.specs.declared.fault.ScriptFault.TheVariants.{Memory, Write}
@@ -53,6 +57,17 @@ script_command = record (new_shape (codes "script")) {
       ∷ flag_option (codes "strict") ∷ [];
 }
 
+-- `drive`, with its options
+abbrev pub drive_command : Shape
+drive_command = record (new_shape (codes "drive")) {
+  has_version = true;
+  rules = limit_option (codes "batch") (codes "16") ∷ limit_option (codes "window") (codes "4")
+      ∷ limit_option (codes "timeout") (codes "10") ∷ limit_option (codes "capacity")
+      (codes "65536")
+      ∷ limit_option (codes "intake") (codes "64") ∷ limit_option (codes "subscribers")
+      (codes "1") ∷ [];
+}
+
 -- `show`, with its option
 abbrev pub show_command : Shape
 show_command = record (new_shape (codes "show")) {
@@ -68,7 +83,7 @@ program = record {
     has_version = true;
     subcommand_required = true;
   };
-  subs = script_command ∷ show_command ∷ [];
+  subs = script_command ∷ drive_command ∷ show_command ∷ [];
 }
 
 -- the limits that the words ask for, or the first option whose word isn't a number in its range
@@ -79,9 +94,18 @@ config_in words = config_by (subcommand_of program words)
 abbrev pub answering_in : List Text → Answering
 answering_in words = answering_by (subcommand_of program words)
 
+-- the limits and the number of subscribers of a drive that the words ask for, or the first option
+-- whose word isn't a number in its range
+abbrev pub drive_in : List Text → Result (Limits × ℕ) RangeFault
+drive_in words = drive_by (subcommand_of program words)
+
 -- whether the words call `show`, and how they ask for rows to be shown
 abbrev pub calls_show : List Text → Bool
 calls_show words = is_called (subcommand_of program words) (codes "show")
+
+-- whether they call `drive`
+abbrev pub calls_drive : List Text → Bool
+calls_drive words = is_called (subcommand_of program words) (codes "drive")
 
 abbrev pub form_in : List Text → RowForm
 form_in words = form_by (subcommand_of program words)
@@ -90,18 +114,23 @@ form_in words = form_by (subcommand_of program words)
 abbrev pub wrong_in : List Text → Kinds
 wrong_in words = fault_of program words
 
--- The program takes the words, and they call `show`, or another subcommand.
-abbrev pub AreTaken : Bool → List Text → Type 0
-AreTaken shows words = (wrong_in words ≡ []) × (calls_show words ≡ shows)
+-- The program takes the words, and they call `show`, or `drive`, or another subcommand.
+abbrev pub AreTaken : Bool → Bool → List Text → Type 0
+AreTaken shows drives words = (wrong_in words ≡ []) × (calls_show words ≡ shows)
+    × (calls_drive words ≡ drives)
 
 -- What the words ask for. If the program takes them, a script under their limits and in their way,
--- or a message about an option, or rows in their form; else a text to print, also if memory ran
--- out.
+-- or a drive under their limits with their number of subscribers, or a message about an option, or
+-- rows in their form; else a text to print, also if memory ran out.
 abbrev pub AsksFor : Job → List Text → Type 0
-AsksFor (job.Script limits how) words = AreTaken false words × (config_in words ≡ Ok limits)
-    × (how ≡ answering_in words)
-AsksFor (job.Range fault) words = AreTaken false words × (config_in words ≡ Err fault)
-AsksFor (job.Show form) words = AreTaken true words × (form ≡ form_in words)
+AsksFor (job.Script limits how) words = AreTaken false false words
+    × (config_in words ≡ Ok limits) × (how ≡ answering_in words)
+AsksFor (job.Drive limits n) words = AreTaken false true words × (drive_in words ≡ Ok (limits, n))
+AsksFor (job.Range fault) words = (AreTaken false true words × (drive_in words ≡ Err fault))
+    ⊎ ((limit : ConfigFault) × AreTaken false false words × (config_in words ≡ Err limit)
+    × (fault ≡ Limit limit))
+AsksFor (job.Show form) words = (wrong_in words ≡ []) × (calls_show words ≡ true)
+    × (form ≡ form_in words)
 AsksFor (job.Print e) words = HasKind (wrong_in words) e
 
 -- A script is answered under these limits and in this way: there is a result that it ends with, and
@@ -110,6 +139,12 @@ abbrev pub HasAnswered : Answering → Limits → Ending → Option (List ℕ) �
     → Option (List ℕ) → Option (List ℕ) → Type 0
 HasAnswered how limits ending r0 r w0 w = (script : Result (Unit {0}) ScriptFault)
     × ScriptEnds how limits script r0 r w0 w × (ending ≡ ending_of script)
+
+-- A drive is run: there is a result that it ends with, and the program ends as that says.
+abbrev pub HasDriven : Ending → Option (List ℕ) → Option (List ℕ) → Option (List ℕ)
+    → Option (List ℕ) → Type 0
+HasDriven ending r0 r w0 w = (driven : Result ℕ DriveFault) × DriveEnds driven r0 r w0 w
+    × (ending ≡ ending_of_drive driven)
 
 -- The same of rows that are shown in this form.
 abbrev pub HasShown : RowForm → Ending → Option (List ℕ) → Option (List ℕ) → Option (List ℕ)
@@ -131,11 +166,12 @@ EndsShown DisplayHelp text ending w0 w = HasPrinted ending
 EndsShown DisplayVersion text ending w0 w = HasPrinted ending
 EndsShown kind text ending w0 w = (ending ≡ Misused text) × Keeps w0 w
 
--- What the program that does this reads and writes, and how it ends. Only for a script and for rows
--- is anything read.
+-- What the program that does this reads and writes, and how it ends. Only for a script, a drive and
+-- rows is anything read.
 abbrev pub EndsFor : Job → Ending → Option (List ℕ) → Option (List ℕ) → Option (List ℕ)
     → Option (List ℕ) → Type 0
 EndsFor (job.Script limits how) ending r0 r w0 w = HasAnswered how limits ending r0 r w0 w
+EndsFor (job.Drive limits n) ending r0 r w0 w = HasDriven ending r0 r w0 w
 EndsFor (job.Range fault) ending r0 r w0 w = (ending ≡ OutOfRange fault) × Keeps r0 r × Keeps w0 w
 EndsFor (job.Show form) ending r0 r w0 w = HasShown form ending r0 r w0 w
 EndsFor (job.Print text) ending r0 r w0 w = EndsShown (kind_of text) text ending w0 w × Keeps r0 r

@@ -3,8 +3,8 @@
 ghost use Rattle.std.specs.Prelude.{◌≡◌, false, IfOk};
 ghost use Rattle.clap.specs.Words.{app_of, rule_of};
 ghost use Rattle.clap.specs.declared.builder.command.Command.TheViews.{out-Command};
-ghost use Rattle.rb_run.specs.Program.{flag_option, limit_option, program, script_command};
-ghost use Rattle.rb_run.specs.Program.{show_command};
+ghost use Rattle.rb_run.specs.Program.{drive_command, flag_option, limit_option, program};
+ghost use Rattle.rb_run.specs.Program.{script_command, show_command};
 
 use clap::{Arg, ArgAction, Command};
 use std::alloc::{AllocError, Global};
@@ -56,6 +56,35 @@ Statuses:
   3  --strict, and a line is refused or faulty: one line on standard error says its number, the line
      and its answer, such as rb_run: line 7: take 0 3: refused Empty 0";
 
+// the text after the options of `drive --help`
+const DRIVEN: &str = "\
+Call it with a file:
+  rb_run drive < FILE
+
+Lines:
+  table HEX           a table, as in a script
+  changeset P HEX     a changeset of publisher P, from 0 to 63
+
+All `table` lines come first, and at most 65536 other lines. Bytes are hexadecimal, - for none. Each
+publisher sends its changesets in their order, the sequencer numbers them, and each subscriber
+applies all of them to empty tables: all in threads of their own. When all is drained, it reports:
+
+  placed COUNT        changesets that have a number
+  left COUNT          changesets that were sent and have none
+  unsent COUNT        lines that were neither sent nor found faulty
+  publisher P line L fault AT KIND, or refused NAME INDEX
+                      a faulty line, which is passed over
+  subscriber S cursor N drained, or conflict POSITION KIND
+                      each subscriber, and its rows as in a script
+
+Statuses:
+  0  the report is written
+  1  it stopped, with one line on standard error: the number of the first line that is none of the
+     two, a read fault, a write fault, stopped (a thread can't be made, or memory ran out in one), or
+     out of memory; but for a write fault nothing is on standard output
+  2  the command line is faulty
+  3  the report is written, and a subscriber ended by a conflict";
+
 // the text after the option of `show --help`
 const ROWS: &str = "\
 Call it with a script's `table` lines, and then its answers:
@@ -82,6 +111,7 @@ pub fn program<'a>(alloc: Global) -> Result<Command<'a>, AllocError>
         .about("A replication broker for SQLite changesets")
         .subcommand_required(true)
         .subcommand(script(alloc)?)?
+        .subcommand(drive(alloc)?)?
         .subcommand(show(alloc)?)
 }
 
@@ -141,6 +171,54 @@ fn script<'a>(alloc: Global) -> Result<Command<'a>, AllocError>
         .arg(intake)?
         .arg(numbers)?
         .arg(strict)
+}
+
+// the subcommand `drive`
+fn drive<'a>(alloc: Global) -> Result<Command<'a>, AllocError>
+    ensures app { IfOk result (λ command. (app_of command).top ≡ drive_command) }
+    ensures local { IfOk result (λ command. (out-Command command).has_globals ≡ false) }
+{
+    let batch = limit(
+        alloc,
+        "batch",
+        "16",
+        "The most entries in a delivery, 1 to 256",
+    );
+    let window = limit(
+        alloc,
+        "window",
+        "4",
+        "The most deliveries in flight to a subscription, 1 to 64",
+    );
+    let timeout = limit(
+        alloc,
+        "timeout",
+        "10",
+        "After how many ticks a delivery can be expired, 1 to 1000000000",
+    );
+    let capacity = limit(
+        alloc,
+        "capacity",
+        "65536",
+        "The most entries of the sequence, 1 to 16777216",
+    );
+    let intake = limit(
+        alloc,
+        "intake",
+        "64",
+        "The most changesets that wait to be placed, 1 to 4096",
+    );
+    let subscribers = limit(alloc, "subscribers", "1", "How many subscribers, 1 to 16");
+    Command::new(alloc, "drive")
+        .version(VERSION)
+        .about("Drives a broker with the changesets on standard input, in threads")
+        .after_help(DRIVEN)
+        .arg(batch)?
+        .arg(window)?
+        .arg(timeout)?
+        .arg(capacity)?
+        .arg(intake)?
+        .arg(subscribers)
 }
 
 // the subcommand `show`

@@ -3,24 +3,28 @@
 ghost use Rattle.std.specs.Prelude.{map, string_bytes};
 ghost use Rattle.clap.specs.Values.{kind_of};
 ghost use Rattle.rb_run.specs.Program.{EndsAsAsked, EndsFor, EndsShown, HasAnswered, HasPrinted};
-ghost use Rattle.rb_run.specs.Program.{HasShown};
+ghost use Rattle.rb_run.specs.Program.{HasDriven, HasShown};
 
 use crate::ending::Ending;
 use crate::job::Job;
 use clap::Error;
 use clap::error::ErrorKind;
 use rb_core::Config;
+use rb_drive::run_drive;
 use rb_script::{Answering, RowForm, ScriptFault, run_script, show};
 use std::alloc::Global;
 use std::io;
 use std::io::{Read, Write};
+use std::sync::Wait;
+use std::thread::Threads;
 
 /// Does what these words ask for. The first is the program's name.
 ///
-/// Answers the script in `reader` on `writer`, shows the rows in it there, or prints help or the
-/// version. If the words are faulty, nothing is read and nothing written, and the ending says what
+/// Answers the script in `reader` on `writer`, drives a broker with the changesets in it and reports
+/// there, shows the rows in it there, or prints help or the version. If the words are faulty, nothing is read and nothing written, and the ending says what
 /// is wrong.
-pub fn asked<R: Read, W: Write>(
+pub fn asked<T: Threads + Wait + Sync, R: Read, W: Write>(
+    rt: &T,
     alloc: Global,
     words: &[String],
     reader: &mut R,
@@ -30,15 +34,24 @@ pub fn asked<R: Read, W: Write>(
         (R.remaining reader.old) (R.remaining reader.new)
         (W.contents writer.old) (W.contents writer.new) }
 {
-    done(alloc, Job::of(alloc, words), reader, writer)
+    done(rt, alloc, Job::of(alloc, words), reader, writer)
 }
 
-fn done<R: Read, W: Write>(alloc: Global, job: Job, reader: &mut R, writer: &mut W) -> Ending
+fn done<T: Threads + Wait + Sync, R: Read, W: Write>(
+    rt: &T,
+    alloc: Global,
+    job: Job,
+    reader: &mut R,
+    writer: &mut W,
+) -> Ending
     ensures { EndsFor job result (R.remaining reader.old) (R.remaining reader.new)
         (W.contents writer.old) (W.contents writer.new) }
 {
     match job {
         Job::Script(config, how) => answered(alloc, config, how, reader, writer),
+        Job::Drive(config, subscribers) => {
+            driven(rt, alloc, config, subscribers, reader, writer)
+        }
         Job::Range(fault) => Ending::OutOfRange(fault),
         Job::Show(form) => showed(alloc, form, reader, writer),
         Job::Print(text) => printed(text, writer),
@@ -57,6 +70,21 @@ fn answered<R: Read, W: Write>(
         (W.contents writer.old) (W.contents writer.new) }
 {
     Ending::of(run_script(alloc, reader, writer, config, how))
+}
+
+// Drives a broker.
+fn driven<T: Threads + Wait + Sync, R: Read, W: Write>(
+    rt: &T,
+    alloc: Global,
+    config: Config,
+    subscribers: u64,
+    reader: &mut R,
+    writer: &mut W,
+) -> Ending
+    ensures { HasDriven result (R.remaining reader.old) (R.remaining reader.new)
+        (W.contents writer.old) (W.contents writer.new) }
+{
+    Ending::of_drive(run_drive(rt, alloc, reader, writer, config, subscribers))
 }
 
 // Shows rows.

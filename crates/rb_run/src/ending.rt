@@ -4,12 +4,13 @@ ghost use Rattle.std.specs.Prelude.{◌≡◌, codes, IfSome, OnOk};
 ghost use Rattle.std.specs.Io.KnownBytes.{Appends};
 ghost use Rattle.std.specs.IoError.{error_kind};
 ghost use Rattle.std.specs.Process.{exit_status};
-ghost use Rattle.rb_run.specs.Endings.{IsReported, ending_of, ending_of_show, ending_of_words};
+ghost use Rattle.rb_run.specs.Endings.{IsReported, ending_of, ending_of_drive, ending_of_show};
+ghost use Rattle.rb_run.specs.Endings.{ending_of_words};
 ghost use Rattle.rb_run.specs.Endings.{message, status_of};
 
-use crate::options::range;
+use crate::options::{RangeFault, range};
 use clap::Error;
-use rb_core::ConfigFault;
+use rb_drive::DriveFault;
 use rb_script::{RefusedLine, ScriptFault, ShowFault};
 use std::fmt::Display;
 use std::io;
@@ -28,10 +29,14 @@ pub enum Ending {
     Refused(RefusedLine),
     /// The showing of rows stopped.
     Unshown(ShowFault),
+    /// A drive ended without a report.
+    Undriven(DriveFault),
+    /// A subscriber of a drive ended by a conflict. The report says so.
+    Conflicting,
     /// The words of the command line aren't the program's, for this reason.
     Misused(Error),
     /// The word of an option isn't a number in its range.
-    OutOfRange(ConfigFault),
+    OutOfRange(RangeFault),
     /// A word of the command line isn't UTF-8.
     NotText,
 }
@@ -58,6 +63,17 @@ impl Ending {
         }
     }
 
+    /// The ending for this result of a drive.
+    pub fn of_drive(drive: Result<u8, DriveFault>) -> Ending
+        ensures { result ≡ ending_of_drive drive }
+    {
+        match drive {
+            Ok(0) => Ending::Done,
+            Ok(_) => Ending::Conflicting,
+            Err(fault) => Ending::Undriven(fault),
+        }
+    }
+
     /// The ending for words that can't be had, for this reason.
     pub fn of_words(why: &io::Error) -> Ending
         ensures { result ≡ ending_of_words (error_kind why.now) }
@@ -74,9 +90,9 @@ impl Ending {
     {
         match self {
             Ending::Done => 0,
-            Ending::Stopped(_) | Ending::Unshown(_) => 1,
+            Ending::Stopped(_) | Ending::Unshown(_) | Ending::Undriven(_) => 1,
             Ending::Misused(_) | Ending::OutOfRange(_) | Ending::NotText => 2,
-            Ending::Refused(_) => 3,
+            Ending::Refused(_) | Ending::Conflicting => 3,
         }
     }
 
@@ -88,16 +104,17 @@ impl Ending {
     }
 
     /// Says on `errors` why it ends so: a line that begins with the program's name, or what the
-    /// parser of command lines says. Says nothing if the request is done.
+    /// parser of command lines says. Says nothing if the request is done, or if a report says it.
     pub fn tell<E: Write>(&self, errors: &mut E) -> io::Result<()>
         ensures { OnOk result
             (IsReported self.now (E.contents errors.old) (E.contents errors.new)) }
     {
         match self {
-            Ending::Done => Ok(()),
+            Ending::Done | Ending::Conflicting => Ok(()),
             Ending::Stopped(fault) => write_line(errors, fault),
             Ending::Refused(line) => write_line(errors, line),
             Ending::Unshown(fault) => write_line(errors, fault),
+            Ending::Undriven(fault) => write_line(errors, fault),
             Ending::Misused(text) => write_text(errors, text),
             Ending::OutOfRange(fault) => write_line(errors, range(*fault)),
             Ending::NotText => write_line(errors, "an argument isn't UTF-8"),

@@ -5,9 +5,9 @@ ghost use Rattle.clap.specs.Words.{FailsBy, subcommand_of, subcommand_rows_of};
 ghost use Rattle.rb_run.specs.Program.{AsksFor, program, wrong_in};
 
 use crate::command::program;
-use crate::options::{answering, called, config, form};
+use crate::options::{RangeFault, answering, called, config, drive, form};
 use clap::{ArgMatches, Error};
-use rb_core::{Config, ConfigFault};
+use rb_core::Config;
 use rb_script::{Answering, RowForm};
 use std::alloc::Global;
 
@@ -16,8 +16,10 @@ use std::alloc::Global;
 pub enum Job {
     /// Answers a script under these limits, in this way.
     Script(Config, Answering),
+    /// Drives a broker under these limits, with so many subscribers.
+    Drive(Config, u64),
     /// Says which option's word isn't a number in its range.
-    Range(ConfigFault),
+    Range(RangeFault),
     /// Shows rows in this form.
     Show(RowForm),
     /// Prints help, the version or what is wrong with the words; or memory ran out.
@@ -32,9 +34,13 @@ impl Job {
         match found(alloc, words) {
             Err(shown) => Job::Print(shown),
             Ok(found) if called(&found, "show") => Job::Show(form(&found)),
+            Ok(found) if called(&found, "drive") => match drive(&found) {
+                Ok((config, subscribers)) => Job::Drive(config, subscribers),
+                Err(fault) => Job::Range(fault),
+            },
             Ok(found) => match config(&found) {
                 Ok(config) => Job::Script(config, answering(&found)),
-                Err(fault) => Job::Range(fault),
+                Err(fault) => Job::Range(RangeFault::Limit(fault)),
             },
         }
     }

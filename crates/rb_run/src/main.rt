@@ -1,7 +1,7 @@
-//! The program: parses a command line, and runs a script or shows rows from standard input to
-//! standard output. Theorem: `doing::asked` reads, writes and ends as the words ask for. They ask
-//! for a script under the limits and in the way of their options, for a message about the first
-//! faulty option, for rows in the form of their options, or for a text to print. The exit status
+//! The program: parses a command line, and runs a script, drives a broker or shows rows from standard
+//! input to standard output. Theorem: `doing::asked` reads, writes and ends as the words ask for. They ask
+//! for a script under the limits and in the way of their options, for a drive under these with so many
+//! subscribers, for a message about the first faulty option, for rows in the form of their options, or for a text to print. The exit status
 //! and the message on standard error are those of the ending.
 #![tactic(auto)]
 
@@ -18,12 +18,30 @@ ghost use Rattle.rb_run.specs.Program.{EndsAsAsked};
 
 use doing::asked;
 use ending::Ending;
-use std::io::BufWriter;
+use std::alloc::Global;
+use std::io::{BufWriter, Stdin, Stdout};
 use std::process::ExitCode;
+use std::sync::Wait;
+use std::thread::Threads;
 use std::{env, io};
 
+// What is read and written. Only `main` can say that threads may be made, so it hands these down.
+#[derive(Drop)]
+struct Streams {
+    stdin: Stdin,
+    stdout: Stdout,
+    // the same once more, for whoever has no buffer to put it in
+    spare: Stdout,
+}
+
 fn main(rt: HostRuntime) -> ExitCode {
-    let ending = run(&rt, words_of(&rt));
+    let words = words_of(&rt);
+    let streams = Streams {
+        stdin: rt.stdin(),
+        stdout: rt.stdout(),
+        spare: rt.stdout(),
+    };
+    let ending = run(&rt, rt.alloc(), words, streams);
     // if even this fails, nothing is left to do
     let _ = match BufWriter::new(rt.alloc(), rt.stderr()) {
         Ok(mut errors) => ending.tell(&mut errors),
@@ -39,25 +57,39 @@ fn words_of(rt: &HostRuntime) -> io::Result<Vec<String>> {
 }
 
 // Does what the command line asks for, if its words can be had.
-fn run(rt: &HostRuntime, words: io::Result<Vec<String>>) -> Ending
+fn run<T: Threads + Wait + Sync>(
+    rt: &T,
+    alloc: Global,
+    words: io::Result<Vec<String>>,
+    streams: Streams,
+) -> Ending
     ensures { MatchResult words
         (λ words. EndsAsAsked (map string_bytes words.items) result None None None None)
         (λ why. result ≡ ending_of_words (error_kind why)) }
 {
     match words {
-        Ok(words) => called(rt, &words),
+        Ok(words) => called(rt, alloc, &words, streams),
         Err(why) => Ending::of_words(&why),
     }
 }
 
 // Does what these words ask for, from standard input to standard output.
-fn called(rt: &HostRuntime, words: &[String]) -> Ending
+fn called<T: Threads + Wait + Sync>(
+    rt: &T,
+    alloc: Global,
+    words: &[String],
+    streams: Streams,
+) -> Ending
     ensures { EndsAsAsked (map string_bytes words.now) result None None None None }
 {
-    let alloc = rt.alloc();
-    match BufWriter::with_capacity(alloc, 65_536, rt.stdout()) {
-        Ok(mut writer) => asked(alloc, words, &mut rt.stdin(), &mut writer),
+    let Streams {
+        mut stdin,
+        stdout,
+        mut spare,
+    } = streams;
+    match BufWriter::with_capacity(alloc, 65_536, stdout) {
+        Ok(mut writer) => asked(rt, alloc, words, &mut stdin, &mut writer),
         // without a buffer the answers go out in parts
-        Err(_) => asked(alloc, words, &mut rt.stdin(), &mut rt.stdout()),
+        Err(_) => asked(rt, alloc, words, &mut stdin, &mut spare),
     }
 }

@@ -1,10 +1,10 @@
-//! Reads what is asked for from the options of a command line: the limits, how a script is
-//! answered, and how rows are shown.
+//! Reads what is asked for from the options of a command line: the limits, how many subscribers a
+//! drive has, how a script is answered, and how rows are shown.
 
 ghost use Rattle.std.specs.Prelude.{◌≡◌};
 ghost use Rattle.clap.specs.Words.{subcommand_rows_of};
-ghost use Rattle.rb_run.specs.Options.{answering_by, config_by, config_of, form_by, is_called};
-ghost use Rattle.rb_run.specs.Options.{is_set, range_text, value_of, word_of};
+ghost use Rattle.rb_run.specs.Options.{answering_by, config_by, config_of, drive_by, fault_text};
+ghost use Rattle.rb_run.specs.Options.{form_by, is_called, is_set, range_text, value_of, word_of};
 
 use clap::ArgMatches;
 use rb_core::{Config, ConfigFault};
@@ -21,6 +21,29 @@ pub fn config(found: &ArgMatches) -> Result<Config, ConfigFault>
     let capacity = word(found, "capacity");
     let intake = word(found, "intake");
     config_from(batch, window, timeout, capacity, intake)
+}
+
+/// The option whose word isn't a number in its range.
+#[derive(Clone, Copy, Debug, PartialEq, Eq)]
+pub enum RangeFault {
+    /// One of the limits.
+    Limit(ConfigFault),
+    /// The number of subscribers.
+    Subscribers,
+}
+
+/// The limits and the number of subscribers of a drive, or the first option whose word isn't a
+/// number in its range.
+pub fn drive(found: &ArgMatches) -> Result<(Config, u64), RangeFault>
+    ensures { result ≡ drive_by (subcommand_rows_of found.now) }
+{
+    match config(found) {
+        Err(fault) => Err(RangeFault::Limit(fault)),
+        Ok(config) => match value(word(found, "subscribers")) {
+            n @ 1..=16 => Ok((config, n)),
+            _ => Err(RangeFault::Subscribers),
+        },
+    }
 }
 
 /// How the options of the subcommand say that a script is answered.
@@ -103,7 +126,16 @@ fn value(word: &str) -> u64
 }
 
 /// The message about an option whose word isn't a number in its range.
-pub fn range(fault: ConfigFault) -> &'static str
+pub fn range(fault: RangeFault) -> &'static str
+    ensures { result.now ≡ fault_text fault }
+{
+    match fault {
+        RangeFault::Limit(fault) => limit_range(fault),
+        RangeFault::Subscribers => "--subscribers takes a number from 1 to 16",
+    }
+}
+
+fn limit_range(fault: ConfigFault) -> &'static str
     ensures { result.now ≡ range_text fault }
 {
     match fault {

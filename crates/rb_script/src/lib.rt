@@ -25,8 +25,14 @@ mod words;
 
 pub use answering::{Answering, RefusedLine};
 pub use fault::ScriptFault;
+pub use header::header_in;
+pub use lines::MOST_OF_LINE;
+pub use reading::parts;
+pub use replies::name_of;
 pub use row_form::RowForm;
 pub use script::{MOST_OF_SCRIPT, run_script};
 pub use show_fault::ShowFault;
 pub use showing::show;
-pub use words::number;
+pub use streams::{read_some, write_whole};
+pub use texts::add_row;
+pub use words::{is, number, octets};

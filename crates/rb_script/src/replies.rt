@@ -113,7 +113,8 @@ fn text_of_end_refusal(alloc: Global, why: AcceptRefusal) -> Result<String, Allo
     }
 }
 
-fn name_of(kind: FaultKind) -> &'static str
+/// The name of a kind of fault.
+pub fn name_of(kind: FaultKind) -> &'static str
     ensures { result.now ≡ kind_name kind }
 {
     match kind {

@@ -83,7 +83,9 @@ pub fn text_of_rows(alloc: Global, rows: &[(&RowKey, &Row)]) -> Result<Vec<u8>, 
     Ok(text)
 }
 
-fn add_row(alloc: Global, text: &mut Vec<u8>, key: &RowKey, row: &Row) -> Result<(), AllocError>
+/// Appends the line of a row to a text. Returns `AllocError` if memory runs out; a part of the line
+/// may be appended then.
+pub fn add_row(alloc: Global, text: &mut Vec<u8>, key: &RowKey, row: &Row) -> Result<(), AllocError>
     ensures { OnOk result (text.new.items ≡ text.old.items ++ row_text (key.now, row.now)) }
 {
     let table = key.table;

@@ -15,6 +15,8 @@ mod deliveries;
 #[cfg(test)]
 mod desks;
 #[cfg(test)]
+mod driving;
+#[cfg(test)]
 mod finishing;
 #[cfg(test)]
 mod given;

@@ -1,0 +1,191 @@
+-- What a line says is what it spells, in both directions.
+use Rattle.std.proofs.Common.{◌≡◌, ℕ, ◌<◌, ◌≤◌, Bool, true, false, cond, ltb, List, [], ◌∷◌, length}
+use Rattle.std.proofs.Common.{Option, Some, None, refl, sym, ap, subst, ◌∙◌}
+use Rattle.std.specs.Prelude.{codes}
+use Rattle.std.specs.Cmp.Lexicographic.{same_text}
+use Rattle.std.proofs.lemmas.Bool.{lt-ltb, ltb-true}
+use Rattle.std.proofs.lemmas.Option.{none-some}
+use Rattle.cs_model.specs.declared.shape.Shape.{Shape}
+use Rattle.cs_model.specs.Schema.{same_bytes}
+use Rattle.cs_parse.specs.Reading.{answer_of}
+use Rattle.rb_script.specs.Lines.{header_of_answer, most_of_line}
+use Rattle.rb_script.specs.Words.{bytes_of, number_in_word, words_of}
+use Rattle.rb_drive.specs.declared.entries.Entry.{Entry}
+use Rattle.rb_drive.specs.declared.entries.Entry.TheVariants.{Table, Changeset}
+use Rattle.rb_drive.specs.declared.input.Given.{Given}
+use Rattle.rb_drive.specs.Input.{SpellsTable, SpellsChangeset}
+use Rattle.rb_drive.specs.Reading.{table_of_shape, table_of, changeset_of_bytes, changeset_of, entry_of_words}
+use Rattle.rb_drive.specs.Reading.{entry_of, given_at}
+
+-- ---- what is spelled is said
+
+pub table_said : (line : List ℕ) (shape : Shape) → SpellsTable line shape → entry_of line ≡ Some (Table shape)
+table_said line shape s = ap entry_of_words s.words ∙ ap table_of s.hex ∙ ap table_of_shape s.header
+
+pub changeset_said : (line : List ℕ) (given : Given) → SpellsChangeset line given
+    → entry_of line ≡ Some (Changeset given.publisher given.text)
+changeset_said line given s =
+    ap entry_of_words s.words
+    ∙ ap (λ (p : Option ℕ). changeset_of p (bytes_of s.word)) s.publisher
+    ∙ ap (λ (t : Bool). cond t (changeset_of_bytes given.publisher (bytes_of s.word)) None)
+    (lt-ltb given.publisher 64 s.few)
+    ∙ ap (changeset_of_bytes given.publisher) s.hex
+
+-- ---- what is said is spelled
+
+abbrev shape_in : Option Entry → Option Shape
+shape_in None = None
+shape_in (Some (Table shape)) = Some shape
+shape_in (Some (Changeset publisher text)) = None
+
+abbrev publisher_in : Option Entry → Option ℕ
+publisher_in None = None
+publisher_in (Some (Table shape)) = None
+publisher_in (Some (Changeset publisher text)) = Some publisher
+
+abbrev text_in : Option Entry → Option (List ℕ)
+text_in None = None
+text_in (Some (Table shape)) = None
+text_in (Some (Changeset publisher text)) = Some text
+
+-- a number that is below 64, if there is one
+abbrev IsBelow : Option ℕ → Type 0
+IsBelow None = Unit {0}
+IsBelow (Some n) = n < 64
+
+-- words of a table
+record TableWords (words : List (List ℕ)) (shape : Shape) : Type 0 where
+  word : List ℕ
+  parts : words ≡ codes "table" ∷ word ∷ []
+  bytes : List ℕ
+  hex : bytes_of word ≡ Some bytes
+  header : header_of_answer (answer_of bytes) ≡ Some shape
+
+-- words of a changeset
+record ChangesetWords (words : List (List ℕ)) (publisher : ℕ) (text : List ℕ) : Type 0 where
+  number : List ℕ
+  word : List ℕ
+  parts : words ≡ codes "changeset" ∷ number ∷ word ∷ []
+  publisher_is : number_in_word number ≡ Some publisher
+  few : publisher < 64
+  hex : bytes_of word ≡ Some text
+
+-- `changeset` words are no table, and `table` words no changeset
+no_shape_of_bytes : (publisher : ℕ) (bytes : Option (List ℕ)) → shape_in (changeset_of_bytes publisher bytes) ≡ None
+no_shape_of_bytes publisher None = refl
+no_shape_of_bytes publisher (Some bytes) = refl
+
+no_shape : (publisher : Option ℕ) (bytes : Option (List ℕ)) → shape_in (changeset_of publisher bytes) ≡ None
+no_shape None bytes = refl
+no_shape (Some publisher) bytes = by (ltb publisher 64)
+  where
+    by : (t : Bool) → shape_in (cond t (changeset_of_bytes publisher bytes) None) ≡ None
+    by true = no_shape_of_bytes publisher bytes
+    by false = refl
+
+no_text_of_shape : (shape : Option Shape) → text_in (table_of_shape shape) ≡ None
+no_text_of_shape None = refl
+no_text_of_shape (Some shape) = refl
+
+no_text : (bytes : Option (List ℕ)) → text_in (table_of bytes) ≡ None
+no_text None = refl
+no_text (Some bytes) = no_text_of_shape (header_of_answer (answer_of bytes))
+
+table_words : (words : List (List ℕ)) (shape : Shape) → entry_of_words words ≡ Some (Table shape)
+    → TableWords words shape
+table_words [] shape is = absurd (none-some (Table shape) is)
+table_words (a ∷ []) shape is = absurd (none-some (Table shape) is)
+table_words (a ∷ b ∷ []) shape is = by_name (same_bytes a (codes "table")) refl is
+  where
+    by_header : (bytes : List ℕ) (found : Option Shape) → same_bytes a (codes "table") ≡ true
+        → bytes_of b ≡ Some bytes → header_of_answer (answer_of bytes) ≡ found
+        → table_of_shape found ≡ Some (Table shape) → TableWords (a ∷ b ∷ []) shape
+    by_header bytes None named hex has said = absurd (none-some (Table shape) said)
+    by_header bytes (Some found) named hex has said = record {
+      word = b;
+      parts = ap (λ (w : List ℕ). w ∷ b ∷ []) (same_text a (codes "table") (sym named));
+      bytes = bytes;
+      hex = hex;
+      header = has ∙ ap shape_in said;
+    }
+
+    by_bytes : (bytes : Option (List ℕ)) → same_bytes a (codes "table") ≡ true → bytes_of b ≡ bytes
+        → table_of bytes ≡ Some (Table shape) → TableWords (a ∷ b ∷ []) shape
+    by_bytes None named hex said = absurd (none-some (Table shape) said)
+    by_bytes (Some bytes) named hex said =
+        by_header bytes (header_of_answer (answer_of bytes)) named hex refl said
+
+    by_name : (t : Bool) → same_bytes a (codes "table") ≡ t
+        → cond t (table_of (bytes_of b)) None ≡ Some (Table shape) → TableWords (a ∷ b ∷ []) shape
+    by_name false named said = absurd (none-some (Table shape) said)
+    by_name true named said = by_bytes (bytes_of b) named refl said
+table_words (a ∷ b ∷ c ∷ []) shape is = absurd (by (same_bytes a (codes "changeset")) is)
+  where
+    by : (t : Bool) → cond t (changeset_of (number_in_word b) (bytes_of c)) None ≡ Some (Table shape) → ⊥
+    by false said = none-some (Table shape) said
+    by true said = none-some shape (sym (no_shape (number_in_word b) (bytes_of c)) ∙ ap shape_in said)
+table_words (a ∷ b ∷ c ∷ d ∷ more) shape is = absurd (none-some (Table shape) is)
+
+changeset_words : (words : List (List ℕ)) (publisher : ℕ) (text : List ℕ)
+    → entry_of_words words ≡ Some (Changeset publisher text) → ChangesetWords words publisher text
+changeset_words [] publisher text is = absurd (none-some (Changeset publisher text) is)
+changeset_words (a ∷ []) publisher text is = absurd (none-some (Changeset publisher text) is)
+changeset_words (a ∷ b ∷ []) publisher text is = absurd (by (same_bytes a (codes "table")) is)
+  where
+    by : (t : Bool) → cond t (table_of (bytes_of b)) None ≡ Some (Changeset publisher text) → ⊥
+    by false said = none-some (Changeset publisher text) said
+    by true said = none-some text (sym (no_text (bytes_of b)) ∙ ap text_in said)
+changeset_words (a ∷ b ∷ c ∷ []) publisher text is = by_name (same_bytes a (codes "changeset")) refl is
+  where
+    by_bytes : (n : ℕ) (bytes : Option (List ℕ)) → same_bytes a (codes "changeset") ≡ true
+        → number_in_word b ≡ Some n → ltb n 64 ≡ true → bytes_of c ≡ bytes
+        → changeset_of_bytes n bytes ≡ Some (Changeset publisher text)
+        → ChangesetWords (a ∷ b ∷ c ∷ []) publisher text
+    by_bytes n None named numbered few hex said = absurd (none-some (Changeset publisher text) said)
+    by_bytes n (Some bytes) named numbered few hex said = record {
+      number = b;
+      word = c;
+      parts = ap (λ (w : List ℕ). w ∷ b ∷ c ∷ []) (same_text a (codes "changeset") (sym named));
+      publisher_is = numbered ∙ ap publisher_in said;
+      few = subst IsBelow (ap publisher_in said) (ltb-true n 64 few);
+      hex = hex ∙ ap text_in said;
+    }
+
+    by_few : (n : ℕ) (t : Bool) → same_bytes a (codes "changeset") ≡ true → number_in_word b ≡ Some n → ltb n 64 ≡ t
+        → cond t (changeset_of_bytes n (bytes_of c)) None ≡ Some (Changeset publisher text)
+        → ChangesetWords (a ∷ b ∷ c ∷ []) publisher text
+    by_few n false named numbered few said = absurd (none-some (Changeset publisher text) said)
+    by_few n true named numbered few said = by_bytes n (bytes_of c) named numbered few refl said
+
+    by_number : (number : Option ℕ) → same_bytes a (codes "changeset") ≡ true → number_in_word b ≡ number
+        → changeset_of number (bytes_of c) ≡ Some (Changeset publisher text)
+        → ChangesetWords (a ∷ b ∷ c ∷ []) publisher text
+    by_number None named numbered said = absurd (none-some (Changeset publisher text) said)
+    by_number (Some n) named numbered said = by_few n (ltb n 64) named numbered refl said
+
+    by_name : (t : Bool) → same_bytes a (codes "changeset") ≡ t
+        → cond t (changeset_of (number_in_word b) (bytes_of c)) None ≡ Some (Changeset publisher text)
+        → ChangesetWords (a ∷ b ∷ c ∷ []) publisher text
+    by_name false named said = absurd (none-some (Changeset publisher text) said)
+    by_name true named said = by_number (number_in_word b) named refl said
+changeset_words (a ∷ b ∷ c ∷ d ∷ more) publisher text is = absurd (none-some (Changeset publisher text) is)
+
+pub spells_table : (line : List ℕ) (shape : Shape) → length line ≤ most_of_line
+    → entry_of line ≡ Some (Table shape) → SpellsTable line shape
+spells_table line shape short is =
+    let w = table_words (words_of line) shape is in
+    record { word = w.word; words = w.parts; bytes = w.bytes; hex = w.hex; header = w.header; short = short }
+
+pub spells_changeset : (line : List ℕ) (n publisher : ℕ) (text : List ℕ) → length line ≤ most_of_line
+    → entry_of line ≡ Some (Changeset publisher text) → SpellsChangeset line (given_at n publisher text)
+spells_changeset line n publisher text short is =
+    let w = changeset_words (words_of line) publisher text is in
+    record {
+      number = w.number;
+      word = w.word;
+      words = w.parts;
+      publisher = w.publisher_is;
+      few = w.few;
+      hex = w.hex;
+      short = short;
+    }

@@ -1,0 +1,34 @@
+use Rattle.std.proofs.Common.{arith, ◌∙◌}
+use Rattle.std.proofs.lemmas.Result.{err_from_is_err_and}
+use Rattle.rb_drive.proofs.EndLaws.{ends_by_reader, ends_in_piece, input_ends, input_goes_on, input_stops}
+use Rattle.rb_drive.proofs.input.read_input.Goals as goal
+
+pub returns-in_err-read : goal.returns-in_err-read
+returns-in_err-read g c =
+    let p = err_from_is_err_and c.from_residual-in_err-read.result c.from_residual-in_err-read.ensures.1 in
+    rw (p.1, p.2) (ends_by_reader c.in_err-read.field-0.0 _ _ _ c.loop.reading c.loop.counter
+    c.in_err-read.ensures.fault c.loop.invariant.so_far c.in_err-read.ensures.err)
+
+pub returns-then-read-eq0 : goal.returns-then-read-eq0
+returns-then-read-eq0 g c =
+    input_ends c.finish.result _ _ _ c.loop.reading c.loop.counter c.loop.invariant.so_far
+    (rw c.if-read-eq0.true at c.in_ok-read.ensures.bytes) (c.in_ok-read.ensures.end c.if-read-eq0.true)
+    c.finish.ensures
+
+pub returns-in_err-feed : goal.returns-in_err-feed
+returns-in_err-feed g c =
+    let p = err_from_is_err_and c.from_residual-in_err-feed.result c.from_residual-in_err-feed.ensures.1 in
+    rw (p.1, p.2) (ends_in_piece c.in_err-feed.field-0.0 _ _ _ c.loop.reading c.loop.counter _
+    c.loop.invariant.so_far c.in_ok-read.ensures.bytes c.in_err-feed.ensures)
+
+pub loop-preserved : goal.loop-preserved
+loop-preserved g c = record {
+  room = c.in_ok-read.ensures.length ∙ c.loop.invariant.room;
+  so_far = input_goes_on _ _ _ c.loop.reading _ c.loop.counter c.in_ok-read.read c.read_piece.new.piece
+      c.loop.invariant.so_far c.in_ok-read.ensures.bytes (omega (arith, c.if-read-eq0.false))
+      c.in_ok-read.ensures.bound c.in_ok-feed.ensures;
+}
+
+pub unreachable-requires : goal.unreachable-requires
+unreachable-requires g c =
+    input_stops _ _ c.loop.reading c.loop.counter c.loop.invariant.so_far (omega (arith, c.loop-test.false))

@@ -1,0 +1,11 @@
+use Rattle.rb_drive.proofs.run.run_drive.Given as goal
+
+-- the hall of the broker that was just opened
+abbrev pub ghosts-report-L-Ledger : goal.ghosts-report-L-Ledger
+ghosts-report-L-Ledger g a = record { name = a.opened.ledger; parts = 1024 }
+
+abbrev pub ghosts-report-L-StepLedger : goal.ghosts-report-L-StepLedger
+ghosts-report-L-StepLedger g a = record { all = 1024; cells = a.opened.cells }
+
+abbrev pub ghosts-report-L-Hall : goal.ghosts-report-L-Hall
+ghosts-report-L-Hall g a = record { queue = a.opened.queue }

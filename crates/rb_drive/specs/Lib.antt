@@ -1,0 +1,4 @@
+pub mod Input
+pub mod Reading
+pub mod Outcome
+pub mod Run

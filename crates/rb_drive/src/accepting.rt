@@ -1,0 +1,101 @@
+//! A subscriber's thread: takes, accepts and acknowledges until all is drained or a change
+//! conflicts.
+
+use crate::signs::Signs;
+use cs_apply::Conflict;
+use rb_broker::{Broker, Hall, TakeError};
+use rb_desk::{Delivery, DeskError, DeskRefusal};
+use rb_subscriber::{AcceptAloneError, AcceptRefusal, Subscription};
+use std::alloc::Global;
+use std::sync::Wait;
+
+/// How a subscriber ended.
+#[derive(Clone, Copy, Debug, PartialEq, Eq)]
+pub enum Ending {
+    /// It has accepted everything up to the last number.
+    Drained,
+    /// A change conflicts with its rows.
+    Conflict(Conflict),
+    /// All loops were ended first.
+    Stopped,
+}
+
+/// A subscription, and how it ended.
+#[derive(Drop)]
+pub struct Accepting<L: Hall> {
+    pub subscription: Subscription<L>,
+    pub ending: Ending,
+}
+
+impl<L: Hall> Accepting<L> {
+    /// One that has accepted nothing.
+    pub fn new(subscription: Subscription<L>) -> Accepting<L> {
+        Accepting {
+            subscription,
+            ending: Ending::Stopped,
+        }
+    }
+
+    /// Takes, accepts and acknowledges until it is drained, conflicts, or all loops end. Ends all
+    /// loops itself if memory runs out or a call is refused that should not be.
+    pub fn accept<R: Wait>(&mut self, rt: &R, alloc: Global, broker: &Broker<L>, signs: &Signs) {
+        self.ending = accept_all(rt, alloc, broker, signs, &mut self.subscription);
+        if self.ending == Ending::Stopped {
+            signs.stop();
+        }
+    }
+}
+
+fn accept_all<L: Hall, R: Wait>(
+    rt: &R,
+    alloc: Global,
+    broker: &Broker<L>,
+    signs: &Signs,
+    subscription: &mut Subscription<L>,
+) -> Ending {
+    let mut looks: u64 = 0;
+    for _ in rt.forever() {
+        let seen = signs.placed.rings();
+        if signs.is_stopped() {
+            return Ending::Stopped;
+        }
+        // nobody expires deliveries, so the tick of a take doesn't matter
+        match broker.take(rt, alloc, subscription, 0) {
+            Ok(delivery) => {
+                looks = 0;
+                if let Some(ending) = settle(rt, alloc, broker, subscription, &delivery) {
+                    return ending;
+                }
+            }
+            Err(TakeError::Drained(_)) => return Ending::Drained,
+            Err(TakeError::Desk(DeskError::Refused(DeskRefusal::Empty { .. }))) => {
+                signs.placed.wait(rt, seen, looks);
+                looks = looks.saturating_add(1);
+            }
+            Err(TakeError::Desk(_)) => return Ending::Stopped,
+        }
+    }
+    unreachable!()
+}
+
+// Accepts a delivery and acknowledges it. One whose entries this thread doesn't see yet goes back.
+// Returns how the subscriber ends, if it does.
+fn settle<L: Hall, R: Wait>(
+    rt: &R,
+    alloc: Global,
+    broker: &Broker<L>,
+    subscription: &mut Subscription<L>,
+    delivery: &Delivery,
+) -> Option<Ending> {
+    let settled = match subscription.accept_alone(alloc, broker.sequence(), delivery) {
+        Ok(_) => broker.ack(rt, alloc, subscription, delivery).is_ok(),
+        Err(AcceptAloneError::Unseen { .. }) => {
+            broker.nack(rt, alloc, subscription, delivery).is_ok()
+        }
+        Err(AcceptAloneError::Refused(AcceptRefusal::Conflict(conflict))) => {
+            return Some(Ending::Conflict(conflict));
+        }
+        Err(_) => false,
+    };
+    if settled { None } else { Some(Ending::Stopped) }
+}

@@ -1,0 +1,45 @@
+//! Why a drive ends without a report.
+
+ghost use Rattle.std.specs.Prelude.{◌≡◌};
+ghost use Rattle.rb_drive.specs.declared.fault.DriveFault.TheVariants.{Memory};
+
+use std::alloc::{AllocError, AllocFailed};
+use std::io;
+use thiserror::Error;
+
+/// Why `run_drive` wrote no whole report, with the system's reason if there is one. After all but
+/// `Write` nothing is written; after `Write` a prefix of the report may be.
+#[derive(Debug, Drop, Error)]
+pub enum DriveFault {
+    /// The reader failed. No thread was started.
+    #[error("read fault: {0}")]
+    Read(io::Error),
+    /// The writer failed, or accepted no byte.
+    #[error("write fault: {0}")]
+    Write(io::Error),
+    /// The line with this number, from 1, is the first bad one. No thread was started.
+    #[error("line {0}")]
+    Line(u64),
+    /// The threads were stopped: one can't be made, or memory ran out in one.
+    #[error("stopped")]
+    Stopped,
+    /// Memory ran out before or after the threads ran.
+    #[error("out of memory")]
+    Memory,
+}
+
+impl From<AllocError> for DriveFault {
+    ghost from_gives = { λ _ e. e ≡ Memory };
+
+    fn from(_e: AllocError) -> DriveFault {
+        DriveFault::Memory
+    }
+}
+
+impl<T: Drop> From<AllocFailed<T>> for DriveFault {
+    ghost from_gives = { λ _ e. e ≡ Memory };
+
+    fn from(_e: AllocFailed<T>) -> DriveFault {
+        DriveFault::Memory
+    }
+}

@@ -1,0 +1,19 @@
+//! Drives a broker: changesets from a reader go through publishers, the sequencer and subscribers in
+//! threads of their own, until all is drained, and a report goes to a writer. Theorem: each
+//! subscriber of a drive keeps the headline of a running broker (*IsDriven*).
+#![tactic(auto)]
+
+mod accepting;
+mod drive;
+mod entries;
+mod fault;
+mod input;
+mod owners;
+mod placing;
+mod publishing;
+mod report;
+mod run;
+mod signs;
+
+pub use fault::DriveFault;
+pub use run::run_drive;

@@ -1,0 +1,49 @@
+//! The sequencer's thread: places what is sent, and closes the sequence at its end.
+
+use crate::signs::Signs;
+use rb_broker::{Broker, Hall, PlaceRefusal};
+use rb_sequencer::{Sequencer, Turn};
+use std::alloc::{AllocError, Global};
+use std::sync::Wait;
+
+/// Takes turns. Closes the sequence at a turn that is refused, or at an idle one that began after
+/// all publishers had ended.
+pub fn place<L: Hall, R: Wait>(
+    rt: &R,
+    alloc: Global,
+    broker: &Broker<L>,
+    signs: &Signs,
+    sequencer: &mut Sequencer<L>,
+) -> Result<(), AllocError> {
+    let mut looks: u64 = 0;
+    for _ in rt.forever() {
+        let seen = signs.sent.rings();
+        if signs.is_stopped() {
+            return Ok(());
+        }
+        let all_sent = signs.all_sent();
+        match sequencer.turn(rt, alloc, broker) {
+            Turn::Placed(_) => {
+                looks = 0;
+                signs.pulled.ring();
+                signs.placed.ring();
+            }
+            Turn::Idle if !all_sent => {
+                signs.sent.wait(rt, seen, looks);
+                looks = looks.saturating_add(1);
+            }
+            Turn::Refused(PlaceRefusal::Memory) => return Err(AllocError),
+            Turn::Idle | Turn::Refused(_) => return Ok(close(rt, broker, signs)),
+        }
+    }
+    unreachable!()
+}
+
+// closes the sequence, and tells all who wait
+fn close<L: Hall, R: Wait>(rt: &R, broker: &Broker<L>, signs: &Signs) {
+    if broker.close(rt).is_none() {
+        signs.stop();
+    }
+    signs.pulled.ring();
+    signs.placed.ring();
+}
