@@ -69,8 +69,8 @@ abbrev pub IsAtEnd : ℕ → Option ℕ → DeskError → Type 0
 IsAtEnd cursor closing error = (last : ℕ) → error ≡ Refused (desk.Drained last)
     → (cursor ≡ last) × (closing ≡ Some last)
 
--- `Drained` comes with a token of the closing cell that shows the cursor; the desk's own never comes
--- without
+-- `Drained` comes with a token of the closing cell that shows the cursor; the desk's own never
+-- comes without
 abbrev pub ShowsDrained : Cells → ℕ → TakeError → Type 0
 ShowsDrained cells cursor (taking.Drained told) = IsLastToken cells told × (told.last ≡ cursor)
 ShowsDrained cells cursor (taking.Desk error) =

@@ -174,8 +174,8 @@ impl<L: Hall> Publisher<L> {
     /// Stages the withdrawal of entry `number`, which this publisher sent.
     ///
     /// Refuses, in this order, `NotPlaced` if the entry's cell shows nothing, `NotYours`,
-    /// `AlreadyWithdrawn` if an earlier call withdrew the entry, and `Schema` if two of its sections
-    /// clash.
+    /// `AlreadyWithdrawn` if an earlier call withdrew the entry, and `Schema` if two of its
+    /// sections clash.
     pub fn withdraw(
         &mut self,
         alloc: Global,

@@ -13,9 +13,9 @@ use Rattle.rb_subscriber.specs.Subscription.{SubscriptionState}
 use Rattle.rb_close.specs.Finishing.{AreTheirs}
 use Rattle.rb_close.specs.Meeting.{HasMet}
 
--- What every sequencer shows of itself: what it placed stands in the cells of the numbers from 1 on,
--- what it pulled is what it placed and then the item in hand, and each publisher's own numbers count
--- from 1 in that.
+-- What every sequencer shows of itself: what it placed stands in the cells of the numbers from 1
+-- on, what it pulled is what it placed and then the item in hand, and each publisher's own numbers
+-- count from 1 in that.
 pub record ShowsPlaced (cells : Cells) (sequencer : SequencerState) : Type 0 where
   pub shown : AreInCells cells 1 sequencer.placed
   pub pulled : sequencer.pulled ≡ items_placed sequencer.placed ++ in_hand sequencer.hand
@@ -29,11 +29,12 @@ items_in entries = map (λ entry. entry.item) entries
 abbrev pub IsStretchOf : List Item → List Item → Type 0
 IsStretchOf run items = (before after : List Item) × (before ++ (run ++ after) ≡ items)
 
--- What a subscription accepted is a gapless run of what was placed. The entries have the numbers from
--- 1 on, and each item stands in it once. Of each publisher it is a run of what that publisher sent,
--- in its order; each item is of one of the publishers. The sequence is closed after what was placed,
--- and nothing later was accepted. Where what was accepted applies singly, without conflict, to the
--- tables that the subscription began with, its tables are what one thread gets that applies it so.
+-- What a subscription accepted is a gapless run of what was placed. The entries have the numbers
+-- from 1 on, and each item stands in it once. Of each publisher it is a run of what that publisher
+-- sent, in its order; each item is of one of the publishers. The sequence is closed after what was
+-- placed, and nothing later was accepted. Where what was accepted applies singly, without conflict,
+-- to the tables that the subscription began with, its tables are what one thread gets that applies
+-- it so.
 pub record KeepsRunningHeadline (cells : Cells) (publishers : List PublisherView)
     (sequencer : SequencerState) (closing : LastToken) (subscription : SubscriptionState)
     : Type 0 where

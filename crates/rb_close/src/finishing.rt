@@ -3,8 +3,8 @@
 ghost use Rattle.std.specs.Prelude.{◌≡◌, ◌+◌, ◌<◌, ◌≤◌, ℕ, [], length, IfErr, IfNone, IfOk, IfSome};
 ghost use Rattle.std.specs.Bool.{Decides};
 ghost use Rattle.std.specs.Prelude.{vec_capacity};
-ghost use Rattle.rb_close.specs.Finishing.{AreAllPresent, Finishes, IsPresent, JoinsPasses, RefusesFinish};
-ghost use Rattle.rb_close.specs.Finishing.{all_sent};
+ghost use Rattle.rb_close.specs.Finishing.{AreAllPresent, Finishes, IsPresent, JoinsPasses};
+ghost use Rattle.rb_close.specs.Finishing.{RefusesFinish, all_sent};
 ghost use Rattle.rb_sequence.specs.Cells.{IsLastToken};
 ghost use Rattle.rb_sequencer.specs.Turns.{in_hand};
 

@@ -13,9 +13,9 @@ ghost use Rattle.rb_subscriber.specs.Accept.{HasSingleTables};
 ghost use Rattle.rb_subscriber.specs.Shown.{entries_told};
 ghost use Rattle.rb_subscriber.specs.Subscription.{SubscriptionState};
 
-/// A subscription that has met the sequencer up to its cursor keeps the headline (*KeepsRunningHeadline*),
-/// once the broker is finished. What the law asks for is what the calls show: `Sequencer::placed` and
-/// `hand`, `meet_sequencer`, `finish`, and `Subscription::tables`.
+/// A subscription that has met the sequencer up to its cursor keeps the headline
+/// (*KeepsRunningHeadline*), once the broker is finished. What the law asks for is what the calls
+/// show: `Sequencer::placed` and `hand`, `meet_sequencer`, `finish`, and `Subscription::tables`.
 pub fn finished_keeps_headline()
     ensures { (cells : Cells) (publishers : List PublisherView) (sequencer : SequencerState)
         (placed : ℕ) (left : List Item) (closing : LastToken) (subscription : SubscriptionState)

@@ -1,5 +1,6 @@
-//! The end of a broker: what the owners of its parts find when they meet, and what is placed and left
-//! when all have ended. Theorem: `laws::finished_keeps_headline`, the headline of a running broker.
+//! The end of a broker: what the owners of its parts find when they meet, and what is placed and
+//! left when all have ended. Theorem: `laws::finished_keeps_headline`, the headline of a running
+//! broker.
 #![tactic(auto)]
 
 mod finishing;

@@ -11,9 +11,9 @@ use rb_sequence::laws::one_number_is_one_cell;
 use rb_sequencer::Sequencer;
 use rb_subscriber::{StepLedger, Subscription};
 
-/// The numbers that two subscriptions of one broker have both accepted: those after the first number
-/// up to the second one. The two are equal if there are none. For each of them both subscriptions
-/// show the same entry, whichever threads they come from.
+/// The numbers that two subscriptions of one broker have both accepted: those after the first
+/// number up to the second one. The two are equal if there are none. For each of them both
+/// subscriptions show the same entry, whichever threads they come from.
 pub fn meet<L: StepLedger>(one: &Subscription<L>, other: &Subscription<L>) -> (u64, u64)
     ensures from { result.0 ≡ max one.now.start other.now.start }
     ensures to { result.1 ≡ max result.0 (min (cursor_of one.now) (cursor_of other.now)) }
@@ -28,9 +28,9 @@ pub fn meet<L: StepLedger>(one: &Subscription<L>, other: &Subscription<L>) -> (u
     (after, last)
 }
 
-/// The numbers that the sequencer of a broker has placed and a subscription of it has accepted: those
-/// after the first number, its start, up to the second one. The two are equal if there are none.
-/// For each of them both show the same entry. If the second number is the cursor, what the
+/// The numbers that the sequencer of a broker has placed and a subscription of it has accepted:
+/// those after the first number, its start, up to the second one. The two are equal if there are
+/// none. For each of them both show the same entry. If the second number is the cursor, what the
 /// subscription accepted is that part of what the sequencer placed.
 pub fn meet_sequencer<L: Hall>(
     sequencer: &Sequencer<L>,

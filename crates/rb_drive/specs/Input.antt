@@ -94,8 +94,8 @@ pub record HasBadLine (bytes : List ℕ) (at_end : Type 0) (n : ℕ) : Type 0 wh
       ⊎ ((at_end × (line ≢ []) × (rest ≡ []) × (AreInput (front ++ line ∷ []) → ⊥))
       ⊎ ((line ≢ []) × NoneFollows front line))
 
--- No bad line is in the bytes: they are lines that are an input, and the beginning of a line that is
--- not too long.
+-- No bad line is in the bytes: they are lines that are an input, and the beginning of a line that
+-- is not too long.
 pub record HasNoBadLine (bytes : List ℕ) : Type 0 where
   pub front : List (List ℕ)
   pub line : List ℕ

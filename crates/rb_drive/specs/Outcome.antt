@@ -17,8 +17,8 @@ abbrev pub HasMetAll : SequencerState → SubscriptionState → Type 0
 HasMetAll sequencer s = HasMet sequencer s × HasSingleTables s.base (entries_told s.told) s.tables
 
 -- There are publishers, a sequencer and a token of the closing cell with which the broker was
--- finished: so many items were placed, and so many are left. Each subscription keeps the headline of
--- a running broker.
+-- finished: so many items were placed, and so many are left. Each subscription keeps the headline
+-- of a running broker.
 pub record IsDriven (cells : Cells) (placed left : ℕ) (subscriptions : List SubscriptionState)
     : Type 0 where
   pub publishers : List PublisherView

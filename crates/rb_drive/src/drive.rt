@@ -43,8 +43,8 @@ pub struct Plan {
     pub subscribers: u64,
 }
 
-/// Starts the broker, runs its publishers, its sequencer and its subscribers in threads of their own
-/// until all have ended, and finishes it.
+/// Starts the broker, runs its publishers, its sequencer and its subscribers in threads of their
+/// own until all have ended, and finishes it.
 ///
 /// Returns `Stopped` if the threads were stopped, and `Memory` if memory ran out before or after.
 pub fn drive<L: Hall + Send + Sync, R: Threads + Wait + Sync>(

@@ -1,5 +1,5 @@
-//! Drives a broker: changesets from a reader go through publishers, the sequencer and subscribers in
-//! threads of their own, until all is drained, and a report goes to a writer. Theorem: each
+//! Drives a broker: changesets from a reader go through publishers, the sequencer and subscribers
+//! in threads of their own, until all is drained, and a report goes to a writer. Theorem: each
 //! subscriber of a drive keeps the headline of a running broker (*IsDriven*).
 #![tactic(auto)]
 

@@ -51,8 +51,8 @@ impl<L: Hall> Publishing<L> {
         }
     }
 
-    /// Sends the changesets of the lines, until the sequence is closed or all loops end. Passes over
-    /// faulty lines.
+    /// Sends the changesets of the lines, until the sequence is closed or all loops end. Passes
+    /// over faulty lines.
     pub fn publish<R: Wait>(
         &mut self,
         rt: &R,

@@ -31,8 +31,8 @@ pub record SequencerKnows : Type 0 where
   pub pulled : List Item
   pub ended : List (ℕ × List Item)
 
--- the last pass: its queue, what was pulled, in order, the publishers whose passes were joined, each
--- with what it sent, and how many publishers were made
+-- the last pass: its queue, what was pulled, in order, the publishers whose passes were joined,
+-- each with what it sent, and how many publishers were made
 pub record LastKnows : Type 0 where
   pub queue : TableId
   pub pulled : List Item
@@ -52,8 +52,8 @@ IsAllPulledAnd p more = AllByRecursion (λ e. e.1 ≡ own_of e.0 (p.pulled ++ mo
 abbrev pub AreOfJoined : List (ℕ × List Item) → List Item → Type 0
 AreOfJoined ended items = AllByRecursion (λ item. HasEndedAs item.publisher ended) items
 
--- The items that were left are appended to these: then what each joined publisher sent is all there,
--- and nothing else is.
+-- The items that were left are appended to these: then what each joined publisher sent is all
+-- there, and nothing else is.
 abbrev pub Drains : LastKnows → List Item → List Item → Type 0
 Drains p old new = (more : List Item) × (new ≡ old ++ more) × IsAllPulledAnd p more
     × AreOfJoined p.ended (p.pulled ++ more) × (length (p.pulled ++ more) ≡ total_sent p.ended)

@@ -8,7 +8,8 @@ use Rattle.rb_sequence.specs.declared.item.Item.{Item}
 use Rattle.rb_sequence.specs.Items.{own_of, CountsUp}
 use Rattle.rb_intake.specs.Joined.{JoinedOnce}
 use Rattle.rb_intake.specs.declared.known.Known.{Known}
-use Rattle.rb_intake.specs.declared.known.Known.TheVariants.{Starts, Makes, Sends, Pulls, Ends, Spent}
+use Rattle.rb_intake.specs.declared.known.Known.TheVariants.{Starts, Makes, Sends, Pulls, Ends}
+use Rattle.rb_intake.specs.declared.known.Known.TheVariants.{Spent}
 
 -- What happened to an intake: all items that were sent, in the order in which they came in, and
 -- those of them that were pulled. The numbers of the passes: the sequencer's, the maker's, and that
@@ -121,4 +122,5 @@ AreBegun pulled ended = (waiting : List Item) × AllByRecursion (IsPulledOr pull
 
 -- so it is, and nothing was pulled of a publisher that was never made
 abbrev pub AreFronts : Known → Type 0
-AreFronts v = AreBegun (pulled_in v) (ended_in v) × ((p : ℕ) → made_in v ≤ p → own_of p (pulled_in v) ≡ [])
+AreFronts v = AreBegun (pulled_in v) (ended_in v)
+    × ((p : ℕ) → made_in v ≤ p → own_of p (pulled_in v) ≡ [])

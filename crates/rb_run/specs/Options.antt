@@ -1,5 +1,5 @@
--- The limits, how many subscribers a drive has, how a script is answered, and how rows are shown, from
--- the options of a command line.
+-- The limits, how many subscribers a drive has, how a script is answered, and how rows are shown,
+-- from the options of a command line.
 use Rattle.std.specs.Prelude.{ℕ, Bool, false, List, [], Option, Some, None, Result, Ok, Err, codes}
 use Rattle.std.specs.Prelude.{if◌then◌else◌, ◌&&◌, nat_le}
 use Rattle.std.specs.Option.{option_and_then}
@@ -85,8 +85,8 @@ subscribers_in_range n = if nat_le 1 n && nat_le n 16 then Some n else None
 abbrev pub subscribers_by : Option (Text × List Row) → Option ℕ
 subscribers_by found = subscribers_in_range (value_of (word_of found (codes "subscribers")))
 
--- the limits and the number of subscribers of a drive, or the first option whose word isn't a number
--- in its range
+-- the limits and the number of subscribers of a drive, or the first option whose word isn't a
+-- number in its range
 abbrev pub with_subscribers : Limits → Option ℕ → Result (Limits × ℕ) RangeFault
 with_subscribers limits None = Err Subscribers
 with_subscribers limits (Some n) = Ok (limits, n)

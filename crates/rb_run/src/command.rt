@@ -80,8 +80,8 @@ applies all of them to empty tables: all in threads of their own. When all is dr
 Statuses:
   0  the report is written
   1  it stopped, with one line on standard error: the number of the first line that is none of the
-     two, a read fault, a write fault, stopped (a thread can't be made, or memory ran out in one), or
-     out of memory; but for a write fault nothing is on standard output
+     two, a read fault, a write fault, stopped (a thread can't be made, or memory ran out in one),
+     or out of memory; but for a write fault nothing is on standard output
   2  the command line is faulty
   3  the report is written, and a subscriber ended by a conflict";
 

@@ -20,9 +20,9 @@ use std::thread::Threads;
 
 /// Does what these words ask for. The first is the program's name.
 ///
-/// Answers the script in `reader` on `writer`, drives a broker with the changesets in it and reports
-/// there, shows the rows in it there, or prints help or the version. If the words are faulty, nothing is read and nothing written, and the ending says what
-/// is wrong.
+/// Answers the script in `reader` on `writer`, drives a broker with the changesets in it and
+/// reports there, shows the rows in it there, or prints help or the version. If the words are
+/// faulty, nothing is read and nothing written, and the ending says what is wrong.
 pub fn asked<T: Threads + Wait + Sync, R: Read, W: Write>(
     rt: &T,
     alloc: Global,

@@ -1,8 +1,9 @@
-//! The program: parses a command line, and runs a script, drives a broker or shows rows from standard
-//! input to standard output. Theorem: `doing::asked` reads, writes and ends as the words ask for. They ask
-//! for a script under the limits and in the way of their options, for a drive under these with so many
-//! subscribers, for a message about the first faulty option, for rows in the form of their options, or for a text to print. The exit status
-//! and the message on standard error are those of the ending.
+//! The program: parses a command line, and runs a script, drives a broker or shows rows from
+//! standard input to standard output. Theorem: `doing::asked` reads, writes and ends as the words
+//! ask for. They ask for a script under the limits and in the way of their options, for a drive
+//! under these with so many subscribers, for a message about the first faulty option, for rows in
+//! the form of their options, or for a text to print. The exit status and the message on standard
+//! error are those of the ending.
 #![tactic(auto)]
 
 mod command;

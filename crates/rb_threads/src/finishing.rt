@@ -1,5 +1,5 @@
-//! The end of a broker: each refusal hands all back, and what is left is the item in hand, then what
-//! waits in the intake.
+//! The end of a broker: each refusal hands all back, and what is left is the item in hand, then
+//! what waits in the intake.
 
 ghost use Rattle.std.specs.Prelude.{◌≡◌};
 

@@ -224,7 +224,7 @@ fn is_refused<L: Hall, R: Abort>(
     assert_eq!(rt; again.err(), Some(WithdrawRefusal::AlreadyWithdrawn));
     let missing = publisher.withdraw(alloc, sequence, 3);
     assert_eq!(rt; missing.err(), Some(WithdrawRefusal::NotPlaced));
-    assert!(rt; publisher.withdraw(alloc, sequence, 2).is_ok());
+    let _staged = publisher.withdraw(alloc, sequence, 2)?;
     let stranger = other.withdraw(alloc, sequence, 1);
     assert_eq!(rt; stranger.err(), Some(WithdrawRefusal::NotYours));
     Ok(())
