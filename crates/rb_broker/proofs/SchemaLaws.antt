@@ -6,9 +6,11 @@ use Rattle.std.proofs.lemmas.Slice.Eq.{slice_eq-Decides}
 use Rattle.cs_model.specs.Schema.{same_bytes, same_shape}
 use Rattle.cs_model.specs.declared.shape.Shape.{Shape}
 use Rattle.cs_apply.specs.State.{TableState}
-use Rattle.rb_desk.specs.Journaled.{JournaledPicture}
+use Rattle.rb_desk.specs.Journaled.{IsReplay, JournaledPicture}
+use Rattle.rb_desk.specs.declared.refusal.DeskError.TheVariants.{Memory, Refused}
 use Rattle.rb_subscriber.specs.Subscription.{SubscriptionState}
 use Rattle.rb_broker.specs.Holding.{IsSchemaWhy, RefusesTables, RefusesAsDesk, MakesSubscription}
+use Rattle.rb_broker.specs.Holding.{RefusesAfterDesk, SubscribesAfterDesk}
 use Rattle.rb_broker.specs.declared.refusal.RefusedSubscription.{RefusedSubscription}
 use Rattle.rb_broker.specs.declared.refusal.SubscribeError.{SubscribeError}
 use Rattle.rb_broker.specs.declared.refusal.SubscribeError.TheVariants.{Desk, OtherSchema}
@@ -54,3 +56,16 @@ pub tables_come_back : (result : Result SubscriptionState RefusedSubscription) (
 tables_come_back (Ok s) base own start old new same h = tt
 tables_come_back (Err refused) base own start old new same h =
     (h.0, why_is base own refused.why start old new same h.1)
+
+-- what the hold returns is what its desk returns
+why_after : (why : SubscribeError) (start : ℕ) (old new : JournaledPicture) → IsReplay old
+    → RefusesAsDesk why start old new → RefusesAfterDesk why start
+why_after OtherSchema start old new replay h = tt
+why_after (Desk Memory) start old new replay h = tt
+why_after (Desk (Refused why)) start old new replay h = (old, new, replay, h)
+
+pub subscribes_after : (result : Result SubscriptionState RefusedSubscription) (base : TableState) (start : ℕ)
+    (old new : JournaledPicture) → IsReplay old → MakesSubscription result base start old new
+    → SubscribesAfterDesk result start
+subscribes_after (Ok s) base start old new replay h = (old, new, replay, h.1)
+subscribes_after (Err refused) base start old new replay h = why_after refused.why start old new replay h.1

@@ -3,11 +3,14 @@ use Rattle.std.specs.Prelude.{◌≡◌, ◌+◌, ℕ, true, List, Option, Some,
 use Rattle.cs_apply.specs.State as tables
 use Rattle.cs_model.specs.declared.shape.Shape.{Shape}
 use Rattle.rb_desk.specs.Calls.{subscribe}
-use Rattle.rb_desk.specs.Journaled.{JournalAnswers, JournaledPicture}
+use Rattle.rb_desk.specs.Journaled.{IsReplay, JournalAnswers, JournaledPicture}
+use Rattle.rb_desk.specs.Picture.{Picture}
 use Rattle.rb_desk.specs.declared.delivery.Delivery.{Delivery}
 use Rattle.rb_desk.specs.declared.refusal.DeskError.{DeskError}
-use Rattle.rb_desk.specs.declared.refusal.DeskError.TheVariants.{Refused}
+use Rattle.rb_desk.specs.declared.refusal.DeskError.TheVariants.{Memory, Refused}
+use Rattle.rb_desk.specs.declared.refusal.DeskRefusal.{DeskRefusal}
 use Rattle.rb_desk.specs.declared.refusal.DeskRefusal.TheVariants as desk
+use Rattle.rb_desk.specs.declared.step.Step.{Step}
 use Rattle.rb_desk.specs.declared.step.Step.TheVariants.{Subscribe}
 use Rattle.rb_sequence.specs.Cells.{Cells, IsLastToken}
 use Rattle.rb_subscriber.specs.Subscription.{SubscriptionState, new_subscription}
@@ -28,6 +31,14 @@ relinked_step link s = record (counted_step s) { link = link }
 abbrev pub ended_step : SubscriptionState → SubscriptionState
 ended_step s = record (counted_step s) { closed = true }
 
+-- ---- what a call shows of the desk, which others change between two calls
+
+-- After the steps of some journal the desk returns this to a call that makes this step.
+abbrev pub DeskReturns : {A : Type 0} → Result A DeskError
+    → (Picture → Result A DeskRefusal × Picture) → Step → Type 0
+DeskReturns result call step = (old : JournaledPicture) × (new : JournaledPicture)
+    × IsReplay old × JournalAnswers result (call old.picture) step old new
+
 -- ---- subscribing
 
 -- the desk subscribes after `start`, and the subscription has its number and link and these tables;
@@ -43,6 +54,19 @@ MakesSubscription (Ok s) base start old new = (s ≡ new_subscription s.sub star
     × JournalAnswers (Ok (s.sub, s.link)) (subscribe old.picture start) (Subscribe start) old new
 MakesSubscription (Err refused) base start old new = (refused.tables ≡ base)
     × RefusesAsDesk refused.why start old new
+
+-- The number and the link of a new subscription, or the refusal, are those that the desk returns.
+-- Memory may run out before the desk is asked.
+abbrev pub RefusesAfterDesk : SubscribeError → ℕ → Type 0
+RefusesAfterDesk subscribing.OtherSchema start = Unit {0}
+RefusesAfterDesk (subscribing.Desk Memory) start = Unit {0}
+RefusesAfterDesk (subscribing.Desk (Refused why)) start =
+    DeskReturns {A = ℕ × ℕ} (Err (Refused why)) (λ p. subscribe p start) (Subscribe start)
+
+abbrev pub SubscribesAfterDesk : Result SubscriptionState RefusedSubscription → ℕ → Type 0
+SubscribesAfterDesk (Ok s) start =
+    DeskReturns (Ok (s.sub, s.link)) (λ p. subscribe p start) (Subscribe start)
+SubscribesAfterDesk (Err refused) start = RefusesAfterDesk refused.why start
 
 -- Tables of another schema are refused first of all, and only they. The tables come back.
 abbrev pub IsSchemaWhy : List Shape → List Shape → SubscribeError → Type 0

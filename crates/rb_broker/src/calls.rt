@@ -1,11 +1,15 @@
 //! The broker's calls for subscriptions: each is one hold of its lock.
 
-ghost use Rattle.std.specs.Prelude.{◌≡◌, ◌+◌, IfErr, IfOk, OnErr, OnOk};
+ghost use Rattle.std.specs.Prelude.{◌≡◌, ◌+◌, IfErr, IfOk, Ok, OnErr, OnOk};
 ghost use Rattle.std.specs.Arc.{arc_value};
 ghost use Rattle.std.specs.Bool.{Decides};
+ghost use Rattle.rb_desk.specs.Calls.{ack, expire, nack, reconnect, take, take_any, unsubscribe};
+ghost use Rattle.rb_desk.specs.declared.step.Step.TheVariants as step;
 ghost use Rattle.rb_subscriber.specs.Register.{all_steps};
 ghost use Rattle.rb_subscriber.specs.Subscription.{cursor_of, new_subscription};
-ghost use Rattle.rb_broker.specs.Holding.{ShowsDrained, RefusesTables, counted_step, ended_step, relinked_step};
+ghost use Rattle.rb_broker.specs.Holding.{DeskReturns, RefusesTables, ShowsDrained};
+ghost use Rattle.rb_broker.specs.Holding.{SubscribesAfterDesk, counted_step, desk_answer};
+ghost use Rattle.rb_broker.specs.Holding.{ended_step, relinked_step};
 
 use crate::broker::Broker;
 use crate::hall::Hall;
@@ -34,6 +38,7 @@ impl<L: Hall> Broker<L> {
         ensures new { IfOk result (λ s. s ≡ new_subscription s.sub start s.link tables) }
         ensures schema { OnOk result (tables.schema ≡ arc_value self.now.schema) }
         ensures refused { IfErr result (RefusesTables (arc_value self.now.schema) tables) }
+        ensures desk { SubscribesAfterDesk result start }
     {
         if !self.has_schema(&tables) {
             let why = SubscribeError::OtherSchema;
@@ -71,6 +76,11 @@ impl<L: Hall> Broker<L> {
         ensures of { IfOk result (λ delivery. (delivery.sub ≡ subscription.old.sub)
             × (delivery.link ≡ subscription.old.link)) }
         ensures drained { IfErr result (ShowsDrained L.cells (cursor_of subscription.old)) }
+        ensures desk { DeskReturns (desk_answer result)
+            (λ p. take p subscription.old.sub subscription.old.link
+            (cursor_of subscription.old) now)
+            (step.Take subscription.old.sub subscription.old.link (cursor_of subscription.old)
+            now) }
     {
         let mut locked = self.locked.lock(rt);
         locked.take(alloc, subscription, now)
@@ -80,12 +90,9 @@ impl<L: Hall> Broker<L> {
     /// tick of the caller's clock. No subscription counts the step.
     ///
     /// Refuses `Empty` if nothing is ready.
-    pub fn take_any<R: Wait>(
-        &self,
-        rt: &R,
-        alloc: Global,
-        now: u64,
-    ) -> Result<Delivery, DeskError> {
+    pub fn take_any<R: Wait>(&self, rt: &R, alloc: Global, now: u64) -> Result<Delivery, DeskError>
+        ensures { DeskReturns result (λ p. take_any p now) (step.TakeAny now) }
+    {
         let mut locked = self.locked.lock(rt);
         locked.take_any(alloc, now)
     }
@@ -103,6 +110,10 @@ impl<L: Hall> Broker<L> {
     ) -> Result<u64, DeskError>
         ensures ok { OnOk result (subscription.new ≡ counted_step subscription.old) }
         ensures err { OnErr result (subscription.new ≡ subscription.old) }
+        ensures desk { DeskReturns result (λ p. ack p subscription.old.sub delivery.now.link
+            delivery.now.number (cursor_of subscription.old))
+            (step.Ack subscription.old.sub delivery.now.link delivery.now.number
+            (cursor_of subscription.old)) }
     {
         let mut locked = self.locked.lock(rt);
         locked.ack(alloc, subscription, delivery)
@@ -120,6 +131,9 @@ impl<L: Hall> Broker<L> {
     ) -> Result<(), DeskError>
         ensures ok { OnOk result (subscription.new ≡ counted_step subscription.old) }
         ensures err { OnErr result (subscription.new ≡ subscription.old) }
+        ensures desk { DeskReturns result (λ p. nack p subscription.old.sub delivery.now.link
+            delivery.now.number)
+            (step.Nack subscription.old.sub delivery.now.link delivery.now.number) }
     {
         let mut locked = self.locked.lock(rt);
         locked.nack(alloc, subscription, delivery)
@@ -127,7 +141,10 @@ impl<L: Hall> Broker<L> {
 
     /// Makes all deliveries ready again that were taken the timeout ago or earlier. Returns how
     /// many these are. `now` is a tick of the caller's clock.
-    pub fn expire<R: Wait>(&self, rt: &R, alloc: Global, now: u64) -> Result<u64, DeskError> {
+    pub fn expire<R: Wait>(&self, rt: &R, alloc: Global, now: u64) -> Result<u64, DeskError>
+        ensures { DeskReturns result (λ p. (Ok (expire p now).0, (expire p now).1))
+            (step.Expire now) }
+    {
         let mut locked = self.locked.lock(rt);
         locked.expire(alloc, now)
     }
@@ -144,6 +161,9 @@ impl<L: Hall> Broker<L> {
     ) -> Result<u64, DeskError>
         ensures ok { IfOk result (λ link. subscription.new ≡ relinked_step link subscription.old) }
         ensures err { OnErr result (subscription.new ≡ subscription.old) }
+        ensures desk { DeskReturns result
+            (λ p. reconnect p subscription.old.sub (cursor_of subscription.old))
+            (step.Reconnect subscription.old.sub (cursor_of subscription.old)) }
     {
         let mut locked = self.locked.lock(rt);
         locked.reconnect(alloc, subscription)
@@ -160,6 +180,9 @@ impl<L: Hall> Broker<L> {
     ) -> Result<(), DeskError>
         ensures ok { OnOk result (subscription.new ≡ ended_step subscription.old) }
         ensures err { OnErr result (subscription.new ≡ subscription.old) }
+        ensures desk { DeskReturns result
+            (λ p. unsubscribe p subscription.old.sub subscription.old.link)
+            (step.Unsubscribe subscription.old.sub subscription.old.link) }
     {
         let mut locked = self.locked.lock(rt);
         locked.unsubscribe(alloc, subscription)

@@ -3,7 +3,7 @@
 
 ghost use Rattle.std.specs.Prelude.{◌≡◌, ◌+◌, ◌<◌, Err, IfErr, IfOk, Ok, OnErr, OnOk};
 ghost use Rattle.rb_desk.specs.Calls.{ack, expire, nack, reconnect, take, take_any, unsubscribe};
-ghost use Rattle.rb_desk.specs.Journaled.{JournalAnswers, counted_steps, is_own};
+ghost use Rattle.rb_desk.specs.Journaled.{IsReplay, JournalAnswers, counted_steps, is_own};
 ghost use Rattle.rb_desk.specs.declared.step.Step.TheVariants as step;
 ghost use Rattle.rb_subscriber.specs.Register.{all_steps};
 ghost use Rattle.rb_subscriber.specs.Subscription.{cursor_of};
@@ -32,10 +32,12 @@ impl<L: Hall> Locked<L> {
         start: u64,
     ) -> Result<Subscription<L>, RefusedSubscription>
         requires { base ≡ tables }
-        ensures { MakesSubscription result tables start self.old.desk self.new.desk }
+        ensures made { MakesSubscription result tables start self.old.desk self.new.desk }
+        ensures replay { IsReplay self.old.desk }
     {
         steps_are_counted();
         only_subscribe_and_close();
+        let _steps = self.desk.steps();
         match self.desk.subscribe(alloc, start) {
             Ok((sub, link)) => Ok(
                 self.register
@@ -60,6 +62,7 @@ impl<L: Hall> Locked<L> {
             (cursor_of subscription.old) now)
             (step.Take subscription.old.sub subscription.old.link (cursor_of subscription.old) now)
             self.old.desk self.new.desk }
+        ensures replay { IsReplay self.old.desk }
         ensures ok { OnOk result (subscription.new ≡ counted_step subscription.old) }
         ensures err { OnErr result (subscription.new ≡ subscription.old) }
         ensures of { IfOk result (λ delivery. (delivery.sub ≡ subscription.old.sub)
@@ -101,11 +104,13 @@ impl<L: Hall> Locked<L> {
 
     /// The desk's `take_any`.
     pub(crate) fn take_any(&mut self, alloc: Global, now: u64) -> Result<Delivery, DeskError>
-        ensures { JournalAnswers result (take_any self.old.desk.picture now) (step.TakeAny now)
-            self.old.desk self.new.desk }
+        ensures desk { JournalAnswers result (take_any self.old.desk.picture now)
+            (step.TakeAny now) self.old.desk self.new.desk }
+        ensures replay { IsReplay self.old.desk }
     {
         steps_are_counted();
         only_subscribe_and_close();
+        let _steps = self.desk.steps();
         self.desk.take_any(alloc, now)
     }
 
@@ -121,6 +126,7 @@ impl<L: Hall> Locked<L> {
             (step.Ack subscription.old.sub delivery.now.link delivery.now.number
             (cursor_of subscription.old))
             self.old.desk self.new.desk }
+        ensures replay { IsReplay self.old.desk }
         ensures ok { OnOk result (subscription.new ≡ counted_step subscription.old) }
         ensures err { OnErr result (subscription.new ≡ subscription.old) }
     {
@@ -146,6 +152,7 @@ impl<L: Hall> Locked<L> {
             delivery.now.link delivery.now.number)
             (step.Nack subscription.old.sub delivery.now.link delivery.now.number)
             self.old.desk self.new.desk }
+        ensures replay { IsReplay self.old.desk }
         ensures ok { OnOk result (subscription.new ≡ counted_step subscription.old) }
         ensures err { OnErr result (subscription.new ≡ subscription.old) }
     {
@@ -161,12 +168,14 @@ impl<L: Hall> Locked<L> {
 
     /// The desk's `expire`.
     pub(crate) fn expire(&mut self, alloc: Global, now: u64) -> Result<u64, DeskError>
-        ensures { JournalAnswers result
+        ensures desk { JournalAnswers result
             (Ok (expire self.old.desk.picture now).0, (expire self.old.desk.picture now).1)
             (step.Expire now) self.old.desk self.new.desk }
+        ensures replay { IsReplay self.old.desk }
     {
         steps_are_counted();
         only_subscribe_and_close();
+        let _steps = self.desk.steps();
         self.desk.expire(alloc, now)
     }
 
@@ -180,6 +189,7 @@ impl<L: Hall> Locked<L> {
             subscription.old.sub (cursor_of subscription.old))
             (step.Reconnect subscription.old.sub (cursor_of subscription.old))
             self.old.desk self.new.desk }
+        ensures replay { IsReplay self.old.desk }
         ensures ok { IfOk result (λ link. subscription.new ≡ relinked_step link subscription.old) }
         ensures err { OnErr result (subscription.new ≡ subscription.old) }
     {
@@ -203,6 +213,7 @@ impl<L: Hall> Locked<L> {
             subscription.old.sub subscription.old.link)
             (step.Unsubscribe subscription.old.sub subscription.old.link)
             self.old.desk self.new.desk }
+        ensures replay { IsReplay self.old.desk }
         ensures ok { OnOk result (subscription.new ≡ ended_step subscription.old) }
         ensures err { OnErr result (subscription.new ≡ subscription.old) }
     {

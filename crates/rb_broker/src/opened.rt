@@ -64,6 +64,7 @@ impl Opened {
         ensures limits { IfOk result (λ o. o.limits ≡ config) }
         ensures schema { IfOk result (λ o. o.schema ≡ schema) }
         ensures room { IfOk result (λ o. o.room ≡ config.intake) }
+        ensures capacity { IfOk result (λ o. o.cells.capacity ≡ config.capacity) }
     {
         let schema = Arc::new(alloc, schema)?;
         let (sequence, preparer, filler) = Sequence::new(alloc, config.capacity())?;
