@@ -12,15 +12,15 @@ use Rattle.rb_script.specs.Script.{ended_lines}
 use Rattle.rb_drive.specs.declared.input.Given.{Given}
 use Rattle.rb_drive.specs.declared.input.Reading.{Reading}
 use Rattle.rb_drive.specs.Input.{IsInput}
-use Rattle.rb_drive.specs.Reading.{IsRead}
+use Rattle.rb_drive.specs.Reading.{IsReadUpTo}
 use Rattle.rb_drive.proofs.InputLaws.{IsShort, all_short, changesets_counted, lines_counted, or_first, or_second}
 use Rattle.rb_drive.proofs.ReadLaws.{are_read}
 
-ended_short : (lines : List (List ℕ)) → AllByRecursion IsShort lines
+ended_lines_short : (lines : List (List ℕ)) → AllByRecursion IsShort lines
     → length (ended_lines lines) ≤ 65537 * length lines
-ended_short [] short = omega arith
-ended_short (line ∷ lines) short =
-    omega (arith, short.0, ended_short lines short.1, length-append line (10 ∷ ended_lines lines))
+ended_lines_short [] short = omega arith
+ended_lines_short (line ∷ lines) short =
+    omega (arith, short.0, ended_lines_short lines short.1, length-append line (10 ∷ ended_lines lines))
 
 table_early : (earlier : List Shape) (shape : Shape) → table_refusal earlier shape ≡ None → length earlier < 1024
 table_early earlier shape is =
@@ -58,7 +58,7 @@ lines_few lines tables givens is =
     )
 
 -- 66,560 lines with their ends, and the beginning of one more
-pub bytes_few : (bytes : List ℕ) (reading : Reading) → IsRead bytes reading → length bytes ≤ 4362208256
+pub bytes_few : (bytes : List ℕ) (reading : Reading) → IsReadUpTo bytes reading → length bytes ≤ 4362208256
 bytes_few bytes reading r =
     let whole : length bytes ≡ length (ended_lines r.front ++ reading.line.items) =
     ap (λ (t : List ℕ). length t) r.parts in
@@ -67,6 +67,6 @@ bytes_few bytes reading r =
       whole,
       r.short,
       length-append (ended_lines r.front) reading.line.items,
-      ended_short r.front (all_short r.front (are_read reading bytes r)),
+      ended_lines_short r.front (all_short r.front (are_read reading bytes r)),
       lines_few r.front reading.input.schema reading.input.givens.items r.input,
     )

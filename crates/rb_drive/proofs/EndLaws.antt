@@ -14,10 +14,10 @@ use Rattle.rb_drive.specs.declared.fault.DriveFault.TheVariants as fault
 use Rattle.rb_drive.specs.declared.input.Input.{Input}
 use Rattle.rb_drive.specs.declared.input.Reading.{Reading}
 use Rattle.rb_drive.specs.Input.{AreBytesOf, AreInput, HasBadLine, HasNoBadLine, InputEnds, IsInput, NoneFollows}
-use Rattle.rb_drive.specs.Reading.{AddEnds, EndsAfter, IsOfReader, IsRead, StopsAt}
+use Rattle.rb_drive.specs.Reading.{AddEnds, EndsAfter, IsReadFault, IsReadUpTo, ReadingStopsAt}
 use Rattle.rb_drive.proofs.BoundLaws.{bytes_few}
-use Rattle.rb_drive.proofs.InputLaws.{gathered, bad_line, good_line}
-use Rattle.rb_drive.proofs.ReadLaws.{LineStops, are_read, line_given, next_number, number_is}
+use Rattle.rb_drive.proofs.InputLaws.{some_collected, bad_line, good_line}
+use Rattle.rb_drive.proofs.ReadLaws.{LineEndsReading, are_read, line_given, next_number, number_is}
 
 -- ---- the last line
 
@@ -31,10 +31,10 @@ no_line n (byte ∷ bytes) sized test =
     absurd (omega (arith, sized, none))
 
 -- nothing comes after the last line end
-pub none_left : (reading : Reading) → reading.line.items ≡ [] → (bytes : List ℕ) → IsRead bytes reading
+pub no_line_left : (reading : Reading) → reading.line.items ≡ [] → (bytes : List ℕ) → IsReadUpTo bytes reading
     → ((lines : List (List ℕ)) × AreBytesOf lines bytes
     × IsInput lines reading.input.schema reading.input.givens.items)
-none_left reading none bytes r = (
+no_line_left reading none bytes r = (
   r.front,
   (r.lines, inl (r.parts ∙ ap (λ (t : List ℕ). ended_lines r.front ++ t) none ∙ append-nil (ended_lines r.front))),
   r.input,
@@ -42,8 +42,8 @@ none_left reading none bytes r = (
 
 -- a last line without a line end
 pub last_line : (reading : Reading) (after : Input) → reading.line.items ≢ []
-    → line_given reading ≡ gathered after.schema after.givens.items
-    → (bytes : List ℕ) → IsRead bytes reading
+    → line_given reading ≡ some_collected after.schema after.givens.items
+    → (bytes : List ℕ) → IsReadUpTo bytes reading
     → ((lines : List (List ℕ)) × AreBytesOf lines bytes × IsInput lines after.schema after.givens.items)
 last_line reading after some next bytes r =
     let line : List ℕ = reading.line.items in (
@@ -54,7 +54,7 @@ last_line reading after some next bytes r =
     )
 
 pub last_line_is_bad : (reading : Reading) (n : ℕ) → reading.line.items ≢ [] → line_given reading ≡ None
-    → n ≡ next_number reading → (bytes : List ℕ) → IsRead bytes reading → HasBadLine bytes (Unit {0}) n
+    → n ≡ next_number reading → (bytes : List ℕ) → IsReadUpTo bytes reading → HasBadLine bytes (Unit {0}) n
 last_line_is_bad reading n some bad count bytes r =
     let line : List ℕ = reading.line.items in
     record {
@@ -75,7 +75,7 @@ last_line_is_bad reading n some bad count bytes r =
 
 last_so_stops : (reading : Reading) (why : DriveFault) (after : Input) → reading.line.items ≢ []
     → AddEnds (line_given reading) reading.input (Err why) after
-    → (bytes : List ℕ) → IsRead bytes reading → StopsAt bytes (Unit {0}) why
+    → (bytes : List ℕ) → IsReadUpTo bytes reading → ReadingStopsAt bytes (Unit {0}) why
 last_so_stops reading (fault.Read why) after some h bytes r = absurd h
 last_so_stops reading (fault.Write why) after some h bytes r = absurd h
 last_so_stops reading (fault.Line n) after some h bytes r = last_line_is_bad reading n some h.0 h.1 bytes r
@@ -83,24 +83,24 @@ last_so_stops reading fault.Stopped after some h bytes r = absurd h
 last_so_stops reading fault.Memory after some h bytes r = tt
 
 pub last_line_stops : (reading : Reading) (line : List ℕ) (why : DriveFault) (after : Input)
-    → line ≡ reading.line.items → reading.line.items ≢ [] → LineStops reading line why after
-    → (bytes : List ℕ) → IsRead bytes reading → StopsAt bytes (Unit {0}) why
+    → line ≡ reading.line.items → reading.line.items ≢ [] → LineEndsReading reading line why after
+    → (bytes : List ℕ) → IsReadUpTo bytes reading → ReadingStopsAt bytes (Unit {0}) why
 last_line_stops reading line why after same some h =
-    last_so_stops reading why after some (subst (λ (l : List ℕ). LineStops reading l why after) same h)
+    last_so_stops reading why after some (subst (λ (l : List ℕ). LineEndsReading reading l why after) same h)
 
 -- ---- all bytes
 
 -- these bytes, so many at least, are taken from the reader, and led here
-pub record Progress (r0 r : Option (List ℕ)) (reading : Reading) (count : ℕ) : Type 0 where
+pub record ReadingProgress (r0 r : Option (List ℕ)) (reading : Reading) (count : ℕ) : Type 0 where
   pub bytes : List ℕ
   pub consumed : Consumes r0 r bytes
-  pub read : IsRead bytes reading
+  pub read : IsReadUpTo bytes reading
   pub counted : count ≤ length bytes
 
 pub input_goes_on : (r0 r r' : Option (List ℕ)) (old new : Reading) (count n : ℕ) (piece : List ℕ)
-    → Progress r0 r old count → Consumes r r' (take n piece) → 0 < n → n ≤ length piece
-    → ((before : List ℕ) → IsRead before old → IsRead (before ++ take n piece) new)
-    → Progress r0 r' new (count + 1)
+    → ReadingProgress r0 r old count → Consumes r r' (take n piece) → 0 < n → n ≤ length piece
+    → ((before : List ℕ) → IsReadUpTo before old → IsReadUpTo (before ++ take n piece) new)
+    → ReadingProgress r0 r' new (count + 1)
 input_goes_on r0 r r' old new count n piece so_far now some within fed = record {
   bytes = so_far.bytes ++ take n piece;
   consumed = Consumes-trans r0 r r' so_far.bytes (take n piece) so_far.consumed now;
@@ -115,7 +115,7 @@ input_goes_on r0 r r' old new count n piece so_far now some within fed = record 
 }
 
 -- so many pieces don't come
-pub input_stops : (r0 r : Option (List ℕ)) (reading : Reading) (count : ℕ) → Progress r0 r reading count
+pub input_stops : (r0 r : Option (List ℕ)) (reading : Reading) (count : ℕ) → ReadingProgress r0 r reading count
     → 18446744073709551615 ≤ count → ⊥
 input_stops r0 r reading count so_far many =
     omega (arith, so_far.counted, bytes_few so_far.bytes reading so_far.read, many)
@@ -144,7 +144,7 @@ bad_there bytes A B n leads h = record {
     by (inr (inr p)) = inr (inr p)
 
 pub ends_at_stop : (why : DriveFault) (bytes : List ℕ) (A : Type 0) (r0 r : Option (List ℕ)) → (A → IsAtEnd r)
-    → Consumes r0 r bytes → StopsAt bytes A why → InputEnds (Err why) r0 r
+    → Consumes r0 r bytes → ReadingStopsAt bytes A why → InputEnds (Err why) r0 r
 ends_at_stop (fault.Read why) bytes A r0 r leads read h = absurd h
 ends_at_stop (fault.Write why) bytes A r0 r leads read h = absurd h
 ends_at_stop (fault.Line n) bytes A r0 r leads read h = (bytes, read, bad_there bytes A (IsAtEnd r) n leads h)
@@ -153,14 +153,14 @@ ends_at_stop fault.Memory bytes A r0 r leads read h = (bytes, read)
 
 -- a bad line within a piece
 pub ends_in_piece : (why : DriveFault) (r0 r r' : Option (List ℕ)) (old : Reading) (count : ℕ) (piece : List ℕ)
-    → Progress r0 r old count → Consumes r r' piece
-    → ((before : List ℕ) → IsRead before old → StopsAt (before ++ piece) ⊥ why) → InputEnds (Err why) r0 r'
+    → ReadingProgress r0 r old count → Consumes r r' piece
+    → ((before : List ℕ) → IsReadUpTo before old → ReadingStopsAt (before ++ piece) ⊥ why) → InputEnds (Err why) r0 r'
 ends_in_piece why r0 r r' old count piece so_far now stops =
     ends_at_stop why (so_far.bytes ++ piece) ⊥ r0 r' (λ (e : ⊥). absurd e)
     (Consumes-trans r0 r r' so_far.bytes piece so_far.consumed now) (stops so_far.bytes so_far.read)
 
 -- the reader fails
-pub none_is_bad : (bytes : List ℕ) (reading : Reading) → IsRead bytes reading → HasNoBadLine bytes
+pub none_is_bad : (bytes : List ℕ) (reading : Reading) → IsReadUpTo bytes reading → HasNoBadLine bytes
 none_is_bad bytes reading r = record {
   front = r.front;
   line = reading.line.items;
@@ -170,28 +170,28 @@ none_is_bad bytes reading r = record {
   short = r.short;
 }
 
-pub ends_by_reader : (why : DriveFault) (r0 r r' : Option (List ℕ)) (reading : Reading) (count : ℕ)
-    → IsOfReader why → Progress r0 r reading count → Keeps r r' → InputEnds (Err why) r0 r'
-ends_by_reader (fault.Read why) r0 r r' reading count is so_far kept = (
+pub read_ends_by_reader : (why : DriveFault) (r0 r r' : Option (List ℕ)) (reading : Reading) (count : ℕ)
+    → IsReadFault why → ReadingProgress r0 r reading count → Keeps r r' → InputEnds (Err why) r0 r'
+read_ends_by_reader (fault.Read why) r0 r r' reading count is so_far kept = (
   so_far.bytes,
   Consumes-Keeps r0 r r' so_far.bytes so_far.consumed kept,
   none_is_bad so_far.bytes reading so_far.read,
 )
-ends_by_reader (fault.Write why) r0 r r' reading count is so_far kept = absurd is
-ends_by_reader (fault.Line n) r0 r r' reading count is so_far kept = absurd is
-ends_by_reader fault.Stopped r0 r r' reading count is so_far kept = absurd is
-ends_by_reader fault.Memory r0 r r' reading count is so_far kept = absurd is
+read_ends_by_reader (fault.Write why) r0 r r' reading count is so_far kept = absurd is
+read_ends_by_reader (fault.Line n) r0 r r' reading count is so_far kept = absurd is
+read_ends_by_reader fault.Stopped r0 r r' reading count is so_far kept = absurd is
+read_ends_by_reader fault.Memory r0 r r' reading count is so_far kept = absurd is
 
 -- the input is at its end
-pub input_ends : (result : Result Input DriveFault) (r0 r r' : Option (List ℕ)) (reading : Reading)
-    (count : ℕ) → Progress r0 r reading count → Consumes r r' [] → IsAtEnd r' → EndsAfter reading result
+pub input_is_ended : (result : Result Input DriveFault) (r0 r r' : Option (List ℕ)) (reading : Reading)
+    (count : ℕ) → ReadingProgress r0 r reading count → Consumes r r' [] → IsAtEnd r' → EndsAfter reading result
     → InputEnds result r0 r'
-input_ends (Ok input) r0 r r' reading count so_far none ended h =
+input_is_ended (Ok input) r0 r r' reading count so_far none ended h =
     let all : Consumes r0 r' so_far.bytes = subst (Consumes r0 r') (append-nil so_far.bytes)
     (Consumes-trans r0 r r' so_far.bytes [] so_far.consumed none) in
     let found = h so_far.bytes so_far.read in
     (so_far.bytes, found.0, all, ended, found.1, found.2)
-input_ends (Err why) r0 r r' reading count so_far none ended h =
+input_is_ended (Err why) r0 r r' reading count so_far none ended h =
     let all : Consumes r0 r' so_far.bytes = subst (Consumes r0 r') (append-nil so_far.bytes)
     (Consumes-trans r0 r r' so_far.bytes [] so_far.consumed none) in
     ends_at_stop why so_far.bytes (Unit {0}) r0 r' (λ _. ended) all (h so_far.bytes so_far.read)

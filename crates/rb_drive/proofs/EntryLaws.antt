@@ -10,20 +10,20 @@ use Rattle.cs_model.specs.Schema.{same_bytes}
 use Rattle.cs_parse.specs.Reading.{answer_of}
 use Rattle.rb_script.specs.Lines.{header_of_answer, most_of_line}
 use Rattle.rb_script.specs.Words.{bytes_of, number_in_word, words_of}
-use Rattle.rb_drive.specs.declared.entries.Entry.{Entry}
-use Rattle.rb_drive.specs.declared.entries.Entry.TheVariants.{Table, Changeset}
+use Rattle.rb_drive.specs.declared.entries.LineEntry.{LineEntry}
+use Rattle.rb_drive.specs.declared.entries.LineEntry.TheVariants.{Table, Changeset}
 use Rattle.rb_drive.specs.declared.input.Given.{Given}
 use Rattle.rb_drive.specs.Input.{SpellsTable, SpellsChangeset}
 use Rattle.rb_drive.specs.Reading.{table_of_shape, table_of, changeset_of_bytes, changeset_of, entry_of_words}
-use Rattle.rb_drive.specs.Reading.{entry_of, given_at}
+use Rattle.rb_drive.specs.Reading.{entry_spelled, given_at}
 
 -- ---- what is spelled is said
 
-pub table_said : (line : List ℕ) (shape : Shape) → SpellsTable line shape → entry_of line ≡ Some (Table shape)
+pub table_said : (line : List ℕ) (shape : Shape) → SpellsTable line shape → entry_spelled line ≡ Some (Table shape)
 table_said line shape s = ap entry_of_words s.words ∙ ap table_of s.hex ∙ ap table_of_shape s.header
 
 pub changeset_said : (line : List ℕ) (given : Given) → SpellsChangeset line given
-    → entry_of line ≡ Some (Changeset given.publisher given.text)
+    → entry_spelled line ≡ Some (Changeset given.publisher given.text)
 changeset_said line given s =
     ap entry_of_words s.words
     ∙ ap (λ (p : Option ℕ). changeset_of p (bytes_of s.word)) s.publisher
@@ -33,17 +33,17 @@ changeset_said line given s =
 
 -- ---- what is said is spelled
 
-abbrev shape_in : Option Entry → Option Shape
+abbrev shape_in : Option LineEntry → Option Shape
 shape_in None = None
 shape_in (Some (Table shape)) = Some shape
 shape_in (Some (Changeset publisher text)) = None
 
-abbrev publisher_in : Option Entry → Option ℕ
+abbrev publisher_in : Option LineEntry → Option ℕ
 publisher_in None = None
 publisher_in (Some (Table shape)) = None
 publisher_in (Some (Changeset publisher text)) = Some publisher
 
-abbrev text_in : Option Entry → Option (List ℕ)
+abbrev text_in : Option LineEntry → Option (List ℕ)
 text_in None = None
 text_in (Some (Table shape)) = None
 text_in (Some (Changeset publisher text)) = Some text
@@ -87,9 +87,9 @@ no_text_of_shape : (shape : Option Shape) → text_in (table_of_shape shape) ≡
 no_text_of_shape None = refl
 no_text_of_shape (Some shape) = refl
 
-no_text : (bytes : Option (List ℕ)) → text_in (table_of bytes) ≡ None
-no_text None = refl
-no_text (Some bytes) = no_text_of_shape (header_of_answer (answer_of bytes))
+text_is_none : (bytes : Option (List ℕ)) → text_in (table_of bytes) ≡ None
+text_is_none None = refl
+text_is_none (Some bytes) = no_text_of_shape (header_of_answer (answer_of bytes))
 
 table_words : (words : List (List ℕ)) (shape : Shape) → entry_of_words words ≡ Some (Table shape)
     → TableWords words shape
@@ -134,7 +134,7 @@ changeset_words (a ∷ b ∷ []) publisher text is = absurd (by (same_bytes a (c
   where
     by : (t : Bool) → cond t (table_of (bytes_of b)) None ≡ Some (Changeset publisher text) → ⊥
     by false said = none-some (Changeset publisher text) said
-    by true said = none-some text (sym (no_text (bytes_of b)) ∙ ap text_in said)
+    by true said = none-some text (sym (text_is_none (bytes_of b)) ∙ ap text_in said)
 changeset_words (a ∷ b ∷ c ∷ []) publisher text is = by_name (same_bytes a (codes "changeset")) refl is
   where
     by_bytes : (n : ℕ) (bytes : Option (List ℕ)) → same_bytes a (codes "changeset") ≡ true
@@ -170,15 +170,15 @@ changeset_words (a ∷ b ∷ c ∷ []) publisher text is = by_name (same_bytes a
     by_name true named said = by_number (number_in_word b) named refl said
 changeset_words (a ∷ b ∷ c ∷ d ∷ more) publisher text is = absurd (none-some (Changeset publisher text) is)
 
-pub spells_table : (line : List ℕ) (shape : Shape) → length line ≤ most_of_line
-    → entry_of line ≡ Some (Table shape) → SpellsTable line shape
-spells_table line shape short is =
+pub table_spelled : (line : List ℕ) (shape : Shape) → length line ≤ most_of_line
+    → entry_spelled line ≡ Some (Table shape) → SpellsTable line shape
+table_spelled line shape short is =
     let w = table_words (words_of line) shape is in
     record { word = w.word; words = w.parts; bytes = w.bytes; hex = w.hex; header = w.header; short = short }
 
-pub spells_changeset : (line : List ℕ) (n publisher : ℕ) (text : List ℕ) → length line ≤ most_of_line
-    → entry_of line ≡ Some (Changeset publisher text) → SpellsChangeset line (given_at n publisher text)
-spells_changeset line n publisher text short is =
+pub changeset_spelled : (line : List ℕ) (n publisher : ℕ) (text : List ℕ) → length line ≤ most_of_line
+    → entry_spelled line ≡ Some (Changeset publisher text) → SpellsChangeset line (given_at n publisher text)
+changeset_spelled line n publisher text short is =
     let w = changeset_words (words_of line) publisher text is in
     record {
       number = w.number;

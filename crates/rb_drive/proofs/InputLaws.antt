@@ -13,31 +13,31 @@ use Rattle.cs_model.specs.Schema.{table_refusal, tables_refusal}
 use Rattle.cs_model.proofs.CallerLemmas.{all_append}
 use Rattle.cs_model.proofs.Tables.{IsSchema-push}
 use Rattle.rb_script.specs.Lines.{most_of_line}
-use Rattle.rb_drive.specs.declared.entries.Entry.{Entry}
-use Rattle.rb_drive.specs.declared.entries.Entry.TheVariants.{Table, Changeset}
+use Rattle.rb_drive.specs.declared.entries.LineEntry.{LineEntry}
+use Rattle.rb_drive.specs.declared.entries.LineEntry.TheVariants.{Table, Changeset}
 use Rattle.rb_drive.specs.declared.input.Given.{Given}
 use Rattle.rb_drive.specs.Input.{SpellsTable, SpellsChangeset, SpellTables, SpellChangesets, IsInput, AreInput}
 use Rattle.rb_drive.specs.Input.{NoneFollows}
-use Rattle.rb_drive.specs.Reading.{Gathered, entry_of, given_at, with_table, with_entry, with_line}
-use Rattle.rb_drive.proofs.EntryLaws.{table_said, changeset_said, spells_table, spells_changeset}
+use Rattle.rb_drive.specs.Reading.{Collected, entry_spelled, given_at, with_table, with_entry, with_line}
+use Rattle.rb_drive.proofs.EntryLaws.{table_said, changeset_said, table_spelled, changeset_spelled}
 
-abbrev pub gathered : List Shape → List Given → Option Gathered
-gathered tables givens = Some (tables, givens)
+abbrev pub some_collected : List Shape → List Given → Option Collected
+some_collected tables givens = Some (tables, givens)
 
 -- ---- what lines give, one after another
 
-abbrev after_line : Option Gathered → List ℕ → Option Gathered
+abbrev after_line : Option Collected → List ℕ → Option Collected
 after_line None line = None
 after_line (Some g) line = with_line g.0 g.1 line
 
-abbrev after_lines : Option Gathered → List (List ℕ) → Option Gathered
+abbrev after_lines : Option Collected → List (List ℕ) → Option Collected
 after_lines g [] = g
 after_lines g (line ∷ lines) = after_lines (after_line g line) lines
 
-after-append : (g : Option Gathered) (xs ys : List (List ℕ)) → after_lines g (xs ++ ys)
+after_lines-append : (g : Option Collected) (xs ys : List (List ℕ)) → after_lines g (xs ++ ys)
     ≡ after_lines (after_lines g xs) ys
-after-append g [] ys = refl
-after-append g (x ∷ xs) ys = after-append (after_line g x) xs ys
+after_lines-append g [] ys = refl
+after_lines-append g (x ∷ xs) ys = after_lines-append (after_line g x) xs ys
 
 pub or_first : (a b : Option TableFault) → option_or a b ≡ None → a ≡ None
 or_first None b h = refl
@@ -48,48 +48,48 @@ or_second None b h = h
 or_second (Some x) b h = absurd (none-some x (sym h))
 
 table_taken : (tables : List Shape) (line : List ℕ) (shape : Shape) → SpellsTable line shape
-    → table_refusal tables shape ≡ None → with_line tables [] line ≡ gathered (tables ++ shape ∷ []) []
+    → table_refusal tables shape ≡ None → with_line tables [] line ≡ some_collected (tables ++ shape ∷ []) []
 table_taken tables line shape s new =
     ap (with_entry tables []) (table_said line shape s) ∙ ap (with_table tables [] shape) new
 
 changeset_taken : (tables : List Shape) (done : List Given) (line : List ℕ) (given : Given)
     → SpellsChangeset line given → given.line ≡ length tables + length done + 1 → length done < 65536
-    → with_line tables done line ≡ gathered tables (done ++ given ∷ [])
+    → with_line tables done line ≡ some_collected tables (done ++ given ∷ [])
 changeset_taken tables done line given s is few =
     ap (with_entry tables done) (changeset_said line given s)
-    ∙ ap (λ (t : Bool). cond t (gathered tables
+    ∙ ap (λ (t : Bool). cond t (some_collected tables
     (done ++ given_at (length tables + length done + 1) given.publisher given.text ∷ [])) None)
     (lt-ltb (length done) 65536 few)
-    ∙ ap (λ (n : ℕ). gathered tables (done ++ given_at n given.publisher given.text ∷ [])) (sym is)
+    ∙ ap (λ (n : ℕ). some_collected tables (done ++ given_at n given.publisher given.text ∷ [])) (sym is)
 
 tables_taken : (earlier : List Shape) (lines : List (List ℕ)) (tables : List Shape) → SpellTables lines tables
     → tables_refusal earlier tables ≡ None
-    → after_lines (gathered earlier []) lines ≡ gathered (earlier ++ tables) []
-tables_taken earlier [] [] s new = ap (λ (t : List Shape). gathered t []) (sym (append-nil earlier))
+    → after_lines (some_collected earlier []) lines ≡ some_collected (earlier ++ tables) []
+tables_taken earlier [] [] s new = ap (λ (t : List Shape). some_collected t []) (sym (append-nil earlier))
 tables_taken earlier [] (shape ∷ shapes) s new = absurd s
 tables_taken earlier (line ∷ lines) [] s new = absurd s
 tables_taken earlier (line ∷ lines) (shape ∷ shapes) s new =
     let next : List Shape = earlier ++ shape ∷ [] in
     let here = or_first (table_refusal earlier shape) (tables_refusal next shapes) new in
     let later = or_second (table_refusal earlier shape) (tables_refusal next shapes) new in
-    ap (λ (g : Option Gathered). after_lines g lines) (table_taken earlier line shape s.0 here)
+    ap (λ (g : Option Collected). after_lines g lines) (table_taken earlier line shape s.0 here)
     ∙ tables_taken next lines shapes s.1 later
-    ∙ ap (λ (t : List Shape). gathered t []) (append_assoc earlier (shape ∷ []) shapes)
+    ∙ ap (λ (t : List Shape). some_collected t []) (append_assoc earlier (shape ∷ []) shapes)
 
 changesets_taken : (tables : List Shape) (done : List Given) (n : ℕ) (lines : List (List ℕ)) (givens : List Given)
     → SpellChangesets n lines givens → n ≡ length tables + length done + 1
     → length done + length lines ≤ 65536
-    → after_lines (gathered tables done) lines ≡ gathered tables (done ++ givens)
-changesets_taken tables done n [] [] s is few = ap (gathered tables) (sym (append-nil done))
+    → after_lines (some_collected tables done) lines ≡ some_collected tables (done ++ givens)
+changesets_taken tables done n [] [] s is few = ap (some_collected tables) (sym (append-nil done))
 changesets_taken tables done n [] (given ∷ givens) s is few = absurd s
 changesets_taken tables done n (line ∷ lines) [] s is few = absurd s
 changesets_taken tables done n (line ∷ lines) (given ∷ givens) s is few =
     let longer = length-append done (given ∷ []) in
-    ap (λ (g : Option Gathered). after_lines g lines)
+    ap (λ (g : Option Collected). after_lines g lines)
     (changeset_taken tables done line given s.0 (s.1 ∙ is) (omega (arith, few)))
     ∙ changesets_taken tables (done ++ given ∷ []) (suc n) lines givens s.2 (omega (arith, is, longer))
     (omega (arith, few, longer))
-    ∙ ap (gathered tables) (append_assoc done (given ∷ []) givens)
+    ∙ ap (some_collected tables) (append_assoc done (given ∷ []) givens)
 
 -- ---- how many lines
 
@@ -121,24 +121,24 @@ lines_counted lines tables givens is =
 -- ---- what the lines of an input give is that input
 
 all_taken : (lines : List (List ℕ)) (tables : List Shape) (givens : List Given) → IsInput lines tables givens
-    → after_lines (gathered [] []) lines ≡ gathered tables givens
+    → after_lines (some_collected [] []) lines ≡ some_collected tables givens
 all_taken lines tables givens is =
     let count : suc (length is.front) ≡ length tables + 0 + 1 =
     omega (arith, tables_counted is.front tables is.spelled) in
     let few : 0 + length is.back ≤ 65536 = omega (arith, is.few) in
-    ap (after_lines (gathered [] [])) is.parts
-    ∙ after-append (gathered [] []) is.front is.back
-    ∙ ap (λ (g : Option Gathered). after_lines g is.back) (tables_taken [] is.front tables is.spelled is.schema)
+    ap (after_lines (some_collected [] [])) is.parts
+    ∙ after_lines-append (some_collected [] []) is.front is.back
+    ∙ ap (λ (g : Option Collected). after_lines g is.back) (tables_taken [] is.front tables is.spelled is.schema)
     ∙ changesets_taken tables [] (suc (length is.front)) is.back givens is.changesets count few
 
 -- a bad line can't follow
 pub bad_line : (front : List (List ℕ)) (tables : List Shape) (givens : List Given) (line : List ℕ)
     → IsInput front tables givens → with_line tables givens line ≡ None → AreInput (front ++ line ∷ []) → ⊥
 bad_line front tables givens line is bad more =
-    let given : Gathered = (more.0, more.1) in
+    let given : Collected = (more.0, more.1) in
     none-some given
-    (sym bad ∙ ap (λ (g : Option Gathered). after_line g line) (sym (all_taken front tables givens is))
-    ∙ sym (after-append (gathered [] []) front (line ∷ []))
+    (sym bad ∙ ap (λ (g : Option Collected). after_line g line) (sym (all_taken front tables givens is))
+    ∙ sym (after_lines-append (some_collected [] []) front (line ∷ []))
     ∙ all_taken (front ++ line ∷ []) more.0 more.1 more.2)
 
 -- ---- lines of an input aren't too long
@@ -170,20 +170,20 @@ last_short : (lines : List (List ℕ)) (line : List ℕ) → AllByRecursion IsSh
 last_short [] line h = h.0
 last_short (x ∷ xs) line h = last_short xs line h.1
 
-pub too_long : (front : List (List ℕ)) (line : List ℕ) → most_of_line < length line → NoneFollows front line
-too_long front line long more are =
+pub long_line_is_bad : (front : List (List ℕ)) (line : List ℕ) → most_of_line < length line → NoneFollows front line
+long_line_is_bad front line long more are =
     let all : List ℕ = line ++ more in
     let short : length all ≤ most_of_line = last_short front all (all_short (front ++ all ∷ []) are) in
     omega (arith, long, short, length-append line more)
 
 -- ---- a good line
 
-tables_more : (lines : List (List ℕ)) (tables : List Shape) (line : List ℕ) (shape : Shape)
+one_more_table : (lines : List (List ℕ)) (tables : List Shape) (line : List ℕ) (shape : Shape)
     → SpellTables lines tables → SpellsTable line shape → SpellTables (lines ++ line ∷ []) (tables ++ shape ∷ [])
-tables_more [] [] line shape s new = (new, tt)
-tables_more [] (x ∷ xs) line shape s new = absurd s
-tables_more (l ∷ ls) [] line shape s new = absurd s
-tables_more (l ∷ ls) (x ∷ xs) line shape s new = (s.0, tables_more ls xs line shape s.1 new)
+one_more_table [] [] line shape s new = (new, tt)
+one_more_table [] (x ∷ xs) line shape s new = absurd s
+one_more_table (l ∷ ls) [] line shape s new = absurd s
+one_more_table (l ∷ ls) (x ∷ xs) line shape s new = (s.0, one_more_table ls xs line shape s.1 new)
 
 changesets_more : (n : ℕ) (lines : List (List ℕ)) (givens : List Given) (line : List ℕ) (given : Given)
     → SpellChangesets n lines givens → SpellsChangeset line given → given.line ≡ n + length lines
@@ -201,41 +201,41 @@ no_changesets : (n : ℕ) (lines : List (List ℕ)) → SpellChangesets n lines 
 no_changesets n [] s = refl
 no_changesets n (line ∷ lines) s = absurd s
 
-abbrev IsInputOf : List (List ℕ) → Option Gathered → Type 0
+abbrev IsInputOf : List (List ℕ) → Option Collected → Type 0
 IsInputOf lines None = Unit {0}
 IsInputOf lines (Some g) = IsInput lines g.0 g.1
 
-table_new : (front : List (List ℕ)) (tables : List Shape) (line : List ℕ) (shape : Shape)
+first_table_fits : (front : List (List ℕ)) (tables : List Shape) (line : List ℕ) (shape : Shape)
     → SpellsTable line shape → IsInput front tables [] → table_refusal tables shape ≡ None
     → IsInput (front ++ line ∷ []) (tables ++ shape ∷ []) []
-table_new front tables line shape new is fits =
+first_table_fits front tables line shape new is fits =
     let none : is.back ≡ [] = no_changesets (suc (length is.front)) is.back is.changesets in
     let whole : front ≡ is.front = is.parts ∙ ap (λ (b : List (List ℕ)). is.front ++ b) none ∙ append-nil is.front in
     record {
       front = is.front ++ line ∷ [];
       back = [];
       parts = ap (λ (l : List (List ℕ)). l ++ line ∷ []) whole ∙ sym (append-nil (is.front ++ line ∷ []));
-      spelled = tables_more is.front tables line shape is.spelled new;
+      spelled = one_more_table is.front tables line shape is.spelled new;
       schema = IsSchema-push tables shape is.schema fits;
       changesets = tt;
       few = omega arith;
     }
 
-table_follows : (front : List (List ℕ)) (tables : List Shape) (givens : List Given) (after : Option Gathered)
+table_follows : (front : List (List ℕ)) (tables : List Shape) (givens : List Given) (after : Option Collected)
     (line : List ℕ) (shape : Shape) → SpellsTable line shape → IsInput front tables givens
     → with_entry tables givens (Some (Table shape)) ≡ after → IsInputOf (front ++ line ∷ []) after
 table_follows front tables [] after line shape new is next = by (table_refusal tables shape) refl next
   where
     by : (refusal : Option TableFault) → table_refusal tables shape ≡ refusal
         → with_table tables [] shape refusal ≡ after → IsInputOf (front ++ line ∷ []) after
-    by None fits said = subst (IsInputOf (front ++ line ∷ [])) said (table_new front tables line shape new is fits)
+    by None fits said = subst (IsInputOf (front ++ line ∷ [])) said (first_table_fits front tables line shape new is fits)
     by (Some fault) fits said = subst (IsInputOf (front ++ line ∷ [])) said tt
 table_follows front tables (given ∷ givens) after line shape new is next =
     subst (IsInputOf (front ++ line ∷ []))
     (sym (ap (λ (t : Bool). cond t (with_table tables (given ∷ givens) shape (table_refusal tables shape)) None)
     (eqb-suc-zero (length givens))) ∙ next) tt
 
-changeset_follows : (front : List (List ℕ)) (tables : List Shape) (givens : List Given) (after : Option Gathered)
+changeset_follows : (front : List (List ℕ)) (tables : List Shape) (givens : List Given) (after : Option Collected)
     (line : List ℕ) (publisher : ℕ) (text : List ℕ)
     → SpellsChangeset line (given_at (length tables + length givens + 1) publisher text)
     → IsInput front tables givens → with_entry tables givens (Some (Changeset publisher text)) ≡ after
@@ -247,7 +247,7 @@ changeset_follows front tables givens after line publisher text new is next =
     given = given_at (length tables + length givens + 1) publisher text
 
     by : (t : Bool) → ltb (length givens) 65536 ≡ t
-        → cond t (gathered tables (givens ++ given ∷ [])) None ≡ after → IsInputOf (front ++ line ∷ []) after
+        → cond t (some_collected tables (givens ++ given ∷ [])) None ≡ after → IsInputOf (front ++ line ∷ []) after
     by false few said = subst (IsInputOf (front ++ line ∷ [])) said tt
     by true few said =
         let same = changesets_counted (suc (length is.front)) is.back givens is.changesets in
@@ -263,22 +263,35 @@ changeset_follows front tables givens after line publisher text new is next =
           few = omega (arith, same, ltb-true (length givens) 65536 few, length-append is.back (line ∷ []));
         })
 
-line_follows : (front : List (List ℕ)) (tables : List Shape) (givens : List Given) (after : Option Gathered)
+line_follows : (front : List (List ℕ)) (tables : List Shape) (givens : List Given) (after : Option Collected)
     (line : List ℕ) → length line ≤ most_of_line → IsInput front tables givens
     → with_line tables givens line ≡ after → IsInputOf (front ++ line ∷ []) after
-line_follows front tables givens after line short is next = by (entry_of line) refl next
+line_follows front tables givens after line short is next = by (entry_spelled line) refl next
   where
-    by : (e : Option Entry) → entry_of line ≡ e → with_entry tables givens e ≡ after
+    by : (e : Option LineEntry) → entry_spelled line ≡ e → with_entry tables givens e ≡ after
         → IsInputOf (front ++ line ∷ []) after
     by None said then = subst (IsInputOf (front ++ line ∷ [])) then tt
     by (Some (Table shape)) said then =
-        table_follows front tables givens after line shape (spells_table line shape short said) is then
+        table_follows front tables givens after line shape (table_spelled line shape short said) is then
     by (Some (Changeset publisher text)) said then =
         changeset_follows front tables givens after line publisher text
-        (spells_changeset line (length tables + length givens + 1) publisher text short said) is then
+        (changeset_spelled line (length tables + length givens + 1) publisher text short said) is then
 
 pub good_line : (front : List (List ℕ)) (tables tables' : List Shape) (givens givens' : List Given) (line : List ℕ)
     → length line ≤ most_of_line → IsInput front tables givens
-    → with_line tables givens line ≡ gathered tables' givens' → IsInput (front ++ line ∷ []) tables' givens'
+    → with_line tables givens line ≡ some_collected tables' givens' → IsInput (front ++ line ∷ []) tables' givens'
 good_line front tables tables' givens givens' line short is next =
-    line_follows front tables givens (gathered tables' givens') line short is next
+    line_follows front tables givens (some_collected tables' givens') line short is next
+
+-- ---- publishers' numbers are below 64
+
+changesets_few : (n : ℕ) (lines : List (List ℕ)) (givens : List Given) → SpellChangesets n lines givens
+    → AllByRecursion (λ given. given.publisher < 64) givens
+changesets_few n [] [] s = tt
+changesets_few n [] (given ∷ givens) s = absurd s
+changesets_few n (line ∷ lines) [] s = absurd s
+changesets_few n (line ∷ lines) (given ∷ givens) s = (s.0.few, changesets_few (suc n) lines givens s.2)
+
+pub publishers_few : (lines : List (List ℕ)) (tables : List Shape) (givens : List Given) → IsInput lines tables givens
+    → AllByRecursion (λ given. given.publisher < 64) givens
+publishers_few lines tables givens is = changesets_few (suc (length is.front)) is.back givens is.changesets

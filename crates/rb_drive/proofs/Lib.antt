@@ -1,7 +1,14 @@
+pub mod ListLaws
 pub mod EntryLaws
 pub mod InputLaws
 pub mod ReadLaws
 pub mod BoundLaws
 pub mod EndLaws
+pub mod LineListLaws
+pub mod PublishedLaws
+pub mod StagingLaws
+pub mod OwnerLaws
 pub mod DriveLaws
+pub mod ReportLaws
 pub mod StatusLaws
+pub mod RunLaws

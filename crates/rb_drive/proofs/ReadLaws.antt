@@ -13,20 +13,20 @@ use Rattle.rb_drive.specs.declared.input.Given.{Given}
 use Rattle.rb_drive.specs.declared.input.Input.{Input}
 use Rattle.rb_drive.specs.declared.input.Reading.{Reading}
 use Rattle.rb_drive.specs.Input.{AreInput, HasBadLine, NoneFollows}
-use Rattle.rb_drive.specs.Reading.{AddEnds, IsRead, StopsAt, with_line}
-use Rattle.rb_drive.proofs.InputLaws.{gathered, bad_line, good_line, lines_counted, too_long}
+use Rattle.rb_drive.specs.Reading.{AddEnds, IsReadUpTo, ReadingStopsAt, with_line}
+use Rattle.rb_drive.proofs.InputLaws.{some_collected, bad_line, good_line, lines_counted, long_line_is_bad}
 
 -- ---- lists
 
-pub not_empty : (xs : List ℕ) (x : ℕ) → xs ++ x ∷ [] ≢ []
-not_empty xs x is =
+pub line_not_empty : (xs : List ℕ) (x : ℕ) → xs ++ x ∷ [] ≢ []
+line_not_empty xs x is =
     let none : length (xs ++ x ∷ []) ≡ 0 = ap (λ (l : List ℕ). length l) is in
     omega (arith, none, length-append xs (x ∷ []))
 
-pub ended_more : (lines : List (List ℕ)) (line : List ℕ) → ended_lines (lines ++ line ∷ [])
+pub ended_lines_more : (lines : List (List ℕ)) (line : List ℕ) → ended_lines (lines ++ line ∷ [])
     ≡ ended_lines lines ++ (line ++ 10 ∷ [])
-ended_more [] line = refl
-ended_more (l ∷ ls) line = ap (λ (t : List ℕ). l ++ 10 ∷ t) (ended_more ls line)
+ended_lines_more [] line = refl
+ended_lines_more (l ∷ ls) line = ap (λ (t : List ℕ). l ++ 10 ∷ t) (ended_lines_more ls line)
     ∙ sym (append_assoc l (10 ∷ ended_lines ls) (line ++ 10 ∷ []))
 
 -- ---- one byte
@@ -40,14 +40,14 @@ next_number reading = length reading.input.schema + length reading.input.givens.
 
 -- a line ends
 pub line_ends : (old new : Reading) (b : ℕ) → b ≡ 10
-    → line_given old ≡ gathered new.input.schema new.input.givens.items → new.line.items ≡ []
-    → (before : List ℕ) → IsRead before old → IsRead (before ++ b ∷ []) new
+    → line_given old ≡ some_collected new.input.schema new.input.givens.items → new.line.items ≡ []
+    → (before : List ℕ) → IsReadUpTo before old → IsReadUpTo (before ++ b ∷ []) new
 line_ends old new b is next begins before r =
     let line : List ℕ = old.line.items in
     record {
       front = r.front ++ line ∷ [];
       parts = ap (λ (t : List ℕ). t ++ b ∷ []) r.parts ∙ append_assoc (ended_lines r.front) line (b ∷ [])
-          ∙ ap (λ (n : ℕ). ended_lines r.front ++ (line ++ n ∷ [])) is ∙ sym (ended_more r.front line)
+          ∙ ap (λ (n : ℕ). ended_lines r.front ++ (line ++ n ∷ [])) is ∙ sym (ended_lines_more r.front line)
           ∙ sym (append-nil (ended_lines (r.front ++ line ∷ [])))
           ∙ ap (λ (t : List ℕ). ended_lines (r.front ++ line ∷ []) ++ t) (sym begins);
       lines = all_push IsLine r.front line r.lines r.begun;
@@ -58,17 +58,17 @@ line_ends old new b is next begins before r =
     }
 
 -- the number of the line that is read
-pub number_is : (reading : Reading) (n : ℕ) (bytes : List ℕ) (r : IsRead bytes reading) → n ≡ next_number reading
+pub number_is : (reading : Reading) (n : ℕ) (bytes : List ℕ) (r : IsReadUpTo bytes reading) → n ≡ next_number reading
     → n ≡ suc (length r.front)
 number_is reading n bytes r is =
     omega (arith, is, lines_counted r.front reading.input.schema reading.input.givens.items r.input)
 
-pub are_read : (reading : Reading) (bytes : List ℕ) (r : IsRead bytes reading) → AreInput r.front
+pub are_read : (reading : Reading) (bytes : List ℕ) (r : IsReadUpTo bytes reading) → AreInput r.front
 are_read reading bytes r = (reading.input.schema, reading.input.givens.items, r.input)
 
 -- a bad line ends
 pub line_is_bad : (reading : Reading) (b n : ℕ) → b ≡ 10 → line_given reading ≡ None → n ≡ next_number reading
-    → (before : List ℕ) → IsRead before reading → HasBadLine (before ++ b ∷ []) ⊥ n
+    → (before : List ℕ) → IsReadUpTo before reading → HasBadLine (before ++ b ∷ []) ⊥ n
 line_is_bad reading b n is bad count before r =
     let line : List ℕ = reading.line.items in
     record {
@@ -86,10 +86,10 @@ line_is_bad reading b n is bad count before r =
     }
 
 -- a line becomes too long
-pub line_is_long : (reading : Reading) (b n : ℕ) → b ≢ 10 → most_of_line ≤ length reading.line.items
+pub long_line_stops : (reading : Reading) (b n : ℕ) → b ≢ 10 → most_of_line ≤ length reading.line.items
     → n ≡ next_number reading
-    → (before : List ℕ) → IsRead before reading → HasBadLine (before ++ b ∷ []) ⊥ n
-line_is_long reading b n isnt long count before r =
+    → (before : List ℕ) → IsReadUpTo before reading → HasBadLine (before ++ b ∷ []) ⊥ n
+long_line_stops reading b n isnt long count before r =
     let line : List ℕ = reading.line.items in
     let all : List ℕ = line ++ b ∷ [] in
     record {
@@ -101,13 +101,13 @@ line_is_long reading b n isnt long count before r =
       lines = (r.lines, all_push (λ (byte : ℕ). byte ≢ 10) line b r.begun isnt);
       count = number_is reading n before r count;
       before = are_read reading before r;
-      bad = inr (inr (not_empty line b, too_long r.front all (omega (arith, long, length-append line (b ∷ [])))));
+      bad = inr (inr (line_not_empty line b, long_line_is_bad r.front all (omega (arith, long, length-append line (b ∷ [])))));
     }
 
 -- how adding the line that is read stops, at its end
 adding_so_stops : (reading : Reading) (b : ℕ) (why : DriveFault) (after : Input) → b ≡ 10
     → AddEnds (line_given reading) reading.input (Err why) after
-    → (before : List ℕ) → IsRead before reading → StopsAt (before ++ b ∷ []) ⊥ why
+    → (before : List ℕ) → IsReadUpTo before reading → ReadingStopsAt (before ++ b ∷ []) ⊥ why
 adding_so_stops reading b (fault.Read why) after is h before r = absurd h
 adding_so_stops reading b (fault.Write why) after is h before r = absurd h
 adding_so_stops reading b (fault.Line n) after is h before r = line_is_bad reading b n is h.0 h.1 before r
@@ -115,15 +115,15 @@ adding_so_stops reading b fault.Stopped after is h before r = absurd h
 adding_so_stops reading b fault.Memory after is h before r = tt
 
 -- adding a line to the input of a reading stops so
-abbrev pub LineStops : Reading → List ℕ → DriveFault → Input → Type 0
-LineStops reading line why after =
+abbrev pub LineEndsReading : Reading → List ℕ → DriveFault → Input → Type 0
+LineEndsReading reading line why after =
     AddEnds (with_line reading.input.schema reading.input.givens.items line) reading.input (Err why) after
 
 pub adding_stops : (reading : Reading) (line : List ℕ) (b : ℕ) (why : DriveFault) (after : Input)
-    → line ≡ reading.line.items → b ≡ 10 → LineStops reading line why after
-    → (before : List ℕ) → IsRead before reading → StopsAt (before ++ b ∷ []) ⊥ why
+    → line ≡ reading.line.items → b ≡ 10 → LineEndsReading reading line why after
+    → (before : List ℕ) → IsReadUpTo before reading → ReadingStopsAt (before ++ b ∷ []) ⊥ why
 adding_stops reading line b why after same is h =
-    adding_so_stops reading b why after is (subst (λ (l : List ℕ). LineStops reading l why after) same h)
+    adding_so_stops reading b why after is (subst (λ (l : List ℕ). LineEndsReading reading l why after) same h)
 
 -- ---- bytes
 
@@ -151,19 +151,19 @@ bad_longer bytes more n h = record {
     by (inr (inl p)) = absurd p.0
     by (inr (inr p)) = inr (inr p)
 
-stops_longer : (bytes more : List ℕ) (why : DriveFault) → StopsAt bytes ⊥ why → StopsAt (bytes ++ more) ⊥ why
-stops_longer bytes more (fault.Read why) h = absurd h
-stops_longer bytes more (fault.Write why) h = absurd h
-stops_longer bytes more (fault.Line n) h = bad_longer bytes more n h
-stops_longer bytes more fault.Stopped h = absurd h
-stops_longer bytes more fault.Memory h = tt
+stops_at_longer : (bytes more : List ℕ) (why : DriveFault) → ReadingStopsAt bytes ⊥ why → ReadingStopsAt (bytes ++ more) ⊥ why
+stops_at_longer bytes more (fault.Read why) h = absurd h
+stops_at_longer bytes more (fault.Write why) h = absurd h
+stops_at_longer bytes more (fault.Line n) h = bad_longer bytes more n h
+stops_at_longer bytes more fault.Stopped h = absurd h
+stops_at_longer bytes more fault.Memory h = tt
 
 -- reading stops at a byte
-pub byte_stops : (old now : Reading) (bytes : List ℕ) (i : ℕ) (why : DriveFault) → i < length bytes
-    → ((before : List ℕ) → IsRead before old → IsRead (before ++ take i bytes) now)
-    → ((before : List ℕ) → IsRead before now → StopsAt (before ++ get_or bytes i 0 ∷ []) ⊥ why)
-    → (before : List ℕ) → IsRead before old → StopsAt (before ++ bytes) ⊥ why
-byte_stops old now bytes i why lt fed step before r =
+pub byte_ends_reading : (old now : Reading) (bytes : List ℕ) (i : ℕ) (why : DriveFault) → i < length bytes
+    → ((before : List ℕ) → IsReadUpTo before old → IsReadUpTo (before ++ take i bytes) now)
+    → ((before : List ℕ) → IsReadUpTo before now → ReadingStopsAt (before ++ get_or bytes i 0 ∷ []) ⊥ why)
+    → (before : List ℕ) → IsReadUpTo before old → ReadingStopsAt (before ++ bytes) ⊥ why
+byte_ends_reading old now bytes i why lt fed step before r =
     let b : ℕ = get_or bytes i 0 in
     let rest : List ℕ = drop (suc i) bytes in
     let split : take i bytes ++ b ∷ rest ≡ bytes =
@@ -171,5 +171,5 @@ byte_stops old now bytes i why lt fed step before r =
     let whole : ((before ++ take i bytes) ++ b ∷ []) ++ rest ≡ before ++ bytes =
     append_assoc (before ++ take i bytes) (b ∷ []) rest ∙ append_assoc before (take i bytes) (b ∷ rest)
     ∙ ap (λ (t : List ℕ). before ++ t) split in
-    subst (λ (t : List ℕ). StopsAt t ⊥ why) whole
-    (stops_longer ((before ++ take i bytes) ++ b ∷ []) rest why (step (before ++ take i bytes) (fed before r)))
+    subst (λ (t : List ℕ). ReadingStopsAt t ⊥ why) whole
+    (stops_at_longer ((before ++ take i bytes) ++ b ∷ []) rest why (step (before ++ take i bytes) (fed before r)))

@@ -1,31 +1,98 @@
 -- What a drive comes to.
-use Rattle.std.specs.Prelude.{◌≡◌, ℕ, List, length}
+use Rattle.std.specs.Prelude.{◌≡◌, ℕ, ◌≤◌, List, length, map}
 use Rattle.std.specs.List.{AllByRecursion}
+use Rattle.cs_model.specs.declared.shape.Shape.{Shape}
+use Rattle.rb_core.specs.State.{empty_tables}
 use Rattle.rb_sequence.specs.Cells.{Cells, LastToken}
 use Rattle.rb_sequence.specs.declared.item.Item.{Item}
 use Rattle.rb_broker.specs.Publishers.{PublisherView}
 use Rattle.rb_sequencer.specs.Turns.{SequencerState}
 use Rattle.rb_subscriber.specs.Accept.{HasSingleTables}
 use Rattle.rb_subscriber.specs.Shown.{entries_told}
-use Rattle.rb_subscriber.specs.Subscription.{SubscriptionState}
+use Rattle.rb_subscriber.specs.Subscription.{SubscriptionState, cursor_of}
 use Rattle.rb_close.specs.Finishing.{Finishes}
 use Rattle.rb_close.specs.Headline.{KeepsRunningHeadline}
 use Rattle.rb_close.specs.Meeting.{HasMet}
+use Rattle.rb_drive.specs.declared.accepting.SubscriberEnd.{SubscriberEnd}
+use Rattle.rb_drive.specs.declared.accepting.SubscriberEnd.TheVariants.{Drained, Conflict, Stopped}
+use Rattle.rb_drive.specs.declared.accepting.Accepting.{Accepting}
+use Rattle.rb_drive.specs.declared.drive.Outcome.{Outcome}
+use Rattle.rb_drive.specs.declared.input.Given.{Given}
+use Rattle.rb_drive.specs.declared.publishing.FaultyLine.{FaultyLine}
+use Rattle.rb_drive.specs.Published.{AreByNumber, HaveSentLines, faulty_done, unsent_lines}
+
+-- ---- subscribers
+
+-- a subscription, and how it ended
+pub record DrivenSubscriber : Type 0 where
+  pub subscription : SubscriptionState
+  pub ending : SubscriberEnd
+
+-- the subscription begins before the first number, with empty tables
+abbrev pub StartsEmpty : List Shape → SubscriptionState → Type 0
+StartsEmpty schema s = (s.start ≡ 0) × (s.base ≡ empty_tables schema)
+
+-- a subscriber that is drained has accepted all that was placed; none was stopped
+abbrev pub IsEndAt : ℕ → SubscriberEnd → ℕ → Type 0
+IsEndAt placed Drained cursor = cursor ≡ placed
+IsEndAt placed (Conflict conflict) cursor = Unit {0}
+IsEndAt placed Stopped cursor = ⊥
+
+abbrev pub IsEnded : ℕ → DrivenSubscriber → Type 0
+IsEnded placed one = IsEndAt placed one.ending (cursor_of one.subscription)
 
 -- a subscription that has met the sequencer up to its cursor, and shows its tables
 abbrev pub HasMetAll : SequencerState → SubscriptionState → Type 0
 HasMetAll sequencer s = HasMet sequencer s × HasSingleTables s.base (entries_told s.told) s.tables
 
--- There are publishers, a sequencer and a token of the closing cell with which the broker was
--- finished: so many items were placed, and so many are left. Each subscription keeps the headline
--- of a running broker.
-pub record IsDriven (cells : Cells) (placed left : ℕ) (subscriptions : List SubscriptionState)
-    : Type 0 where
+-- the same, and it has ended as it should
+abbrev pub HasMetAndEnded : SequencerState → SubscriptionState → SubscriberEnd → Type 0
+HasMetAndEnded sequencer s ending =
+    HasMetAll sequencer s × IsEndAt (length sequencer.placed) ending (cursor_of s)
+
+-- ---- the whole
+
+-- what is reported: how many changesets were placed, how many were sent and not placed, how many
+-- lines were neither sent nor found faulty, the faulty lines, and the subscribers
+pub record DriveOutcome : Type 0 where
+  pub placed : ℕ
+  pub left : ℕ
+  pub unsent : ℕ
+  pub faulty : List FaultyLine
+  pub subscribers : List DrivenSubscriber
+
+-- what an outcome of the code says
+abbrev pub subscriber_of : {L : Type 0} → Accepting L → DrivenSubscriber
+subscriber_of one = record { subscription = one.subscription; ending = one.ending }
+
+abbrev pub reported : {L : Type 0} → Outcome L → DriveOutcome
+reported o = record {
+  placed = o.placed;
+  left = o.left;
+  unsent = o.unsent;
+  faulty = o.faulty.items;
+  subscribers = map subscriber_of o.accepting.items;
+}
+
+-- A drive of a broker with these cells and tables, whose publishers had these lines. There are
+-- publishers, a sequencer and a token of the closing cell with which the broker was finished. Each
+-- publisher has sent the changesets of its lines, in order, up to those that are unsent. The faulty
+-- lines come by rising number. Each subscription began empty, and keeps the headline of a running
+-- broker; if it is drained, it has accepted all that was placed.
+pub record IsDriven (cells : Cells) (schema : List Shape) (lines : List (List Given))
+    (outcome : DriveOutcome) : Type 0 where
   pub publishers : List PublisherView
   pub sequencer : SequencerState
   pub closing : LastToken
   pub items : List Item
-  pub finished : Finishes cells publishers sequencer placed items closing
-  pub count : left ≡ length items
+  pub dones : List ℕ
+  pub finished : Finishes cells publishers sequencer outcome.placed items closing
+  pub count : outcome.left ≡ length items
+  pub few : outcome.placed ≤ cells.capacity
+  pub sent : HaveSentLines schema 0 lines dones publishers
+  pub unsent : outcome.unsent ≡ unsent_lines lines dones
+  pub faulty : AreByNumber (faulty_done schema lines dones) outcome.faulty
+  pub begun : AllByRecursion (λ one. StartsEmpty schema one.subscription) outcome.subscribers
   pub headline : AllByRecursion (KeepsRunningHeadline cells publishers sequencer closing)
-      subscriptions
+      (map (λ one. one.subscription) outcome.subscribers)
+  pub ended : AllByRecursion (IsEnded outcome.placed) outcome.subscribers

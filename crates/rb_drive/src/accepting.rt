@@ -1,6 +1,9 @@
 //! A subscriber's thread: takes, accepts and acknowledges until all is drained or a change
 //! conflicts.
 
+ghost use Rattle.std.specs.Prelude.{◌≡◌};
+ghost use Rattle.rb_drive.specs.Owners.{beginning_of};
+
 use crate::signs::Signs;
 use cs_apply::Conflict;
 use rb_broker::{Broker, Hall, TakeError};
@@ -11,7 +14,7 @@ use std::sync::Wait;
 
 /// How a subscriber ended.
 #[derive(Clone, Copy, Debug, PartialEq, Eq)]
-pub enum Ending {
+pub enum SubscriberEnd {
     /// It has accepted everything up to the last number.
     Drained,
     /// A change conflicts with its rows.
@@ -24,23 +27,27 @@ pub enum Ending {
 #[derive(Drop)]
 pub struct Accepting<L: Hall> {
     pub subscription: Subscription<L>,
-    pub ending: Ending,
+    pub ending: SubscriberEnd,
 }
 
 impl<L: Hall> Accepting<L> {
     /// One that has accepted nothing.
-    pub fn new(subscription: Subscription<L>) -> Accepting<L> {
+    pub fn new(subscription: Subscription<L>) -> Accepting<L>
+        ensures { result.subscription ≡ subscription }
+    {
         Accepting {
             subscription,
-            ending: Ending::Stopped,
+            ending: SubscriberEnd::Stopped,
         }
     }
 
     /// Takes, accepts and acknowledges until it is drained, conflicts, or all loops end. Ends all
     /// loops itself if memory runs out or a call is refused that should not be.
-    pub fn accept<R: Wait>(&mut self, rt: &R, alloc: Global, broker: &Broker<L>, signs: &Signs) {
+    pub fn accept<R: Wait>(&mut self, rt: &R, alloc: Global, broker: &Broker<L>, signs: &Signs)
+        ensures { beginning_of self.new.subscription ≡ beginning_of self.old.subscription }
+    {
         self.ending = accept_all(rt, alloc, broker, signs, &mut self.subscription);
-        if self.ending == Ending::Stopped {
+        if self.ending == SubscriberEnd::Stopped {
             signs.stop();
         }
     }
@@ -52,12 +59,14 @@ fn accept_all<L: Hall, R: Wait>(
     broker: &Broker<L>,
     signs: &Signs,
     subscription: &mut Subscription<L>,
-) -> Ending {
+) -> SubscriberEnd
+    ensures { beginning_of subscription.new ≡ beginning_of subscription.old }
+{
     let mut looks: u64 = 0;
     for _ in rt.forever() {
         let seen = signs.placed.rings();
         if signs.is_stopped() {
-            return Ending::Stopped;
+            return SubscriberEnd::Stopped;
         }
         // nobody expires deliveries, so the tick of a take doesn't matter
         match broker.take(rt, alloc, subscription, 0) {
@@ -67,12 +76,12 @@ fn accept_all<L: Hall, R: Wait>(
                     return ending;
                 }
             }
-            Err(TakeError::Drained(_)) => return Ending::Drained,
+            Err(TakeError::Drained(_)) => return SubscriberEnd::Drained,
             Err(TakeError::Desk(DeskError::Refused(DeskRefusal::Empty { .. }))) => {
                 signs.placed.wait(rt, seen, looks);
                 looks = looks.saturating_add(1);
             }
-            Err(TakeError::Desk(_)) => return Ending::Stopped,
+            Err(TakeError::Desk(_)) => return SubscriberEnd::Stopped,
         }
     }
     unreachable!()
@@ -86,16 +95,22 @@ fn settle<L: Hall, R: Wait>(
     broker: &Broker<L>,
     subscription: &mut Subscription<L>,
     delivery: &Delivery,
-) -> Option<Ending> {
+) -> Option<SubscriberEnd>
+    ensures { beginning_of subscription.new ≡ beginning_of subscription.old }
+{
     let settled = match subscription.accept_alone(alloc, broker.sequence(), delivery) {
         Ok(_) => broker.ack(rt, alloc, subscription, delivery).is_ok(),
         Err(AcceptAloneError::Unseen { .. }) => {
             broker.nack(rt, alloc, subscription, delivery).is_ok()
         }
         Err(AcceptAloneError::Refused(AcceptRefusal::Conflict(conflict))) => {
-            return Some(Ending::Conflict(conflict));
+            return Some(SubscriberEnd::Conflict(conflict));
         }
         Err(_) => false,
     };
-    if settled { None } else { Some(Ending::Stopped) }
+    if settled {
+        None
+    } else {
+        Some(SubscriberEnd::Stopped)
+    }
 }

@@ -1,14 +1,21 @@
 //! Runs a broker with its owners in threads, until all is drained.
 
-ghost use Rattle.std.specs.Prelude.{◌≡◌, map, IfErr, IfOk, IsTrue};
-ghost use Rattle.std.specs.List.{AllByRecursion};
-ghost use Rattle.rb_drive.specs.Outcome.{HasMetAll, IsDriven};
+ghost use Rattle.std.specs.Prelude.{◌≡◌, ◌+◌, ℕ, List, [], length, map, replicate, IfErr};
+ghost use Rattle.std.specs.Prelude.{IfOk, IsTrue};
+ghost use Rattle.std.specs.Arc.{arc_value};
+ghost use Rattle.std.specs.List.{AllByRecursion, flat_map};
+ghost use Rattle.cs_model.specs.declared.shape.Shape.{Shape};
+ghost use Rattle.rb_core.specs.State.{empty_tables};
+ghost use Rattle.rb_drive.specs.declared.input.Given.{Given as Line};
+ghost use Rattle.rb_drive.specs.Outcome.{HasMetAndEnded, IsDriven, IsEndAt, reported};
+ghost use Rattle.rb_drive.specs.Owners.{beginning_of, publisher_lines, numbered_lines};
+ghost use Rattle.rb_drive.specs.Published.{AreByNumber, unsent_lines};
 ghost use Rattle.rb_drive.specs.Run.{IsOfThreads};
 
-use crate::accepting::Accepting;
+use crate::accepting::{Accepting, SubscriberEnd};
 use crate::fault::DriveFault;
 use crate::input::Given;
-use crate::owners::{Owner, Owners, run_all};
+use crate::owners::{Owners, run_all};
 use crate::publishing::{FaultyLine, Publishing};
 use crate::signs::Signs;
 use cs_apply::Tables;
@@ -56,8 +63,10 @@ pub fn drive<L: Hall + Send + Sync, R: Threads + Wait + Sync>(
     requires cells { opened.cells ≡ L.cells }
     requires queue { opened.queue ≡ L.queue }
     requires ledger { (opened.ledger ≡ L.name) × (L.parts ≡ 1024) × (L.all ≡ 1024) }
-    ensures ok { IfOk result (λ o. IsDriven L.cells o.placed o.left
-        (map (λ a. a.subscription) o.accepting.items)) }
+    requires schema { arc_value plan.schema ≡ opened.schema }
+    ensures ok { IfOk result (λ o. IsDriven L.cells (arc_value plan.schema)
+        (map (λ v. v.items) plan.lines.items) (reported o)
+        × (length o.accepting.items ≡ plan.subscribers)) }
     ensures err { IfErr result IsOfThreads }
 {
     let Started {
@@ -85,21 +94,78 @@ fn all_owners<L: Hall, R: Wait>(
     maker: &mut PublisherMaker<L>,
     sequencer: Sequencer<L>,
     plan: Plan,
-) -> Result<Vec<Owner<L>>, AllocError> {
-    let mut owners = Vec::new(alloc);
-    owners.push(Owner::Places(sequencer))?;
+) -> Result<Owners<L>, AllocError>
+    requires schema { arc_value plan.schema ≡ arc_value broker.now.schema }
+    requires first { maker.old ≡ 0 }
+    ensures lines { IfOk result (λ o.
+        map (λ one. publisher_lines one.publisher one.lines.items) o.publishing.items
+        ≡ numbered_lines 0 (arc_value plan.schema) (map (λ v. v.items) plan.lines.items)) }
+    ensures begun { IfOk result (λ o.
+        map (λ one. beginning_of one.subscription) o.accepting.items
+        ≡ replicate plan.subscribers (0, empty_tables (arc_value plan.schema))) }
+{
     let Plan {
         schema,
         lines,
         subscribers,
     } = plan;
-    for _ in 0..subscribers {
-        owners.push(subscriber(rt, alloc, broker, &schema)?)?;
+    Ok(Owners {
+        publishing: publishers(alloc, broker, maker, lines)?,
+        sequencer,
+        accepting: all_subscribers(rt, alloc, broker, &schema, subscribers)?,
+    })
+}
+
+// a publisher for each of these lists of lines
+fn publishers<L: Hall>(
+    alloc: Global,
+    broker: &Broker<L>,
+    maker: &mut PublisherMaker<L>,
+    lines: Vec<Vec<Given>>,
+) -> Result<Vec<Publishing<L>>, AllocError>
+    requires { maker.old ≡ 0 }
+    ensures { IfOk result (λ all. map (λ one. publisher_lines one.publisher one.lines.items) all.items
+        ≡ numbered_lines 0 (arc_value broker.now.schema) (map (λ v. v.items) lines.items)) }
+{
+    let mut all = Vec::new(alloc);
+    for own in lines {
+        all.push(publisher(alloc, broker, maker, own)?)?;
     }
-    for given in lines {
-        owners.push(publisher(alloc, broker, maker, given)?)?;
+    Ok(all)
+}
+
+fn publisher<L: Hall>(
+    alloc: Global,
+    broker: &Broker<L>,
+    maker: &mut PublisherMaker<L>,
+    lines: Vec<Given>,
+) -> Result<Publishing<L>, AllocError>
+    ensures made { IfOk result (λ _. maker.new ≡ maker.old + 1) }
+    ensures lines { IfOk result (λ one. publisher_lines one.publisher one.lines.items
+        ≡ (maker.old, (arc_value broker.now.schema, lines.items))) }
+{
+    match maker.make(alloc, broker) {
+        Ok(publisher) => Ok(Publishing::new(alloc, publisher, lines)),
+        Err(AddRefusal::Memory) | Err(AddRefusal::TooMany) => Err(AllocError),
     }
-    Ok(owners)
+}
+
+// so many subscribers
+fn all_subscribers<L: Hall, R: Wait>(
+    rt: &R,
+    alloc: Global,
+    broker: &Broker<L>,
+    schema: &Arc<Schema>,
+    count: u64,
+) -> Result<Vec<Accepting<L>>, AllocError>
+    ensures { IfOk result (λ all. map (λ one. beginning_of one.subscription) all.items
+        ≡ replicate count (0, empty_tables (arc_value schema.now))) }
+{
+    let mut all = Vec::new(alloc);
+    for _ in 0..count {
+        all.push(subscriber(rt, alloc, broker, schema)?)?;
+    }
+    Ok(all)
 }
 
 // a subscriber with empty tables, after number 0
@@ -108,24 +174,15 @@ fn subscriber<L: Hall, R: Wait>(
     alloc: Global,
     broker: &Broker<L>,
     schema: &Arc<Schema>,
-) -> Result<Owner<L>, AllocError> {
+) -> Result<Accepting<L>, AllocError>
+    ensures { IfOk result (λ one. beginning_of one.subscription
+        ≡ (0, empty_tables (arc_value schema.now))) }
+{
     let kept = vec![in alloc; true; schema.tables().len()]?;
     let tables = Tables::new(alloc, Arc::try_clone(schema)?, kept);
     match broker.subscribe(rt, alloc, tables, 0) {
-        Ok(subscription) => Ok(Owner::Accepts(Accepting::new(subscription))),
+        Ok(subscription) => Ok(Accepting::new(subscription)),
         Err(_) => Err(AllocError),
-    }
-}
-
-fn publisher<L: Hall>(
-    alloc: Global,
-    broker: &Broker<L>,
-    maker: &mut PublisherMaker<L>,
-    lines: Vec<Given>,
-) -> Result<Owner<L>, AllocError> {
-    match maker.make(alloc, broker) {
-        Ok(publisher) => Ok(Owner::Publishes(Publishing::new(alloc, publisher, lines))),
-        Err(AddRefusal::Memory) | Err(AddRefusal::TooMany) => Err(AllocError),
     }
 }
 
@@ -137,20 +194,21 @@ fn end<L: Hall, R: Wait>(
     maker: PublisherMaker<L>,
     back: Owners<L>,
 ) -> Result<Outcome<L>, DriveFault>
-    ensures ok { IfOk result (λ o. IsDriven L.cells o.placed o.left
-        (map (λ a. a.subscription) o.accepting.items)) }
+    ensures ok { IfOk result (λ o. (schema : List Shape) (lines : List (List Line)) (count : ℕ)
+        → map (λ one. publisher_lines one.publisher one.lines.items) back.publishing.items
+        ≡ numbered_lines 0 schema lines
+        → map (λ one. beginning_of one.subscription) back.accepting.items
+        ≡ replicate count (0, empty_tables schema)
+        → IsDriven L.cells schema lines (reported o) × (length o.accepting.items ≡ count)) }
     ensures err { IfErr result IsOfThreads }
 {
     finished_keeps_headline();
     let Owners {
         publishing,
-        mut sequencers,
+        sequencer,
         accepting,
     } = back;
-    let Some(sequencer) = sequencers.pop() else {
-        return Err(DriveFault::Stopped);
-    };
-    if !all_meet(&sequencer, &accepting) {
+    if !all_ended(&sequencer, &accepting) {
         return Err(DriveFault::Stopped);
     }
     let (publishers, unsent, faulty) = taken_apart(alloc, publishing)?;
@@ -172,28 +230,76 @@ fn end<L: Hall, R: Wait>(
     }
 }
 
-// whether each subscriber has met the sequencer up to its cursor
-fn all_meet<L: Hall>(sequencer: &Sequencer<L>, accepting: &[Accepting<L>]) -> bool
-    ensures { IsTrue result
-        → AllByRecursion (λ a. HasMetAll sequencer.now a.subscription) accepting.now }
+// whether each subscriber has met the sequencer up to its cursor, and all that are drained have
+// accepted everything
+fn all_ended<L: Hall>(sequencer: &Sequencer<L>, accepting: &[Accepting<L>]) -> bool
+    ensures { IsTrue result → AllByRecursion
+        (λ one. HasMetAndEnded sequencer.now one.subscription one.ending) accepting.now }
 {
     for one in accepting {
-        let subscription = &one.subscription;
-        // for its clause
-        let _tables = subscription.tables();
-        let (_start, last) = meet_sequencer(sequencer, subscription);
-        if last != subscription.cursor() {
+        if !has_ended(sequencer, one) {
             return false;
         }
     }
     true
 }
 
+fn has_ended<L: Hall>(sequencer: &Sequencer<L>, one: &Accepting<L>) -> bool
+    ensures { IsTrue result
+        → HasMetAndEnded sequencer.now one.now.subscription one.now.ending }
+{
+    let subscription = &one.subscription;
+    let cursor = subscription.cursor();
+    // for its clause
+    let _tables = subscription.tables();
+    let (_start, last) = meet_sequencer(sequencer, subscription);
+    last == cursor && is_at_end(one.ending, sequencer.placed(), cursor)
+}
+
+// whether a subscriber with this cursor may have ended so, where so many entries were placed
+fn is_at_end(ending: SubscriberEnd, placed: u64, cursor: u64) -> bool
+    ensures { IsTrue result → IsEndAt placed ending cursor }
+{
+    match ending {
+        SubscriberEnd::Drained => cursor == placed,
+        SubscriberEnd::Conflict(_) => true,
+        SubscriberEnd::Stopped => false,
+    }
+}
+
 // the publishers, how many of their lines were neither sent nor found faulty, and the faulty ones
 fn taken_apart<L: Hall>(
     alloc: Global,
     publishing: Vec<Publishing<L>>,
-) -> Result<(Vec<Publisher<L>>, u64, Vec<FaultyLine>), AllocError> {
+) -> Result<(Vec<Publisher<L>>, u64, Vec<FaultyLine>), DriveFault>
+    ensures publishers { IfOk result (λ r. r.0.items
+        ≡ map (λ one. one.publisher) publishing.items) }
+    ensures unsent { IfOk result (λ r. r.1 ≡ unsent_lines
+        (map (λ one. one.lines.items) publishing.items)
+        (map (λ one. one.done) publishing.items)) }
+    ensures faulty { IfOk result (λ r. AreByNumber
+        (flat_map (λ one. one.faulty.items) publishing.items) r.2.items) }
+    ensures err { IfErr result IsOfThreads }
+{
+    let (publishers, unsent, mut faulty) = all_apart(alloc, publishing)?;
+    faulty.sort_unstable_by_key(|one| one.line);
+    Ok((publishers, unsent, faulty))
+}
+
+// the same, with the faulty lines of one publisher after another
+fn all_apart<L: Hall>(
+    alloc: Global,
+    publishing: Vec<Publishing<L>>,
+) -> Result<(Vec<Publisher<L>>, u64, Vec<FaultyLine>), DriveFault>
+    ensures publishers { IfOk result (λ r. r.0.items
+        ≡ map (λ one. one.publisher) publishing.items) }
+    ensures unsent { IfOk result (λ r. r.1 ≡ unsent_lines
+        (map (λ one. one.lines.items) publishing.items)
+        (map (λ one. one.done) publishing.items)) }
+    ensures faulty { IfOk result (λ r. r.2.items
+        ≡ flat_map (λ one. one.faulty.items) publishing.items) }
+    ensures err { IfErr result IsOfThreads }
+{
     let mut publishers = Vec::with_capacity(alloc, publishing.len())?;
     let mut unsent: u64 = 0;
     let mut faulty = Vec::new(alloc);
@@ -205,9 +311,10 @@ fn taken_apart<L: Hall>(
             faulty: some,
         } = one;
         publishers.push(publisher)?;
-        unsent = unsent.saturating_add(lines.len().saturating_sub(done) as u64);
+        // 2^64 lines are in no memory
+        let rest = lines.len().saturating_sub(done) as u64;
+        unsent = unsent.checked_add(rest).ok_or(DriveFault::Stopped)?;
         faulty.extend_from_slice(&some)?;
     }
-    faulty.sort_unstable_by_key(|one| one.line);
     Ok((publishers, unsent, faulty))
 }

@@ -2,8 +2,8 @@
 
 ghost use Rattle.std.specs.Prelude.{◌≡◌, IfOk, map};
 ghost use Rattle.rb_script.specs.Words.{bytes_of, number_in_word};
-ghost use Rattle.rb_drive.specs.Reading.{changeset_of, entry_of, entry_of_words, table_of};
-ghost use Rattle.rb_drive.specs.Reading.{three_words, two_words};
+ghost use Rattle.rb_drive.specs.Reading.{changeset_of, entry_spelled, entry_of_words, table_of};
+ghost use Rattle.rb_drive.specs.Reading.{three_line_words, two_line_words};
 
 use cs_model::{Octets, Shape};
 use rb_script::{header_in, is, number, octets, parts};
@@ -14,20 +14,20 @@ const PUBLISHERS: u64 = 64;
 
 /// What a good line says: a table, or a changeset of a publisher.
 #[derive(Drop)]
-pub enum Entry {
+pub enum LineEntry {
     Table(Shape),
     Changeset { publisher: u64, text: Octets },
 }
 
 /// The entry of a line, if it has one. Returns `AllocError` if memory runs out.
-pub fn entry_in(alloc: Global, line: &[u8]) -> Result<Option<Entry>, AllocError>
-    ensures { IfOk result (λ entry. entry ≡ entry_of line.now) }
+pub fn entry_in(alloc: Global, line: &[u8]) -> Result<Option<LineEntry>, AllocError>
+    ensures { IfOk result (λ entry. entry ≡ entry_spelled line.now) }
 {
     let words = parts(alloc, line)?;
     entry_of_parts(alloc, &words)
 }
 
-fn entry_of_parts(alloc: Global, words: &[&[u8]]) -> Result<Option<Entry>, AllocError>
+fn entry_of_parts(alloc: Global, words: &[&[u8]]) -> Result<Option<LineEntry>, AllocError>
     ensures { IfOk result (λ entry. entry ≡ entry_of_words (map (λ word. word.now) words.now)) }
 {
     match words {
@@ -39,8 +39,8 @@ fn entry_of_parts(alloc: Global, words: &[&[u8]]) -> Result<Option<Entry>, Alloc
     }
 }
 
-fn table_line(alloc: Global, name: &[u8], word: &[u8]) -> Result<Option<Entry>, AllocError>
-    ensures { IfOk result (λ entry. entry ≡ two_words name.now word.now) }
+fn table_line(alloc: Global, name: &[u8], word: &[u8]) -> Result<Option<LineEntry>, AllocError>
+    ensures { IfOk result (λ entry. entry ≡ two_line_words name.now word.now) }
 {
     if is(name, b"table") {
         table(alloc, octets(alloc, word)?)
@@ -49,12 +49,12 @@ fn table_line(alloc: Global, name: &[u8], word: &[u8]) -> Result<Option<Entry>, 
     }
 }
 
-fn table(alloc: Global, bytes: Option<Octets>) -> Result<Option<Entry>, AllocError>
+fn table(alloc: Global, bytes: Option<Octets>) -> Result<Option<LineEntry>, AllocError>
     ensures { IfOk result (λ entry. entry ≡ table_of bytes) }
 {
     match bytes {
         None => Ok(None),
-        Some(bytes) => Ok(header_in(alloc, &bytes)?.map(Entry::Table)),
+        Some(bytes) => Ok(header_in(alloc, &bytes)?.map(LineEntry::Table)),
     }
 }
 
@@ -63,8 +63,8 @@ fn changeset_line(
     name: &[u8],
     first: &[u8],
     word: &[u8],
-) -> Result<Option<Entry>, AllocError>
-    ensures { IfOk result (λ entry. entry ≡ three_words name.now first.now word.now) }
+) -> Result<Option<LineEntry>, AllocError>
+    ensures { IfOk result (λ entry. entry ≡ three_line_words name.now first.now word.now) }
 {
     if is(name, b"changeset") {
         Ok(changeset(number(first), octets(alloc, word)?))
@@ -73,13 +73,13 @@ fn changeset_line(
     }
 }
 
-fn changeset(publisher: Option<u64>, bytes: Option<Octets>) -> Option<Entry>
+fn changeset(publisher: Option<u64>, bytes: Option<Octets>) -> Option<LineEntry>
     ensures { result ≡ changeset_of publisher bytes }
 {
     let publisher = publisher?;
     if publisher < PUBLISHERS {
         let text = bytes?;
-        Some(Entry::Changeset { publisher, text })
+        Some(LineEntry::Changeset { publisher, text })
     } else {
         None
     }

@@ -4,11 +4,11 @@ ghost use Rattle.std.specs.Prelude.{◌≡◌, ◌+◌, ◌<◌, ◌≤◌, ◌�
 ghost use Rattle.std.specs.Prelude.{IfOk, OnErr, IfErr, Some};
 ghost use Rattle.std.specs.Io.KnownBytes.{Consumes, Keeps, IsAtEnd};
 ghost use Rattle.rb_drive.specs.Input.{InputEnds};
-ghost use Rattle.rb_drive.specs.Reading.{AddEnds, EndsAfter, GoesOn, IsRead, with_entry, with_line};
-ghost use Rattle.rb_drive.specs.Reading.{IsOfReader};
-ghost use Rattle.rb_drive.specs.declared.entries.Entry.TheVariants.{Table, Changeset};
+ghost use Rattle.rb_drive.specs.Reading.{AddEnds, EndsAfter, ReadingGoesOn, IsReadUpTo, with_entry, with_line};
+ghost use Rattle.rb_drive.specs.Reading.{IsReadFault};
+ghost use Rattle.rb_drive.specs.declared.entries.LineEntry.TheVariants.{Table, Changeset};
 
-use crate::entries::{Entry, entry_in};
+use crate::entries::{LineEntry, entry_in};
 use crate::fault::DriveFault;
 use cs_model::{Octets, Schema, SchemaError, Shape};
 use rb_script::{MOST_OF_LINE, read_some};
@@ -76,7 +76,7 @@ fn zeros(alloc: Global, n: usize) -> Result<Vec<u8>, AllocError>
 }
 
 fn nothing_read(alloc: Global) -> Reading
-    ensures { IsRead [] result }
+    ensures { IsReadUpTo [] result }
 {
     Reading {
         input: Input {
@@ -95,7 +95,7 @@ fn read_piece<R: Read>(reader: &mut R, piece: &mut [u8]) -> Result<usize, DriveF
         (take n piece.new)) }
     ensures end { IfOk result (λ n. n ≡ 0 → IsAtEnd (R.remaining reader.new)) }
     ensures err { OnErr result (Keeps (R.remaining reader.old) (R.remaining reader.new)) }
-    ensures fault { IfErr result IsOfReader }
+    ensures fault { IfErr result IsReadFault }
 {
     match read_some(reader, piece) {
         Ok(n) => Ok(n),
@@ -105,7 +105,7 @@ fn read_piece<R: Read>(reader: &mut R, piece: &mut [u8]) -> Result<usize, DriveF
 
 // Goes over these bytes.
 fn feed(alloc: Global, reading: &mut Reading, bytes: &[u8]) -> Result<(), DriveFault>
-    ensures { GoesOn reading.old bytes.now result reading.new }
+    ensures { ReadingGoesOn reading.old bytes.now result reading.new }
 {
     for byte in bytes {
         take_byte(alloc, reading, *byte)?;
@@ -115,7 +115,7 @@ fn feed(alloc: Global, reading: &mut Reading, bytes: &[u8]) -> Result<(), DriveF
 
 // A line that is too long is bad before its end comes, so that an endless one ends.
 fn take_byte(alloc: Global, reading: &mut Reading, byte: u8) -> Result<(), DriveFault>
-    ensures { GoesOn reading.old (byte ∷ []) result reading.new }
+    ensures { ReadingGoesOn reading.old (byte ∷ []) result reading.new }
 {
     if byte == b'\n' {
         add_line(alloc, &mut reading.input, &reading.line)?;
@@ -147,8 +147,8 @@ fn add_line(alloc: Global, input: &mut Input, line: &[u8]) -> Result<(), DriveFa
 {
     match entry_in(alloc, line)? {
         None => Err(DriveFault::Line(next_line(input))),
-        Some(Entry::Table(shape)) => add_table(input, shape),
-        Some(Entry::Changeset { publisher, text }) => add_changeset(input, publisher, text),
+        Some(LineEntry::Table(shape)) => add_table(input, shape),
+        Some(LineEntry::Changeset { publisher, text }) => add_changeset(input, publisher, text),
     }
 }
 

@@ -1,6 +1,7 @@
 //! Drives a broker: changesets from a reader go through publishers, the sequencer and subscribers
-//! in threads of their own, until all is drained, and a report goes to a writer. Theorem: each
-//! subscriber of a drive keeps the headline of a running broker (*IsDriven*).
+//! in threads of their own, until all is drained, and a report goes to a writer. Theorem: the
+//! report is one of a drive whose publishers sent the changesets of their lines, and each of whose
+//! subscribers keeps the headline of a running broker (*DriveEnds*, *IsDriven*).
 #![tactic(auto)]
 
 mod accepting;
@@ -8,6 +9,7 @@ mod drive;
 mod entries;
 mod fault;
 mod input;
+mod lines;
 mod owners;
 mod placing;
 mod publishing;

@@ -1,48 +1,49 @@
 //! The owners of a drive: each goes into a thread of its own, and comes back when it has ended.
 
+ghost use Rattle.std.specs.Prelude.{◌≡◌, map, IfSome};
+ghost use Rattle.rb_drive.specs.Owners.{beginning_of, publisher_lines};
+
 use crate::accepting::Accepting;
 use crate::placing::place;
 use crate::publishing::Publishing;
 use crate::signs::Signs;
 use rb_broker::{Broker, Hall};
 use rb_sequencer::Sequencer;
-use std::alloc::{AllocError, Global};
+use std::alloc::Global;
+use std::snapshot::Snapshot;
 use std::sync::Wait;
 use std::thread;
-use std::thread::Threads;
+use std::thread::{Promise, PromisedHandle, Threads};
 
-/// What a thread owns.
-#[derive(Drop)]
-pub enum Owner<L: Hall> {
-    Publishes(Publishing<L>),
-    Places(Sequencer<L>),
-    Accepts(Accepting<L>),
-}
-
-/// The owners that came back, of each kind in the order in which they went.
+/// The owners: the publishers in the order of their numbers, the sequencer, and the subscribers.
 #[derive(Drop)]
 pub struct Owners<L: Hall> {
     pub publishing: Vec<Publishing<L>>,
-    pub sequencers: Vec<Sequencer<L>>,
+    pub sequencer: Sequencer<L>,
     pub accepting: Vec<Accepting<L>>,
 }
 
-impl<L: Hall> Owners<L> {
-    fn none(alloc: Global) -> Owners<L> {
-        Owners {
-            publishing: Vec::new(alloc),
-            sequencers: Vec::new(alloc),
-            accepting: Vec::new(alloc),
-        }
-    }
+// a publisher comes back with its number, its tables and its lines
+#[derive(Drop)]
+struct SameLines<L: Hall>(Snapshot<Publishing<L>>);
 
-    fn add(&mut self, owner: Owner<L>) -> Result<(), AllocError> {
-        match owner {
-            Owner::Publishes(publishing) => Ok(self.publishing.push(publishing)?),
-            Owner::Places(sequencer) => Ok(self.sequencers.push(sequencer)?),
-            Owner::Accepts(accepting) => Ok(self.accepting.push(accepting)?),
-        }
-    }
+impl<L: Hall> Promise<Publishing<L>> for SameLines<L> {
+    ghost use Rattle.std.specs.Prelude.{◌≡◌};
+    ghost use Rattle.rb_drive.specs.Owners.{publisher_lines};
+
+    ghost kept_by = { λ p r. publisher_lines r.publisher r.lines.items
+        ≡ publisher_lines p.0.value.publisher p.0.value.lines.items };
+}
+
+// a subscription comes back that began as it did
+#[derive(Drop)]
+struct SameBeginning<L: Hall>(Snapshot<Accepting<L>>);
+
+impl<L: Hall> Promise<Accepting<L>> for SameBeginning<L> {
+    ghost use Rattle.std.specs.Prelude.{◌≡◌};
+    ghost use Rattle.rb_drive.specs.Owners.{beginning_of};
+
+    ghost kept_by = { λ p r. beginning_of r.subscription ≡ beginning_of p.0.value.subscription };
 }
 
 /// Starts a thread for each owner, and gives all back once they have ended. Returns `None` if they
@@ -52,58 +53,158 @@ pub fn run_all<L: Hall + Send + Sync, R: Threads + Wait + Sync>(
     alloc: Global,
     broker: &Broker<L>,
     signs: &Signs,
-    owners: Vec<Owner<L>>,
-) -> Option<Owners<L>> {
-    // before the first thread, so that each thread that is made is joined
-    let Ok(mut handles) = Vec::with_capacity(alloc, owners.len()) else {
-        return None;
-    };
-    let mut back = Owners::none(alloc);
-    thread::scope(thread::scope_env(), rt, |scope| {
-        for owner in owners {
-            match scope.spawn(move || work(rt, alloc, broker, signs, owner)) {
-                Ok(handle) => {
-                    if handles.push(handle).is_err() {
-                        signs.stop();
-                    }
-                }
-                Err(_) => signs.stop(),
-            }
-        }
-        for handle in handles {
-            if back.add(handle.join(rt)).is_err() {
+    owners: Owners<L>,
+) -> Option<Owners<L>>
+    ensures lines { IfSome result (λ back.
+        map (λ one. publisher_lines one.publisher one.lines.items) back.publishing.items
+        ≡ map (λ one. publisher_lines one.publisher one.lines.items) owners.publishing.items) }
+    ensures begun { IfSome result (λ back.
+        map (λ one. beginning_of one.subscription) back.accepting.items
+        ≡ map (λ one. beginning_of one.subscription) owners.accepting.items) }
+{
+    let Owners {
+        publishing,
+        sequencer,
+        accepting,
+    } = owners;
+    let back = thread::scope(
+        thread::scope_env(),
+        rt,
+        |scope| -> Option<Owners<L>>
+            ensures lines { IfSome result (λ back.
+                map (λ one. publisher_lines one.publisher one.lines.items) back.publishing.items
+                ≡ map (λ one. publisher_lines one.publisher one.lines.items) publishing.items) }
+            ensures begun { IfSome result (λ back.
+                map (λ one. beginning_of one.subscription) back.accepting.items
+                ≡ map (λ one. beginning_of one.subscription) accepting.items) }
+        {
+            let Ok(placer) = scope.spawn(move || placed(rt, alloc, broker, signs, sequencer)) else {
                 signs.stop();
+                return None;
+            };
+            let mut publishers = Vec::new(alloc);
+            for sender in publishing {
+                let promise = SameLines(Snapshot::of(&sender));
+                let Ok(handle) = scope.spawn_with(
+                    promise,
+                    move || published(rt, alloc, broker, signs, sender),
+                ) else {
+                    signs.stop();
+                    return None;
+                };
+                if publishers.push(handle).is_err() {
+                    signs.stop();
+                    return None;
+                }
             }
-        }
-    });
-    if signs.is_stopped() { None } else { Some(back) }
+            let mut subscribers = Vec::new(alloc);
+            for reader in accepting {
+                let promise = SameBeginning(Snapshot::of(&reader));
+                let Ok(handle) = scope.spawn_with(
+                    promise,
+                    move || accepted(rt, alloc, broker, signs, reader),
+                ) else {
+                    signs.stop();
+                    return None;
+                };
+                if subscribers.push(handle).is_err() {
+                    signs.stop();
+                    return None;
+                }
+            }
+            let sequencer = placer.join(rt);
+            let publishing = join_publishers(rt, alloc, publishers)?;
+            let accepting = join_subscribers(rt, alloc, subscribers)?;
+            Some(Owners {
+                publishing,
+                sequencer,
+                accepting,
+            })
+        },
+    );
+    if signs.is_stopped() { None } else { back }
 }
 
-// what a thread does
-fn work<L: Hall, R: Wait>(
+// the publishers, in order, once their threads have ended
+fn join_publishers<L: Hall, R: Threads>(
+    rt: &R,
+    alloc: Global,
+    handles: Vec<PromisedHandle<Publishing<L>, SameLines<L>>>,
+) -> Option<Vec<Publishing<L>>>
+    ensures { IfSome result (λ back.
+        map (λ one. publisher_lines one.publisher one.lines.items) back.items
+        ≡ map (λ h. publisher_lines h.promise.0.value.publisher h.promise.0.value.lines.items)
+        handles.items) }
+{
+    let mut back = Vec::new(alloc);
+    for handle in handles {
+        back.push(handle.join(rt)).ok()?;
+    }
+    Some(back)
+}
+
+// the subscribers, in order, once their threads have ended
+fn join_subscribers<L: Hall, R: Threads>(
+    rt: &R,
+    alloc: Global,
+    handles: Vec<PromisedHandle<Accepting<L>, SameBeginning<L>>>,
+) -> Option<Vec<Accepting<L>>>
+    ensures { IfSome result (λ back.
+        map (λ one. beginning_of one.subscription) back.items
+        ≡ map (λ h. beginning_of h.promise.0.value.subscription) handles.items) }
+{
+    let mut back = Vec::new(alloc);
+    for handle in handles {
+        back.push(handle.join(rt)).ok()?;
+    }
+    Some(back)
+}
+
+// what a publisher's thread does
+fn published<L: Hall, R: Wait>(
     rt: &R,
     alloc: Global,
     broker: &Broker<L>,
     signs: &Signs,
-    owner: Owner<L>,
-) -> Owner<L> {
-    match owner {
-        Owner::Publishes(mut publishing) => {
-            if publishing.publish(rt, alloc, broker, signs).is_err() {
-                signs.stop();
-            }
-            signs.end_sending();
-            Owner::Publishes(publishing)
-        }
-        Owner::Places(mut sequencer) => {
-            if place(rt, alloc, broker, signs, &mut sequencer).is_err() {
-                signs.stop();
-            }
-            Owner::Places(sequencer)
-        }
-        Owner::Accepts(mut accepting) => {
-            accepting.accept(rt, alloc, broker, signs);
-            Owner::Accepts(accepting)
-        }
+    publishing: Publishing<L>,
+) -> Publishing<L>
+    ensures { publisher_lines result.publisher result.lines.items
+        ≡ publisher_lines publishing.publisher publishing.lines.items }
+{
+    let mut publishing = publishing;
+    if publishing.publish(rt, alloc, broker, signs).is_err() {
+        signs.stop();
     }
+    signs.end_sending();
+    publishing
+}
+
+// what the sequencer's thread does
+fn placed<L: Hall, R: Wait>(
+    rt: &R,
+    alloc: Global,
+    broker: &Broker<L>,
+    signs: &Signs,
+    sequencer: Sequencer<L>,
+) -> Sequencer<L> {
+    let mut sequencer = sequencer;
+    if place(rt, alloc, broker, signs, &mut sequencer).is_err() {
+        signs.stop();
+    }
+    sequencer
+}
+
+// what a subscriber's thread does
+fn accepted<L: Hall, R: Wait>(
+    rt: &R,
+    alloc: Global,
+    broker: &Broker<L>,
+    signs: &Signs,
+    accepting: Accepting<L>,
+) -> Accepting<L>
+    ensures { beginning_of result.subscription ≡ beginning_of accepting.subscription }
+{
+    let mut accepting = accepting;
+    accepting.accept(rt, alloc, broker, signs);
+    accepting
 }

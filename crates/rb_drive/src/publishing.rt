@@ -1,11 +1,20 @@
 //! A publisher's thread: feeds the changesets of its lines, and sends those that are right.
 
-ghost use Rattle.std.specs.Prelude.{◌≡◌, IfOk};
+ghost use Rattle.std.specs.Prelude.{◌≡◌, ◌++◌, ◌∷◌, [], ◌<◌, ◌≤◌, suc, length, take, vec_len, IsTrue};
+ghost use Rattle.std.specs.Prelude.{IsFalse, IfErr, IfOk, OnOk};
+ghost use Rattle.cs_model.specs.Bytes.{AreBytes};
+ghost use Rattle.cs_parse.specs.Progress.{nothing, progress_of};
+ghost use Rattle.rb_broker.specs.Publishers.{item_of};
+ghost use Rattle.rb_broker.specs.Refusing.{EndsWith};
+ghost use Rattle.rb_drive.specs.Owners.{publisher_lines};
+ghost use Rattle.rb_drive.specs.Published.{faulty_lines, given_answer, given_bodies};
+ghost use Rattle.rb_drive.specs.Published.{sent_bodies};
+ghost use Rattle.rb_drive.specs.Staging.{FeedStops};
 
 use crate::input::Given;
 use crate::signs::Signs;
-use cs_model::SectionFault;
-use cs_parse::{EndError, ParseError, ParseFault};
+use cs_parse::laws::{progress_goes_on, progress_tells};
+use cs_parse::{EndError, ParseError};
 use rb_broker::{Broker, Hall, Publisher, SendRefusal, StagedSet};
 use std::alloc::{AllocError, Global};
 use std::sync::Wait;
@@ -13,24 +22,16 @@ use std::sync::Wait;
 // how many bytes are fed at once
 const PIECE: usize = 1_024;
 
-/// Why a line's changeset isn't sent.
-#[derive(Clone, Copy, Debug, PartialEq, Eq)]
-pub enum Why {
-    /// Its bytes are no changeset.
-    Fault(ParseFault),
-    /// A section of it is of no table of the input.
-    Refused(SectionFault),
-}
-
-/// A line whose changeset isn't sent.
+/// A line whose changeset isn't sent, and what is wrong with it.
 #[derive(Clone, Copy, Debug, PartialEq, Eq)]
 pub struct FaultyLine {
     pub line: u64,
     pub publisher: u64,
-    pub why: Why,
+    pub why: EndError,
 }
 
-/// A publisher with its lines.
+/// A publisher with its lines. It sent the changesets of those that are done, in their order, and
+/// nothing else.
 #[derive(Drop)]
 pub struct Publishing<L: Hall> {
     pub publisher: Publisher<L>,
@@ -38,11 +39,18 @@ pub struct Publishing<L: Hall> {
     /// How many of the lines were sent or are faulty.
     pub done: usize,
     pub faulty: Vec<FaultyLine>,
+    ghost done_within: { done ≤ vec_len lines },
+    ghost done_sent: { publisher.sent ≡ sent_bodies publisher.number 1
+        (given_bodies publisher.schema (take done lines.items)) },
+    ghost done_faulty: { faulty.items ≡ faulty_lines publisher.schema (take done lines.items) },
 }
 
 impl<L: Hall> Publishing<L> {
     /// A publisher that has sent nothing.
-    pub fn new(alloc: Global, publisher: Publisher<L>, lines: Vec<Given>) -> Publishing<L> {
+    pub fn new(alloc: Global, publisher: Publisher<L>, lines: Vec<Given>) -> Publishing<L>
+        requires { publisher.sent ≡ [] }
+        ensures { publisher_lines result.publisher result.lines.items ≡ publisher_lines publisher lines.items }
+    {
         Publishing {
             publisher,
             lines,
@@ -59,51 +67,91 @@ impl<L: Hall> Publishing<L> {
         alloc: Global,
         broker: &Broker<L>,
         signs: &Signs,
-    ) -> Result<(), AllocError> {
-        while let Some(given) = self.lines.get(self.done) {
-            match stage(alloc, &mut self.publisher, &given.text)? {
-                Ok(set) => {
-                    if !send(rt, broker, signs, &mut self.publisher, set) {
-                        return Ok(());
-                    }
-                }
-                Err(why) => {
-                    let (line, publisher) = (given.line, given.publisher);
-                    self.faulty.push(FaultyLine {
-                        line,
-                        publisher,
-                        why,
-                    })?;
-                    self.publisher.reset(alloc);
-                }
+    ) -> Result<(), AllocError>
+        ensures { publisher_lines self.new.publisher self.new.lines.items
+            ≡ publisher_lines self.old.publisher self.old.lines.items }
+    {
+        while self.done < self.lines.len() {
+            if !self.publish_next(rt, alloc, broker, signs)? {
+                return Ok(());
             }
-            self.done += 1;
         }
         Ok(())
     }
+
+    // Sends the changeset of the next line, or passes over the line if it is faulty. False if the
+    // sequence is closed or all loops end.
+    fn publish_next<R: Wait>(
+        &mut self,
+        rt: &R,
+        alloc: Global,
+        broker: &Broker<L>,
+        signs: &Signs,
+    ) -> Result<bool, AllocError>
+        requires { self.old.done < vec_len self.old.lines }
+        ensures lines { publisher_lines self.new.publisher self.new.lines.items
+            ≡ publisher_lines self.old.publisher self.old.lines.items }
+        ensures more { IfOk result (λ more. IsTrue more → self.new.done ≡ suc self.old.done) }
+    {
+        let given = &self.lines[self.done];
+        let (line, publisher) = (given.line, given.publisher);
+        match stage(alloc, &mut self.publisher, &given.text)? {
+            Ok(set) => {
+                if !send(rt, broker, signs, &mut self.publisher, set) {
+                    return Ok(false);
+                }
+            }
+            Err(why) => self.faulty.push(FaultyLine {
+                line,
+                publisher,
+                why,
+            })?,
+        }
+        self.done += 1;
+        Ok(true)
+    }
 }
 
-// stages a changeset, or says why it isn't one that can be sent
+// stages the changeset that these bytes encode, or says why there is none that can be sent
 fn stage<L: Hall>(
     alloc: Global,
     publisher: &mut Publisher<L>,
     text: &[u8],
-) -> Result<Result<StagedSet<L>, Why>, AllocError>
-    ensures { IfOk result (λ r. IfOk r (λ set. set.publisher ≡ publisher.new.number)) }
+) -> Result<Result<StagedSet<L>, EndError>, AllocError>
+    ensures staged { IfOk result (λ staged. EndsWith publisher.old.number staged
+        (given_answer publisher.old.schema text.now)) }
+    ensures same { publisher.new ≡ record publisher.old { stream = publisher.new.stream } }
 {
-    for piece in text.chunks(PIECE) {
-        match publisher.feed(alloc, piece) {
-            Ok(()) => {}
-            Err(ParseError::Fault(fault)) => return Ok(Err(Why::Fault(fault))),
-            Err(ParseError::Memory) => return Err(AllocError),
-        }
-    }
-    match publisher.end(alloc) {
-        Ok(set) => Ok(Ok(set)),
-        Err(EndError::Fault(fault)) => Ok(Err(Why::Fault(fault))),
-        Err(EndError::Refused(fault)) => Ok(Err(Why::Refused(fault))),
+    progress_tells();
+    are_bytes(text);
+    publisher.reset(alloc);
+    match feed(alloc, publisher, text) {
+        Ok(()) => Ok(publisher.end(alloc)),
+        Err(ParseError::Fault(fault)) => Ok(Err(EndError::Fault(fault))),
+        Err(ParseError::Memory) => Err(AllocError),
     }
 }
+
+// feeds bytes to an empty stream, up to a fault
+fn feed<L: Hall>(alloc: Global, publisher: &mut Publisher<L>, text: &[u8]) -> Result<(), ParseError>
+    requires { publisher.old.stream ≡ nothing }
+    ensures ok { OnOk result (publisher.new.stream ≡ progress_of text.now) }
+    ensures err { IfErr result (FeedStops text.now) }
+    ensures same { publisher.new ≡ record publisher.old { stream = publisher.new.stream } }
+{
+    progress_tells();
+    progress_goes_on();
+    are_bytes(text);
+    for piece in text.chunks(PIECE) {
+        publisher.feed(alloc, piece)?;
+    }
+    Ok(())
+}
+
+// The type says that these are bytes.
+fn are_bytes(bytes: &[u8])
+    ensures { AreBytes bytes.now }
+{}
 
 // Sends a set, as often as the intake is full. False if the sequence is closed or all loops end.
 fn send<L: Hall, R: Wait>(
@@ -114,6 +162,10 @@ fn send<L: Hall, R: Wait>(
     set: StagedSet<L>,
 ) -> bool
     requires { set.publisher ≡ publisher.old.number }
+    ensures sent { IsTrue result → publisher.new ≡ record publisher.old {
+      sent = publisher.old.sent ++ item_of set (suc (length publisher.old.sent)) ∷ [];
+    } }
+    ensures not { IsFalse result → publisher.new ≡ publisher.old }
 {
     let mut set = set;
     let mut looks: u64 = 0;

@@ -1,17 +1,19 @@
 //! A drive from a reader to a writer.
 
 ghost use Rattle.std.specs.Prelude.{◌≡◌, map};
+ghost use Rattle.std.specs.Arc.{arc_value};
 ghost use Rattle.rb_drive.specs.Run.{DriveEnds, IsStatus, ReportEnds};
 
-use crate::accepting::{Accepting, Ending};
+use crate::accepting::{Accepting, SubscriberEnd};
 use crate::drive::{Plan, drive};
 use crate::fault::DriveFault;
-use crate::input::{Given, Input, read_input};
+use crate::input::{Input, read_input};
+use crate::lines::by_publisher;
 use crate::report::write_report;
 use cs_model::CopyIn;
 use rb_broker::{Hall, Opened};
 use rb_desk::Config;
-use std::alloc::{AllocError, Global};
+use std::alloc::Global;
 use std::io::{Read, Write};
 use std::marker::Brand;
 use std::sync::{Arc, Wait};
@@ -35,8 +37,8 @@ pub fn run_drive<I: Read, W: Write, R: Threads + Wait + Sync>(
     config: Config,
     subscribers: u64,
 ) -> Result<u8, DriveFault>
-    ensures { DriveEnds result (I.remaining reader.old) (I.remaining reader.new)
-        (W.contents writer.old) (W.contents writer.new) }
+    ensures { DriveEnds config subscribers result (I.remaining reader.old)
+        (I.remaining reader.new) (W.contents writer.old) (W.contents writer.new) }
 {
     let Input { schema, givens } = read_input(alloc, reader)?;
     let plan = Plan {
@@ -59,7 +61,10 @@ fn report<L: Hall + Send + Sync, W: Write, R: Threads + Wait + Sync>(
     requires cells { opened.cells ≡ L.cells }
     requires queue { opened.queue ≡ L.queue }
     requires ledger { (opened.ledger ≡ L.name) × (L.parts ≡ 1024) × (L.all ≡ 1024) }
-    ensures { ReportEnds result (W.contents writer.old) (W.contents writer.new) }
+    requires schema { arc_value plan.schema ≡ opened.schema }
+    ensures { ReportEnds L.cells plan.subscribers (arc_value plan.schema)
+        (map (λ v. v.items) plan.lines.items) result (W.contents writer.old)
+        (W.contents writer.new) }
 {
     let outcome = drive::<L, R>(rt, alloc, opened, plan)?;
     match write_report(alloc, writer, &outcome) {
@@ -74,25 +79,10 @@ fn status<L: Hall>(accepting: &[Accepting<L>]) -> u8
 {
     for one in accepting {
         match one.ending {
-            Ending::Conflict(_) => return 3,
-            Ending::Drained => {}
-            Ending::Stopped => {}
+            SubscriberEnd::Conflict(_) => return 3,
+            SubscriberEnd::Drained => {}
+            SubscriberEnd::Stopped => {}
         }
     }
     0
-}
-
-// each publisher's lines, from publisher 0 to the greatest that has one
-fn by_publisher(alloc: Global, givens: Vec<Given>) -> Result<Vec<Vec<Given>>, AllocError> {
-    let mut lines: Vec<Vec<Given>> = Vec::new(alloc);
-    for given in givens {
-        let publisher = given.publisher as usize;
-        for _ in lines.len()..=publisher {
-            lines.push(Vec::new(alloc))?;
-        }
-        if let Some(own) = lines.get_mut(publisher) {
-            own.push(given)?;
-        }
-    }
-    Ok(lines)
 }

@@ -140,11 +140,12 @@ abbrev pub HasAnswered : Answering → Limits → Ending → Option (List ℕ) �
 HasAnswered how limits ending r0 r w0 w = (script : Result (Unit {0}) ScriptFault)
     × ScriptEnds how limits script r0 r w0 w × (ending ≡ ending_of script)
 
--- A drive is run: there is a result that it ends with, and the program ends as that says.
-abbrev pub HasDriven : Ending → Option (List ℕ) → Option (List ℕ) → Option (List ℕ)
-    → Option (List ℕ) → Type 0
-HasDriven ending r0 r w0 w = (driven : Result ℕ DriveFault) × DriveEnds driven r0 r w0 w
-    × (ending ≡ ending_of_drive driven)
+-- A drive is run under these limits, with n subscribers: there is a result that it ends with, and
+-- the program ends as that says.
+abbrev pub HasDriven : Limits → ℕ → Ending → Option (List ℕ) → Option (List ℕ)
+    → Option (List ℕ) → Option (List ℕ) → Type 0
+HasDriven limits n ending r0 r w0 w = (driven : Result ℕ DriveFault)
+    × DriveEnds limits n driven r0 r w0 w × (ending ≡ ending_of_drive driven)
 
 -- The same of rows that are shown in this form.
 abbrev pub HasShown : RowForm → Ending → Option (List ℕ) → Option (List ℕ) → Option (List ℕ)
@@ -171,7 +172,7 @@ EndsShown kind text ending w0 w = (ending ≡ Misused text) × Keeps w0 w
 abbrev pub EndsFor : Job → Ending → Option (List ℕ) → Option (List ℕ) → Option (List ℕ)
     → Option (List ℕ) → Type 0
 EndsFor (job.Script limits how) ending r0 r w0 w = HasAnswered how limits ending r0 r w0 w
-EndsFor (job.Drive limits n) ending r0 r w0 w = HasDriven ending r0 r w0 w
+EndsFor (job.Drive limits n) ending r0 r w0 w = HasDriven limits n ending r0 r w0 w
 EndsFor (job.Range fault) ending r0 r w0 w = (ending ≡ OutOfRange fault) × Keeps r0 r × Keeps w0 w
 EndsFor (job.Show form) ending r0 r w0 w = HasShown form ending r0 r w0 w
 EndsFor (job.Print text) ending r0 r w0 w = EndsShown (kind_of text) text ending w0 w × Keeps r0 r

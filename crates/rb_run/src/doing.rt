@@ -81,8 +81,8 @@ fn driven<T: Threads + Wait + Sync, R: Read, W: Write>(
     reader: &mut R,
     writer: &mut W,
 ) -> Ending
-    ensures { HasDriven result (R.remaining reader.old) (R.remaining reader.new)
-        (W.contents writer.old) (W.contents writer.new) }
+    ensures { HasDriven config subscribers result (R.remaining reader.old)
+        (R.remaining reader.new) (W.contents writer.old) (W.contents writer.new) }
 {
     Ending::of_drive(run_drive(rt, alloc, reader, writer, config, subscribers))
 }

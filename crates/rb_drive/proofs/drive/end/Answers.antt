@@ -1,27 +1,54 @@
-use Rattle.std.proofs.Common.{rules, subst}
-use Rattle.std.specs.List.{AllByRecursion}
-use Rattle.rb_drive.specs.Outcome.{HasMetAll}
-use Rattle.rb_drive.proofs.DriveLaws.{all_keep}
+use Rattle.std.proofs.Common.{◌≤◌, ap, map, rules, subst, sym, ◌∙◌}
+use Rattle.rb_drive.specs.Published.{AreByNumber, HaveSentLines, unsent_lines}
+use Rattle.rb_drive.proofs.DriveLaws.{HaveEnded, all_begin_empty, all_have_ended, all_keep_headline, many_are_back}
+use Rattle.rb_drive.proofs.DriveLaws.{placed_fit}
+use Rattle.rb_drive.proofs.OwnerLaws.{lines_come_to}
 use Rattle.rb_drive.proofs.drive.end.Goals as goal
 
--- each subscription has met the sequencer, and the broker is finished
+-- each publisher has sent its lines, each subscription has met the sequencer, and the broker is finished
 pub returns-in-Ok-clause-ok : goal.returns-in-Ok-clause-ok
-returns-in-Ok-clause-ok g c = record {
-  publishers = c.in_ok-publishers.publishers.items;
-  sequencer = c.in-Some.sequencer;
-  closing = c.in-Ok.field-0.closing;
-  items = c.in-Ok.field-0.left.items;
-  finished = c.in-Ok.ensures.ok;
-  count = search (rules);
-  headline = all_keep (λ a. a.subscription) c.finished_keeps_headline.ensures g.L.StepLedger.cells
-      c.in_ok-publishers.publishers.items c.in-Some.sequencer c.in-Ok.field-0.placed c.in-Ok.field-0.left.items
-      c.in-Ok.field-0.closing c.args.back.accepting.items
-      (record {
-        shown = c.placed-placed.ensures.cells;
-        pulled = c.hand-hand.ensures.pulled;
-        numbered = c.placed-placed.ensures.numbered;
-      })
-      c.in-Ok.ensures.ok
-      (subst (λ xs. AllByRecursion (λ a. HasMetAll c.in-Some.sequencer a.subscription) xs) c.deref.ensures.value
-      (c.all_meet.ensures (search (rules))));
-}
+returns-in-Ok-clause-ok g c =
+    λ schema lines count have begin.
+    let cells = g.L.StepLedger.cells in
+    let all = c.args.back.publishing.items in
+    let subscribers = c.args.back.accepting.items in
+    let sequencer = c.args.back.sequencer in
+    let dones = map (λ one. one.done) all in
+    let finished = c.in-Ok.ensures.ok in
+    let comes = lines_come_to all (λ one. one.publisher) (λ one. one.lines.items) (λ one. one.done)
+    (λ one. one.faulty.items) (record {
+      within = λ one. subst (λ n. one.done ≤ n) one.lines.ok.0 one.done_within;
+      so_far = λ one. (one.done_sent, one.done_faulty);
+    }) schema lines have in
+    let ended : HaveEnded sequencer subscribers =
+    subst (λ xs. HaveEnded sequencer xs) c.deref.ensures.value (c.all_ended.ensures (search (rules))) in (
+      record {
+        publishers = c.in_ok-publishers.publishers.items;
+        sequencer = sequencer;
+        closing = c.in-Ok.field-0.closing;
+        items = c.in-Ok.field-0.left.items;
+        dones = dones;
+        finished = finished;
+        count = search (rules);
+        few = subst (λ n. n ≤ cells.capacity) (sym finished.many)
+            (placed_fit cells sequencer.placed c.placed-placed.ensures.cells);
+        sent = subst (λ ps. HaveSentLines schema 0 lines dones ps) (sym c.in_ok-publishers.ensures.publishers)
+            comes.sent;
+        unsent = c.in_ok-publishers.ensures.unsent
+            ∙ ap (λ xs. unsent_lines xs dones) comes.same;
+        faulty = subst (λ xs. AreByNumber xs c.in_ok-publishers.faulty.items) comes.failed
+            c.in_ok-publishers.ensures.faulty;
+        begun = all_begin_empty schema count subscribers begin;
+        headline = all_keep_headline c.finished_keeps_headline.ensures cells
+            c.in_ok-publishers.publishers.items sequencer c.in-Ok.field-0.placed c.in-Ok.field-0.left.items
+            c.in-Ok.field-0.closing subscribers
+            (record {
+              shown = c.placed-placed.ensures.cells;
+              pulled = c.hand-hand.ensures.pulled;
+              numbered = c.placed-placed.ensures.numbered;
+            })
+            finished ended;
+        ended = all_have_ended sequencer c.in-Ok.field-0.placed subscribers finished.many ended;
+      },
+      many_are_back count _ subscribers begin,
+    )

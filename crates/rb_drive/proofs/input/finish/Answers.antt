@@ -1,6 +1,6 @@
 use Rattle.std.proofs.Common.{sym, ◌∙◌}
 use Rattle.std.proofs.lemmas.Result.{err_from_is_err_and}
-use Rattle.rb_drive.proofs.EndLaws.{last_line, last_line_stops, no_line, none_left, some_line}
+use Rattle.rb_drive.proofs.EndLaws.{last_line, last_line_stops, no_line, no_line_left, some_line}
 use Rattle.rb_drive.proofs.input.finish.Goals as goal
 use Rattle.rb_drive.proofs.input.finish.Goals.{then-not-is_empty+in_ok-add_line, else-not-is_empty}
 
@@ -22,5 +22,5 @@ returns c = elim c.if-not-is_empty.branch [
   | else-not-is_empty w ↦
       let none = no_line c.args.reading.line.len c.args.reading.line.items c.args.reading.line.ok.0
       (sym c.is_empty.ensures ∙ w.if-not-is_empty.false) in
-      rw w.input-is (none_left c.args.reading none)
+      rw w.input-is (no_line_left c.args.reading none)
 ]

@@ -1,17 +1,17 @@
 use Rattle.std.proofs.Common.{arith, ◌∙◌}
 use Rattle.std.proofs.lemmas.Result.{err_from_is_err_and}
-use Rattle.rb_drive.proofs.EndLaws.{ends_by_reader, ends_in_piece, input_ends, input_goes_on, input_stops}
+use Rattle.rb_drive.proofs.EndLaws.{read_ends_by_reader, ends_in_piece, input_is_ended, input_goes_on, input_stops}
 use Rattle.rb_drive.proofs.input.read_input.Goals as goal
 
 pub returns-in_err-read : goal.returns-in_err-read
 returns-in_err-read g c =
     let p = err_from_is_err_and c.from_residual-in_err-read.result c.from_residual-in_err-read.ensures.1 in
-    rw (p.1, p.2) (ends_by_reader c.in_err-read.field-0.0 _ _ _ c.loop.reading c.loop.counter
+    rw (p.1, p.2) (read_ends_by_reader c.in_err-read.field-0.0 _ _ _ c.loop.reading c.loop.counter
     c.in_err-read.ensures.fault c.loop.invariant.so_far c.in_err-read.ensures.err)
 
 pub returns-then-read-eq0 : goal.returns-then-read-eq0
 returns-then-read-eq0 g c =
-    input_ends c.finish.result _ _ _ c.loop.reading c.loop.counter c.loop.invariant.so_far
+    input_is_ended c.finish.result _ _ _ c.loop.reading c.loop.counter c.loop.invariant.so_far
     (rw c.if-read-eq0.true at c.in_ok-read.ensures.bytes) (c.in_ok-read.ensures.end c.if-read-eq0.true)
     c.finish.ensures
 

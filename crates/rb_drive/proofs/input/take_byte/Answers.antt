@@ -1,6 +1,6 @@
 use Rattle.std.proofs.Common.{arith}
 use Rattle.std.proofs.lemmas.Result.{err_from_is_err_and}
-use Rattle.rb_drive.proofs.ReadLaws.{adding_stops, line_ends, line_is_long}
+use Rattle.rb_drive.proofs.ReadLaws.{adding_stops, line_ends, long_line_stops}
 use Rattle.rb_drive.proofs.input.take_byte.Goals as goal
 
 pub returns-in_err-add_line : goal.returns-in_err-add_line
@@ -16,5 +16,5 @@ returns-then-byte-eq10 c =
 
 pub returns-then-len-ge-MOST_OF_LINE : goal.returns-then-len-ge-MOST_OF_LINE
 returns-then-len-ge-MOST_OF_LINE c =
-    line_is_long c.args.reading.now c.args.byte c.next_line.result c.if-byte-eq10.false
+    long_line_stops c.args.reading.now c.args.byte c.next_line.result c.if-byte-eq10.false
     (omega (arith, c.if-len-ge-MOST_OF_LINE.true, c.len.ensures, c.args.reading.now.line.ok.0)) c.next_line.ensures

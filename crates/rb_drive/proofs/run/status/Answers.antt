@@ -1,12 +1,12 @@
 use Rattle.std.proofs.Common.{ap, sym, inl, refl, ◌∙◌}
-use Rattle.rb_drive.proofs.StatusLaws.{conflict_at}
+use Rattle.rb_drive.proofs.StatusLaws.{conflict_among}
 use Rattle.rb_drive.proofs.run.status.Goals as goal
 
 -- this one ended by a conflict
 pub returns-in-Conflict : goal.returns-in-Conflict
 returns-in-Conflict g c = inl (
   refl,
-  conflict_at (λ a. a.ending) c.args.accepting.now c.loop-one.one-index
+  conflict_among (λ a. a.ending) c.args.accepting.now c.loop-one.one-index
       c.one-item.result c.in-Conflict.field-0 c.loop-one-test.true
       (sym (ap (λ a. a.ending) c.one-item.is) ∙ c.in-Conflict.is),
 )
