@@ -1,34 +1,62 @@
 #!/bin/sh
-# Runs each drive of examples/drives five times, and compares report and status with what they must be: threads take
-# another course each time. NAME.drive is an input, NAME.report what it comes to, NAME.args its options and NAME.status its
-# status, where it isn't 0. One line for each.
+# Runs each drive of examples/drives and of crates/rb_drive_cases five times, and compares report and status with what they
+# must be: threads take another course each time. NAME.drive is an input, NAME.report what it comes to, NAME.args its options
+# and NAME.status its status, where it isn't 0. NAME.fault is the line after `rb_run: ` where it ends without a report. One
+# line for each.
 #   sh checks/drive.sh        needs the program as `rt run` leaves it (README.md)
 cd "$(dirname "$0")/.." || exit 2
 program=crates/rb_run/out/rb_run
 [ -x "$program" ] || { echo "drive.sh: no program at $program: see README.md" >&2; exit 2; }
-out=$(mktemp) || exit 2
-trap 'rm -f "$out"' EXIT
+work=$(mktemp -d) || exit 2
+trap 'rm -rf "$work"' EXIT
 count=0 bad=0
-for input in examples/drives/*.drive; do
+
+# first FILE OTHER: the first line of the file; the other text if there is no such file
+first() {
+    found=$2
+    [ ! -f "$1" ] || read -r found <"$1"
+}
+
+# an input that is too large for a folder
+most=$work/bad-a-changeset-too-many
+awk 'BEGIN { for (i = 0; i < 65537; i++) print "changeset 0 -" }' >"$most.drive"
+echo 'line 65537' >"$most.fault"
+
+for input in examples/drives/*.drive crates/rb_drive_cases/data/*.drive "$most.drive"; do
+    [ -f "$input" ] || continue
     name=${input%.drive}
-    words=$(cat "$name.args" 2>/dev/null)
-    wanted=$(cat "$name.status" 2>/dev/null || echo 0)
+    first "$name.args" ''
+    words=$found
+    if [ -f "$name.fault" ]; then
+        wanted=1 report=/dev/null
+        first "$name.fault" ''
+        said="rb_run: $found"
+    else
+        first "$name.status" 0
+        wanted=$found report=$name.report said=
+    fi
     why=
     for _ in 1 2 3 4 5; do
         # the options are words
         # shellcheck disable=SC2086
-        timeout 60 "$program" drive $words <"$input" >"$out" 2>/dev/null
+        timeout 60 "$program" drive $words <"$input" >"$work/out" 2>"$work/err"
         status=$?
         [ "$status" -eq "$wanted" ] || why="status $status"
-        cmp -s "$out" "$name.report" || why="${why:+$why, }another report"
+        cmp -s "$work/out" "$report" || why="${why:+$why, }another report"
+        first "$work/err" ''
+        [ "$found" = "$said" ] || why="${why:+$why, }it says '$found'"
+        [ -z "$why" ] || break
     done
     count=$((count + 1))
     if [ -z "$why" ]; then
-        echo "ok $(basename "$name")"
+        echo "ok ${name##*/}"
     else
         bad=$((bad + 1))
-        echo "NOT ok $(basename "$name"): $why"
+        echo "NOT ok ${name##*/}: $why"
     fi
 done
 echo "$count drives, $bad bad"
-[ "$bad" -eq 0 ]
+if [ "$count" -eq 1 ] || [ "$bad" -ne 0 ]; then
+    echo "drive.sh: $bad of $count drives are bad" >&2
+    exit 1
+fi

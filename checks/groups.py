@@ -12,13 +12,12 @@ and their last rows must be those of the history, which SQLite had. The status i
 """
 import ctypes
 import ctypes.util
-import glob
 import os
 import sys
 
 import model
+from histories import histories
 
-DATA = os.path.join(os.path.dirname(os.path.abspath(__file__)), '..', 'crates', 'rb_cases', 'data')
 try:
     sqlite = ctypes.CDLL(os.environ.get('SQLITE') or ctypes.util.find_library('sqlite3') or 'libsqlite3.so.0')
     sqlite.sqlite3changegroup_new
@@ -48,25 +47,6 @@ def changes_of(sections):
             assert (name, key) not in found
             found[name, key] = (op, old, new)
     return found
-
-
-def history(path):
-    """tables and changesets of a script, and the rows at its end"""
-    with open(path, 'rb') as f:
-        lines = model.lines_of(f.read())
-    tables = [line for line in lines if line.startswith(b'table ')]
-    texts = [model.octets(line.split(b' ')[2]) for line in lines if line.startswith(b'feed ')]
-    with open(path[:-len('script')] + 'answers', 'rb') as f:
-        answers = f.read().split(b'\n')
-    last = max(i for i, answer in enumerate(answers) if answer.startswith(b'rows '))
-    return tables, texts, b'\n'.join(answers[last:])
-
-
-def histories():
-    """the recorded histories: name, tables, changesets, last rows"""
-    for kind in ('recorded', 'sqlite'):
-        for path in sorted(glob.glob(os.path.join(DATA, kind + '-*.script'))):
-            yield (os.path.basename(path)[:-len('.script')],) + history(path)
 
 
 def spans_of(count):

@@ -16,6 +16,7 @@ import sys
 
 import groups
 import model
+from histories import histories
 
 
 def sqlite_inverse(text):
@@ -55,7 +56,7 @@ def main():
     compared = others = 0
     if len(sys.argv) > 1 and not os.path.isdir(sys.argv[1]):
         sys.exit('inverses.py: no folder %s' % sys.argv[1])
-    for name, tables, texts, rows in groups.histories():
+    for name, tables, texts, rows in histories():
         for number, text in enumerate(texts, 1):
             if not same_inverses(text):
                 print('%s %d: another inverse' % (name, number))

@@ -44,10 +44,14 @@ fails 'model.py, no script' usage python3 checks/model.py
 fails 'model.py, no such script' 'No such file' python3 checks/model.py none.script
 fails 'tests.sh, no CRATE' usage sh refused/tests.sh
 fails 'groups.py, no such folder' 'no folder' python3 checks/groups.py none
+fails 'drives.py, no such folder' 'no folder' env PROGRAM=/bin/true python3 checks/drives.py none
 fails 'replicate/run.sh, one operand' usage sh examples/replicate/run.sh none
 
 # Nothing is built.
 fails 'run.sh, no program' 'no program' sh checks/run.sh
+fails 'drive.sh, no program' 'no program' sh checks/drive.sh
+fails 'drives.py, no program' 'no program' python3 checks/drives.py
+fails 'rings.py, no program' 'no program' python3 checks/rings.py
 fails 'leaks.sh, no program' 'no crates' sh checks/leaks.sh
 fails 'header.sh, no library' 'no crates' sh checks/header.sh
 fails 'refused/run.sh, no program' 'no program' sh refused/run.sh
@@ -65,12 +69,18 @@ fails 'bench/run.sh, nothing is made' 'no crates' sh bench/run.sh
 fails 'bench/script.sh, nothing is made' 'script.sh: ' sh bench/script.sh
 fails 'bench/apply/run.sh, nothing is made' 'no program' sh bench/apply/run.sh
 fails 'bench/pieces/run.sh, nothing is made' 'no program' sh bench/pieces/run.sh
+fails 'bench/drive/run.sh, nothing is made' 'no program' sh bench/drive/run.sh
 
 # The program only exits.
 make "$program" "$exits"
 fails 'run.sh, a program that only exits' 'checks failed' sh checks/run.sh
+fails 'drive.sh, a program that only exits' 'drives are bad' sh checks/drive.sh
+fails 'drives.py, a program that only exits' 'answers otherwise' python3 checks/drives.py
+fails 'rings.py, a program that only exits' 'hung or differ' python3 checks/rings.py 5
+fails 'rings.py, no drive' 'no drive' python3 checks/rings.py 0
 fails 'refused/run.sh, a program that only exits' '4 failures' sh refused/run.sh
 fails 'bench/script.sh, a program that only exits' '0 answers' sh bench/script.sh
+fails 'bench/drive/run.sh, a program that only exits' 'two reports' sh bench/drive/run.sh 1
 make "$program" '#!/bin/sh'
 fails 'replicate/run.sh, a program that only exits' 'the broker has ended' sh examples/replicate/run.sh
 
@@ -132,6 +142,8 @@ fails 'bench/run.sh, a profiler that only exits' 'nothing was compared' env UNDE
 
 # No files.
 fails 'groups.py, a library without sessions' 'with sessions' env SQLITE=libc.so.6 python3 checks/groups.py
+rm -r crates/rb_drive_cases/data examples/drives
+fails 'drive.sh, no drives' 'of 1 drives' sh checks/drive.sh
 rm -r crates/rb_cases/data
 fails 'groups.py, no histories' 'no recorded history' python3 checks/groups.py
 rm -r crates/rb_run/on-demand
@@ -139,6 +151,7 @@ fails 'edits.sh, no edits' 'no edit' sh checks/edits.sh none
 fails 'edits_together.py, no edits' 'no edit' python3 checks/edits_together.py none
 find crates -name '*.antt' | while read -r file; do : >"$file"; done
 fails 'names.sh, no definitions' 'no definition' sh checks/names.sh
+fails 'embed.py, an empty proof' 'not in the program' python3 checks/embed.py
 rm -r crates
 fails 'names.sh, no files' 'no file' sh checks/names.sh
 

@@ -1,9 +1,9 @@
 //! `Case`: a script with its expected answers, read from files and compared.
 
 use crate::joining::joined;
-use crate::pieces::{cut, lines};
-use rb_core::Config;
-use rb_script::{Answering, ScriptFault, number, run_script};
+use crate::pieces::cut;
+use rb_case_files::{Options, difference, lines, read_if_there};
+use rb_script::{Answering, ScriptFault, run_script};
 use std::alloc::{AllocError, Global};
 use std::{fs, io};
 
@@ -35,7 +35,7 @@ impl Case {
     /// answers. Returns how many there are, or a text with the first one that differs. A script
     /// with `--numbers` or `--strict` isn't cut, since lines are counted then.
     pub fn run(&self, alloc: Global, most: usize) -> Result<Result<usize, String>, AllocError> {
-        let Some((config, how)) = options(&self.options) else {
+        let Some(Options { config, how, .. }) = Options::of(&self.options) else {
             return Ok(Err(String::from_str(alloc, "no such options")?));
         };
         let plain = how == Answering::plain();
@@ -53,15 +53,7 @@ impl Case {
             given = joined(alloc, &self.script, most, &given)?;
         }
         let wanted = lines(alloc, &self.answers)?;
-        difference(alloc, &given, &wanted)
-    }
-}
-
-/// A file's bytes; none if there is no such file.
-pub fn read_if_there(rt: &HostRuntime, alloc: Global, name: &str) -> io::Result<Vec<u8>> {
-    match fs::read(rt, name) {
-        Err(why) if why.kind() == io::ErrorKind::NotFound => Ok(Vec::new(alloc)),
-        read => read,
+        difference(alloc, "answer", &given, &wanted)
     }
 }
 
@@ -70,75 +62,5 @@ fn text_of_end(alloc: Global, ended: &Result<(), ScriptFault>) -> Result<String,
     match ended {
         Ok(()) => Ok(String::new(alloc)),
         Err(fault) => format!(in alloc; "{fault}\n"),
-    }
-}
-
-/// The number of answers, or the first one that differs.
-pub fn difference(
-    alloc: Global,
-    given: &[&[u8]],
-    wanted: &[&[u8]],
-) -> Result<Result<usize, String>, AllocError> {
-    if given == wanted {
-        return Ok(Ok(wanted.len()));
-    }
-    let same = given
-        .iter()
-        .zip(wanted)
-        .take_while(|(one, other)| **one == **other)
-        .count();
-    let line = same.saturating_add(1);
-    let one = shown(given, same);
-    let other = shown(wanted, same);
-    Ok(Err(format!(in alloc; "answer {line} is '{one}', and not '{other}'")?))
-}
-
-// A line as it is printed; the empty text if there is none.
-fn shown<'a>(lines: &[&'a [u8]], place: usize) -> &'a str {
-    match lines.get(place) {
-        None => "",
-        Some(line) => str::from_utf8(line).unwrap_or("no text"),
-    }
-}
-
-// The limits and the way of answering from the options; the program's defaults if there are none.
-fn options(options: &[u8]) -> Option<(Config, Answering)> {
-    let mut numbers = [16, 4, 10, 65_536, 64];
-    let mut how = Answering::plain();
-    let mut option: Option<usize> = None;
-    for word in options.split(|byte| byte.is_ascii_whitespace()) {
-        if word.is_empty() {
-            continue;
-        }
-        if let Some(place) = option {
-            *numbers.get_mut(place)? = number(word)?;
-            option = None;
-            continue;
-        }
-        match word {
-            b"--numbers" => how.numbers = true,
-            b"--strict" => how.strict = true,
-            _ => option = Some(place(word)?),
-        }
-    }
-    let [batch, window, timeout, capacity, intake] = numbers;
-    match option {
-        None => {
-            let config = Config::new(batch, window, timeout, capacity, intake, 1).ok()?;
-            Some((config, how))
-        }
-        Some(_) => None,
-    }
-}
-
-// The limit that an option names.
-fn place(option: &[u8]) -> Option<usize> {
-    match option {
-        b"--batch" => Some(0),
-        b"--window" => Some(1),
-        b"--timeout" => Some(2),
-        b"--capacity" => Some(3),
-        b"--intake" => Some(4),
-        _ => None,
     }
 }

@@ -6,7 +6,8 @@ ghost use Rattle.rb_cases.specs.Joining.{left_after, left_for_line, other_than, 
 ghost use Rattle.rb_script.specs.Script.{lines_of};
 ghost use Rattle.cs_model.specs.Schema.{same_bytes};
 
-use crate::pieces::{count, lines};
+use crate::pieces::count;
+use rb_case_files::lines;
 use rb_script::number;
 use std::alloc::{AllocError, Global};
 

@@ -1,7 +1,6 @@
 //! `Listing`: lines with the rows that they show, read from files and compared.
 
-use crate::case::{difference, read_if_there};
-use crate::pieces::lines;
+use rb_case_files::{difference, lines, read_if_there};
 use rb_script::{RowForm, ShowFault, show};
 use std::alloc::{AllocError, Global};
 use std::{fs, io};
@@ -41,7 +40,12 @@ impl Listing {
             RowForm::Sql => &self.sql,
             RowForm::Json => &self.json,
         };
-        difference(alloc, &lines(alloc, &written)?, &lines(alloc, wanted)?)
+        difference(
+            alloc,
+            "line",
+            &lines(alloc, &written)?,
+            &lines(alloc, wanted)?,
+        )
     }
 }
 

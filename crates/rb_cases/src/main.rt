@@ -11,10 +11,11 @@ mod pieces;
 
 use case::Case;
 use listing::Listing;
+use rb_case_files::names;
 use rb_script::RowForm;
 use std::alloc::Global;
+use std::io;
 use std::process::ExitCode;
-use std::{fs, io};
 
 /// The most bytes of a changeset in a line of `feed`: all, one, and seven.
 const PIECES: [usize; 3] = [65_536, 1, 7];
@@ -66,19 +67,6 @@ fn listings(rt: &HostRuntime, alloc: Global) -> io::Result<usize> {
     }
     println!(rt; "{} listings, {rows} lines compared", names.len())?;
     Ok(failed)
-}
-
-// The names of the files with this end in the current folder, in order.
-fn names(rt: &HostRuntime, alloc: Global, end: &str) -> io::Result<Vec<String>> {
-    let mut names = Vec::new(alloc);
-    for entry in fs::read_dir(rt, ".")? {
-        let entry = entry?;
-        if let Some(name) = entry.file_name().strip_suffix(end) {
-            names.push(String::from_str(alloc, name)?)?;
-        }
-    }
-    names.sort()?;
-    Ok(names)
 }
 
 // Runs a case in pieces of this size. Returns the number of its answers; if one differs, prints it

@@ -1,24 +1,17 @@
 //! Cuts the changesets of a script into pieces.
 
-ghost use Rattle.std.specs.Prelude.{◌≡◌, ◌==◌, ◌<◌, ◌++◌, length, map, Some, None};
+ghost use Rattle.std.specs.Prelude.{◌≡◌, ◌==◌, ◌<◌, ◌++◌, length, Some, None};
 ghost use Rattle.std.specs.Prelude.{IfOk, OnOk, MatchOption};
 ghost use Rattle.std.specs.Char.{is_ascii_hexdigit};
 ghost use Rattle.std.specs.List.{flat_map, list_all, position_from};
 ghost use Rattle.rb_cases.specs.Pieces.{are_cut, cut_text, digits_in, fed_parts, line_text};
 ghost use Rattle.rb_cases.specs.Pieces.{pieces_in, pieces_text, space_in};
-ghost use Rattle.rb_script.specs.Script.{lines_of};
 
+use rb_case_files::lines;
 use std::alloc::{AllocError, Global};
 
 /// The most bytes of a line; a longer one isn't cut.
 const LONGEST: usize = 65_536;
-
-/// The lines of a text. The text after the last line end is a line too, even if it is empty.
-pub fn lines(alloc: Global, text: &[u8]) -> Result<Vec<&[u8]>, AllocError>
-    ensures { IfOk result (λ lines. map (λ line. line.now) lines.items ≡ lines_of text.now) }
-{
-    text.split(|byte| *byte == b'\n').collect(alloc)
-}
 
 /// The script with a line of `feed` for each `most` bytes of a changeset. A line that feeds no
 /// bytes does not change.

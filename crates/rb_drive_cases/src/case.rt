@@ -1,0 +1,77 @@
+//! `DriveCase`: an input with its expected report, read from files and compared.
+
+use rb_case_files::{Options, difference, lines, read_if_there};
+use rb_drive::{DriveFault, run_drive};
+use std::alloc::{AllocError, Global};
+use std::sync::Wait;
+use std::thread::Threads;
+use std::{fs, io};
+
+/// An input, its options, its expected report, and how it is expected to end.
+#[derive(Drop)]
+pub struct DriveCase {
+    input: Vec<u8>,
+    options: Vec<u8>,
+    report: Vec<u8>,
+    ending: Vec<u8>,
+}
+
+impl DriveCase {
+    /// Reads `NAME.drive` and, if they exist, `NAME.args`, such as `--batch 1 --subscribers 2`,
+    /// `NAME.report`, and how it ends: `NAME.status` or `NAME.fault`.
+    pub fn read(rt: &HostRuntime, alloc: Global, name: &str) -> io::Result<DriveCase> {
+        let mut ending = read_if_there(rt, alloc, &format!(in alloc; "{name}.status")?)?;
+        if ending.is_empty() {
+            ending = read_if_there(rt, alloc, &format!(in alloc; "{name}.fault")?)?;
+        }
+        Ok(DriveCase {
+            input: fs::read(rt, format!(in alloc; "{name}.drive")?)?,
+            options: read_if_there(rt, alloc, &format!(in alloc; "{name}.args")?)?,
+            report: read_if_there(rt, alloc, &format!(in alloc; "{name}.report")?)?,
+            ending,
+        })
+    }
+
+    /// Drives a broker with the input, and compares its ending and its report. Returns how many
+    /// lines the report has, or a text with the first one that differs.
+    pub fn run<T: Threads + Wait + Sync>(
+        &self,
+        threads: &T,
+        alloc: Global,
+    ) -> Result<Result<usize, String>, AllocError> {
+        let Some(options) = Options::of(&self.options) else {
+            return Ok(Err(String::from_str(alloc, "no such options")?));
+        };
+        let Options {
+            config,
+            subscribers,
+            ..
+        } = options;
+        let mut reader: &[u8] = &self.input;
+        let mut written = Vec::new(alloc);
+        let ended = run_drive(
+            threads,
+            alloc,
+            &mut reader,
+            &mut written,
+            config,
+            subscribers,
+        );
+        let ending = text_of_end(alloc, &ended)?;
+        if ending.as_bytes() != self.ending.as_slice() {
+            return Ok(Err(format!(in alloc; "it ended with '{}'", ending.trim_end())?));
+        }
+        let given = lines(alloc, &written)?;
+        let wanted = lines(alloc, &self.report)?;
+        difference(alloc, "line", &given, &wanted)
+    }
+}
+
+// The status or the fault as a line; the empty text at status 0.
+fn text_of_end(alloc: Global, ended: &Result<u8, DriveFault>) -> Result<String, AllocError> {
+    match ended {
+        Ok(0) => Ok(String::new(alloc)),
+        Ok(status) => format!(in alloc; "{status}\n"),
+        Err(fault) => format!(in alloc; "{fault}\n"),
+    }
+}
