@@ -17,6 +17,8 @@ mod desks;
 #[cfg(test)]
 mod driving;
 #[cfg(test)]
+mod embedding;
+#[cfg(test)]
 mod finishing;
 #[cfg(test)]
 mod given;

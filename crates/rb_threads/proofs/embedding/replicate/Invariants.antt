@@ -1,0 +1,11 @@
+use Rattle.rb_threads.proofs.embedding.replicate.Given as goal
+
+-- the hall of the broker that was just opened
+abbrev pub ghosts-run-L-Ledger : goal.ghosts-run-L-Ledger
+ghosts-run-L-Ledger g a = record { name = a.opened.ledger; parts = 1024 }
+
+abbrev pub ghosts-run-L-StepLedger : goal.ghosts-run-L-StepLedger
+ghosts-run-L-StepLedger g a = record { all = 1024; cells = a.opened.cells }
+
+abbrev pub ghosts-run-L-Hall : goal.ghosts-run-L-Hall
+ghosts-run-L-Hall g a = record { queue = a.opened.queue }
