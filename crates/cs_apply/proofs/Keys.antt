@@ -1,5 +1,5 @@
 -- Row keys: one order, and entries looked up by it.
-use Rattle.std.proofs.Common.{◌≡◌, ℕ, Bool, true, cond, List, [], ◌∷◌, Some, refl, ap, subst, ◌∙◌, arith}
+use Rattle.std.proofs.Common.{◌≡◌, ℕ, true, cond, List, [], ◌∷◌, Some, refl, ap, subst, ◌∙◌, arith}
 use Rattle.std.proofs.lemmas.Bool.Decides.{nat_tests}
 use Rattle.std.proofs.lemmas.Map.Text.{is_eq-slice_cmp}
 use Rattle.std.specs.declared.cmp.Ordering.{Ordering}
@@ -7,17 +7,14 @@ use Rattle.std.specs.declared.cmp.Ordering.TheVariants.{Less, Equal, Greater}
 use Rattle.std.specs.Prelude.{◌&&◌, nat_eq}
 use Rattle.std.specs.Ordering.{nat_cmp, ordering_then, eq_by_cmp, is_eq}
 use Rattle.std.specs.Cmp.{IsTotalOrder, IsEquivalence, eq_by_cmp_equiv, Equal-is, nat_cmp_total, on_total, then_total}
-use Rattle.std.specs.Cmp.Lexicographic.{pointwise, slice_cmp, nat_list_cmp_total}
+use Rattle.std.specs.Cmp.Lexicographic.{slice_cmp, nat_list_cmp_total}
 use Rattle.std.specs.FinMap as map
 use Rattle.std.specs.FinMap.{find, IsAntisymmetric}
 use Rattle.std.specs.Map.{lookup}
 use Rattle.std.proofs.lemmas.Map.Lookups.{exact_pairs, exact_unsigned, exact_bytes}
 use Rattle.cs_model.specs.declared.row_key.RowKey.{RowKey}
 use Rattle.cs_model.specs.Key.{row_key_cmp}
-
--- what `==` answers at two keys
-abbrev pub same_key : RowKey → RowKey → Bool
-same_key a b = nat_eq a.table b.table && pointwise nat_eq a.bytes b.bytes
+pub use Rattle.cs_apply.specs.SameKey.{same_key}
 
 -- keys that compare alike are one
 pub exact_keys : IsAntisymmetric row_key_cmp

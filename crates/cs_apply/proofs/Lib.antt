@@ -7,3 +7,5 @@ pub mod Sections
 pub mod OneByOne
 pub mod Lengths
 pub mod Copied
+pub mod PlaceLaws
+pub mod RowEffect

@@ -6,7 +6,6 @@ use Rattle.cs_apply.specs.declared.conflict.ApplyError.{ApplyError}
 use Rattle.cs_apply.specs.declared.conflict.ApplyError.TheVariants as apply
 use Rattle.cs_apply.specs.declared.change_error.ChangeError.{ChangeError}
 use Rattle.cs_apply.specs.declared.change_error.ChangeError.TheVariants as change
-use Rattle.cs_apply.specs.State.{Rows}
 
 -- an error of `apply` reports the first conflict, or that memory ran out
 abbrev pub ReportsConflict : {A : Type 0} → ApplyError → Result A Conflict → Type 0
@@ -14,7 +13,7 @@ ReportsConflict (apply.Conflict conflict) answer = answer ≡ Err conflict
 ReportsConflict apply.Memory answer = Unit {0}
 
 -- an error of one change reports the kind of its conflict, or that memory ran out
-abbrev pub ReportsKind : ChangeError → Result Rows ConflictKind → Type 0
+abbrev pub ReportsKind : {A : Type 0} → ChangeError → Result A ConflictKind → Type 0
 ReportsKind (change.Conflict kind) answer = answer ≡ Err kind
 ReportsKind change.Memory answer = Unit {0}
 

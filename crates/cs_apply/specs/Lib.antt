@@ -7,3 +7,7 @@ pub mod Steps
 pub mod Seen
 pub mod OneByOne
 pub mod Columns
+pub mod SameKey
+pub mod Held
+pub mod RowAfter
+pub mod Lending

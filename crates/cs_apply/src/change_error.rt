@@ -5,13 +5,16 @@ ghost use Rattle.cs_apply.specs.declared.change_error.ChangeError.TheVariants.{M
 
 use crate::conflict::{ApplyError, Conflict, ConflictKind};
 use std::alloc::{AllocError, AllocFailed};
+use thiserror::Error;
 
 /// Why one change isn't applied.
-#[derive(Clone, Copy, Debug, PartialEq, Eq)]
-pub(crate) enum ChangeError {
+#[derive(Clone, Copy, Debug, PartialEq, Eq, Error)]
+pub enum ChangeError {
     /// The change conflicts with the rows.
+    #[error(transparent)]
     Conflict(ConflictKind),
     /// Out of memory.
+    #[error("out of memory")]
     Memory,
 }
 
@@ -35,7 +38,7 @@ impl ChangeError {
     ghost use Rattle.cs_apply.specs.Errors.{conflict_at};
 
     /// The same error, for the change at this position.
-    pub(crate) fn at(self, position: usize) -> ApplyError
+    pub fn at(self, position: usize) -> ApplyError
         ensures { result ≡ conflict_at position self }
     {
         match self {

@@ -145,8 +145,8 @@ fn change_section(
     Ok(())
 }
 
-// The index of the table with this name and these key flags, if it is kept.
-fn kept_table(schema: &Schema, kept: &[bool], shape: &Shape) -> Option<usize>
+/// The index of the table with this name and these key flags, if it is kept.
+pub(crate) fn kept_table(schema: &Schema, kept: &[bool], shape: &Shape) -> Option<usize>
     ensures { result ≡ compatible schema.now kept.now shape.now }
 {
     let table = schema.table(shape)?;

@@ -6,10 +6,14 @@
 mod change_error;
 mod changes;
 mod conflict;
+mod held;
 pub mod laws;
 mod places;
 mod row;
 mod tables;
 
+pub use change_error::ChangeError;
 pub use conflict::{ApplyError, Conflict, ConflictKind};
+pub use held::HeldTables;
+pub use row::row_after;
 pub use tables::Tables;

@@ -34,11 +34,11 @@ pub(crate) struct Step {
 /// The places, and the steps of the changeset being applied.
 #[derive(Debug, Drop)]
 pub(crate) struct Places {
-    rows: IndexMap<RowKey, Option<Row>>,
+    pub(crate) rows: IndexMap<RowKey, Option<Row>>,
     // Empty between two changesets; keeps its capacity for the next.
     log: Vec<Step>,
     // The approximate number of empty places. It only decides when to sweep them.
-    empty: usize,
+    pub(crate) empty: usize,
 }
 
 impl Places {
@@ -180,14 +180,22 @@ impl Places {
         }
     }
 
-    /// Commits all that was done: clears the log, and drops the empty places once they are the
-    /// majority. So the deletes since the last sweep pay for the next.
+    /// Commits all that was done: clears the log, and sweeps.
     pub(crate) fn keep(&mut self)
         ensures rows { rows_in self.new ≡ rows_in self.old }
         ensures log { self.new.log.items ≡ [] }
     {
         self.empty = counted(self.empty, &self.log);
         self.log.clear();
+        self.sweep();
+    }
+
+    /// Drops the empty places once they are the majority. So the deletes since the last sweep pay
+    /// for the next. Does not allocate.
+    pub(crate) fn sweep(&mut self)
+        ensures rows { rows_in self.new ≡ rows_in self.old }
+        ensures log { self.new.log.items ≡ self.old.log.items }
+    {
         if self.empty > self.rows.len() / 2 {
             self.rows.retain(|_, row| row.is_some());
             self.empty = 0;

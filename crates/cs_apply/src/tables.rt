@@ -1,50 +1,40 @@
-//! The tables of one replica, `apply`, which applies a changeset to them, and their copy.
+//! The tables of one replica, `apply`, which applies a changeset to them, their copy, and their
+//! places.
 
 ghost use Rattle.std.specs.Prelude.{◌≡◌, length, IfOk, IfErr, OnOk, OnErr, Ok};
 ghost use Rattle.std.specs.Option.{option_copied};
 ghost use Rattle.std.specs.Arc.{arc_value};
+ghost use Rattle.std.specs.Borrow.{sem};
 ghost use Rattle.std.specs.FinMap as map;
 ghost use Rattle.cs_apply.specs.Columns.{HaveColumns};
 ghost use Rattle.cs_apply.specs.Seen.{listed};
 ghost use Rattle.cs_apply.specs.Single.{single};
+ghost use Rattle.cs_apply.specs.State.{compatible};
 ghost use Rattle.cs_apply.specs.Errors.{ReportsConflict};
+ghost use Rattle.cs_apply.specs.Lending.{LendsPlaces};
 
-use crate::changes::change_all;
 use crate::conflict::ApplyError;
-use crate::places::Places;
-use cs_model::{Changeset, CopyIn, Row, RowKey, Schema};
+use crate::held::HeldTables;
+use cs_model::{Changeset, CopyIn, Row, RowKey, Schema, Shape};
 use std::alloc::{AllocError, Global};
 use std::marker::Model;
 use std::sync::Arc;
 
-/// The tables of one replica: a schema, which of its tables are kept, and their rows.
+/// The tables of one replica: a schema, which of its tables are kept, and their rows. Contracts see
+/// these alone, and not the places that are held for keys without rows.
 #[derive(Debug, Drop)]
 pub struct Tables {
-    schema: Arc<Schema>,
-    kept: Vec<bool>,
-    places: Places,
+    held: HeldTables,
 }
 
 impl Model for Tables {
-    ghost use Rattle.std.specs.Prelude.{◌≡◌, [], length};
-    ghost use Rattle.std.specs.Arc.{arc_value};
-    ghost use Rattle.cs_apply.specs.Columns.{RowsHaveColumns};
     ghost use Rattle.cs_apply.specs.State.{TableState, state_code};
-    ghost use Rattle.cs_apply.specs.Steps.{rows_of};
 
     ghost Value = { TableState };
 
     ghost coded = { state_code };
 
-    ghost view = { λ t. record {
-      schema = arc_value t.schema;
-      kept = t.kept.items;
-      rows = rows_of t.places.rows.entries;
-    } };
-
-    ghost invariant = { λ t. (length t.kept.items ≡ length (arc_value t.schema))
-        × (t.places.log.items ≡ [])
-        × RowsHaveColumns (arc_value t.schema) (rows_of t.places.rows.entries) };
+    ghost view = { λ t. t.held.state };
 }
 
 impl Tables {
@@ -59,9 +49,7 @@ impl Tables {
         } }
     {
         Tables {
-            schema,
-            kept,
-            places: Places::new(alloc),
+            held: HeldTables::new(alloc, schema, kept),
         }
     }
 
@@ -70,15 +58,21 @@ impl Tables {
         ensures same { result.now ≡ self.now.schema }
         ensures columns { HaveColumns self.now }
     {
-        &self.schema
+        self.held.schema()
+    }
+
+    /// The index of the table with this shape's name and key flags, if it is kept.
+    pub fn kept_table(&self, shape: &Shape) -> Option<usize>
+        ensures { result ≡ compatible self.now.schema self.now.kept shape.now }
+    {
+        self.held.kept_table(shape)
     }
 
     /// The row with this key, if there is one.
     pub fn row(&self, key: &RowKey) -> Option<&Row>
         ensures { option_copied result ≡ map.get self.now.rows key.now }
     {
-        let (_, row) = self.places.find(key)?;
-        Some(row)
+        self.held.row(key)
     }
 
     /// All rows with their keys, by table, then by the key's bytes. Returns `AllocError` if memory
@@ -86,7 +80,7 @@ impl Tables {
     pub fn rows_in_order(&self, alloc: Global) -> Result<Vec<(&RowKey, &Row)>, AllocError>
         ensures { IfOk result (λ rows. listed rows.items ≡ map.entries self.now.rows) }
     {
-        self.places.in_order(alloc)
+        self.held.rows_in_order(alloc)
     }
 
     /// Applies all changes of a changeset in order. Works as `sqlite3changeset_apply` with a
@@ -100,14 +94,22 @@ impl Tables {
         ensures refused { IfErr result (λ e. ReportsConflict e (single self.old changeset.now)) }
         ensures err { OnErr result (self.new ≡ self.old) }
     {
-        let places = self.places.len();
-        let applied = change_all(&mut self.places, alloc, &self.schema, &self.kept, changeset);
-        if applied.is_ok() {
-            self.places.keep();
-        } else {
-            self.places.take_back(places);
-        }
-        applied
+        self.held.apply(alloc, changeset)
+    }
+
+    /// The tables and their places, to read.
+    pub fn places(&self) -> &HeldTables
+        ensures { result.now.state ≡ self.now }
+    {
+        &self.held
+    }
+
+    /// The tables and their places, to change. What rows are set there is seen here.
+    pub fn places_mut(&mut self) -> &mut HeldTables
+        ensures* writes_back { sem 𝓛 (LendsPlaces self.entry result) }
+        ensures value { result.now.state ≡ self.old }
+    {
+        &mut self.held
     }
 }
 
@@ -117,9 +119,7 @@ impl CopyIn for Tables {
     /// if memory runs out.
     fn copy_in(&self, alloc: Global) -> Result<Tables, AllocError> {
         Ok(Tables {
-            schema: Arc::try_clone(&self.schema)?,
-            kept: Vec::from_slice(alloc, &self.kept)?,
-            places: self.places.copied(alloc)?,
+            held: self.held.copied(alloc)?,
         })
     }
 }

@@ -1,6 +1,6 @@
 use Rattle.std.specs.Arc.{arc_value}
 use Rattle.cs_apply.proofs.Lengths.{none_have}
-use Rattle.cs_apply.proofs.tables.Tables.new.Goals as goal
+use Rattle.cs_apply.proofs.held.HeldTables.new.Goals as goal
 
 pub invariant_of-result : goal.invariant_of-result
 invariant_of-result c = (
