@@ -14,7 +14,8 @@ use Rattle.cs_model.specs.declared.shape.Shape.{Shape}
 use Rattle.cs_model.specs.declared.value.Value.{Value}
 use Rattle.cs_model.specs.Key.{row_key_cmp}
 use Rattle.cs_apply.specs.Columns.{RowsHaveColumns, table_flags}
-use Rattle.cs_apply.specs.Held.{HeldState, CanHoldRow, KeyHasPlace, KeySet, is_key_placed, held_also, held_keys, with_row}
+use Rattle.cs_apply.specs.Held.{CanHoldRow, HeldState, KeyHasPlace, KeySet}
+use Rattle.cs_apply.specs.Held.{held_also, held_keys, is_key_placed, with_row}
 use Rattle.cs_apply.specs.SameKey.{IsEditAt}
 use Rattle.cs_apply.specs.State.{Rows}
 use Rattle.cs_apply.specs.Steps.{Entries, put, rows_of}
@@ -49,7 +50,8 @@ held_found ((k, Some row) ∷ es) q distinct =
   where
     by : (b : Bool) → same_key q k ≡ b → set.contains (held_keys es) q ≡ is_empty_place (lookup (same_key q) es)
         → set.contains (held_keys es) q ≡ is_empty_place (cond b (Some (Some row)) (lookup (same_key q) es))
-    by true e h = h ∙ ap is_empty_place (lookup-none (same_key q) es (none_past_head laws q (k, Some row) es distinct e))
+    by true e h = h
+        ∙ ap is_empty_place (lookup-none (same_key q) es (none_past_head laws q (k, Some row) es distinct e))
     by false e h = h
 
 -- ---- an edit at one key

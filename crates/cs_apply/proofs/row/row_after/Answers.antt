@@ -30,7 +30,8 @@ pub returns-in-Insert-clause-refused : goal.returns-in-Insert-clause-refused
 returns-in-Insert-clause-refused c =
     let change = c.args.change.now in
     refused_by_op c.inserted_row.result change.op _ c.args.shape.now.flags change.before change.after
-    (option_copied c.args.row) (sym c.in-Insert.is) (c.inserted_row.ensures.refused c.args.shape.now.flags change.before)
+    (option_copied c.args.row) (sym c.in-Insert.is)
+    (c.inserted_row.ensures.refused c.args.shape.now.flags change.before)
 
 pub returns-in-Delete-clause-ok : goal.returns-in-Delete-clause-ok
 returns-in-Delete-clause-ok c =

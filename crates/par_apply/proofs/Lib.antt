@@ -1,0 +1,11 @@
+pub mod SplittingLaws
+pub mod GatheringLaws
+pub mod OwnRowLaws
+pub mod PartLaws
+pub mod SiftLaws
+pub mod AnswerLaws
+pub mod PlanLaws
+pub mod StageLaws
+pub mod CommitLaws
+pub mod ShardLaws
+pub mod PositionLaws

@@ -1,0 +1,19 @@
+//! A changeset applied by several workers, each with the keys of its shard. The changes of rows are
+//! planned over tables that are only read, staged, and committed without allocation. Theorem:
+//! `apply_split` is `Tables::apply`, for 1 to 16 workers (`laws::splitting`).
+#![tactic(auto)]
+
+mod gate;
+pub mod laws;
+mod planned;
+mod shard;
+mod shard_rows;
+mod staged;
+mod whole;
+mod worker;
+
+pub use gate::{Gate, Open};
+pub use planned::{RowChange, RowPlan, plan_changes};
+pub use shard::{shard_of, split};
+pub use staged::{NotStaged, StagedPlan, stage};
+pub use whole::apply_split;

@@ -1,0 +1,182 @@
+//! `StagedPlan`: a plan whose keys all have places, so that it can be committed without allocation.
+
+ghost use Rattle.std.specs.Prelude.{◌≡◌, [], List, Option, Some, slice_get};
+ghost use Rattle.std.specs.Prelude.{IfOk, IfErr, OnOk, OnErr};
+ghost use Rattle.cs_apply.specs.Held.{CanHoldRow, KeyHasPlace};
+ghost use Rattle.cs_model.specs.declared.row_key.RowKey.{RowKey as Key};
+ghost use Rattle.cs_model.specs.declared.value.Value.{Value};
+ghost use Rattle.par_apply.specs.Planned.{FitsAtKey, RowsFit, planned_changes};
+ghost use Rattle.par_apply.specs.RowChanges.{RowChanges, overlaid};
+ghost use Rattle.par_apply.specs.Staged.{CanHoldAll, changes_staged, unstaged};
+ghost use Rattle.par_apply.specs.Staged.{without_change, without_places};
+
+use crate::planned::{RowChange, RowPlan};
+use cs_apply::HeldTables;
+use cs_model::{CopyIn, RowKey};
+use std::alloc::{AllocError, Global};
+use thiserror::Error;
+
+/// A plan whose new keys have places. `commit` or `undo` takes it.
+#[derive(Debug, Drop)]
+pub struct StagedPlan {
+    pub(crate) changes: Vec<RowChange>,
+    // the indices of the changes whose places staging made
+    pub(crate) made: Vec<usize>,
+}
+
+/// Out of memory in `stage`, and the plan.
+#[derive(Debug, Drop, Error)]
+#[error("out of memory")]
+pub struct NotStaged {
+    pub plan: RowPlan,
+}
+
+impl StagedPlan {
+    /// The changes, in the plan's order.
+    pub fn changes(&self) -> &[RowChange]
+        ensures { result.now ≡ changes_staged self.now }
+    {
+        &self.changes
+    }
+
+    /// Makes the changes: each key gets its row, or none. Does not allocate.
+    pub fn commit(self, tables: &mut HeldTables)
+        requires { CanHoldAll tables.old (changes_staged self) }
+        ensures { tables.new.state ≡ record tables.old.state {
+          rows = overlaid tables.old.state.rows (changes_staged self);
+        } }
+    {
+        let StagedPlan { changes, .. } = self;
+        write_all(tables, changes);
+        tables.sweep();
+    }
+
+    /// Takes away the places that `stage` made. Does not allocate.
+    pub fn undo(self, tables: &mut HeldTables)
+        ensures { tables.new ≡ unstaged tables.old self }
+    {
+        let StagedPlan { changes, made } = self;
+        take_back(tables, &changes, made);
+    }
+}
+
+/// Makes a place for each key of the plan that gets a row and has no place. Then
+/// `StagedPlan::commit` needs no memory, and `StagedPlan::undo` gives back the tables as they were.
+///
+/// If memory runs out, the tables are unchanged, and `NotStaged` hands the plan back.
+pub fn stage(alloc: Global, tables: &mut HeldTables, plan: RowPlan) -> Result<StagedPlan, NotStaged>
+    requires { RowsFit tables.old.state (planned_changes plan) }
+    ensures changes { IfOk result (λ staged. changes_staged staged ≡ planned_changes plan) }
+    ensures state { OnOk result (tables.new.state ≡ tables.old.state) }
+    ensures ready { IfOk result (λ staged. CanHoldAll tables.new (changes_staged staged)) }
+    ensures back { IfOk result (λ staged. unstaged tables.new staged ≡ tables.old) }
+    ensures unchanged { OnErr result (tables.new ≡ tables.old) }
+    ensures returned { IfErr result (λ e. planned_changes e.plan ≡ planned_changes plan) }
+{
+    let mut made = Vec::new(alloc);
+    if hold_all(alloc, tables, &plan.changes, &mut made).is_err() {
+        take_back(tables, &plan.changes, made);
+        return Err(NotStaged { plan });
+    }
+    let RowPlan { changes } = plan;
+    Ok(StagedPlan { changes, made })
+}
+
+// Makes a place for each key that gets a row, and notes which it made. An `Err` keeps them.
+fn hold_all(
+    alloc: Global,
+    tables: &mut HeldTables,
+    changes: &[RowChange],
+    made: &mut Vec<usize>,
+) -> Result<(), AllocError>
+    requires none { made.old.items ≡ [] }
+    requires fit { RowsFit tables.old.state changes.now }
+    ensures state { tables.new.state ≡ tables.old.state }
+    ensures ready { OnOk result (CanHoldAll tables.new changes.now) }
+    ensures back { without_places tables.new changes.now made.new.items ≡ tables.old }
+{
+    for index in 0..changes.len() {
+        hold_change(alloc, tables, made, index, &changes[index])?;
+    }
+    Ok(())
+}
+
+// Makes a place for the key of a change, if it gets a row. An `Err` changes nothing.
+fn hold_change(
+    alloc: Global,
+    tables: &mut HeldTables,
+    made: &mut Vec<usize>,
+    index: usize,
+    change: &RowChange,
+) -> Result<(), AllocError>
+    requires { FitsAtKey tables.old.state change.now }
+    ensures state { tables.new.state ≡ tables.old.state }
+    ensures ready { OnOk result (CanHoldRow tables.new change.now) }
+    ensures stays { (other : Key) → KeyHasPlace tables.old other → KeyHasPlace tables.new other }
+    ensures back { (changes : RowChanges) → slice_get changes index ≡ Some change.now
+        → without_places tables.new changes made.new.items
+        ≡ without_places tables.old changes made.old.items }
+{
+    let (key, row) = change;
+    if row.is_none() {
+        return Ok(());
+    }
+    hold(alloc, tables, made, index, key)
+}
+
+// Makes a place for a key, and notes the index of its change if the key had none. An `Err` changes
+// nothing.
+fn hold(
+    alloc: Global,
+    tables: &mut HeldTables,
+    made: &mut Vec<usize>,
+    index: usize,
+    key: &RowKey,
+) -> Result<(), AllocError>
+    ensures state { tables.new.state ≡ tables.old.state }
+    ensures placed { OnOk result (KeyHasPlace tables.new key.now) }
+    ensures stays { (other : Key) → KeyHasPlace tables.old other → KeyHasPlace tables.new other }
+    ensures back { (changes : RowChanges) (row : Option (List Value))
+        → slice_get changes index ≡ Some (key.now, row)
+        → without_places tables.new changes made.new.items
+        ≡ without_places tables.old changes made.old.items }
+{
+    made.reserve(1)?;
+    let own = key.copy_in(alloc)?;
+    if tables.hold(own)? {
+        made.push_reserved(index);
+    }
+    Ok(())
+}
+
+// Takes out the keys of the changes at these indices, from the last on. Does not allocate.
+fn take_back(tables: &mut HeldTables, changes: &[RowChange], made: Vec<usize>)
+    ensures { tables.new ≡ without_places tables.old changes.now made.items }
+{
+    let mut rest = made;
+    while let Some(index) = rest.pop() {
+        take_out(tables, changes, index);
+    }
+}
+
+// Takes out the key of the change at an index, if there is one.
+fn take_out(tables: &mut HeldTables, changes: &[RowChange], index: usize)
+    ensures { tables.new ≡ without_change tables.old (slice_get changes.now index) }
+{
+    if let Some((key, _)) = changes.get(index) {
+        tables.unset(key);
+    }
+}
+
+// Gives each key its row, or none, from the last change on. Does not allocate.
+fn write_all(tables: &mut HeldTables, changes: Vec<RowChange>)
+    requires { CanHoldAll tables.old changes.items }
+    ensures { tables.new.state ≡ record tables.old.state {
+      rows = overlaid tables.old.state.rows changes.items;
+    } }
+{
+    let mut rest = changes;
+    while let Some((key, row)) = rest.pop() {
+        tables.write(&key, row);
+    }
+}
