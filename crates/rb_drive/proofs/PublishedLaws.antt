@@ -13,11 +13,11 @@ use Rattle.rb_drive.specs.declared.input.Given.{Given}
 use Rattle.rb_drive.specs.declared.publishing.FaultyLine.{FaultyLine}
 use Rattle.rb_drive.specs.Published.{and_faulty, and_given, faulty_lines, given_answer, given_bodies, sent_bodies}
 
-pub take_one_more : {A : Type 0} (xs : List A) (i : ℕ) (d : A) → i < length xs
+pub taken_one_more : {A : Type 0} (xs : List A) (i : ℕ) (d : A) → i < length xs
     → take (suc i) xs ≡ take i xs ++ slice_index_or xs i d ∷ []
-take_one_more [] i d less = absurd (omega (arith, less))
-take_one_more (x ∷ xs) zero d less = refl
-take_one_more (x ∷ xs) (suc i) d less = ap (λ t. x ∷ t) (take_one_more xs i d (omega (arith, less)))
+taken_one_more [] i d less = absurd (omega (arith, less))
+taken_one_more (x ∷ xs) zero d less = refl
+taken_one_more (x ∷ xs) (suc i) d less = ap (λ t. x ∷ t) (taken_one_more xs i d (omega (arith, less)))
 
 abbrev one_body : Result (List Section) EndError → List (List Section)
 one_body answer = and_given answer []
@@ -78,7 +78,7 @@ sends_next schema p lines done d body sent less is gives =
     ∙ ap (λ items. items ++ item_sent p (1 + length before) body ∷ []) is
     ∙ sym (sent_one_more p 1 before body)
     ∙ sym (ap (sent_bodies p 1)
-    (ap (given_bodies schema) (take_one_more lines done d less)
+    (ap (given_bodies schema) (taken_one_more lines done d less)
     ∙ bodies_one_more schema (take done lines) (slice_index_or lines done d)
     ∙ ap (λ answer. before ++ one_body answer) gives))
 
@@ -88,7 +88,7 @@ pub sends_no_fault : (schema : List Shape) (lines : List Given) (done : ℕ) (d 
 sends_no_fault schema lines done d body less gives =
     let g = slice_index_or lines done d in
     let front = faulty_lines schema (take done lines) in
-    ap (faulty_lines schema) (take_one_more lines done d less)
+    ap (faulty_lines schema) (taken_one_more lines done d less)
     ∙ faulty_one_more schema (take done lines) g
     ∙ ap (λ answer. front ++ and_faulty g answer []) gives
     ∙ append-nil front
@@ -106,7 +106,7 @@ faults_next schema lines done d why faulty less is gives =
     let g = slice_index_or lines done d in
     let one : List FaultyLine = record { line = g.line; publisher = g.publisher; why = why } ∷ [] in
     ap (λ front. front ++ one) is
-    ∙ sym (ap (faulty_lines schema) (take_one_more lines done d less)
+    ∙ sym (ap (faulty_lines schema) (taken_one_more lines done d less)
     ∙ faulty_one_more schema (take done lines) g
     ∙ ap (λ answer. faulty_lines schema (take done lines) ++ and_faulty g answer []) gives)
 
@@ -117,7 +117,7 @@ pub faults_send_none : (schema : List Shape) (p : ℕ) (lines : List Given) (don
 faults_send_none schema p lines done d why less gives =
     let front = given_bodies schema (take done lines) in
     ap (sent_bodies p 1)
-    (ap (given_bodies schema) (take_one_more lines done d less)
+    (ap (given_bodies schema) (taken_one_more lines done d less)
     ∙ bodies_one_more schema (take done lines) (slice_index_or lines done d)
     ∙ ap (λ answer. front ++ one_body answer) gives
     ∙ append-nil front)
