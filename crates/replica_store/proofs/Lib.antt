@@ -1,0 +1,14 @@
+pub mod Texts
+pub mod Parts
+pub mod CreateLaws
+pub mod DeletedRows
+pub mod Deletes
+pub mod Puts
+pub mod CursorLaws
+pub mod ChangeLaws
+pub mod ReadLaws
+pub mod OpenLaws
+pub mod BodyLaws
+pub mod LoadLaws
+pub mod ShownLaws
+pub mod FollowLaws

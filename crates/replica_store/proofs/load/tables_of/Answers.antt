@@ -1,0 +1,49 @@
+use Rattle.std.proofs.Common.{◌≡◌, ◌+◌, ◌<◌, ◌++◌, ◌∷◌, [], Err, true, drop, length, replicate, take, sym, ap}
+use Rattle.std.proofs.Common.{subst, ◌∙◌, rules}
+use Rattle.std.specs.Arc.{arc_value}
+use Rattle.std.specs.FinMap as map
+use Rattle.std.proofs.lemmas.List.{take_more, take-append-drop}
+use Rattle.sqlite_rules.proofs.ListLemmas.{has_front, has_last}
+use Rattle.replica_store.specs.Loading.{LoadsRows, ShownBodies, AddsShown}
+use Rattle.replica_store.specs.declared.error.ReplicaError.TheVariants.{Unusable}
+use Rattle.replica_store.proofs.LoadLaws.{loads_none, loads_one_more, never_rows}
+use Rattle.replica_store.proofs.load.tables_of.Goals as goal
+
+pub loop-shown-init : goal.loop-shown-init
+loop-shown-init c =
+    let schema = arc_value c.args.schema.now in
+    let is : c.in_ok-tables.tables ≡ record {
+      schema = schema;
+      kept = replicate (length schema) true;
+      rows =
+          map.empty;
+    } = search rules in
+    loads_none schema c.in_ok-tables.tables (ap (λ t. t.schema) is) (ap (λ t. t.kept) is) (ap (λ t. t.rows) is)
+
+pub returns-in_err-add_shown-clause-unusable : goal.returns-in_err-add_shown-clause-unusable
+returns-in_err-add_shown-clause-unusable c err show are =
+    let all = c.args.answer.now in
+    let at = c.loop-shown.shown-index in
+    let item = c.shown-item.result in
+    let inside : at < length all = search rules in
+    let more : take (at + 1) all ≡ take at all ++ item ∷ [] = take_more all at item inside
+    ∙ ap (λ x. take at all ++ x ∷ []) (sym c.shown-item.is) in
+    let failed : c.add_shown.result ≡ Err Unusable = search rules in
+    never_rows (arc_value c.args.schema.now) (take at all) all item c.loop-shown.tables c.loop-shown.invariant
+    (c.add_shown.ensures.unusable failed)
+    (λ y there. has_front all (take at all) (drop at all) y (sym (take-append-drop at all)) there)
+    (has_front all (take (at + 1) all) (drop (at + 1) all) item (sym (take-append-drop (at + 1) all))
+    (has_last (take (at + 1) all) (take at all) item more)) show are
+
+pub loop-shown-preserved : goal.loop-shown-preserved
+loop-shown-preserved c =
+    let all = c.args.answer.now in
+    let at = c.loop-shown.shown-index in
+    let item = c.shown-item.result in
+    let inside : at < length all = search rules in
+    let more : take (at + 1) all ≡ take at all ++ item ∷ [] = take_more all at item inside
+    ∙ ap (λ x. take at all ++ x ∷ []) (sym c.shown-item.is) in
+    let adds : AddsShown item c.loop-shown.tables c.add_shown.new.tables = search rules in
+    subst (λ xs. LoadsRows (arc_value c.args.schema.now) (ShownBodies xs) c.add_shown.new.tables) (sym more)
+    (loads_one_more (arc_value c.args.schema.now)
+    (take at all) item c.loop-shown.tables c.add_shown.new.tables c.loop-shown.invariant adds)

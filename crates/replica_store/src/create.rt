@@ -1,0 +1,102 @@
+//! Makes a replica's tables in a database without tables, in one transaction.
+
+ghost use Rattle.std.specs.Prelude.{◌≡◌, ◌↔◌, [], IsTrue, OnOk};
+ghost use Rattle.sqlite.specs.Held.{state};
+ghost use Rattle.sqlite.specs.State.{HasCleanDisk, Survives};
+ghost use Rattle.sqlite.specs.Tree.{Trees};
+ghost use Rattle.replica_store.specs.Inside.{IsBlankInside, HasRowTable, HasBothTables};
+ghost use Rattle.replica_store.specs.Inside.{IsNewInside};
+ghost use Rattle.replica_store.specs.Layout.{empty_schema};
+ghost use Rattle.replica_store.specs.Picture.{HoldsReplica, IsNewReplica};
+
+use sqlite::{Alter, Connection, Error, ErrorCode, Transaction};
+use sqlite_schema::schema::Schema;
+
+/// Makes the tables and the mark, or changes nothing.
+pub(crate) fn create_once<S: Alter>(conn: &mut Connection<S>) -> Result<(), Error>
+    ensures blank { OnOk result (conn.old.schema ≡ empty_schema) }
+    ensures made { HasCleanDisk (state S.Store conn.new) → OnOk result
+        (HoldsReplica (state S.Store conn.new)
+        × IsNewReplica (state S.Store conn.new).committed.trees) }
+    ensures stands { HasCleanDisk (state S.Store conn.new) → OnOk result
+        ((db : Trees) → (state S.Store conn.new).may_leave db
+        → db ≡ (state S.Store conn.new).committed.trees) }
+    ensures survives { Survives (state S.Store conn.old) (state S.Store conn.new) IsNewReplica }
+{
+    if !conn.is_autocommit() {
+        return Err(Error::SqliteFailure(ErrorCode::TransactionState));
+    }
+    if !has_nothing(conn.schema()) {
+        return Err(Error::SqliteFailure(ErrorCode::NameTaken));
+    }
+    let mut tx = conn.transaction();
+    make_all(&mut tx)?;
+    tx.commit()?;
+    Ok(())
+}
+
+// whether the schema has no table, index or view
+fn has_nothing(schema: &Schema) -> bool
+    ensures { IsTrue result → schema.now ≡ empty_schema }
+{
+    schema.tables.is_empty() && schema.indexes.is_empty() && schema.views.is_empty()
+}
+
+// both tables and the first mark
+fn make_all<S: Alter>(tx: &mut Transaction<'_, S>) -> Result<(), Error>
+    requires { HasCleanDisk (state S.Store tx.old.conn.now)
+        → IsBlankInside (state S.Store tx.old.conn.now) }
+    ensures same_reference { tx.new.conn.ghost_name ≡ tx.old.conn.ghost_name }
+    ensures made { HasCleanDisk (state S.Store tx.new.conn.now)
+        → OnOk result (IsNewInside (state S.Store tx.new.conn.now)) }
+    ensures survives { Survives (state S.Store tx.old.conn.now) (state S.Store tx.new.conn.now)
+        (λ _. ⊥) }
+{
+    make_row_table(tx)?;
+    make_mark_table(tx)?;
+    put_first_mark(tx)?;
+    Ok(())
+}
+
+fn make_row_table<S: Alter>(tx: &mut Transaction<'_, S>) -> Result<usize, Error>
+    requires { HasCleanDisk (state S.Store tx.old.conn.now)
+        → IsBlankInside (state S.Store tx.old.conn.now) }
+    ensures same_reference { tx.new.conn.ghost_name ≡ tx.old.conn.ghost_name }
+    ensures made { HasCleanDisk (state S.Store tx.new.conn.now)
+        → OnOk result (HasRowTable (state S.Store tx.new.conn.now)) }
+    ensures survives { Survives (state S.Store tx.old.conn.now) (state S.Store tx.new.conn.now)
+        (λ _. ⊥) }
+{
+    tx.execute(
+        "CREATE TABLE rb_row(tab INTEGER NOT NULL, rowkey BLOB NOT NULL, body BLOB NOT NULL, \
+         PRIMARY KEY (tab, rowkey))",
+        &[],
+    )
+}
+
+fn make_mark_table<S: Alter>(tx: &mut Transaction<'_, S>) -> Result<usize, Error>
+    requires { HasCleanDisk (state S.Store tx.old.conn.now)
+        → HasRowTable (state S.Store tx.old.conn.now) }
+    ensures same_reference { tx.new.conn.ghost_name ≡ tx.old.conn.ghost_name }
+    ensures made { HasCleanDisk (state S.Store tx.new.conn.now)
+        → OnOk result (HasBothTables (state S.Store tx.new.conn.now)) }
+    ensures survives { Survives (state S.Store tx.old.conn.now) (state S.Store tx.new.conn.now)
+        (λ _. ⊥) }
+{
+    tx.execute(
+        "CREATE TABLE rb_mark(id INTEGER PRIMARY KEY, place INTEGER NOT NULL)",
+        &[],
+    )
+}
+
+fn put_first_mark<S: Alter>(tx: &mut Transaction<'_, S>) -> Result<usize, Error>
+    requires { HasCleanDisk (state S.Store tx.old.conn.now)
+        → HasBothTables (state S.Store tx.old.conn.now) }
+    ensures same_reference { tx.new.conn.ghost_name ≡ tx.old.conn.ghost_name }
+    ensures made { HasCleanDisk (state S.Store tx.new.conn.now)
+        → OnOk result (IsNewInside (state S.Store tx.new.conn.now)) }
+    ensures survives { Survives (state S.Store tx.old.conn.now) (state S.Store tx.new.conn.now)
+        (λ _. ⊥) }
+{
+    tx.execute("INSERT INTO rb_mark VALUES (1, 0)", &[])
+}

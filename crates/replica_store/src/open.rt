@@ -1,0 +1,125 @@
+//! Tests that a database is a replica's. No statement writes.
+
+ghost use Rattle.std.specs.Prelude.{◌≡◌, ◌↔◌, ℕ, IsTrue, IfOk, OnOk, Err};
+ghost use Rattle.std.specs.List.{list_all};
+ghost use Rattle.sqlite.specs.Held.{state, Serves};
+ghost use Rattle.sqlite.specs.State.{HasCleanDisk, IsUnchanged, Survives};
+ghost use Rattle.replica_store.specs.Layout.{replica_schema};
+ghost use Rattle.replica_store.specs.Picture.{HasCursor, HoldsReplica, IsReplica};
+ghost use Rattle.replica_store.specs.Reading.{AreRowRecords, HasTableColumns, is_shown_record};
+ghost use Rattle.replica_store.specs.declared.error.ReplicaError.TheVariants.{Unusable};
+
+use crate::error::{ReplicaError, reported};
+use crate::layout::is_of_replica;
+use crate::read::{is_blob_at, is_natural_at, only_mark, stored_marks, stored_rows};
+use sqlite::{Alter, Connection, Row};
+
+/// The connection. An open one with a replica's tables has their columns in each row, as it keeps
+/// what its schema says.
+pub(crate) fn with_columns<S: Alter>(conn: Connection<S>) -> Connection<S>
+    ensures same { result ≡ conn }
+    ensures columns { IsTrue (state S.Store conn).is_open → conn.schema ≡ replica_schema
+        → HasTableColumns (state S.Store conn).now.trees }
+{
+    served(conn)
+}
+
+fn served<S: Alter>(conn: Connection<S>) -> Connection<S>
+    ensures same { result ≡ conn }
+    ensures serves { IsTrue (S.Store.view conn.store).is_open
+        → Serves (S.Store.view conn.store) conn.schema }
+{
+    conn
+}
+
+/// Answers `Unusable` if the tables, a row or the mark aren't those of a replica.
+pub(crate) fn check<S: Alter>(conn: &mut Connection<S>) -> Result<(), ReplicaError>
+    requires { IsTrue (state S.Store conn.old).is_open → conn.old.schema ≡ replica_schema
+        → HasTableColumns (state S.Store conn.old).now.trees }
+    ensures held { HasCleanDisk (state S.Store conn.new) → OnOk result
+        (HoldsReplica (state S.Store conn.new)
+        × IsUnchanged (state S.Store conn.old) (state S.Store conn.new)) }
+    ensures unusable { HasCleanDisk (state S.Store conn.new) → result ≡ Err Unusable
+        → conn.old.schema ≡ replica_schema → IsReplica (state S.Store conn.old).now.trees → ⊥ }
+    ensures survives { Survives (state S.Store conn.old) (state S.Store conn.new) (λ _. ⊥) }
+{
+    if !conn.is_autocommit() {
+        return Err(ReplicaError::Store);
+    }
+    if !is_of_replica(conn.schema()) {
+        return Err(ReplicaError::Unusable);
+    }
+    match is_replica(conn) {
+        Ok(true) => Ok(()),
+        Ok(false) => Err(ReplicaError::Unusable),
+        Err(error) => Err(error),
+    }
+}
+
+// whether what the tables store is a replica
+fn is_replica<S: Alter>(conn: &mut Connection<S>) -> Result<bool, ReplicaError>
+    requires schema { HasCleanDisk (state S.Store conn.old) → conn.old.schema ≡ replica_schema }
+    requires columns { HasCleanDisk (state S.Store conn.old)
+        → IsTrue (state S.Store conn.old).is_open
+        → HasTableColumns (state S.Store conn.old).now.trees }
+    ensures fits { HasCleanDisk (state S.Store conn.new) → IfOk result (λ fits.
+        IsTrue fits ↔ IsReplica (state S.Store conn.old).now.trees) }
+    ensures same { HasCleanDisk (state S.Store conn.new)
+        → OnOk result (IsUnchanged (state S.Store conn.old) (state S.Store conn.new)) }
+    ensures named { result ≡ Err Unusable → ⊥ }
+    ensures survives { Survives (state S.Store conn.old) (state S.Store conn.new) (λ _. ⊥) }
+{
+    let records = has_records(conn)?;
+    let mark = has_mark(conn)?;
+    Ok(records && mark)
+}
+
+// whether each stored row has a table's number, a key and a body
+fn has_records<S: Alter>(conn: &mut Connection<S>) -> Result<bool, ReplicaError>
+    requires schema { HasCleanDisk (state S.Store conn.old) → conn.old.schema ≡ replica_schema }
+    requires columns { HasCleanDisk (state S.Store conn.old)
+        → IsTrue (state S.Store conn.old).is_open
+        → HasTableColumns (state S.Store conn.old).now.trees }
+    ensures fits { HasCleanDisk (state S.Store conn.new) → IfOk result (λ fits.
+        IsTrue fits ↔ AreRowRecords ((state S.Store conn.old).now.trees 0)) }
+    ensures same { HasCleanDisk (state S.Store conn.new)
+        → OnOk result (IsUnchanged (state S.Store conn.old) (state S.Store conn.new)) }
+    ensures named { result ≡ Err Unusable → ⊥ }
+    ensures survives { Survives (state S.Store conn.old) (state S.Store conn.new) (λ _. ⊥) }
+{
+    match reported(stored_rows(conn)) {
+        Ok(rows) => Ok(are_records(&rows)),
+        Err(error) => Err(error),
+    }
+}
+
+fn are_records(rows: &[Row]) -> bool
+    ensures { result ≡ list_all is_shown_record rows.now }
+{
+    rows.iter().all(|row| is_record(row))
+}
+
+fn is_record(row: &Row) -> bool
+    ensures { result ≡ is_shown_record row.now }
+{
+    is_natural_at(row, 0) && is_blob_at(row, 1) && is_blob_at(row, 2)
+}
+
+// whether there is one mark, with the id 1 and a place
+fn has_mark<S: Alter>(conn: &mut Connection<S>) -> Result<bool, ReplicaError>
+    requires schema { HasCleanDisk (state S.Store conn.old) → conn.old.schema ≡ replica_schema }
+    requires columns { HasCleanDisk (state S.Store conn.old)
+        → IsTrue (state S.Store conn.old).is_open
+        → HasTableColumns (state S.Store conn.old).now.trees }
+    ensures fits { HasCleanDisk (state S.Store conn.new) → IfOk result (λ fits.
+        IsTrue fits ↔ ((place : ℕ) × HasCursor (state S.Store conn.old).now.trees place)) }
+    ensures same { HasCleanDisk (state S.Store conn.new)
+        → OnOk result (IsUnchanged (state S.Store conn.old) (state S.Store conn.new)) }
+    ensures named { result ≡ Err Unusable → ⊥ }
+    ensures survives { Survives (state S.Store conn.old) (state S.Store conn.new) (λ _. ⊥) }
+{
+    match reported(stored_marks(conn)) {
+        Ok(marks) => Ok(only_mark(&marks).is_some()),
+        Err(error) => Err(error),
+    }
+}

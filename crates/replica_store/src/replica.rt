@@ -1,0 +1,191 @@
+//! `Replica`: a connection to a replica's database.
+
+ghost use Rattle.std.specs.Prelude.{◌≡◌, ◌≢◌, ◌⊎◌, ◌<◌, ◌^◌, IfOk, IfErr, OnOk, Err};
+ghost use Rattle.sqlite.specs.Held.{state};
+ghost use Rattle.sqlite.specs.State.{HasCleanDisk, IsUnchanged, Survives};
+ghost use Rattle.sqlite.specs.Tree.{Trees};
+ghost use Rattle.replica_store.specs.Changes.{Commits};
+ghost use Rattle.replica_store.specs.Layout.{empty_schema};
+ghost use Rattle.std.specs.Arc.{arc_value};
+ghost use Rattle.replica_store.specs.Loading.{LoadsRows, AreSchemaRows};
+ghost use Rattle.replica_store.specs.Picture.{HasCursor, HoldsReplica, IsNewReplica, Stores};
+ghost use Rattle.replica_store.specs.declared.error.ReplicaError.TheVariants.{Unusable};
+
+use crate::commit::commit_once;
+use crate::create::create_once;
+use crate::error::{ReplicaError, reported};
+use crate::load::tables_of;
+use crate::open::{check, with_columns};
+use crate::read::{only_mark, stored_marks, stored_rows};
+use cs_apply::Tables;
+use cs_model::Schema;
+use par_apply::RowChange;
+use sqlite::{Alter, Connection};
+use std::alloc::Global;
+use std::sync::Arc;
+
+/// A subscriber's rows and its cursor in a database. What its contracts say of the database holds
+/// where nobody else writes it and the disk returns what was written.
+#[derive(Drop)]
+pub struct Replica<S: Alter> {
+    conn: Connection<S>,
+    schema: Arc<Schema>,
+}
+
+impl<S: Alter + Drop> Replica<S> {
+    /// Makes a replica without rows, with cursor 0, in a database without tables. It is one
+    /// transaction: a crash leaves the database as it was, or the whole replica. Answers `Store` if
+    /// anything is in the database's schema, or a transaction is open.
+    pub fn create(mut conn: Connection<S>, schema: Arc<Schema>) -> Result<Replica<S>, ReplicaError>
+        ensures blank { IfOk result (λ r. (conn.schema ≡ empty_schema) × (r.schema ≡ schema)) }
+        ensures made { IfOk result (λ r. HasCleanDisk (state S.Store r.conn)
+            → HoldsReplica (state S.Store r.conn)
+            × IsNewReplica (state S.Store r.conn).committed.trees) }
+        ensures stands { IfOk result (λ r. HasCleanDisk (state S.Store r.conn)
+            → (db : Trees) → (state S.Store r.conn).may_leave db
+            → db ≡ (state S.Store r.conn).committed.trees) }
+        ensures survives { IfOk result (λ r.
+            Survives (state S.Store conn) (state S.Store r.conn) IsNewReplica) }
+        ensures named { IfErr result (λ e. e ≢ Unusable) }
+    {
+        match reported(create_once(&mut conn)) {
+            Ok(()) => Ok(Replica { conn, schema }),
+            Err(error) => Err(error),
+        }
+    }
+
+    /// Opens the replica that a database holds. No statement writes. Answers `Unusable` if the
+    /// database's tables or its mark aren't those of a replica; `load` tests the rows' bodies.
+    pub fn open(conn: Connection<S>, schema: Arc<Schema>) -> Result<Replica<S>, ReplicaError>
+        ensures held { IfOk result (λ r. HasCleanDisk (state S.Store r.conn)
+            → HoldsReplica (state S.Store r.conn)
+            × IsUnchanged (state S.Store conn) (state S.Store r.conn)) }
+        ensures survives { IfOk result (λ r.
+            Survives (state S.Store conn) (state S.Store r.conn) (λ _. ⊥)) }
+        ensures same_schema { IfOk result (λ r. r.schema ≡ schema) }
+    {
+        let mut conn = with_columns(conn);
+        match check(&mut conn) {
+            Ok(()) => Ok(Replica { conn, schema }),
+            Err(error) => Err(error),
+        }
+    }
+}
+
+impl<S: Alter> Replica<S> {
+    /// Makes the changes in their order and sets the cursor, in one transaction. Whenever it
+    /// returns, a crash leaves the rows and the cursor as before the call, or all of them as after
+    /// it; after `Ok`, as after it. After an error, open the replica again: it has one of the two.
+    pub fn commit(&mut self, changes: &[RowChange], cursor: u64) -> Result<(), ReplicaError>
+        requires held { HasCleanDisk (state S.Store self.old.conn)
+            → HoldsReplica (state S.Store self.old.conn) }
+        requires below { cursor < 2 ^ 63 }
+        ensures ok { HasCleanDisk (state S.Store self.new.conn) → OnOk result
+            (HoldsReplica (state S.Store self.new.conn)
+            × Commits changes.now cursor (state S.Store self.old.conn).committed.trees
+            (state S.Store self.new.conn).committed.trees) }
+        ensures stands { HasCleanDisk (state S.Store self.new.conn) → OnOk result
+            ((db : Trees) → (state S.Store self.new.conn).may_leave db
+            → db ≡ (state S.Store self.new.conn).committed.trees) }
+        ensures crash { HasCleanDisk (state S.Store self.new.conn)
+            → (db : Trees) → (state S.Store self.new.conn).may_leave db
+            → (db ≡ (state S.Store self.old.conn).committed.trees)
+            ⊎ Commits changes.now cursor (state S.Store self.old.conn).committed.trees db }
+        ensures survives { Survives (state S.Store self.old.conn) (state S.Store self.new.conn)
+            (Commits changes.now cursor (state S.Store self.old.conn).committed.trees) }
+        ensures named { IfErr result (λ e. e ≢ Unusable) }
+        ensures same_schema { self.new.schema ≡ self.old.schema }
+    {
+        reported(commit_once(&mut self.conn, changes, cursor))
+    }
+
+    /// The stored cursor. Changes nothing.
+    pub fn cursor(&mut self) -> Result<u64, ReplicaError>
+        requires { HasCleanDisk (state S.Store self.old.conn)
+            → HoldsReplica (state S.Store self.old.conn) }
+        ensures stored { HasCleanDisk (state S.Store self.new.conn)
+            → IfOk result (HasCursor (state S.Store self.old.conn).committed.trees) }
+        ensures same { HasCleanDisk (state S.Store self.new.conn) → OnOk result
+            (IsUnchanged (state S.Store self.old.conn) (state S.Store self.new.conn)) }
+        ensures held { HasCleanDisk (state S.Store self.new.conn)
+            → OnOk result (HoldsReplica (state S.Store self.new.conn)) }
+        ensures usable { HasCleanDisk (state S.Store self.new.conn) → result ≡ Err Unusable → ⊥ }
+        ensures survives { Survives (state S.Store self.old.conn) (state S.Store self.new.conn)
+            (λ _. ⊥) }
+        ensures same_schema { self.new.schema ≡ self.old.schema }
+    {
+        match reported(stored_marks(&mut self.conn)) {
+            Ok(marks) => match only_mark(&marks) {
+                Some(place) => Ok(place),
+                None => Err(ReplicaError::Unusable),
+            },
+            Err(error) => Err(error),
+        }
+    }
+
+    /// The stored rows, as tables that keep every table of the schema, and the stored cursor.
+    /// Answers `Unusable` if what is stored isn't rows of the schema. Changes nothing.
+    pub fn load(&mut self, alloc: Global) -> Result<(Tables, u64), ReplicaError>
+        requires { HasCleanDisk (state S.Store self.old.conn)
+            → HoldsReplica (state S.Store self.old.conn) }
+        ensures rows { HasCleanDisk (state S.Store self.new.conn) → IfOk result (λ r.
+            LoadsRows (arc_value self.old.schema)
+            (Stores (state S.Store self.old.conn).committed.trees) r.0) }
+        ensures stored { HasCleanDisk (state S.Store self.new.conn) → IfOk result (λ r.
+            HasCursor (state S.Store self.old.conn).committed.trees r.1) }
+        ensures unusable { HasCleanDisk (state S.Store self.new.conn) → result ≡ Err Unusable
+            → AreSchemaRows (arc_value self.old.schema)
+            (Stores (state S.Store self.old.conn).committed.trees) → ⊥ }
+        ensures same { HasCleanDisk (state S.Store self.new.conn) → OnOk result
+            (IsUnchanged (state S.Store self.old.conn) (state S.Store self.new.conn)) }
+        ensures held { HasCleanDisk (state S.Store self.new.conn)
+            → OnOk result (HoldsReplica (state S.Store self.new.conn)) }
+        ensures survives { Survives (state S.Store self.old.conn) (state S.Store self.new.conn)
+            (λ _. ⊥) }
+        ensures same_schema { self.new.schema ≡ self.old.schema }
+    {
+        let cursor = self.cursor()?;
+        let tables = self.tables(alloc)?;
+        Ok((tables, cursor))
+    }
+
+    fn tables(&mut self, alloc: Global) -> Result<Tables, ReplicaError>
+        requires { HasCleanDisk (state S.Store self.old.conn)
+            → HoldsReplica (state S.Store self.old.conn) }
+        ensures rows { HasCleanDisk (state S.Store self.new.conn) → IfOk result
+            (LoadsRows (arc_value self.old.schema)
+            (Stores (state S.Store self.old.conn).committed.trees)) }
+        ensures unusable { HasCleanDisk (state S.Store self.new.conn) → result ≡ Err Unusable
+            → AreSchemaRows (arc_value self.old.schema)
+            (Stores (state S.Store self.old.conn).committed.trees) → ⊥ }
+        ensures same { HasCleanDisk (state S.Store self.new.conn) → OnOk result
+            (IsUnchanged (state S.Store self.old.conn) (state S.Store self.new.conn)) }
+        ensures held { HasCleanDisk (state S.Store self.new.conn)
+            → OnOk result (HoldsReplica (state S.Store self.new.conn)) }
+        ensures survives { Survives (state S.Store self.old.conn) (state S.Store self.new.conn)
+            (λ _. ⊥) }
+        ensures same_schema { self.new.schema ≡ self.old.schema }
+    {
+        match reported(stored_rows(&mut self.conn)) {
+            Ok(answer) => tables_of(alloc, &self.schema, &answer),
+            Err(error) => Err(error),
+        }
+    }
+
+    /// Hands the connection back.
+    pub fn into_connection(self) -> Connection<S>
+        ensures { result ≡ self.conn }
+    {
+        let (conn, _) = self.into_parts();
+        conn
+    }
+
+    /// Hands the connection and the schema back.
+    pub fn into_parts(self) -> (Connection<S>, Arc<Schema>)
+        ensures connection { result.0 ≡ self.conn }
+        ensures schema { result.1 ≡ self.schema }
+    {
+        let Replica { conn, schema } = self;
+        (conn, schema)
+    }
+}
