@@ -1,6 +1,6 @@
 #!/bin/sh
-# Runs each drive of examples/drives and of crates/rb_drive_cases five times, and compares report and status with what they
-# must be: threads take another course each time. NAME.drive is an input, NAME.report what it comes to, NAME.args its options
+# Runs each drive of examples/drives and of crates/rb_drive_cases three times with one applier, and twice each with 4 and with
+# 16, and compares report and status with what they must be: threads take another course each time. NAME.drive is an input, NAME.report what it comes to, NAME.args its options
 # and NAME.status its status, where it isn't 0. NAME.fault is the line after `rb_run: ` where it ends without a report. One
 # line for each.
 #   sh checks/drive.sh        needs the program as `rt run` leaves it (README.md)
@@ -36,12 +36,12 @@ for input in examples/drives/*.drive crates/rb_drive_cases/data/*.drive "$most.d
         wanted=$found report=$name.report said=
     fi
     why=
-    for _ in 1 2 3 4 5; do
+    for appliers in 1 1 1 4 4 16 16; do
         # the options are words
         # shellcheck disable=SC2086
-        timeout 60 "$program" drive $words <"$input" >"$work/out" 2>"$work/err"
+        timeout 60 "$program" drive $words --appliers $appliers <"$input" >"$work/out" 2>"$work/err"
         status=$?
-        [ "$status" -eq "$wanted" ] || why="status $status"
+        [ "$status" -eq "$wanted" ] || why="status $status with $appliers appliers"
         cmp -s "$work/out" "$report" || why="${why:+$why, }another report"
         first "$work/err" ''
         [ "$found" = "$said" ] || why="${why:+$why, }it says '$found'"

@@ -314,12 +314,12 @@ class Span:
 
 
 class Sub:
-    """desk part (floor, offered, link, closed, spans) and endpoint (cursor, tables)"""
+    """desk part (floor, offered, link, closed, spans) and endpoint (cursor, tables, fallen)"""
 
     def __init__(self, s, start, link):
         self.s, self.start, self.floor, self.offered = s, start, start, start
         self.link, self.closed, self.spans = link, False, []
-        self.cursor, self.tables = start, {}
+        self.cursor, self.tables, self.fallen = start, {}, False
 
     def flying(self):
         return [p for p in self.spans if p.state == 'flight']
@@ -537,8 +537,11 @@ class World:
                 return self.fly(span, now)
         raise Refused('Empty', self.front())
 
-    def do_accept(self, d):
+    def acceptance(self, d):
+        """the subscription of the delivery, and its cursor and tables once it has accepted it"""
         _, sub, link, first, last = self.delivery_of(d)
+        if sub.fallen:
+            raise Refused('Store')
         if sub.closed:
             raise Refused('Closed')
         if link != sub.link:
@@ -551,11 +554,21 @@ class World:
         for n in range(first, last + 1):
             joined += self.sequence[n - 1][3]
         try:
-            sub.tables = apply(self.schema, sub.tables, group(joined))
+            return sub, last, apply(self.schema, sub.tables, group(joined))
         except Conflict as c:
             raise Refused('Conflict', c.position, c.kind)
-        sub.cursor = last
-        return ['accepted %d' % last]
+
+    def do_accept(self, d):
+        sub, cursor, tables = self.acceptance(d)
+        sub.cursor, sub.tables = cursor, tables
+        return ['accepted %d' % cursor]
+
+    def do_crash(self, d, kept):
+        sub, cursor, tables = self.acceptance(d)
+        if kept:
+            sub.cursor, sub.tables = cursor, tables
+        sub.fallen = True
+        return ['crashed %d' % sub.cursor]
 
     def in_flight(self, d):
         number, sub, link, _, _ = self.delivery_of(d)
@@ -599,6 +612,14 @@ class World:
         self.cut(sub, cursor + 1, self.front())
         return ['link %d' % sub.link]
 
+    def do_resume(self, s):
+        sub = self.sub_of(s)
+        if not sub.fallen:
+            raise Refused('NotFallen')
+        answer = self.do_reconnect(s, sub.cursor)
+        sub.fallen = False
+        return answer
+
     def do_unsubscribe(self, s):
         sub = self.sub_of(s)
         if sub.closed:
@@ -638,8 +659,8 @@ class World:
 
     # -- script
     FORMS = {'table': 'h', 'publisher': '', 'feed': 'nh', 'end': 'n', 'reset': 'n', 'send': 'n', 'withdraw': 'nn', 'turn': '',
-             'subscribe': 'n', 'take': 'nn', 'takeany': 'n', 'accept': 'n', 'ack': 'n', 'nack': 'n', 'expire': 'n',
-             'reconnect': 'nn', 'unsubscribe': 'n', 'close': '', 'entry': 'n', 'combine': 'nn', 'rows': 'n',
+             'subscribe': 'n', 'take': 'nn', 'takeany': 'n', 'accept': 'n', 'crash': 'nb', 'ack': 'n', 'nack': 'n',
+             'expire': 'n', 'reconnect': 'nn', 'resume': 'n', 'unsubscribe': 'n', 'close': '', 'entry': 'n', 'combine': 'nn', 'rows': 'n',
              'left': ''}
 
     def line(self, raw):
@@ -668,7 +689,7 @@ class World:
             return None
         operands = []
         for kind, word in zip(self.FORMS[name], words[1:]):
-            value = number(word) if kind == 'n' else octets(word)
+            value = {'n': number, 'h': octets, 'b': bit}[kind](word)
             if value is None:
                 return None
             operands.append(value)
@@ -691,6 +712,10 @@ def octets(word):
     if not word or len(word) % 2 or any(b not in b'0123456789abcdefABCDEF' for b in word):
         return None
     return bytes.fromhex(word.decode())
+
+
+def bit(word):
+    return {b'0': 0, b'1': 1}.get(word)
 
 
 def lines_of(script):

@@ -166,8 +166,8 @@ need_status 0
 need_nothing err
 need "no word of '< FILE'" grep -q '< FILE' "$out"
 need "no word of statuses" grep -qi status "$out"
-for line in table publisher feed reset end send turn close subscribe take takeany accept ack nack expire reconnect \
-    unsubscribe entry rows left; do
+for line in table publisher feed reset end send turn close subscribe take takeany accept crash ack nack expire \
+    reconnect resume unsubscribe entry rows left; do
     need "no word of '$line'" grep -qw "$line" "$out"
 done
 for option in 'batch .* 1 to 256 .*16' 'window .* 1 to 64 .*4' 'timeout .* 1 to 1000000000 .*10' \

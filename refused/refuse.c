@@ -1,5 +1,5 @@
 /* Refuses the allocation whose number, from 1, is in REFUSE_AT; tells on exit how many were asked for. Those of fewer than
-   REFUSE_LEAST bytes aren't counted. */
+   REFUSE_LEAST bytes aren't counted. Threads draw the numbers from one count, so each number is drawn once. */
 #define _GNU_SOURCE
 #include <dlfcn.h>
 #include <errno.h>
@@ -25,7 +25,7 @@ static int refused(size_t n)
         least = number("REFUSE_LEAST");
         ready = 1;
     }
-    if (n < least || ++asked != refused_at)
+    if (n < least || __atomic_add_fetch(&asked, 1, __ATOMIC_SEQ_CST) != refused_at)
         return 0;
     errno = ENOMEM;
     return 1;

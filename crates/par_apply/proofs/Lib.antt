@@ -8,4 +8,5 @@ pub mod PlanLaws
 pub mod StageLaws
 pub mod CommitLaws
 pub mod ShardLaws
+pub mod KeySumLaws
 pub mod PositionLaws

@@ -80,10 +80,10 @@ fn change_own(
         (of_shard (shard_number shard.n) shard.number)
         (overlaid tables.now.rows rows.old.rows.entries) shape.now (change_seen change.now))) }
 {
-    let key = RowKey::of(alloc, table, shape, change)?;
-    if !shard.takes(&key) {
+    if !shard.takes(table, shape, change) {
         return Ok(());
     }
+    let key = RowKey::of(alloc, table, shape, change)?;
     change_row(rows, alloc, tables, key, shape, change)
 }
 

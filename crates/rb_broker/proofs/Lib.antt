@@ -1,3 +1,4 @@
 pub mod HoldLaws
 pub mod PlaceLaws
 pub mod SchemaLaws
+pub mod WhyLaws

@@ -5,7 +5,8 @@ use Rattle.rb_desk.specs.declared.refusal.DeskRefusal.{DeskRefusal}
 use Rattle.rb_desk.specs.declared.refusal.DeskRefusal.TheVariants as desk
 use Rattle.rb_desk.specs.declared.step.Step.TheVariants.{Place}
 use Rattle.rb_desk.specs.Calls.{prepare, place, close}
-use Rattle.rb_desk.specs.Journaled.{JournaledPicture, answer_after, closing_steps, journaled}
+use Rattle.rb_desk.specs.Journaled.{IsReplay, JournaledPicture, answer_after, closing_steps}
+use Rattle.rb_desk.specs.Journaled.{journaled}
 use Rattle.rb_sequence.specs.Cells.{Cells, CellToken, IsLastToken, IsTokenOf, LastToken}
 use Rattle.rb_sequence.specs.Entry.{Entry}
 use Rattle.rb_broker.specs.declared.refusal.PlaceRefusal.{PlaceRefusal}
@@ -33,17 +34,21 @@ ShowsWhy cells SequenceFull = Unit {0}
 ShowsWhy cells Occupied = Unit {0}
 ShowsWhy cells Memory = Unit {0}
 
--- why an item isn't placed under this number, by what the desk's `prepare` returns
-abbrev pub IsWhy : Cells → Option ℕ → Result ℕ DeskRefusal → ℕ → PlaceRefusal → Type 0
-IsWhy cells closing (Err desk.JournalFull) n why = why ≡ JournalFull
-IsWhy cells closing (Err desk.Closed) n why =
+-- why an item isn't placed, by what the desk's `prepare` returns
+abbrev pub IsWhy : Cells → Option ℕ → Result ℕ DeskRefusal → PlaceRefusal → Type 0
+IsWhy cells closing (Err desk.JournalFull) why = why ≡ JournalFull
+IsWhy cells closing (Err desk.Closed) why =
     (told : LastToken) × ShowsClosing cells closing (Some told) × (why ≡ Closed told)
-IsWhy cells closing (Err other) n why = why ≡ SequenceFull
-IsWhy cells closing (Ok next) n why = why ≡ Occupied
+IsWhy cells closing (Err other) why = why ≡ SequenceFull
+IsWhy cells closing (Ok next) why = why ≡ Occupied
 
 -- the number that the desk would place, or why none
 abbrev pub number_to_place : JournaledPicture → Result ℕ DeskRefusal
 number_to_place desk = answer_after (length desk.steps) (prepare desk.picture)
+
+-- why the desk places nothing
+abbrev pub RefusesPlace : Cells → JournaledPicture → PlaceRefusal → Type 0
+RefusesPlace cells desk why = IsWhy cells desk.picture.closing (number_to_place desk) why
 
 -- What the hold returns and leaves. The entry is in its cell, and the desk has placed its number;
 -- or the item comes back, and the desk is as before.
@@ -52,11 +57,14 @@ abbrev pub PlacesEntry : Result CellToken RefusedItem → Cells → Entry → Jo
 PlacesEntry (Ok told) cells entry old new = ShowsEntry cells told entry
     × (number_to_place old ≡ Ok entry.number) × (new ≡ journaled old Place (place old.picture))
 PlacesEntry (Err refused) cells entry old new = (refused.item ≡ entry.item)
-    × IsWhy cells old.picture.closing (number_to_place old) entry.number refused.why × (new ≡ old)
+    × RefusesPlace cells old refused.why × (new ≡ old)
 
--- why no number is placed that has no cell
-abbrev pub RefusesPlace : Cells → JournaledPicture → PlaceRefusal → Type 0
-RefusesPlace cells desk why = IsWhy cells desk.picture.closing (number_to_place desk) 0 why
+-- After the steps of some journal the desk refuses to place so. That a cell is set already, and out
+-- of memory, tell nothing of the desk.
+abbrev pub DeskRefuses : Cells → PlaceRefusal → Type 0
+DeskRefuses cells Occupied = Unit {0}
+DeskRefuses cells Memory = Unit {0}
+DeskRefuses cells why = (desk : JournaledPicture) × IsReplay desk × RefusesPlace cells desk why
 
 -- What the hold returns and leaves that closes. The desk is closed, and the token shows its closing
 -- number in the closing cell; or, if that cell is set and the desk isn't closed, the desk is as

@@ -7,7 +7,7 @@ ghost use Rattle.std.specs.Arc.{arc_value};
 ghost use Rattle.rb_intake.specs.Passes.{IsAllPulled};
 ghost use Rattle.rb_sequence.specs.Items.{CountsUp};
 ghost use Rattle.rb_sequence.specs.Cells.{IsLastToken};
-ghost use Rattle.rb_broker.specs.Placing.{ShowsEntry, ShowsWhy};
+ghost use Rattle.rb_broker.specs.Placing.{DeskRefuses, ShowsEntry, ShowsWhy};
 
 use crate::hall::Hall;
 use crate::locked::{Locked, refused};
@@ -171,6 +171,7 @@ impl<L: Hall> Broker<L> {
             (record { number = number; item = item })) }
         ensures err { IfErr result (λ refused. (refused.item ≡ item)
             × ShowsWhy L.cells refused.why) }
+        ensures desk { IfErr result (λ refused. DeskRefuses L.cells refused.why) }
     {
         let Ok(text) = item.text(alloc) else {
             let why = PlaceRefusal::Memory;

@@ -1,9 +1,9 @@
 //! What the broker's lock holds: the desk, what sets the cells of the sequence, and the register of
 //! the subscriptions.
 
-ghost use Rattle.std.specs.Prelude.{◌≡◌, ℕ, Err, IsSome, length};
+ghost use Rattle.std.specs.Prelude.{◌≡◌, Err, IsSome, length};
 ghost use Rattle.rb_desk.specs.declared.refusal.DeskRefusal.TheVariants as refusal;
-ghost use Rattle.rb_desk.specs.Journaled.{counted_steps, is_own};
+ghost use Rattle.rb_desk.specs.Journaled.{IsReplay, counted_steps, is_own};
 ghost use Rattle.std.proofs.Props.{props};
 ghost use Rattle.rb_sequence.specs.Cells.{IsReadyFor};
 ghost use Rattle.rb_broker.specs.Placing.{ClosesBoth, IsWhy, PlacesEntry, RefusesPlace};
@@ -38,10 +38,12 @@ impl<L: Hall> Locked<L> {
     /// Sets the cell of the entry's number, and places that number. Does not allocate.
     pub(crate) fn place(&mut self, ready: Ready) -> Result<Told, RefusedItem>
         requires { IsReadyFor L.cells ready }
-        ensures { PlacesEntry result L.cells ready.entry self.old.desk self.new.desk }
+        ensures placed { PlacesEntry result L.cells ready.entry self.old.desk self.new.desk }
+        ensures replay { IsReplay self.old.desk }
     {
         steps_are_counted();
         only_subscribe_and_close();
+        let _steps = self.desk.steps();
         let number = ready.number();
         match self.desk.prepare() {
             Err(why) => Err(refused(self.place_refusal(why), ready.into_entry())),
@@ -60,8 +62,10 @@ impl<L: Hall> Locked<L> {
 
     /// Why a number without a cell isn't placed.
     pub(crate) fn refuses(&self) -> PlaceRefusal
-        ensures { RefusesPlace L.cells self.now.desk result }
+        ensures why { RefusesPlace L.cells self.now.desk result }
+        ensures replay { IsReplay self.now.desk }
     {
+        let _steps = self.desk.steps();
         match self.desk.prepare() {
             Err(why) => self.place_refusal(why),
             Ok(_) => PlaceRefusal::Occupied,
@@ -71,8 +75,7 @@ impl<L: Hall> Locked<L> {
     // why an item isn't placed where the desk's `prepare` refuses
     fn place_refusal(&self, why: DeskRefusal) -> PlaceRefusal
         requires { number_to_place self.now.desk ≡ Err why }
-        ensures { (number : ℕ) → IsWhy L.cells self.now.desk.picture.closing (Err why) number
-            result }
+        ensures { IsWhy L.cells self.now.desk.picture.closing (Err why) result }
     {
         match why {
             DeskRefusal::JournalFull => PlaceRefusal::JournalFull,
@@ -84,7 +87,7 @@ impl<L: Hall> Locked<L> {
     // the refusal where the sequence is closed, with the token of the closing cell
     fn closed(&self) -> PlaceRefusal
         requires { IsSome self.now.desk.picture.closing }
-        ensures { IsWhy L.cells self.now.desk.picture.closing (Err refusal.Closed) 0 result }
+        ensures { IsWhy L.cells self.now.desk.picture.closing (Err refusal.Closed) result }
     {
         match &self.closing {
             Some(told) => PlaceRefusal::Closed(told.again()),

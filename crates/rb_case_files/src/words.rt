@@ -15,7 +15,7 @@ impl Options {
     /// The options of these words, such as `--batch 1 --strict`; the program's defaults where there
     /// are none. Returns `None` if a word is none of an option, or a limit is out of its range.
     pub fn of(words: &[u8]) -> Option<Options> {
-        let mut numbers = [16, 4, 10, 65_536, 64, 1];
+        let mut numbers = [16, 4, 10, 65_536, 64, 1, 1];
         let mut how = Answering::plain();
         let mut option: Option<usize> = None;
         for word in words.split(|byte| byte.is_ascii_whitespace()) {
@@ -33,12 +33,12 @@ impl Options {
                 _ => option = Some(place(word)?),
             }
         }
-        let [batch, window, timeout, capacity, intake, subscribers] = numbers;
+        let [batch, window, timeout, capacity, intake, appliers, subscribers] = numbers;
         match option {
             None => {
-                let config = Config::new(batch, window, timeout, capacity, intake, 1).ok()?;
+                let config = Config::new(batch, window, timeout, capacity, intake, appliers);
                 Some(Options {
-                    config,
+                    config: config.ok()?,
                     how,
                     subscribers,
                 })
@@ -56,7 +56,8 @@ fn place(option: &[u8]) -> Option<usize> {
         b"--timeout" => Some(2),
         b"--capacity" => Some(3),
         b"--intake" => Some(4),
-        b"--subscribers" => Some(5),
+        b"--appliers" => Some(5),
+        b"--subscribers" => Some(6),
         _ => None,
     }
 }

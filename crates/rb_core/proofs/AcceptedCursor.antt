@@ -11,7 +11,7 @@ use Rattle.rb_core.specs.declared.reply.Reply.TheVariants as reply
 use Rattle.rb_core.specs.declared.reply.BrokerRefusal.TheVariants as refusal
 use Rattle.rb_core.specs.Outcome.{outcome, delivery_of, accepted_by, accepted_at, accepted_as, with_endpoint}
 use Rattle.rb_core.specs.State.{State}
-use Rattle.rb_core.proofs.WorldEvents.{AcceptsBySteps}
+use Rattle.rb_core.proofs.WorldDeliveries.{AcceptsBySteps}
 
 -- the world before and after, the number of the delivery, and what the reply says
 module _ (steps : AcceptsBySteps) (old : State) (d s cursor : ℕ) (new : State) where

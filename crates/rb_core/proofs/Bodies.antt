@@ -171,6 +171,10 @@ told_sound spells schema old (event.Reconnect s cursor) (reply.Link link) feeds 
     subscriber_sound old s (say.reconnected link) (slice_get old.subscribers s) h
 told_sound spells schema old (event.Unsubscribe s) reply.Unsubscribed feeds h =
     subscriber_sound old s say.unsubscribed (slice_get old.subscribers s) h
+told_sound spells schema old (event.Crash d kept) (reply.Crashed s last) feeds h =
+    subscriber_sound old s (say.crashed old.sequence d kept) (slice_get old.subscribers s) h
+told_sound spells schema old (event.Resume s) (reply.Link link) feeds h =
+    subscriber_sound old s (say.resumed link) (slice_get old.subscribers s) h
 told_sound spells schema old event given feeds h = h
 
 answer_sound : ReadingSpells → (schema : List Shape) (old : World) (event : Event) (answer : Answer)

@@ -8,7 +8,7 @@ use Rattle.rb_desk.proofs.pictures.PictureLaws.{get_set, get_set_other}
 use Rattle.rb_sequence.specs.Entry.{Entry}
 use Rattle.rb_core.specs.World.{Subscriber, World}
 use Rattle.rb_core.specs.Moves.{Leads, StaysClosed}
-use Rattle.rb_core.proofs.Moving.{get_push, MovingKeeps, kept_through}
+use Rattle.rb_core.proofs.Moving.{get_push, MovingKeeps, crash_leaves, kept_through}
 
 -- ---- the sequence
 
@@ -42,6 +42,10 @@ closed_kept last sequence = record {
   unsubscribes = λ old new move h. subst (IsClosed last sequence) (sym move.kept)
       (record { closed = h.closed; same = h.same });
   withdraws = λ old new move h. subst (IsClosed last sequence) (sym move.kept)
+      (record { closed = h.closed; same = h.same });
+  crashes = λ old new move h. crash_leaves (IsClosed last sequence) old new move
+      (record { closed = h.closed; same = h.same }) (record { closed = h.closed; same = h.same });
+  resumes = λ old new move h. subst (IsClosed last sequence) (sym move.kept)
       (record { closed = h.closed; same = h.same });
 }
 
@@ -111,6 +115,18 @@ left_kept s accepted rows = record {
       (λ left. record { closed = refl; accepted_same = left.accepted_same; tables_same = left.tables_same }) h.0 h.1
       h.2);
   withdraws = λ old new move h. subst (Left s accepted rows) (sym move.kept) (h.0, h.1, h.2);
+  crashes = λ old new move h.
+      crash_leaves (Left s accepted rows) old new move
+      (becomes s accepted rows old.subscribers move.s move.subscriber _ move.found
+      (λ left. record { closed = left.closed; accepted_same = left.accepted_same; tables_same = left.tables_same })
+      h.0 h.1 h.2)
+      (becomes s accepted rows old.subscribers move.s move.subscriber _ move.found
+      (λ left. absurd (cc (sym left.closed ∙ move.would_accept.not_closed))) h.0 h.1 h.2);
+  resumes = λ old new move h.
+      subst (Left s accepted rows) (sym move.kept)
+      (becomes s accepted rows old.subscribers move.s move.subscriber _ move.found
+      (λ left. record { closed = left.closed; accepted_same = left.accepted_same; tables_same = left.tables_same })
+      h.0 h.1 h.2);
 }
 
 pub nothing_accepted : (old : World) (mids : List World) (new : World) (s : ℕ) (q : Subscriber)

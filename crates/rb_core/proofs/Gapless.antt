@@ -14,7 +14,7 @@ use Rattle.rb_subscriber.proofs.RunLaws.{parts, part_stays}
 use Rattle.rb_core.specs.World.{Subscriber, World, world_begun, cursor}
 use Rattle.rb_core.specs.Moves.{with_subscriber}
 use Rattle.rb_core.specs.Moves.{Leads}
-use Rattle.rb_core.proofs.Moving.{all_set, all_get, all_in, all_map, MovingKeeps, kept_through}
+use Rattle.rb_core.proofs.Moving.{all_set, all_get, all_in, all_map, MovingKeeps, crash_leaves, kept_through}
 
 -- a delivery's numbers are placed
 abbrev GaplessIsPlaced : List Entry → Delivery → Type 0
@@ -114,6 +114,7 @@ runs_kept = record {
         tables = move.base;
         link = move.link;
         closed = false;
+        fallen = false;
         deliveries = [];
       } in
       subst AreRuns (sym move.kept)
@@ -154,6 +155,28 @@ runs_kept = record {
       gapless_becomes old new move.s move.subscriber (record move.subscriber { closed = true }) runs move.found
       (λ h. record { run = h.run; placed = h.placed; deliveries = h.deliveries }) move.kept;
   withdraws = λ old new move runs. subst AreRuns (sym move.kept) runs;
+  crashes = λ old new move runs.
+      let q = move.subscriber in
+      let mark : Subscriber = record q { fallen = true } in
+      let both : Subscriber = record q {
+        accepted = q.accepted ++ brought old.sequence move.delivery;
+        tables = move.end.tables;
+        fallen = true;
+      } in
+      crash_leaves AreRuns old new move
+      (gapless_becomes old (with_subscriber old move.s mark) move.s q mark runs move.found
+      (λ h. record { run = h.run; placed = h.placed; deliveries = h.deliveries }) refl)
+      (gapless_becomes old (with_subscriber old move.s both) move.s q both runs move.found
+      (λ h. accepts_run old.sequence q move.delivery both h move.would_accept.some
+      (all_in (GaplessIsPlaced old.sequence) q.deliveries move.delivery h.deliveries move.offered) refl refl
+      (ap (λ es. q.accepted ++ es) (brought_after old.sequence move.delivery (cursor q) move.would_accept.next))) refl);
+  resumes = λ old new move runs.
+      let q = move.subscriber in
+      let r : Subscriber = record q { link = move.link; fallen = false } in
+      subst AreRuns (sym move.kept)
+      (all_set (IsRun old.sequence) old.subscribers move.s r runs
+      (let h = all_get (IsRun old.sequence) old.subscribers move.s q runs move.found in
+      record { run = h.run; placed = h.placed; deliveries = h.deliveries }));
 }
 
 pub gapless : (mids : List World) (new : World) (s : ℕ) (q : Subscriber) → Leads world_begun mids new

@@ -6,10 +6,12 @@ pub mod Sendings
 pub mod Bodies
 pub mod Singly
 pub mod Written
+pub mod WrittenFalls
 pub mod Numbers
 pub mod Marks
 pub mod DeskLaws
 pub mod Worlds
+pub mod WorldDeliveries
 pub mod WorldEvents
 pub mod RunLaws
 pub mod Pairs
@@ -19,6 +21,7 @@ pub mod TellSequence
 pub mod TellWithdrawals
 pub mod TellSubscriptions
 pub mod TellDeliveries
+pub mod TellFalls
 pub mod TellRuns
 pub mod ToldLaws
 pub mod ByText

@@ -1,10 +1,12 @@
 -- What holds of a world, move by move.
-use Rattle.std.proofs.Common.{◌≡◌, ℕ, zero, suc, inl, inr, List, [], ◌∷◌, ◌++◌, Some, sym, subst}
+use Rattle.std.proofs.Common.{◌≡◌, ℕ, zero, suc, inl, inr, true, List, [], ◌∷◌, ◌++◌, Some, sym, subst}
 use Rattle.std.specs.Prelude.{slice_get, slice_set}
 use Rattle.std.specs.List.{AllByRecursion}
 use Rattle.rb_core.specs.World.{World}
 use Rattle.rb_core.specs.Moves.{IsIn, AddsPublisher, Streams, Sends, Pulls, Places, Closes, Subscribes, Delivers}
-use Rattle.rb_core.specs.Moves.{Accepts, Reconnects, Unsubscribes, Withdraws, Moves, Leads}
+use Rattle.rb_core.specs.Moves.{Accepts, Reconnects, Unsubscribes, Withdraws, Crashes, Resumes, Moves, Leads}
+use Rattle.rb_core.specs.Moves.{with_subscriber}
+use Rattle.rb_subscriber.specs.Accept.{brought}
 
 -- ---- lists
 
@@ -57,6 +59,8 @@ pub record MovingKeeps (P : World → Type 0) : Type 0 where
   pub reconnects : (old new : World) → Reconnects old new → P old → P new
   pub unsubscribes : (old new : World) → Unsubscribes old new → P old → P new
   pub withdraws : (old new : World) → Withdraws old new → P old → P new
+  pub crashes : (old new : World) → Crashes old new → P old → P new
+  pub resumes : (old new : World) → Resumes old new → P old → P new
 
 kept_by : (P : World → Type 0) → MovingKeeps P → (old new : World) → Moves old new → P old → P new
 kept_by P keeps old new move h = elim move as (λ w. P new) [
@@ -83,7 +87,13 @@ kept_by P keeps old new move h = elim move as (λ w. P new) [
                       | inl x ↦ keeps.reconnects old new x h
                       | inr m ↦ elim m as (λ w. P new) [
                         | inl x ↦ keeps.unsubscribes old new x h
-                        | inr x ↦ keeps.withdraws old new x h
+                        | inr m ↦ elim m as (λ w. P new) [
+                          | inl x ↦ keeps.withdraws old new x h
+                          | inr m ↦ elim m as (λ w. P new) [
+                            | inl x ↦ keeps.crashes old new x h
+                            | inr x ↦ keeps.resumes old new x h
+                          ]
+                        ]
                       ]
                     ]
                   ]
@@ -95,6 +105,20 @@ kept_by P keeps old new move h = elim move as (λ w. P new) [
       ]
     ]
   ]
+]
+
+-- what a fall leaves, where it leaves the accept out and where it has it
+pub crash_leaves : (P : World → Type 0) (old new : World) (move : Crashes old new)
+    → P (with_subscriber old move.s (record move.subscriber { fallen = true }))
+    → P (with_subscriber old move.s (record move.subscriber {
+      accepted = move.subscriber.accepted ++ brought old.sequence move.delivery;
+      tables = move.end.tables;
+      fallen = true;
+    }))
+    → P new
+crash_leaves P old new move before after = elim move.kept as (λ w. P new) [
+  | inl is ↦ subst P (sym is) before
+  | inr is ↦ subst P (sym is) after
 ]
 
 -- what every move keeps holds behind all of them

@@ -12,7 +12,7 @@ use Rattle.rb_core.specs.World.{Sender, World, world_begun}
 use Rattle.rb_core.specs.Moves.{Leads, items_of}
 use Rattle.rb_sequence.specs.Items.{own_of}
 use Rattle.rb_core.specs.Moves.{IsFront, IsIn, IsSending}
-use Rattle.rb_core.proofs.Moving.{MovingKeeps, kept_through}
+use Rattle.rb_core.proofs.Moving.{MovingKeeps, crash_leaves, kept_through}
 
 -- ---- numbers
 
@@ -162,6 +162,8 @@ sent_kept p = record {
   unsubscribes = λ old new move h. subst (SendingsSent p) (sym move.kept) h;
   withdraws = λ old new move h. subst (SendingsSent p) (sym move.kept)
       (same_holds old.senders p move.p move.sender _ (own_of p (flow old)) move.found refl h);
+  crashes = λ old new move h. crash_leaves (SendingsSent p) old new move h h;
+  resumes = λ old new move h. subst (SendingsSent p) (sym move.kept) h;
 }
 
 -- ---- in order

@@ -15,7 +15,7 @@ use Rattle.rb_subscriber.specs.Endpoint.{Endpoint}
 use Rattle.rb_subscriber.proofs.RunLaws.{RowsKeepColumns, joined_valid}
 use Rattle.rb_core.specs.World.{Subscriber, World, world_begun, endpoint_of}
 use Rattle.rb_core.specs.Moves.{with_subscriber, Leads}
-use Rattle.rb_core.proofs.Moving.{all_set, all_get, MovingKeeps, kept_through}
+use Rattle.rb_core.proofs.Moving.{all_set, all_get, MovingKeeps, crash_leaves, kept_through}
 
 -- ---- the laws of endpoints
 
@@ -127,6 +127,15 @@ single_kept laws = record {
       (single_becomes old move.s move.subscriber _ h move.found
       (λ placed is. record { columns = is.columns; tables = is.tables }));
   withdraws = λ old new move h. subst AreSingle (sym move.kept) h;
+  crashes = λ old new move h. crash_leaves AreSingle old new move
+      (single_becomes old move.s move.subscriber _ h move.found
+      (λ placed is. record { columns = is.columns; tables = is.tables }))
+      (single_becomes old move.s move.subscriber _ h move.found (λ placed is.
+      let more = single_more laws move.subscriber old.sequence move.delivery move.end placed move.would_accept is in
+      record { columns = more.columns; tables = more.tables }));
+  resumes = λ old new move h. subst AreSingle (sym move.kept)
+      (single_becomes old move.s move.subscriber _ h move.found
+      (λ placed is. record { columns = is.columns; tables = is.tables }));
 }
 
 are_single : SinglyLaws → (mids : List World) (new : World) (s : ℕ) (q : Subscriber) → Leads world_begun mids new

@@ -195,10 +195,17 @@ take_any_tells shows schema old world now good h =
 
 -- an end that has accepted so far, with these tables
 abbrev as_end : Subscriber → ℕ → tables.TableState → Endpoint
-as_end q far rows = record { start = q.start; cursor = far; link = q.link; closed = q.closed; tables = rows }
+as_end q far rows = record {
+  start = q.start;
+  cursor = far;
+  link = q.link;
+  closed = q.closed;
+  fallen = q.fallen;
+  tables = rows;
+}
 
 -- what an end accepts: how far it is behind it, and with which tables
-end_behind : (sequence : List Entry) (q : Subscriber) (delivery : Delivery) (end : Endpoint) → delivery.last
+pub end_behind : (sequence : List Entry) (q : Subscriber) (delivery : Delivery) (end : Endpoint) → delivery.last
     ≤ length sequence → AcceptsDelivery (endpoint_of q) sequence delivery end
     → endpoint_of (say.with_accepted (brought sequence delivery) q) ≡ end
 end_behind sequence q delivery end placed accepts =
@@ -212,6 +219,36 @@ end_behind sequence q delivery end placed accepts =
     ap (λ n. as_end q n (say.if_applied q.tables (single q.tables (group_of (joined_bodies entries))))) far
     ∙ ap (as_end q delivery.last) rows ∙ sym accepts.kept
 
+-- the subscription whose end accepts a delivery that was made to it
+pub record AcceptingSubscriber (world : World) (delivery : Delivery) (end after : Endpoint) : Type 0 where
+  pub subscriber : Subscriber
+  pub found : slice_get world.subscribers delivery.sub ≡ Some subscriber
+  pub is : endpoint_of subscriber ≡ end
+  pub placed : delivery.last ≤ length world.sequence
+  pub accepts : AcceptsDelivery (endpoint_of subscriber) world.sequence delivery after
+  pub offered : delivery_told delivery.number subscriber ≡ Some delivery
+
+pub accepting_subscriber : AcceptSteps → (schema : List Shape) (old : State) (world : World) (delivery : Delivery)
+    (end after : Endpoint) → accept end old.sequence delivery ≡ Ok after → slice_get old.endpoints delivery.sub
+    ≡ Some end
+    → IsOf old.endpoints old.sequence delivery → IsDelivered world.subscribers delivery → IsToldBy schema old world
+    → AcceptingSubscriber world delivery end after
+accepting_subscriber steps schema old world delivery end after is found of offered h =
+    let at = subscriber_of_end schema old world delivery.sub end h found in
+    let q = at.0 in
+    let step = (steps end old.sequence delivery after).0 is in
+    let from_q : AcceptsDelivery (endpoint_of q) old.sequence delivery after =
+    subst (λ e. AcceptsDelivery e old.sequence delivery after) (sym at.2) step in
+    let same : offered.0 ≡ q = cc (sym offered.1 ∙ at.1) in
+    record {
+      subscriber = q;
+      found = at.1;
+      is = at.2;
+      placed = subst (λ (entries : List Entry). delivery.last ≤ length entries) (sym h.sequence) of.1;
+      accepts = subst (λ entries. AcceptsDelivery (endpoint_of q) entries delivery after) (sym h.sequence) from_q;
+      offered = subst (λ (x : Subscriber). delivery_told delivery.number x ≡ Some delivery) same offered.2;
+    }
+
 accepted_tells : AcceptSteps → (schema : List Shape) (old : State) (world : World) (d : ℕ) (delivery : Delivery)
     (end : Endpoint) (answer : Result Endpoint AcceptRefusal) → accept end old.sequence delivery ≡ answer
     → slice_get old.endpoints delivery.sub ≡ Some end → IsOf old.endpoints old.sequence delivery
@@ -221,41 +258,30 @@ accepted_tells steps schema old world d delivery end (Err why) is found of offer
     nothing_told schema world (event.Accept d) (reply.Refused (refusal.Accept why)) old refl h
 accepted_tells steps schema old world d delivery end (Ok after) is found of offered number h =
     let s = delivery.sub in
-    let at = subscriber_of_end schema old world s end h found in
-    let q = at.0 in
-    let step = (steps end old.sequence delivery after).0 is in
-    let placed : delivery.last ≤ length world.sequence =
-    subst (λ (entries : List Entry). delivery.last ≤ length entries) (sym h.sequence) of.1 in
-    let from_q : AcceptsDelivery (endpoint_of q) old.sequence delivery after =
-    subst (λ e. AcceptsDelivery e old.sequence delivery after) (sym at.2) step in
-    let accepts : AcceptsDelivery (endpoint_of q) world.sequence delivery after =
-    subst (λ entries. AcceptsDelivery (endpoint_of q) entries delivery after) (sym h.sequence) from_q in
-    let last : after.cursor ≡ delivery.last = ap (λ (e : Endpoint). e.cursor) accepts.kept in
+    let at = accepting_subscriber steps schema old world delivery end after is found of offered h in
+    let q = at.subscriber in
     let entries = brought world.sequence delivery in
     let r = say.with_accepted entries q in
     let new = with_subscriber world s r in
-    let rows : r.tables ≡ after.tables = ap (say.if_applied q.tables) accepts.tables in
-    let same : offered.0 ≡ q = cc (sym offered.1 ∙ at.1) in
-    let here : delivery_told delivery.number q ≡ Some delivery =
-    subst (λ (x : Subscriber). delivery_told delivery.number x ≡ Some delivery) same offered.2 in
+    let rows : r.tables ≡ after.tables = ap (say.if_applied q.tables) at.accepts.tables in
     let takes : Accepts world new = record {
       s = s;
       subscriber = q;
       delivery = delivery;
       end = after;
-      found = at.1;
-      offered = found_in (λ (x : Delivery). x.number == delivery.number) q.deliveries delivery here;
-      accepts = accepts;
+      found = at.found;
+      offered = found_in (λ (x : Delivery). x.number == delivery.number) q.deliveries delivery at.offered;
+      accepts = at.accepts;
       kept = ap (λ t. with_subscriber world s (record q { accepted = q.accepted ++ entries; tables = t })) rows;
     } in
-    let as_d : delivery_told d q ≡ Some delivery = subst (λ n. delivery_told n q ≡ Some delivery) number here in
+    let as_d : delivery_told d q ≡ Some delivery = subst (λ n. delivery_told n q ≡ Some delivery) number at.offered in
     let is_new : told schema world (event.Accept d) (reply.Accepted s after.cursor) ≡ new =
-    changed_is world s (say.accepted world.sequence d) q at.1
+    changed_is world s (say.accepted world.sequence d) q at.found
     ∙ ap (λ f. with_subscriber world s (say.accepted_told world.sequence f q)) as_d in
     move_told schema world new (event.Accept d) (reply.Accepted s after.cursor) (with_endpoint old s after) is_new
     (inr (inr (inr (inr (inr (inr (inr (inr (inr (inl takes))))))))))
-    (telling_with_both schema old world s q r after at.1 refl refl
-    (end_behind world.sequence q delivery after placed accepts) h)
+    (telling_with_both schema old world s q r after at.found refl refl
+    (end_behind world.sequence q delivery after at.placed at.accepts) h)
 
 accepted_at_tells : AcceptSteps → (schema : List Shape) (old : State) (world : World) (d : ℕ) (delivery : Delivery)
     (found : Option Endpoint) → slice_get old.endpoints delivery.sub ≡ found → IsOf old.endpoints old.sequence delivery

@@ -22,6 +22,7 @@ use Rattle.rb_core.proofs.TellSequence.{PlaceShows, CloseShows, turn_tells, clos
 use Rattle.rb_core.proofs.TellSubscriptions.{SubscribeShows, ReconnectShows, UnsubscribeShows, subscribe_tells}
 use Rattle.rb_core.proofs.TellSubscriptions.{reconnect_tells, unsubscribe_tells}
 use Rattle.rb_core.proofs.TellDeliveries.{TakeShows, TakeAnyShows, AckShows, NackShows, ExpireShows, AcceptSteps}
+use Rattle.rb_core.proofs.TellFalls.{crash_tells, resume_tells}
 use Rattle.rb_core.proofs.TellDeliveries.{take_tells, take_any_tells, accept_tells, ack_tells, nack_tells, expire_tells}
 
 -- every event keeps what a world keeps
@@ -69,11 +70,14 @@ outcome_tells laws schema old world (event.Take s now) feeds good h = take_tells
 outcome_tells laws schema old world (event.TakeAny now) feeds good h =
     take_any_tells laws.take_any schema old world now good h
 outcome_tells laws schema old world (event.Accept d) feeds good h = accept_tells laws.accept schema old world d good h
+outcome_tells laws schema old world (event.Crash d kept) feeds good h =
+    crash_tells laws.accept schema old world d kept good h
 outcome_tells laws schema old world (event.Ack d) feeds good h = ack_tells laws.ack schema old world d h
 outcome_tells laws schema old world (event.Nack d) feeds good h = nack_tells laws.nack schema old world d h
 outcome_tells laws schema old world (event.Expire now) feeds good h = expire_tells laws.expire schema old world now h
 outcome_tells laws schema old world (event.Reconnect s cursor) feeds good h =
     reconnect_tells laws.reconnect schema old world s cursor good h
+outcome_tells laws schema old world (event.Resume s) feeds good h = resume_tells laws.reconnect schema old world s h
 outcome_tells laws schema old world (event.Unsubscribe s) feeds good h =
     unsubscribe_tells laws.unsubscribe schema old world s h
 

@@ -56,6 +56,7 @@ tell_subscriptions_one schema start link =
       tables = empty_tables schema;
       link = link;
       closed = false;
+      fallen = false;
       deliveries = [];
     }
 

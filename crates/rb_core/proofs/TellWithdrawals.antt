@@ -100,7 +100,7 @@ entry_tells schema old world p n publisher entry e free found mine fresh good h 
     ∙ ap (say.withdrawn_entry world p n sender) there in
     move_told schema world (say.with_withdrawal world p n sender entry) (event.Withdraw p n) reply.Staged
     (out.withdrawn_entry old p publisher n entry).1 is
-    (inr (inr (inr (inr (inr (inr (inr (inr (inr (inr (inr (inr withdraws)))))))))))) (record {
+    (inr (inr (inr (inr (inr (inr (inr (inr (inr (inr (inr (inr (inl withdraws))))))))))))) (record {
       served = h.served;
       senders = set.senders;
       intake = h.intake;

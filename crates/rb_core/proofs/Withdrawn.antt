@@ -8,7 +8,7 @@ use Rattle.std.proofs.lemmas.Option.{slice_get_within}
 use Rattle.rb_sequence.specs.Entry.{Entry}
 use Rattle.rb_core.specs.World.{World, world_begun}
 use Rattle.rb_core.specs.Moves.{IsNew, Leads}
-use Rattle.rb_core.proofs.Moving.{all_get, all_map, MovingKeeps, kept_through}
+use Rattle.rb_core.proofs.Moving.{all_get, all_map, MovingKeeps, crash_leaves, kept_through}
 
 -- ---- the numbers
 
@@ -55,6 +55,8 @@ once_kept = record {
       omega (arith, move.is, slice_get_within old.sequence move.place move.entry move.placed) in
       subst WithdrawsOnce (sym move.kept)
       (record { distinct = (move.new_number, h.distinct); placed = ((some, last), h.placed) });
+  crashes = λ old new move h. crash_leaves WithdrawsOnce old new move h h;
+  resumes = λ old new move h. subst WithdrawsOnce (sym move.kept) h;
 }
 
 once_through : (mids : List World) (new : World) → Leads world_begun mids new → WithdrawsOnce new

@@ -140,6 +140,7 @@ pub record Subscribes (old new : World) : Type 0 where
           tables = base;
           link = link;
           closed = false;
+          fallen = false;
           deliveries = [];
         } ∷ [];
   }
@@ -175,6 +176,26 @@ pub record Accepts (old new : World) : Type 0 where
         tables = end.tables;
       })
 
+-- A subscription falls while it accepts a delivery that was made to it, and that its endpoint would
+-- accept. What it accepted and its tables are as before the accept or as after it, both together.
+-- It has fallen.
+pub record Crashes (old new : World) : Type 0 where
+  pub s : ℕ
+  pub subscriber : Subscriber
+  pub delivery : Delivery
+  pub end : Endpoint
+  pub found : slice_get old.subscribers s ≡ Some subscriber
+  pub offered : IsIn delivery subscriber.deliveries
+  pub would_accept : AcceptsDelivery (endpoint_of subscriber) old.sequence delivery end
+  pub kept : (new ≡ with_subscriber old s (record subscriber { fallen = true }))
+      ⊎ (new ≡ with_subscriber old s
+      (record subscriber {
+        accepted = subscriber.accepted
+            ++ brought old.sequence delivery;
+        tables = end.tables;
+        fallen = true;
+      }))
+
 -- a subscription continues under a link never issued before
 pub record Reconnects (old new : World) : Type 0 where
   pub s : ℕ
@@ -183,6 +204,19 @@ pub record Reconnects (old new : World) : Type 0 where
   pub found : slice_get old.subscribers s ≡ Some subscriber
   pub new_link : IsNew old.links link
   pub kept : new ≡ record (with_subscriber old s (record subscriber { link = link }))
+      { links = link ∷ old.links }
+
+-- a subscription that has fallen continues under a link never issued before, and has not fallen
+-- any more
+pub record Resumes (old new : World) : Type 0 where
+  pub s : ℕ
+  pub subscriber : Subscriber
+  pub link : ℕ
+  pub found : slice_get old.subscribers s ≡ Some subscriber
+  pub fell : subscriber.fallen ≡ true
+  pub new_link : IsNew old.links link
+  pub kept : new
+      ≡ record (with_subscriber old s (record subscriber { link = link; fallen = false }))
       { links = link ∷ old.links }
 
 -- closes a subscription
@@ -201,7 +235,8 @@ Moves old new =
     ⊎ (Subscribes old new
     ⊎ (Delivers old new
     ⊎ (Accepts old new
-    ⊎ (Reconnects old new ⊎ (Unsubscribes old new ⊎ Withdraws old new)))))))))))
+    ⊎ (Reconnects old new ⊎ (Unsubscribes old new ⊎ (Withdraws old new
+    ⊎ (Crashes old new ⊎ Resumes old new)))))))))))))
 
 -- a sequence of moves, through these worlds
 abbrev pub Leads : World → List World → World → Type 0

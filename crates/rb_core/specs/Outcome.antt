@@ -2,9 +2,9 @@
 -- except that a refused turn pulls the next item into the hand. Where an event is a step of the
 -- desk, the desk's own refusals come after those of the world, and `JournalFull` is the first of
 -- them.
-use Rattle.std.specs.Prelude.{ℕ, suc, ◌+◌, ⊤, true, List, [], ◌∷◌, ◌++◌, length, Option, Some}
-use Rattle.std.specs.Prelude.{None, Result, Ok, Err, ◌==◌, slice_get, slice_set, nat_le}
-use Rattle.std.specs.Prelude.{if◌then◌else◌, ◌-◌, not}
+use Rattle.std.specs.Prelude.{ℕ, suc, ◌+◌, ⊤, Bool, true, false, List, [], ◌∷◌, ◌++◌, length}
+use Rattle.std.specs.Prelude.{Option, Some, None, Result, Ok, Err, ◌==◌, slice_get, slice_set}
+use Rattle.std.specs.Prelude.{if◌then◌else◌, nat_le, ◌-◌, not}
 use Rattle.std.specs.List.{find}
 use Rattle.cs_model.specs.Section.{Section}
 use Rattle.cs_invert.specs.Inverse.{withdrawal_of}
@@ -26,7 +26,7 @@ use Rattle.rb_desk.specs.declared.refusal.DeskRefusal.TheVariants.{NoSuch}
 use Rattle.rb_desk.specs.Picture.{Picture}
 use Rattle.rb_sequence.specs.declared.item.Item.{Item}
 use Rattle.rb_sequence.specs.Entry.{Entry}
-use Rattle.rb_subscriber.specs.Accept.{accept}
+use Rattle.rb_subscriber.specs.Accept.{accept, crash}
 use Rattle.rb_subscriber.specs.declared.refusal.AcceptRefusal.{AcceptRefusal}
 use Rattle.rb_subscriber.specs.Endpoint.{Endpoint, new_endpoint}
 use Rattle.rb_core.specs.declared.event.Event.{Event}
@@ -299,6 +299,24 @@ accepted_as old (Some delivery) = accepted_at old delivery (slice_get old.endpoi
 abbrev pub accepted : State → ℕ → Reply × State
 accepted old d = accepted_as old (delivery_of old d)
 
+-- Crash: as the delivery's endpoint does, which falls. It is refused where Accept is.
+abbrev pub crashed_by : State → ℕ → Result Endpoint AcceptRefusal → Reply × State
+crashed_by old s (Ok end) = (reply.Crashed s end.cursor, with_endpoint old s end)
+crashed_by old s (Err why) = refused old (refusal.Accept why)
+
+abbrev pub crashed_at : State → Delivery → Bool → Option Endpoint → Reply × State
+crashed_at old delivery kept None = refused old refusal.NoDelivery
+crashed_at old delivery kept (Some end) =
+    crashed_by old delivery.sub (crash end old.sequence delivery kept)
+
+abbrev pub crashed_for : State → Bool → Option Delivery → Reply × State
+crashed_for old kept None = refused old refusal.NoDelivery
+crashed_for old kept (Some delivery) =
+    crashed_at old delivery kept (slice_get old.endpoints delivery.sub)
+
+abbrev pub crashed : State → ℕ → Bool → Reply × State
+crashed old d kept = crashed_for old kept (delivery_of old d)
+
 -- Ack: as the desk does, with the delivery's link and its endpoint's cursor.
 abbrev pub acked_by_desk : State → Result ℕ DeskRefusal → Picture → Reply × State
 acked_by_desk old (Ok floor) picture =
@@ -364,6 +382,25 @@ reconnected_for old s cursor (Some end) =
 abbrev pub reconnected : State → ℕ → ℕ → Reply × State
 reconnected old s cursor = reconnected_for old s cursor (slice_get old.endpoints s)
 
+-- Resume: refused unless the endpoint has fallen. Else it is a reconnect with the endpoint's own
+-- cursor; the endpoint continues under the new link, and has not fallen any more.
+abbrev pub resumed_with : State → ℕ → Endpoint → Result ℕ DeskRefusal → Picture → Reply × State
+resumed_with old s end (Ok link) picture = (
+  reply.Link link,
+  record (with_endpoint old s (record end { link = link; fallen = false }))
+      { desk = picture; steps = suc old.steps },
+)
+resumed_with old s end (Err why) picture = refused old (refusal.Desk why)
+
+abbrev pub resumed_for : State → ℕ → Option Endpoint → Reply × State
+resumed_for old s None = refused old (refusal.Desk NoSuch)
+resumed_for old s (Some end) = if not end.fallen then refused old refusal.NotFallen else
+    resumed_with old s end (answer_after old.steps (desk.reconnect old.desk s end.cursor).0)
+    (desk.reconnect old.desk s end.cursor).1
+
+abbrev pub resumed : State → ℕ → Reply × State
+resumed old s = resumed_for old s (slice_get old.endpoints s)
+
 -- Unsubscribe: as the desk does, with the endpoint's link; the endpoint is closed.
 abbrev pub unsubscribed_with : State → ℕ → Endpoint → Result ⊤ DeskRefusal → Picture → Reply × State
 unsubscribed_with old s end (Ok done) picture = (
@@ -398,8 +435,10 @@ outcome old (event.Subscribe start) = subscribed old start
 outcome old (event.Take s now) = delivered old s now
 outcome old (event.TakeAny now) = delivered_any old now
 outcome old (event.Accept d) = accepted old d
+outcome old (event.Crash d kept) = crashed old d kept
 outcome old (event.Ack d) = acked old d
 outcome old (event.Nack d) = nacked old d
 outcome old (event.Expire now) = expired old now
 outcome old (event.Reconnect s cursor) = reconnected old s cursor
+outcome old (event.Resume s) = resumed old s
 outcome old (event.Unsubscribe s) = unsubscribed old s

@@ -42,6 +42,7 @@ subscribed_to deliveries = record {
   tables = empty_tables [];
   link = 1;
   closed = false;
+  fallen = false;
   deliveries = deliveries;
 }
 

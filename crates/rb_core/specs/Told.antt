@@ -1,6 +1,6 @@
 -- The world that events and replies report: what was fed, staged, sent, placed, delivered and
 -- accepted, without a look at the broker.
-use Rattle.std.specs.Prelude.{◌≡◌, ◌==◌, ℕ, ◌-◌, ◌<◌, true, false, map, List, [], ◌∷◌, ◌++◌}
+use Rattle.std.specs.Prelude.{◌≡◌, ◌==◌, ℕ, ◌-◌, ◌<◌, Bool, true, false, map, List, [], ◌∷◌, ◌++◌}
 use Rattle.std.specs.Prelude.{length, ◌↔◌}
 use Rattle.std.specs.Prelude.{Option, Some, None, Result, Ok, Err, slice_get}
 use Rattle.std.specs.List.{AllByRecursion, find}
@@ -142,6 +142,7 @@ subscribed schema old start link = record old {
         tables = empty_tables schema;
         link = link;
         closed = false;
+        fallen = false;
         deliveries = [];
       } ∷ [];
 }
@@ -174,8 +175,20 @@ accepted_told sequence (Some delivery) q = with_accepted (brought sequence deliv
 abbrev pub accepted : List Entry → ℕ → Subscriber → Subscriber
 accepted sequence d q = accepted_told sequence (delivery_told d q) q
 
+-- It falls while it accepts the delivery of this number. It is as after the accept if that was
+-- kept, else as before it.
+abbrev pub if_kept : Bool → Subscriber → Subscriber → Subscriber
+if_kept true before after = after
+if_kept false before after = before
+
+abbrev pub crashed : List Entry → ℕ → Bool → Subscriber → Subscriber
+crashed sequence d kept q = record (if_kept kept q (accepted sequence d q)) { fallen = true }
+
 abbrev pub reconnected : ℕ → Subscriber → Subscriber
 reconnected link q = record q { link = link }
+
+abbrev pub resumed : ℕ → Subscriber → Subscriber
+resumed link q = record q { link = link; fallen = false }
 
 abbrev pub unsubscribed : Subscriber → Subscriber
 unsubscribed q = record q { closed = true }
@@ -204,6 +217,10 @@ told schema old (event.Accept d) (reply.Accepted s last) =
 told schema old (event.Reconnect s cursor) (reply.Link link) =
     record (subscriber_changed old s (reconnected link)) { links = link ∷ old.links }
 told schema old (event.Unsubscribe s) reply.Unsubscribed = subscriber_changed old s unsubscribed
+told schema old (event.Crash d kept) (reply.Crashed s last) =
+    subscriber_changed old s (crashed old.sequence d kept)
+told schema old (event.Resume s) (reply.Link link) =
+    record (subscriber_changed old s (resumed link)) { links = link ∷ old.links }
 told schema old event given = old
 
 -- out of memory changes nothing

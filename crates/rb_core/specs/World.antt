@@ -15,8 +15,8 @@ pub record Sender : Type 0 where
   pub sent : List Item
 
 -- A subscription: the number after which it began, the tables that it began with, the accepted
--- entries in order, and its tables. It has its current link, whether it is closed, and all
--- deliveries ever made to it.
+-- entries in order, and its tables. It has its current link, whether it is closed, whether it has
+-- fallen, and all deliveries ever made to it.
 pub record Subscriber : Type 0 where
   pub start : ℕ
   pub base : tables.TableState
@@ -24,6 +24,7 @@ pub record Subscriber : Type 0 where
   pub tables : tables.TableState
   pub link : ℕ
   pub closed : Bool
+  pub fallen : Bool
   pub deliveries : List Delivery
 
 -- The abstract world. It has the publishers and the intake of sent items in order. The item in hand
@@ -64,5 +65,6 @@ endpoint_of q = record {
   cursor = cursor q;
   link = q.link;
   closed = q.closed;
+  fallen = q.fallen;
   tables = q.tables;
 }

@@ -1,4 +1,4 @@
-//! Events of deliveries: accept, acknowledge, negatively acknowledge, expire.
+//! Events of deliveries: accept, crash, acknowledge, negatively acknowledge, expire.
 
 ghost use Rattle.std.specs.Prelude.{◌≡◌, ℕ, IfOk, IfSome, OnErr, Some};
 ghost use Rattle.std.specs.Option.{option_copied};
@@ -54,6 +54,36 @@ impl Parts {
             Err(AcceptError::Memory) => return Err(AllocError),
         };
         Ok(Reply::Accepted {
+            subscription,
+            cursor,
+        })
+    }
+
+    /// Lets a delivery's subscription fall while it applies the delivery's entries.
+    pub(crate) fn crash(
+        &mut self,
+        alloc: Global,
+        delivery: u64,
+        kept: bool,
+    ) -> Result<Reply, AllocError>
+        requires { IsWorld self.old }
+        ensures ok { IfOk result (λ reply.
+            outcome.crashed self.old delivery kept ≡ (reply, self.new)) }
+        ensures err { OnErr result (self.new ≡ self.old) }
+        ensures memory { OnErr result (MayRunOut (event.Crash delivery kept)
+            (outcome.crashed self.old delivery kept).0) }
+    {
+        let Some(delivery) = self.known(delivery) else {
+            return refused(BrokerRefusal::NoDelivery);
+        };
+        let subscription = delivery.sub();
+        let end = &mut self.endpoints[subscription as usize];
+        let cursor = match end.crash(alloc, &self.sequence, &delivery, kept) {
+            Ok(cursor) => cursor,
+            Err(AcceptError::Refused(why)) => return Ok(Reply::Refused(BrokerRefusal::Accept(why))),
+            Err(AcceptError::Memory) => return Err(AllocError),
+        };
+        Ok(Reply::Crashed {
             subscription,
             cursor,
         })

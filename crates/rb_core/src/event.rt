@@ -32,6 +32,10 @@ pub enum Event {
     TakeAny { now: u64 },
     /// Accepts a delivery: its subscription applies the entries.
     Accept { delivery: u64 },
+    /// The delivery's subscription falls while it accepts the delivery. If its durable store has
+    /// `kept` the accept, it is as after it, else as before it. It accepts nothing more until it is
+    /// resumed.
+    Crash { delivery: u64, kept: bool },
     /// Acknowledges a delivery: its entries are settled.
     Ack { delivery: u64 },
     /// Negatively acknowledges a delivery: its entries are ready again.
@@ -40,6 +44,8 @@ pub enum Event {
     Expire { now: u64 },
     /// Continues a subscription after number `cursor`, under a new link.
     Reconnect { subscription: u64, cursor: u64 },
+    /// Continues a subscription that has fallen, after its own cursor and under a new link.
+    Resume { subscription: u64 },
     /// Closes a subscription.
     Unsubscribe { subscription: u64 },
 }

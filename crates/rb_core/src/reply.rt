@@ -31,6 +31,8 @@ pub enum Reply {
     Delivery(Delivery),
     /// The delivery's entries are applied. Its subscription has accepted up to `cursor`.
     Accepted { subscription: u64, cursor: u64 },
+    /// The delivery's subscription has fallen. It has accepted up to `cursor`.
+    Crashed { subscription: u64, cursor: u64 },
     /// The delivery is settled. Its subscription has settled all entries up to this number.
     Floor(u64),
     /// The delivery is returned.
@@ -56,7 +58,7 @@ pub enum BrokerRefusal {
     /// `Feed`, `Reset`, `End`, `Send`, `Withdraw`: no publisher has this number.
     #[error("there is no such publisher")]
     NoPublisher,
-    /// `Accept`, `Ack`, `Nack`: no delivery has this number.
+    /// `Accept`, `Crash`, `Ack`, `Nack`: no delivery has this number.
     #[error("there is no such delivery")]
     NoDelivery,
     /// `Publisher`: there are 64 publishers.
@@ -89,11 +91,14 @@ pub enum BrokerRefusal {
     /// `End`: the first refused section, at this index, has another shape than its table.
     #[error("section {0} has another shape than its table")]
     ShapeDiffers(u64),
-    /// `Turn`, `Subscribe`, `Take`, `TakeAny`, `Ack`, `Nack`, `Reconnect`, `Unsubscribe`: the desk
-    /// refuses the call.
+    /// `Resume`: the subscription hasn't fallen.
+    #[error("the subscription has not fallen")]
+    NotFallen,
+    /// `Turn`, `Subscribe`, `Take`, `TakeAny`, `Ack`, `Nack`, `Reconnect`, `Resume`, `Unsubscribe`:
+    /// the desk refuses the call.
     #[error(transparent)]
     Desk(DeskRefusal),
-    /// `Accept`: the subscription's endpoint refuses the delivery.
+    /// `Accept`, `Crash`: the subscription's endpoint refuses the delivery.
     #[error(transparent)]
     Accept(AcceptRefusal),
 }
@@ -117,6 +122,10 @@ impl fmt::Display for Reply {
                 subscription,
                 cursor,
             } => { write!(f, "subscription {subscription} has accepted up to {cursor}") }
+            Reply::Crashed {
+                subscription,
+                cursor,
+            } => { write!(f, "subscription {subscription} has fallen at {cursor}") }
             Reply::Floor(floor) => write!(f, "settled up to {floor}"),
             Reply::Returned => f.write_str("the delivery is returned"),
             Reply::Expired(count) => write!(f, "{count} deliveries expired"),

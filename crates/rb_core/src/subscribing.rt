@@ -1,4 +1,4 @@
-//! Events of subscriptions: subscribe, take, reconnect, unsubscribe.
+//! Events of subscriptions: subscribe, take, reconnect, resume, unsubscribe.
 
 ghost use Rattle.std.specs.Prelude.{◌≡◌, IfOk, OnErr};
 ghost use Rattle.std.specs.Arc.{arc_value};
@@ -114,6 +114,31 @@ impl Parts {
         match self.desk.reconnect(alloc, subscription, cursor) {
             Ok(link) => {
                 self.endpoints[s].reconnect(link);
+                Ok(Reply::Link(link))
+            }
+            Err(DeskError::Refused(why)) => refused(BrokerRefusal::Desk(why)),
+            Err(DeskError::Memory) => Err(AllocError),
+        }
+    }
+
+    /// Continues a subscription that has fallen, after its own cursor and under a new link.
+    pub(crate) fn resume(&mut self, alloc: Global, subscription: u64) -> Result<Reply, AllocError>
+        ensures ok { IfOk result (λ reply.
+            outcome.resumed self.old subscription ≡ (reply, self.new)) }
+        ensures err { OnErr result (self.new ≡ self.old) }
+        ensures memory { OnErr result (MayRunOut (event.Resume subscription)
+            (outcome.resumed self.old subscription).0) }
+    {
+        let s = subscription as usize;
+        let Some(end) = self.endpoints.get(s) else {
+            return refused(BrokerRefusal::Desk(DeskRefusal::NoSuch));
+        };
+        if !end.is_fallen() {
+            return refused(BrokerRefusal::NotFallen);
+        }
+        match self.desk.reconnect(alloc, subscription, end.cursor()) {
+            Ok(link) => {
+                self.endpoints[s].resume(link);
                 Ok(Reply::Link(link))
             }
             Err(DeskError::Refused(why)) => refused(BrokerRefusal::Desk(why)),

@@ -147,6 +147,7 @@ impl Parts {
             Event::Take { subscription, now } => self.take(*subscription, *now),
             Event::TakeAny { now } => self.take_any(*now),
             Event::Accept { delivery } => self.accept(alloc, *delivery),
+            Event::Crash { delivery, kept } => self.crash(alloc, *delivery, *kept),
             Event::Ack { delivery } => Ok(self.ack(*delivery)),
             Event::Nack { delivery } => self.nack(*delivery),
             Event::Expire { now } => self.expire(*now),
@@ -154,6 +155,7 @@ impl Parts {
                 subscription,
                 cursor,
             } => self.reconnect(alloc, *subscription, *cursor),
+            Event::Resume { subscription } => self.resume(alloc, *subscription),
             Event::Unsubscribe { subscription } => Ok(self.unsubscribe(*subscription)),
         }
     }

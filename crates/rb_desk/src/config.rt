@@ -170,7 +170,8 @@ impl Config {
 
     /// How many workers apply a changeset, 1 to 16.
     pub fn appliers(&self) -> u64
-        ensures { result ≡ self.now.appliers }
+        ensures value { result ≡ self.now.appliers }
+        ensures range { (1 ≤ result) × (result ≤ 16) }
     {
         self.appliers
     }

@@ -6,11 +6,13 @@ ghost use Rattle.rb_drive.specs.Owners.{beginning_of};
 
 use crate::signs::Signs;
 use cs_apply::Conflict;
+use par_apply::Open;
 use rb_broker::{Broker, Hall, TakeError};
 use rb_desk::{Delivery, DeskError, DeskRefusal};
-use rb_subscriber::{AcceptAloneError, AcceptRefusal, Subscription};
+use rb_subscriber::{AcceptRefusal, Subscription, SubscriptionError, Workers};
 use std::alloc::Global;
 use std::sync::Wait;
+use std::thread::Threads;
 
 /// How a subscriber ended.
 #[derive(Clone, Copy, Debug, PartialEq, Eq)]
@@ -41,20 +43,32 @@ impl<L: Hall> Accepting<L> {
         }
     }
 
-    /// Takes, accepts and acknowledges until it is drained, conflicts, or all loops end. Ends all
-    /// loops itself if memory runs out or a call is refused that should not be.
-    pub fn accept<R: Wait>(&mut self, rt: &R, alloc: Global, broker: &Broker<L>, signs: &Signs)
+    /// Takes, accepts and acknowledges until it is drained, conflicts, or all loops end. As many
+    /// workers apply a delivery as the broker's limits say. Ends all loops itself if memory runs out
+    /// or a call is refused that should not be.
+    pub fn accept<R: Threads + Wait + Sync>(
+        &mut self,
+        rt: &R,
+        alloc: Global,
+        broker: &Broker<L>,
+        signs: &Signs,
+    )
         ensures { beginning_of self.new.subscription ≡ beginning_of self.old.subscription }
     {
-        self.ending = accept_all(rt, alloc, broker, signs, &mut self.subscription);
+        let workers = Workers {
+            rt,
+            n: broker.config().appliers() as usize,
+            gate: &Open,
+        };
+        self.ending = accept_all(&workers, alloc, broker, signs, &mut self.subscription);
         if self.ending == SubscriberEnd::Stopped {
             signs.stop();
         }
     }
 }
 
-fn accept_all<L: Hall, R: Wait>(
-    rt: &R,
+fn accept_all<L: Hall, R: Threads + Wait + Sync>(
+    workers: &Workers<R, Open>,
     alloc: Global,
     broker: &Broker<L>,
     signs: &Signs,
@@ -62,6 +76,7 @@ fn accept_all<L: Hall, R: Wait>(
 ) -> SubscriberEnd
     ensures { beginning_of subscription.new ≡ beginning_of subscription.old }
 {
+    let rt = workers.rt;
     let mut looks: u64 = 0;
     for _ in rt.forever() {
         let seen = signs.placed.rings();
@@ -72,7 +87,7 @@ fn accept_all<L: Hall, R: Wait>(
         match broker.take(rt, alloc, subscription, 0) {
             Ok(delivery) => {
                 looks = 0;
-                if let Some(ending) = settle(rt, alloc, broker, subscription, &delivery) {
+                if let Some(ending) = settle(workers, alloc, broker, subscription, &delivery) {
                     return ending;
                 }
             }
@@ -89,8 +104,8 @@ fn accept_all<L: Hall, R: Wait>(
 
 // Accepts a delivery and acknowledges it. One whose entries this thread doesn't see yet goes back.
 // Returns how the subscriber ends, if it does.
-fn settle<L: Hall, R: Wait>(
-    rt: &R,
+fn settle<L: Hall, R: Threads + Wait + Sync>(
+    workers: &Workers<R, Open>,
     alloc: Global,
     broker: &Broker<L>,
     subscription: &mut Subscription<L>,
@@ -98,12 +113,13 @@ fn settle<L: Hall, R: Wait>(
 ) -> Option<SubscriberEnd>
     ensures { beginning_of subscription.new ≡ beginning_of subscription.old }
 {
-    let settled = match subscription.accept_alone(alloc, broker.sequence(), delivery) {
+    let rt = workers.rt;
+    let settled = match subscription.accept(workers, alloc, broker.sequence(), delivery) {
         Ok(_) => broker.ack(rt, alloc, subscription, delivery).is_ok(),
-        Err(AcceptAloneError::Unseen { .. }) => {
+        Err(SubscriptionError::Unseen { .. }) => {
             broker.nack(rt, alloc, subscription, delivery).is_ok()
         }
-        Err(AcceptAloneError::Refused(AcceptRefusal::Conflict(conflict))) => {
+        Err(SubscriptionError::Refused(AcceptRefusal::Conflict(conflict))) => {
             return Some(SubscriberEnd::Conflict(conflict));
         }
         Err(_) => false,

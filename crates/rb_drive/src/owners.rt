@@ -195,7 +195,7 @@ fn placed<L: Hall, R: Wait>(
 }
 
 // what a subscriber's thread does
-fn accepted<L: Hall, R: Wait>(
+fn accepted<L: Hall, R: Threads + Wait + Sync>(
     rt: &R,
     alloc: Global,
     broker: &Broker<L>,

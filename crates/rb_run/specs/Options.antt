@@ -29,23 +29,25 @@ abbrev pub limits_or : Option ConfigFault → Limits → Result Limits ConfigFau
 limits_or None limits = Ok limits
 limits_or (Some fault) limits = Err fault
 
-abbrev pub limits_of : ℕ → ℕ → ℕ → ℕ → ℕ → Result Limits ConfigFault
-limits_of batch window timeout capacity intake =
-    limits_or (first_out_of_range batch window timeout capacity intake 1)
+abbrev pub limits_of : ℕ → ℕ → ℕ → ℕ → ℕ → ℕ → Result Limits ConfigFault
+limits_of batch window timeout capacity intake appliers =
+    limits_or (first_out_of_range batch window timeout capacity intake appliers)
     (record {
       batch = batch;
       window = window;
       timeout = timeout;
       capacity = capacity;
       intake = intake;
-      appliers = 1;
+      appliers = appliers;
     })
 
--- the limits from the options' words, or the first option whose word isn't a number in its range
-abbrev pub config_of : List ℕ → List ℕ → List ℕ → List ℕ → List ℕ → Result Limits ConfigFault
-config_of batch window timeout capacity intake =
+-- the limits from the options' words and a number of appliers, or the first option whose word isn't
+-- a number in its range
+abbrev pub config_of : List ℕ → List ℕ → List ℕ → List ℕ → List ℕ → ℕ
+    → Result Limits ConfigFault
+config_of batch window timeout capacity intake appliers =
     limits_of (value_of batch) (value_of window) (value_of timeout) (value_of capacity)
-    (value_of intake)
+    (value_of intake) appliers
 
 -- the message about an option, with its range
 abbrev pub range_text : ConfigFault → List ℕ
@@ -69,10 +71,18 @@ abbrev pub word_of : Option (Text × List Row) → Text → List ℕ
 word_of found name = word_or_none (option_and_then (λ given. first_of name given.1) found)
 
 -- the same, for what a subcommand was given
+abbrev pub config_with : Option (Text × List Row) → ℕ → Result Limits ConfigFault
+config_with found appliers = config_of (word_of found (codes "batch"))
+    (word_of found (codes "window")) (word_of found (codes "timeout"))
+    (word_of found (codes "capacity")) (word_of found (codes "intake")) appliers
+
+-- the limits of a script, which has one applier
 abbrev pub config_by : Option (Text × List Row) → Result Limits ConfigFault
-config_by found = config_of (word_of found (codes "batch")) (word_of found (codes "window"))
-    (word_of found (codes "timeout")) (word_of found (codes "capacity"))
-    (word_of found (codes "intake"))
+config_by found = config_with found 1
+
+-- the limits of a drive
+abbrev pub drive_config_by : Option (Text × List Row) → Result Limits ConfigFault
+drive_config_by found = config_with found (value_of (word_of found (codes "appliers")))
 
 -- whether an option that takes no word is set
 abbrev pub is_set : Option (Text × List Row) → Text → Bool
@@ -96,7 +106,7 @@ drive_from (Err fault) n = Err (Limit fault)
 drive_from (Ok limits) n = with_subscribers limits n
 
 abbrev pub drive_by : Option (Text × List Row) → Result (Limits × ℕ) RangeFault
-drive_by found = drive_from (config_by found) (subscribers_by found)
+drive_by found = drive_from (drive_config_by found) (subscribers_by found)
 
 -- how the script is answered
 abbrev pub answering_by : Option (Text × List Row) → Answering

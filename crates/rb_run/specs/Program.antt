@@ -65,7 +65,8 @@ drive_command = record (new_shape (codes "drive")) {
       ∷ limit_option (codes "timeout") (codes "10") ∷ limit_option (codes "capacity")
       (codes "65536")
       ∷ limit_option (codes "intake") (codes "64") ∷ limit_option (codes "subscribers")
-      (codes "1") ∷ [];
+      (codes "1")
+      ∷ limit_option (codes "appliers") (codes "1") ∷ [];
 }
 
 -- `show`, with its option

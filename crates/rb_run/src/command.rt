@@ -31,10 +31,12 @@ Lines, each with its answer when it is done:
   take S NOW          delivery D S N M    its next entries, N to M, at tick NOW
   takeany NOW         delivery D S N M    the entries that wait longest, of any one
   accept D            accepted CURSOR     the changes of a delivery are applied
+  crash D 0|1         crashed CURSOR      a durable accept falls: undone (0) or kept (1)
   ack D               floor F             settled; so is everything up to F
   nack D              ok                  it is returned
   expire NOW          expired COUNT       what is out too long at tick NOW is returned
   reconnect S CURSOR  link L              a subscription goes on after CURSOR
+  resume S            link L              one that has fallen goes on after its cursor
   unsubscribe S       ok                  a subscription ends
   entry N             entry N P OWN O HEX an entry with its canonical text
   combine A B         text HEX            entries A to B as one changeset
@@ -209,6 +211,12 @@ fn drive<'a>(alloc: Global) -> Result<Command<'a>, AllocError>
         "The most changesets that wait to be placed, 1 to 4096",
     );
     let subscribers = limit(alloc, "subscribers", "1", "How many subscribers, 1 to 16");
+    let appliers = limit(
+        alloc,
+        "appliers",
+        "1",
+        "How many threads apply a delivery, 1 to 16: more than one pays for rows of some kilobytes",
+    );
     Command::new(alloc, "drive")
         .version(VERSION)
         .about("Drives a broker with the changesets on standard input, in threads")
@@ -218,7 +226,8 @@ fn drive<'a>(alloc: Global) -> Result<Command<'a>, AllocError>
         .arg(timeout)?
         .arg(capacity)?
         .arg(intake)?
-        .arg(subscribers)
+        .arg(subscribers)?
+        .arg(appliers)
 }
 
 // the subcommand `show`

@@ -3,7 +3,8 @@
 
 ghost use Rattle.std.specs.Prelude.{◌≡◌};
 ghost use Rattle.clap.specs.Words.{subcommand_rows_of};
-ghost use Rattle.rb_run.specs.Options.{answering_by, config_by, config_of, drive_by, fault_text};
+ghost use Rattle.rb_run.specs.Options.{answering_by, config_by, config_of, config_with};
+ghost use Rattle.rb_run.specs.Options.{drive_by, fault_text};
 ghost use Rattle.rb_run.specs.Options.{form_by, is_called, is_set, range_text, value_of, word_of};
 
 use clap::ArgMatches;
@@ -15,12 +16,19 @@ use rb_script::{Answering, RowForm, number};
 pub fn config(found: &ArgMatches) -> Result<Config, ConfigFault>
     ensures { result ≡ config_by (subcommand_rows_of found.now) }
 {
+    config_with(found, 1)
+}
+
+// the limits with so many appliers, the others from the options
+fn config_with(found: &ArgMatches, appliers: u64) -> Result<Config, ConfigFault>
+    ensures { result ≡ config_with (subcommand_rows_of found.now) appliers }
+{
     let batch = word(found, "batch");
     let window = word(found, "window");
     let timeout = word(found, "timeout");
     let capacity = word(found, "capacity");
     let intake = word(found, "intake");
-    config_from(batch, window, timeout, capacity, intake)
+    config_from(batch, window, timeout, capacity, intake, appliers)
 }
 
 /// The option whose word isn't a number in its range.
@@ -37,7 +45,7 @@ pub enum RangeFault {
 pub fn drive(found: &ArgMatches) -> Result<(Config, u64), RangeFault>
     ensures { result ≡ drive_by (subcommand_rows_of found.now) }
 {
-    match config(found) {
+    match config_with(found, value(word(found, "appliers"))) {
         Err(fault) => Err(RangeFault::Limit(fault)),
         Ok(config) => match value(word(found, "subscribers")) {
             n @ 1..=16 => Ok((config, n)),
@@ -104,15 +112,17 @@ fn config_from(
     timeout: &str,
     capacity: &str,
     intake: &str,
+    appliers: u64,
 ) -> Result<Config, ConfigFault>
-    ensures { result ≡ config_of batch.now window.now timeout.now capacity.now intake.now }
+    ensures { result
+        ≡ config_of batch.now window.now timeout.now capacity.now intake.now appliers }
 {
     let batch = value(batch);
     let window = value(window);
     let timeout = value(timeout);
     let capacity = value(capacity);
     let intake = value(intake);
-    Config::new(batch, window, timeout, capacity, intake, 1)
+    Config::new(batch, window, timeout, capacity, intake, appliers)
 }
 
 // the number that a word spells, or 0

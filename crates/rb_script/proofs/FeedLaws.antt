@@ -14,7 +14,8 @@ use Rattle.rb_core.specs.Run.{FeedsBytes}
 use Rattle.rb_script.specs.declared.forms.Form.{Form}
 use Rattle.rb_script.specs.declared.forms.Form.TheVariants as form
 use Rattle.rb_script.specs.Words.{words_of, number_in_word, bytes_of}
-use Rattle.rb_script.specs.Forms.{one_word, two_words, name_and_number, two_numbers, fed_form, number_and_word}
+use Rattle.rb_script.specs.Forms.{one_word, two_words, name_and_number, two_numbers, fed_form, crash_form}
+use Rattle.rb_script.specs.Forms.{number_and_word}
 use Rattle.rb_script.specs.Forms.{form_of_words, form_of}
 use Rattle.rb_script.specs.Lines.{most_of_line}
 use Rattle.rb_script.specs.Script.{event_in, event_of, with_event, lines_events}
@@ -85,13 +86,25 @@ fed_feeds : (p : ℕ) (o : Option (List ℕ)) → SaysBytes o → Feeds (fed_for
 fed_feeds p None says q bytes h = cc h
 fed_feeds p (Some word) says q bytes h = subst AreBytes (ap (form_bytes []) h) says
 
+crash_feeds : (d : ℕ) (word : List ℕ) → FeedsNone (crash_form d word)
+crash_feeds d word p bytes h = grind (arith)
+
+other_feeds : (name : List ℕ) (n : ℕ) (word : List ℕ) → FeedsNone
+    (cond (same_bytes name (codes "crash")) (crash_form n word) (two_numbers name n (number_in_word word)))
+other_feeds name n word = by (same_bytes name (codes "crash"))
+  where
+    by : (t : Bool) → FeedsNone (cond t (crash_form n word) (two_numbers name n (number_in_word word)))
+    by true = crash_feeds n word
+    by false = numbers_feed name n (number_in_word word)
+
 word_feeds : (name : List ℕ) (o : Option ℕ) (word : List ℕ) → Feeds (number_and_word name o word)
 word_feeds name None word = λ p bytes h. cc h
 word_feeds name (Some n) word = by (same_bytes name (codes "feed"))
   where
-    by : (t : Bool) → Feeds (cond t (fed_form n (bytes_of word)) (two_numbers name n (number_in_word word)))
+    by : (t : Bool) → Feeds (cond t (fed_form n (bytes_of word))
+        (cond (same_bytes name (codes "crash")) (crash_form n word) (two_numbers name n (number_in_word word))))
     by true = fed_feeds n (bytes_of word) (bytes_said word)
-    by false = λ p bytes h. absurd (numbers_feed name n (number_in_word word) p bytes h)
+    by false = λ p bytes h. absurd (other_feeds name n word p bytes h)
 
 words_feed : (words : List (List ℕ)) → Feeds (form_of_words words)
 words_feed [] p bytes h = cc h

@@ -49,6 +49,7 @@ desk_text desk.JournalFull = refl
 desk_text desk.SequenceFull = refl
 
 end_text : (why : AcceptRefusal) → is_refusal (line_of (end_refusal_text why)) ≡ true
+end_text end.Store = refl
 end_text end.Closed = refl
 end_text end.StaleLink = refl
 end_text end.Seen = refl
@@ -67,6 +68,7 @@ broker_text refusal.Full = refl
 broker_text refusal.NotPlaced = refl
 broker_text refusal.NotYours = refl
 broker_text refusal.AlreadyWithdrawn = refl
+broker_text refusal.NotFallen = refl
 broker_text (refusal.UnknownTable i) = refl
 broker_text (refusal.ShapeDiffers i) = refl
 broker_text (refusal.Desk why) = desk_text why
@@ -84,6 +86,7 @@ text_refuses (reply.Closed last) = refl
 text_refuses (reply.Subscriber s link) = refl
 text_refuses (reply.Delivery delivery) = refl
 text_refuses (reply.Accepted s cursor) = refl
+text_refuses (reply.Crashed s cursor) = refl
 text_refuses (reply.Floor floor) = refl
 text_refuses reply.Returned = refl
 text_refuses (reply.Expired count) = refl

@@ -1,6 +1,6 @@
 -- The forms of lines: which words make which form.
-use Rattle.std.specs.Prelude.{ℕ, List, [], ◌∷◌, Option, Some, None, option_map, if◌then◌else◌}
-use Rattle.std.specs.Prelude.{codes}
+use Rattle.std.specs.Prelude.{ℕ, true, false, List, [], ◌∷◌, Option, Some, None, option_map}
+use Rattle.std.specs.Prelude.{codes, if◌then◌else◌}
 use Rattle.rb_core.specs.declared.event.Event.TheVariants as event
 use Rattle.cs_model.specs.Schema.{same_bytes}
 use Rattle.rb_script.specs.declared.forms.Form.{Form}
@@ -18,7 +18,7 @@ one_word name =
     else None
 
 -- `reset P`, `end P`, `send P`, `subscribe START`, `takeany NOW`, `accept D`, `ack D`, `nack D`,
--- `expire NOW`, `unsubscribe S`, `entry N` and `rows S`
+-- `expire NOW`, `resume S`, `unsubscribe S`, `entry N` and `rows S`
 abbrev pub name_and_number : List ℕ → Option ℕ → Option Form
 name_and_number name None = None
 name_and_number name (Some n) =
@@ -31,6 +31,7 @@ name_and_number name (Some n) =
     else if same_bytes name (codes "ack") then Some (Happens (event.Ack n))
     else if same_bytes name (codes "nack") then Some (Happens (event.Nack n))
     else if same_bytes name (codes "expire") then Some (Happens (event.Expire n))
+    else if same_bytes name (codes "resume") then Some (Happens (event.Resume n))
     else if same_bytes name (codes "unsubscribe") then Some (Happens (event.Unsubscribe n))
     else if same_bytes name (codes "entry") then Some (Entry n)
     else if same_bytes name (codes "rows") then Some (Rows n)
@@ -57,12 +58,20 @@ abbrev pub fed_form : ℕ → Option (List ℕ) → Option Form
 fed_form p None = None
 fed_form p (Some bytes) = Some (Happens (event.Feed p bytes))
 
+-- `crash D 0` and `crash D 1`
+abbrev pub crash_form : ℕ → List ℕ → Option Form
+crash_form d word =
+    if same_bytes word (codes "0") then Some (Happens (event.Crash d false))
+    else if same_bytes word (codes "1") then Some (Happens (event.Crash d true))
+    else None
+
 -- all of these
 abbrev pub number_and_word : List ℕ → Option ℕ → List ℕ → Option Form
 number_and_word name None word = None
 number_and_word name (Some n) word =
-    if same_bytes name (codes "feed") then fed_form n (bytes_of word) else two_numbers name n
-    (number_in_word word)
+    if same_bytes name (codes "feed") then fed_form n (bytes_of word)
+    else if same_bytes name (codes "crash") then crash_form n word
+    else two_numbers name n (number_in_word word)
 
 -- the form of these words, if they have one
 abbrev pub form_of_words : List (List ℕ) → Option Form

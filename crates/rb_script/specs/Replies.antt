@@ -52,6 +52,7 @@ desk_refusal_text desk.SequenceFull = codes "refused SequenceFull"
 
 -- why a subscription's endpoint refuses
 abbrev pub end_refusal_text : AcceptRefusal → List ℕ
+end_refusal_text end.Store = codes "refused Store"
 end_refusal_text end.Closed = codes "refused Closed"
 end_refusal_text end.StaleLink = codes "refused StaleLink"
 end_refusal_text end.Seen = codes "refused Seen"
@@ -72,6 +73,7 @@ refusal_text refusal.Full = codes "refused Full"
 refusal_text refusal.NotPlaced = codes "refused NotPlaced"
 refusal_text refusal.NotYours = codes "refused NotYours"
 refusal_text refusal.AlreadyWithdrawn = codes "refused AlreadyWithdrawn"
+refusal_text refusal.NotFallen = codes "refused NotFallen"
 refusal_text (refusal.UnknownTable i) = codes "refused UnknownTable " ++ decimal i
 refusal_text (refusal.ShapeDiffers i) = codes "refused ShapeDiffers " ++ decimal i
 refusal_text (refusal.Desk why) = desk_refusal_text why
@@ -99,6 +101,7 @@ reply_text (reply.Subscriber s link) = codes "subscriber "
     ++ (decimal s ++ (codes " link " ++ decimal link))
 reply_text (reply.Delivery delivery) = delivery_text delivery
 reply_text (reply.Accepted s cursor) = codes "accepted " ++ decimal cursor
+reply_text (reply.Crashed s cursor) = codes "crashed " ++ decimal cursor
 reply_text (reply.Floor floor) = codes "floor " ++ decimal floor
 reply_text reply.Returned = codes "ok"
 reply_text (reply.Expired count) = codes "expired " ++ decimal count

@@ -3,7 +3,7 @@
 ghost use Rattle.std.specs.Prelude.{◌≡◌, IfOk, map};
 ghost use Rattle.rb_script.specs.Words.{words_of, number_in_word};
 ghost use Rattle.rb_script.specs.Forms.{one_word, two_words, name_and_number, two_numbers};
-ghost use Rattle.rb_script.specs.Forms.{number_and_word, form_of_words, form_of};
+ghost use Rattle.rb_script.specs.Forms.{crash_form, number_and_word, form_of_words, form_of};
 
 use crate::forms::Form;
 use crate::words::{is, number, octets};
@@ -89,6 +89,8 @@ fn with_number(name: &[u8], n: u64) -> Option<Form>
         Some(Form::Happens(Event::Nack { delivery: n }))
     } else if is(name, b"expire") {
         Some(Form::Happens(Event::Expire { now: n }))
+    } else if is(name, b"resume") {
+        Some(Form::Happens(Event::Resume { subscription: n }))
     } else if is(name, b"unsubscribe") {
         Some(Form::Happens(Event::Unsubscribe { subscription: n }))
     } else if is(name, b"entry") {
@@ -112,9 +114,30 @@ fn with_two(alloc: Global, name: &[u8], n: u64, word: &[u8]) -> Result<Option<Fo
             }))),
         };
     }
+    if is(name, b"crash") {
+        return Ok(crash(n, word));
+    }
     match number(word) {
         None => Ok(None),
         Some(m) => Ok(with_numbers(name, n, m)),
+    }
+}
+
+fn crash(delivery: u64, word: &[u8]) -> Option<Form>
+    ensures { result ≡ crash_form delivery word.now }
+{
+    if is(word, b"0") {
+        Some(Form::Happens(Event::Crash {
+            delivery,
+            kept: false,
+        }))
+    } else if is(word, b"1") {
+        Some(Form::Happens(Event::Crash {
+            delivery,
+            kept: true,
+        }))
+    } else {
+        None
     }
 }
 

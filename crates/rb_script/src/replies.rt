@@ -32,6 +32,10 @@ pub fn text_of(alloc: Global, reply: Reply) -> Result<String, AllocError>
             subscription: _,
             cursor,
         } => format!(in alloc; "accepted {cursor}"),
+        Reply::Crashed {
+            subscription: _,
+            cursor,
+        } => format!(in alloc; "crashed {cursor}"),
         Reply::Floor(floor) => format!(in alloc; "floor {floor}"),
         Reply::Expired(count) => format!(in alloc; "expired {count}"),
         Reply::Link(link) => format!(in alloc; "link {link}"),
@@ -66,6 +70,7 @@ fn text_of_refusal(alloc: Global, why: BrokerRefusal) -> Result<String, AllocErr
         BrokerRefusal::NotPlaced => format!(in alloc; "refused NotPlaced"),
         BrokerRefusal::NotYours => format!(in alloc; "refused NotYours"),
         BrokerRefusal::AlreadyWithdrawn => format!(in alloc; "refused AlreadyWithdrawn"),
+        BrokerRefusal::NotFallen => format!(in alloc; "refused NotFallen"),
         BrokerRefusal::UnknownTable(i) => format!(in alloc; "refused UnknownTable {i}"),
         BrokerRefusal::ShapeDiffers(i) => format!(in alloc; "refused ShapeDiffers {i}"),
         BrokerRefusal::Desk(why) => text_of_desk_refusal(alloc, why),
@@ -100,6 +105,7 @@ fn text_of_end_refusal(alloc: Global, why: AcceptRefusal) -> Result<String, Allo
     ensures { IfOk result (λ text. string_bytes text ≡ end_refusal_text why) }
 {
     match why {
+        AcceptRefusal::Store => format!(in alloc; "refused Store"),
         AcceptRefusal::Closed => format!(in alloc; "refused Closed"),
         AcceptRefusal::StaleLink => format!(in alloc; "refused StaleLink"),
         AcceptRefusal::Seen => format!(in alloc; "refused Seen"),

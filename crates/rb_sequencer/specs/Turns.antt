@@ -7,7 +7,7 @@ use Rattle.rb_sequence.specs.Cells.{Cells, CellToken, IsTokenOf, token_code}
 use Rattle.rb_sequence.specs.contracts.item.Item as item
 use Rattle.rb_sequence.specs.declared.item.Item.{Item}
 use Rattle.rb_intake.specs.Passes.{items_code}
-use Rattle.rb_broker.specs.Placing.{ShowsWhy}
+use Rattle.rb_broker.specs.Placing.{DeskRefuses, ShowsWhy}
 use Rattle.rb_sequencer.specs.declared.turn.Turn.{Turn}
 use Rattle.rb_sequencer.specs.declared.turn.Turn.TheVariants.{Placed, Idle, Refused}
 
@@ -37,8 +37,8 @@ TakesUp None old new = (x : Item)
     × (new ≡ record old { pulled = old.pulled ++ x ∷ []; hand = Some x })
 
 -- What a turn does. The item in hand, which it may have taken up, becomes an entry, whose number is
--- one more than that of the entry before; or nothing waits; or the item stays in hand. Where the
--- sequence is closed, the refusal shows its last number.
+-- one more than that of the entry before; or nothing waits; or the item stays in hand. Then the desk
+-- refuses so, and where the sequence is closed, the refusal shows its last number.
 abbrev pub IsTurn : Cells → SequencerState → SequencerState → Turn → Type 0
 IsTurn cells old new (Placed told) = (mid : SequencerState) × TakesUp old.hand old mid
     × (mid.hand ≡ Some told.entry.item) × IsTokenOf cells told
@@ -46,6 +46,7 @@ IsTurn cells old new (Placed told) = (mid : SequencerState) × TakesUp old.hand 
     × (new ≡ record mid { placed = old.placed ++ told ∷ []; hand = None })
 IsTurn cells old new Idle = (old.hand ≡ None) × (new ≡ old)
 IsTurn cells old new (Refused why) = TakesUp old.hand old new × ShowsWhy cells why
+    × DeskRefuses cells why
 
 -- it is stored as its parts
 abbrev pub sequencer_code : Coded SequencerState
@@ -66,4 +67,4 @@ PlacesHand cells old new (Placed told) = (old.hand ≡ Some told.entry.item) × 
     × (told.number ≡ suc (length old.placed)) × (told.entry.number ≡ told.number)
     × (new ≡ record old { placed = old.placed ++ told ∷ []; hand = None })
 PlacesHand cells old new Idle = ⊥
-PlacesHand cells old new (Refused why) = (new ≡ old) × ShowsWhy cells why
+PlacesHand cells old new (Refused why) = (new ≡ old) × ShowsWhy cells why × DeskRefuses cells why

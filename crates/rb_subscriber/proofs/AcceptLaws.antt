@@ -51,6 +51,7 @@ accept_goes_on b why rest tested e = ap (λ c. cond c (Some why) rest) tested �
 
 -- a delivery that its entries alone can refuse
 pub record FollowsCursor (old : Endpoint) (delivery : Delivery) : Type 0 where
+  pub not_fallen : old.fallen ≡ false
   pub not_closed : old.closed ≡ false
   pub linked : delivery.link ≡ old.link
   pub next : delivery.first ≡ suc old.cursor
@@ -59,11 +60,13 @@ pub record FollowsCursor (old : Endpoint) (delivery : Delivery) : Type 0 where
 pub none_is_due : (old : Endpoint) (delivery : Delivery) → refusal_before old delivery ≡ None → FollowsCursor old delivery
 unfolding refusal_before
 none_is_due old delivery e =
-    let closed = accept_not_refused old.closed refusal.Closed _ e in
+    let fallen = accept_not_refused old.fallen refusal.Store _ e in
+    let closed = accept_not_refused old.closed refusal.Closed _ fallen.1 in
     let link = accept_not_refused (not (delivery.link == old.link)) refusal.StaleLink _ closed.1 in
     let seen = accept_not_refused (nat_le delivery.last old.cursor) refusal.Seen _ link.1 in
     let gap = accept_not_refused (not (delivery.first == suc old.cursor)) (refusal.Gap (suc old.cursor)) None seen.1 in
     record {
+      not_fallen = fallen.0;
       not_closed = closed.0;
       linked = same_numbers delivery.link old.link link.0;
       next = same_numbers delivery.first (suc old.cursor) gap.0;
@@ -79,7 +82,8 @@ due_is_none old delivery a =
     (above delivery.last old.cursor a.some) gap in
     let link = accept_goes_on (not (delivery.link == old.link)) refusal.StaleLink _
     (numbers_tested delivery.link old.link a.linked) seen in
-    accept_goes_on old.closed refusal.Closed _ a.not_closed link
+    let closed = accept_goes_on old.closed refusal.Closed _ a.not_closed link in
+    accept_goes_on old.fallen refusal.Store _ a.not_fallen closed
 
 unrefused : (o : Option AcceptRefusal) (taken : Result Endpoint AcceptRefusal) (new : Endpoint)
     → taken_unless_refused o taken ≡ Ok new → (o ≡ None) × (taken ≡ Ok new)
@@ -148,6 +152,7 @@ accepted_steps old entries delivery new e =
     let due = none_is_due old delivery free.0 in
     let open_ = opened_is old delivery.last entries new (first_outside_entry old.tables.schema entries) refl free.1 in
     record {
+      not_fallen = due.not_fallen;
       not_closed = due.not_closed;
       linked = due.linked;
       next = due.next;
@@ -162,6 +167,7 @@ pub steps_accepted : (old : Endpoint) (entries : List Entry) (delivery : Deliver
 unfolding accept_brought
 steps_accepted old entries delivery new a =
     let due : FollowsCursor old delivery = record {
+      not_fallen = a.not_fallen;
       not_closed = a.not_closed;
       linked = a.linked;
       next = a.next;

@@ -62,7 +62,8 @@ none_before : (old : Endpoint) (delivery : Delivery) (conflict : Conflict)
     → refusal_before old delivery ≡ Some (refusal.Conflict conflict) → ⊥
 unfolding refusal_before
 none_before old delivery conflict e =
-    let closed = cond_none old.closed refusal.Closed _ conflict (λ same. absurd cc) e in
+    let fallen = cond_none old.fallen refusal.Store _ conflict (λ same. absurd cc) e in
+    let closed = cond_none old.closed refusal.Closed _ conflict (λ same. absurd cc) fallen in
     let link = cond_none (not (delivery.link == old.link)) refusal.StaleLink _ conflict (λ same. absurd cc) closed in
     let seen = cond_none (nat_le delivery.last old.cursor) refusal.Seen _ conflict (λ same. absurd cc) link in
     let gap = cond_none (not (delivery.first == suc old.cursor)) (refusal.Gap (suc old.cursor)) None conflict

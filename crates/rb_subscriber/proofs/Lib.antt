@@ -3,4 +3,4 @@ pub mod ApplyLaws
 pub mod RunLaws
 pub mod ConflictLaws
 pub mod TokenLaws
-pub mod AloneLaws
+pub mod ShownLaws

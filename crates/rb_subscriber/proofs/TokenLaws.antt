@@ -11,7 +11,7 @@ use Rattle.cs_model.specs.Schema.{refusal_of}
 use Rattle.rb_sequence.specs.Cells.{Cells, CellToken, IsTokenOf}
 use Rattle.rb_sequence.specs.Entry.{Entry}
 use Rattle.rb_subscriber.specs.Accept.{first_outside_entry, if_admitted}
-use Rattle.rb_subscriber.specs.AcceptAlone.{IsFirstOutside, outside_after}
+use Rattle.rb_subscriber.specs.AcceptShown.{IsFirstOutside, outside_after}
 use Rattle.rb_sequence.specs.Cells.{AreInCells}
 use Rattle.rb_subscriber.specs.Shown.{AreTokens, entries_told}
 

@@ -1,6 +1,7 @@
--- What accepting a delivery returns, and what it changes.
-use Rattle.std.specs.Prelude.{◌≡◌, ◌⊎◌, ℕ, suc, ◌-◌, ◌≤◌, false, not, List, [], ◌∷◌, take}
-use Rattle.std.specs.Prelude.{drop}
+-- What accepting a delivery returns, and what it changes; and what is left if the endpoint falls in
+-- the middle of it.
+use Rattle.std.specs.Prelude.{◌≡◌, ◌⊎◌, ℕ, suc, ◌-◌, ◌≤◌, Bool, true, false, not, List, [], ◌∷◌}
+use Rattle.std.specs.Prelude.{take, drop}
 use Rattle.std.specs.Prelude.{Option, Some, None, Result, Ok, Err, ◌==◌, nat_le, if◌then◌else◌}
 use Rattle.std.specs.List.{flat_map, AllByRecursion}
 use Rattle.cs_model.specs.declared.shape.Shape.{Shape}
@@ -71,7 +72,8 @@ applied_if_admitted old last entries (Some entry) = Err (refusal.Shape entry.num
 -- why a delivery is refused before anything is asked of its entries; the first in this order
 unfoldable pub refusal_before : Endpoint → Delivery → Option AcceptRefusal
 refusal_before old delivery =
-    if old.closed then Some refusal.Closed
+    if old.fallen then Some refusal.Store
+    else if old.closed then Some refusal.Closed
     else if not (delivery.link == old.link) then Some refusal.StaleLink
     else if nat_le delivery.last old.cursor then Some refusal.Seen
     else if not (delivery.first == suc old.cursor) then Some (refusal.Gap (suc old.cursor))
@@ -97,9 +99,25 @@ accept_brought old entries delivery = taken_unless_refused (refusal_before old d
 abbrev pub accept : Endpoint → List Entry → Delivery → Result Endpoint AcceptRefusal
 accept old sequence delivery = accept_brought old (brought sequence delivery) delivery
 
+-- An endpoint that fell while it accepted a delivery. Its cursor and its tables are those after the
+-- accept if the store kept it, else those before it: never the one without the other.
+abbrev pub crashed_as : Bool → Endpoint → Endpoint → Endpoint
+crashed_as true old new = record new { fallen = true }
+crashed_as false old new = record old { fallen = true }
+
+-- Crash: an accept that falls. It is refused where the accept is.
+abbrev pub fallen_unless_refused : Bool → Endpoint → Result Endpoint AcceptRefusal
+    → Result Endpoint AcceptRefusal
+fallen_unless_refused kept old (Ok new) = Ok (crashed_as kept old new)
+fallen_unless_refused kept old (Err why) = Err why
+
+abbrev pub crash : Endpoint → List Entry → Delivery → Bool → Result Endpoint AcceptRefusal
+crash old sequence delivery kept = fallen_unless_refused kept old (accept old sequence delivery)
+
 -- Whether the call reaches the tables: the delivery is accepted, or a change conflicts.
 abbrev pub AsksTables : Result Endpoint AcceptRefusal → Type 0
 AsksTables (Ok new) = Unit {0}
+AsksTables (Err refusal.Store) = ⊥
 AsksTables (Err refusal.Closed) = ⊥
 AsksTables (Err refusal.StaleLink) = ⊥
 AsksTables (Err refusal.Seen) = ⊥
@@ -122,12 +140,13 @@ OnConflict other P = Unit {0}
 
 -- ---- as a step
 
--- An endpoint accepts a delivery that brings these entries. The endpoint isn't closed, the delivery
--- is of its current link, and it begins right after the cursor. The endpoint's tables admit the
--- entries. The group of their bodies applies without conflict. The cursor moves to the delivery's
--- last number, and nothing but cursor and tables changes.
+-- An endpoint accepts a delivery that brings these entries. The endpoint hasn't fallen and isn't
+-- closed. The delivery is of its current link, and it begins right after the cursor. The endpoint's
+-- tables admit the entries. The group of their bodies applies without conflict. The cursor moves to
+-- the delivery's last number, and nothing but cursor and tables changes.
 pub record AcceptsBrought (old : Endpoint) (entries : List Entry) (delivery : Delivery)
     (new : Endpoint) : Type 0 where
+  pub not_fallen : old.fallen ≡ false
   pub not_closed : old.closed ≡ false
   pub linked : delivery.link ≡ old.link
   pub next : delivery.first ≡ suc old.cursor

@@ -4,30 +4,41 @@ use Rattle.std.specs.Coded.{Coded, code_by, coded×, coded_ℕ, coded_bool}
 use Rattle.cs_apply.specs.State as tables
 
 -- An endpoint: the number after which it began, its cursor, its current link, whether it is closed,
--- and its tables. The cursor is the last number that it accepted; at first, its start.
+-- whether it has fallen, and its tables. The cursor is the last number that it accepted; at first,
+-- its start. One that keeps its tables and cursor in a durable store falls if the machine stops, or
+-- the store fails, while it accepts a delivery.
 pub record Endpoint : Type 0 where
   pub start : ℕ
   pub cursor : ℕ
   pub link : ℕ
   pub closed : Bool
+  pub fallen : Bool
   pub tables : tables.TableState
 
 -- an endpoint that has accepted nothing
 abbrev pub new_endpoint : ℕ → ℕ → tables.TableState → Endpoint
-new_endpoint start link tables =
-    record { start = start; cursor = start; link = link; closed = false; tables = tables }
+new_endpoint start link tables = record {
+  start = start;
+  cursor = start;
+  link = link;
+  closed = false;
+  fallen = false;
+  tables = tables;
+}
 
 -- an endpoint is stored as its parts
 abbrev pub endpoint_code : Coded Endpoint
 endpoint_code =
-    code_by (ℕ × (ℕ × (ℕ × (Bool × tables.TableState))))
-    (coded× coded_ℕ (coded× coded_ℕ (coded× coded_ℕ (coded× coded_bool tables.state_code))))
-    (λ e. (e.start, (e.cursor, (e.link, (e.closed, e.tables)))))
+    code_by (ℕ × (ℕ × (ℕ × (Bool × (Bool × tables.TableState)))))
+    (coded× coded_ℕ (coded× coded_ℕ (coded× coded_ℕ (coded× coded_bool
+    (coded× coded_bool tables.state_code)))))
+    (λ e. (e.start, (e.cursor, (e.link, (e.closed, (e.fallen, e.tables))))))
     (λ p. record {
       start = p.0;
       cursor = p.1.0;
       link = p.1.1.0;
       closed = p.1.1.1.0;
-      tables = p.1.1.1.1;
+      fallen = p.1.1.1.1.0;
+      tables = p.1.1.1.1.1;
     })
     (λ _. refl)

@@ -1,6 +1,7 @@
 pub mod Endpoint
 pub mod Accept
+pub mod Applier
 pub mod Shown
 pub mod Subscription
-pub mod AcceptAlone
+pub mod AcceptShown
 pub mod Register

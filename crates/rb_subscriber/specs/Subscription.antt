@@ -7,13 +7,14 @@ use Rattle.rb_sequence.specs.Cells.{CellToken, token_code}
 use Rattle.rb_subscriber.specs.Endpoint.{Endpoint}
 
 -- A subscription: its number at the desk, the number after which it began, its link, whether it is
--- closed, the tables that it began with, its tables, the tokens of what it accepted, in order, and
--- how many of its steps were counted.
+-- closed, whether it has fallen, the tables that it began with, its tables, the tokens of what it
+-- accepted, in order, and how many of its steps were counted.
 pub record SubscriptionState : Type 0 where
   pub sub : ℕ
   pub start : ℕ
   pub link : ℕ
   pub closed : Bool
+  pub fallen : Bool
   pub base : tables.TableState
   pub tables : tables.TableState
   pub told : List CellToken
@@ -30,6 +31,7 @@ own_endpoint s = record {
   cursor = cursor_of s;
   link = s.link;
   closed = s.closed;
+  fallen = s.fallen;
   tables = s.tables;
 }
 
@@ -40,6 +42,7 @@ new_subscription sub start link tables = record {
   start = start;
   link = link;
   closed = false;
+  fallen = false;
   base = tables;
   tables = tables;
   told = [];
@@ -54,19 +57,24 @@ accepted_token start told number =
 -- a subscription is stored as its parts
 abbrev pub subscription_state_code : Coded SubscriptionState
 subscription_state_code =
-    code_by (ℕ × (ℕ × (ℕ × (Bool
-    × (tables.TableState × (tables.TableState × (List CellToken × ℕ)))))))
-    (coded× coded_ℕ (coded× coded_ℕ (coded× coded_ℕ (coded× coded_bool (coded× tables.state_code
-    (coded× tables.state_code (coded× (coded_list token_code) coded_ℕ)))))))
-    (λ s. (s.sub, (s.start, (s.link, (s.closed, (s.base, (s.tables, (s.told, s.steps))))))))
+    code_by (ℕ × (ℕ × (ℕ × (Bool × (Bool
+    × (tables.TableState × (tables.TableState × (List CellToken × ℕ))))))))
+    (coded× coded_ℕ (coded× coded_ℕ (coded× coded_ℕ (coded× coded_bool (coded× coded_bool
+    (coded× tables.state_code (coded× tables.state_code
+    (coded× (coded_list token_code) coded_ℕ))))))))
+    (λ s. (
+      s.sub,
+      (s.start, (s.link, (s.closed, (s.fallen, (s.base, (s.tables, (s.told, s.steps))))))),
+    ))
     (λ p. record {
       sub = p.0;
       start = p.1.0;
       link = p.1.1.0;
       closed = p.1.1.1.0;
-      base = p.1.1.1.1.0;
-      tables = p.1.1.1.1.1.0;
-      told = p.1.1.1.1.1.1.0;
-      steps = p.1.1.1.1.1.1.1;
+      fallen = p.1.1.1.1.0;
+      base = p.1.1.1.1.1.0;
+      tables = p.1.1.1.1.1.1.0;
+      told = p.1.1.1.1.1.1.1.0;
+      steps = p.1.1.1.1.1.1.1.1;
     })
     (λ _. refl)

@@ -10,7 +10,9 @@ ghost use Rattle.cs_group.specs.Group.{group_of};
 ghost use Rattle.cs_model.specs.Schema.{refusal_of};
 ghost use Rattle.rb_subscriber.specs.Accept.{AreChangesets, IsAdmitted, first_outside_entry};
 ghost use Rattle.rb_subscriber.specs.Accept.{joined_bodies};
+ghost use Rattle.rb_subscriber.specs.Applier.{Applies};
 
+use crate::applier::apply_by;
 use crate::brought::Brought;
 use cs_apply::{ApplyError, Tables};
 use cs_group::laws::{admitted_never_clash, groups_apply};
@@ -81,7 +83,12 @@ fn add<'a>(
 
 // Applies a body as it is. If it doesn't conflict, the tables are those that its group leaves. An
 // `Err` does not change the tables, nor does a conflict.
-fn applies_alone(alloc: Global, tables: &mut Tables, entry: &Entry) -> Result<bool, AllocError>
+fn applies_alone<F: Fn(&mut Tables, &Changeset) -> Result<(), ApplyError>>(
+    applier: &F,
+    tables: &mut Tables,
+    entry: &Entry,
+) -> Result<bool, AllocError>
+    requires { Applies F.Fn applier.now }
     ensures applied { IfOk result (λ applied. applied ≡ true
         → single tables.old (group_of (joined_bodies (entry.now ∷ []))) ≡ Ok tables.new) }
     ensures conflict { IfOk result (λ applied. applied ≡ false → tables.new ≡ tables.old) }
@@ -90,7 +97,7 @@ fn applies_alone(alloc: Global, tables: &mut Tables, entry: &Entry) -> Result<bo
     groups_apply();
     // for what their clauses say: each row has its columns, and the body is a changeset
     let (_schema, _sections) = (tables.schema(), entry.body().iter());
-    match tables.apply(alloc, entry.body()) {
+    match apply_by(applier, tables, entry.body()) {
         Ok(()) => return Ok(true),
         Err(ApplyError::Conflict(_)) => return Ok(false),
         Err(ApplyError::Memory) => return Err(AllocError),
@@ -98,12 +105,14 @@ fn applies_alone(alloc: Global, tables: &mut Tables, entry: &Entry) -> Result<bo
 }
 
 // Applies the group of the bodies of entries.
-fn apply_group<E: Brought>(
+fn apply_group<E: Brought, F: Fn(&mut Tables, &Changeset) -> Result<(), ApplyError>>(
+    applier: &F,
     alloc: Global,
     tables: &mut Tables,
     entries: &E,
 ) -> Result<(), ApplyError>
-    requires { AllByRecursion (IsAdmitted tables.old.schema) (E.entries entries.now) }
+    requires applier { Applies F.Fn applier.now }
+    requires admitted { AllByRecursion (IsAdmitted tables.old.schema) (E.entries entries.now) }
     ensures ok { OnOk result (single tables.old (group_of (joined_bodies (E.entries entries.now)))
         ≡ Ok tables.new) }
     ensures refused { IfErr result
@@ -113,7 +122,7 @@ fn apply_group<E: Brought>(
     let Ok(changeset) = combined(alloc, tables.schema(), entries) else {
         return Err(ApplyError::Memory);
     };
-    tables.apply(alloc, &changeset)
+    apply_by(applier, tables, &changeset)
 }
 
 // The entry, if it is the only one.
@@ -129,12 +138,14 @@ fn only<E: Brought>(entries: &E) -> Option<&Entry>
 /// Applies the group of the bodies of entries: all of its changes, or none. An error does not
 /// change the tables. A single body is applied as it is, and grouped only if it conflicts: its
 /// group leaves the same tables, and grouping costs more than applying.
-pub(crate) fn apply<E: Brought>(
+pub(crate) fn apply<E: Brought, F: Fn(&mut Tables, &Changeset) -> Result<(), ApplyError>>(
+    applier: &F,
     alloc: Global,
     tables: &mut Tables,
     entries: &E,
 ) -> Result<(), ApplyError>
-    requires { AllByRecursion (IsAdmitted tables.old.schema) (E.entries entries.now) }
+    requires applier { Applies F.Fn applier.now }
+    requires admitted { AllByRecursion (IsAdmitted tables.old.schema) (E.entries entries.now) }
     ensures ok { OnOk result (single tables.old (group_of (joined_bodies (E.entries entries.now)))
         ≡ Ok tables.new) }
     ensures refused { IfErr result
@@ -142,11 +153,11 @@ pub(crate) fn apply<E: Brought>(
     ensures err { OnErr result (tables.new ≡ tables.old) }
 {
     let Some(entry) = only(entries) else {
-        return apply_group(alloc, tables, entries);
+        return apply_group(applier, alloc, tables, entries);
     };
-    match applies_alone(alloc, tables, entry) {
+    match applies_alone(applier, tables, entry) {
         Ok(true) => return Ok(()),
-        Ok(false) => return apply_group(alloc, tables, entries),
+        Ok(false) => return apply_group(applier, alloc, tables, entries),
         Err(_) => return Err(ApplyError::Memory),
     }
 }

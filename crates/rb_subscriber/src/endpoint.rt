@@ -1,11 +1,13 @@
 //! `Endpoint`: accepts deliveries and holds the subscriber's tables.
 
-ghost use Rattle.std.specs.Prelude.{◌≡◌, ◌≤◌, ◌<◌, ◌-◌, suc, true, length, IfNone, IfSome, OnOk};
+ghost use Rattle.std.specs.Prelude.{◌≡◌, ◌≤◌, ◌<◌, ◌-◌, suc, true, false, length, IfNone, IfSome};
+ghost use Rattle.std.specs.Prelude.{OnOk};
 ghost use Rattle.cs_apply.specs.Columns.{HaveColumns};
 ghost use Rattle.rb_subscriber.specs.Accept.{accept, accept_brought, AcceptAnswers, AppliesSingly};
 ghost use Rattle.rb_subscriber.specs.Accept.{AreChangesets, AsksNoEntries, refusal_before};
 ghost use Rattle.rb_subscriber.specs.Accept.{brought, ConflictsSingly, HasSingleTables, OnConflict};
-ghost use Rattle.rb_subscriber.specs.Accept.{part};
+ghost use Rattle.rb_subscriber.specs.Accept.{crash, fallen_unless_refused, part};
+ghost use Rattle.rb_subscriber.specs.Applier.{Applies, IsApplied};
 ghost use Rattle.rb_subscriber.specs.Endpoint.{new_endpoint};
 
 use crate::apply::{apply, outside};
@@ -13,6 +15,7 @@ use crate::brought::Brought;
 use crate::laws::{accepted_apply_singly, conflicts_are_single};
 use crate::refusal::{AcceptError, AcceptRefusal};
 use cs_apply::{ApplyError, Tables};
+use cs_model::{Changeset, CopyIn};
 use rb_desk::Delivery;
 use rb_sequence::Entry;
 use std::alloc::Global;
@@ -26,6 +29,7 @@ pub struct Endpoint {
     cursor: u64,
     link: u64,
     closed: bool,
+    fallen: bool,
     tables: Tables,
 }
 
@@ -42,6 +46,7 @@ impl Model for Endpoint {
       cursor = e.cursor;
       link = e.link;
       closed = e.closed;
+      fallen = e.fallen;
       tables = e.tables;
     } };
 
@@ -59,6 +64,7 @@ impl Endpoint {
             cursor: start,
             link,
             closed: false,
+            fallen: false,
             tables,
         }
     }
@@ -68,9 +74,9 @@ impl Endpoint {
     /// delivery's last one. If the changesets apply one after another without conflict, their group
     /// leaves the same tables.
     ///
-    /// Refuses, in this order, `Closed`, `StaleLink`, `Seen`, `Gap`, `Shape`, `Conflict`. `Memory`
-    /// may replace a conflict, but no other refusal. An error does not change the endpoint. A
-    /// conflict comes only if the changesets conflict too when they are applied one after another.
+    /// Refuses, in this order, `Store`, `Closed`, `StaleLink`, `Seen`, `Gap`, `Shape`, `Conflict`.
+    /// `Memory` may replace a conflict, but no other refusal. An error does not change the endpoint.
+    /// A conflict comes only if the changesets conflict too when they are applied one after another.
     #[tactic(auto, unfolding(crate::specs::Accept::accept_brought))]
     pub fn accept(
         &mut self,
@@ -90,11 +96,18 @@ impl Endpoint {
             return Err(why.into());
         }
         let entries = between(sequence, delivery.first() - 1, delivery.last());
-        self.accept_brought(alloc, &entries, delivery)
+        self.accept_brought(
+            &|tables: &mut Tables, changeset: &Changeset| -> Result<(), ApplyError>
+                ensures { IsApplied tables.entry.now changeset.entry.now result tables.exit.now }
+            { tables.apply(alloc, changeset) },
+            alloc,
+            &entries,
+            delivery,
+        )
     }
 
-    /// Why a delivery is refused whatever its entries are, if it is: `Closed`, `StaleLink`, `Seen`,
-    /// `Gap`. If it isn't, it begins right after the cursor.
+    /// Why a delivery is refused whatever its entries are, if it is: `Store`, `Closed`,
+    /// `StaleLink`, `Seen`, `Gap`. If it isn't, it begins right after the cursor.
     #[tactic(auto, unfolding(crate::specs::Accept::refusal_before))]
     pub fn refuses(&self, delivery: &Delivery) -> Option<AcceptRefusal>
         ensures why { result ≡ refusal_before self.now delivery.now }
@@ -102,6 +115,9 @@ impl Endpoint {
         ensures next { IfNone result ((delivery.now.first ≡ suc self.now.cursor)
             × (self.now.cursor < delivery.now.last)) }
     {
+        if self.fallen {
+            return Some(AcceptRefusal::Store);
+        }
         if self.closed {
             return Some(AcceptRefusal::Closed);
         }
@@ -119,13 +135,137 @@ impl Endpoint {
         None
     }
 
-    /// Accepts a delivery that brings these entries: `accept`, wherever the entries stand.
-    pub fn accept_brought<E: Brought>(
+    /// Falls while it accepts a delivery, as one does that keeps its tables and its cursor in a
+    /// durable store when the machine stops or the store fails. If the store has `kept` the accept,
+    /// tables and cursor are those after it, else those before it. It accepts nothing more until it
+    /// is resumed. Returns the cursor.
+    ///
+    /// Refuses what `accept` refuses, in the same order. An error does not change the endpoint, and
+    /// it does not fall then.
+    #[tactic(auto, unfolding(crate::specs::Accept::accept_brought))]
+    pub fn crash(
+        &mut self,
+        alloc: Global,
+        sequence: &[Entry],
+        delivery: &Delivery,
+        kept: bool,
+    ) -> Result<u64, AcceptError>
+        requires { delivery.now.last ≤ length sequence.now }
+        ensures answers { AcceptAnswers result (crash self.old sequence.now delivery.now kept)
+            self.old self.new }
+        ensures singly { kept ≡ true → OnOk result (HasSingleTables self.old.tables
+            (brought sequence.now delivery.now) self.new.tables) }
+        ensures conflicts { OnConflict result (ConflictsSingly self.old.tables
+            (brought sequence.now delivery.now)) }
+    {
+        if let Some(why) = self.refuses(delivery) {
+            return Err(why.into());
+        }
+        let entries = between(sequence, delivery.first() - 1, delivery.last());
+        if kept {
+            self.crash_after(alloc, &entries, delivery)
+        } else {
+            self.crash_before(alloc, &entries, delivery)
+        }
+    }
+
+    // `crash` of an accept that the store has kept
+    fn crash_after<E: Brought>(
         &mut self,
         alloc: Global,
         entries: &E,
         delivery: &Delivery,
     ) -> Result<u64, AcceptError>
+        ensures answers { AcceptAnswers result (fallen_unless_refused true self.old
+            (accept_brought self.old (E.entries entries.now) delivery.now)) self.old self.new }
+        ensures singly { OnOk result
+            (HasSingleTables self.old.tables (E.entries entries.now) self.new.tables) }
+        ensures conflicts { OnConflict result
+            (ConflictsSingly self.old.tables (E.entries entries.now)) }
+    {
+        match self.accept_brought(
+            &|tables: &mut Tables, changeset: &Changeset| -> Result<(), ApplyError>
+                ensures { IsApplied tables.entry.now changeset.entry.now result tables.exit.now }
+            { tables.apply(alloc, changeset) },
+            alloc,
+            entries,
+            delivery,
+        ) {
+            Ok(cursor) => {
+                self.fallen = true;
+                Ok(cursor)
+            }
+            Err(error) => Err(error),
+        }
+    }
+
+    // `crash` of an accept that the store has not kept: only a copy of the tables is changed
+    fn crash_before<E: Brought>(
+        &mut self,
+        alloc: Global,
+        entries: &E,
+        delivery: &Delivery,
+    ) -> Result<u64, AcceptError>
+        ensures answers { AcceptAnswers result (fallen_unless_refused false self.old
+            (accept_brought self.old (E.entries entries.now) delivery.now)) self.old self.new }
+        ensures conflicts { OnConflict result
+            (ConflictsSingly self.old.tables (E.entries entries.now)) }
+    {
+        conflicts_are_single();
+        self.try_next(alloc, entries, delivery)
+    }
+
+    // `crash_before`, and what the law asks for where a change conflicts: the bodies are
+    // changesets, and each row has its columns.
+    #[tactic(auto, unfolding(crate::specs::Accept::accept_brought))]
+    fn try_next<E: Brought>(
+        &mut self,
+        alloc: Global,
+        entries: &E,
+        delivery: &Delivery,
+    ) -> Result<u64, AcceptError>
+        ensures answers { AcceptAnswers result (fallen_unless_refused false self.old
+            (accept_brought self.old (E.entries entries.now) delivery.now)) self.old self.new }
+        ensures conflict { OnConflict result (AreChangesets (E.entries entries.now)
+            × HaveColumns self.old.tables) }
+    {
+        if let Some(why) = self.refuses(delivery) {
+            return Err(why.into());
+        }
+        if let Some(entry) = outside(self.tables.schema(), entries) {
+            let number = entry.number();
+            return Err(AcceptRefusal::Shape { number }.into());
+        }
+        let mut copy = self.tables.copy_in(alloc)?;
+        match apply(
+            &|tables: &mut Tables, changeset: &Changeset| -> Result<(), ApplyError>
+                ensures { IsApplied tables.entry.now changeset.entry.now result tables.exit.now }
+            { tables.apply(alloc, changeset) },
+            alloc,
+            &mut copy,
+            entries,
+        ) {
+            Ok(()) => {}
+            Err(ApplyError::Conflict(why)) => return Err(AcceptRefusal::Conflict(why).into()),
+            Err(ApplyError::Memory) => return Err(AcceptError::Memory),
+        }
+        self.fallen = true;
+        Ok(self.cursor)
+    }
+
+    /// Accepts a delivery that brings these entries: `accept`, wherever the entries stand, and
+    /// whoever applies them.
+    pub(crate) fn accept_brought<
+        E: Brought,
+        F: Fn(&mut Tables, &Changeset) -> Result<(), ApplyError>,
+    >(
+        &mut self,
+        applier: &F,
+        alloc: Global,
+        entries: &E,
+        delivery: &Delivery,
+    ) -> Result<u64, AcceptError>
+        requires { Applies F.Fn applier.now }
         ensures answers { AcceptAnswers result
             (accept_brought self.old (E.entries entries.now) delivery.now) self.old self.new }
         ensures singly { OnOk result
@@ -135,18 +275,20 @@ impl Endpoint {
     {
         accepted_apply_singly();
         conflicts_are_single();
-        self.accept_next(alloc, entries, delivery)
+        self.accept_next(applier, alloc, entries, delivery)
     }
 
     // `accept_brought`, and what the laws ask for where the tables are reached: the bodies are
     // changesets, and each row has its columns.
     #[tactic(auto, unfolding(crate::specs::Accept::accept_brought))]
-    fn accept_next<E: Brought>(
+    fn accept_next<E: Brought, F: Fn(&mut Tables, &Changeset) -> Result<(), ApplyError>>(
         &mut self,
+        applier: &F,
         alloc: Global,
         entries: &E,
         delivery: &Delivery,
     ) -> Result<u64, AcceptError>
+        requires { Applies F.Fn applier.now }
         ensures answers { AcceptAnswers result
             (accept_brought self.old (E.entries entries.now) delivery.now) self.old self.new }
         ensures ok { OnOk result (AreChangesets (E.entries entries.now)
@@ -161,7 +303,7 @@ impl Endpoint {
             let number = entry.number();
             return Err(AcceptRefusal::Shape { number }.into());
         }
-        match apply(alloc, &mut self.tables, entries) {
+        match apply(applier, alloc, &mut self.tables, entries) {
             Ok(()) => {}
             Err(ApplyError::Conflict(conflict)) => {
                 return Err(AcceptRefusal::Conflict(conflict).into());
@@ -177,6 +319,14 @@ impl Endpoint {
         ensures { self.new ≡ record self.old { link = link } }
     {
         self.link = link;
+    }
+
+    /// Continues after a fall, under a new link. Cursor and tables stay.
+    pub fn resume(&mut self, link: u64)
+        ensures { self.new ≡ record self.old { link = link; fallen = false } }
+    {
+        self.link = link;
+        self.fallen = false;
     }
 
     /// Closes it permanently: it accepts nothing more.
@@ -214,6 +364,13 @@ impl Endpoint {
         ensures { result ≡ self.now.closed }
     {
         self.closed
+    }
+
+    /// Whether it has fallen, and wasn't resumed.
+    pub fn is_fallen(&self) -> bool
+        ensures { result ≡ self.now.fallen }
+    {
+        self.fallen
     }
 
     /// Its tables.

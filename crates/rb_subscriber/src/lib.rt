@@ -1,8 +1,10 @@
 //! A subscriber's endpoint of a subscription. Theorem: an `Endpoint` accepts only the next run of
-//! the sequence after its cursor, under its current link, and nothing once it is closed. Where the
-//! accepted changesets apply one after another without conflict, its tables are what that gives.
+//! the sequence after its cursor, under its current link, and nothing once it is closed or has
+//! fallen. Where the accepted changesets apply one after another without conflict, its tables are
+//! what that gives.
 #![tactic(auto)]
 
+mod applier;
 mod apply;
 mod brought;
 mod endpoint;
@@ -14,10 +16,11 @@ mod shown;
 mod step_ledger;
 mod subscription;
 
+pub use applier::Workers;
 pub use apply::combined;
 pub use brought::Brought;
 pub use endpoint::Endpoint;
-pub use refusal::{AcceptAloneError, AcceptError, AcceptRefusal};
+pub use refusal::{AcceptError, AcceptRefusal, SubscriptionError};
 pub use register::{Auditor, MOST_SUBSCRIPTIONS, Missing, Register};
 pub use step_ledger::StepLedger;
 pub use subscription::Subscription;

@@ -1,16 +1,16 @@
 //! What the cells show of a delivery, found without memory.
 
 ghost use Rattle.std.specs.Prelude.{◌≡◌, ◌≤◌};
-ghost use Rattle.rb_subscriber.specs.AcceptAlone.{LookAnswers, outside_after};
+ghost use Rattle.rb_subscriber.specs.AcceptShown.{LookAnswers, outside_after};
 
-use crate::refusal::{AcceptAloneError, AcceptRefusal};
+use crate::refusal::{AcceptRefusal, SubscriptionError};
 use cs_model::Schema;
 use rb_desk::Delivery;
 use rb_sequence::Sequence;
 
 /// Why a delivery isn't accepted where there is no room for its tokens: `Unseen`, `Shape`, or
 /// `Memory`.
-pub(crate) fn look(sequence: &Sequence, schema: &Schema, delivery: &Delivery) -> AcceptAloneError
+pub(crate) fn look(sequence: &Sequence, schema: &Schema, delivery: &Delivery) -> SubscriptionError
     requires { (1 ≤ delivery.now.first) × (delivery.now.first ≤ delivery.now.last) }
     ensures { LookAnswers sequence.now delivery.now schema.now result }
 {
@@ -18,14 +18,14 @@ pub(crate) fn look(sequence: &Sequence, schema: &Schema, delivery: &Delivery) ->
     for past in 0..delivery.last() - (delivery.first() - 1) {
         let number = delivery.first() + past;
         let Some(told) = sequence.tell(number) else {
-            return AcceptAloneError::Unseen { number };
+            return SubscriptionError::Unseen { number };
         };
         let body = sequence.get_told(&told).body();
         outside = after(outside, schema.admits(body).is_err(), number);
     }
     match outside {
-        Some(number) => AcceptAloneError::Refused(AcceptRefusal::Shape { number }),
-        None => AcceptAloneError::Memory,
+        Some(number) => SubscriptionError::Refused(AcceptRefusal::Shape { number }),
+        None => SubscriptionError::Memory,
     }
 }
 

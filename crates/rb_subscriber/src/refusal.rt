@@ -6,10 +6,14 @@ use cs_apply::Conflict;
 use std::alloc::AllocError;
 use thiserror::Error;
 
-/// Why `Endpoint::accept` refuses a delivery. The refused call does not change the endpoint. If
-/// several apply, the call returns the first in this order.
+/// Why `Endpoint::accept` and `crash` refuse a delivery. The refused call does not change the
+/// endpoint. If several apply, the call returns the first in this order.
 #[derive(Clone, Copy, Debug, PartialEq, Eq, Error)]
 pub enum AcceptRefusal {
+    /// The durable store failed: the subscription has fallen, and accepts nothing until it is
+    /// resumed.
+    #[error("the subscription has fallen")]
+    Store,
     /// The endpoint is closed.
     #[error("the subscription is closed")]
     Closed,
@@ -31,7 +35,7 @@ pub enum AcceptRefusal {
     Conflict(Conflict),
 }
 
-/// What stops `Endpoint::accept`. The stopped call does not change the endpoint.
+/// What stops `Endpoint::accept` and `crash`. The stopped call does not change the endpoint.
 #[derive(Clone, Copy, Debug, PartialEq, Eq, Error)]
 pub enum AcceptError {
     /// The delivery is refused.
@@ -42,9 +46,10 @@ pub enum AcceptError {
     Memory,
 }
 
-/// What stops `Subscription::accept_alone`. The stopped call does not change the subscription.
+/// What stops `Subscription::accept` and `accept_alone`. The stopped call does not change the
+/// subscription.
 #[derive(Clone, Copy, Debug, PartialEq, Eq, Error)]
-pub enum AcceptAloneError {
+pub enum SubscriptionError {
     /// The delivery is refused.
     #[error("{0}")]
     Refused(AcceptRefusal),

@@ -1,8 +1,9 @@
 //! `Shown`: the entries that tokens show, each in its cell; and how tokens are fetched.
 
 ghost use Rattle.std.specs.Prelude.{◌≡◌, ◌≤◌, ◌+◌, ◌-◌, ◌++◌, [], suc, length, IfOk, IfErr, IfSome};
+ghost use Rattle.std.specs.Prelude.{List};
 ghost use Rattle.std.specs.Vec.{vec_capacity, vec_len};
-ghost use Rattle.rb_sequence.specs.Cells.{AreInCells};
+ghost use Rattle.rb_sequence.specs.Cells.{AreInCells, CellToken};
 ghost use Rattle.rb_subscriber.specs.Shown.{AreTokens, entries_told};
 
 use crate::brought::Brought;
@@ -41,7 +42,9 @@ pub(crate) fn fetch(
     requires room { (room.items ≡ []) × (suc last - first ≤ vec_capacity room) }
     ensures ok { IfOk result (λ shown. AreInCells sequence.now first shown.items
         × (length shown.items ≡ suc last - first) × (vec_len shown ≡ suc last - first)) }
-    ensures err { IfErr result (λ number. (first ≤ number) × (number ≤ last)) }
+    ensures err { IfErr result (λ number. (shown : List CellToken)
+        × AreInCells sequence.now first shown × (first + length shown ≡ number)
+        × (number ≤ last)) }
 {
     let mut shown = room;
     for past in 0..last - (first - 1) {

@@ -4,22 +4,28 @@ ghost use Rattle.std.specs.Prelude.{◌≡◌, ◌<◌, suc, true, None, IfNone,
 ghost use Rattle.std.specs.Option.{option_copied};
 ghost use Rattle.rb_sequence.specs.Cells.{AreInCells, IsTokenOf};
 ghost use Rattle.rb_subscriber.specs.Accept.{AsksNoEntries, HasSingleTables, refusal_before};
-ghost use Rattle.rb_subscriber.specs.AcceptAlone.{AloneAnswers, ConflictsAlone, DueAnswers};
+ghost use Rattle.std.specs.Thread.{IsSync};
+ghost use Rattle.rb_subscriber.specs.Applier.{Applies, IsApplied};
+ghost use Rattle.rb_subscriber.specs.AcceptShown.{ShownAnswers, ConflictsShown, DueAnswers};
 ghost use Rattle.rb_subscriber.specs.Shown.{entries_told};
 ghost use Rattle.rb_subscriber.specs.Subscription.{cursor_of, own_endpoint, accepted_token};
 
+use crate::applier::Workers;
 use crate::endpoint::Endpoint;
 use crate::laws::accepting_is_step;
 use crate::look::look;
-use crate::refusal::{AcceptAloneError, AcceptError, AcceptRefusal};
+use crate::refusal::{AcceptError, AcceptRefusal, SubscriptionError};
 use crate::shown::{Shown, add, fetch, room};
 use crate::step_ledger::StepLedger;
-use cs_apply::Tables;
+use cs_apply::{ApplyError, Tables};
+use cs_model::Changeset;
+use par_apply::{Gate, apply_split};
 use rb_desk::Delivery;
 use rb_sequence::{Sequence, Told};
 use std::alloc::Global;
 use std::marker::Model;
 use std::sync::ledger::Share;
+use std::thread::Threads;
 
 /// A subscription of a broker with threads, owned by one thread. It reads the entries of a delivery
 /// from the cells, applies them to its own tables, and keeps a token for each entry that it
@@ -51,6 +57,7 @@ impl<L: StepLedger> Model for Subscription<L> {
       start = s.end.start;
       link = s.end.link;
       closed = s.end.closed;
+      fallen = s.end.fallen;
       base = s.base;
       tables = s.end.tables;
       told = s.told.items;
@@ -65,29 +72,85 @@ impl<L: StepLedger> Model for Subscription<L> {
 }
 
 impl<L: StepLedger> Subscription<L> {
-    /// Accepts a delivery: reads its entries from the cells, applies the group of their changesets,
-    /// keeps their tokens, and moves the cursor to the delivery's last number, which it returns.
-    /// `sequence` is that of its broker. If the changesets apply one after another without
-    /// conflict, their group leaves the same tables.
+    /// Accepts a delivery: reads its entries from the cells, applies the group of their changesets
+    /// by these workers, keeps their tokens, and moves the cursor to the delivery's last number,
+    /// which it returns. `sequence` is that of its broker. If the changesets apply one after another
+    /// without conflict, their group leaves the same tables. What it returns and leaves doesn't
+    /// depend on how many workers there are, unless memory runs out.
     ///
-    /// Refuses, in this order, `Closed`, `StaleLink`, `Seen`, `Gap`, `Unseen`, `Shape`, `Conflict`.
-    /// `Memory` may replace a conflict, but no other refusal. An error does not change the
-    /// subscription. A conflict comes only if the changesets conflict too when they are applied one
+    /// Refuses, in this order, `Store`, `Closed`, `StaleLink`, `Seen`, `Gap`, `Unseen`, `Shape`,
+    /// `Conflict`. `Memory` may replace a conflict, but no other refusal. An error does not change
+    /// the subscription. A conflict comes only if the changesets conflict too when they are applied one
     /// after another. `Unseen` comes only if the cell of its number showed nothing: the entry isn't
     /// placed yet, or its placement isn't seen by this thread yet.
+    pub fn accept<R: Threads + Sync, G: Gate>(
+        &mut self,
+        workers: &Workers<R, G>,
+        alloc: Global,
+        sequence: &Sequence,
+        delivery: &Delivery,
+    ) -> Result<u64, SubscriptionError>
+        requires { sequence.now ≡ L.cells }
+        ensures answers { ShownAnswers L.cells delivery.now result self.old self.new }
+        ensures conflicts { ConflictsShown L.cells delivery.now self.old.tables result }
+    {
+        self.accept_by(
+            &|tables: &mut Tables, changeset: &Changeset| -> Result<(), ApplyError>
+                requires { IsSync R.row }
+                ensures { IsApplied tables.entry.now changeset.entry.now result tables.exit.now }
+            {
+                apply_split(
+                    workers.rt,
+                    alloc,
+                    tables,
+                    changeset,
+                    workers.n,
+                    workers.gate,
+                )
+            },
+            alloc,
+            sequence,
+            delivery,
+        )
+    }
+
+    /// Accepts a delivery as `accept` does, in the caller's thread. It starts none.
     pub fn accept_alone(
         &mut self,
         alloc: Global,
         sequence: &Sequence,
         delivery: &Delivery,
-    ) -> Result<u64, AcceptAloneError>
+    ) -> Result<u64, SubscriptionError>
         requires { sequence.now ≡ L.cells }
-        ensures answers { AloneAnswers L.cells delivery.now result self.old self.new }
-        ensures conflicts { ConflictsAlone L.cells delivery.now self.old.tables result }
+        ensures answers { ShownAnswers L.cells delivery.now result self.old self.new }
+        ensures conflicts { ConflictsShown L.cells delivery.now self.old.tables result }
+    {
+        self.accept_by(
+            &|tables: &mut Tables, changeset: &Changeset| -> Result<(), ApplyError>
+                ensures { IsApplied tables.entry.now changeset.entry.now result tables.exit.now }
+            { tables.apply(alloc, changeset) },
+            alloc,
+            sequence,
+            delivery,
+        )
+    }
+
+    // accepts a delivery, and applies it by a call that does as `Tables::apply`
+    fn accept_by<F: Fn(&mut Tables, &Changeset) -> Result<(), ApplyError>>(
+        &mut self,
+        applier: &F,
+        alloc: Global,
+        sequence: &Sequence,
+        delivery: &Delivery,
+    ) -> Result<u64, SubscriptionError>
+        requires applier { Applies F.Fn applier.now }
+        requires cells { sequence.now ≡ L.cells }
+        ensures answers { ShownAnswers L.cells delivery.now result self.old self.new }
+        ensures conflicts { ConflictsShown L.cells delivery.now self.old.tables result }
     {
         match self.refuses(delivery) {
-            Some(why) => Err(AcceptAloneError::Refused(why)),
-            None => self.accept_due(alloc, sequence, delivery),
+            Some(why) => Err(SubscriptionError::Refused(why)),
+            None => self.accept_due(applier, alloc, sequence, delivery),
         }
     }
 
@@ -102,19 +165,21 @@ impl<L: StepLedger> Subscription<L> {
         self.end.refuses(delivery)
     }
 
-    // `accept_alone`, for a delivery that begins right after the cursor
-    fn accept_due(
+    // `accept_by`, for a delivery that begins right after the cursor
+    fn accept_due<F: Fn(&mut Tables, &Changeset) -> Result<(), ApplyError>>(
         &mut self,
+        applier: &F,
         alloc: Global,
         sequence: &Sequence,
         delivery: &Delivery,
-    ) -> Result<u64, AcceptAloneError>
+    ) -> Result<u64, SubscriptionError>
+        requires applier { Applies F.Fn applier.now }
         requires cells { sequence.now ≡ L.cells }
         requires free { refusal_before (own_endpoint self.old) delivery.now ≡ None }
         requires due { (delivery.now.first ≡ suc (cursor_of self.old))
             × (cursor_of self.old < delivery.now.last) }
         ensures answers { DueAnswers L.cells delivery.now result self.old self.new }
-        ensures conflicts { ConflictsAlone L.cells delivery.now self.old.tables result }
+        ensures conflicts { ConflictsShown L.cells delivery.now self.old.tables result }
     {
         accepting_is_step();
         let (first, last) = (delivery.first(), delivery.last());
@@ -124,19 +189,19 @@ impl<L: StepLedger> Subscription<L> {
         };
         let shown = match fetch(sequence, room, first, last) {
             Ok(shown) => shown,
-            Err(number) => return Err(AcceptAloneError::Unseen { number }),
+            Err(number) => return Err(SubscriptionError::Unseen { number }),
         };
         let entries = Shown {
             sequence,
             told: &shown,
         };
-        match self.end.accept_brought(alloc, &entries, delivery) {
+        match self.end.accept_brought(applier, alloc, &entries, delivery) {
             Ok(cursor) => {
                 add(&mut self.told, shown);
                 Ok(cursor)
             }
-            Err(AcceptError::Refused(why)) => Err(AcceptAloneError::Refused(why)),
-            Err(AcceptError::Memory) => Err(AcceptAloneError::Memory),
+            Err(AcceptError::Refused(why)) => Err(SubscriptionError::Refused(why)),
+            Err(AcceptError::Memory) => Err(SubscriptionError::Memory),
         }
     }
 

@@ -88,6 +88,7 @@ fn endpoints_say_why(rt: HostRuntime) -> Result<(), Fail> {
         kind: ConflictKind::Data,
     };
     let table = [
+        (AcceptRefusal::Store, "the subscription has fallen"),
         (AcceptRefusal::Closed, "the subscription is closed"),
         (
             AcceptRefusal::StaleLink,
@@ -134,6 +135,7 @@ fn brokers_say_why(rt: HostRuntime) -> Result<(), Fail> {
             BrokerRefusal::AlreadyWithdrawn,
             "the entry is withdrawn already",
         ),
+        (BrokerRefusal::NotFallen, "the subscription has not fallen"),
         (
             BrokerRefusal::UnknownTable(7),
             "section 7 is of an unknown table",
@@ -186,6 +188,13 @@ fn replies_say_what_was_done(rt: HostRuntime) -> Result<(), Fail> {
                 cursor: 8,
             },
             "subscription 2 has accepted up to 8",
+        ),
+        (
+            Reply::Crashed {
+                subscription: 2,
+                cursor: 8,
+            },
+            "subscription 2 has fallen at 8",
         ),
         (Reply::Floor(6), "settled up to 6"),
         (Reply::Returned, "the delivery is returned"),

@@ -5,7 +5,7 @@ ghost use Rattle.std.specs.Prelude.{◌≡◌};
 use crate::desks::{Due, Fills, Reads, opened_desks, shown};
 use rb_desk::Delivery;
 use rb_sequence::{Filler, Preparer, Sequence};
-use rb_subscriber::{AcceptAloneError, StepLedger, Subscription};
+use rb_subscriber::{StepLedger, Subscription, SubscriptionError};
 use std::alloc::Global;
 use std::marker::{Brand, PhantomData};
 use std::process::Abort;
@@ -150,7 +150,7 @@ fn accept_late<L: StepLedger>(
     for _ in 0..MOST_TURNS {
         match subscription.accept_alone(alloc, &reads.sequence, delivery) {
             Ok(_) => return Ok(()),
-            Err(AcceptAloneError::Unseen { .. }) => {}
+            Err(SubscriptionError::Unseen { .. }) => {}
             Err(_) => return Err("a delivery is refused"),
         }
     }

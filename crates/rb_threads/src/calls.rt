@@ -7,7 +7,7 @@ use crate::rows::put;
 use cs_apply::Tables;
 use rb_broker::{Hall, RefusedSubscription, SubscribeError, TakeError};
 use rb_desk::{Delivery, DeskError, DeskRefusal};
-use rb_subscriber::{AcceptAloneError, AcceptRefusal, Subscription};
+use rb_subscriber::{AcceptRefusal, Subscription, SubscriptionError};
 use std::alloc::{AllocError, Global};
 use std::process::Abort;
 use std::sync::{Arc, Wait};
@@ -190,9 +190,9 @@ impl<L: Hall> History<L> {
         let sequence = self.bench.broker.sequence();
         match subscription.accept_alone(alloc, sequence, &delivery) {
             Ok(cursor) => Ok(Answer::Accepted(cursor)),
-            Err(AcceptAloneError::Refused(why)) => Ok(Answer::Refused(why)),
-            Err(AcceptAloneError::Memory) => Ok(Answer::Memory),
-            Err(AcceptAloneError::Unseen { .. }) => Err(Fail::new("the cell shows its entry")),
+            Err(SubscriptionError::Refused(why)) => Ok(Answer::Refused(why)),
+            Err(SubscriptionError::Memory) => Ok(Answer::Memory),
+            Err(SubscriptionError::Unseen { .. }) => Err(Fail::new("the cell shows its entry")),
         }
     }
 

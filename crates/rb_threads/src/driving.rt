@@ -113,7 +113,9 @@ const BAD: [(&str, u64); 5] = [
 #[test]
 fn drives_end_as_they_should(rt: HostRuntime) -> Result<(), Fail> {
     for row in ROWS {
-        ends(&rt, rt.alloc(), row)?;
+        for appliers in [1, 4, 16] {
+            ends(&rt, rt.alloc(), row, appliers)?;
+        }
     }
     for (input, line) in BAD {
         is_refused(&rt, rt.alloc(), input, line)?;
@@ -121,10 +123,16 @@ fn drives_end_as_they_should(rt: HostRuntime) -> Result<(), Fail> {
     Ok(())
 }
 
-fn ends<R: Threads + Wait + Abort + Sync>(rt: &R, alloc: Global, row: Row) -> Result<(), Fail> {
+fn ends<R: Threads + Wait + Abort + Sync>(
+    rt: &R,
+    alloc: Global,
+    row: Row,
+    appliers: u64,
+) -> Result<(), Fail> {
     let (input, batch, subscribers, status, report) = row;
+    let config = Config::new(batch, 4, 10, 65_536, 64, appliers)?;
     let mut written = Vec::new(alloc);
-    match driven(rt, alloc, input, batch, subscribers, &mut written)? {
+    match driven(rt, alloc, input, config, subscribers, &mut written) {
         Ok(given) => {
             assert_eq!(rt; str::from_utf8(&written).ok(), Some(report));
             assert_eq!(rt; given, status);
@@ -142,7 +150,7 @@ fn is_refused<R: Threads + Wait + Abort + Sync>(
     line: u64,
 ) -> Result<(), Fail> {
     let mut written = Vec::new(alloc);
-    match driven(rt, alloc, input, 16, 1, &mut written)? {
+    match driven(rt, alloc, input, Config::standard(), 1, &mut written) {
         Err(DriveFault::Line(found)) => {
             assert_eq!(rt; (found, written.len()), (line, 0));
             Ok(())
@@ -156,11 +164,10 @@ fn driven<R: Threads + Wait + Sync>(
     rt: &R,
     alloc: Global,
     input: &str,
-    batch: u64,
+    config: Config,
     subscribers: u64,
     written: &mut Vec<u8>,
-) -> Result<Result<u8, DriveFault>, Fail> {
-    let config = Config::new(batch, 4, 10, 65_536, 64, 1)?;
+) -> Result<u8, DriveFault> {
     let mut reader: &[u8] = input.as_bytes();
-    Ok(run_drive(rt, alloc, &mut reader, written, config, subscribers))
+    run_drive(rt, alloc, &mut reader, written, config, subscribers)
 }

@@ -13,7 +13,7 @@ use rb_broker::{
 use rb_close::finish;
 use rb_desk::{Config, Delivery, DeskError, DeskRefusal};
 use rb_sequencer::{Sequencer, Turn};
-use rb_subscriber::{AcceptAloneError, Subscription};
+use rb_subscriber::{Subscription, SubscriptionError};
 use std::alloc::Global;
 use std::io::Write;
 use std::marker::Brand;
@@ -226,7 +226,7 @@ fn settle<L: Hall, R: Wait>(
         Ok(_cursor) => {
             broker.ack(rt, alloc, subscription, delivery)?;
         }
-        Err(AcceptAloneError::Unseen { .. }) => broker.nack(rt, alloc, subscription, delivery)?,
+        Err(SubscriptionError::Unseen { .. }) => broker.nack(rt, alloc, subscription, delivery)?,
         Err(why) => return Err(why.into()),
     }
     Ok(())

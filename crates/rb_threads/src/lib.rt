@@ -1,7 +1,9 @@
-//! Tests of the broker with threads, from outside. Each loop that waits counts its turns, and fails
-//! if they are too many. Theorem: none.
+//! Tests of the broker with threads, and of appliers, from outside. Each loop that waits counts its
+//! turns, and fails if they are too many. Theorem: none.
 #![tactic(auto)]
 
+#[cfg(test)]
+mod appliers;
 #[cfg(test)]
 mod bench;
 #[cfg(test)]
@@ -10,6 +12,8 @@ mod beside;
 mod calls;
 #[cfg(test)]
 mod cells;
+#[cfg(test)]
+mod courses;
 #[cfg(test)]
 mod deliveries;
 #[cfg(test)]
@@ -22,6 +26,8 @@ mod embedding;
 mod finishing;
 #[cfg(test)]
 mod given;
+#[cfg(test)]
+mod recorded;
 #[cfg(test)]
 mod rows;
 #[cfg(test)]

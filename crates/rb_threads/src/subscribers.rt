@@ -3,15 +3,16 @@
 
 ghost use Rattle.std.specs.Prelude.{◌≡◌, IfOk};
 
+use crate::courses::{Course, accept_all};
 use crate::given::{publisher, schema};
 use crate::threads::{place, send, stage};
 use cs_apply::Tables;
-use rb_broker::{Broker, Hall, Opened, Publisher, StagedSet, Started, TakeError, WithdrawRefusal};
+use rb_broker::{Broker, Hall, Opened, Publisher, StagedSet, Started, WithdrawRefusal};
 use rb_close::{meet, meet_sequencer};
-use rb_desk::{Config, Delivery, DeskError, DeskRefusal};
+use rb_desk::Config;
 use rb_sequence::Sequence;
 use rb_sequencer::Sequencer;
-use rb_subscriber::{AcceptAloneError, AcceptRefusal, Auditor, Missing, Subscription};
+use rb_subscriber::{Auditor, Missing, Subscription};
 use std::alloc::{AllocError, Global};
 use std::marker::Brand;
 use std::process::Abort;
@@ -36,24 +37,6 @@ enum Owner<L: Hall> {
     Publishes(Publisher<L>),
     Places(Sequencer<L>),
     Accepts(Subscription<L>, Course),
-}
-
-// A subscriber's random course, which its number fixes. It makes no detour if there are none.
-#[derive(Clone, Copy)]
-struct Course {
-    state: u64,
-    detours: bool,
-}
-
-impl Course {
-    // a number below 16, by a linear congruential generator
-    fn next(&mut self) -> u64 {
-        self.state = self
-            .state
-            .wrapping_mul(6_364_136_223_846_793_005)
-            .wrapping_add(1_442_695_040_888_963_407);
-        self.state >> 60
-    }
 }
 
 /// What is left once all threads have ended.
@@ -258,7 +241,7 @@ fn sorted_out<L: Hall>(
     Ok((sequencers, subscriptions))
 }
 
-fn work<L: Hall, R: Wait + Abort>(
+fn work<L: Hall, R: Threads + Wait + Abort + Sync>(
     rt: &R,
     alloc: Global,
     broker: &Broker<L>,
@@ -274,7 +257,15 @@ fn work<L: Hall, R: Wait + Abort>(
             Owner::Places(sequencer)
         }
         Owner::Accepts(mut subscription, mut course) => {
-            let done = accept_all(rt, alloc, broker, &mut subscription, &mut course);
+            let done = accept_all(
+                rt,
+                alloc,
+                broker,
+                &mut subscription,
+                &mut course,
+                ALL,
+                MOST_TURNS,
+            );
             ends(rt, done);
             Owner::Accepts(subscription, course)
         }
@@ -324,105 +315,4 @@ fn withdraw<L: Hall>(
         }
     }
     Err("an entry is never placed")
-}
-
-// accepts the whole sequence, by its course
-fn accept_all<L: Hall, R: Wait>(
-    rt: &R,
-    alloc: Global,
-    broker: &Broker<L>,
-    subscription: &mut Subscription<L>,
-    course: &mut Course,
-) -> Result<(), &'static str> {
-    let mut held = None;
-    for now in 0..MOST_TURNS {
-        if held.is_none() && subscription.cursor() >= ALL {
-            return Ok(());
-        }
-        let detour = if course.detours { course.next() } else { 15 };
-        held = match (detour, held) {
-            (0, _) => reconnect(rt, alloc, broker, subscription)?,
-            (1, held) => expire(rt, alloc, broker, now, held)?,
-            (2, Some(delivery)) => give_back(rt, alloc, broker, subscription, &delivery)?,
-            (_, None) => take(rt, alloc, broker, subscription, now)?,
-            (_, Some(delivery)) => accept(rt, alloc, broker, subscription, delivery)?,
-        };
-    }
-    Err("a subscriber never ends")
-}
-
-// what it held is stale
-fn reconnect<L: Hall, R: Wait>(
-    rt: &R,
-    alloc: Global,
-    broker: &Broker<L>,
-    subscription: &mut Subscription<L>,
-) -> Result<Option<Delivery>, &'static str> {
-    match broker.reconnect(rt, alloc, subscription) {
-        Ok(_) => Ok(None),
-        Err(_) => Err("a reconnection is refused"),
-    }
-}
-
-// all deliveries may expire, also the one that it holds
-fn expire<L: Hall, R: Wait>(
-    rt: &R,
-    alloc: Global,
-    broker: &Broker<L>,
-    now: u64,
-    held: Option<Delivery>,
-) -> Result<Option<Delivery>, &'static str> {
-    match broker.expire(rt, alloc, now) {
-        Ok(_) => Ok(held),
-        Err(_) => Err("nothing can expire"),
-    }
-}
-
-fn give_back<L: Hall, R: Wait>(
-    rt: &R,
-    alloc: Global,
-    broker: &Broker<L>,
-    subscription: &mut Subscription<L>,
-    delivery: &Delivery,
-) -> Result<Option<Delivery>, &'static str> {
-    match broker.nack(rt, alloc, subscription, delivery) {
-        Ok(()) | Err(DeskError::Refused(DeskRefusal::NotInFlight)) => Ok(None),
-        Err(_) => Err("what is given back is refused"),
-    }
-}
-
-fn take<L: Hall, R: Wait>(
-    rt: &R,
-    alloc: Global,
-    broker: &Broker<L>,
-    subscription: &mut Subscription<L>,
-    now: u64,
-) -> Result<Option<Delivery>, &'static str> {
-    match broker.take(rt, alloc, subscription, now) {
-        Ok(delivery) => Ok(Some(delivery)),
-        Err(TakeError::Desk(DeskError::Refused(DeskRefusal::Empty { .. }))) => {
-            thread::yield_now();
-            Ok(None)
-        }
-        Err(_) => Err("nothing is delivered"),
-    }
-}
-
-// Accepts what it holds, unless it has it already, and acknowledges it, unless it has expired.
-fn accept<L: Hall, R: Wait>(
-    rt: &R,
-    alloc: Global,
-    broker: &Broker<L>,
-    subscription: &mut Subscription<L>,
-    delivery: Delivery,
-) -> Result<Option<Delivery>, &'static str> {
-    match subscription.accept_alone(alloc, broker.sequence(), &delivery) {
-        Ok(_) | Err(AcceptAloneError::Refused(AcceptRefusal::Seen)) => {}
-        Err(AcceptAloneError::Unseen { .. }) => return Ok(Some(delivery)),
-        Err(_) => return Err("a delivery is refused"),
-    }
-    match broker.ack(rt, alloc, subscription, &delivery) {
-        Ok(_) | Err(DeskError::Refused(DeskRefusal::NotInFlight)) => Ok(None),
-        Err(_) => Err("an acknowledgement is refused"),
-    }
 }

@@ -8,7 +8,7 @@ use cs_apply::{Conflict, ConflictKind};
 use rb_close::meet;
 use rb_desk::Delivery;
 use rb_sequence::{Filler, Preparer, Sequence, Told};
-use rb_subscriber::{AcceptAloneError, AcceptRefusal, Auditor, StepLedger, Subscription};
+use rb_subscriber::{AcceptRefusal, Auditor, StepLedger, Subscription, SubscriptionError};
 use std::alloc::{AllocError, Global};
 use std::marker::{Brand, PhantomData};
 use std::process::Abort;
@@ -35,20 +35,20 @@ fn refused<L: StepLedger, R: Abort>(
     reads: &Reads<L>,
     subscription: &mut Subscription<L>,
     delivery: &Delivery,
-) -> Result<Option<AcceptAloneError>, AllocError> {
+) -> Result<Option<SubscriptionError>, AllocError> {
     let before = shown(alloc, subscription)?;
     let Err(why) = subscription.accept_alone(alloc, &reads.sequence, delivery) else {
         return Ok(None);
     };
     assert_eq!(rt; shown(alloc, subscription)?, before);
     match why {
-        AcceptAloneError::Memory => Err(AllocError),
+        SubscriptionError::Memory => Err(AllocError),
         why => Ok(Some(why)),
     }
 }
 
-fn no(why: AcceptRefusal) -> Option<AcceptAloneError> {
-    Some(AcceptAloneError::Refused(why))
+fn no(why: AcceptRefusal) -> Option<SubscriptionError> {
+    Some(SubscriptionError::Refused(why))
 }
 
 /// Cells, a desk that has placed more numbers than are filled, and three subscriptions.
@@ -212,7 +212,7 @@ fn past_the_cells<L: StepLedger, R: Abort>(
 ) -> Result<(), Fail> {
     let last = stand.desks.take(alloc, &stand.other)?;
     let (reads, other) = (&stand.reads, &mut stand.other);
-    let unseen = Some(AcceptAloneError::Unseen { number: 6 });
+    let unseen = Some(SubscriptionError::Unseen { number: 6 });
     assert_eq!(rt; refused(rt, alloc, reads, other, &last)?, unseen);
     stand.fills.fill(alloc, 6, &OTHER_TABLE)?;
     let shape = no(AcceptRefusal::Shape { number: 6 });

@@ -60,21 +60,22 @@ take_as_asked old s link cursor now d new e = found_as_asked old s link cursor n
 drained_at : (m n : ℕ) → refusal.Drained m ≡ refusal.Drained n → m ≡ n
 drained_at m n e = cc
 
-not_empty : (front last : ℕ) → refusal.Empty front ≡ refusal.Drained last → ⊥
-not_empty front last e = cc
+empty_is_not_drained : (front last : ℕ) → refusal.Empty front ≡ refusal.Drained last → ⊥
+empty_is_not_drained front last e = cc
 
 tells_drained : (spans : List Span) (cursor at last front : ℕ)
     → cond (is_drained spans cursor at) (refusal.Drained at) (refusal.Empty front) ≡ refusal.Drained last
     → (cursor ≡ at) × (at ≡ last)
 tells_drained [] cursor at last front e = elim (eqb_tells cursor at) as (λ w. (cursor ≡ at) × (at ≡ last)) [
   | inl same ↦ (same.1, drained_at at last (ap (λ b. cond b (refusal.Drained at) (refusal.Empty front)) (sym same.0) ∙ e))
-  | inr other ↦ absurd (not_empty front last (ap (λ b. cond b (refusal.Drained at) (refusal.Empty front)) (sym other.0) ∙ e))
+  | inr other ↦ absurd (empty_is_not_drained front last
+      (ap (λ b. cond b (refusal.Drained at) (refusal.Empty front)) (sym other.0) ∙ e))
 ]
-tells_drained (p ∷ rest) cursor at last front e = absurd (not_empty front last e)
+tells_drained (p ∷ rest) cursor at last front e = absurd (empty_is_not_drained front last e)
 
 at_the_end : (old : Picture) (q : Subscription) (cursor last : ℕ) (o : Option ℕ)
     → none_ready old q cursor o ≡ refusal.Drained last → (cursor ≡ last) × (o ≡ Some last)
-at_the_end old q cursor last None e = absurd (not_empty old.front last e)
+at_the_end old q cursor last None e = absurd (empty_is_not_drained old.front last e)
 at_the_end old q cursor last (Some at) e =
     let both = tells_drained q.spans cursor at last old.front e in (both.0 ∙ both.1, ap (λ n. Some n) both.1)
 
@@ -89,20 +90,20 @@ not_ready old s q cursor now last None e =
     at_the_end old q cursor last old.closing why
 not_ready old s q cursor now last (Some span) e = absurd (let no : Ok (delivery_from old s q span) ≡ Err (refusal.Drained last) = e in cc)
 
-abbrev Ends : Picture → ℕ → ℕ → TakeResult → Type 0
-Ends old cursor last x = x.0 ≡ Err (refusal.Drained last) → (cursor ≡ last) × (old.closing ≡ Some last)
+abbrev DrainsAtEnd : Picture → ℕ → ℕ → TakeResult → Type 0
+DrainsAtEnd old cursor last x = x.0 ≡ Err (refusal.Drained last) → (cursor ≡ last) × (old.closing ≡ Some last)
 
-pub drained_at_the_end : (old : Picture) (s link cursor now last : ℕ) → Ends old cursor last (take old s link cursor now)
+pub drained_at_the_end : (old : Picture) (s link cursor now last : ℕ) → DrainsAtEnd old cursor last (take old s link cursor now)
 unfolding take
 drained_at_the_end old s link cursor now last = by (slice_get old.subscriptions s)
   where
-    by : (o : Option Subscription) → Ends old cursor last (delivered_from old s link cursor now o)
+    by : (o : Option Subscription) → DrainsAtEnd old cursor last (delivered_from old s link cursor now o)
     by None = λ e. absurd (let no : Err refusal.NoSuch ≡ Err (refusal.Drained last) = e in cc)
     by (Some q) =
-        either_way (Ends old cursor last) (not (link == q.link)) _ _
+        either_way (DrainsAtEnd old cursor last) (not (link == q.link)) _ _
         (λ e. absurd (let no : Err refusal.StaleLink ≡ Err (refusal.Drained last) = e in cc))
-        (either_way (Ends old cursor last) q.closed _ _
+        (either_way (DrainsAtEnd old cursor last) q.closed _ _
         (λ e. absurd (let no : Err refusal.Closed ≡ Err (refusal.Drained last) = e in cc))
-        (either_way (Ends old cursor last) (not (has_room old.limits.window q)) _ _
+        (either_way (DrainsAtEnd old cursor last) (not (has_room old.limits.window q)) _ _
         (λ e. absurd (let no : Err refusal.WindowFull ≡ Err (refusal.Drained last) = e in cc))
         (not_ready old s q cursor now last (first_ready q.spans))))

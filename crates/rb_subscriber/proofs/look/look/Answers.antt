@@ -3,7 +3,7 @@ use Rattle.std.specs.Prelude.{OnOk, IfErr}
 use Rattle.std.proofs.lemmas.List.{length-append}
 use Rattle.cs_model.specs.Schema.{refusal_of}
 use Rattle.rb_sequence.specs.Entry.{Entry}
-use Rattle.rb_subscriber.specs.AcceptAlone.{IsFirstOutside, outside_after}
+use Rattle.rb_subscriber.specs.AcceptShown.{IsFirstOutside, outside_after}
 use Rattle.rb_subscriber.proofs.TokenLaws.{one_more_shown, outside_one}
 use Rattle.rb_subscriber.proofs.look.look.Goals as goal
 

@@ -1,6 +1,6 @@
 use Rattle.std.proofs.Common.{◌≡◌, List, length}
 use Rattle.rb_sequence.specs.Cells.{CellToken}
-use Rattle.rb_subscriber.specs.AcceptAlone.{IsFirstOutside}
+use Rattle.rb_subscriber.specs.AcceptShown.{IsFirstOutside}
 use Rattle.rb_sequence.specs.Cells.{AreInCells}
 use Rattle.rb_subscriber.proofs.look.look.Given as goal
 

@@ -2,11 +2,11 @@ use Rattle.std.proofs.Common.{◌≡◌, ◌+◌, ◌-◌, ◌++◌, suc, length
 use Rattle.rb_sequence.specs.Cells.{CellToken}
 use Rattle.rb_subscriber.specs.Accept.{accept_brought, AppliesSingly, HasSingleTables}
 use Rattle.cs_apply.specs.State as tables
-use Rattle.rb_subscriber.specs.AcceptAlone.{LookAnswers}
+use Rattle.rb_subscriber.specs.AcceptShown.{LookAnswers}
 use Rattle.rb_sequence.specs.Cells.{AreInCells}
 use Rattle.rb_subscriber.specs.Shown.{ShowDelivery, AreTokens, entries_told}
 use Rattle.rb_subscriber.specs.Subscription.{SubscriptionState}
-use Rattle.rb_subscriber.proofs.AloneLaws.{alone_kept, due_ok, looked_answers}
+use Rattle.rb_subscriber.proofs.ShownLaws.{shown_kept, due_ok, looked_answers}
 use Rattle.rb_subscriber.proofs.TokenLaws.{tokens_by_place}
 use Rattle.rb_subscriber.proofs.subscription.Subscription.accept_due.Goals as goal
 
@@ -20,6 +20,7 @@ returns-in_default-clause-answers g c =
       start = s.end.start;
       link = s.end.link;
       closed = s.end.closed;
+      fallen = s.end.fallen;
       base = s.base;
       tables = s.end.tables;
       told = told;
@@ -61,7 +62,7 @@ invariant_of-self-in-Ok-accept_brought g c =
       c.in-Ok.ensures.ok.1 ∙ (λ i. suc (c.last-last.ensures i) - first i),
     ) in
     let inv = c.self.invariant in
-    let kept = alone_kept cells base told shown d e new inv.0 inv.1 inv.2 are accepts goes in
+    let kept = shown_kept cells base told shown d e new inv.0 inv.1 inv.2 are accepts goes in
     let more : c.add.new.told.items ≡ told ++ shown =
     c.add.ensures ∙ ap (λ (xs : List CellToken). xs ++ shown) c.room.ensures.same in (
       kept.cursor ∙ ap (λ (xs : List CellToken). new.start + length xs) (sym more),
@@ -94,7 +95,7 @@ returns-in-Ok-accept_brought-clause-answers g c =
       c.in-Ok.ensures.ok.1 ∙ (λ i. suc (c.last-last.ensures i) - first i),
     ) in
     let inv = c.self.invariant in
-    let kept = alone_kept cells base told shown d e new inv.0 inv.1 inv.2 are accepts goes in
+    let kept = shown_kept cells base told shown d e new inv.0 inv.1 inv.2 are accepts goes in
     let more : c.add.new.told.items ≡ told ++ shown =
     c.add.ensures ∙ ap (λ (xs : List CellToken). xs ++ shown) c.room.ensures.same in
     rw (← c.self.view_is)

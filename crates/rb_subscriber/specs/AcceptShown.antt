@@ -1,5 +1,5 @@
 -- What a subscription returns for a delivery, and what it changes.
-use Rattle.std.specs.Prelude.{◌≡◌, ◌≤◌, ℕ, List, ◌++◌, Option, Some, None, Result, Ok, Err}
+use Rattle.std.specs.Prelude.{◌≡◌, ℕ, List, ◌++◌, Option, Some, None, Result, Ok, Err}
 use Rattle.std.specs.Prelude.{Bool, true, false}
 use Rattle.cs_apply.specs.State.{TableState}
 use Rattle.cs_model.specs.declared.shape.Shape.{Shape}
@@ -8,19 +8,19 @@ use Rattle.rb_sequence.specs.Cells.{Cells, CellToken}
 use Rattle.rb_sequence.specs.Entry.{Entry}
 use Rattle.rb_subscriber.specs.Accept.{accept_brought, refusal_before, AsksTables, ConflictsSingly}
 use Rattle.rb_subscriber.specs.Accept.{first_outside_entry}
-use Rattle.rb_subscriber.specs.Shown.{ShowDelivery, entries_told}
+use Rattle.rb_subscriber.specs.Shown.{ShowBefore, ShowDelivery, entries_told}
 use Rattle.rb_subscriber.specs.Subscription.{SubscriptionState, cursor_of, own_endpoint}
-use Rattle.rb_subscriber.specs.declared.refusal.AcceptAloneError.{AcceptAloneError}
-use Rattle.rb_subscriber.specs.declared.refusal.AcceptAloneError.TheVariants.{Refused, Unseen}
-use Rattle.rb_subscriber.specs.declared.refusal.AcceptAloneError.TheVariants.{Memory}
+use Rattle.rb_subscriber.specs.declared.refusal.SubscriptionError.{SubscriptionError}
+use Rattle.rb_subscriber.specs.declared.refusal.SubscriptionError.TheVariants.{Refused, Unseen}
+use Rattle.rb_subscriber.specs.declared.refusal.SubscriptionError.TheVariants.{Memory}
 use Rattle.rb_subscriber.specs.declared.refusal.AcceptRefusal.{AcceptRefusal}
 use Rattle.rb_subscriber.specs.declared.refusal.AcceptRefusal.TheVariants as refusal
 
 -- What it returns for a delivery that isn't refused before its entries are asked. `Ok`, a refusal
 -- and out of memory are what `accept_brought` says of the entries that the cells show. What was
--- accepted is kept, by its tokens; an error changes nothing. `Unseen` is one of the delivery's
--- numbers.
-abbrev pub DueAnswers : Cells → Delivery → Result ℕ AcceptAloneError → SubscriptionState
+-- accepted is kept, by its tokens; an error changes nothing. `Unseen` is the delivery's first number
+-- whose cell shows nothing: the cells show the entries before it.
+abbrev pub DueAnswers : Cells → Delivery → Result ℕ SubscriptionError → SubscriptionState
     → SubscriptionState → Type 0
 DueAnswers cells delivery (Ok cursor) old new =
     (shown : List CellToken) × ShowDelivery cells delivery shown
@@ -31,28 +31,28 @@ DueAnswers cells delivery (Err (Refused why)) old new = (new ≡ old)
     × (shown : List CellToken) × ShowDelivery cells delivery shown
     × (accept_brought (own_endpoint old) (entries_told shown) delivery ≡ Err why)
 DueAnswers cells delivery (Err (Unseen number)) old new = (new ≡ old)
-    × (delivery.first ≤ number) × (number ≤ delivery.last)
+    × ShowBefore cells delivery number
 DueAnswers cells delivery (Err Memory) old new = (new ≡ old)
     × (shown : List CellToken) × ShowDelivery cells delivery shown
     × AsksTables (accept_brought (own_endpoint old) (entries_told shown) delivery)
 
 -- what it returns for any delivery
-abbrev pub answers_by : Option AcceptRefusal → Cells → Delivery → Result ℕ AcceptAloneError
+abbrev pub answers_by : Option AcceptRefusal → Cells → Delivery → Result ℕ SubscriptionError
     → SubscriptionState → SubscriptionState → Type 0
 answers_by None cells delivery result old new = DueAnswers cells delivery result old new
 answers_by (Some why) cells delivery result old new = (result ≡ Err (Refused why)) × (new ≡ old)
 
-abbrev pub AloneAnswers : Cells → Delivery → Result ℕ AcceptAloneError → SubscriptionState
+abbrev pub ShownAnswers : Cells → Delivery → Result ℕ SubscriptionError → SubscriptionState
     → SubscriptionState → Type 0
-AloneAnswers cells delivery result old new =
+ShownAnswers cells delivery result old new =
     answers_by (refusal_before (own_endpoint old) delivery) cells delivery result old new
 
 -- a conflict comes only if what the cells show conflicts too when it is applied one after another
-abbrev pub ConflictsAlone : Cells → Delivery → TableState → Result ℕ AcceptAloneError → Type 0
-ConflictsAlone cells delivery old (Err (Refused (refusal.Conflict conflict))) =
+abbrev pub ConflictsShown : Cells → Delivery → TableState → Result ℕ SubscriptionError → Type 0
+ConflictsShown cells delivery old (Err (Refused (refusal.Conflict conflict))) =
     (shown : List CellToken) × ShowDelivery cells delivery shown
     × ConflictsSingly old (entries_told shown)
-ConflictsAlone cells delivery old other = Unit {0}
+ConflictsShown cells delivery old other = Unit {0}
 
 -- ---- what the cells show before there is room for it
 
@@ -68,10 +68,9 @@ outside_after (Some before) is_refused number = Some before
 outside_after None true number = Some number
 outside_after None false number = None
 
--- nothing of some number, an entry that isn't admitted, or else entries that are
-abbrev pub LookAnswers : Cells → Delivery → List Shape → AcceptAloneError → Type 0
-LookAnswers cells delivery schema (Unseen number) =
-    (delivery.first ≤ number) × (number ≤ delivery.last)
+-- nothing of the first such number, an entry that isn't admitted, or else entries that are
+abbrev pub LookAnswers : Cells → Delivery → List Shape → SubscriptionError → Type 0
+LookAnswers cells delivery schema (Unseen number) = ShowBefore cells delivery number
 LookAnswers cells delivery schema (Refused (refusal.Shape number)) = (shown : List CellToken)
     × ShowDelivery cells delivery shown × IsFirstOutside schema shown (Some number)
 LookAnswers cells delivery schema (Refused other) = ⊥

@@ -14,9 +14,9 @@ use Rattle.rb_subscriber.specs.Accept.{applied_if_admitted, first_outside_entry,
 use Rattle.rb_subscriber.specs.Accept.{taken_unless_refused}
 use Rattle.rb_subscriber.specs.declared.refusal.AcceptRefusal.TheVariants as refusal
 use Rattle.rb_subscriber.specs.Endpoint.{Endpoint}
-use Rattle.rb_subscriber.specs.declared.refusal.AcceptAloneError.{AcceptAloneError}
-use Rattle.rb_subscriber.specs.declared.refusal.AcceptAloneError.TheVariants.{Refused, Unseen, Memory}
-use Rattle.rb_subscriber.specs.AcceptAlone.{DueAnswers, LookAnswers}
+use Rattle.rb_subscriber.specs.declared.refusal.SubscriptionError.{SubscriptionError}
+use Rattle.rb_subscriber.specs.declared.refusal.SubscriptionError.TheVariants.{Refused, Unseen, Memory}
+use Rattle.rb_subscriber.specs.AcceptShown.{DueAnswers, LookAnswers}
 use Rattle.rb_sequence.specs.Cells.{AreInCells}
 use Rattle.rb_subscriber.specs.Shown.{ShowDelivery, entries_told}
 use Rattle.rb_subscriber.specs.Subscription.{SubscriptionState, own_endpoint}
@@ -36,21 +36,21 @@ in_parts base (entry ∷ some) more new all =
     record { mid = later.mid; first = (all.0, all.1, later.first); rest = later.rest }
 
 -- the tokens and the tables after an accepted delivery
-pub record AloneKept (cells : Cells) (base : tables.TableState) (told shown : List CellToken) (new : Endpoint)
+pub record ShownKept (cells : Cells) (base : tables.TableState) (told shown : List CellToken) (new : Endpoint)
     : Type 0 where
   pub cursor : new.cursor ≡ new.start + length (told ++ shown)
   pub tokens : AreInCells cells (suc new.start) (told ++ shown)
   pub singly : HasSingleTables base (entries_told (told ++ shown)) new.tables
 
-pub alone_kept : (cells : Cells) (base : tables.TableState) (told shown : List CellToken) (delivery : Delivery)
+pub shown_kept : (cells : Cells) (base : tables.TableState) (told shown : List CellToken) (delivery : Delivery)
     (old new : Endpoint) → old.cursor ≡ old.start + length told
     → AreInCells cells (suc old.start) told
     → HasSingleTables base (entries_told told) old.tables
     → ShowDelivery cells delivery shown
     → AcceptsBrought old (entries_told shown) delivery new
     → ((t : tables.TableState) → AppliesSingly old.tables (entries_told shown) t → new.tables ≡ t)
-    → AloneKept cells base told shown new
-alone_kept cells base told shown delivery old new cursor tokens singly are accepts goes =
+    → ShownKept cells base told shown new
+shown_kept cells base told shown delivery old new cursor tokens singly are accepts goes =
     let start : new.start ≡ old.start = ap (λ (e : Endpoint). e.start) accepts.kept in
     let last : new.cursor ≡ delivery.last = ap (λ (e : Endpoint). e.cursor) accepts.kept in
     let long = length-append told shown in
@@ -68,11 +68,25 @@ alone_kept cells base told shown delivery old new cursor tokens singly are accep
 -- ---- the answers
 
 pub cursor_as : (e : Endpoint) (n : ℕ) → e.cursor ≡ n
-    → record { start = e.start; cursor = n; link = e.link; closed = e.closed; tables = e.tables } ≡ e
+    → record {
+      start = e.start;
+      cursor = n;
+      link = e.link;
+      closed = e.closed;
+      fallen = e.fallen;
+      tables = e.tables;
+    } ≡ e
 cursor_as e n is = ap (λ (k : ℕ). the_end e k) (sym is)
   where
     the_end : Endpoint → ℕ → Endpoint
-    the_end e k = record { start = e.start; cursor = k; link = e.link; closed = e.closed; tables = e.tables }
+    the_end e k = record {
+      start = e.start;
+      cursor = k;
+      link = e.link;
+      closed = e.closed;
+      fallen = e.fallen;
+      tables = e.tables;
+    }
 
 pub due_ok : (cells : Cells) (d : Delivery) (sub steps cursor : ℕ) (base : tables.TableState)
     (told grown shown : List CellToken) (e new : Endpoint) → grown ≡ told ++ shown
@@ -81,12 +95,13 @@ pub due_ok : (cells : Cells) (d : Delivery) (sub steps cursor : ℕ) (base : tab
     → accept_brought e (entries_told shown) d ≡ Ok new
     → cursor ≡ new.cursor
     → AcceptsBrought e (entries_told shown) d new
-    → AloneKept cells base told shown new
+    → ShownKept cells base told shown new
     → DueAnswers cells d (Ok cursor) (record {
       sub = sub;
       start = e.start;
       link = e.link;
       closed = e.closed;
+      fallen = e.fallen;
       base = base;
       tables = e.tables;
       told = told;
@@ -96,6 +111,7 @@ pub due_ok : (cells : Cells) (d : Delivery) (sub steps cursor : ℕ) (base : tab
       start = new.start;
       link = new.link;
       closed = new.closed;
+      fallen = new.fallen;
       base = base;
       tables = new.tables;
       told = grown;
@@ -120,6 +136,7 @@ due_ok cells d sub steps cursor base told grown shown e new more at are ok says 
       start = x.start;
       link = x.link;
       closed = x.closed;
+      fallen = x.fallen;
       base = base;
       tables = new.tables;
       told = xs;
@@ -148,10 +165,10 @@ outside_refused old entries d entry free some =
     (first_outside_entry old.tables.schema entries))) free
     ∙ ap (applied_if_admitted old d.last entries) some
 
-pub looked_answers : (cells : Cells) (d : Delivery) (old new : SubscriptionState) (e : AcceptAloneError)
+pub looked_answers : (cells : Cells) (d : Delivery) (old new : SubscriptionState) (e : SubscriptionError)
     → refusal_before (own_endpoint old) d ≡ None → new ≡ old → LookAnswers cells d old.tables.schema e
     → DueAnswers cells d (Err e) old new
-looked_answers cells d old new (Unseen number) free same look = (same, look.0, look.1)
+looked_answers cells d old new (Unseen number) free same look = (same, look)
 looked_answers cells d old new Memory free same look =
     (same, look.0, look.1, reaches_tables (own_endpoint old) (entries_told look.0) d free look.2)
 looked_answers cells d old new (Refused (refusal.Shape number)) free same look = (
@@ -161,6 +178,7 @@ looked_answers cells d old new (Refused (refusal.Shape number)) free same look =
   outside_refused (own_endpoint old) (entries_told look.0) d look.2.0 free look.2.1
       ∙ ap (λ n. Err (refusal.Shape n)) look.2.2,
 )
+looked_answers cells d old new (Refused refusal.Store) free same look = absurd look
 looked_answers cells d old new (Refused refusal.Closed) free same look = absurd look
 looked_answers cells d old new (Refused refusal.StaleLink) free same look = absurd look
 looked_answers cells d old new (Refused refusal.Seen) free same look = absurd look
