@@ -33,7 +33,15 @@ impl Options {
                 _ => option = Some(place(word)?),
             }
         }
-        let [batch, window, timeout, capacity, intake, appliers, subscribers] = numbers;
+        let [
+            batch,
+            window,
+            timeout,
+            capacity,
+            intake,
+            appliers,
+            subscribers,
+        ] = numbers;
         match option {
             None => {
                 let config = Config::new(batch, window, timeout, capacity, intake, appliers);
