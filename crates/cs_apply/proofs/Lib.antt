@@ -9,3 +9,4 @@ pub mod Lengths
 pub mod Copied
 pub mod PlaceLaws
 pub mod RowEffect
+pub mod SameLaws

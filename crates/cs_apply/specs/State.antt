@@ -1,11 +1,12 @@
 -- Tables as values: a schema, its kept tables and their rows.
-use Rattle.std.specs.Prelude.{ℕ, Bool, false, List, Option, Some, None, slice_get, unwrap_or}
+use Rattle.std.specs.Prelude.{◌≡◌, ℕ, Bool, false, List, Option, Some, None, slice_get, unwrap_or}
 use Rattle.std.specs.Prelude.{if◌then◌else◌, refl}
 use Rattle.std.specs.Coded.{Coded, code_by, coded×, coded_list, coded_bool}
 use Rattle.std.specs.FinMap as map
 use Rattle.cs_model.specs.contracts.shape.Shape as shape
 use Rattle.cs_model.specs.contracts.value.Value as value
 use Rattle.cs_model.specs.declared.shape.Shape.{Shape}
+use Rattle.cs_model.specs.declared.row_key.RowKey.{RowKey}
 use Rattle.cs_model.specs.declared.value.Value.{Value}
 use Rattle.cs_model.specs.Key.{row_key_cmp, row_key_code}
 use Rattle.cs_model.specs.Schema.{table_index}
@@ -13,6 +14,11 @@ use Rattle.cs_model.specs.Schema.{table_index}
 -- rows by their keys: a finite map, in the order of the keys
 abbrev pub Rows : Type 0
 Rows = map.FinMap row_key_cmp (List Value)
+
+-- each of these rows is one of the others, under the same key
+abbrev pub AreIn : Rows → Rows → Type 0
+AreIn rows others = (key : RowKey) (row : List Value) → map.get rows key ≡ Some row
+    → map.get others key ≡ Some row
 
 -- Tables: the schema, one flag for each table that says whether it is kept, and the rows.
 pub record TableState : Type 0 where

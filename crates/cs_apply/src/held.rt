@@ -4,6 +4,7 @@
 ghost use Rattle.std.specs.Prelude.{◌≡◌, length, not, Some, None, IfOk, IfErr, OnOk, OnErr, Ok};
 ghost use Rattle.std.specs.Option.{option_copied};
 ghost use Rattle.std.specs.Arc.{arc_value};
+ghost use Rattle.std.specs.Bool.{Decides};
 ghost use Rattle.std.specs.FinMap as map;
 ghost use Rattle.std.specs.FinSet as set;
 ghost use Rattle.cs_model.specs.declared.row_key.RowKey.{RowKey as Key};
@@ -119,6 +120,17 @@ impl HeldTables {
             kept: Vec::from_slice(alloc, &self.kept)?,
             places: self.places.copied(alloc)?,
         })
+    }
+
+    /// Whether these tables have the same schema, kept tables and rows as the others. Places without
+    /// rows don't count.
+    pub(crate) fn is_same(&self, other: &HeldTables) -> bool
+        ensures { Decides result (self.now.state ≡ other.now.state) }
+    {
+        self.schema.tables() == other.schema.tables()
+            && self.kept == other.kept
+            && self.places.are_in(&other.places)
+            && other.places.are_in(&self.places)
     }
 
     /// Applies all changes of a changeset, as `Tables::apply`. Places may go. An `Err` changes

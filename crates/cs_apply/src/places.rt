@@ -10,15 +10,17 @@ ghost use Rattle.std.specs.Option.{option_map};
 ghost use Rattle.std.specs.FinMap as map;
 ghost use Rattle.cs_model.specs.declared.value.Value.{Value};
 ghost use Rattle.cs_model.specs.declared.row_key.RowKey.{RowKey};
+ghost use Rattle.std.specs.Bool.{Decides};
 ghost use Rattle.cs_apply.specs.Effect.{inserted};
 ghost use Rattle.cs_apply.specs.Errors.{ReportsKind};
 ghost use Rattle.cs_apply.specs.Seen.{listed};
+ghost use Rattle.cs_apply.specs.State.{AreIn};
 ghost use Rattle.cs_apply.specs.Steps.{empty_after, filled, rows_of, rows_in, put};
 ghost use Rattle.cs_apply.specs.Steps.{set_at, undone, Back};
 
 use crate::change_error::ChangeError;
 use crate::conflict::ConflictKind;
-use cs_model::{CopyIn, Row, RowKey};
+use cs_model::{CopyIn, Row, RowKey, same_values};
 use indexmap::IndexMap;
 use indexmap::map::Entry;
 use std::alloc::{AllocError, Global};
@@ -70,6 +72,32 @@ impl Places {
         let place = self.rows.get_index_of(key)?;
         let (_, row) = self.rows.get_index(place)?;
         Some((place, row.as_ref()?))
+    }
+
+    /// Whether each of these rows is a row of the others, too, under the same key.
+    pub(crate) fn are_in(&self, others: &Places) -> bool
+        ensures { Decides result (AreIn (rows_in self.now) (rows_in others.now)) }
+    {
+        // for its clause that no two keys are equal
+        let _places = self.rows.len();
+        for (key, place) in self.rows.iter() {
+            if let Some(row) = place
+                && !others.has(key, row)
+            {
+                return false;
+            }
+        }
+        true
+    }
+
+    // whether this key has this row
+    fn has(&self, key: &RowKey, row: &Row) -> bool
+        ensures { Decides result (map.get (rows_in self.now) key.now ≡ Some row.now) }
+    {
+        match self.find(key) {
+            Some((_, found)) => same_values(found, row),
+            None => false,
+        }
     }
 
     /// All rows with their keys, by table, then by the key's bytes. Returns `AllocError` if memory

@@ -4,6 +4,7 @@
 ghost use Rattle.std.specs.Prelude.{◌≡◌, length, IfOk, IfErr, OnOk, OnErr, Ok};
 ghost use Rattle.std.specs.Option.{option_copied};
 ghost use Rattle.std.specs.Arc.{arc_value};
+ghost use Rattle.std.specs.Bool.{Decides};
 ghost use Rattle.std.specs.Borrow.{sem};
 ghost use Rattle.std.specs.FinMap as map;
 ghost use Rattle.cs_apply.specs.Columns.{HaveColumns};
@@ -81,6 +82,13 @@ impl Tables {
         ensures { IfOk result (λ rows. listed rows.items ≡ map.entries self.now.rows) }
     {
         self.held.rows_in_order(alloc)
+    }
+
+    /// Whether these tables have the same schema, kept tables and rows as the others.
+    pub fn is_same(&self, other: &Tables) -> bool
+        ensures { Decides result (self.now ≡ other.now) }
+    {
+        self.held.is_same(&other.held)
     }
 
     /// Applies all changes of a changeset in order. Works as `sqlite3changeset_apply` with a

@@ -5,3 +5,4 @@ pub mod Splitting
 pub mod Workers
 pub mod Planned
 pub mod Staged
+pub mod Durable

@@ -2,12 +2,17 @@
 //! changesets and shards; a caller that needs one calls it.
 
 ghost use Rattle.std.specs.Prelude.{◌≡◌, ◌≤◌, ℕ, List, Ok, Err};
+ghost use Rattle.std.specs.List.{IsDistinct};
+ghost use Rattle.std.specs.Map.{keys_of};
+ghost use Rattle.cs_apply.specs.SameKey.{same_key};
 ghost use Rattle.cs_apply.specs.declared.conflict.Conflict.{Conflict as Conflicts};
 ghost use Rattle.cs_apply.specs.Single.{changes_of, single, single_from};
 ghost use Rattle.cs_apply.specs.State.{TableState};
 ghost use Rattle.cs_model.specs.declared.row_key.RowKey.{RowKey};
 ghost use Rattle.cs_model.specs.Section.{Section};
+ghost use Rattle.par_apply.specs.Durable.{changed_tables};
 ghost use Rattle.par_apply.specs.Parts.{applied_part};
+ghost use Rattle.par_apply.specs.Planned.{IsPlanOf, RowsFit};
 ghost use Rattle.par_apply.specs.RowChanges.{RowChanges, overlaid};
 ghost use Rattle.par_apply.specs.Shards.{of_shard};
 ghost use Rattle.par_apply.specs.Splitting.{AreAllShards, AreOfShard, SplitsInto};
@@ -44,4 +49,13 @@ pub fn first_conflict()
         → applied_part tables (of_shard shard (shard key)) sections ≡ Err other
         → conflict.position ≤ other.position)
         → single tables sections ≡ Err conflict }
+{}
+
+/// The changes of a changeset's plan, made over the tables, leave what the changeset leaves; they
+/// are of different keys.
+pub fn plans_apply()
+    ensures { (tables : TableState) (sections : List Section) (changes : RowChanges)
+        → IsPlanOf tables sections changes
+        → (single tables sections ≡ Ok (changed_tables tables changes))
+        × IsDistinct same_key (keys_of changes) × RowsFit tables changes }
 {}

@@ -1,8 +1,10 @@
 //! A changeset applied by several workers, each with the keys of its shard. The changes of rows are
 //! planned over tables that are only read, staged, and committed without allocation. Theorem:
-//! `apply_split` is `Tables::apply`, for 1 to 16 workers (`laws::splitting`).
+//! `apply_split` is `Tables::apply`, for 1 to 16 workers (`laws::splitting`). A plan can be committed to
+//! a durable store and to the tables together (`DurableRows`).
 #![tactic(auto)]
 
+mod durable;
 mod gate;
 pub mod laws;
 mod planned;
@@ -12,6 +14,7 @@ mod staged;
 mod whole;
 mod worker;
 
+pub use durable::{DurableRows, NotCommitted, changed_copy, commit_durably};
 pub use gate::{Gate, Open};
 pub use planned::{RowChange, RowPlan, plan_changes};
 pub use shard::{shard_of, split};

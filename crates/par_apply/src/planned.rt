@@ -11,8 +11,8 @@ use crate::gate::Gate;
 use crate::worker::{ShardPlan, plan_shards};
 use cs_apply::laws::rows_keep_columns;
 use cs_apply::{ApplyError, Tables};
-use cs_model::{Changeset, Row, RowKey};
-use std::alloc::Global;
+use cs_model::{Changeset, CopyIn, Row, RowKey};
+use std::alloc::{AllocError, Global};
 use std::thread::Threads;
 
 /// A key, and the row that it gets, or none.
@@ -31,6 +31,27 @@ impl RowPlan {
         ensures { result.now ≡ planned_changes self.now }
     {
         &self.changes
+    }
+
+    /// Copies the plan into new memory. Returns `AllocError` if memory runs out.
+    pub(crate) fn copied(&self, alloc: Global) -> Result<RowPlan, AllocError>
+        ensures { IfOk result (λ copy. planned_changes copy ≡ planned_changes self.now) }
+    {
+        let mut changes = Vec::with_capacity(alloc, self.changes.len())?;
+        for (key, row) in &self.changes {
+            changes.push((key.copy_in(alloc)?, copied_row(alloc, row)?))?;
+        }
+        Ok(RowPlan { changes })
+    }
+}
+
+// A copy of a row, or none.
+fn copied_row(alloc: Global, row: &Option<Row>) -> Result<Option<Row>, AllocError>
+    ensures { IfOk result (λ copy. copy ≡ row.now) }
+{
+    match row {
+        Some(row) => Ok(Some(row.copy_in(alloc)?)),
+        None => Ok(None),
     }
 }
 

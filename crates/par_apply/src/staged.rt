@@ -51,12 +51,14 @@ impl StagedPlan {
         tables.sweep();
     }
 
-    /// Takes away the places that `stage` made. Does not allocate.
-    pub fn undo(self, tables: &mut HeldTables)
-        ensures { tables.new ≡ unstaged tables.old self }
+    /// Takes away the places that `stage` made, and hands the plan back. Does not allocate.
+    pub fn undo(self, tables: &mut HeldTables) -> RowPlan
+        ensures tables { tables.new ≡ unstaged tables.old self }
+        ensures plan { planned_changes result ≡ changes_staged self }
     {
         let StagedPlan { changes, made } = self;
         take_back(tables, &changes, made);
+        RowPlan { changes }
     }
 }
 

@@ -1,0 +1,23 @@
+-- A plan that is committed to a durable store and to tables.
+use Rattle.std.specs.Prelude.{Result, Ok, Err}
+use Rattle.cs_apply.specs.State.{TableState}
+use Rattle.par_apply.specs.RowChanges.{RowChanges, overlaid}
+use Rattle.par_apply.specs.declared.durable.NotCommitted.{NotCommitted}
+use Rattle.par_apply.specs.declared.durable.NotCommitted.TheVariants.{Memory, Store}
+use Rattle.par_apply.specs.declared.planned.RowPlan.{RowPlan}
+
+-- the tables with these changes of their rows
+abbrev pub changed_tables : TableState → RowChanges → TableState
+changed_tables tables changes = record tables { rows = overlaid tables.rows changes }
+
+-- P of the plan that comes back, if the store answered with an error
+abbrev pub IfRefused : Result (Unit {0}) NotCommitted → (RowPlan → Type 0) → Type 0
+IfRefused (Ok done) P = Unit {0}
+IfRefused (Err Memory) P = Unit {0}
+IfRefused (Err (Store plan)) P = P plan
+
+-- P, if the store wasn't asked
+abbrev pub IfNotAsked : Result (Unit {0}) NotCommitted → Type 0 → Type 0
+IfNotAsked (Ok done) P = Unit {0}
+IfNotAsked (Err Memory) P = P
+IfNotAsked (Err (Store plan)) P = Unit {0}

@@ -1,0 +1,108 @@
+//! A durable store of rows and a cursor, and a plan that is committed to it and to tables.
+
+ghost use Rattle.std.specs.Prelude.{◌≡◌, ℕ, OnOk, IfErr, IfOk, OnErr};
+ghost use Rattle.std.specs.List.{IsDistinct};
+ghost use Rattle.std.specs.Map.{keys_of};
+ghost use Rattle.cs_apply.specs.SameKey.{same_key};
+ghost use Rattle.cs_apply.specs.State.{Rows};
+ghost use Rattle.par_apply.specs.Durable.{IfRefused, IfNotAsked, changed_tables};
+ghost use Rattle.par_apply.specs.Planned.{RowsFit, planned_changes};
+ghost use Rattle.par_apply.specs.RowChanges.{overlaid};
+
+use crate::planned::{RowChange, RowPlan};
+use crate::staged::stage;
+use cs_apply::Tables;
+use cs_model::CopyIn;
+use std::alloc::{AllocError, Global};
+
+/// A store that keeps the rows of tables and a cursor together over a crash.
+pub trait DurableRows {
+    ghost use Rattle.std.specs.Prelude.{◌≡◌, ℕ, OnOk};
+    ghost use Rattle.std.specs.List.{IsDistinct};
+    ghost use Rattle.std.specs.Map.{keys_of};
+    ghost use Rattle.cs_apply.specs.SameKey.{same_key};
+    ghost use Rattle.cs_apply.specs.State.{Rows};
+    ghost use Rattle.par_apply.specs.RowChanges.{overlaid};
+
+    /// The store has these rows with this cursor, and a crash leaves them.
+    ghost keeps: { Self → Rows → ℕ → Type 0 };
+
+    /// A crash leaves the first rows with the first cursor, or the second rows with the second
+    /// cursor.
+    ghost leaves: { Self → Rows → ℕ → Rows → ℕ → Type 0 };
+
+    /// Why it did not commit.
+    type Error: Drop;
+
+    /// Makes the changes of rows and sets the cursor, both or neither. Whenever it returns, with an
+    /// error too, a crash leaves the rows and the cursor as before the call, or all of them as
+    /// after it; after `Ok`, as after it. After an error, open the store again.
+    fn commit(&mut self, changes: &[RowChange], cursor: u64) -> Result<(), Self::Error>
+        requires kept { (rows : Rows) × (at : ℕ) × keeps self.old rows at }
+        requires distinct { IsDistinct same_key (keys_of changes.now) }
+        ensures ok { (rows : Rows) (at : ℕ) → keeps self.old rows at
+            → OnOk result (keeps self.new (overlaid rows changes.now) cursor) }
+        ensures leaves { (rows : Rows) (at : ℕ) → keeps self.old rows at
+            → leaves self.new rows at (overlaid rows changes.now) cursor };
+}
+
+/// Why `commit_durably` did not commit. The tables are as before the call.
+#[derive(Debug, Drop)]
+pub enum NotCommitted {
+    /// Memory ran out. The store wasn't asked.
+    Memory,
+    /// The store answered with an error. It has the rows and the cursor from before the call, or
+    /// those after it. The plan comes back.
+    Store(RowPlan),
+}
+
+/// Commits a plan to a store with the rows of these tables, and then to the tables. All memory that
+/// the tables need is allocated before the store is asked, so they never miss what the store has.
+pub fn commit_durably<S: DurableRows>(
+    alloc: Global,
+    tables: &mut Tables,
+    store: &mut S,
+    plan: RowPlan,
+    cursor: u64,
+) -> Result<(), NotCommitted>
+    requires fit { RowsFit tables.old (planned_changes plan) }
+    requires distinct { IsDistinct same_key (keys_of (planned_changes plan)) }
+    requires kept { (at : ℕ) × S.keeps store.old tables.old.rows at }
+    ensures ok { OnOk result (tables.new ≡ changed_tables tables.old (planned_changes plan)) }
+    ensures kept { OnOk result (S.keeps store.new tables.new.rows cursor) }
+    ensures err { OnErr result (tables.new ≡ tables.old) }
+    ensures unasked { IfNotAsked result (store.new ≡ store.old) }
+    ensures returned { IfRefused result
+        (λ back. planned_changes back ≡ planned_changes plan) }
+    ensures leaves { IfRefused result (λ back. (at : ℕ) → S.keeps store.old tables.old.rows at
+        → S.leaves store.new tables.old.rows at
+        (overlaid tables.old.rows (planned_changes plan)) cursor) }
+{
+    let places = tables.places_mut();
+    let Ok(staged) = stage(alloc, places, plan) else {
+        return Err(NotCommitted::Memory);
+    };
+    match store.commit(staged.changes(), cursor) {
+        Ok(()) => {
+            staged.commit(places);
+            Ok(())
+        }
+        Err(_) => Err(NotCommitted::Store(staged.undo(places))),
+    }
+}
+
+/// A copy of tables with the changes of a plan made. The copy shares the schema. Returns `AllocError`
+/// if memory runs out.
+pub fn changed_copy(alloc: Global, tables: &Tables, plan: &RowPlan) -> Result<Tables, AllocError>
+    requires { RowsFit tables.now (planned_changes plan.now) }
+    ensures { IfOk result (λ copy. copy ≡ changed_tables tables.now (planned_changes plan.now)) }
+{
+    let mut copy = tables.copy_in(alloc)?;
+    let own = plan.copied(alloc)?;
+    let places = copy.places_mut();
+    let Ok(staged) = stage(alloc, places, own) else {
+        return Err(AllocError);
+    };
+    staged.commit(places);
+    Ok(copy)
+}
