@@ -28,7 +28,7 @@ same_numbers a b e = elim (eqb_tells a b) as (λ w. a ≡ b) [
   | inr other ↦ absurd (false≢true (sym e ∙ ap not other.0))
 ]
 
-numbers_tested : (a b : ℕ) → a ≡ b → not (a == b) ≡ false
+pub numbers_tested : (a b : ℕ) → a ≡ b → not (a == b) ≡ false
 numbers_tested a b same = elim (eqb_tells a b) as (λ w. not (a == b) ≡ false) [
   | inl is ↦ ap not is.0
   | inr other ↦ absurd (other.1 same)

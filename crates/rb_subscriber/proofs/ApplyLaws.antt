@@ -1,17 +1,16 @@
 -- Entries one after another: the first that isn't admitted, and the sections of all bodies.
 use Rattle.std.specs.List.{AllByRecursion}
 use Rattle.std.proofs.Common.{◌≡◌, ℕ, zero, suc, arith, ◌+◌, ◌<◌, ◌≤◌, true, false, List, [], ◌∷◌, ◌++◌, length, take, drop, take_all}
-use Rattle.std.proofs.Common.{Option, Some, None, Result, Ok, Err, sym, ap, subst, ◌∙◌, append_assoc}
+use Rattle.std.proofs.Common.{Option, Some, None, Result, Ok, Err, sym, ap, subst, ◌∙◌}
 use Rattle.std.specs.Prelude.{OnOk, IfErr, is_err, slice_index_or}
-use Rattle.std.proofs.lemmas.List.{drop_more, drop_all, take_more, append-nil}
+use Rattle.std.proofs.lemmas.List.{drop_more, drop_all, take_more}
 use Rattle.cs_model.proofs.CallerLemmas.{all_push}
 use Rattle.cs_model.specs.Changeset.{IsChangeset}
-use Rattle.cs_model.specs.Section.{Section}
 use Rattle.cs_model.specs.declared.schema.SectionFault.{SectionFault}
 use Rattle.cs_model.specs.declared.shape.Shape.{Shape}
 use Rattle.cs_model.specs.Schema.{refusal_of}
 use Rattle.rb_sequence.specs.Entry.{Entry}
-use Rattle.rb_subscriber.specs.Accept.{joined_bodies, if_admitted, first_outside_entry, AreChangesets, IsAdmitted}
+use Rattle.rb_subscriber.specs.Accept.{if_admitted, first_outside_entry, AreChangesets, IsAdmitted}
 
 -- the entry at a place stands in front of those behind it
 pub at_front : (entries : List Entry) (i : ℕ) (entry : Entry) → i < length entries → entry
@@ -79,19 +78,3 @@ valid_more entries i entry less is so_far valid =
 pub bodies_valid : (entries : List Entry) (i : ℕ) → length entries ≤ i → AreChangesets (take i entries)
     → AreChangesets entries
 bodies_valid entries i all so_far = subst AreChangesets (take_all i entries all) so_far
-
--- ---- the sections of all bodies
-
-pub joins_more : (made body : List Section) (entries : List Entry) (i : ℕ) (entry : Entry) → drop i entries ≡ entry
-    ∷ drop (i + 1) entries → body ≡ entry.item.body → made ++ joined_bodies (drop i entries) ≡ joined_bodies entries
-    → (made ++ body) ++ joined_bodies (drop (i + 1) entries) ≡ joined_bodies entries
-joins_more made body entries i entry front is so_far =
-    ap (λ b. (made ++ b) ++ joined_bodies (drop (i + 1) entries)) is
-    ∙ append_assoc made entry.item.body (joined_bodies (drop (i + 1) entries))
-    ∙ ap (λ es. made ++ joined_bodies es) (sym front)
-    ∙ so_far
-
-pub joins_all : (made : List Section) (entries : List Entry) (i : ℕ) → length entries ≤ i → made
-    ++ joined_bodies (drop i entries) ≡ joined_bodies entries → made ≡ joined_bodies entries
-joins_all made entries i all so_far = sym (append-nil made)
-    ∙ ap (λ es. made ++ joined_bodies es) (sym (drop_all i entries all)) ∙ so_far

@@ -4,3 +4,6 @@ pub mod RunLaws
 pub mod ConflictLaws
 pub mod TokenLaws
 pub mod ShownLaws
+pub mod KeptLaws
+pub mod FallLaws
+pub mod LostLaws

@@ -5,3 +5,5 @@ pub mod Shown
 pub mod Subscription
 pub mod AcceptShown
 pub mod Register
+pub mod Lost
+pub mod Durable

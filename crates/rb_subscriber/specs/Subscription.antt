@@ -2,22 +2,33 @@
 use Rattle.std.specs.Prelude.{ℕ, ◌+◌, ◌-◌, suc, Bool, List, [], false, length, refl}
 use Rattle.std.specs.Prelude.{Option, None, slice_get, if◌then◌else◌, nat_lt}
 use Rattle.std.specs.Coded.{Coded, code_by, coded×, coded_ℕ, coded_bool, coded_list}
+use Rattle.std.specs.Coded.{coded_option}
+use Rattle.std.specs.Option.{is_some}
 use Rattle.cs_apply.specs.State as tables
+use Rattle.cs_model.specs.contracts.value.Value as value
+use Rattle.cs_model.specs.Key.{row_key_code}
+use Rattle.par_apply.specs.RowChanges.{RowChanges}
 use Rattle.rb_sequence.specs.Cells.{CellToken, token_code}
 use Rattle.rb_subscriber.specs.Endpoint.{Endpoint}
 
+-- What a durable store may have beyond a subscription that fell: the entries of the delivery that it
+-- was accepting, by their tokens, and the changes of rows that they make.
+pub record PendingAccept : Type 0 where
+  pub tokens : List CellToken
+  pub changes : RowChanges
+
 -- A subscription: its number at the desk, the number after which it began, its link, whether it is
--- closed, whether it has fallen, the tables that it began with, its tables, the tokens of what it
--- accepted, in order, and how many of its steps were counted.
+-- closed, the tables that it began with, its tables, the tokens of what it accepted, in order, what
+-- is pending if it has fallen, and how many of its steps were counted.
 pub record SubscriptionState : Type 0 where
   pub sub : ℕ
   pub start : ℕ
   pub link : ℕ
   pub closed : Bool
-  pub fallen : Bool
   pub base : tables.TableState
   pub tables : tables.TableState
   pub told : List CellToken
+  pub pending : Option PendingAccept
   pub steps : ℕ
 
 -- the last number that it accepted; at first, its start
@@ -31,7 +42,7 @@ own_endpoint s = record {
   cursor = cursor_of s;
   link = s.link;
   closed = s.closed;
-  fallen = s.fallen;
+  fallen = is_some s.pending;
   tables = s.tables;
 }
 
@@ -42,10 +53,10 @@ new_subscription sub start link tables = record {
   start = start;
   link = link;
   closed = false;
-  fallen = false;
   base = tables;
   tables = tables;
   told = [];
+  pending = None;
   steps = 0;
 }
 
@@ -55,26 +66,33 @@ accepted_token start told number =
     if nat_lt start number then slice_get told (number - suc start) else None
 
 -- a subscription is stored as its parts
+abbrev pub changes_code : Coded RowChanges
+changes_code = coded_list (coded× row_key_code (coded_option (coded_list value.the_row.coded)))
+
+abbrev pub pending_code : Coded PendingAccept
+pending_code = code_by (List CellToken × RowChanges) (coded× (coded_list token_code) changes_code)
+    (λ p. (p.tokens, p.changes)) (λ p. record { tokens = p.0; changes = p.1 }) (λ _. refl)
+
 abbrev pub subscription_state_code : Coded SubscriptionState
 subscription_state_code =
-    code_by (ℕ × (ℕ × (ℕ × (Bool × (Bool
-    × (tables.TableState × (tables.TableState × (List CellToken × ℕ))))))))
-    (coded× coded_ℕ (coded× coded_ℕ (coded× coded_ℕ (coded× coded_bool (coded× coded_bool
-    (coded× tables.state_code (coded× tables.state_code
-    (coded× (coded_list token_code) coded_ℕ))))))))
+    code_by (ℕ × (ℕ × (ℕ × (Bool × (tables.TableState × (tables.TableState
+    × (List CellToken × (Option PendingAccept × ℕ))))))))
+    (coded× coded_ℕ (coded× coded_ℕ (coded× coded_ℕ (coded× coded_bool
+    (coded× tables.state_code (coded× tables.state_code (coded× (coded_list token_code)
+    (coded× (coded_option pending_code) coded_ℕ))))))))
     (λ s. (
       s.sub,
-      (s.start, (s.link, (s.closed, (s.fallen, (s.base, (s.tables, (s.told, s.steps))))))),
+      (s.start, (s.link, (s.closed, (s.base, (s.tables, (s.told, (s.pending, s.steps))))))),
     ))
     (λ p. record {
       sub = p.0;
       start = p.1.0;
       link = p.1.1.0;
       closed = p.1.1.1.0;
-      fallen = p.1.1.1.1.0;
-      base = p.1.1.1.1.1.0;
-      tables = p.1.1.1.1.1.1.0;
-      told = p.1.1.1.1.1.1.1.0;
+      base = p.1.1.1.1.0;
+      tables = p.1.1.1.1.1.0;
+      told = p.1.1.1.1.1.1.0;
+      pending = p.1.1.1.1.1.1.1.0;
       steps = p.1.1.1.1.1.1.1.1;
     })
     (λ _. refl)

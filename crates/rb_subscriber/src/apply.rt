@@ -125,8 +125,8 @@ fn apply_group<E: Brought, F: Fn(&mut Tables, &Changeset) -> Result<(), ApplyErr
     apply_by(applier, tables, &changeset)
 }
 
-// The entry, if it is the only one.
-fn only<E: Brought>(entries: &E) -> Option<&Entry>
+/// The entry, if it is the only one.
+pub(crate) fn only<E: Brought>(entries: &E) -> Option<&Entry>
     ensures { IfSome result (λ entry. E.entries entries.now ≡ entry.now ∷ []) }
 {
     if entries.count() == 1 {

@@ -25,12 +25,12 @@ use std::marker::Model;
 /// cursor is the last number that it accepted; only `accept` moves it.
 #[derive(Debug, Drop)]
 pub struct Endpoint {
-    start: u64,
-    cursor: u64,
-    link: u64,
-    closed: bool,
-    fallen: bool,
-    tables: Tables,
+    pub(crate) start: u64,
+    pub(crate) cursor: u64,
+    pub(crate) link: u64,
+    pub(crate) closed: bool,
+    pub(crate) fallen: bool,
+    pub(crate) tables: Tables,
 }
 
 impl Model for Endpoint {

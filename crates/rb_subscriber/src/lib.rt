@@ -1,15 +1,20 @@
 //! A subscriber's endpoint of a subscription. Theorem: an `Endpoint` accepts only the next run of
 //! the sequence after its cursor, under its current link, and nothing once it is closed or has
 //! fallen. Where the accepted changesets apply one after another without conflict, its tables are
-//! what that gives.
+//! what that gives. A `Subscription` can accept into a durable store: after a crash the store has
+//! the rows and the cursor from before a delivery, or those after it.
 #![tactic(auto)]
 
 mod applier;
 mod apply;
 mod brought;
+mod durable;
 mod endpoint;
+mod keeping;
 pub mod laws;
 mod look;
+mod lost;
+mod pending;
 mod refusal;
 mod register;
 mod shown;
@@ -20,6 +25,7 @@ pub use applier::Workers;
 pub use apply::combined;
 pub use brought::Brought;
 pub use endpoint::Endpoint;
+pub use lost::Lost;
 pub use refusal::{AcceptError, AcceptRefusal, SubscriptionError};
 pub use register::{Auditor, MOST_SUBSCRIPTIONS, Missing, Register};
 pub use step_ledger::StepLedger;

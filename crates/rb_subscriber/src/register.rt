@@ -2,10 +2,12 @@
 //! their links.
 
 ghost use Rattle.std.specs.Prelude.{◌≡◌, ◌+◌, ◌<◌, ◌^◌, length, IfErr, IfOk, OnErr};
+ghost use Rattle.rb_subscriber.specs.Lost.{FitsLost, gone_on};
 ghost use Rattle.rb_subscriber.specs.Register.{AuditorState, RegisterState, all_steps};
 ghost use Rattle.rb_subscriber.specs.Subscription.{new_subscription};
 
 use crate::endpoint::Endpoint;
+use crate::lost::Lost;
 use crate::step_ledger::StepLedger;
 use crate::subscription::Subscription;
 use cs_apply::Tables;
@@ -119,6 +121,7 @@ impl<L: StepLedger> Register<L> {
             end: Endpoint::new(start, link, tables),
             base,
             told: Vec::new(alloc),
+            pending: None,
             steps: 0,
             share,
         }
@@ -141,6 +144,15 @@ impl<L: StepLedger> Register<L> {
         ensures { subscription.new ≡ record subscription.old { link = link } }
     {
         subscription.end.reconnect(link);
+    }
+
+    /// Makes one that fell a subscription again, with these tables, after this cursor and under this
+    /// link. It counts no step.
+    pub fn resume(&self, lost: Lost<L>, tables: Tables, cursor: u64, link: u64) -> Subscription<L>
+        requires { FitsLost lost tables cursor }
+        ensures { result ≡ gone_on lost tables cursor link }
+    {
+        lost.resumed(tables, cursor, link)
     }
 
     /// Hears these subscriptions, which are gone then. Returns how many steps were counted in all:

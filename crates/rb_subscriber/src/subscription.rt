@@ -1,21 +1,21 @@
 //! `Subscription`: what one thread accepts of the cells, and the tokens that show it.
 
 ghost use Rattle.std.specs.Prelude.{◌≡◌, ◌<◌, suc, true, None, IfNone, IfSome};
-ghost use Rattle.std.specs.Option.{option_copied};
+ghost use Rattle.std.specs.Option.{is_some, option_copied};
 ghost use Rattle.rb_sequence.specs.Cells.{AreInCells, IsTokenOf};
 ghost use Rattle.rb_subscriber.specs.Accept.{AsksNoEntries, HasSingleTables, refusal_before};
 ghost use Rattle.std.specs.Thread.{IsSync};
 ghost use Rattle.rb_subscriber.specs.Applier.{Applies, IsApplied};
 ghost use Rattle.rb_subscriber.specs.AcceptShown.{ShownAnswers, ConflictsShown, DueAnswers};
+ghost use Rattle.rb_subscriber.specs.Durable.{IsPendingOver};
 ghost use Rattle.rb_subscriber.specs.Shown.{entries_told};
 ghost use Rattle.rb_subscriber.specs.Subscription.{cursor_of, own_endpoint, accepted_token};
 
 use crate::applier::Workers;
 use crate::endpoint::Endpoint;
-use crate::laws::accepting_is_step;
-use crate::look::look;
+use crate::pending::Pending;
 use crate::refusal::{AcceptError, AcceptRefusal, SubscriptionError};
-use crate::shown::{Shown, add, fetch, room};
+use crate::shown::{Shown, add, tokens_of};
 use crate::step_ledger::StepLedger;
 use cs_apply::{ApplyError, Tables};
 use cs_model::Changeset;
@@ -37,14 +37,19 @@ pub struct Subscription<L: StepLedger> {
     pub(crate) end: Endpoint,
     pub(crate) base: Tables,
     pub(crate) told: Vec<Told>,
+    // there exactly if it has fallen
+    pub(crate) pending: Option<Pending>,
     pub(crate) steps: u64,
     pub(crate) share: Share<L>,
 }
 
 impl<L: StepLedger> Model for Subscription<L> {
-    ghost use Rattle.std.specs.Prelude.{◌≡◌, ◌+◌, suc, length};
+    ghost use Rattle.std.specs.Prelude.{◌≡◌, ◌<◌, ◌≤◌, ◌+◌, ◌^◌, suc, length, IfSome};
+    ghost use Rattle.std.specs.Option.{is_some};
+    ghost use Rattle.std.specs.Vec.{vec_capacity, vec_len};
     ghost use Rattle.rb_sequence.specs.Cells.{AreInCells};
     ghost use Rattle.rb_subscriber.specs.Accept.{HasSingleTables};
+    ghost use Rattle.rb_subscriber.specs.Durable.{IsPendingOver};
     ghost use Rattle.rb_subscriber.specs.Shown.{entries_told};
     ghost use Rattle.rb_subscriber.specs.Subscription.{SubscriptionState, subscription_state_code};
 
@@ -57,16 +62,20 @@ impl<L: StepLedger> Model for Subscription<L> {
       start = s.end.start;
       link = s.end.link;
       closed = s.end.closed;
-      fallen = s.end.fallen;
       base = s.base;
       tables = s.end.tables;
       told = s.told.items;
+      pending = s.pending;
       steps = s.steps;
     } };
 
     ghost invariant = { λ s. (s.end.cursor ≡ s.end.start + length s.told.items)
         × AreInCells L.cells (suc s.end.start) s.told.items
         × HasSingleTables s.base (entries_told s.told.items) s.end.tables
+        × (s.end.fallen ≡ is_some s.pending)
+        × IfSome s.pending (IsPendingOver L.cells s.end.cursor s.base s.told.items s.end.tables)
+        × IfSome s.pending (λ p. (vec_len s.told + length p.tokens ≤ vec_capacity s.told)
+        × (s.end.cursor + length p.tokens < 2 ^ 64))
         × (s.share.parts ≡ 1)
         × (s.share.amount ≡ s.steps) };
 }
@@ -155,11 +164,12 @@ impl<L: StepLedger> Subscription<L> {
     }
 
     // why it is refused whatever the cells show
-    fn refuses(&self, delivery: &Delivery) -> Option<AcceptRefusal>
+    pub(crate) fn refuses(&self, delivery: &Delivery) -> Option<AcceptRefusal>
         ensures why { result ≡ refusal_before (own_endpoint self.now) delivery.now }
         ensures early { IfSome result AsksNoEntries }
         ensures next { IfNone result ((delivery.now.first ≡ suc (cursor_of self.now))
             × (cursor_of self.now < delivery.now.last)) }
+        ensures none { IfNone result (self.now.pending ≡ None) }
     {
         let _told = &self.told;
         self.end.refuses(delivery)
@@ -176,21 +186,14 @@ impl<L: StepLedger> Subscription<L> {
         requires applier { Applies F.Fn applier.now }
         requires cells { sequence.now ≡ L.cells }
         requires free { refusal_before (own_endpoint self.old) delivery.now ≡ None }
+        requires none { self.old.pending ≡ None }
         requires due { (delivery.now.first ≡ suc (cursor_of self.old))
             × (cursor_of self.old < delivery.now.last) }
         ensures answers { DueAnswers L.cells delivery.now result self.old self.new }
         ensures conflicts { ConflictsShown L.cells delivery.now self.old.tables result }
     {
-        accepting_is_step();
-        let (first, last) = (delivery.first(), delivery.last());
-        let count = (last - first + 1) as usize;
-        let Some(room) = room(alloc, &mut self.told, count) else {
-            return Err(look(sequence, self.end.tables().schema(), delivery));
-        };
-        let shown = match fetch(sequence, room, first, last) {
-            Ok(shown) => shown,
-            Err(number) => return Err(SubscriptionError::Unseen { number }),
-        };
+        let schema = self.end.tables().schema();
+        let shown = tokens_of(alloc, sequence, &mut self.told, schema, delivery)?;
         let entries = Shown {
             sequence,
             told: &shown,
@@ -263,6 +266,16 @@ impl<L: StepLedger> Subscription<L> {
     {
         let place = number.checked_sub(self.end.start())?.checked_sub(1)?;
         self.told.get(place as usize)
+    }
+
+    /// Whether it has fallen: its durable store failed while it accepted, and it accepts nothing
+    /// more. `fall` makes it one that can be resumed.
+    pub fn is_fallen(&self) -> bool
+        ensures value { result ≡ is_some self.now.pending }
+        ensures pending { IfSome self.now.pending (IsPendingOver L.cells (cursor_of self.now)
+            self.now.base self.now.told self.now.tables) }
+    {
+        self.pending.is_some()
     }
 
     /// How many of its steps were counted.

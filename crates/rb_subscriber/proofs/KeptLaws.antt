@@ -1,0 +1,90 @@
+-- What an endpoint answers that accepts into a durable store.
+use Rattle.std.proofs.Common.{◌≡◌, ℕ, List, None, Result, Ok, Err, true, sym, ap, subst, ◌∙◌}
+use Rattle.std.specs.Prelude.{OnOk, IfOk, IfErr}
+use Rattle.cs_apply.specs.Columns.{HaveColumns}
+use Rattle.cs_apply.specs.Single.{single}
+use Rattle.cs_apply.specs.State.{TableState}
+use Rattle.cs_apply.specs.declared.conflict.Conflict.{Conflict}
+use Rattle.cs_group.specs.Group.{group_of}
+use Rattle.par_apply.specs.Durable.{changed_tables}
+use Rattle.par_apply.specs.Planned.{planned_changes}
+use Rattle.par_apply.specs.RowChanges.{RowChanges}
+use Rattle.rb_desk.specs.declared.delivery.Delivery.{Delivery}
+use Rattle.rb_sequence.specs.Entry.{Entry}
+use Rattle.rb_subscriber.specs.Accept.{AppliesSingly, AreChangesets, AsksTables, ConflictsSingly, HasSingleTables, applied}
+use Rattle.rb_subscriber.specs.Accept.{accept_brought, applied_if_admitted, first_outside_entry, joined_bodies}
+use Rattle.rb_subscriber.specs.Accept.{refusal_before, taken_unless_refused}
+use Rattle.rb_subscriber.specs.Durable.{IfStoreFailed, IfStoreUnasked, IsNoRefusal, KeepAnswers}
+use Rattle.rb_subscriber.specs.Durable.{OnKeepConflict, OnKeepTables}
+use Rattle.rb_subscriber.specs.Endpoint.{Endpoint}
+use Rattle.rb_subscriber.specs.declared.keeping.KeepError.{KeepError}
+use Rattle.rb_subscriber.specs.declared.keeping.KeepError.TheVariants as keep
+use Rattle.rb_subscriber.specs.declared.refusal.AcceptRefusal.{AcceptRefusal}
+use Rattle.rb_subscriber.specs.declared.refusal.AcceptRefusal.TheVariants as refusal
+
+-- ---- the function, where nothing refuses before the tables are asked
+
+pub asked : (old : Endpoint) (entries : List Entry) (d : Delivery) (r : Result TableState Conflict)
+    → refusal_before old d ≡ None → first_outside_entry old.tables.schema entries ≡ None
+    → single old.tables (group_of (joined_bodies entries)) ≡ r → accept_brought old entries d ≡ applied old d.last r
+unfolding accept_brought
+asked old entries d r free none is =
+    ap (λ o. taken_unless_refused o (applied_if_admitted old d.last entries
+    (first_outside_entry old.tables.schema entries))) free
+    ∙ ap (applied_if_admitted old d.last entries) none ∙ ap (applied old d.last) is
+
+-- ---- the call
+
+-- the answers of an accept that only the store can stop
+pub committed_answers : (old new : Endpoint) (last : ℕ) (changes : RowChanges)
+    (accepted : Result Endpoint AcceptRefusal) (result : Result ℕ KeepError)
+    → accepted ≡ Ok (record old { cursor = last; tables = changed_tables old.tables changes })
+    → IfOk result (λ cursor. (cursor ≡ last)
+    × (new ≡ record old { cursor = last; tables = changed_tables old.tables changes }))
+    → IfErr result IsNoRefusal → IfStoreUnasked result (new ≡ old)
+    → IfStoreFailed result (λ back. (planned_changes back ≡ changes) × (new ≡ record old { fallen = true }))
+    → KeepAnswers result accepted old new
+committed_answers old new last changes accepted (Ok cursor) is ok other same fell =
+    (is ∙ ap (λ (e : Endpoint). Ok e) (sym ok.1), ok.0 ∙ ap (λ (e : Endpoint). e.cursor) (sym ok.1))
+committed_answers old new last changes accepted (Err (keep.Refused why)) is ok other same fell = absurd other
+committed_answers old new last changes accepted (Err keep.Memory) is ok other same fell =
+    (subst AsksTables (sym is) tt, same)
+committed_answers old new last changes accepted (Err (keep.Store plan)) is ok other same fell = record {
+  after = record old { cursor = last; tables = changed_tables old.tables changes };
+  accepts = is;
+  changed = ap (changed_tables old.tables) (sym fell.0);
+  fallen = fell.1;
+}
+
+-- ---- with the laws
+
+abbrev pub AppliesAsSingly : Endpoint → List Entry → Delivery → Type 0
+AppliesAsSingly old entries d = (new : Endpoint) (tables : TableState) → AreChangesets entries → HaveColumns old.tables
+    → accept_brought old entries d ≡ Ok new → AppliesSingly old.tables entries tables → new.tables ≡ tables
+
+pub kept_singly : (old new : Endpoint) (entries : List Entry) (d : Delivery) (result : Result ℕ KeepError)
+    → AppliesAsSingly old entries d → KeepAnswers result (accept_brought old entries d) old new
+    → OnKeepTables result (AreChangesets entries × HaveColumns old.tables)
+    → OnOk result (HasSingleTables old.tables entries new.tables)
+kept_singly old new entries d (Ok cursor) law answers known = λ tables. law new tables known.0 known.1 answers.0
+kept_singly old new entries d (Err why) law answers known = tt
+
+pub pending_singly : (old new : Endpoint) (entries : List Entry) (d : Delivery) (result : Result ℕ KeepError)
+    → AppliesAsSingly old entries d → KeepAnswers result (accept_brought old entries d) old new
+    → OnKeepTables result (AreChangesets entries × HaveColumns old.tables)
+    → IfStoreFailed result (λ plan. HasSingleTables old.tables entries
+    (changed_tables old.tables (planned_changes plan)))
+pending_singly old new entries d (Err (keep.Store plan)) law answers known = λ tables singly.
+    sym answers.changed ∙ law answers.after tables known.0 known.1 answers.accepts singly
+pending_singly old new entries d result law answers known = tt
+
+pub kept_conflicts : (old new : Endpoint) (entries : List Entry) (d : Delivery) (result : Result ℕ KeepError)
+    → ((conflict : Conflict) → AreChangesets entries → HaveColumns old.tables
+    → accept_brought old entries d ≡ Err (refusal.Conflict conflict)
+    → ConflictsSingly old.tables entries)
+    → KeepAnswers result (accept_brought old entries d) old new
+    → OnKeepTables result (AreChangesets entries × HaveColumns old.tables)
+    → OnKeepConflict result (ConflictsSingly old.tables entries)
+kept_conflicts old new entries d (Err (keep.Refused (refusal.Conflict conflict))) law answers known =
+    law conflict known.0 known.1 answers.0
+kept_conflicts old new entries d result law answers known = tt

@@ -1,0 +1,36 @@
+use Rattle.std.proofs.Common.{ap, ◌∙◌}
+use Rattle.rb_subscriber.specs.Lost.{pending_tokens, gone_on}
+use Rattle.rb_subscriber.specs.Subscription.{SubscriptionState}
+use Rattle.rb_subscriber.proofs.LostLaws.{goes_on_holds, goes_on_with, resumed_is}
+use Rattle.rb_subscriber.proofs.subscription.Subscription.goes_on.Goals as goal
+
+pub invariant_of-result : goal.invariant_of-result
+invariant_of-result g c =
+    let cells = g.L.StepLedger.cells in
+    let s = c.self.inside in
+    let inv = c.self.invariant in
+    let goes = goes_on_with cells s.sub s.steps c.args.cursor c.cursor.result s.base c.args.tables s.end s.told.items
+    c.joined-told.result.items s.pending c.args.self c.self.view_is c.requires.some c.requires.fits inv.1 inv.2 inv.4 inv.0
+    c.cursor.ensures.value c.joined-told.ensures in
+    let holds = goes_on_holds cells s.base c.args.tables s.told.items (pending_tokens s.pending) c.joined-told.result.items
+    c.args.cursor c.args.link s.end c.goes_on.result c.goes_on.ensures goes in (
+      holds.0,
+      holds.1,
+      holds.2,
+      holds.3,
+      tt,
+      tt,
+      inv.6,
+      inv.7,
+    )
+
+pub returns : goal.returns
+returns g c =
+    let s = c.self.inside in
+    let inv = c.self.invariant in
+    let goes = goes_on_with g.L.StepLedger.cells s.sub s.steps c.args.cursor c.cursor.result s.base c.args.tables s.end
+    s.told.items c.joined-told.result.items s.pending c.args.self c.self.view_is c.requires.some c.requires.fits inv.1 inv.2
+    inv.4 inv.0 c.cursor.ensures.value c.joined-told.ensures in
+    resumed_is s.sub s.steps c.args.cursor c.args.link s.base c.args.tables s.pending s.end c.goes_on.result s.told.items
+    c.joined-told.result.items c.goes_on.ensures goes.cut
+    ∙ ap (λ (x : SubscriptionState). gone_on x c.args.tables c.args.cursor c.args.link) c.self.view_is

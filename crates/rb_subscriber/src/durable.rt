@@ -1,0 +1,107 @@
+//! Accepting into a durable store: the subscription's rows and its cursor are there, too.
+
+ghost use Rattle.std.specs.Prelude.{◌≡◌, ◌<◌, ◌+◌, suc, None, OnErr, OnOk, length};
+ghost use Rattle.par_apply.specs.RowChanges.{overlaid};
+ghost use Rattle.rb_subscriber.specs.Accept.{refusal_before};
+ghost use Rattle.rb_subscriber.specs.AcceptShown.{ConflictsShown};
+ghost use Rattle.rb_subscriber.specs.Durable.{DurableAnswers, IfFell, KeptAnswers};
+ghost use Rattle.rb_subscriber.specs.Subscription.{cursor_of, own_endpoint};
+
+use crate::applier::Workers;
+use crate::keeping::KeepError;
+use crate::pending::Pending;
+use crate::refusal::{AcceptRefusal, SubscriptionError};
+use crate::shown::{Shown, add, tokens_of};
+use crate::step_ledger::StepLedger;
+use crate::subscription::Subscription;
+use par_apply::{DurableRows, Gate};
+use rb_desk::Delivery;
+use rb_sequence::Sequence;
+use std::alloc::Global;
+use std::thread::Threads;
+
+impl<L: StepLedger> Subscription<L> {
+    /// Accepts a delivery as `accept` does, and commits it to a durable store, which has this
+    /// subscription's rows and cursor: first to the store, then to its tables. A crash leaves in the
+    /// store the rows and the cursor from before the delivery, or those after it; after `Ok`, those
+    /// after it.
+    ///
+    /// Refuses as `accept` does, and last of all `Store` if the store fails. The subscription has
+    /// fallen then: it answers `Store` to every delivery. Give it up by `fall`, open the store again,
+    /// and hand what it has to the broker's `resume`. Any other error changes neither the
+    /// subscription nor the store.
+    pub fn accept_durable<R: Threads + Sync, G: Gate, S: DurableRows>(
+        &mut self,
+        workers: &Workers<R, G>,
+        alloc: Global,
+        sequence: &Sequence,
+        store: &mut S,
+        delivery: &Delivery,
+    ) -> Result<u64, SubscriptionError>
+        requires cells { sequence.now ≡ L.cells }
+        requires kept { self.old.pending ≡ None
+            → S.keeps store.old self.old.tables.rows (cursor_of self.old) }
+        ensures answers { DurableAnswers L.cells delivery.now result self.old self.new }
+        ensures conflicts { ConflictsShown L.cells delivery.now self.old.tables result }
+        ensures kept { OnOk result (S.keeps store.new self.new.tables.rows (cursor_of self.new)) }
+        ensures leaves { IfFell self.old.pending self.new.pending (λ pending.
+            S.leaves store.new self.old.tables.rows (cursor_of self.old)
+            (overlaid self.old.tables.rows pending.changes)
+            (cursor_of self.old + length pending.tokens)) }
+        ensures unasked { OnErr result (self.new.pending ≡ self.old.pending
+            → store.new ≡ store.old) }
+    {
+        match self.refuses(delivery) {
+            Some(why) => Err(SubscriptionError::Refused(why)),
+            None => self.keep_due(workers, alloc, sequence, store, delivery),
+        }
+    }
+
+    // `accept_durable`, for a delivery that begins right after the cursor
+    fn keep_due<R: Threads + Sync, G: Gate, S: DurableRows>(
+        &mut self,
+        workers: &Workers<R, G>,
+        alloc: Global,
+        sequence: &Sequence,
+        store: &mut S,
+        delivery: &Delivery,
+    ) -> Result<u64, SubscriptionError>
+        requires cells { sequence.now ≡ L.cells }
+        requires free { refusal_before (own_endpoint self.old) delivery.now ≡ None }
+        requires none { self.old.pending ≡ None }
+        requires due { (delivery.now.first ≡ suc (cursor_of self.old))
+            × (cursor_of self.old < delivery.now.last) }
+        requires kept { S.keeps store.old self.old.tables.rows (cursor_of self.old) }
+        ensures answers { KeptAnswers L.cells delivery.now result self.old self.new }
+        ensures conflicts { ConflictsShown L.cells delivery.now self.old.tables result }
+        ensures kept { OnOk result (S.keeps store.new self.new.tables.rows (cursor_of self.new)) }
+        ensures leaves { IfFell self.old.pending self.new.pending (λ pending.
+            S.leaves store.new self.old.tables.rows (cursor_of self.old)
+            (overlaid self.old.tables.rows pending.changes)
+            (cursor_of self.old + length pending.tokens)) }
+        ensures unasked { OnErr result (self.new.pending ≡ self.old.pending
+            → store.new ≡ store.old) }
+    {
+        let schema = self.end.tables().schema();
+        let shown = tokens_of(alloc, sequence, &mut self.told, schema, delivery)?;
+        let entries = Shown {
+            sequence,
+            told: &shown,
+        };
+        match self
+            .end
+            .accept_kept(workers, alloc, &entries, store, delivery)
+        {
+            Ok(cursor) => {
+                add(&mut self.told, shown);
+                Ok(cursor)
+            }
+            Err(KeepError::Refused(why)) => Err(SubscriptionError::Refused(why)),
+            Err(KeepError::Memory) => Err(SubscriptionError::Memory),
+            Err(KeepError::Store(plan)) => {
+                self.pending = Some(Pending { told: shown, plan });
+                Err(SubscriptionError::Refused(AcceptRefusal::Store))
+            }
+        }
+    }
+}

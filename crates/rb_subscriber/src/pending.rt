@@ -1,0 +1,136 @@
+//! What is pending over a subscription that fell: what its durable store may have beyond it.
+
+ghost use Rattle.std.specs.Prelude.{◌≡◌, ◌≤◌, ◌+◌, ◌++◌, ◌<◌, length, IfOk, IfSome, IsSome};
+ghost use Rattle.std.specs.Prelude.{false, if◌then◌else◌};
+ghost use Rattle.std.specs.Vec.{vec_capacity, vec_len};
+ghost use Rattle.rb_subscriber.specs.Lost.{FitsLost, cursor_after, pending_tokens, gone_on};
+ghost use Rattle.rb_subscriber.specs.Lost.{tables_after};
+ghost use Rattle.rb_subscriber.specs.Subscription.{cursor_of};
+
+use crate::endpoint::Endpoint;
+use crate::shown::add;
+use crate::step_ledger::StepLedger;
+use crate::subscription::Subscription;
+use cs_apply::Tables;
+use par_apply::{RowPlan, changed_copy};
+use rb_sequence::Told;
+use std::alloc::{AllocError, Global};
+use std::marker::Model;
+
+/// The tokens of the entries of a delivery, and the changes of rows that they make.
+#[derive(Drop)]
+pub(crate) struct Pending {
+    pub(crate) told: Vec<Told>,
+    pub(crate) plan: RowPlan,
+}
+
+impl Model for Pending {
+    ghost use Rattle.par_apply.specs.Planned.{planned_changes};
+    ghost use Rattle.rb_subscriber.specs.Subscription.{PendingAccept, pending_code};
+
+    ghost Value = { PendingAccept };
+
+    ghost coded = { pending_code };
+
+    ghost view = { λ p. record { tokens = p.told.items; changes = planned_changes p.plan } };
+}
+
+// how many entries are pending
+fn count(pending: &Option<Pending>) -> usize
+    ensures { result ≡ length (pending_tokens pending.now) }
+{
+    let Some(pending) = pending else {
+        return 0;
+    };
+    pending.told.len()
+}
+
+// these tokens, and behind them those that are pending, if those are kept
+fn joined(told: Vec<Told>, pending: Option<Pending>, kept: bool) -> Vec<Told>
+    requires { IfSome pending (λ p. vec_len told + length p.tokens ≤ vec_capacity told) }
+    ensures { result.items ≡ if kept then told.items ++ pending_tokens pending else told.items }
+{
+    if !kept {
+        return told;
+    }
+    let Some(pending) = pending else {
+        return told;
+    };
+    let mut all = told;
+    add(&mut all, pending.told);
+    all
+}
+
+impl<L: StepLedger> Subscription<L> {
+    /// The cursor after what is pending.
+    pub(crate) fn cursor_after(&self) -> u64
+        requires { IsSome self.now.pending }
+        ensures value { result ≡ cursor_after self.now }
+        ensures order { cursor_of self.now < result }
+    {
+        self.end.cursor() + count(&self.pending) as u64
+    }
+
+    /// A copy of its tables as they are after what is pending. Returns `AllocError` if memory runs
+    /// out.
+    pub(crate) fn tables_after(&self, alloc: Global) -> Result<Tables, AllocError>
+        requires { IsSome self.now.pending }
+        ensures { IfOk result (λ copy. copy ≡ tables_after self.now) }
+    {
+        let Some(pending) = &self.pending else {
+            unreachable!();
+        };
+        changed_copy(alloc, self.end.tables(), &pending.plan)
+    }
+
+    /// The subscription that goes on with these tables after this cursor, under this link. What was
+    /// pending is accepted if the cursor is behind it, and forgotten otherwise.
+    pub(crate) fn goes_on(self, tables: Tables, cursor: u64, link: u64) -> Subscription<L>
+        requires some { IsSome self.pending }
+        requires fits { FitsLost self tables cursor }
+        ensures { result ≡ gone_on self tables cursor link }
+    {
+        let Subscription {
+            sub,
+            end,
+            base,
+            told,
+            pending,
+            steps,
+            share,
+        } = self;
+        let kept = cursor != end.cursor();
+        let told = joined(told, pending, kept);
+        Subscription {
+            sub,
+            end: end.goes_on(tables, cursor, link),
+            base,
+            told,
+            pending: None,
+            steps,
+            share,
+        }
+    }
+}
+
+impl Endpoint {
+    // The endpoint that goes on with these tables and this cursor, under a new link.
+    fn goes_on(self, tables: Tables, cursor: u64, link: u64) -> Endpoint
+        requires { self.start ≤ cursor }
+        ensures { result ≡ record self {
+          cursor = cursor;
+          link = link;
+          fallen = false;
+          tables = tables;
+        } }
+    {
+        Endpoint {
+            start: self.start,
+            cursor,
+            link,
+            closed: self.closed,
+            fallen: false,
+            tables,
+        }
+    }
+}
