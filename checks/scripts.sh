@@ -42,6 +42,7 @@ fails 'edits.sh, no NAME' usage sh checks/edits.sh
 fails 'edits_together.py, no NAME' usage python3 checks/edits_together.py
 fails 'model.py, no script' usage python3 checks/model.py
 fails 'model.py, no such script' 'No such file' python3 checks/model.py none.script
+fails 'stops.sh, no CHANGES' usage sh checks/stops.sh
 fails 'tests.sh, no CRATE' usage sh refused/tests.sh
 fails 'groups.py, no such folder' 'no folder' python3 checks/groups.py none
 fails 'drives.py, no such folder' 'no folder' env PROGRAM=/bin/true python3 checks/drives.py none
@@ -53,6 +54,7 @@ fails 'drive.sh, no program' 'no program' sh checks/drive.sh
 fails 'drives.py, no program' 'no program' python3 checks/drives.py
 fails 'rings.py, no program' 'no program' python3 checks/rings.py
 fails 'leaks.sh, no program' 'no crates' sh checks/leaks.sh
+fails 'stops.sh, no program' 'no program' sh checks/stops.sh 2
 fails 'header.sh, no library' 'no crates' sh checks/header.sh
 fails 'refused/run.sh, no program' 'no program' sh refused/run.sh
 fails 'tests.sh, no program' 'no program' sh refused/tests.sh cs_tests
@@ -78,6 +80,8 @@ fails 'drive.sh, a program that only exits' 'drives are bad' sh checks/drive.sh
 fails 'drives.py, a program that only exits' 'answers otherwise' python3 checks/drives.py
 fails 'rings.py, a program that only exits' 'hung or differ' python3 checks/rings.py 5
 fails 'rings.py, no drive' 'no drive' python3 checks/rings.py 0
+make crates/replica_stops/out/replica_stops "$exits"
+fails 'stops.sh, a program that only exits' '0 of 12 losses' sh checks/stops.sh 2
 fails 'refused/run.sh, a program that only exits' '4 failures' sh refused/run.sh
 fails 'bench/script.sh, a program that only exits' '0 answers' sh bench/script.sh
 fails 'bench/drive/run.sh, a program that only exits' 'two reports' sh bench/drive/run.sh 1

@@ -12,3 +12,4 @@ pub mod BodyLaws
 pub mod LoadLaws
 pub mod ShownLaws
 pub mod FollowLaws
+pub mod DurableLaws

@@ -5,3 +5,4 @@ pub mod Errors
 pub mod Inside
 pub mod Reading
 pub mod Loading
+pub mod Durable

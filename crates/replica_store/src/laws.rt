@@ -49,6 +49,18 @@ pub fn commit_and_crash<S: Alter + Reopen + Drop>(
         (state S.Store again.conn).committed.trees)) }
 {
     let _ = replica.commit(changes, cursor);
+    crash_and_open(alloc, replica)
+}
+
+/// Loses the machine, and opens the replica again. What it has then is what a crash may leave.
+pub fn crash_and_open<S: Alter + Reopen + Drop>(
+    alloc: Global,
+    replica: Replica<S>,
+) -> Option<Replica<S>>
+    ensures { IfSome result (λ again. HasCleanDisk (state S.Store again.conn)
+        → HoldsReplica (state S.Store again.conn) × HasCleanDisk (state S.Store replica.conn)
+        × (state S.Store replica.conn).may_leave (state S.Store again.conn).committed.trees) }
+{
     let (conn, schema) = replica.into_parts();
     match Replica::open(crash_and_reopen(alloc, conn)?, schema) {
         Ok(again) => Some(again),

@@ -6,6 +6,7 @@
 
 mod commit;
 mod create;
+mod durable;
 mod error;
 pub mod laws;
 mod layout;
@@ -14,8 +15,6 @@ mod open;
 mod read;
 mod replica;
 mod stored_row;
-#[cfg(test)]
-mod tests;
 
 pub use error::ReplicaError;
 pub use replica::Replica;

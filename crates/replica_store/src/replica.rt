@@ -7,6 +7,8 @@ ghost use Rattle.sqlite.specs.Tree.{Trees};
 ghost use Rattle.replica_store.specs.Changes.{Commits};
 ghost use Rattle.replica_store.specs.Layout.{empty_schema};
 ghost use Rattle.std.specs.Arc.{arc_value};
+ghost use Rattle.std.specs.FinMap as map;
+ghost use Rattle.replica_store.specs.Durable.{KeepsRows};
 ghost use Rattle.replica_store.specs.Loading.{LoadsRows, AreSchemaRows};
 ghost use Rattle.replica_store.specs.Picture.{HasCursor, HoldsReplica, IsNewReplica, Stores};
 ghost use Rattle.replica_store.specs.declared.error.ReplicaError.TheVariants.{Unusable};
@@ -46,6 +48,7 @@ impl<S: Alter + Drop> Replica<S> {
             → db ≡ (state S.Store r.conn).committed.trees) }
         ensures survives { IfOk result (λ r.
             Survives (state S.Store conn) (state S.Store r.conn) IsNewReplica) }
+        ensures keeps { IfOk result (λ r. KeepsRows (state S.Store r.conn) map.empty 0) }
         ensures named { IfErr result (λ e. e ≢ Unusable) }
     {
         match reported(create_once(&mut conn)) {
@@ -142,6 +145,7 @@ impl<S: Alter> Replica<S> {
             → OnOk result (HoldsReplica (state S.Store self.new.conn)) }
         ensures survives { Survives (state S.Store self.old.conn) (state S.Store self.new.conn)
             (λ _. ⊥) }
+        ensures keeps { IfOk result (λ r. KeepsRows (state S.Store self.new.conn) r.0.rows r.1) }
         ensures same_schema { self.new.schema ≡ self.old.schema }
     {
         let cursor = self.cursor()?;

@@ -1,0 +1,149 @@
+//! Databases that plain SQL writes, and what opening and loading them as replicas answers.
+
+use crate::reading::{Answer, Found};
+use crate::rows::{Commits, one_table};
+use crate::stops::commit_both;
+use replica_store::Replica;
+use sqlite::{Alter, Connection, MemStore};
+use std::alloc::Global;
+use std::io;
+
+const TABLES: &str = "CREATE TABLE rb_row(tab INTEGER NOT NULL, rowkey BLOB NOT NULL, \
+     body BLOB NOT NULL, PRIMARY KEY (tab, rowkey)); \
+     CREATE TABLE rb_mark(id INTEGER PRIMARY KEY, place INTEGER NOT NULL)";
+
+/// A database: what it has, and the SQL that writes it after the tables of a replica.
+struct Case {
+    name: &'static str,
+    sql: &'static str,
+}
+
+/// The row of 1 and 'a' has the key x'010000000000000001' and the body x'010000000000000001030161'.
+const CASES: [Case; 16] = [
+    Case {
+        name: "one row and a mark",
+        sql: "INSERT INTO rb_mark VALUES (1, 5); \
+              INSERT INTO rb_row VALUES (0, x'010000000000000001', x'010000000000000001030161')",
+    },
+    Case {
+        name: "a body that is no row",
+        sql: "INSERT INTO rb_mark VALUES (1, 5); \
+              INSERT INTO rb_row VALUES (0, x'010000000000000001', x'ff')",
+    },
+    Case {
+        name: "a body with a byte too few",
+        sql: "INSERT INTO rb_mark VALUES (1, 5); \
+              INSERT INTO rb_row VALUES (0, x'010000000000000001', x'0100000000000000010301')",
+    },
+    Case {
+        name: "a row with a column too few",
+        sql: "INSERT INTO rb_mark VALUES (1, 5); \
+              INSERT INTO rb_row VALUES (0, x'010000000000000001', x'010000000000000001')",
+    },
+    Case {
+        name: "another row's key",
+        sql: "INSERT INTO rb_mark VALUES (1, 5); \
+              INSERT INTO rb_row VALUES (0, x'010000000000000002', x'010000000000000001030161')",
+    },
+    Case {
+        name: "another schema's key",
+        sql: "INSERT INTO rb_mark VALUES (1, 5); \
+              INSERT INTO rb_row VALUES (0, x'030161', x'010000000000000001030161')",
+    },
+    Case {
+        name: "a row of a table that the schema doesn't have",
+        sql: "INSERT INTO rb_mark VALUES (1, 5); \
+              INSERT INTO rb_row VALUES (1, x'010000000000000001', x'010000000000000001030161')",
+    },
+    Case {
+        name: "a row of table -1",
+        sql: "INSERT INTO rb_mark VALUES (1, 5); \
+              INSERT INTO rb_row VALUES (-1, x'010000000000000001', x'010000000000000001030161')",
+    },
+    Case {
+        name: "a body that is a text",
+        sql: "INSERT INTO rb_mark VALUES (1, 5); \
+              INSERT INTO rb_row VALUES (0, x'010000000000000001', 'a')",
+    },
+    Case {
+        name: "no mark",
+        sql: "INSERT INTO rb_row VALUES (0, x'010000000000000001', x'010000000000000001030161')",
+    },
+    Case {
+        name: "two marks",
+        sql: "INSERT INTO rb_mark VALUES (1, 5), (2, 5)",
+    },
+    Case {
+        name: "a mark with the id 2",
+        sql: "INSERT INTO rb_mark VALUES (2, 5)",
+    },
+    Case {
+        name: "the cursor -1",
+        sql: "INSERT INTO rb_mark VALUES (1, -1)",
+    },
+    Case {
+        name: "a third table",
+        sql: "INSERT INTO rb_mark VALUES (1, 5); CREATE TABLE other (a)",
+    },
+    Case {
+        name: "a table too few",
+        sql: "DROP TABLE rb_mark",
+    },
+    Case {
+        name: "a second index",
+        sql: "INSERT INTO rb_mark VALUES (1, 5); CREATE INDEX places ON rb_mark (place)",
+    },
+];
+
+/// Prints a line for each database.
+pub fn tell_all(rt: &impl Print, alloc: Global) -> io::Result<()> {
+    for case in &CASES {
+        let answer = Answer::of(alloc, written(alloc, case.sql)?)?;
+        println!(rt; "{}: {answer}", case.name)?;
+    }
+    Ok(())
+}
+
+// a database in memory with the tables of a replica, after this SQL
+fn written(alloc: Global, sql: &str) -> io::Result<Connection<MemStore>> {
+    let mut conn = Connection::open_in_memory(alloc)?;
+    run(&mut conn, TABLES)?;
+    run(&mut conn, sql)?;
+    Ok(conn)
+}
+
+fn run<S: Alter>(conn: &mut Connection<S>, sql: &str) -> io::Result<()> {
+    match conn.execute_batch(sql) {
+        Ok(_) => Ok(()),
+        Err(_) => Err(io::Error::other("the SQL is refused")),
+    }
+}
+
+/// Prints what creating a replica in a database that has a table answers, and what one that is
+/// created in memory has after two commits.
+pub fn tell_created(rt: &impl Print, alloc: Global, commits: &Commits) -> io::Result<()> {
+    let other = created_over(alloc, "CREATE TABLE other (a)")?;
+    println!(rt; "another table: {other}")?;
+    let second = created_over(alloc, TABLES)?;
+    println!(rt; "a replica's tables: {second}")?;
+    let found = found_in_memory(alloc, commits)?;
+    println!(rt; "a replica in memory after two commits: {found}")
+}
+
+// what creating a replica answers after this SQL
+fn created_over(alloc: Global, sql: &str) -> io::Result<Answer> {
+    let mut conn = Connection::open_in_memory(alloc)?;
+    run(&mut conn, sql)?;
+    Ok(match Replica::create(conn, one_table(alloc)?) {
+        Ok(_) => Answer::Created,
+        Err(error) => Answer::Creating(error),
+    })
+}
+
+fn found_in_memory(alloc: Global, commits: &Commits) -> io::Result<Found> {
+    let conn = Connection::open_in_memory(alloc)?;
+    match commit_both(conn, one_table(alloc)?, commits) {
+        Ok((conn, true)) => Found::by(alloc, conn, commits),
+        _ => Ok(Found::Neither),
+    }
+}
