@@ -1,4 +1,5 @@
 pub mod HoldLaws
 pub mod PlaceLaws
+pub mod ResumeLaws
 pub mod SchemaLaws
 pub mod WhyLaws

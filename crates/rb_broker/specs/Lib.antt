@@ -3,3 +3,4 @@ pub mod Holding
 pub mod Placing
 pub mod Publishers
 pub mod Refusing
+pub mod Resuming

@@ -5,19 +5,21 @@ ghost use Rattle.std.specs.Arc.{arc_value};
 ghost use Rattle.std.specs.Bool.{Decides};
 ghost use Rattle.rb_desk.specs.Calls.{ack, expire, nack, reconnect, take, take_any, unsubscribe};
 ghost use Rattle.rb_desk.specs.declared.step.Step.TheVariants as step;
+ghost use Rattle.rb_subscriber.specs.Lost.{FitsLost, gone_on};
 ghost use Rattle.rb_subscriber.specs.Register.{all_steps};
 ghost use Rattle.rb_subscriber.specs.Subscription.{cursor_of, new_subscription};
 ghost use Rattle.rb_broker.specs.Holding.{DeskReturns, RefusesTables, ShowsDrained};
 ghost use Rattle.rb_broker.specs.Holding.{SubscribesAfterDesk, counted_step, desk_answer};
 ghost use Rattle.rb_broker.specs.Holding.{ended_step, relinked_step};
+ghost use Rattle.rb_broker.specs.Resuming.{ReconnectReturns, ResumesNothing};
 
 use crate::broker::Broker;
 use crate::hall::Hall;
-use crate::refusal::{RefusedSubscription, SubscribeError, TakeError};
+use crate::refusal::{RefusedResume, RefusedSubscription, ResumeError, SubscribeError, TakeError};
 use cs_apply::Tables;
 use cs_model::CopyIn;
 use rb_desk::{Delivery, DeskError};
-use rb_subscriber::{Auditor, Missing, Subscription};
+use rb_subscriber::{Auditor, Lost, Missing, Subscription};
 use std::alloc::Global;
 use std::sync::Wait;
 
@@ -167,6 +169,40 @@ impl<L: Hall> Broker<L> {
     {
         let mut locked = self.locked.lock(rt);
         locked.reconnect(alloc, subscription)
+    }
+
+    /// Resumes a subscription that fell, with the tables and the cursor that its durable store has:
+    /// it goes on after that cursor, under a new link. It is a reconnection, and counted as one.
+    ///
+    /// Refuses `OtherState` first of all: the tables and the cursor aren't those from before the
+    /// delivery that was being accepted, nor those after it. Then it refuses as the desk's
+    /// `reconnect` does. Memory may run out before the state is known. Each refusal hands back the
+    /// subscription that fell and the tables.
+    pub fn resume<R: Wait>(
+        &self,
+        rt: &R,
+        alloc: Global,
+        lost: Lost<L>,
+        tables: Tables,
+        cursor: u64,
+    ) -> Result<Subscription<L>, RefusedResume<L>>
+        ensures fits { OnOk result (FitsLost lost tables cursor) }
+        ensures ok { IfOk result (λ s. s ≡ counted_step (gone_on lost tables cursor s.link)) }
+        ensures refused { IfErr result (ResumesNothing lost tables cursor) }
+        ensures link { IfOk result (λ s. ReconnectReturns lost.sub cursor (Ok s.link)) }
+        ensures desk { IfErr result (λ refused.
+            ReconnectReturns lost.sub cursor (Err refused.why)) }
+    {
+        let Ok(fits) = lost.fits(alloc, &tables, cursor) else {
+            let why = ResumeError::Desk(DeskError::Memory);
+            return Err(RefusedResume { why, lost, tables });
+        };
+        if !fits {
+            let why = ResumeError::OtherState;
+            return Err(RefusedResume { why, lost, tables });
+        }
+        let mut locked = self.locked.lock(rt);
+        locked.resume(alloc, lost, tables, cursor)
     }
 
     /// Ends a subscription: nothing is delivered to it any more, and it is closed.

@@ -5,20 +5,22 @@ ghost use Rattle.std.specs.Prelude.{◌≡◌, ◌+◌, ◌<◌, Err, IfErr, IfO
 ghost use Rattle.rb_desk.specs.Calls.{ack, expire, nack, reconnect, take, take_any, unsubscribe};
 ghost use Rattle.rb_desk.specs.Journaled.{IsReplay, JournalAnswers, counted_steps, is_own};
 ghost use Rattle.rb_desk.specs.declared.step.Step.TheVariants as step;
+ghost use Rattle.rb_subscriber.specs.Lost.{FitsLost};
 ghost use Rattle.rb_subscriber.specs.Register.{all_steps};
 ghost use Rattle.rb_subscriber.specs.Subscription.{cursor_of};
 ghost use Rattle.rb_broker.specs.Holding.{IsAtEnd, ShowsDrained, MakesSubscription, counted_step, desk_answer};
 ghost use Rattle.rb_broker.specs.Holding.{desk_error, ended_step, relinked_step};
+ghost use Rattle.rb_broker.specs.Resuming.{ResumesAsDesk};
 
 use crate::hall::Hall;
 use crate::locked::Locked;
-use crate::refusal::{RefusedSubscription, SubscribeError, TakeError};
+use crate::refusal::{RefusedResume, RefusedSubscription, ResumeError, SubscribeError, TakeError};
 use cs_apply::Tables;
 use rb_desk::laws::{
     drained_is_at_the_end, only_subscribe_and_close, steps_are_counted, takes_are_as_asked,
 };
 use rb_desk::{Delivery, DeskError, DeskRefusal};
-use rb_subscriber::{Auditor, Missing, Subscription};
+use rb_subscriber::{Auditor, Lost, Missing, Subscription};
 use std::alloc::Global;
 
 impl<L: Hall> Locked<L> {
@@ -201,6 +203,36 @@ impl<L: Hall> Locked<L> {
         self.register.count(subscription);
         self.register.relink(subscription, link);
         Ok(link)
+    }
+
+    /// The desk's `reconnect` of a subscription that fell, at this cursor. It goes on with these
+    /// tables then.
+    pub(crate) fn resume(
+        &mut self,
+        alloc: Global,
+        lost: Lost<L>,
+        tables: Tables,
+        cursor: u64,
+    ) -> Result<Subscription<L>, RefusedResume<L>>
+        requires { FitsLost lost tables cursor }
+        ensures made { ResumesAsDesk result lost tables cursor self.old.desk self.new.desk }
+        ensures replay { IsReplay self.old.desk }
+    {
+        steps_are_counted();
+        only_subscribe_and_close();
+        let _few = self.desk.steps();
+        match self.desk.reconnect(alloc, lost.sub(), cursor) {
+            Ok(link) => {
+                let mut subscription = self.register.resume(lost, tables, cursor, link);
+                self.register.count(&mut subscription);
+                Ok(subscription)
+            }
+            Err(error) => Err(RefusedResume {
+                why: ResumeError::Desk(error),
+                lost,
+                tables,
+            }),
+        }
     }
 
     /// The desk's `unsubscribe` of a subscription, which is closed then.

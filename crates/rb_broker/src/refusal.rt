@@ -5,6 +5,7 @@ use crate::staged::StagedSet;
 use cs_apply::Tables;
 use rb_desk::DeskError;
 use rb_sequence::{Item, ToldLast};
+use rb_subscriber::Lost;
 use thiserror::Error;
 
 /// Why `PublisherMaker::make` makes no publisher. The maker is as before.
@@ -94,6 +95,29 @@ pub enum SubscribeError {
 pub struct RefusedSubscription {
     /// Why there is no subscription.
     pub why: SubscribeError,
+    /// The tables, as they were.
+    pub tables: Tables,
+}
+
+/// Why `Broker::resume` resumes nothing. The broker is as before.
+#[derive(Clone, Copy, Debug, PartialEq, Eq, Error)]
+pub enum ResumeError {
+    /// The tables and the cursor are neither those from before the delivery that was being accepted
+    /// nor those after it.
+    #[error("the tables and the cursor are of another state")]
+    OtherState,
+    /// The desk refuses the reconnection, or memory ran out.
+    #[error("{0}")]
+    Desk(DeskError),
+}
+
+/// What `Broker::resume` did not resume, and why.
+#[derive(Drop)]
+pub struct RefusedResume<L: Hall> {
+    /// Why it isn't resumed.
+    pub why: ResumeError,
+    /// The subscription that fell, as it was.
+    pub lost: Lost<L>,
     /// The tables, as they were.
     pub tables: Tables,
 }
