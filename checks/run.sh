@@ -200,6 +200,71 @@ leaves 'a refused turn keeps a changeset in hand' \
     'end 0\nsend 0\nturn\nend 0\nsend 0\nend 0\nsend 0\nturn\nleft\nsend 0\nleft\nturn\nleft\n' \
     'staged\nsent 1\nplaced 1\nstaged\nsent 2\nstaged\nrefused Full\nrefused SequenceFull\nleft 1\nsent 3\nleft 2\nrefused SequenceFull\nleft 2\n'
 
+# A drive whose subscriber 0 keeps its rows in a database.
+
+drive=examples/drives/eight-publishers file=$work/replica.db
+options=$(cat $drive.args)
+# the cursor of subscriber 0, and its rows: INDEX|FIELDS
+awk '$1 == "subscriber" { n++; if (n == 1) print "cursor " $4 }
+    n == 1 && $1 == "row" { table = $2; $1 = $2 = ""; gsub(/ /, ""); print table "|" $0 }' $drive.report | sort >"$work/kept"
+
+# need_kept FILE: the database is whole, and has these
+need_kept() {
+    need "$1 isn't whole" test "$(sqlite3 -batch "$1" 'PRAGMA integrity_check')" = ok
+    sqlite3 -batch "$1" "SELECT 'cursor ' || place FROM rb_mark" 'SELECT tab, lower(hex(body)) FROM rb_row' | sort >"$work/found"
+    need "$1 has other rows or another mark" cmp -s "$work/kept" "$work/found"
+}
+
+# each word of the options is one of the program's
+run $drive.drive drive $options --replica "$file"
+need_status 0
+need 'another report' cmp -s "$out" $drive.report
+need_nothing err
+# a log stays beside the file, which has all without it
+cp "$file" "$work/alone.db"
+need_kept "$work/alone.db"
+end 'drive --replica with a new file'
+
+# store_fault FILE: such a drive reports nothing
+store_fault() {
+    run $drive.drive drive $options --replica "$1"
+    need_status 1
+    need_nothing out
+    need_line err 'rb_run: store fault'
+}
+
+store_fault "$file"
+need_kept "$file"
+end 'drive --replica with that file again'
+: >"$work/empty.db"
+run $drive.drive drive $options --replica "$work/empty.db"
+need_status 0
+need 'another report' cmp -s "$out" $drive.report
+need_kept "$work/empty.db"
+end 'drive --replica with an empty file'
+store_fault "$work"
+end 'drive --replica with a folder'
+store_fault "$work/none/replica.db"
+end 'drive --replica in a folder that is not there'
+store_fault ''
+end 'drive --replica with an empty word'
+
+# bad_line FILE: a bad line is told first
+echo nonsense >"$work/lines"
+bad_line() {
+    run "$work/lines" drive --replica "$1"
+    need_status 1
+    need_nothing out
+    need_line err 'rb_run: line 1'
+}
+
+bad_line "$file"
+need_kept "$file"
+end 'drive --replica with that file again, and a bad line'
+bad_line "$work"
+end 'drive --replica with a folder, and a bad line'
+refused 'drive --replica without a file' drive --replica
+
 # Where reading or writing fails, or too much comes.
 
 run / script

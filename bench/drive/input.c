@@ -1,9 +1,9 @@
 /* Makes the inputs of drives, on standard output.
  *
- *   input KIND CHANGES LINES PUBLISHERS
+ *   input KIND CHANGES LINES PUBLISHERS [TEXT]
  *
  * The changesets of one table go to the publishers in turn. Each is of
- * CHANGES changes. `inserts`: all are INSERTs of rows of their own. `updates`: each publisher's first changeset inserts its
+ * CHANGES changes of rows with TEXT bytes of text, 16 where it isn't given. `inserts`: all are INSERTs of rows of their own. `updates`: each publisher's first changeset inserts its
  * part of 1,000 rows; the later ones are UPDATEs, which go round its rows. So changesets of different publishers commute. */
 #include "../apply/measure.h"
 #include "../fields.h"
@@ -13,8 +13,8 @@
 #include <stdlib.h>
 #include <string.h>
 
-/* the bytes of a row's text, and the hot rows of all publishers */
-enum { TEXT_BYTES = 16, HOT_ROWS = 1000, MOST_PUBLISHERS = 64 };
+/* the bytes of a row's text that say what it is, the most that it may have, and the hot rows of all publishers */
+enum { TEXT_BYTES = 16, MOST_TEXT = 4096, HOT_ROWS = 1000, MOST_PUBLISHERS = 64 };
 /* the longest line of a drive */
 enum { MOST_OF_LINE = 65536 };
 
@@ -28,14 +28,18 @@ static void put_hex(const unsigned char *bytes, size_t len) {
 /* A publisher's rows have keys that rise; the publishers' ranges are far apart. */
 static uint64_t key_of(uint64_t publisher, uint64_t row) { return publisher * 1000000000 + row; }
 
+/* the bytes of a row's text */
+static uint64_t text_bytes = TEXT_BYTES;
+
 /* a row's text after so many changes of it */
 static unsigned char *put_text(unsigned char *at, uint64_t row, uint64_t changes) {
     char text[TEXT_BYTES + 1];
     snprintf(text, sizeof text, "%08lx%08lx", (unsigned long)(row & 0xffffffff), (unsigned long)(changes & 0xffffffff));
     *at++ = TEXT;
-    at = put_varint(at, TEXT_BYTES);
+    at = put_varint(at, text_bytes);
+    memset(at, 'x', text_bytes);
     memcpy(at, text, TEXT_BYTES);
-    return at + TEXT_BYTES;
+    return at + text_bytes;
 }
 
 static unsigned char *put_insert(unsigned char *at, uint64_t publisher, uint64_t row) {
@@ -71,12 +75,14 @@ static unsigned char *put_changes(unsigned char *at, int hot, uint64_t publisher
 }
 
 int main(int count, char **words) {
-    must(count == 5, "inserts or updates, CHANGES, LINES and PUBLISHERS");
+    must(count == 5 || count == 6, "inserts or updates, CHANGES, LINES, PUBLISHERS and TEXT");
+    if (count == 6) text_bytes = strtoull(words[5], 0, 10);
+    must(text_bytes >= TEXT_BYTES && text_bytes <= MOST_TEXT, "a text of 16 to 4096 bytes");
     int hot = !strcmp(words[1], "updates");
     uint64_t changes = strtoull(words[2], 0, 10), lines = strtoull(words[3], 0, 10), publishers = strtoull(words[4], 0, 10);
     must(publishers >= 1 && publishers <= MOST_PUBLISHERS, "1 to 64 publishers");
     uint64_t rows = HOT_ROWS / publishers, most = hot && rows > changes ? rows : changes;
-    unsigned char *bytes = malloc(sizeof header + most * 64 + 1);
+    unsigned char *bytes = malloc(sizeof header + most * (64 + 2 * text_bytes) + 1);
     must(bytes != NULL, "memory");
     memcpy(bytes, header, sizeof header);
     printf("table ");

@@ -16,7 +16,7 @@ use Rattle.rb_subscriber.specs.Subscription.{SubscriptionState, cursor_of}
 use Rattle.rb_close.specs.Finishing.{Finishes}
 use Rattle.rb_close.specs.Headline.{KeepsRunningHeadline, ShowsPlaced}
 use Rattle.rb_close.specs.Meeting.{HasMet}
-use Rattle.rb_drive.specs.declared.accepting.Accepting.{Accepting}
+use Rattle.rb_drive.specs.declared.accepting.EndedSubscriber.{EndedSubscriber}
 use Rattle.rb_drive.specs.Outcome.{HasMetAndEnded, IsEndAt, IsEnded, StartsEmpty, subscriber_of}
 use Rattle.rb_drive.specs.Owners.{beginning_of}
 use Rattle.rb_drive.proofs.ListLaws.{same_head, nothing_is_first, same_tail}
@@ -36,11 +36,11 @@ FinishedKeepHeadline = (cells : Cells) (publishers : List PublisherView) (sequen
     → HasSingleTables subscription.base (entries_told subscription.told) subscription.tables
     → KeepsRunningHeadline cells publishers sequencer closing subscription
 
-abbrev pub HaveEnded : {L : Type 0} → SequencerState → List (Accepting L) → Type 0
+abbrev pub HaveEnded : {L : Type 0} → SequencerState → List (EndedSubscriber L) → Type 0
 HaveEnded sequencer all = AllByRecursion (λ one. HasMetAndEnded sequencer one.subscription one.ending) all
 
 pub all_keep_headline : {L : Type 0} → FinishedKeepHeadline → (cells : Cells) (ps : List PublisherView)
-    (q : SequencerState) (placed : ℕ) (left : List Item) (closing : LastToken) (all : List (Accepting L))
+    (q : SequencerState) (placed : ℕ) (left : List Item) (closing : LastToken) (all : List (EndedSubscriber L))
     → ShowsPlaced cells q → Finishes cells ps q placed left closing → HaveEnded q all
     → AllByRecursion (KeepsRunningHeadline cells ps q closing) (map (λ one. one.subscription) (map subscriber_of all))
 all_keep_headline law cells ps q placed left closing [] shows finishes met = tt
@@ -49,7 +49,7 @@ all_keep_headline law cells ps q placed left closing (a ∷ all) shows finishes 
   all_keep_headline law cells ps q placed left closing all shows finishes met.1,
 )
 
-pub all_have_ended : {L : Type 0} (q : SequencerState) (placed : ℕ) (all : List (Accepting L))
+pub all_have_ended : {L : Type 0} (q : SequencerState) (placed : ℕ) (all : List (EndedSubscriber L))
     → placed ≡ length q.placed → HaveEnded q all → AllByRecursion (IsEnded placed) (map subscriber_of all)
 all_have_ended q placed [] many met = tt
 all_have_ended q placed (a ∷ all) many met = (
@@ -59,7 +59,7 @@ all_have_ended q placed (a ∷ all) many met = (
 
 -- ---- where subscriptions begin
 
-pub all_begin_empty : {L : Type 0} (schema : List Shape) (n : ℕ) (all : List (Accepting L))
+pub all_begin_empty : {L : Type 0} (schema : List Shape) (n : ℕ) (all : List (EndedSubscriber L))
     → map (λ one. beginning_of one.subscription) all ≡ replicate n (0, empty_tables schema)
     → AllByRecursion (λ one. StartsEmpty schema one.subscription) (map subscriber_of all)
 all_begin_empty schema n [] is = tt
@@ -70,7 +70,7 @@ all_begin_empty schema (suc n) (a ∷ all) is =
       all_begin_empty schema n all (same_tail _ _ _ _ is),
     )
 
-pub many_are_back : {L : Type 0} (n : ℕ) (begin : ℕ × tables.TableState) (all : List (Accepting L))
+pub many_are_back : {L : Type 0} (n : ℕ) (begin : ℕ × tables.TableState) (all : List (EndedSubscriber L))
     → map (λ one. beginning_of one.subscription) all ≡ replicate n begin → length all ≡ n
 many_are_back n begin all is =
     sym (length-map all (λ one. beginning_of one.subscription)) ∙ ap (λ xs. length xs) is ∙ length-replicate n begin

@@ -80,6 +80,7 @@ last_so_stops reading (fault.Read why) after some h bytes r = absurd h
 last_so_stops reading (fault.Write why) after some h bytes r = absurd h
 last_so_stops reading (fault.Line n) after some h bytes r = last_line_is_bad reading n some h.0 h.1 bytes r
 last_so_stops reading fault.Stopped after some h bytes r = absurd h
+last_so_stops reading fault.Store after some h bytes r = absurd h
 last_so_stops reading fault.Memory after some h bytes r = tt
 
 pub last_line_stops : (reading : Reading) (line : List ℕ) (why : DriveFault) (after : Input)
@@ -149,6 +150,7 @@ ends_at_stop (fault.Read why) bytes A r0 r leads read h = absurd h
 ends_at_stop (fault.Write why) bytes A r0 r leads read h = absurd h
 ends_at_stop (fault.Line n) bytes A r0 r leads read h = (bytes, read, bad_there bytes A (IsAtEnd r) n leads h)
 ends_at_stop fault.Stopped bytes A r0 r leads read h = absurd h
+ends_at_stop fault.Store bytes A r0 r leads read h = absurd h
 ends_at_stop fault.Memory bytes A r0 r leads read h = (bytes, read)
 
 -- a bad line within a piece
@@ -180,6 +182,7 @@ read_ends_by_reader (fault.Read why) r0 r r' reading count is so_far kept = (
 read_ends_by_reader (fault.Write why) r0 r r' reading count is so_far kept = absurd is
 read_ends_by_reader (fault.Line n) r0 r r' reading count is so_far kept = absurd is
 read_ends_by_reader fault.Stopped r0 r r' reading count is so_far kept = absurd is
+read_ends_by_reader fault.Store r0 r r' reading count is so_far kept = absurd is
 read_ends_by_reader fault.Memory r0 r r' reading count is so_far kept = absurd is
 
 -- the input is at its end

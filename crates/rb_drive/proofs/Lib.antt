@@ -8,7 +8,9 @@ pub mod LineListLaws
 pub mod PublishedLaws
 pub mod StagingLaws
 pub mod OwnerLaws
+pub mod KeptLaws
 pub mod DriveLaws
 pub mod ReportLaws
 pub mod StatusLaws
 pub mod RunLaws
+pub mod RestartLaws

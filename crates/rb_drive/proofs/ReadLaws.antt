@@ -112,6 +112,7 @@ adding_so_stops reading b (fault.Read why) after is h before r = absurd h
 adding_so_stops reading b (fault.Write why) after is h before r = absurd h
 adding_so_stops reading b (fault.Line n) after is h before r = line_is_bad reading b n is h.0 h.1 before r
 adding_so_stops reading b fault.Stopped after is h before r = absurd h
+adding_so_stops reading b fault.Store after is h before r = absurd h
 adding_so_stops reading b fault.Memory after is h before r = tt
 
 -- adding a line to the input of a reading stops so
@@ -156,6 +157,7 @@ stops_at_longer bytes more (fault.Read why) h = absurd h
 stops_at_longer bytes more (fault.Write why) h = absurd h
 stops_at_longer bytes more (fault.Line n) h = bad_longer bytes more n h
 stops_at_longer bytes more fault.Stopped h = absurd h
+stops_at_longer bytes more fault.Store h = absurd h
 stops_at_longer bytes more fault.Memory h = tt
 
 -- reading stops at a byte

@@ -12,7 +12,7 @@ use Rattle.rb_script.specs.Streams.{AppendsFront}
 use Rattle.rb_script.specs.Texts.{row_text}
 use Rattle.cs_model.specs.declared.row_key.RowKey.{RowKey}
 use Rattle.cs_model.specs.declared.value.Value.{Value}
-use Rattle.rb_drive.specs.declared.accepting.Accepting.{Accepting}
+use Rattle.rb_drive.specs.declared.accepting.EndedSubscriber.{EndedSubscriber}
 use Rattle.rb_drive.specs.Outcome.{subscriber_of}
 use Rattle.rb_drive.specs.Report.{subscriber_text, subscribers_text}
 
@@ -67,7 +67,7 @@ dropped_all [] (suc i) out = refl
 dropped_all (x ∷ xs) zero out = absurd (out (omega arith))
 dropped_all (x ∷ xs) (suc i) out = dropped_all xs i (λ less. out (omega (arith, less)))
 
-pub subscribers_next : {L : Type 0} (n i : ℕ) (all : List (Accepting L)) (one : Accepting L) → i < length all
+pub subscribers_next : {L : Type 0} (n i : ℕ) (all : List (EndedSubscriber L)) (one : EndedSubscriber L) → i < length all
     → one ≡ slice_index_or all i one → subscribers_text n (map subscriber_of (drop i all))
     ≡ subscriber_text n (subscriber_of one) ++ subscribers_text (n + 1) (map subscriber_of (drop (i + 1) all))
 subscribers_next n i all one less is =

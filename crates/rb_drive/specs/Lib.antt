@@ -3,6 +3,8 @@ pub mod Reading
 pub mod Published
 pub mod Staging
 pub mod Owners
+pub mod Kept
 pub mod Outcome
 pub mod Report
 pub mod Run
+pub mod Restart

@@ -15,7 +15,7 @@ use Rattle.rb_close.specs.Headline.{KeepsRunningHeadline}
 use Rattle.rb_close.specs.Meeting.{HasMet}
 use Rattle.rb_drive.specs.declared.accepting.SubscriberEnd.{SubscriberEnd}
 use Rattle.rb_drive.specs.declared.accepting.SubscriberEnd.TheVariants.{Drained, Conflict, Stopped}
-use Rattle.rb_drive.specs.declared.accepting.Accepting.{Accepting}
+use Rattle.rb_drive.specs.declared.accepting.EndedSubscriber.{EndedSubscriber}
 use Rattle.rb_drive.specs.declared.drive.Outcome.{Outcome}
 use Rattle.rb_drive.specs.declared.input.Given.{Given}
 use Rattle.rb_drive.specs.declared.publishing.FaultyLine.{FaultyLine}
@@ -62,7 +62,7 @@ pub record DriveOutcome : Type 0 where
   pub subscribers : List DrivenSubscriber
 
 -- what an outcome of the code says
-abbrev pub subscriber_of : {L : Type 0} → Accepting L → DrivenSubscriber
+abbrev pub subscriber_of : {L : Type 0} → EndedSubscriber L → DrivenSubscriber
 subscriber_of one = record { subscription = one.subscription; ending = one.ending }
 
 abbrev pub reported : {L : Type 0} → Outcome L → DriveOutcome

@@ -29,9 +29,10 @@ IsStatus endings status = ((status ≡ 3) × HasConflict endings)
 abbrev pub endings_of : DriveOutcome → List SubscriberEnd
 endings_of outcome = map (λ one. one.ending) outcome.subscribers
 
--- a fault of the threads: they were stopped, or memory ran out
+-- a fault of the threads: they were stopped, the durable store failed, or memory ran out
 abbrev pub IsOfThreads : DriveFault → Type 0
 IsOfThreads fault.Stopped = Unit {0}
+IsOfThreads fault.Store = Unit {0}
 IsOfThreads fault.Memory = Unit {0}
 IsOfThreads why = ⊥
 
@@ -69,6 +70,8 @@ DriveEnds limits n (Err fault.Memory) r0 r w0 w =
     ((bytes : List ℕ) × Consumes r0 r bytes) × Keeps w0 w
 DriveEnds limits n (Err fault.Stopped) r0 r w0 w =
     ((tables : List Shape) × (givens : List Given) × ReadsInput tables givens r0 r) × Keeps w0 w
+DriveEnds limits n (Err fault.Store) r0 r w0 w =
+    ((tables : List Shape) × (givens : List Given) × ReadsInput tables givens r0 r) × Keeps w0 w
 
 -- The same of a drive whose input was read: it was driven with the lines of each publisher, in a
 -- sequence with these cells.
@@ -81,5 +84,6 @@ ReportEnds cells n tables lines (Err (fault.Write why)) w0 w = (outcome : DriveO
     × (length outcome.subscribers ≡ n) × IsDriven cells tables lines outcome
     × AppendsFront w0 w (report_text outcome)
 ReportEnds cells n tables lines (Err fault.Stopped) w0 w = Keeps w0 w
+ReportEnds cells n tables lines (Err fault.Store) w0 w = Keeps w0 w
 ReportEnds cells n tables lines (Err fault.Memory) w0 w = Keeps w0 w
 ReportEnds cells n tables lines (Err why) w0 w = ⊥

@@ -4,12 +4,14 @@
 ghost use Rattle.std.specs.Prelude.{◌≡◌};
 ghost use Rattle.rb_drive.specs.Owners.{beginning_of};
 
+use crate::kept::KeptSubscription;
 use crate::signs::Signs;
 use cs_apply::Conflict;
 use par_apply::Open;
 use rb_broker::{Broker, Hall, TakeError};
 use rb_desk::{Delivery, DeskError, DeskRefusal};
 use rb_subscriber::{AcceptRefusal, Subscription, SubscriptionError, Workers};
+use sqlite::Alter;
 use std::alloc::Global;
 use std::sync::Wait;
 use std::thread::Threads;
@@ -25,16 +27,23 @@ pub enum SubscriberEnd {
     Stopped,
 }
 
-/// A subscription, and how it ended.
+/// A subscriber: its subscription, and how it ended.
 #[derive(Drop)]
-pub struct Accepting<L: Hall> {
+pub struct Accepting<L: Hall, S: Alter> {
+    pub subscription: KeptSubscription<L, S>,
+    pub ending: SubscriberEnd,
+}
+
+/// A subscriber that has ended, without the replica that it had.
+#[derive(Drop)]
+pub struct EndedSubscriber<L: Hall> {
     pub subscription: Subscription<L>,
     pub ending: SubscriberEnd,
 }
 
-impl<L: Hall> Accepting<L> {
+impl<L: Hall, S: Alter> Accepting<L, S> {
     /// One that has accepted nothing.
-    pub fn new(subscription: Subscription<L>) -> Accepting<L>
+    pub fn new(subscription: KeptSubscription<L, S>) -> Accepting<L, S>
         ensures { result.subscription ≡ subscription }
     {
         Accepting {
@@ -44,8 +53,8 @@ impl<L: Hall> Accepting<L> {
     }
 
     /// Takes, accepts and acknowledges until it is drained, conflicts, or all loops end. As many
-    /// workers apply a delivery as the broker's limits say. Ends all loops itself if memory runs out
-    /// or a call is refused that should not be.
+    /// workers apply a delivery as the broker's limits say. Ends all loops itself if its replica
+    /// fails, if memory runs out or a call is refused that should not be.
     pub fn accept<R: Threads + Wait + Sync>(
         &mut self,
         rt: &R,
@@ -67,12 +76,12 @@ impl<L: Hall> Accepting<L> {
     }
 }
 
-fn accept_all<L: Hall, R: Threads + Wait + Sync>(
+fn accept_all<L: Hall, S: Alter, R: Threads + Wait + Sync>(
     workers: &Workers<R, Open>,
     alloc: Global,
     broker: &Broker<L>,
     signs: &Signs,
-    subscription: &mut Subscription<L>,
+    subscription: &mut KeptSubscription<L, S>,
 ) -> SubscriberEnd
     ensures { beginning_of subscription.new ≡ beginning_of subscription.old }
 {
@@ -83,11 +92,11 @@ fn accept_all<L: Hall, R: Threads + Wait + Sync>(
         if signs.is_stopped() {
             return SubscriberEnd::Stopped;
         }
-        // nobody expires deliveries, so the tick of a take doesn't matter
-        match broker.take(rt, alloc, subscription, 0) {
+        match subscription.take(rt, alloc, broker) {
             Ok(delivery) => {
                 looks = 0;
-                if let Some(ending) = settle(workers, alloc, broker, subscription, &delivery) {
+                let ended = settle(workers, alloc, broker, signs, subscription, &delivery);
+                if let Some(ending) = ended {
                     return ending;
                 }
             }
@@ -104,23 +113,26 @@ fn accept_all<L: Hall, R: Threads + Wait + Sync>(
 
 // Accepts a delivery and acknowledges it. One whose entries this thread doesn't see yet goes back.
 // Returns how the subscriber ends, if it does.
-fn settle<L: Hall, R: Threads + Wait + Sync>(
+fn settle<L: Hall, S: Alter, R: Threads + Wait + Sync>(
     workers: &Workers<R, Open>,
     alloc: Global,
     broker: &Broker<L>,
-    subscription: &mut Subscription<L>,
+    signs: &Signs,
+    subscription: &mut KeptSubscription<L, S>,
     delivery: &Delivery,
 ) -> Option<SubscriberEnd>
     ensures { beginning_of subscription.new ≡ beginning_of subscription.old }
 {
     let rt = workers.rt;
-    let settled = match subscription.accept(workers, alloc, broker.sequence(), delivery) {
-        Ok(_) => broker.ack(rt, alloc, subscription, delivery).is_ok(),
-        Err(SubscriptionError::Unseen { .. }) => {
-            broker.nack(rt, alloc, subscription, delivery).is_ok()
-        }
+    let settled = match subscription.accept(workers, alloc, broker, delivery) {
+        Ok(_) => subscription.ack(rt, alloc, broker, delivery),
+        Err(SubscriptionError::Unseen { .. }) => subscription.nack(rt, alloc, broker, delivery),
         Err(SubscriptionError::Refused(AcceptRefusal::Conflict(conflict))) => {
             return Some(SubscriberEnd::Conflict(conflict));
+        }
+        Err(SubscriptionError::Refused(AcceptRefusal::Store)) => {
+            signs.fail_store();
+            false
         }
         Err(_) => false,
     };

@@ -2,9 +2,13 @@
 
 ghost use Rattle.std.specs.Prelude.{◌≡◌, ◌+◌, ℕ, List, [], length, map, replicate, IfErr};
 ghost use Rattle.std.specs.Prelude.{IfOk, IsTrue};
+ghost use Rattle.std.specs.Prelude.{IfSome};
 ghost use Rattle.std.specs.Arc.{arc_value};
+ghost use Rattle.std.specs.FinMap as map;
 ghost use Rattle.std.specs.List.{AllByRecursion, flat_map};
 ghost use Rattle.cs_model.specs.declared.shape.Shape.{Shape};
+ghost use Rattle.replica_store.specs.Durable.{KeepsRows};
+ghost use Rattle.sqlite.specs.Held.{state};
 ghost use Rattle.rb_core.specs.State.{empty_tables};
 ghost use Rattle.rb_drive.specs.declared.input.Given.{Given as Line};
 ghost use Rattle.rb_drive.specs.Outcome.{HasMetAndEnded, IsDriven, IsEndAt, reported};
@@ -12,9 +16,11 @@ ghost use Rattle.rb_drive.specs.Owners.{beginning_of, publisher_lines, numbered_
 ghost use Rattle.rb_drive.specs.Published.{AreByNumber, unsent_lines};
 ghost use Rattle.rb_drive.specs.Run.{IsOfThreads};
 
-use crate::accepting::{Accepting, SubscriberEnd};
+use crate::accepting::{Accepting, EndedSubscriber, SubscriberEnd};
+use crate::closing::{Closable, all_closed};
 use crate::fault::DriveFault;
 use crate::input::Given;
+use crate::kept::KeptSubscription;
 use crate::owners::{Owners, run_all};
 use crate::publishing::{FaultyLine, Publishing};
 use crate::signs::Signs;
@@ -24,6 +30,8 @@ use rb_broker::{AddRefusal, Broker, Hall, Opened, Publisher, PublisherMaker, Sta
 use rb_close::laws::finished_keeps_headline;
 use rb_close::{FinishRefusal, Finished, finish, meet_sequencer};
 use rb_sequencer::Sequencer;
+use replica_store::Replica;
+use sqlite::Alter;
 use std::alloc::{AllocError, Global};
 use std::sync::{Arc, Wait};
 use std::thread::Threads;
@@ -38,32 +46,35 @@ pub struct Outcome<L: Hall> {
     pub unsent: u64,
     /// The faulty lines, by rising number.
     pub faulty: Vec<FaultyLine>,
-    pub accepting: Vec<Accepting<L>>,
+    pub accepting: Vec<EndedSubscriber<L>>,
 }
 
-/// What a broker is driven with: its tables, the lines of each publisher, and how many subscribers
-/// it has.
+/// What a broker is driven with: its tables, the lines of each publisher, how many subscribers it
+/// has, and a new replica for the first of them, if it has one.
 #[derive(Drop)]
-pub struct Plan {
+pub struct Plan<S: Alter> {
     pub schema: Arc<Schema>,
     pub lines: Vec<Vec<Given>>,
     pub subscribers: u64,
+    pub replica: Option<Replica<S>>,
 }
 
 /// Starts the broker, runs its publishers, its sequencer and its subscribers in threads of their
-/// own until all have ended, and finishes it.
+/// own until all have ended, and finishes it. Closes the replica.
 ///
-/// Returns `Stopped` if the threads were stopped, and `Memory` if memory ran out before or after.
-pub fn drive<L: Hall + Send + Sync, R: Threads + Wait + Sync>(
+/// Returns `Stopped` if the threads were stopped, `Store` if the replica failed, and `Memory` if
+/// memory ran out before or after.
+pub fn drive<L: Hall + Send + Sync, S: Closable + Drop + Send, R: Threads + Wait + Sync>(
     rt: &R,
     alloc: Global,
     opened: Opened,
-    plan: Plan,
+    plan: Plan<S>,
 ) -> Result<Outcome<L>, DriveFault>
     requires cells { opened.cells ≡ L.cells }
     requires queue { opened.queue ≡ L.queue }
     requires ledger { (opened.ledger ≡ L.name) × (L.parts ≡ 1024) × (L.all ≡ 1024) }
     requires schema { arc_value plan.schema ≡ opened.schema }
+    requires replica { IfSome plan.replica (λ r. KeepsRows (state S.Store r.conn) map.empty 0) }
     ensures ok { IfOk result (λ o. IsDriven L.cells (arc_value plan.schema)
         (map (λ v. v.items) plan.lines.items) (reported o)
         × (length o.accepting.items ≡ plan.subscribers)) }
@@ -82,21 +93,33 @@ pub fn drive<L: Hall + Send + Sync, R: Threads + Wait + Sync>(
     };
     match run_all(rt, alloc, &broker, &signs, owners) {
         Some(back) => end(rt, alloc, broker, maker, back),
-        None => Err(DriveFault::Stopped),
+        None => Err(why_stopped(&signs)),
+    }
+}
+
+// why the threads were stopped
+fn why_stopped(signs: &Signs) -> DriveFault
+    ensures { IsOfThreads result }
+{
+    if signs.has_store_failed() {
+        DriveFault::Store
+    } else {
+        DriveFault::Stopped
     }
 }
 
 // all owners, before their threads begin
-fn all_owners<L: Hall, R: Wait>(
+fn all_owners<L: Hall, S: Alter + Drop, R: Wait>(
     rt: &R,
     alloc: Global,
     broker: &Broker<L>,
     maker: &mut PublisherMaker<L>,
     sequencer: Sequencer<L>,
-    plan: Plan,
-) -> Result<Owners<L>, AllocError>
+    plan: Plan<S>,
+) -> Result<Owners<L, S>, AllocError>
     requires schema { arc_value plan.schema ≡ arc_value broker.now.schema }
     requires first { maker.old ≡ 0 }
+    requires replica { IfSome plan.replica (λ r. KeepsRows (state S.Store r.conn) map.empty 0) }
     ensures lines { IfOk result (λ o.
         map (λ one. publisher_lines one.publisher one.lines.items) o.publishing.items
         ≡ numbered_lines 0 (arc_value plan.schema) (map (λ v. v.items) plan.lines.items)) }
@@ -108,11 +131,12 @@ fn all_owners<L: Hall, R: Wait>(
         schema,
         lines,
         subscribers,
+        replica,
     } = plan;
     Ok(Owners {
         publishing: publishers(alloc, broker, maker, lines)?,
         sequencer,
-        accepting: all_subscribers(rt, alloc, broker, &schema, subscribers)?,
+        accepting: all_subscribers(rt, alloc, broker, &schema, subscribers, replica)?,
     })
 }
 
@@ -150,49 +174,54 @@ fn publisher<L: Hall>(
     }
 }
 
-// so many subscribers
-fn all_subscribers<L: Hall, R: Wait>(
+// so many subscribers, the first of them with the replica
+fn all_subscribers<L: Hall, S: Alter + Drop, R: Wait>(
     rt: &R,
     alloc: Global,
     broker: &Broker<L>,
     schema: &Arc<Schema>,
     count: u64,
-) -> Result<Vec<Accepting<L>>, AllocError>
+    replica: Option<Replica<S>>,
+) -> Result<Vec<Accepting<L, S>>, AllocError>
+    requires { IfSome replica (λ r. KeepsRows (state S.Store r.conn) map.empty 0) }
     ensures { IfOk result (λ all. map (λ one. beginning_of one.subscription) all.items
         ≡ replicate count (0, empty_tables (arc_value schema.now))) }
 {
     let mut all = Vec::new(alloc);
+    let mut replica = replica;
     for _ in 0..count {
-        all.push(subscriber(rt, alloc, broker, schema)?)?;
+        all.push(subscriber(rt, alloc, broker, schema, replica.take())?)?;
     }
     Ok(all)
 }
 
 // a subscriber with empty tables, after number 0
-fn subscriber<L: Hall, R: Wait>(
+fn subscriber<L: Hall, S: Alter + Drop, R: Wait>(
     rt: &R,
     alloc: Global,
     broker: &Broker<L>,
     schema: &Arc<Schema>,
-) -> Result<Accepting<L>, AllocError>
+    replica: Option<Replica<S>>,
+) -> Result<Accepting<L, S>, AllocError>
+    requires { IfSome replica (λ r. KeepsRows (state S.Store r.conn) map.empty 0) }
     ensures { IfOk result (λ one. beginning_of one.subscription
         ≡ (0, empty_tables (arc_value schema.now))) }
 {
     let kept = vec![in alloc; true; schema.tables().len()]?;
     let tables = Tables::new(alloc, Arc::try_clone(schema)?, kept);
     match broker.subscribe(rt, alloc, tables, 0) {
-        Ok(subscription) => Ok(Accepting::new(subscription)),
+        Ok(subscription) => Ok(Accepting::new(KeptSubscription::new(subscription, replica))),
         Err(_) => Err(AllocError),
     }
 }
 
-// finishes the broker, when all owners are back
-fn end<L: Hall, R: Wait>(
+// closes the replica and finishes the broker, when all owners are back
+fn end<L: Hall, S: Closable + Drop, R: Wait>(
     rt: &R,
     alloc: Global,
     broker: Broker<L>,
     maker: PublisherMaker<L>,
-    back: Owners<L>,
+    back: Owners<L, S>,
 ) -> Result<Outcome<L>, DriveFault>
     ensures ok { IfOk result (λ o. (schema : List Shape) (lines : List (List Line)) (count : ℕ)
         → map (λ one. publisher_lines one.publisher one.lines.items) back.publishing.items
@@ -208,6 +237,7 @@ fn end<L: Hall, R: Wait>(
         sequencer,
         accepting,
     } = back;
+    let accepting = all_closed(alloc, accepting)?;
     if !all_ended(&sequencer, &accepting) {
         return Err(DriveFault::Stopped);
     }
@@ -223,16 +253,23 @@ fn end<L: Hall, R: Wait>(
             faulty,
             accepting,
         }),
-        Err(unfinished) => Err(match unfinished.why {
-            FinishRefusal::Memory => DriveFault::Memory,
-            FinishRefusal::NotClosed | FinishRefusal::Missing => DriveFault::Stopped,
-        }),
+        Err(unfinished) => Err(why_unfinished(unfinished.why)),
+    }
+}
+
+// why the broker isn't finished
+fn why_unfinished(why: FinishRefusal) -> DriveFault
+    ensures { IsOfThreads result }
+{
+    match why {
+        FinishRefusal::Memory => DriveFault::Memory,
+        FinishRefusal::NotClosed | FinishRefusal::Missing => DriveFault::Stopped,
     }
 }
 
 // whether each subscriber has met the sequencer up to its cursor, and all that are drained have
 // accepted everything
-fn all_ended<L: Hall>(sequencer: &Sequencer<L>, accepting: &[Accepting<L>]) -> bool
+fn all_ended<L: Hall>(sequencer: &Sequencer<L>, accepting: &[EndedSubscriber<L>]) -> bool
     ensures { IsTrue result → AllByRecursion
         (λ one. HasMetAndEnded sequencer.now one.subscription one.ending) accepting.now }
 {
@@ -244,7 +281,7 @@ fn all_ended<L: Hall>(sequencer: &Sequencer<L>, accepting: &[Accepting<L>]) -> b
     true
 }
 
-fn has_ended<L: Hall>(sequencer: &Sequencer<L>, one: &Accepting<L>) -> bool
+fn has_ended<L: Hall>(sequencer: &Sequencer<L>, one: &EndedSubscriber<L>) -> bool
     ensures { IsTrue result
         → HasMetAndEnded sequencer.now one.now.subscription one.now.ending }
 {

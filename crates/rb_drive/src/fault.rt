@@ -7,7 +7,7 @@ use std::alloc::{AllocError, AllocFailed};
 use std::io;
 use thiserror::Error;
 
-/// Why `run_drive` wrote no whole report, with the system's reason if there is one. After all but
+/// Why a drive wrote no whole report, with the system's reason if there is one. After all but
 /// `Write` nothing is written; after `Write` a prefix of the report may be.
 #[derive(Debug, Drop, Error)]
 pub enum DriveFault {
@@ -23,6 +23,10 @@ pub enum DriveFault {
     /// The threads were stopped: one can't be made, or memory ran out in one.
     #[error("stopped")]
     Stopped,
+    /// The durable store failed: it can't be opened, something is in it already, or it failed while
+    /// its subscriber accepted or when it was closed.
+    #[error("store fault")]
+    Store,
     /// Memory ran out before or after the threads ran.
     #[error("out of memory")]
     Memory,

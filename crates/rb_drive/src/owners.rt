@@ -1,6 +1,7 @@
 //! The owners of a drive: each goes into a thread of its own, and comes back when it has ended.
 
 ghost use Rattle.std.specs.Prelude.{◌≡◌, map, IfSome};
+ghost use Rattle.std.specs.Thread.{IsSend, IsSync};
 ghost use Rattle.rb_drive.specs.Owners.{beginning_of, publisher_lines};
 
 use crate::accepting::Accepting;
@@ -9,6 +10,7 @@ use crate::publishing::Publishing;
 use crate::signs::Signs;
 use rb_broker::{Broker, Hall};
 use rb_sequencer::Sequencer;
+use sqlite::Alter;
 use std::alloc::Global;
 use std::snapshot::Snapshot;
 use std::sync::Wait;
@@ -17,10 +19,10 @@ use std::thread::{Promise, PromisedHandle, Threads};
 
 /// The owners: the publishers in the order of their numbers, the sequencer, and the subscribers.
 #[derive(Drop)]
-pub struct Owners<L: Hall> {
+pub struct Owners<L: Hall, S: Alter> {
     pub publishing: Vec<Publishing<L>>,
     pub sequencer: Sequencer<L>,
-    pub accepting: Vec<Accepting<L>>,
+    pub accepting: Vec<Accepting<L, S>>,
 }
 
 // a publisher comes back with its number, its tables and its lines
@@ -37,9 +39,9 @@ impl<L: Hall> Promise<Publishing<L>> for SameLines<L> {
 
 // a subscription comes back that began as it did
 #[derive(Drop)]
-struct SameBeginning<L: Hall>(Snapshot<Accepting<L>>);
+struct SameBeginning<L: Hall, S: Alter>(Snapshot<Accepting<L, S>>);
 
-impl<L: Hall> Promise<Accepting<L>> for SameBeginning<L> {
+impl<L: Hall, S: Alter> Promise<Accepting<L, S>> for SameBeginning<L, S> {
     ghost use Rattle.std.specs.Prelude.{◌≡◌};
     ghost use Rattle.rb_drive.specs.Owners.{beginning_of};
 
@@ -48,13 +50,13 @@ impl<L: Hall> Promise<Accepting<L>> for SameBeginning<L> {
 
 /// Starts a thread for each owner, and gives all back once they have ended. Returns `None` if they
 /// were stopped, because a thread can't be made or memory ran out.
-pub fn run_all<L: Hall + Send + Sync, R: Threads + Wait + Sync>(
+pub fn run_all<L: Hall + Send + Sync, S: Alter + Drop + Send, R: Threads + Wait + Sync>(
     rt: &R,
     alloc: Global,
     broker: &Broker<L>,
     signs: &Signs,
-    owners: Owners<L>,
-) -> Option<Owners<L>>
+    owners: Owners<L, S>,
+) -> Option<Owners<L, S>>
     ensures lines { IfSome result (λ back.
         map (λ one. publisher_lines one.publisher one.lines.items) back.publishing.items
         ≡ map (λ one. publisher_lines one.publisher one.lines.items) owners.publishing.items) }
@@ -70,7 +72,8 @@ pub fn run_all<L: Hall + Send + Sync, R: Threads + Wait + Sync>(
     let back = thread::scope(
         thread::scope_env(),
         rt,
-        |scope| -> Option<Owners<L>>
+        |scope| -> Option<Owners<L, S>>
+            requires { IsSend L.row × IsSend S.row × IsSync L.row × IsSync R.row }
             ensures lines { IfSome result (λ back.
                 map (λ one. publisher_lines one.publisher one.lines.items) back.publishing.items
                 ≡ map (λ one. publisher_lines one.publisher one.lines.items) publishing.items) }
@@ -144,11 +147,11 @@ fn join_publishers<L: Hall, R: Threads>(
 }
 
 // the subscribers, in order, once their threads have ended
-fn join_subscribers<L: Hall, R: Threads>(
+fn join_subscribers<L: Hall, S: Alter + Drop, R: Threads>(
     rt: &R,
     alloc: Global,
-    handles: Vec<PromisedHandle<Accepting<L>, SameBeginning<L>>>,
-) -> Option<Vec<Accepting<L>>>
+    handles: Vec<PromisedHandle<Accepting<L, S>, SameBeginning<L, S>>>,
+) -> Option<Vec<Accepting<L, S>>>
     ensures { IfSome result (λ back.
         map (λ one. beginning_of one.subscription) back.items
         ≡ map (λ h. beginning_of h.promise.0.value.subscription) handles.items) }
@@ -195,13 +198,13 @@ fn placed<L: Hall, R: Wait>(
 }
 
 // what a subscriber's thread does
-fn accepted<L: Hall, R: Threads + Wait + Sync>(
+fn accepted<L: Hall, S: Alter, R: Threads + Wait + Sync>(
     rt: &R,
     alloc: Global,
     broker: &Broker<L>,
     signs: &Signs,
-    accepting: Accepting<L>,
-) -> Accepting<L>
+    accepting: Accepting<L, S>,
+) -> Accepting<L, S>
     ensures { beginning_of result.subscription ≡ beginning_of accepting.subscription }
 {
     let mut accepting = accepting;

@@ -13,7 +13,7 @@ ghost use Rattle.rb_drive.specs.Report.{counts_text, cursor_text, end_error_text
 ghost use Rattle.rb_drive.specs.Report.{faulty_text, report_text, subscriber_text};
 ghost use Rattle.rb_drive.specs.Report.{subscribers_text};
 
-use crate::accepting::{Accepting, SubscriberEnd};
+use crate::accepting::{EndedSubscriber, SubscriberEnd};
 use crate::drive::Outcome;
 use crate::publishing::FaultyLine;
 use cs_apply::Tables;
@@ -48,7 +48,7 @@ fn write_with_subscribers<L: Hall, W: Write>(
     alloc: Global,
     writer: &mut W,
     text: &[u8],
-    all: &[Accepting<L>],
+    all: &[EndedSubscriber<L>],
 ) -> io::Result<()>
     ensures ok { OnOk result (Appends (W.contents writer.old) (W.contents writer.new)
         (text.now ++ subscribers_text 0 (map subscriber_of all.now))) }
@@ -114,7 +114,7 @@ fn fault_said(alloc: Global, why: EndError) -> Result<String, AllocError>
 fn write_subscribers<L: Hall, W: Write>(
     alloc: Global,
     writer: &mut W,
-    all: &[Accepting<L>],
+    all: &[EndedSubscriber<L>],
 ) -> io::Result<()>
     ensures ok { OnOk result (Appends (W.contents writer.old) (W.contents writer.new)
         (subscribers_text 0 (map subscriber_of all.now))) }
@@ -134,7 +134,7 @@ fn write_subscriber<L: Hall, W: Write>(
     alloc: Global,
     writer: &mut W,
     number: usize,
-    one: &Accepting<L>,
+    one: &EndedSubscriber<L>,
 ) -> io::Result<()>
     ensures ok { OnOk result (Appends (W.contents writer.old) (W.contents writer.new)
         (subscriber_text number (subscriber_of one.now))) }

@@ -1,18 +1,24 @@
 //! A drive from a reader to a writer.
 
-ghost use Rattle.std.specs.Prelude.{◌≡◌, map};
+ghost use Rattle.std.specs.Prelude.{◌≡◌, map, IfErr, IfOk, IfSome};
 ghost use Rattle.std.specs.Arc.{arc_value};
-ghost use Rattle.rb_drive.specs.Run.{DriveEnds, IsStatus, ReportEnds};
+ghost use Rattle.std.specs.FinMap as map;
+ghost use Rattle.replica_store.specs.Durable.{KeepsRows};
+ghost use Rattle.sqlite.specs.Held.{state};
+ghost use Rattle.rb_drive.specs.Run.{DriveEnds, IsOfThreads, IsStatus, ReportEnds};
 
-use crate::accepting::{Accepting, SubscriberEnd};
+use crate::accepting::{EndedSubscriber, SubscriberEnd};
+use crate::closing::Closable;
 use crate::drive::{Plan, drive};
 use crate::fault::DriveFault;
 use crate::input::{Input, read_input};
 use crate::lines::by_publisher;
 use crate::report::write_report;
-use cs_model::CopyIn;
+use cs_model::{CopyIn, Schema};
 use rb_broker::{Hall, Opened};
 use rb_desk::Config;
+use replica_store::{Replica, ReplicaError};
+use sqlite::{Alter, Connection, Error, ErrorCode, MemStore};
 use std::alloc::Global;
 use std::io::{Read, Write};
 use std::marker::Brand;
@@ -40,33 +46,107 @@ pub fn run_drive<I: Read, W: Write, R: Threads + Wait + Sync>(
     ensures { DriveEnds config subscribers result (I.remaining reader.old)
         (I.remaining reader.new) (W.contents writer.old) (W.contents writer.new) }
 {
+    run_over::<MemStore, I, W, R>(rt, alloc, reader, writer, config, subscribers, None)
+}
+
+/// Does as `run_drive`, and the first subscriber keeps its rows and its cursor in a database:
+/// each delivery that it accepts is there before it is acknowledged. `file` is what opening the
+/// database gave. It must be empty, and is closed at the end.
+///
+/// Returns what `run_drive` does, and `Store` if the database can't be opened, has anything in it,
+/// or fails. Nothing is written to `writer` then. An input with a bad line leaves the database as
+/// it was.
+pub fn run_durable_drive<S, I, W, R>(
+    rt: &R,
+    alloc: Global,
+    reader: &mut I,
+    writer: &mut W,
+    config: Config,
+    subscribers: u64,
+    file: Result<Connection<S>, Error>,
+) -> Result<u8, DriveFault>
+where
+    S: Closable + Drop + Send,
+    I: Read,
+    W: Write,
+    R: Threads + Wait + Sync,
+    ensures { DriveEnds config subscribers result (I.remaining reader.old)
+        (I.remaining reader.new) (W.contents writer.old) (W.contents writer.new) }
+{
+    run_over(rt, alloc, reader, writer, config, subscribers, Some(file))
+}
+
+// a drive whose first subscriber keeps its rows in this database, if there is one
+fn run_over<S: Closable + Drop + Send, I: Read, W: Write, R: Threads + Wait + Sync>(
+    rt: &R,
+    alloc: Global,
+    reader: &mut I,
+    writer: &mut W,
+    config: Config,
+    subscribers: u64,
+    file: Option<Result<Connection<S>, Error>>,
+) -> Result<u8, DriveFault>
+    ensures { DriveEnds config subscribers result (I.remaining reader.old)
+        (I.remaining reader.new) (W.contents writer.old) (W.contents writer.new) }
+{
     let Input { schema, givens } = read_input(alloc, reader)?;
-    let plan = Plan {
-        schema: Arc::new(alloc, schema.copy_in(alloc)?)?,
-        lines: by_publisher(alloc, givens)?,
-        subscribers,
-    };
+    let shared = Arc::new(alloc, schema.copy_in(alloc)?)?;
+    let lines = by_publisher(alloc, givens)?;
     let opened = Opened::new(alloc, config, schema)?;
-    report::<Brand, W, R>(rt, alloc, writer, opened, plan)
+    let replica = new_replica(file, Arc::try_clone(&shared)?)?;
+    let plan = Plan {
+        schema: shared,
+        lines,
+        subscribers,
+        replica,
+    };
+    report::<Brand, S, W, R>(rt, alloc, writer, opened, plan)
+}
+
+// a new replica in this database, if there is one
+fn new_replica<S: Alter + Drop>(
+    file: Option<Result<Connection<S>, Error>>,
+    schema: Arc<Schema>,
+) -> Result<Option<Replica<S>>, DriveFault>
+    ensures keeps { IfOk result (λ replica.
+        IfSome replica (λ r. KeepsRows (state S.Store r.conn) map.empty 0)) }
+    ensures err { IfErr result IsOfThreads }
+{
+    match file {
+        None => Ok(None),
+        Some(Err(Error::SqliteFailure(ErrorCode::OutOfMemory))) => Err(DriveFault::Memory),
+        Some(Err(_)) => Err(DriveFault::Store),
+        Some(Ok(conn)) => match Replica::create(conn, schema) {
+            Ok(replica) => Ok(Some(replica)),
+            Err(ReplicaError::Memory) => Err(DriveFault::Memory),
+            Err(ReplicaError::Store | ReplicaError::Unusable) => Err(DriveFault::Store),
+        },
+    }
 }
 
 // drives the broker, and writes what it came to
-fn report<L: Hall + Send + Sync, W: Write, R: Threads + Wait + Sync>(
+fn report<L, S, W, R>(
     rt: &R,
     alloc: Global,
     writer: &mut W,
     opened: Opened,
-    plan: Plan,
+    plan: Plan<S>,
 ) -> Result<u8, DriveFault>
+where
+    L: Hall + Send + Sync,
+    S: Closable + Drop + Send,
+    W: Write,
+    R: Threads + Wait + Sync,
     requires cells { opened.cells ≡ L.cells }
     requires queue { opened.queue ≡ L.queue }
     requires ledger { (opened.ledger ≡ L.name) × (L.parts ≡ 1024) × (L.all ≡ 1024) }
     requires schema { arc_value plan.schema ≡ opened.schema }
+    requires replica { IfSome plan.replica (λ r. KeepsRows (state S.Store r.conn) map.empty 0) }
     ensures { ReportEnds L.cells plan.subscribers (arc_value plan.schema)
         (map (λ v. v.items) plan.lines.items) result (W.contents writer.old)
         (W.contents writer.new) }
 {
-    let outcome = drive::<L, R>(rt, alloc, opened, plan)?;
+    let outcome = drive::<L, S, R>(rt, alloc, opened, plan)?;
     match write_report(alloc, writer, &outcome) {
         Ok(()) => Ok(status(&outcome.accepting)),
         Err(why) => Err(DriveFault::Write(why)),
@@ -74,7 +154,7 @@ fn report<L: Hall + Send + Sync, W: Write, R: Threads + Wait + Sync>(
 }
 
 // 3 if a subscriber ended by a conflict, else 0
-fn status<L: Hall>(accepting: &[Accepting<L>]) -> u8
+fn status<L: Hall>(accepting: &[EndedSubscriber<L>]) -> u8
     ensures { IsStatus (map (λ a. a.ending) accepting.now) result }
 {
     for one in accepting {

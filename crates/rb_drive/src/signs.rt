@@ -1,5 +1,5 @@
-//! What the threads of a drive tell one another beside the broker: that all loops end, how many
-//! publishers still send, and bells that end a wait.
+//! What the threads of a drive tell one another beside the broker: that all loops end, whether
+//! because the durable store failed, how many publishers still send, and bells that end a wait.
 
 use std::sync::Wait;
 use std::sync::atomic::{AtomicBool, AtomicU64, Ordering};
@@ -61,6 +61,7 @@ impl Bell {
 #[derive(Drop)]
 pub struct Signs {
     stopped: AtomicBool,
+    store_failed: AtomicBool,
     sending: AtomicU64,
     /// Something was sent, or a publisher has ended.
     pub sent: Bell,
@@ -75,6 +76,7 @@ impl Signs {
     pub fn new(publishers: u64) -> Signs {
         Signs {
             stopped: AtomicBool::new(false),
+            store_failed: AtomicBool::new(false),
             sending: AtomicU64::new(publishers),
             sent: Bell::new(),
             pulled: Bell::new(),
@@ -93,6 +95,17 @@ impl Signs {
     /// Whether all loops end.
     pub fn is_stopped(&self) -> bool {
         self.stopped.load(Ordering::SeqCst)
+    }
+
+    /// Ends all loops, since the durable store failed.
+    pub fn fail_store(&self) {
+        self.store_failed.store(true, Ordering::SeqCst);
+        self.stop();
+    }
+
+    /// Whether the durable store failed.
+    pub fn has_store_failed(&self) -> bool {
+        self.store_failed.load(Ordering::SeqCst)
     }
 
     /// One publisher less sends.

@@ -12,15 +12,15 @@ use Rattle.rb_run.specs.Program.{program, wrong_in}
 use Rattle.clap.specs.Walk.{Row, Text, first_of, rows_of}
 use Rattle.clap.specs.declared.parser.matches.Found.{Found}
 use Rattle.clap.proofs.WalkLemmas.{first_value-rows}
-use Rattle.rb_run.specs.Options.{word_of, word_or_none}
+use Rattle.rb_run.specs.Options.{given_by}
 
 -- the word of an option, as the parser gives it
-pub given_word : (given : Option (Text × List Row)) (found : Found) (name : List ℕ)
-    → option_map (λ (p : Text × List Row). p.1) given ≡ Some (rows_of found) → word_of given name
-    ≡ word_or_none (first_value found name)
-given_word None found name same = absurd (none-some _ same)
-given_word (Some given) found name same =
-    ap word_or_none (ap (option_and_then (first_of name)) same ∙ sym (first_value-rows found name))
+pub given_value : (given : Option (Text × List Row)) (found : Found) (name : List ℕ)
+    → option_map (λ (p : Text × List Row). p.1) given ≡ Some (rows_of found)
+    → given_by given name ≡ first_value found name
+given_value None found name same = absurd (none-some _ same)
+given_value (Some given) found name same =
+    ap (option_and_then (first_of name)) same ∙ sym (first_value-rows found name)
 
 -- a command that has a version
 abbrev pub versioned : App → App

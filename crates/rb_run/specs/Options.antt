@@ -1,5 +1,5 @@
--- The limits, how many subscribers a drive has, how a script is answered, and how rows are shown,
--- from the options of a command line.
+-- The limits, how many subscribers a drive has, where the first one keeps its rows, how a script is
+-- answered, and how rows are shown, from the options of a command line.
 use Rattle.std.specs.Prelude.{ℕ, Bool, false, List, [], Option, Some, None, Result, Ok, Err, codes}
 use Rattle.std.specs.Prelude.{if◌then◌else◌, ◌&&◌, nat_le}
 use Rattle.std.specs.Option.{option_and_then}
@@ -62,13 +62,17 @@ abbrev pub fault_text : RangeFault → List ℕ
 fault_text (Limit fault) = range_text fault
 fault_text Subscribers = codes "--subscribers takes a number from 1 to 16"
 
--- the word of an option, among what a subcommand was given; the empty word if there is none
+-- the word of an option, among what a subcommand was given, if there is one
+abbrev pub given_by : Option (Text × List Row) → Text → Option Text
+given_by found name = option_and_then (λ given. first_of name given.1) found
+
+-- the same, and the empty word if there is none
 abbrev pub word_or_none : Option (List ℕ) → List ℕ
 word_or_none None = []
 word_or_none (Some word) = word
 
 abbrev pub word_of : Option (Text × List Row) → Text → List ℕ
-word_of found name = word_or_none (option_and_then (λ given. first_of name given.1) found)
+word_of found name = word_or_none (given_by found name)
 
 -- the same, for what a subcommand was given
 abbrev pub config_with : Option (Text × List Row) → ℕ → Result Limits ConfigFault
@@ -107,6 +111,10 @@ drive_from (Ok limits) n = with_subscribers limits n
 
 abbrev pub drive_by : Option (Text × List Row) → Result (Limits × ℕ) RangeFault
 drive_by found = drive_from (drive_config_by found) (subscribers_by found)
+
+-- the path of the database in which the first subscriber of a drive keeps its rows, if it is given
+abbrev pub replica_by : Option (Text × List Row) → Option Text
+replica_by found = given_by found (codes "replica")
 
 -- how the script is answered
 abbrev pub answering_by : Option (Text × List Row) → Answering

@@ -1,7 +1,7 @@
 -- The command line: which words the program takes, what they ask for, and how the program ends that
 -- does this.
 use Rattle.std.specs.Prelude.{◌≡◌, ◌⊎◌, ℕ, Bool, true, false, List, [], ◌∷◌, Option, Some, Result}
-use Rattle.std.specs.Prelude.{Ok, Err, codes}
+use Rattle.std.specs.Prelude.{Ok, Err, codes, option_map}
 use Rattle.std.specs.Io.KnownBytes.{Keeps}
 use Rattle.clap.specs.Faults.{fault_of}
 use Rattle.clap.specs.Kinds.{Kinds, HasKind}
@@ -22,7 +22,7 @@ use Rattle.rb_run.specs.declared.job.Job.TheVariants as job
 use Rattle.rb_drive.specs.Run.{DriveEnds}
 use Rattle.rb_drive.specs.declared.fault.DriveFault.{DriveFault}
 use Rattle.rb_run.specs.Endings.{ending_of, ending_of_drive, ending_of_show}
-use Rattle.rb_run.specs.Options.{answering_by, config_by, drive_by, form_by, is_called}
+use Rattle.rb_run.specs.Options.{answering_by, config_by, drive_by, form_by, is_called, replica_by}
 use Rattle.rb_run.specs.declared.options.RangeFault.{RangeFault}
 use Rattle.rb_run.specs.declared.options.RangeFault.TheVariants.{Limit}
 use Rattle.rb_script.specs.declared.answering.Answering.{Answering}
@@ -41,6 +41,11 @@ limit_option name usual = record (new_rule name) {
   value_names = 1;
   defaults = usual ∷ [];
 }
+
+-- an option that takes a path, and has none if it isn't given
+abbrev pub path_option : Text → Rule
+path_option name =
+    record (new_rule name) { long = Some name; action = Some Set; value_names = 1 }
 
 -- an option that is set or not
 abbrev pub flag_option : Text → Rule
@@ -66,7 +71,7 @@ drive_command = record (new_shape (codes "drive")) {
       (codes "65536")
       ∷ limit_option (codes "intake") (codes "64") ∷ limit_option (codes "subscribers")
       (codes "1")
-      ∷ limit_option (codes "appliers") (codes "1") ∷ [];
+      ∷ limit_option (codes "appliers") (codes "1") ∷ path_option (codes "replica") ∷ [];
 }
 
 -- `show`, with its option
@@ -100,6 +105,10 @@ answering_in words = answering_by (subcommand_of program words)
 abbrev pub drive_in : List Text → Result (Limits × ℕ) RangeFault
 drive_in words = drive_by (subcommand_of program words)
 
+-- the path of the first subscriber's database, if the words have one
+abbrev pub replica_in : List Text → Option Text
+replica_in words = replica_by (subcommand_of program words)
+
 -- whether the words call `show`, and how they ask for rows to be shown
 abbrev pub calls_show : List Text → Bool
 calls_show words = is_called (subcommand_of program words) (codes "show")
@@ -121,12 +130,13 @@ AreTaken shows drives words = (wrong_in words ≡ []) × (calls_show words ≡ s
     × (calls_drive words ≡ drives)
 
 -- What the words ask for. If the program takes them, a script under their limits and in their way,
--- or a drive under their limits with their number of subscribers, or a message about an option, or
--- rows in their form; else a text to print, also if memory ran out.
+-- or a drive under their limits with their number of subscribers and their database, or a message
+-- about an option, or rows in their form; else a text to print, also if memory ran out.
 abbrev pub AsksFor : Job → List Text → Type 0
 AsksFor (job.Script limits how) words = AreTaken false false words
     × (config_in words ≡ Ok limits) × (how ≡ answering_in words)
-AsksFor (job.Drive limits n) words = AreTaken false true words × (drive_in words ≡ Ok (limits, n))
+AsksFor (job.Drive limits n path) words = AreTaken false true words
+    × (drive_in words ≡ Ok (limits, n)) × (option_map (λ p. p.now) path ≡ replica_in words)
 AsksFor (job.Range fault) words = (AreTaken false true words × (drive_in words ≡ Err fault))
     ⊎ ((limit : ConfigFault) × AreTaken false false words × (config_in words ≡ Err limit)
     × (fault ≡ Limit limit))
@@ -169,11 +179,12 @@ EndsShown DisplayVersion text ending w0 w = HasPrinted ending
 EndsShown kind text ending w0 w = (ending ≡ Misused text) × Keeps w0 w
 
 -- What the program that does this reads and writes, and how it ends. Only for a script, a drive and
--- rows is anything read.
+-- rows is anything read. In which database a drive's first subscriber keeps its rows makes no
+-- difference here.
 abbrev pub EndsFor : Job → Ending → Option (List ℕ) → Option (List ℕ) → Option (List ℕ)
     → Option (List ℕ) → Type 0
 EndsFor (job.Script limits how) ending r0 r w0 w = HasAnswered how limits ending r0 r w0 w
-EndsFor (job.Drive limits n) ending r0 r w0 w = HasDriven limits n ending r0 r w0 w
+EndsFor (job.Drive limits n path) ending r0 r w0 w = HasDriven limits n ending r0 r w0 w
 EndsFor (job.Range fault) ending r0 r w0 w = (ending ≡ OutOfRange fault) × Keeps r0 r × Keeps w0 w
 EndsFor (job.Show form) ending r0 r w0 w = HasShown form ending r0 r w0 w
 EndsFor (job.Print text) ending r0 r w0 w = EndsShown (kind_of text) text ending w0 w × Keeps r0 r

@@ -3,8 +3,8 @@
 ghost use Rattle.std.specs.Prelude.{◌≡◌, false, IfOk};
 ghost use Rattle.clap.specs.Words.{app_of, rule_of};
 ghost use Rattle.clap.specs.declared.builder.command.Command.TheViews.{out-Command};
-ghost use Rattle.rb_run.specs.Program.{drive_command, flag_option, limit_option, program};
-ghost use Rattle.rb_run.specs.Program.{script_command, show_command};
+ghost use Rattle.rb_run.specs.Program.{drive_command, flag_option, limit_option, path_option};
+ghost use Rattle.rb_run.specs.Program.{program, script_command, show_command};
 
 use clap::{Arg, ArgAction, Command};
 use std::alloc::{AllocError, Global};
@@ -79,11 +79,15 @@ applies all of them to empty tables: all in threads of their own. When all is dr
   subscriber S cursor N drained, or conflict POSITION KIND
                       each subscriber, and its rows as in a script
 
+The database of --replica has two tables, rb_row with the rows and rb_mark with the cursor, which
+change together at each accept.
+
 Statuses:
   0  the report is written
   1  it stopped, with one line on standard error: the number of the first line that is none of the
-     two, a read fault, a write fault, stopped (a thread can't be made, or memory ran out in one),
-     or out of memory; but for a write fault nothing is on standard output
+     two, a read fault, a write fault, store fault (FILE can't be opened, has anything in it, or
+     fails), stopped (a thread can't be made, or memory ran out in one), or out of memory; but for a
+     write fault nothing is on standard output
   2  the command line is faulty
   3  the report is written, and a subscriber ended by a conflict";
 
@@ -217,6 +221,11 @@ fn drive<'a>(alloc: Global) -> Result<Command<'a>, AllocError>
         "1",
         "How many threads apply a delivery, 1 to 16: more than one pays for rows of some kilobytes",
     );
+    let replica = path(
+        alloc,
+        "replica",
+        "Keep the rows of subscriber 0 in an SQLite database at FILE, which must be new or empty",
+    );
     Command::new(alloc, "drive")
         .version(VERSION)
         .about("Drives a broker with the changesets on standard input, in threads")
@@ -227,7 +236,8 @@ fn drive<'a>(alloc: Global) -> Result<Command<'a>, AllocError>
         .arg(capacity)?
         .arg(intake)?
         .arg(subscribers)?
-        .arg(appliers)
+        .arg(appliers)?
+        .arg(replica)
 }
 
 // the subcommand `show`
@@ -253,6 +263,18 @@ fn limit<'a>(alloc: Global, name: &'a str, usual: &'a str, help: &'a str) -> Arg
         .action(ArgAction::Set)
         .value_name("N")
         .default_value(usual)
+        .help(help)
+}
+
+// an option that takes a path, and has none if it isn't given
+fn path<'a>(alloc: Global, name: &'a str, help: &'a str) -> Arg<'a>
+    ensures rule { rule_of result ≡ path_option name.now }
+    ensures local { result.global ≡ false }
+{
+    Arg::new(alloc, name)
+        .long(name)
+        .action(ArgAction::Set)
+        .value_name("FILE")
         .help(help)
 }
 

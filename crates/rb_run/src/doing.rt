@@ -6,11 +6,12 @@ ghost use Rattle.rb_run.specs.Program.{EndsAsAsked, EndsFor, EndsShown, HasAnswe
 ghost use Rattle.rb_run.specs.Program.{HasDriven, HasShown};
 
 use crate::ending::Ending;
+use crate::files::Files;
 use crate::job::Job;
 use clap::Error;
 use clap::error::ErrorKind;
 use rb_core::Config;
-use rb_drive::run_drive;
+use rb_drive::{run_drive, run_durable_drive};
 use rb_script::{Answering, RowForm, ScriptFault, run_script, show};
 use std::alloc::Global;
 use std::io;
@@ -23,7 +24,7 @@ use std::thread::Threads;
 /// Answers the script in `reader` on `writer`, drives a broker with the changesets in it and
 /// reports there, shows the rows in it there, or prints help or the version. If the words are
 /// faulty, nothing is read and nothing written, and the ending says what is wrong.
-pub fn asked<T: Threads + Wait + Sync, R: Read, W: Write>(
+pub fn asked<T: Threads + Wait + Sync + Files, R: Read, W: Write>(
     rt: &T,
     alloc: Global,
     words: &[String],
@@ -37,20 +38,20 @@ pub fn asked<T: Threads + Wait + Sync, R: Read, W: Write>(
     done(rt, alloc, Job::of(alloc, words), reader, writer)
 }
 
-fn done<T: Threads + Wait + Sync, R: Read, W: Write>(
+fn done<T: Threads + Wait + Sync + Files, R: Read, W: Write>(
     rt: &T,
     alloc: Global,
     job: Job,
     reader: &mut R,
     writer: &mut W,
 ) -> Ending
-    ensures { EndsFor job result (R.remaining reader.old) (R.remaining reader.new)
+    ensures { EndsFor job.entry result (R.remaining reader.old) (R.remaining reader.new)
         (W.contents writer.old) (W.contents writer.new) }
 {
     match job {
         Job::Script(config, how) => answered(alloc, config, how, reader, writer),
-        Job::Drive(config, subscribers) => {
-            driven(rt, alloc, config, subscribers, reader, writer)
+        Job::Drive(config, subscribers, path) => {
+            driven(rt, alloc, config, subscribers, path, reader, writer)
         }
         Job::Range(fault) => Ending::OutOfRange(fault),
         Job::Show(form) => showed(alloc, form, reader, writer),
@@ -72,19 +73,28 @@ fn answered<R: Read, W: Write>(
     Ending::of(run_script(alloc, reader, writer, config, how))
 }
 
-// Drives a broker.
-fn driven<T: Threads + Wait + Sync, R: Read, W: Write>(
+// Drives a broker. Its first subscriber keeps its rows in a database at this path, if there is one.
+// Opening it may fail: the drive says so, once it has read its input.
+fn driven<T: Threads + Wait + Sync + Files, R: Read, W: Write>(
     rt: &T,
     alloc: Global,
     config: Config,
     subscribers: u64,
+    path: Option<&str>,
     reader: &mut R,
     writer: &mut W,
 ) -> Ending
     ensures { HasDriven config subscribers result (R.remaining reader.old)
         (R.remaining reader.new) (W.contents writer.old) (W.contents writer.new) }
 {
-    Ending::of_drive(run_drive(rt, alloc, reader, writer, config, subscribers))
+    let driven = match path {
+        None => run_drive(rt, alloc, reader, writer, config, subscribers),
+        Some(path) => {
+            let file = rt.open(path);
+            run_durable_drive(rt, alloc, reader, writer, config, subscribers, file)
+        }
+    };
+    Ending::of_drive(driven)
 }
 
 // Shows rows.

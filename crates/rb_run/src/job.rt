@@ -5,7 +5,7 @@ ghost use Rattle.clap.specs.Words.{FailsBy, subcommand_of, subcommand_rows_of};
 ghost use Rattle.rb_run.specs.Program.{AsksFor, program, wrong_in};
 
 use crate::command::program;
-use crate::options::{RangeFault, answering, called, config, drive, form};
+use crate::options::{RangeFault, answering, called, config, drive, form, replica};
 use clap::{ArgMatches, Error};
 use rb_core::Config;
 use rb_script::{Answering, RowForm};
@@ -13,11 +13,12 @@ use std::alloc::Global;
 
 /// What a command line asks for.
 #[derive(Debug, Drop)]
-pub enum Job {
+pub enum Job<'a> {
     /// Answers a script under these limits, in this way.
     Script(Config, Answering),
-    /// Drives a broker under these limits, with so many subscribers.
-    Drive(Config, u64),
+    /// Drives a broker under these limits, with so many subscribers. The first keeps its rows in a
+    /// database at this path, if there is one.
+    Drive(Config, u64, Option<&'a str>),
     /// Says which option's word isn't a number in its range.
     Range(RangeFault),
     /// Shows rows in this form.
@@ -26,16 +27,16 @@ pub enum Job {
     Print(Error),
 }
 
-impl Job {
+impl<'a> Job<'a> {
     /// What these words ask for. The first is the program's name.
-    pub fn of(alloc: Global, words: &[String]) -> Job
+    pub fn of(alloc: Global, words: &'a [String]) -> Job<'a>
         ensures { AsksFor result (map string_bytes words.now) }
     {
         match found(alloc, words) {
             Err(shown) => Job::Print(shown),
             Ok(found) if called(&found, "show") => Job::Show(form(&found)),
             Ok(found) if called(&found, "drive") => match drive(&found) {
-                Ok((config, subscribers)) => Job::Drive(config, subscribers),
+                Ok((config, subscribers)) => Job::Drive(config, subscribers, replica(&found)),
                 Err(fault) => Job::Range(fault),
             },
             Ok(found) => match config(&found) {

@@ -1,14 +1,15 @@
 //! The program: parses a command line, and runs a script, drives a broker or shows rows from
 //! standard input to standard output. Theorem: `doing::asked` reads, writes and ends as the words
 //! ask for. They ask for a script under the limits and in the way of their options, for a drive
-//! under these with so many subscribers, for a message about the first faulty option, for rows in
-//! the form of their options, or for a text to print. The exit status and the message on standard
-//! error are those of the ending.
+//! under these with so many subscribers and a database for the first one, for a message about the
+//! first faulty option, for rows in the form of their options, or for a text to print. The exit
+//! status and the message on standard error are those of the ending.
 #![tactic(auto)]
 
 mod command;
 mod doing;
 mod ending;
+mod files;
 mod job;
 mod options;
 
@@ -19,6 +20,9 @@ ghost use Rattle.rb_run.specs.Program.{EndsAsAsked};
 
 use doing::asked;
 use ending::Ending;
+use files::Files;
+use sqlite::{Connection, FileStore};
+use sqlite_std_file::File;
 use std::alloc::Global;
 use std::io::{BufWriter, Stdin, Stdout};
 use std::process::ExitCode;
@@ -33,6 +37,14 @@ struct Streams {
     stdout: Stdout,
     // the same once more, for whoever has no buffer to put it in
     spare: Stdout,
+}
+
+impl Files for HostRuntime {
+    type File = File;
+
+    fn open(&self, path: &str) -> Result<Connection<FileStore<File>>, sqlite::Error> {
+        Connection::open(self, path)
+    }
 }
 
 fn main(rt: HostRuntime) -> ExitCode {
@@ -58,7 +70,7 @@ fn words_of(rt: &HostRuntime) -> io::Result<Vec<String>> {
 }
 
 // Does what the command line asks for, if its words can be had.
-fn run<T: Threads + Wait + Sync>(
+fn run<T: Threads + Wait + Sync + Files>(
     rt: &T,
     alloc: Global,
     words: io::Result<Vec<String>>,
@@ -75,7 +87,7 @@ fn run<T: Threads + Wait + Sync>(
 }
 
 // Does what these words ask for, from standard input to standard output.
-fn called<T: Threads + Wait + Sync>(
+fn called<T: Threads + Wait + Sync + Files>(
     rt: &T,
     alloc: Global,
     words: &[String],

@@ -1,11 +1,11 @@
 //! Reads what is asked for from the options of a command line: the limits, how many subscribers a
-//! drive has, how a script is answered, and how rows are shown.
+//! drive has, where the first one keeps its rows, how a script is answered, and how rows are shown.
 
-ghost use Rattle.std.specs.Prelude.{◌≡◌};
+ghost use Rattle.std.specs.Prelude.{◌≡◌, option_map};
 ghost use Rattle.clap.specs.Words.{subcommand_rows_of};
 ghost use Rattle.rb_run.specs.Options.{answering_by, config_by, config_of, config_with};
-ghost use Rattle.rb_run.specs.Options.{drive_by, fault_text};
-ghost use Rattle.rb_run.specs.Options.{form_by, is_called, is_set, range_text, value_of, word_of};
+ghost use Rattle.rb_run.specs.Options.{drive_by, fault_text, form_by, given_by, is_called, is_set};
+ghost use Rattle.rb_run.specs.Options.{range_text, replica_by, value_of, word_of};
 
 use clap::ArgMatches;
 use rb_core::{Config, ConfigFault};
@@ -54,6 +54,13 @@ pub fn drive(found: &ArgMatches) -> Result<(Config, u64), RangeFault>
     }
 }
 
+/// The path of the database in which a drive's first subscriber keeps its rows, if it is given.
+pub fn replica<'a>(found: &ArgMatches<'a>) -> Option<&'a str>
+    ensures { option_map (λ path. path.now) result ≡ replica_by (subcommand_rows_of found.now) }
+{
+    given(found, "replica")
+}
+
 /// How the options of the subcommand say that a script is answered.
 pub fn answering(found: &ArgMatches) -> Answering
     ensures { result ≡ answering_by (subcommand_rows_of found.now) }
@@ -92,16 +99,24 @@ fn flag(found: &ArgMatches, name: &str) -> bool
     word(found, name) == "true"
 }
 
-// the word of an option of the subcommand, or none
+// the word of an option of the subcommand, or the empty one
 fn word<'a>(found: &ArgMatches<'a>, name: &str) -> &'a str
     ensures { result.now ≡ word_of (subcommand_rows_of found.now) name.now }
 {
-    let Some((_, options)) = found.subcommand() else {
-        return "";
-    };
-    match options.get_str(name) {
+    match given(found, name) {
         None => "",
         Some(word) => word,
+    }
+}
+
+// the word of an option of the subcommand, if it has one
+fn given<'a>(found: &ArgMatches<'a>, name: &str) -> Option<&'a str>
+    ensures { option_map (λ word. word.now) result
+        ≡ given_by (subcommand_rows_of found.now) name.now }
+{
+    match found.subcommand() {
+        None => None,
+        Some((_, options)) => options.get_str(name),
     }
 }
 

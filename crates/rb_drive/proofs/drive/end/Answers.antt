@@ -11,7 +11,8 @@ returns-in-Ok-clause-ok g c =
     λ schema lines count have begin.
     let cells = g.L.StepLedger.cells in
     let all = c.args.back.publishing.items in
-    let subscribers = c.args.back.accepting.items in
+    let subscribers = c.in_ok-accepting.accepting.items in
+    let begun = c.in_ok-accepting.ensures.begun ∙ begin in
     let sequencer = c.args.back.sequencer in
     let dones = map (λ one. one.done) all in
     let finished = c.in-Ok.ensures.ok in
@@ -38,7 +39,7 @@ returns-in-Ok-clause-ok g c =
             ∙ ap (λ xs. unsent_lines xs dones) comes.same;
         faulty = subst (λ xs. AreByNumber xs c.in_ok-publishers.faulty.items) comes.failed
             c.in_ok-publishers.ensures.faulty;
-        begun = all_begin_empty schema count subscribers begin;
+        begun = all_begin_empty schema count subscribers begun;
         headline = all_keep_headline c.finished_keeps_headline.ensures cells
             c.in_ok-publishers.publishers.items sequencer c.in-Ok.field-0.placed c.in-Ok.field-0.left.items
             c.in-Ok.field-0.closing subscribers
@@ -50,5 +51,5 @@ returns-in-Ok-clause-ok g c =
             finished ended;
         ended = all_have_ended sequencer c.in-Ok.field-0.placed subscribers finished.many ended;
       },
-      many_are_back count _ subscribers begin,
+      many_are_back count _ subscribers begun,
     )

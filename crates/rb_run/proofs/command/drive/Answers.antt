@@ -20,17 +20,21 @@ returns-clause-app c =
     ∙ ap₂ with_rule capacity c.limit-intake.ensures.rule in
     let subscribers = c.in_ok-arg-6.ensures.shape c.limit-subscribers.ensures.local
     ∙ ap₂ with_rule intake c.limit-subscribers.ensures.rule in
-    IfOk-weaker c.arg-7.result _ _ (λ command h. ap (λ (a : App). a.top)
-    (h.shape c.limit-appliers.ensures.local ∙ ap₂ with_rule subscribers c.limit-appliers.ensures.rule)) c.arg-7.ensures
+    let appliers = c.in_ok-arg-7.ensures.shape c.limit-appliers.ensures.local
+    ∙ ap₂ with_rule subscribers c.limit-appliers.ensures.rule in
+    IfOk-weaker c.arg-8.result _ _ (λ command h. ap (λ (a : App). a.top)
+    (h.shape c.path-replica.ensures.local ∙ ap₂ with_rule appliers c.path-replica.ensures.rule)) c.arg-8.ensures
 
 -- none of them is global
 pub returns-clause-local : goal.returns-clause-local
-returns-clause-local c = IfOk-weaker c.arg-7.result _ _
-    (λ command h. h.globals ∙ ap₂ (λ a b. a || b) (c.in_ok-arg-6.ensures.globals
+returns-clause-local c = IfOk-weaker c.arg-8.result _ _
+    (λ command h. h.globals ∙ ap₂ (λ a b. a || b) (c.in_ok-arg-7.ensures.globals
+    ∙ ap₂ (λ a b. a || b) (c.in_ok-arg-6.ensures.globals
     ∙ ap₂ (λ a b. a || b) (c.in_ok-arg-5.ensures.globals
     ∙ ap₂ (λ a b. a || b) (c.in_ok-arg-4.ensures.globals ∙ ap₂ (λ a b. a || b) (c.in_ok-arg-3.ensures.globals
     ∙ ap₂ (λ a b. a || b) (c.in_ok-arg-2.ensures.globals ∙ ap₂ (λ a b. a || b) (c.in_ok-arg.ensures.globals
     ∙ ap₂ (λ a b. a || b) (ap (λ f. f.has_globals) c.after_help.ensures ∙ ap (λ f. f.has_globals) c.about.ensures
     ∙ ap (λ f. f.has_globals) c.version.ensures ∙ c.new.ensures.local) c.limit-batch.ensures.local)
     c.limit-window.ensures.local) c.limit-timeout.ensures.local) c.limit-capacity.ensures.local)
-    c.limit-intake.ensures.local) c.limit-subscribers.ensures.local) c.limit-appliers.ensures.local) c.arg-7.ensures
+    c.limit-intake.ensures.local) c.limit-subscribers.ensures.local) c.limit-appliers.ensures.local)
+    c.path-replica.ensures.local) c.arg-8.ensures

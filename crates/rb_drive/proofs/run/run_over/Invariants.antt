@@ -1,4 +1,4 @@
-use Rattle.rb_drive.proofs.run.run_drive.Given as goal
+use Rattle.rb_drive.proofs.run.run_over.Given as goal
 
 -- the hall of the broker that was just opened
 abbrev pub ghosts-report-L-Ledger : goal.ghosts-report-L-Ledger

@@ -1,0 +1,11 @@
+use Rattle.sqlite.specs.Held.{state}
+use Rattle.replica_store.specs.Durable.{KeepsRows}
+use Rattle.rb_subscriber.specs.Subscription.{cursor_of}
+use Rattle.rb_drive.proofs.KeptLaws.{still_kept}
+use Rattle.rb_drive.proofs.kept.accept_both.Goals as goal
+
+-- the replica has what the subscription accepted, or both are as before, or it has fallen
+pub returns-clause-kept : goal.returns-clause-kept
+returns-clause-kept g c =
+    still_kept (λ r s. KeepsRows (state g.S.Store r.conn) s.tables.rows (cursor_of s)) _ _ c.accept_durable.result _ _ _ _
+    c.accept_durable.ensures.answers c.accept_durable.ensures.kept c.accept_durable.ensures.unasked c.requires

@@ -1,0 +1,26 @@
+use Rattle.std.proofs.Common.{◌≡◌}
+use Rattle.sqlite.specs.Held.{state}
+use Rattle.replica_store.specs.Durable.{KeepsRows}
+use Rattle.rb_subscriber.specs.Subscription.{cursor_of}
+use Rattle.rb_drive.proofs.RestartLaws.{if_opened, IsShownRun, restart_holds, unasked_keeps}
+use Rattle.rb_drive.proofs.laws.accept_and_crash.Goals as goal
+
+pub returns : goal.returns
+returns g c =
+    let old = c.args.subscription.now in
+    let new = c.accept_durable.new.self in
+    let left = c.accept_durable.new.store in
+    let first : IsShownRun g.L.StepLedger.cells old =
+    record { shown = c.cursor-cursor_before.ensures.shown; singly = c.tables-tables_before.ensures.singly } in
+    let last : IsShownRun g.L.StepLedger.cells new =
+    record { shown = c.cursor-cursor_after.ensures.shown; singly = c.tables-tables_after.ensures.singly } in
+    let answers = c.accept_durable.ensures in
+    let unasked = unasked_keeps (new.pending ≡ old.pending)
+    (λ r. KeepsRows (state g.S.Store r.conn) old.tables.rows (cursor_of old))
+    c.accept_durable.result c.args.replica left answers.unasked c.requires.kept in
+    if_opened _ _ c.crash_and_open.result (λ again h clean. let held = h clean in (
+      held.0,
+      restart_holds g.L.StepLedger.cells c.args.delivery.now c.accept_durable.result old new
+          (state g.S.Store left.conn) _ held.1 held.2 first last c.requires.stands answers.answers answers.kept
+          answers.leaves unasked c.is_fallen-fallen.ensures.pending,
+    )) c.crash_and_open.ensures

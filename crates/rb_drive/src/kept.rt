@@ -1,0 +1,172 @@
+//! A subscription, and the replica that keeps its rows and its cursor, if it has one.
+
+ghost use Rattle.std.specs.Prelude.{◌≡◌, IfSome};
+ghost use Rattle.sqlite.specs.Held.{state};
+ghost use Rattle.rb_drive.specs.Kept.{KeepsSubscription};
+ghost use Rattle.rb_drive.specs.Owners.{beginning_of};
+
+use par_apply::Open;
+use rb_broker::{Broker, Hall, TakeError};
+use rb_desk::Delivery;
+use rb_subscriber::{Subscription, SubscriptionError, Workers};
+use replica_store::Replica;
+use sqlite::Alter;
+use std::alloc::Global;
+use std::marker::Model;
+use std::sync::Wait;
+use std::thread::Threads;
+
+/// A subscription with its replica, if it has one. Until the subscription falls, the replica has
+/// its rows and its cursor.
+#[derive(Drop)]
+pub struct KeptSubscription<L: Hall, S: Alter> {
+    subscription: Subscription<L>,
+    replica: Option<Replica<S>>,
+}
+
+impl<L: Hall, S: Alter> Model for KeptSubscription<L, S> {
+    ghost use Rattle.std.specs.Prelude.{IfSome};
+    ghost use Rattle.sqlite.specs.Held.{state};
+    ghost use Rattle.rb_drive.specs.Kept.{KeepsSubscription};
+    ghost use Rattle.rb_subscriber.specs.Subscription.{SubscriptionState};
+    ghost use Rattle.rb_subscriber.specs.Subscription.{subscription_state_code};
+
+    ghost Value = { SubscriptionState };
+
+    ghost coded = { subscription_state_code };
+
+    ghost view = { λ k. k.subscription };
+
+    ghost invariant = { λ k. IfSome k.replica
+        (λ r. KeepsSubscription (state S.Store r.conn) k.subscription) };
+}
+
+impl<L: Hall, S: Alter> KeptSubscription<L, S> {
+    /// A subscription with this replica, or without one.
+    pub fn new(subscription: Subscription<L>, replica: Option<Replica<S>>) -> KeptSubscription<L, S>
+        requires { IfSome replica (λ r. KeepsSubscription (state S.Store r.conn) subscription) }
+        ensures { result ≡ subscription }
+    {
+        KeptSubscription {
+            subscription,
+            replica,
+        }
+    }
+
+    /// The subscription and its replica.
+    pub fn into_parts(self) -> (Subscription<L>, Option<Replica<S>>)
+        ensures { result.0 ≡ self }
+    {
+        let KeptSubscription {
+            subscription,
+            replica,
+        } = self;
+        (subscription, replica)
+    }
+
+    /// Takes its next delivery.
+    pub fn take<R: Wait>(
+        &mut self,
+        rt: &R,
+        alloc: Global,
+        broker: &Broker<L>,
+    ) -> Result<Delivery, TakeError>
+        ensures { beginning_of self.new ≡ beginning_of self.old }
+    {
+        // nobody expires deliveries, so the tick of a take doesn't matter
+        broker.take(rt, alloc, &mut self.subscription, 0)
+    }
+
+    /// Accepts a delivery: first into the replica, if it has one.
+    pub fn accept<R: Threads + Wait + Sync>(
+        &mut self,
+        workers: &Workers<R, Open>,
+        alloc: Global,
+        broker: &Broker<L>,
+        delivery: &Delivery,
+    ) -> Result<u64, SubscriptionError>
+        ensures { beginning_of self.new ≡ beginning_of self.old }
+    {
+        let (subscription, replica) = (&mut self.subscription, &mut self.replica);
+        accept_into(workers, alloc, broker, subscription, replica, delivery)
+    }
+
+    /// Acknowledges a delivery that it has accepted. False if it is refused.
+    pub fn ack<R: Wait>(
+        &mut self,
+        rt: &R,
+        alloc: Global,
+        broker: &Broker<L>,
+        delivery: &Delivery,
+    ) -> bool
+        ensures { beginning_of self.new ≡ beginning_of self.old }
+    {
+        broker
+            .ack(rt, alloc, &mut self.subscription, delivery)
+            .is_ok()
+    }
+
+    /// Gives a delivery back. False if it is refused.
+    pub fn nack<R: Wait>(
+        &mut self,
+        rt: &R,
+        alloc: Global,
+        broker: &Broker<L>,
+        delivery: &Delivery,
+    ) -> bool
+        ensures { beginning_of self.new ≡ beginning_of self.old }
+    {
+        broker
+            .nack(rt, alloc, &mut self.subscription, delivery)
+            .is_ok()
+    }
+}
+
+fn accept_into<L: Hall, S: Alter, R: Threads + Wait + Sync>(
+    workers: &Workers<R, Open>,
+    alloc: Global,
+    broker: &Broker<L>,
+    subscription: &mut Subscription<L>,
+    replica: &mut Option<Replica<S>>,
+    delivery: &Delivery,
+) -> Result<u64, SubscriptionError>
+    requires { IfSome replica.old
+        (λ r. KeepsSubscription (state S.Store r.conn) subscription.old) }
+    ensures begun { beginning_of subscription.new ≡ beginning_of subscription.old }
+    ensures kept { IfSome replica.new
+        (λ r. KeepsSubscription (state S.Store r.conn) subscription.new) }
+{
+    match replica {
+        Some(replica) => accept_both(workers, alloc, broker, subscription, replica, delivery),
+        None => accept_tables(workers, alloc, broker, subscription, delivery),
+    }
+}
+
+// accepts into the replica and the subscription's tables
+fn accept_both<L: Hall, S: Alter, R: Threads + Wait + Sync>(
+    workers: &Workers<R, Open>,
+    alloc: Global,
+    broker: &Broker<L>,
+    subscription: &mut Subscription<L>,
+    replica: &mut Replica<S>,
+    delivery: &Delivery,
+) -> Result<u64, SubscriptionError>
+    requires { KeepsSubscription (state S.Store replica.old.conn) subscription.old }
+    ensures begun { beginning_of subscription.new ≡ beginning_of subscription.old }
+    ensures kept { KeepsSubscription (state S.Store replica.new.conn) subscription.new }
+{
+    subscription.accept_durable(workers, alloc, broker.sequence(), replica, delivery)
+}
+
+// accepts into the subscription's tables alone
+fn accept_tables<L: Hall, R: Threads + Wait + Sync>(
+    workers: &Workers<R, Open>,
+    alloc: Global,
+    broker: &Broker<L>,
+    subscription: &mut Subscription<L>,
+    delivery: &Delivery,
+) -> Result<u64, SubscriptionError>
+    ensures { beginning_of subscription.new ≡ beginning_of subscription.old }
+{
+    subscription.accept(workers, alloc, broker.sequence(), delivery)
+}
