@@ -32,14 +32,14 @@ replicate_more zero a = refl
 replicate_more (suc n) a = ap (λ rest. a ∷ rest) (replicate_more n a)
 
 -- one more item that has the same as all before it
-pub one_more : {A B : Type 0} (f : A → B) (done : List A) (x : A) (n : ℕ) (b : B) → map f done ≡ replicate n b → f x ≡ b
+pub made_one_more : {A B : Type 0} (f : A → B) (done : List A) (x : A) (n : ℕ) (b : B) → map f done ≡ replicate n b → f x ≡ b
     → map f (done ++ x ∷ []) ≡ replicate (n + 1) b
-one_more f done x n b before same =
+made_one_more f done x n b before same =
     let next : suc n ≡ n + 1 = omega arith in
     map-append f done (x ∷ []) ∙ ap (λ front. front ++ f x ∷ []) before ∙ ap (λ z. replicate n b ++ z ∷ []) same
     ∙ replicate_more n b ∙ ap (λ m. replicate m b) next
 
--- what was pushed without an error is at the end
-pub pushed : {A : Type 0} (ok : Bool) (old : List A) (x : A) (new : List A)
+-- what was pushed_one without an error is at the end
+pub pushed_one : {A : Type 0} (ok : Bool) (old : List A) (x : A) (new : List A)
     → new ≡ (if ok then old ++ x ∷ [] else old) → ok ≡ true → new ≡ old ++ x ∷ []
-pushed ok old x new is was = is ∙ ap (λ b. if b then old ++ x ∷ [] else old) was
+pushed_one ok old x new is was = is ∙ ap (λ b. if b then old ++ x ∷ [] else old) was

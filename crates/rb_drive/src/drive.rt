@@ -2,7 +2,7 @@
 
 ghost use Rattle.std.specs.Prelude.{◌≡◌, ◌+◌, ℕ, List, [], length, map, replicate, IfErr};
 ghost use Rattle.std.specs.Prelude.{IfOk, IsTrue};
-ghost use Rattle.std.specs.Prelude.{IfSome};
+ghost use Rattle.std.specs.Prelude.{Err, IfSome, IsSome};
 ghost use Rattle.std.specs.Arc.{arc_value};
 ghost use Rattle.std.specs.FinMap as map;
 ghost use Rattle.std.specs.List.{AllByRecursion, flat_map};
@@ -15,6 +15,7 @@ ghost use Rattle.rb_drive.specs.Outcome.{HasMetAndEnded, IsDriven, IsEndAt, repo
 ghost use Rattle.rb_drive.specs.Owners.{beginning_of, publisher_lines, numbered_lines};
 ghost use Rattle.rb_drive.specs.Published.{AreByNumber, unsent_lines};
 ghost use Rattle.rb_drive.specs.Run.{IsOfThreads};
+ghost use Rattle.rb_drive.specs.declared.fault.DriveFault.TheVariants.{Store};
 
 use crate::accepting::{Accepting, EndedSubscriber, SubscriberEnd};
 use crate::closing::{Closable, all_closed};
@@ -62,9 +63,50 @@ pub struct Plan<S: Alter> {
 /// Starts the broker, runs its publishers, its sequencer and its subscribers in threads of their
 /// own until all have ended, and finishes it. Closes the replica.
 ///
-/// Returns `Stopped` if the threads were stopped, `Store` if the replica failed, and `Memory` if
-/// memory ran out before or after.
+/// Returns `Stopped` if the threads were stopped, `Store` if there is a replica and it failed, and
+/// `Memory` if memory ran out before or after.
 pub fn drive<L: Hall + Send + Sync, S: Closable + Drop + Send, R: Threads + Wait + Sync>(
+    rt: &R,
+    alloc: Global,
+    opened: Opened,
+    plan: Plan<S>,
+) -> Result<Outcome<L>, DriveFault>
+    requires cells { opened.cells ≡ L.cells }
+    requires queue { opened.queue ≡ L.queue }
+    requires ledger { (opened.ledger ≡ L.name) × (L.parts ≡ 1024) × (L.all ≡ 1024) }
+    requires schema { arc_value plan.schema ≡ opened.schema }
+    requires replica { IfSome plan.replica (λ r. KeepsRows (state S.Store r.conn) map.empty 0) }
+    ensures ok { IfOk result (λ o. IsDriven L.cells (arc_value plan.schema)
+        (map (λ v. v.items) plan.lines.items) (reported o)
+        × (length o.accepting.items ≡ plan.subscribers)) }
+    ensures err { IfErr result IsOfThreads }
+    ensures stored { result ≡ Err Store → IsSome plan.replica }
+{
+    let is_durable = plan.replica.is_some();
+    match drive_owners::<L, S, R>(rt, alloc, opened, plan) {
+        Ok(outcome) => Ok(outcome),
+        Err(why) => Err(fault_of(why, is_durable)),
+    }
+}
+
+// the fault of a drive with a replica, or of one without: that has no store that could fail
+fn fault_of(why: DriveFault, is_durable: bool) -> DriveFault
+    requires { IsOfThreads why }
+    ensures threads { IsOfThreads result }
+    ensures stored { result ≡ Store → IsTrue is_durable }
+    ensures same { IsTrue is_durable → result ≡ why }
+{
+    if is_durable {
+        return why;
+    }
+    match why {
+        DriveFault::Store => DriveFault::Stopped,
+        other => other,
+    }
+}
+
+// `drive`, with the fault that the threads report
+fn drive_owners<L: Hall + Send + Sync, S: Closable + Drop + Send, R: Threads + Wait + Sync>(
     rt: &R,
     alloc: Global,
     opened: Opened,

@@ -1,11 +1,12 @@
 //! A drive from a reader to a writer.
 
-ghost use Rattle.std.specs.Prelude.{◌≡◌, map, IfErr, IfOk, IfSome};
+ghost use Rattle.std.specs.Prelude.{◌≡◌, map, Err, IfErr, IfOk, IfSome, IsSome};
 ghost use Rattle.std.specs.Arc.{arc_value};
 ghost use Rattle.std.specs.FinMap as map;
 ghost use Rattle.replica_store.specs.Durable.{KeepsRows};
 ghost use Rattle.sqlite.specs.Held.{state};
 ghost use Rattle.rb_drive.specs.Run.{DriveEnds, IsOfThreads, IsStatus, ReportEnds};
+ghost use Rattle.rb_drive.specs.declared.fault.DriveFault.TheVariants.{Store};
 
 use crate::accepting::{EndedSubscriber, SubscriberEnd};
 use crate::closing::Closable;
@@ -43,8 +44,9 @@ pub fn run_drive<I: Read, W: Write, R: Threads + Wait + Sync>(
     config: Config,
     subscribers: u64,
 ) -> Result<u8, DriveFault>
-    ensures { DriveEnds config subscribers result (I.remaining reader.old)
+    ensures ends { DriveEnds config subscribers result (I.remaining reader.old)
         (I.remaining reader.new) (W.contents writer.old) (W.contents writer.new) }
+    ensures unstored { result ≡ Err Store → ⊥ }
 {
     run_over::<MemStore, I, W, R>(rt, alloc, reader, writer, config, subscribers, None)
 }
@@ -86,8 +88,9 @@ fn run_over<S: Closable + Drop + Send, I: Read, W: Write, R: Threads + Wait + Sy
     subscribers: u64,
     file: Option<Result<Connection<S>, Error>>,
 ) -> Result<u8, DriveFault>
-    ensures { DriveEnds config subscribers result (I.remaining reader.old)
+    ensures ends { DriveEnds config subscribers result (I.remaining reader.old)
         (I.remaining reader.new) (W.contents writer.old) (W.contents writer.new) }
+    ensures stored { result ≡ Err Store → IsSome file }
 {
     let Input { schema, givens } = read_input(alloc, reader)?;
     let shared = Arc::new(alloc, schema.copy_in(alloc)?)?;
@@ -110,7 +113,9 @@ fn new_replica<S: Alter + Drop>(
 ) -> Result<Option<Replica<S>>, DriveFault>
     ensures keeps { IfOk result (λ replica.
         IfSome replica (λ r. KeepsRows (state S.Store r.conn) map.empty 0)) }
+    ensures given { IfOk result (λ replica. IsSome replica → IsSome file) }
     ensures err { IfErr result IsOfThreads }
+    ensures stored { result ≡ Err Store → IsSome file }
 {
     match file {
         None => Ok(None),
@@ -142,9 +147,10 @@ where
     requires ledger { (opened.ledger ≡ L.name) × (L.parts ≡ 1024) × (L.all ≡ 1024) }
     requires schema { arc_value plan.schema ≡ opened.schema }
     requires replica { IfSome plan.replica (λ r. KeepsRows (state S.Store r.conn) map.empty 0) }
-    ensures { ReportEnds L.cells plan.subscribers (arc_value plan.schema)
+    ensures ends { ReportEnds L.cells plan.subscribers (arc_value plan.schema)
         (map (λ v. v.items) plan.lines.items) result (W.contents writer.old)
         (W.contents writer.new) }
+    ensures stored { result ≡ Err Store → IsSome plan.replica }
 {
     let outcome = drive::<L, S, R>(rt, alloc, opened, plan)?;
     match write_report(alloc, writer, &outcome) {

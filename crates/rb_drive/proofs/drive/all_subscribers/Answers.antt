@@ -5,7 +5,7 @@ use Rattle.sqlite.specs.Held.{state}
 use Rattle.replica_store.specs.Durable.{KeepsRows}
 use Rattle.rb_core.specs.State.{empty_tables}
 use Rattle.rb_drive.specs.Owners.{beginning_of}
-use Rattle.rb_drive.proofs.ListLaws.{one_more}
+use Rattle.rb_drive.proofs.ListLaws.{made_one_more}
 use Rattle.rb_drive.proofs.drive.all_subscribers.Goals as goal
 
 pub subscriber-requires : goal.subscriber-requires
@@ -15,7 +15,7 @@ subscriber-requires g c =
 
 pub loop-preserved : goal.loop-preserved
 loop-preserved g c = record {
-  made = rw c.in_ok-push.ensures.items (one_more (λ one. beginning_of one.subscription) c.loop.all.items _ c.loop.counter _
+  made = rw c.in_ok-push.ensures.items (made_one_more (λ one. beginning_of one.subscription) c.loop.all.items _ c.loop.counter _
       c.loop.invariant.made c.in_ok-subscriber.ensures);
   fresh = subst (λ o. IfSome o (λ r. KeepsRows (state g.S.Store r.conn) map.empty 0)) (sym c.take.ensures.after) tt;
 }

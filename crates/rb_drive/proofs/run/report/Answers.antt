@@ -6,8 +6,8 @@ use Rattle.rb_drive.proofs.RunLaws.{endings_same}
 use Rattle.rb_drive.proofs.run.report.Goals as goal
 
 -- the report is written, and the status is that of the endings
-pub returns-in-Ok : goal.returns-in-Ok
-returns-in-Ok g c =
+pub returns-in-Ok-clause-ends : goal.returns-in-Ok-clause-ends
+returns-in-Ok-clause-ends g c =
     let o = c.in_ok-outcome.outcome in (
       reported o,
       length-map o.accepting.items subscriber_of ∙ c.in_ok-outcome.ensures.ok.1,

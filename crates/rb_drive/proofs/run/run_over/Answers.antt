@@ -8,27 +8,27 @@ use Rattle.rb_drive.proofs.run.run_over.Goals as goal
 pub by_publisher-requires : goal.by_publisher-requires
 by_publisher-requires g c = publishers_few _ _ _ c.in_ok-schema.ensures.5
 
-pub returns : goal.returns
-returns g c =
+pub returns-clause-ends : goal.returns-clause-ends
+returns-clause-ends g c =
     ends_as_reported c.args.config _ c.report.result _ _ _ _ _ _ _ _ _ c.in_ok-schema.ensures
-    (search rules) (search rules) (search rules) c.report.ensures
+    (search rules) (search rules) (search rules) c.report.ensures.ends
 
 -- memory runs out before the threads begin
-pub returns-in_err-opened : goal.returns-in_err-opened
-returns-in_err-opened g c =
+pub returns-in_err-opened-clause-ends : goal.returns-in_err-opened-clause-ends
+returns-in_err-opened-clause-ends g c =
     let p = err_from_is_err_and c.from_residual-in_err-opened.result c.from_residual-in_err-opened.ensures.1 in
     rw (p.1, p.2) (ends_unreported c.args.config c.args.subscribers Memory _ _ _ _ (g.W.Write.contents c.args.writer.now)
     c.in_ok-schema.ensures tt)
 
-pub returns-in_err-try_clone : goal.returns-in_err-try_clone
-returns-in_err-try_clone g c =
+pub returns-in_err-try_clone-clause-ends : goal.returns-in_err-try_clone-clause-ends
+returns-in_err-try_clone-clause-ends g c =
     let p = err_from_is_err_and c.from_residual-in_err-try_clone.result c.from_residual-in_err-try_clone.ensures.1 in
     rw (p.1, p.2) (ends_unreported c.args.config c.args.subscribers Memory _ _ _ _ (g.W.Write.contents c.args.writer.now)
     c.in_ok-schema.ensures tt)
 
 -- there is no replica
-pub returns-in_err-replica : goal.returns-in_err-replica
-returns-in_err-replica g c =
+pub returns-in_err-replica-clause-ends : goal.returns-in_err-replica-clause-ends
+returns-in_err-replica-clause-ends g c =
     let p = err_from_is_err_and c.from_residual-in_err-replica.result c.from_residual-in_err-replica.ensures.1 in
     rw (p.1, p.2) (ends_unreported c.args.config c.args.subscribers _ _ _ _ _ (g.W.Write.contents c.args.writer.now)
     c.in_ok-schema.ensures c.in_err-replica.ensures.err)

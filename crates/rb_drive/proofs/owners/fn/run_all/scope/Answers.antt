@@ -2,7 +2,7 @@ use Rattle.std.proofs.Common.{◌≡◌, [], ap, map, not, rules, sym, ◌∙◌
 use Rattle.std.proofs.lemmas.List.{nil_from_length}
 use Rattle.std.specs.Vec.Iter.{into_iter_items}
 use Rattle.rb_drive.specs.Owners.{beginning_of, publisher_lines}
-use Rattle.rb_drive.proofs.ListLaws.{all_moved, moved_on, pushed}
+use Rattle.rb_drive.proofs.ListLaws.{all_moved, moved_on, pushed_one}
 use Rattle.rb_drive.proofs.owners.fn.run_all.scope.Goals as goal
 
 pub loop-sender-preserved : goal.loop-sender-preserved
@@ -14,7 +14,7 @@ loop-sender-preserved g c =
     ≡ publisher_lines sender.publisher sender.lines.items =
     ap (λ p. publisher_lines p.0.value.publisher p.0.value.lines.items) c.in-Ok-spawn_with.ensures.ok
     ∙ ap (λ v. publisher_lines v.publisher v.lines.items) c.of.ensures in
-    rw (pushed _ done _ _ c.push.ensures.items (c.is_err.ensures.negation ∙ ap not c.if-is_err.false)) (moved_on
+    rw (pushed_one _ done _ _ c.push.ensures.items (c.is_err.ensures.negation ∙ ap not c.if-is_err.false)) (moved_on
     (λ h. publisher_lines h.promise.0.value.publisher h.promise.0.value.lines.items)
     (λ one. publisher_lines one.publisher one.lines.items) done handle sender (into_iter_items c.next.new.self) _ same
     (rw c.in-Some.ensures.steps.0 at c.loop-sender.invariant))
@@ -36,7 +36,7 @@ loop-reader-preserved g c =
     let same : beginning_of handle.promise.0.value.subscription ≡ beginning_of reader.subscription =
     ap (λ p. beginning_of p.0.value.subscription) c.in-Ok-spawn_with-2.ensures.ok
     ∙ ap (λ v. beginning_of v.subscription) c.of-in-loop-reader.ensures in
-    rw (pushed _ done _ _ c.push-in-loop-reader.ensures.items
+    rw (pushed_one _ done _ _ c.push-in-loop-reader.ensures.items
     (c.is_err-in-loop-reader.ensures.negation ∙ ap not c.if-is_err-2.false)) (moved_on
     (λ h. beginning_of h.promise.0.value.subscription) (λ one. beginning_of one.subscription) done handle reader
     (into_iter_items c.next-in-loop-reader.new.self) _ same

@@ -1,7 +1,7 @@
 use Rattle.std.proofs.Common.{map, ◌∙◌}
 use Rattle.std.specs.Arc.{arc_value}
 use Rattle.rb_drive.proofs.RunLaws.{ok_then}
-use Rattle.rb_drive.proofs.drive.drive.Goals as goal
+use Rattle.rb_drive.proofs.drive.drive_owners.Goals as goal
 
 -- the owners come back with what they went with
 pub returns-in-Some-clause-ok : goal.returns-in-Some-clause-ok
