@@ -14,7 +14,7 @@ use Rattle.rb_subscriber.proofs.RunLaws.{parts, part_stays}
 use Rattle.rb_core.specs.World.{Subscriber, World, world_begun, cursor}
 use Rattle.rb_core.specs.Moves.{with_subscriber}
 use Rattle.rb_core.specs.Moves.{Leads}
-use Rattle.rb_core.proofs.Moving.{all_set, all_get, all_in, all_map, MovingKeeps, crash_leaves, kept_through}
+use Rattle.rb_core.proofs.Moving.{all_set, all_get, all_moved_in, all_map, MovingKeeps, crash_leaves, kept_through}
 
 -- a delivery's numbers are placed
 abbrev GaplessIsPlaced : List Entry → Delivery → Type 0
@@ -141,7 +141,7 @@ runs_kept = record {
         accepted = q.accepted ++ brought old.sequence move.delivery;
         tables = move.end.tables;
       }) h move.accepts.some
-      (all_in (GaplessIsPlaced old.sequence) q.deliveries move.delivery h.deliveries move.offered) refl refl
+      (all_moved_in (GaplessIsPlaced old.sequence) q.deliveries move.delivery h.deliveries move.offered) refl refl
       (ap (λ es. q.accepted ++ es) (brought_after old.sequence move.delivery (cursor q) move.accepts.next)))
       move.kept;
   reconnects = λ old new move runs.
@@ -168,7 +168,7 @@ runs_kept = record {
       (λ h. record { run = h.run; placed = h.placed; deliveries = h.deliveries }) refl)
       (gapless_becomes old (with_subscriber old move.s both) move.s q both runs move.found
       (λ h. accepts_run old.sequence q move.delivery both h move.would_accept.some
-      (all_in (GaplessIsPlaced old.sequence) q.deliveries move.delivery h.deliveries move.offered) refl refl
+      (all_moved_in (GaplessIsPlaced old.sequence) q.deliveries move.delivery h.deliveries move.offered) refl refl
       (ap (λ es. q.accepted ++ es) (brought_after old.sequence move.delivery (cursor q) move.would_accept.next))) refl);
   resumes = λ old new move runs.
       let q = move.subscriber in

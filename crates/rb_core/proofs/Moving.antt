@@ -24,11 +24,11 @@ all_get P (y ∷ xs) zero x all e =
     subst P same all.0
 all_get P (y ∷ xs) (suc i) x all e = all_get P xs i x all.1 e
 
-pub all_in : {A : Type 0} (P : A → Type 0) (xs : List A) (x : A) → AllByRecursion P xs → IsIn x xs → P x
-all_in P [] x all here = absurd here
-all_in P (y ∷ xs) x all here = elim here as (λ w. P x) [
+pub all_moved_in : {A : Type 0} (P : A → Type 0) (xs : List A) (x : A) → AllByRecursion P xs → IsIn x xs → P x
+all_moved_in P [] x all here = absurd here
+all_moved_in P (y ∷ xs) x all here = elim here as (λ w. P x) [
   | inl same ↦ subst P (sym same) all.0
-  | inr rest ↦ all_in P xs x all.1 rest
+  | inr rest ↦ all_moved_in P xs x all.1 rest
 ]
 
 pub all_map : {A : Type 0} (P Q : A → Type 0) (xs : List A) → ((x : A) → P x → Q x) → AllByRecursion P xs

@@ -95,12 +95,7 @@ impl Parts {
     }
 
     /// Continues a subscription after `cursor`, under a new link.
-    pub(crate) fn reconnect(
-        &mut self,
-        alloc: Global,
-        subscription: u64,
-        cursor: u64,
-    ) -> Result<Reply, AllocError>
+    pub(crate) fn reconnect(&mut self, subscription: u64, cursor: u64) -> Result<Reply, AllocError>
         ensures ok { IfOk result (λ reply.
             outcome.reconnected self.old subscription cursor ≡ (reply, self.new)) }
         ensures err { OnErr result (self.new ≡ self.old) }
@@ -111,7 +106,7 @@ impl Parts {
         if s >= self.endpoints.len() {
             return refused(BrokerRefusal::Desk(DeskRefusal::NoSuch));
         }
-        match self.desk.reconnect(alloc, subscription, cursor) {
+        match self.desk.reconnect(subscription, cursor) {
             Ok(link) => {
                 self.endpoints[s].reconnect(link);
                 Ok(Reply::Link(link))
@@ -122,7 +117,7 @@ impl Parts {
     }
 
     /// Continues a subscription that has fallen, after its own cursor and under a new link.
-    pub(crate) fn resume(&mut self, alloc: Global, subscription: u64) -> Result<Reply, AllocError>
+    pub(crate) fn resume(&mut self, subscription: u64) -> Result<Reply, AllocError>
         ensures ok { IfOk result (λ reply.
             outcome.resumed self.old subscription ≡ (reply, self.new)) }
         ensures err { OnErr result (self.new ≡ self.old) }
@@ -136,7 +131,7 @@ impl Parts {
         if !end.is_fallen() {
             return refused(BrokerRefusal::NotFallen);
         }
-        match self.desk.reconnect(alloc, subscription, end.cursor()) {
+        match self.desk.reconnect(subscription, end.cursor()) {
             Ok(link) => {
                 self.endpoints[s].resume(link);
                 Ok(Reply::Link(link))

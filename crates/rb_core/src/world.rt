@@ -154,8 +154,8 @@ impl Parts {
             Event::Reconnect {
                 subscription,
                 cursor,
-            } => self.reconnect(alloc, *subscription, *cursor),
-            Event::Resume { subscription } => self.resume(alloc, *subscription),
+            } => self.reconnect(*subscription, *cursor),
+            Event::Resume { subscription } => self.resume(*subscription),
             Event::Unsubscribe { subscription } => Ok(self.unsubscribe(*subscription)),
         }
     }

@@ -4,3 +4,5 @@ pub mod spans
 pub mod orders
 -- What is stored of subscriptions agrees with the front, the turns and the deliveries, and still does after a call.
 pub mod subs
+-- The lists of keys in which the spans of a subscription stand.
+pub mod lists

@@ -6,6 +6,3 @@ pub mod ChangeLaws
 pub mod LaneChanges
 pub mod FirstLaws
 pub mod FoundLaws
-pub mod PlaceLaws
-pub mod FindPlace
-pub mod TakenLaws

@@ -5,7 +5,7 @@ use Rattle.std.specs.List.{filter}
 use Rattle.rb_deliveries.specs.declared.ticket.Ticket.{Ticket}
 use Rattle.rb_deliveries.specs.declared.ticket.Held.{Held}
 use Rattle.rb_deliveries.specs.declared.span.Status.{Status}
-use Rattle.rb_deliveries.specs.declared.span.Status.TheVariants.{Ready, InFlight, Settled}
+use Rattle.rb_deliveries.specs.declared.span.Status.TheVariants.{Ready, InFlight}
 use Rattle.rb_deliveries.specs.declared.sub.Sub.{Sub}
 use Rattle.rb_deliveries.specs.Spans.{is_due}
 use Rattle.rb_deliveries.specs.Lanes.{Lane}
@@ -18,7 +18,6 @@ turns_from front turn n = record { front = front; turn = suc turn + n }
 abbrev pub ticket_of : (ℕ → Ticket) → Status → Ticket
 ticket_of tk (Ready taken) = tk 0
 ticket_of tk (InFlight number moment) = tk number
-ticket_of tk Settled = tk 0
 
 abbrev pub by_number : (ℕ → Ticket) → Held → Ticket
 by_number tk h = ticket_of tk h.span.status

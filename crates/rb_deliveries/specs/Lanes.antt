@@ -1,9 +1,10 @@
 -- How the spans of one subscription are stored. Spans that were never taken are the rest of one
 -- cutting, grown by every placement, so the number where they begin determines them. Only spans
 -- that were taken are stored, each with its ticket.
-use Rattle.std.specs.Prelude.{◌≡◌, ℕ, suc, ◌≤◌, ◌<◌, Bool, true, false, ◌||◌, ◌&&◌, List, [], ◌∷◌}
+use Rattle.std.specs.Prelude.{ℕ, suc, ◌≤◌, ◌<◌, Bool, true, false, ◌||◌, ◌&&◌, List, [], ◌∷◌}
 use Rattle.std.specs.Prelude.{◌++◌, map, Option, Some, None, ◌==◌, nat_lt, nat_le, if◌then◌else◌}
-use Rattle.std.specs.Prelude.{refl}
+use Rattle.std.specs.Prelude.{refl, not, ◌-◌}
+use Rattle.std.specs.List.{filter}
 use Rattle.std.specs.Coded.{Coded, code_by, coded×, coded_list, coded_ℕ}
 use Rattle.rb_deliveries.specs.contracts.ticket.Held as held
 use Rattle.rb_deliveries.specs.contracts.ticket.Ticket as ticket
@@ -11,13 +12,12 @@ use Rattle.rb_deliveries.specs.declared.ticket.Ticket.{Ticket}
 use Rattle.rb_deliveries.specs.declared.ticket.Held.{Held}
 use Rattle.rb_deliveries.specs.declared.span.Span.{Span}
 use Rattle.rb_deliveries.specs.declared.span.Status.{Status}
-use Rattle.rb_deliveries.specs.declared.span.Status.TheVariants.{Ready, Settled}
-use Rattle.rb_deliveries.specs.Spans.{cut_spans, is_ready, is_settled}
+use Rattle.rb_deliveries.specs.declared.span.Status.TheVariants.{Ready}
+use Rattle.rb_deliveries.specs.Spans.{cut_spans, is_ready}
 
--- A lane: the floor, the spans that were taken before, the first number of the spans never taken,
--- and the ticket of their cutting.
+-- A lane: the spans that were taken before and are not settled, the first number of the spans never
+-- taken, and the ticket of their cutting.
 pub record Lane : Type 0 where
-  pub floor : ℕ
   pub held : List Held
   pub next : ℕ
   pub cutting : Ticket
@@ -25,11 +25,18 @@ pub record Lane : Type 0 where
 -- a lane is stored as its parts
 abbrev pub lane_code : Coded Lane
 lane_code =
-    code_by (ℕ × (List Held × (ℕ × Ticket)))
-    (coded× coded_ℕ (coded× (coded_list held.the_row.coded)
-    (coded× coded_ℕ ticket.the_row.coded)))
-    (λ k. (k.floor, (k.held, (k.next, k.cutting))))
-    (λ p. record { floor = p.0; held = p.1.0; next = p.1.1.0; cutting = p.1.1.1 }) (λ _. refl)
+    code_by (List Held × (ℕ × Ticket))
+    (coded× (coded_list held.the_row.coded) (coded× coded_ℕ ticket.the_row.coded))
+    (λ k. (k.held, (k.next, k.cutting)))
+    (λ p. record { held = p.0; next = p.1.0; cutting = p.1.1 }) (λ _. refl)
+
+-- everything before the first span is settled; if none was taken, everything before the next number
+abbrev pub floor_before : List Held → ℕ → ℕ
+floor_before [] next = next - 1
+floor_before (h ∷ rest) next = h.span.first - 1
+
+abbrev pub lane_floor : Lane → ℕ
+lane_floor kept = floor_before kept.held kept.next
 
 -- whether ticket a was drawn before b: with a smaller front, or with the same front in an earlier
 -- turn
@@ -58,11 +65,6 @@ spans_of = map (λ h. h.span)
 abbrev pub lane_spans : ℕ → ℕ → Lane → List Span
 lane_spans batch front kept = spans_of (lane_held batch front kept)
 
--- whether a span is in line before the other, or there is no other
-abbrev pub goes_before : Held → Option Held → Bool
-goes_before h None = true
-goes_before h (Some other) = earlier h.ticket other.ticket
-
 -- the first in line; of two with the same ticket, the first; then the first in line of the ready
 -- ones
 abbrev pub better : Option Held → Option Held → Option Held
@@ -86,30 +88,29 @@ stated first status ticket h =
 abbrev pub restated : ℕ → Status → Ticket → List Held → List Held
 restated first status ticket = map (stated first status ticket)
 
--- while the first span is settled, the floor rises to its last number and the span is removed
-abbrev pub risen : ℕ → List Held → ℕ × List Held
-risen floor [] = (floor, [])
-risen floor (h ∷ rest) = if is_settled h.span.status then risen h.span.last rest else
-    (floor, h ∷ rest)
+-- the spans without the one that begins with this number
+abbrev pub without_held : ℕ → List Held → List Held
+without_held first = filter (λ h. not (h.span.first == first))
 
--- the spans follow one another without a gap, from this number up to the next one
-abbrev pub FollowOn : ℕ → List Held → ℕ → Type 0
-FollowOn low [] next = next ≡ low
-FollowOn low (h ∷ rest) next = (h.span.first ≡ low) × (h.span.first ≤ h.span.last)
-    × FollowOn (suc h.span.last) rest next
+-- the spans rise from this number on: each begins after the one before it ends, and the next number
+-- comes after all of them
+abbrev pub HeldRise : ℕ → List Held → ℕ → Type 0
+HeldRise low [] next = low ≤ next
+HeldRise low (h ∷ rest) next = (low ≤ h.span.first) × (h.span.first ≤ h.span.last)
+    × HeldRise (suc h.span.last) rest next
 
-abbrev pub FollowSome : List Held → Type 0
-FollowSome held = (low : ℕ) × (next : ℕ) × FollowOn low held next
+abbrev pub RiseSome : List Held → Type 0
+RiseSome held = (low : ℕ) × (next : ℕ) × HeldRise low held next
 
--- a lane's spans follow one another after its floor
-abbrev pub AreJoined : Lane → Type 0
-AreJoined kept = FollowOn (suc kept.floor) kept.held kept.next
+-- a lane's spans rise, from number 1 on
+abbrev pub AreRising : Lane → Type 0
+AreRising kept = HeldRise 1 kept.held kept.next
 
 -- the lane after its subscription cuts after a cursor
 abbrev pub cut_lane : ℕ → Ticket → Lane
-cut_lane cursor ticket = record { floor = cursor; held = []; next = suc cursor; cutting = ticket }
+cut_lane cursor ticket = record { held = []; next = suc cursor; cutting = ticket }
 
--- changes a stored span; stores the first span never taken; raises the floor
+-- changes a stored span; stores the first span never taken; removes a span
 abbrev pub restated_lane : Lane → ℕ → Status → Ticket → Lane
 restated_lane kept first status ticket =
     record kept { held = restated first status ticket kept.held }
@@ -123,9 +124,6 @@ pushed_lane kept span status =
           suc span.last;
     }
 
-abbrev pub raised_lane : Lane → ℕ × List Held → Lane
-raised_lane kept rest = record kept { floor = rest.0; held = rest.1 }
-
 -- the lane after a span was delivered, was returned, was settled
 abbrev pub delivered_lane : Lane → Span → Status → Lane
 delivered_lane kept span status =
@@ -136,8 +134,7 @@ abbrev pub returned_lane : Lane → ℕ → Ticket → Lane
 returned_lane kept first ticket = restated_lane kept first (Ready true) ticket
 
 abbrev pub settled_lane : Lane → ℕ → Lane
-settled_lane kept first =
-    raised_lane kept (risen kept.floor (restated first Settled kept.cutting kept.held))
+settled_lane kept first = record kept { held = without_held first kept.held }
 
 -- the most numbers that can be placed
 abbrev pub most_numbers : ℕ

@@ -5,7 +5,7 @@ use Rattle.std.specs.List.{filter_map}
 use Rattle.rb_deliveries.specs.declared.ticket.Ticket.{Ticket}
 use Rattle.rb_deliveries.specs.declared.ticket.Held.{Held}
 use Rattle.rb_deliveries.specs.declared.span.Status.{Status}
-use Rattle.rb_deliveries.specs.declared.span.Status.TheVariants.{Ready, InFlight, Settled}
+use Rattle.rb_deliveries.specs.declared.span.Status.TheVariants.{Ready, InFlight}
 use Rattle.rb_deliveries.specs.Spans.{is_ready}
 use Rattle.rb_deliveries.specs.Lanes.{earlier}
 
@@ -27,7 +27,6 @@ abbrev pub out_at_status : ℕ → ℕ → Status → Option (Ticket × (ℕ × 
 out_at_status s first (Ready taken) = None
 out_at_status s first (InFlight number moment) =
     Some (record { front = number; turn = 0 }, (s, first))
-out_at_status s first Settled = None
 
 abbrev pub out_at : ℕ → Held → Option (Ticket × (ℕ × ℕ))
 out_at s h = out_at_status s h.span.first h.span.status

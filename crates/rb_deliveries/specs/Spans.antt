@@ -1,42 +1,33 @@
--- The spans of one subscription: how numbers are cut into spans, and how their statuses change.
+-- The spans of one subscription: how numbers are cut into spans, and how their statuses change. A
+-- number after the floor that is in no span is settled.
 use Rattle.std.specs.Prelude.{ℕ, zero, suc, ◌+◌, ◌-◌, min, Bool, true, false, not, ◌&&◌, List, []}
 use Rattle.std.specs.Prelude.{◌∷◌, ◌++◌, length, Option, ◌==◌, nat_lt, nat_le, if◌then◌else◌}
 use Rattle.std.specs.List.{filter, find}
 use Rattle.rb_deliveries.specs.declared.span.Span.{Span}
 use Rattle.rb_deliveries.specs.declared.span.Status.{Status}
-use Rattle.rb_deliveries.specs.declared.span.Status.TheVariants.{Ready, InFlight, Settled}
+use Rattle.rb_deliveries.specs.declared.span.Status.TheVariants.{Ready, InFlight}
 
--- whether a status is ready; ready and never taken; in flight as this delivery; in flight; settled
+-- whether a status is ready; ready and never taken; in flight as this delivery; in flight
 abbrev pub is_ready : Status → Bool
 is_ready (Ready taken) = true
 is_ready (InFlight number moment) = false
-is_ready Settled = false
 
 abbrev pub is_fresh : Status → Bool
 is_fresh (Ready taken) = not taken
 is_fresh (InFlight number moment) = false
-is_fresh Settled = false
 
 abbrev pub is_out_as : ℕ → Status → Bool
 is_out_as d (Ready taken) = false
 is_out_as d (InFlight number moment) = number == d
-is_out_as d Settled = false
 
 abbrev pub is_out : Status → Bool
 is_out (Ready taken) = false
 is_out (InFlight number moment) = true
-is_out Settled = false
-
-abbrev pub is_settled : Status → Bool
-is_settled (Ready taken) = false
-is_settled (InFlight number moment) = false
-is_settled Settled = true
 
 -- whether a status is in flight, taken at least `timeout` ticks ago
 abbrev pub is_due : ℕ → ℕ → Status → Bool
 is_due timeout clock (Ready taken) = false
 is_due timeout clock (InFlight number moment) = nat_le timeout (clock - moment)
-is_due timeout clock Settled = false
 
 -- a ready span that was never taken
 abbrev pub fresh : ℕ → ℕ → Span
@@ -80,20 +71,25 @@ gone_back timeout clock (p ∷ rest) =
     (if is_due timeout clock p.status then record p { status = Ready true } else p)
     ∷ gone_back timeout clock rest
 
--- while the first span is settled, the floor rises to its last number and the span is removed
-abbrev pub raised : ℕ → List Span → ℕ × List Span
-raised floor [] = (floor, [])
-raised floor (p ∷ rest) = if is_settled p.status then raised p.last rest else (floor, p ∷ rest)
+-- the spans without the one that begins with this number
+abbrev pub without_first : ℕ → List Span → List Span
+without_first first = filter (λ p. not (p.first == first))
 
--- the last span takes one number more if it is ready, was never taken and has fewer than `batch`
--- numbers
-abbrev pub takes_one_more : ℕ → Span → Bool
-takes_one_more batch p = is_fresh p.status && nat_lt (suc p.last - p.first) batch
+-- everything before the first span is settled; if there is none, everything up to the front
+abbrev pub floor_of : List Span → ℕ → ℕ
+floor_of [] front = front
+floor_of (p ∷ rest) front = p.first - 1
 
-abbrev pub last_takes : ℕ → List Span → Bool
-last_takes batch [] = false
-last_takes batch (p ∷ []) = takes_one_more batch p
-last_takes batch (p ∷ q ∷ rest) = last_takes batch (q ∷ rest)
+-- the last span takes number n if it is ready, was never taken, ends right before n and has fewer
+-- than `batch` numbers
+abbrev pub takes_one_more : ℕ → ℕ → Span → Bool
+takes_one_more batch n p =
+    is_fresh p.status && ((suc p.last == n) && nat_lt (suc p.last - p.first) batch)
+
+abbrev pub last_takes : ℕ → ℕ → List Span → Bool
+last_takes batch n [] = false
+last_takes batch n (p ∷ []) = takes_one_more batch n p
+last_takes batch n (p ∷ q ∷ rest) = last_takes batch n (q ∷ rest)
 
 abbrev pub last_with : ℕ → List Span → List Span
 last_with n [] = []
@@ -102,5 +98,5 @@ last_with n (p ∷ q ∷ rest) = p ∷ last_with n (q ∷ rest)
 
 -- the spans after number n is placed: the last one takes it, or a new one begins with it
 abbrev pub grown_spans : ℕ → ℕ → List Span → List Span
-grown_spans batch n spans = if last_takes batch spans then last_with n spans else spans ++ fresh n n
-    ∷ []
+grown_spans batch n spans = if last_takes batch n spans then last_with n spans else spans
+    ++ fresh n n ∷ []

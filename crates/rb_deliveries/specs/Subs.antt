@@ -8,11 +8,12 @@ use Rattle.rb_deliveries.specs.declared.ticket.Ticket.{Ticket}
 use Rattle.rb_deliveries.specs.declared.ticket.Held.{Held}
 use Rattle.rb_deliveries.specs.declared.span.Span.{Span}
 use Rattle.rb_deliveries.specs.declared.span.Status.{Status}
-use Rattle.rb_deliveries.specs.declared.span.Status.TheVariants.{Ready, InFlight, Settled}
+use Rattle.rb_deliveries.specs.declared.span.Status.TheVariants.{Ready, InFlight}
 use Rattle.rb_deliveries.specs.declared.sub.Sub.{Sub}
 use Rattle.rb_deliveries.specs.Spans.{cut_spans, is_fresh, is_ready, how_many_out, out_as}
-use Rattle.rb_deliveries.specs.Lanes.{AreJoined, earlier, least, cut_lane, delivered_lane}
-use Rattle.rb_deliveries.specs.Lanes.{returned_lane, settled_lane, Lane, lane_held, spans_of}
+use Rattle.rb_deliveries.specs.Lanes.{AreRising, earlier, least, cut_lane, delivered_lane}
+use Rattle.rb_deliveries.specs.Lanes.{returned_lane, settled_lane, Lane, lane_held, lane_floor}
+use Rattle.rb_deliveries.specs.Lanes.{spans_of}
 
 -- the spans of a subscription: a closed one has none
 abbrev pub sub_held : ℕ → ℕ → Sub → List Held
@@ -26,7 +27,6 @@ IsDrawn front turn ticket = (ticket.front ≤ front) × (ticket.turn ≤ turn)
 abbrev pub IsGiven : ℕ → Status → Type 0
 IsGiven next (Ready taken) = Unit {0}
 IsGiven next (InFlight number moment) = number < next
-IsGiven next Settled = Unit {0}
 
 -- the numbers of deliveries in flight were issued, and a turn is left for each number issued
 abbrev pub AreGiven : ℕ → ℕ → List Held → Type 0
@@ -74,7 +74,8 @@ abbrev pub reconnected_sub : Sub → ℕ → ℕ → Ticket → Sub
 reconnected_sub sub cursor link ticket = record sub { link = link; lane = cut_lane cursor ticket }
 
 abbrev pub closed_sub : Sub → Sub
-closed_sub sub = record sub { closed = true; lane = cut_lane sub.lane.floor sub.lane.cutting }
+closed_sub sub =
+    record sub { closed = true; lane = cut_lane (lane_floor sub.lane) sub.lane.cutting }
 
 -- the span was taken before and is ready, or it is the first one never taken
 abbrev pub IsHeld : Lane → Span → Type 0
@@ -110,6 +111,22 @@ first_to_deliver window batch front s (sub ∷ rest) =
     goes_first (option_map (λ h. (s, h)) (next_to_deliver window batch front sub))
     (first_to_deliver window batch front (suc s) rest)
 
--- the spans of the subscription with this number follow one another
-abbrev pub IsJoinedAt : List Sub → ℕ → Type 0
-IsJoinedAt subs s = (sub : Sub) × (slice_get subs s ≡ Some sub) × AreJoined sub.lane
+-- the spans of the subscription with this number rise
+abbrev pub IsRisingAt : List Sub → ℕ → Type 0
+IsRisingAt subs s = (sub : Sub) × (slice_get subs s ≡ Some sub) × AreRising sub.lane
+
+-- a ticket comes after those of all stored spans of the subscription with this number
+abbrev pub ComesLast : Ticket → List Held → Type 0
+ComesLast ticket = AllByRecursion (λ h. earlier h.ticket ticket ≡ true)
+
+abbrev pub ComesLastAt : List Sub → ℕ → Ticket → Type 0
+ComesLastAt subs s ticket = (sub : Sub) → slice_get subs s ≡ Some sub
+    → ComesLast ticket sub.lane.held
+
+-- a delivery's number is greater than those of all deliveries in flight to that subscription
+abbrev pub IsNewest : ℕ → List Held → Type 0
+IsNewest number = AllByRecursion (λ h. IsGiven number h.span.status)
+
+abbrev pub IsNewestAt : List Sub → ℕ → ℕ → Type 0
+IsNewestAt subs s number = (sub : Sub) → slice_get subs s ≡ Some sub
+    → IsNewest number sub.lane.held

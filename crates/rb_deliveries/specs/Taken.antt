@@ -1,67 +1,132 @@
--- The spans of a subscription that were taken before, and what is kept so that none is searched
--- for.
-use Rattle.std.specs.Prelude.{◌≡◌, ℕ, zero, suc, ◌<◌, ◌≤◌, Bool, true, false, List, [], ◌∷◌, length}
-use Rattle.std.specs.Prelude.{take, map, Option, Some, None, slice_get, ◌==◌, nat_lt, if◌then◌else◌}
-use Rattle.std.specs.List.{AllByRecursion}
+-- How the spans of a subscription that were taken before are stored: as records under keys, in
+-- three lists of keys. The first lane has the ready ones by their tickets, and those in flight by
+-- their deliveries' numbers; the second lane has all of them by their own numbers.
+use Rattle.std.specs.Prelude.{◌≡◌, ℕ, ◌<◌, Bool, true, false, ◌&&◌, nat_eq, ◌==◌, List, [], ◌∷◌}
+use Rattle.std.specs.Prelude.{length, map, Option, Some, None, IsSome, slice_index_or, slice_set}
+use Rattle.std.specs.Prelude.{if◌then◌else◌}
+use Rattle.std.specs.List.{list_any, AllByRecursion}
+use Rattle.link_lists.specs.Lanes.{Lanes, pushed_back, value_under, without_key}
 use Rattle.rb_deliveries.specs.declared.span.Status.{Status}
+use Rattle.rb_deliveries.specs.declared.span.Status.TheVariants.{Ready, InFlight}
 use Rattle.rb_deliveries.specs.declared.ticket.Ticket.{Ticket}
 use Rattle.rb_deliveries.specs.declared.ticket.Held.{Held}
-use Rattle.rb_deliveries.specs.Spans.{is_ready, is_out, is_settled}
+use Rattle.rb_deliveries.specs.Expiry.{expired_by}
+use Rattle.rb_deliveries.specs.Lanes.{earlier}
+use Rattle.rb_deliveries.specs.Spans.{is_due, is_ready, is_out}
+use Rattle.rb_deliveries.specs.Subs.{ComesLast, IsNewest}
 
--- the ticket of a span that is ready
-abbrev pub ticket_if_ready : Held → Option Ticket
-ticket_if_ready h = if is_ready h.span.status then Some h.ticket else None
+-- a list of a lane, and whether it has a key
+abbrev pub nth_list : ℕ → List (List ℕ) → List ℕ
+nth_list i lane = slice_index_or lane i []
 
--- the places of the spans in flight, where the first span has place n
-abbrev pub places_out : ℕ → List Held → List ℕ
-places_out n [] = []
-places_out n (h ∷ rest) = if is_out h.span.status then n ∷ places_out (suc n) rest else
-    places_out (suc n) rest
+abbrev pub lists_key : ℕ → List ℕ → Bool
+lists_key key keys = list_any (nat_eq key) keys
 
--- a span that the floor has passed
-abbrev pub IsPassed : Held → Type 0
-IsPassed h = is_settled h.span.status ≡ true
+-- the record under a key, and whether its status passes a test
+abbrev pub no_ticket : Ticket
+no_ticket = record { front = 0; turn = 0 }
 
--- the first `passed` spans are settled; the line has the tickets of the ready ones, and `out` the
--- places of those in flight
-pub record IsTaken (spans : List Held) (passed : ℕ) (line : List (Option Ticket)) (out : List ℕ)
-    : Type 0 where
-  pub within : passed ≤ length spans
-  pub over : AllByRecursion IsPassed (take passed spans)
-  pub in_line : line ≡ map ticket_if_ready spans
-  pub in_flight : out ≡ places_out 0 spans
+abbrev pub no_record : Held
+no_record = record {
+  span = record { first = 0; last = 0; status = InFlight 0 0 };
+  ticket = no_ticket;
+}
 
--- sets the status and the ticket of the span at a place, if one is given
+abbrev pub held_or : Option Held → Held
+held_or None = no_record
+held_or (Some h) = h
+
+abbrev pub held_under : List (Option Held) → ℕ → Held
+held_under slots key = held_or (slice_index_or slots key None)
+
+abbrev pub status_passes : (Status → Bool) → Option Held → Bool
+status_passes test None = false
+status_passes test (Some h) = test h.span.status
+
+abbrev pub slot_passes : (Status → Bool) → List (Option Held) → ℕ → Bool
+slot_passes test slots key = status_passes test (slice_index_or slots key None)
+
+-- a record with another status and ticket
 abbrev pub with_state : Status → Ticket → Held → Held
-with_state status ticket h = record { span = record h.span { status = status }; ticket = ticket }
+with_state status ticket h = record {
+  span = record h.span { status = status };
+  ticket = ticket;
+}
 
-abbrev pub changed_place : {X : Type 0} → ℕ → (X → X) → List X → List X
-changed_place i f [] = []
-changed_place zero f (x ∷ xs) = f x ∷ xs
-changed_place (suc i) f (x ∷ xs) = x ∷ changed_place i f xs
+-- the spans by their numbers; before the first one is taken there are no lists
+abbrev pub held_in : Lanes Held → List Held
+held_in lanes = map (held_under lanes.slots) (nth_list 0 lanes.second)
 
-abbrev pub stated_at : Option ℕ → Status → Ticket → List Held → List Held
-stated_at None status ticket spans = spans
-stated_at (Some i) status ticket spans = changed_place i (with_state status ticket) spans
+abbrev pub taken_seen : Option (Lanes Held) → List Held
+taken_seen None = []
+taken_seen (Some lanes) = held_in lanes
 
--- without a place, and with it in order
-abbrev pub without_place : ℕ → List ℕ → List ℕ
-without_place place [] = []
-without_place place (p ∷ rest) = if p == place then rest else p ∷ without_place place rest
+-- tickets that rise, and numbers that rise
+abbrev pub RisingTickets : List Ticket → Type 0
+RisingTickets [] = Unit {0}
+RisingTickets (t ∷ rest) = AllByRecursion (λ u. earlier t u ≡ true) rest × RisingTickets rest
 
-abbrev pub with_place : ℕ → List ℕ → List ℕ
-with_place place [] = place ∷ []
-with_place place (p ∷ rest) = if p == place then p ∷ rest else if nat_lt place p then place ∷ p ∷
-    rest
-    else p ∷ with_place place rest
+abbrev pub RisingNumbers : List ℕ → Type 0
+RisingNumbers [] = Unit {0}
+RisingNumbers (n ∷ rest) = AllByRecursion (λ m. n < m) rest × RisingNumbers rest
 
--- places of a list of this length; whether the span at a place is in flight
-abbrev pub AreWithin : ℕ → List ℕ → Type 0
-AreWithin many = AllByRecursion (λ place. place < many)
+-- a delivery's number
+abbrev pub number_of : Status → ℕ
+number_of (Ready taken) = 0
+number_of (InFlight number moment) = number
 
-abbrev pub is_out_in : Option Held → Bool
-is_out_in None = false
-is_out_in (Some h) = is_out h.span.status
+abbrev pub ticket_under : List (Option Held) → ℕ → Ticket
+ticket_under slots key = (held_under slots key).ticket
 
-abbrev pub is_out_at : List Held → ℕ → Bool
-is_out_at spans place = is_out_in (slice_get spans place)
+abbrev pub number_under : List (Option Held) → ℕ → ℕ
+number_under slots key = number_of (held_under slots key).span.status
+
+-- the ready ones stand in the first list, those in flight in the second, each once
+pub record AreListed (slots : List (Option Held)) (ready out all : List ℕ) : Type 0 where
+  pub ready_keys : (key : ℕ) → lists_key key ready
+      ≡ (lists_key key all && slot_passes is_ready slots key)
+  pub out_keys : (key : ℕ) → lists_key key out
+      ≡ (lists_key key all && slot_passes is_out slots key)
+  pub in_line : RisingTickets (map (ticket_under slots) ready)
+  pub by_number : RisingNumbers (map (number_under slots) out)
+
+pub record AreWoven (lanes : Lanes Held) : Type 0 where
+  pub two : lanes.first ≡ nth_list 0 lanes.first ∷ nth_list 1 lanes.first ∷ []
+  pub one : lanes.second ≡ nth_list 0 lanes.second ∷ []
+  pub listed : AreListed lanes.slots (nth_list 0 lanes.first) (nth_list 1 lanes.first)
+      (nth_list 0 lanes.second)
+
+-- the records, and how many are in flight
+abbrev pub AreKept : Option (Lanes Held) → ℕ → Type 0
+AreKept None flying = flying ≡ 0
+AreKept (Some lanes) flying = AreWoven lanes × (flying ≡ length (nth_list 1 lanes.first))
+
+-- a span goes in flight as a delivery whose number is greater than all others
+abbrev pub GoesLast : Status → List Held → Type 0
+GoesLast (Ready taken) held = ⊥
+GoesLast (InFlight number moment) held = IsNewest number held
+
+-- a span that gets this status and this ticket stands after all others in its list
+abbrev pub StandsLast : Status → Ticket → List Held → Type 0
+StandsLast (Ready taken) ticket held = ComesLast ticket held
+StandsLast (InFlight number moment) ticket held = IsNewest number held
+
+-- a key under which a span is kept that begins with this number
+pub record IsKeyOf (lanes : Lanes Held) (first key : ℕ) : Type 0 where
+  pub there : lists_key key (nth_list 0 lanes.second) ≡ true
+  pub kept : IsSome (value_under lanes key)
+  pub begins : (held_under lanes.slots key).span.first ≡ first
+
+-- no span begins with this number
+abbrev pub NoSpanBegins : ℕ → List Held → Type 0
+NoSpanBegins first = AllByRecursion (λ h. (h.span.first == first) ≡ false)
+
+-- the lanes after a key's span, if it is due, goes back to the end of the line
+abbrev pub expired_key : ℕ → ℕ → Ticket → ℕ → Lanes Held → Lanes Held
+expired_key timeout clock latest key lanes =
+    if slot_passes (is_due timeout clock) lanes.slots key then
+    record lanes {
+      slots = slice_set lanes.slots key
+          (Some (expired_by timeout clock latest (held_under lanes.slots key)));
+      first = pushed_back 0 key (without_key key lanes.first);
+    } else lanes

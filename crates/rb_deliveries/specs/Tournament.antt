@@ -1,5 +1,4 @@
--- A tournament over tickets: which place is the first with a ticket, and whose ticket is first in
--- line.
+-- A tournament over tickets: which place's ticket is first in line.
 use Rattle.std.specs.Prelude.{◌≡◌, ℕ, zero, suc, ◌+◌, ◌-◌, ◌<◌, ◌≤◌, List, [], ◌∷◌, ◌++◌, length}
 use Rattle.std.specs.Prelude.{take, drop, replicate, map, Option, Some, None, get_or}
 use Rattle.std.specs.Prelude.{if◌then◌else◌}
@@ -9,17 +8,14 @@ use Rattle.rb_deliveries.specs.declared.tournament.Winner.{Winner}
 use Rattle.rb_deliveries.specs.Lanes.{earlier}
 
 -- the winner of two neighbouring parts; of two with the same ticket, the left one
-abbrev pub earlier_of : Winner → Winner → Winner
-earlier_of a b = if earlier b.ticket a.ticket then record b { first = a.first } else a
-
 abbrev pub winner_of_two : Option Winner → Option Winner → Option Winner
 winner_of_two None b = b
 winner_of_two (Some a) None = Some a
-winner_of_two (Some a) (Some b) = Some (earlier_of a b)
+winner_of_two (Some a) (Some b) = if earlier b.ticket a.ticket then Some b else Some a
 
 -- the winner of one place
 abbrev pub at_place : ℕ → Option Ticket → Option Winner
-at_place place = option_map (λ ticket. record { first = place; place = place; ticket = ticket })
+at_place place = option_map (λ ticket. record { place = place; ticket = ticket })
 
 -- the winner of these tickets, the first of which is at place n
 abbrev pub winner_from : ℕ → List (Option Ticket) → Option Winner
@@ -60,8 +56,8 @@ pub record IsTree (nodes : List (Option Winner)) (room len : ℕ) : Type 0 where
   pub inner : NodesWin nodes room
 
 -- the tickets that the places have
-abbrev pub ticket_at : Option Winner → Option Ticket
-ticket_at = option_map (λ (w : Winner). w.ticket)
+abbrev pub winners_ticket : Option Winner → Option Ticket
+winners_ticket = option_map (λ (w : Winner). w.ticket)
 
 abbrev pub tickets_of : List (Option Winner) → ℕ → ℕ → List (Option Ticket)
-tickets_of nodes room len = map ticket_at (take len (drop room nodes))
+tickets_of nodes room len = map winners_ticket (take len (drop room nodes))

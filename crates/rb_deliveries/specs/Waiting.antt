@@ -5,12 +5,12 @@ use Rattle.std.specs.Prelude.{if◌then◌else◌}
 use Rattle.std.specs.List.{AllByRecursion}
 use Rattle.rb_deliveries.specs.declared.sub.Sub.{Sub}
 use Rattle.rb_deliveries.specs.declared.span.Status.{Status}
-use Rattle.rb_deliveries.specs.declared.span.Status.TheVariants.{Ready, InFlight, Settled}
+use Rattle.rb_deliveries.specs.declared.span.Status.TheVariants.{Ready, InFlight}
 use Rattle.rb_deliveries.specs.declared.ticket.Held.{Held}
 use Rattle.rb_deliveries.specs.declared.ticket.Ticket.{Ticket}
 use Rattle.rb_deliveries.specs.Spans.{how_many_out}
 use Rattle.rb_deliveries.specs.Subs.{Belongs}
-use Rattle.rb_deliveries.specs.Lanes.{AreJoined, Lane, birth, earlier, least, spans_of}
+use Rattle.rb_deliveries.specs.Lanes.{AreRising, Lane, birth, earlier, least, spans_of}
 
 -- the ticket that is first in line, of a span that was taken before and of the next one that wasn't
 abbrev pub sooner_ticket : Option Held → Ticket → Ticket
@@ -32,7 +32,6 @@ sub_ticket window sub =
 abbrev pub moment_of : Status → Option Ticket
 moment_of (Ready taken) = None
 moment_of (InFlight number moment) = Some (record { front = moment; turn = 0 })
-moment_of Settled = None
 
 -- the earlier of two; of two that are the same, the first
 abbrev pub first_ticket : Option Ticket → Option Ticket → Option Ticket
@@ -53,12 +52,12 @@ sub_moment sub = if sub.closed then None else earliest sub.lane.held
 abbrev pub is_past : ℕ → ℕ → Ticket → Bool
 is_past timeout clock moment = nat_le timeout (clock - moment.front)
 
--- the line and the moments are those of the subscriptions, whose spans follow one another
+-- the line and the moments are those of the subscriptions, whose spans rise
 pub record AreWaiting (window : ℕ) (subs : List Sub) (line moments : List (Option Ticket)) : Type 0
   where
     pub in_line : line ≡ map (sub_ticket window) subs
     pub in_flight : moments ≡ map sub_moment subs
-    pub joined : AllByRecursion (λ sub. AreJoined sub.lane) subs
+    pub rising : AllByRecursion (λ sub. AreRising sub.lane) subs
 
 -- a subscription that changed has its ticket and its moment again
 pub record StandsAgain (window s : ℕ) (sub : Sub) (line moments new_line new_moments : List (Option
@@ -66,7 +65,7 @@ pub record StandsAgain (window s : ℕ) (sub : Sub) (line moments new_line new_m
     : Type 0 where
   pub in_line : new_line ≡ slice_set line s (sub_ticket window sub)
   pub in_flight : new_moments ≡ slice_set moments s (sub_moment sub)
-  pub joins : AreJoined sub.lane
+  pub rises : AreRising sub.lane
 
 -- the place of a moment that is past, or none is
 abbrev pub FirstPast : ℕ → ℕ → List (Option Ticket) → Option ℕ → Type 0

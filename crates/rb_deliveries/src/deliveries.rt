@@ -7,9 +7,10 @@ ghost use Rattle.std.specs.Option.{option_copied, option_map};
 ghost use Rattle.rb_deliveries.specs.declared.sub.Sub.{Sub};
 ghost use Rattle.rb_deliveries.specs.Expiry.{all_due, expired_sub, by_number, turns_from};
 ghost use Rattle.rb_deliveries.specs.KeptSubs.{with_sub};
-ghost use Rattle.rb_deliveries.specs.Lanes.{AreJoined, AreLimited, HasNumbers, most_numbers};
-ghost use Rattle.rb_deliveries.specs.Lanes.{settled_lane};
-ghost use Rattle.rb_deliveries.specs.Subs.{AreGiven, Belongs, IsJoinedAt, new_sub, delivered_sub};
+ghost use Rattle.rb_deliveries.specs.Lanes.{AreRising, AreLimited, HasNumbers, lane_floor};
+ghost use Rattle.rb_deliveries.specs.Lanes.{most_numbers, settled_lane};
+ghost use Rattle.rb_deliveries.specs.Subs.{AreGiven, Belongs, ComesLastAt, IsDrawn, IsNewestAt};
+ghost use Rattle.rb_deliveries.specs.Subs.{IsRisingAt, new_sub, delivered_sub};
 ghost use Rattle.rb_deliveries.specs.Subs.{returned_sub, settled_sub, reconnected_sub, closed_sub};
 ghost use Rattle.rb_deliveries.specs.Subs.{first_to_deliver, span_to_deliver};
 ghost use Rattle.rb_deliveries.specs.Waiting.{AreWaiting, BelongAll, FirstPast, StandsAgain};
@@ -69,7 +70,7 @@ impl Deliveries {
     /// The subscription with this number.
     pub fn get(&self, s: u64) -> Option<&Sub>
         ensures value { option_copied result ≡ slice_get self.now.subs s }
-        ensures joined { IfSome (option_copied result) (λ sub. AreJoined sub.lane) }
+        ensures rising { IfSome (option_copied result) (λ sub. AreRising sub.lane) }
     {
         self.subs.get(s as usize)
     }
@@ -91,7 +92,7 @@ impl Deliveries {
         ensures err { OnErr result (self.new ≡ self.old) }
     {
         self.subs.reserve(1)?;
-        let made = Sub::behind(alloc, start, link, ticket);
+        let made = Sub::behind(start, link, ticket);
         let first = made.ticket(self.window);
         let moment = made.moment();
         push_both(alloc, &mut self.line, &mut self.moments, first, moment)?;
@@ -101,11 +102,12 @@ impl Deliveries {
 }
 
 impl Deliveries {
-    /// Delivers a span of a subscription: it is in flight as this delivery, taken at this tick.
-    /// Returns the subscription's link.
+    /// Delivers a span of a subscription: it is in flight as this delivery, whose number is the
+    /// greatest, taken at this tick. Returns the subscription's link.
     pub fn deliver(&mut self, s: u64, span: Span, number: u64, tick: u64) -> Result<u64, AllocError>
         requires there { s < length self.old.subs }
         requires span { HasNumbers span }
+        requires last { IsNewestAt self.old.subs s number }
         ensures ok { OnOk result ((sub : Sub) → slice_get self.old.subs s ≡ Some sub
             → self.new ≡ with_sub self.old s (delivered_sub sub span number tick)) }
         ensures link { IfOk result (λ link. (sub : Sub) → slice_get self.old.subs s ≡ Some sub
@@ -113,8 +115,9 @@ impl Deliveries {
         ensures err { OnErr result (self.new ≡ self.old) }
     {
         let s = s as usize;
+        let alloc = *self.subs.allocator();
         let link = self.subs[s].link;
-        self.subs[s].deliver(span, number, tick)?;
+        self.subs[s].deliver(alloc, span, number, tick)?;
         stand(
             &self.subs,
             &mut self.line,
@@ -125,9 +128,11 @@ impl Deliveries {
         Ok(link)
     }
 
-    /// Makes a span of a subscription ready again, in line with this ticket.
+    /// Makes a span of a subscription ready again, in line with this ticket, which comes after
+    /// those of its other spans.
     pub fn give_back(&mut self, s: u64, first: u64, ticket: Ticket)
-        requires { s < length self.old.subs }
+        requires there { s < length self.old.subs }
+        requires last { ComesLastAt self.old.subs s ticket }
         ensures { (sub : Sub) → slice_get self.old.subs s ≡ Some sub
             → self.new ≡ with_sub self.old s (returned_sub sub first ticket) }
     {
@@ -148,7 +153,7 @@ impl Deliveries {
         ensures kept { (sub : Sub) → slice_get self.old.subs s ≡ Some sub
             → self.new ≡ with_sub self.old s (settled_sub sub first) }
         ensures floor { (sub : Sub) → slice_get self.old.subs s ≡ Some sub
-            → result ≡ (settled_lane sub.lane first).floor }
+            → result ≡ lane_floor (settled_lane sub.lane first) }
     {
         let s = s as usize;
         let floor = self.subs[s].settle(first);
@@ -164,14 +169,14 @@ impl Deliveries {
 
     /// Continues a subscription after `cursor`, under this link. The numbers after it are cut with
     /// this ticket.
-    pub fn reconnect(&mut self, alloc: Global, s: u64, cursor: u64, link: u64, ticket: Ticket)
+    pub fn reconnect(&mut self, s: u64, cursor: u64, link: u64, ticket: Ticket)
         requires there { s < length self.old.subs }
         requires cursor { cursor ≤ most_numbers }
         ensures { (sub : Sub) → slice_get self.old.subs s ≡ Some sub
             → self.new ≡ with_sub self.old s (reconnected_sub sub cursor link ticket) }
     {
         let s = s as usize;
-        self.subs[s].reconnect(alloc, cursor, link, ticket);
+        self.subs[s].reconnect(cursor, link, ticket);
         stand(
             &self.subs,
             &mut self.line,
@@ -208,7 +213,7 @@ impl Deliveries {
         requires belong { BelongAll front self.now.subs }
         ensures value { result ≡ option_map span_to_deliver
             (first_to_deliver self.now.window batch front 0 self.now.subs) }
-        ensures joined { IfSome result (λ c. IsJoinedAt self.now.subs c.0) }
+        ensures rising { IfSome result (λ c. IsRisingAt self.now.subs c.0) }
     {
         let winner = self.line.winner()?;
         // the ticket of numbers that aren't placed yet
@@ -222,7 +227,7 @@ impl Deliveries {
     /// Whether a span of an open subscription is due.
     pub fn any_due(&self, timeout: u64, clock: u64) -> bool
         ensures value { result ≡ nat_lt 0 (all_due timeout clock self.now.subs) }
-        ensures joined { AllByRecursion (λ sub. AreJoined sub.lane) self.now.subs }
+        ensures rising { AllByRecursion (λ sub. AreRising sub.lane) self.now.subs }
     {
         first_past(&self.moments, timeout, clock).is_some()
     }
@@ -240,7 +245,7 @@ impl Deliveries {
               map (expired_sub timeout clock (by_number (turns_from latest.front latest.turn)))
               self.old.subs;
         } }
-        ensures joined { AllByRecursion (λ sub. AreJoined sub.lane) self.old.subs }
+        ensures rising { AllByRecursion (λ sub. AreRising sub.lane) self.old.subs }
     {
         expire_due(
             &mut self.subs,
@@ -302,6 +307,8 @@ fn expire_due(
     requires waiting { AreWaiting window subs.old.items line.old moments.old }
     requires given { AllByRecursion (λ sub. AreGiven next latest.turn sub.lane.held)
         subs.old.items }
+    requires drawn { AllByRecursion (λ sub. AllByRecursion
+        (λ h. IsDrawn latest.front latest.turn h.ticket) sub.lane.held) subs.old.items }
     requires few { all_due timeout clock subs.old.items < 18446744073709551616 }
     ensures many { result ≡ all_due timeout clock subs.old.items }
     ensures subs { subs.new.items

@@ -4,9 +4,10 @@
 #![tactic(auto)]
 
 mod deliveries;
-mod held;
 mod lane;
+mod records;
 mod span;
+mod steps;
 mod sub;
 mod taken;
 mod ticket;

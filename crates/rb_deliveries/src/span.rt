@@ -1,7 +1,8 @@
-//! Spans: numbers of the sequence that are delivered to a subscription together.
+//! Spans: numbers of the sequence that are delivered to a subscription together. A number that is
+//! acknowledged is in no span.
 
 ghost use Rattle.std.specs.Prelude.{◌≡◌};
-ghost use Rattle.rb_deliveries.specs.Spans.{is_ready, is_out, is_out_as, is_settled, is_due};
+ghost use Rattle.rb_deliveries.specs.Spans.{is_ready, is_out, is_out_as, is_due};
 ghost use Rattle.rb_deliveries.specs.Waiting.{moment_of};
 
 use crate::ticket::Ticket;
@@ -24,8 +25,6 @@ pub enum Status {
     Ready { taken: bool },
     /// They are in flight as delivery `number`, taken at tick `moment`.
     InFlight { number: u64, moment: u64 },
-    /// They are acknowledged.
-    Settled,
 }
 
 impl Status {
@@ -39,7 +38,6 @@ impl Status {
                 number: _,
                 moment: _,
             } => false,
-            Status::Settled => false,
         }
     }
 
@@ -53,7 +51,6 @@ impl Status {
                 number: _,
                 moment: _,
             } => true,
-            Status::Settled => false,
         }
     }
 
@@ -64,7 +61,6 @@ impl Status {
         match self {
             Status::Ready { taken: _ } => false,
             Status::InFlight { number, moment: _ } => number == delivery,
-            Status::Settled => false,
         }
     }
 
@@ -78,21 +74,6 @@ impl Status {
                 front: moment,
                 turn: 0,
             }),
-            Status::Settled => None,
-        }
-    }
-
-    /// Whether they are acknowledged.
-    pub fn is_settled(self) -> bool
-        ensures { result ≡ is_settled self }
-    {
-        match self {
-            Status::Ready { taken: _ } => false,
-            Status::InFlight {
-                number: _,
-                moment: _,
-            } => false,
-            Status::Settled => true,
         }
     }
 
@@ -103,7 +84,6 @@ impl Status {
         match self {
             Status::Ready { taken: _ } => false,
             Status::InFlight { number: _, moment } => timeout <= clock.saturating_sub(moment),
-            Status::Settled => false,
         }
     }
 }

@@ -1,8 +1,10 @@
 //! One subscription: its numbers, its link and its lane.
 
 ghost use Rattle.std.specs.Prelude.{◌≡◌, ◌≤◌, OnSome, OnOk, OnErr};
-ghost use Rattle.rb_deliveries.specs.Lanes.{AreJoined, AreLimited, HasNumbers, is_none_left};
-ghost use Rattle.rb_deliveries.specs.Lanes.{lane_spans, most_numbers, settled_lane, spans_of};
+ghost use Rattle.std.specs.List.{AllByRecursion};
+ghost use Rattle.rb_deliveries.specs.Lanes.{AreRising, AreLimited, HasNumbers, is_none_left};
+ghost use Rattle.rb_deliveries.specs.Lanes.{lane_floor, lane_spans, most_numbers, settled_lane};
+ghost use Rattle.rb_deliveries.specs.Lanes.{spans_of};
 ghost use Rattle.rb_deliveries.specs.Spans.{first_ready, how_many_out};
 
 use crate::lane::Lane;
@@ -26,14 +28,15 @@ pub struct Sub {
 
 impl Sub {
     ghost use Rattle.rb_deliveries.specs.Expiry.{due_in, expired_sub, by_number, turns_from};
-    ghost use Rattle.rb_deliveries.specs.Subs.{AreGiven, new_sub, sub_out_as, delivered_sub};
+    ghost use Rattle.rb_deliveries.specs.Subs.{AreGiven, ComesLast, IsDrawn, IsNewest};
+    ghost use Rattle.rb_deliveries.specs.Subs.{new_sub, sub_out_as, delivered_sub};
     ghost use Rattle.rb_deliveries.specs.Subs.{returned_sub, settled_sub, reconnected_sub};
     ghost use Rattle.rb_deliveries.specs.Subs.{closed_sub};
     ghost use Rattle.rb_deliveries.specs.Waiting.{sub_moment, sub_ticket};
 
     /// A subscription after this number, under this link. The numbers after it are cut with this
     /// ticket.
-    pub(crate) fn behind(alloc: Global, start: u64, link: u64, ticket: Ticket) -> Sub
+    pub(crate) fn behind(start: u64, link: u64, ticket: Ticket) -> Sub
         requires { start ≤ most_numbers }
         ensures { result ≡ new_sub start link ticket }
     {
@@ -42,23 +45,32 @@ impl Sub {
             offered: start,
             link,
             closed: false,
-            lane: Lane::behind(alloc, start, ticket),
+            lane: Lane::behind(start, ticket),
         }
     }
 
-    /// Delivers a span: it is in flight as this delivery, taken at this tick.
-    pub(crate) fn deliver(&mut self, span: Span, number: u64, tick: u64) -> Result<(), AllocError>
-        requires { HasNumbers span }
+    /// Delivers a span: it is in flight as this delivery, whose number is the greatest, taken at
+    /// this tick.
+    pub(crate) fn deliver(
+        &mut self,
+        alloc: Global,
+        span: Span,
+        number: u64,
+        tick: u64,
+    ) -> Result<(), AllocError>
+        requires span { HasNumbers span }
+        requires last { IsNewest number self.old.lane.held }
         ensures ok { OnOk result (self.new ≡ delivered_sub self.old span number tick) }
         ensures err { OnErr result (self.new ≡ self.old) }
     {
-        self.lane.deliver(span, number, tick)?;
+        self.lane.deliver(alloc, span, number, tick)?;
         self.offered = self.offered.max(span.last);
         Ok(())
     }
 
-    /// Makes a span ready again, in line with this ticket.
+    /// Makes a span ready again, in line with this ticket, which comes after all others.
     pub(crate) fn give_back(&mut self, first: u64, ticket: Ticket)
+        requires { ComesLast ticket self.old.lane.held }
         ensures { self.new ≡ returned_sub self.old first ticket }
     {
         self.lane.give_back(first, ticket);
@@ -67,7 +79,7 @@ impl Sub {
     /// Settles a span. Returns the floor, up to which everything is settled now.
     pub(crate) fn settle(&mut self, first: u64) -> u64
         ensures sub { self.new ≡ settled_sub self.old first }
-        ensures floor { result ≡ (settled_lane self.old.lane first).floor }
+        ensures floor { result ≡ lane_floor (settled_lane self.old.lane first) }
     {
         self.lane.settle(first);
         self.lane.floor()
@@ -76,7 +88,7 @@ impl Sub {
     /// The span that is in flight as this delivery.
     pub fn out_as(&self, delivery: u64) -> Option<Span>
         ensures value { result ≡ sub_out_as delivery self.now }
-        ensures joined { OnSome result (AreJoined self.now.lane) }
+        ensures rising { OnSome result (AreRising self.now.lane) }
     {
         if self.closed {
             return None;
@@ -86,7 +98,7 @@ impl Sub {
 
     /// The number up to which everything is settled.
     pub fn floor(&self) -> u64
-        ensures { result ≡ self.now.lane.floor }
+        ensures { result ≡ lane_floor self.now.lane }
     {
         self.lane.floor()
     }
@@ -127,7 +139,7 @@ impl Sub {
     /// The earliest moment at which a span in flight was taken, if it is open.
     pub(crate) fn moment(&self) -> Option<Ticket>
         ensures value { result ≡ sub_moment self.now }
-        ensures joined { AreJoined self.now.lane }
+        ensures rising { AreRising self.now.lane }
     {
         let moment = self.lane.earliest();
         if self.closed {
@@ -139,7 +151,7 @@ impl Sub {
     /// How many spans are due.
     pub(crate) fn how_many_due(&self, timeout: u64, clock: u64) -> u64
         ensures value { result ≡ due_in timeout clock self.now }
-        ensures joined { AreJoined self.now.lane }
+        ensures rising { AreRising self.now.lane }
     {
         let many = self.lane.how_many_due(timeout, clock);
         if self.closed {
@@ -151,7 +163,9 @@ impl Sub {
     /// Makes the spans that are due ready again, if it is open. Their tickets come after `latest`,
     /// in the order of their deliveries' numbers, which are below `next`.
     pub(crate) fn expire(&mut self, timeout: u64, clock: u64, latest: Ticket, next: u64)
-        requires { AreGiven next latest.turn self.old.lane.held }
+        requires given { AreGiven next latest.turn self.old.lane.held }
+        requires drawn { AllByRecursion (λ h. IsDrawn latest.front latest.turn h.ticket)
+            self.old.lane.held }
         ensures { self.new ≡ expired_sub timeout clock
             (by_number (turns_from latest.front latest.turn)) self.old }
     {
@@ -161,18 +175,18 @@ impl Sub {
     }
 
     /// Continues after this number, under this link. The numbers after it are cut with this ticket.
-    pub(crate) fn reconnect(&mut self, alloc: Global, cursor: u64, link: u64, ticket: Ticket)
+    pub(crate) fn reconnect(&mut self, cursor: u64, link: u64, ticket: Ticket)
         requires { cursor ≤ most_numbers }
         ensures { self.new ≡ reconnected_sub self.old cursor link ticket }
     {
         self.link = link;
-        self.lane = Lane::behind(alloc, cursor, ticket);
+        self.lane = Lane::behind(cursor, ticket);
     }
 
     /// Closes it and removes all its spans.
     pub(crate) fn close(&mut self)
         ensures sub { self.new ≡ closed_sub self.old }
-        ensures joined { AreJoined self.old.lane }
+        ensures rising { AreRising self.old.lane }
     {
         self.closed = true;
         self.lane.clear();

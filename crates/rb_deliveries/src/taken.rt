@@ -1,60 +1,58 @@
-//! The spans of a subscription that were taken before, with what finds one of them at once: the
-//! ready ones stand in a tournament, and the places of those in flight in a list.
+//! The spans of a subscription that were taken before and are not settled: the ready ones by their
+//! tickets, those in flight by their deliveries' numbers, and all by their own numbers.
 
-ghost use Rattle.std.specs.Prelude.{◌≡◌, ◌++◌, ◌∷◌, ◌==◌, [], true, false, map, length, OnOk};
-ghost use Rattle.std.specs.Prelude.{OnErr};
+ghost use Rattle.std.specs.Prelude.{◌≡◌, ◌<◌, ◌^◌, ◌++◌, ◌∷◌, ◌==◌, [], map, length, slice_get};
+ghost use Rattle.std.specs.Prelude.{◌-◌, true, OnOk, OnErr};
+ghost use Rattle.std.specs.List.{AllByRecursion};
+ghost use Rattle.std.specs.Option.{option_map};
+ghost use Rattle.rb_deliveries.specs.declared.span.Status.TheVariants.{Ready, InFlight};
 ghost use Rattle.rb_deliveries.specs.Expiry.{due_held, expired_by};
-ghost use Rattle.rb_deliveries.specs.Lanes as spec;
-ghost use Rattle.rb_deliveries.specs.Lanes.{spans_of, least, restated, FollowSome};
-ghost use Rattle.rb_deliveries.specs.Subs.{AreGiven};
-ghost use Rattle.rb_deliveries.specs.Waiting.{earliest};
+ghost use Rattle.rb_deliveries.specs.Lanes.{spans_of, least, restated, without_held, RiseSome};
 ghost use Rattle.rb_deliveries.specs.Spans as spans;
-ghost use Rattle.rb_deliveries.specs.Spans.{is_out};
+ghost use Rattle.rb_deliveries.specs.Subs.{AreGiven, ComesLast, IsDrawn, IsNewest};
+ghost use Rattle.rb_deliveries.specs.Taken.{GoesLast};
+ghost use Rattle.rb_deliveries.specs.Waiting.{earliest};
 
-use crate::held;
 use crate::span::{Span, Status};
 use crate::ticket::{Held, Ticket};
-use crate::tournament::Tournament;
+use crate::{records, steps};
+use link_lists::Woven;
 use std::alloc::{AllocError, Global};
 use std::marker::Model;
 
-/// Spans in order of their numbers. Contracts see those that the floor has not passed.
+/// Spans in order of their numbers.
 #[derive(Debug, Drop)]
 pub(crate) struct Taken {
-    // the first `passed` of them are settled, and below the floor
-    spans: Vec<Held>,
-    passed: usize,
-    // the tickets of the ready ones, and the places of those in flight: both follow from `spans`
-    line: Tournament,
-    out: Vec<usize>,
+    // there are no lists before the first span
+    records: Option<Woven<Held>>,
+    // how many are in flight
+    flying: u64,
 }
 
 impl Model for Taken {
-    ghost use Rattle.std.specs.Prelude.{List, drop};
+    ghost use Rattle.std.specs.Prelude.{List};
     ghost use Rattle.std.specs.Coded.{coded_list};
     ghost use Rattle.rb_deliveries.specs.declared.ticket.Held.{Held};
     ghost use Rattle.rb_deliveries.specs.contracts.ticket.Held as held;
-    ghost use Rattle.rb_deliveries.specs.Taken.{IsTaken};
+    ghost use Rattle.rb_deliveries.specs.Taken.{AreKept, taken_seen};
 
     ghost Value = { List Held };
 
     ghost coded = { coded_list held.the_row.coded };
 
-    ghost view = { λ t. drop t.passed t.spans.items };
+    ghost view = { λ t. taken_seen t.records };
 
-    ghost invariant = { λ t. IsTaken t.spans.items t.passed t.line t.out.items };
+    ghost invariant = { λ t. AreKept t.records t.flying };
 }
 
 impl Taken {
-    /// No spans. Does not allocate.
-    pub(crate) fn new(alloc: Global) -> Taken
+    /// No spans.
+    pub(crate) fn new() -> Taken
         ensures { result ≡ [] }
     {
         Taken {
-            spans: Vec::new(alloc),
-            passed: 0,
-            line: Tournament::new(alloc),
-            out: Vec::new(alloc),
+            records: None,
+            flying: 0,
         }
     }
 
@@ -62,169 +60,144 @@ impl Taken {
     pub(crate) fn is_empty(&self) -> bool
         ensures { result ≡ (length self.now == 0) }
     {
-        self.passed == self.spans.len()
+        self.first().is_none()
+    }
+
+    /// The first of all.
+    pub(crate) fn first(&self) -> Option<Span>
+        ensures { result ≡ option_map (λ h. h.span) (slice_get self.now 0) }
+    {
+        records::first(self.records.as_ref()?)
     }
 
     /// How many are in flight.
     pub(crate) fn in_flight(&self) -> u64
         ensures { result ≡ spans.how_many_out (spans_of self.now) }
     {
-        self.out.len() as u64
+        match &self.records {
+            Some(records) => records::in_flight(records, self.flying),
+            None => 0,
+        }
     }
 
-    /// The first that is ready.
+    /// The first that is ready. Looks at one span more than are in flight.
     pub(crate) fn first_ready(&self) -> Option<Span>
         ensures { result ≡ spans.first_ready (spans_of self.now) }
     {
-        let winner = self.line.winner()?;
-        Some(self.spans[winner.first].span)
+        records::first_ready(self.records.as_ref()?, self.flying)
     }
 
     /// The ready one that is first in line.
     pub(crate) fn first_in_line(&self) -> Option<Held>
         ensures { result ≡ least self.now }
     {
-        let winner = self.line.winner()?;
-        Some(self.spans[winner.place])
+        records::first_in_line(self.records.as_ref()?)
     }
 
     /// The one that is in flight as this delivery.
     pub(crate) fn out_as(&self, delivery: u64) -> Option<Span>
         ensures { result ≡ spans.out_as delivery (spans_of self.now) }
     {
-        held::out_as(&self.spans, &self.out, delivery)
-    }
-
-    /// Adds a span, whose numbers follow those of the others.
-    pub(crate) fn push(&mut self, held: Held) -> Result<(), AllocError>
-        ensures ok { OnOk result (self.new ≡ self.old ++ held ∷ []) }
-        ensures err { OnErr result (self.new ≡ self.old) }
-    {
-        self.tidy()?;
-        let alloc = *self.spans.allocator();
-        self.spans.reserve(1)?;
-        self.out.reserve(1)?;
-        self.line.push(alloc, held::in_line(&held))?;
-        held::add_place(&mut self.out, self.spans.len(), &held);
-        self.spans.push_reserved(held);
-        Ok(())
-    }
-
-    // forgets the spans that the floor has passed, where they are more than the others
-    fn tidy(&mut self) -> Result<(), AllocError>
-        ensures { self.new ≡ self.old }
-    {
-        if self.passed > 16 && self.passed > self.spans.len() / 2 {
-            self.forget()?;
-        }
-        Ok(())
-    }
-
-    // forgets the spans that the floor has passed
-    fn forget(&mut self) -> Result<(), AllocError>
-        ensures { self.new ≡ self.old }
-    {
-        let alloc = *self.spans.allocator();
-        let (_, rest) = self.spans.split_at(self.passed);
-        let mut spans = Vec::with_capacity(alloc, rest.len())?;
-        spans.extend_from_slice(rest)?;
-        let line = held::line_of(alloc, rest)?;
-        let out = held::places_out(alloc, rest)?;
-        self.spans = spans;
-        self.passed = 0;
-        self.line = line;
-        self.out = out;
-        Ok(())
-    }
-
-    /// Sets the status and the ticket of the span that begins with this number, if there is one. It
-    /// isn't in flight then.
-    pub(crate) fn restate(&mut self, first: u64, status: Status, ticket: Ticket)
-        requires follow { FollowSome self.old }
-        requires status { is_out status ≡ false }
-        ensures { self.new ≡ restated first status ticket self.old }
-    {
-        let (_, rest) = self.spans.split_at(self.passed);
-        let Some(i) = held::place_of(rest, first) else {
-            return;
-        };
-        let place = self.passed + i;
-        held::remove_place(&mut self.out, place);
-        held::set(&mut self.spans, &mut self.line, place, status, ticket);
-    }
-
-    /// The same, where it is in flight then.
-    pub(crate) fn deliver(
-        &mut self,
-        first: u64,
-        status: Status,
-        ticket: Ticket,
-    ) -> Result<(), AllocError>
-        requires follow { FollowSome self.old }
-        requires status { is_out status ≡ true }
-        ensures ok { OnOk result (self.new ≡ restated first status ticket self.old) }
-        ensures err { OnErr result (self.new ≡ self.old) }
-    {
-        let (_, rest) = self.spans.split_at(self.passed);
-        let Some(i) = held::place_of(rest, first) else {
-            return Ok(());
-        };
-        let place = self.passed + i;
-        held::insert_place(&mut self.out, place)?;
-        held::set(&mut self.spans, &mut self.line, place, status, ticket);
-        Ok(())
-    }
-
-    /// Passes the settled spans at the front. Returns the floor after them.
-    pub(crate) fn raise(&mut self, floor: u64) -> u64
-        ensures { spec.risen floor self.old ≡ (result, self.new) }
-    {
-        let (_, rest) = self.spans.split_at(self.passed);
-        let (reached, gone) = held::risen(floor, rest);
-        self.passed += gone;
-        reached
+        records::out_as(self.records.as_ref()?, self.flying, delivery)
     }
 
     /// The earliest moment at which one in flight was taken.
     pub(crate) fn earliest(&self) -> Option<Ticket>
         ensures { result ≡ earliest self.now }
     {
-        held::earliest(&self.spans, &self.out)
+        records::earliest(self.records.as_ref()?, self.flying)
     }
 
     /// How many are due.
     pub(crate) fn how_many_due(&self, timeout: u64, clock: u64) -> u64
         ensures { result ≡ due_held timeout clock self.now }
     {
-        held::how_many_due(&self.spans, &self.out, timeout, clock)
+        match &self.records {
+            Some(records) => records::how_many_due(records, self.flying, timeout, clock),
+            None => 0,
+        }
+    }
+}
+
+impl Taken {
+    /// Adds a span in flight. Its numbers follow those of the others, and its delivery's number is
+    /// the greatest.
+    pub(crate) fn push(&mut self, alloc: Global, held: Held) -> Result<(), AllocError>
+        requires few { length self.old < 2 ^ 64 - 1 }
+        requires last { GoesLast held.span.status self.old }
+        ensures ok { OnOk result (self.new ≡ self.old ++ held ∷ []) }
+        ensures err { OnErr result (self.new ≡ self.old) }
+    {
+        if self.records.is_none() {
+            self.records = Some(records::no_records(alloc)?);
+        }
+        if let Some(records) = &mut self.records {
+            records.reserve(1)?;
+            self.flying = steps::push(records, self.flying, held);
+        }
+        Ok(())
+    }
+
+    /// Delivers the span that begins with this number, if there is one: it is in flight as this
+    /// delivery, whose number is the greatest, taken at this tick.
+    pub(crate) fn deliver(&mut self, first: u64, number: u64, moment: u64, ticket: Ticket)
+        requires rising { RiseSome self.old }
+        requires few { length self.old < 2 ^ 64 - 1 }
+        requires last { IsNewest number self.old }
+        ensures { self.new ≡ restated first (InFlight number moment) ticket self.old }
+    {
+        let Some(records) = &mut self.records else {
+            return;
+        };
+        let status = Status::InFlight { number, moment };
+        self.flying = steps::restate(records, self.flying, first, status, ticket);
+    }
+
+    /// Makes the span that begins with this number ready again, if there is one. Its ticket comes
+    /// after all others.
+    pub(crate) fn give_back(&mut self, first: u64, ticket: Ticket)
+        requires rising { RiseSome self.old }
+        requires few { length self.old < 2 ^ 64 - 1 }
+        requires last { ComesLast ticket self.old }
+        ensures { self.new ≡ restated first (Ready true) ticket self.old }
+    {
+        let Some(records) = &mut self.records else {
+            return;
+        };
+        let status = Status::Ready { taken: true };
+        self.flying = steps::restate(records, self.flying, first, status, ticket);
+    }
+
+    /// Removes the span that begins with this number, if there is one.
+    pub(crate) fn remove(&mut self, first: u64)
+        requires rising { RiseSome self.old }
+        requires few { length self.old < 2 ^ 64 - 1 }
+        ensures { self.new ≡ without_held first self.old }
+    {
+        let Some(records) = &mut self.records else {
+            return;
+        };
+        self.flying = steps::remove(records, self.flying, first);
     }
 
     /// Makes those that are due ready again. Their tickets come after `latest`, in the order of
     /// their deliveries' numbers, which are below `next`.
     pub(crate) fn expire(&mut self, timeout: u64, clock: u64, latest: Ticket, next: u64)
-        requires { AreGiven next latest.turn self.old }
+        requires given { AreGiven next latest.turn self.old }
+        requires drawn { AllByRecursion (λ h. IsDrawn latest.front latest.turn h.ticket) self.old }
         ensures { self.new ≡ map (expired_by timeout clock latest) self.old }
     {
-        held::expire(
-            &mut self.spans,
-            &mut self.line,
-            &self.out,
-            timeout,
-            clock,
-            latest,
-            next,
-        );
-        held::keep_out(&self.spans, &mut self.out);
+        let Some(records) = &mut self.records else {
+            return;
+        };
+        self.flying = steps::expire(records, self.flying, timeout, clock, latest, next);
     }
 
     /// Removes all.
     pub(crate) fn clear(&mut self)
         ensures { self.new ≡ [] }
     {
-        let alloc = *self.spans.allocator();
-        self.spans.clear();
-        self.passed = 0;
-        self.line = Tournament::new(alloc);
-        self.out.clear();
+        self.records = None;
+        self.flying = 0;
     }
 }

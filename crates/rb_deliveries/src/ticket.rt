@@ -2,7 +2,7 @@
 
 ghost use Rattle.std.specs.Prelude.{◌≡◌};
 ghost use Rattle.std.specs.Option.{option_map};
-ghost use Rattle.rb_deliveries.specs.Lanes.{goes_before, earlier, birth, with_birth, better};
+ghost use Rattle.rb_deliveries.specs.Lanes.{earlier, birth, with_birth, better};
 ghost use Rattle.rb_deliveries.specs.Waiting.{first_ticket};
 
 use crate::span::Span;
@@ -58,18 +58,6 @@ impl Ticket {
     }
 }
 
-impl Held {
-    /// Whether it comes before the other, or there is no other.
-    pub(crate) fn is_before(&self, other: Option<Held>) -> bool
-        ensures { result ≡ goes_before self.now other }
-    {
-        match other {
-            None => true,
-            Some(held) => self.ticket.is_before(held.ticket),
-        }
-    }
-}
-
 /// The earlier ticket; `first` if both are the same.
 pub(crate) fn first_ticket(first: Option<Ticket>, second: Option<Ticket>) -> Option<Ticket>
     ensures { result ≡ first_ticket first second }
@@ -90,8 +78,14 @@ pub(crate) fn first_ticket(first: Option<Ticket>, second: Option<Ticket>) -> Opt
 pub(crate) fn sooner(first: Option<Held>, second: Option<Held>) -> Option<Held>
     ensures { result ≡ better first second }
 {
-    match second {
-        Some(held) if held.is_before(first) => second,
-        _ => first,
+    let Some(a) = first else {
+        return second;
+    };
+    let Some(b) = second else {
+        return first;
+    };
+    if b.ticket.is_before(a.ticket) {
+        return second;
     }
+    first
 }

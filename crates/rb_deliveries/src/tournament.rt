@@ -12,10 +12,9 @@ use crate::ticket::Ticket;
 use std::alloc::{AllocError, Global};
 use std::marker::Model;
 
-/// Of some places: the first that has a ticket, and the place whose ticket is first in line.
+/// The place whose ticket is first in line; of those with the same ticket, the first.
 #[derive(Clone, Copy, Debug, PartialEq, Eq)]
 pub(crate) struct Winner {
-    pub(crate) first: usize,
     pub(crate) place: usize,
     pub(crate) ticket: Ticket,
 }
@@ -167,11 +166,7 @@ fn leaf(place: usize, ticket: Option<Ticket>) -> Option<Winner>
     ensures { result ≡ at_place place ticket }
 {
     let ticket = ticket?;
-    Some(Winner {
-        first: place,
-        place,
-        ticket,
-    })
+    Some(Winner { place, ticket })
 }
 
 // the winner of two neighbouring parts
@@ -185,10 +180,7 @@ fn join(left: Option<Winner>, right: Option<Winner>) -> Option<Winner>
         return left;
     };
     if b.ticket.is_before(a.ticket) {
-        return Some(Winner {
-            first: a.first,
-            ..b
-        });
+        return right;
     }
     left
 }

@@ -1,6 +1,6 @@
 -- Every call preserves the invariant of a picture; no number is issued twice; the front and the floors rise.
 pub mod PictureLaws
-pub mod PartLaws
+pub mod RiseLaws
 pub mod StandLaws
 pub mod KeepHand
 pub mod KeepSettle

@@ -4,13 +4,13 @@ use Rattle.std.specs.Prelude.{◌++◌, length, map, Option, Some, None, Result,
 use Rattle.std.specs.Prelude.{slice_set, ◌==◌, nat_lt, nat_le, if◌then◌else◌}
 use Rattle.std.specs.List.{filter, find}
 use Rattle.rb_deliveries.specs.declared.span.Span.{Span}
-use Rattle.rb_deliveries.specs.declared.span.Status.TheVariants.{Ready, InFlight, Settled}
+use Rattle.rb_deliveries.specs.declared.span.Status.TheVariants.{Ready, InFlight}
 use Rattle.rb_desk.specs.declared.delivery.Delivery.{Delivery}
 use Rattle.rb_desk.specs.declared.refusal.DeskRefusal.{DeskRefusal}
 use Rattle.rb_desk.specs.declared.refusal.DeskRefusal.TheVariants as refusal
 use Rattle.rb_deliveries.specs.Spans.{cut_spans, first_ready, out_as, beginning, how_many_out}
-use Rattle.rb_deliveries.specs.Spans.{is_due, with_status, gone_back, raised, last_takes}
-use Rattle.rb_deliveries.specs.Spans.{grown_spans}
+use Rattle.rb_deliveries.specs.Spans.{is_due, with_status, without_first, floor_of, gone_back}
+use Rattle.rb_deliveries.specs.Spans.{grown_spans, last_takes}
 use Rattle.rb_desk.specs.Picture.{Picture, Subscription}
 
 -- a refused call
@@ -147,13 +147,14 @@ delivered_any_from old now (Some at) =
 unfoldable pub take_any : Picture → ℕ → Result Delivery DeskRefusal × Picture
 take_any old now = delivered_any_from old now (find (may_deliver old) old.ready)
 
--- Ack: settles the span that is in flight as this delivery, all of which must be accepted. The
--- floor rises over the settled spans at the front.
-abbrev pub settled_span : Picture → ℕ → Subscription → ℕ → ℕ × List Span → Result ℕ DeskRefusal
+-- Ack: settles the span that is in flight as this delivery, all of which must be accepted: the span
+-- is removed. The floor rises to the number before the first span left, or to the front.
+abbrev pub settled_span : Picture → ℕ → Subscription → ℕ → List Span → Result ℕ DeskRefusal
     × Picture
-settled_span old s q first rest = (
-  Ok rest.0,
-  record (with_subscription old s (record q { floor = rest.0; spans = rest.1 }))
+settled_span old s q first spans = (
+  Ok (floor_of spans old.front),
+  record (with_subscription old s
+      (record q { floor = floor_of spans old.front; spans = spans }))
       { in_flight = without_span s first old.in_flight },
 )
 
@@ -162,7 +163,7 @@ abbrev pub acked_span : Picture → ℕ → Subscription → ℕ → Option Span
 acked_span old s q cursor None = refused_call old refusal.NotInFlight
 acked_span old s q cursor (Some span) =
     if nat_lt cursor span.last then refused_call old (refusal.NotAccepted cursor)
-    else settled_span old s q span.first (raised q.floor (with_status span.first Settled q.spans))
+    else settled_span old s q span.first (without_first span.first q.spans)
 
 abbrev pub acked_by : Picture → ℕ → ℕ → ℕ → ℕ → Option Subscription → Result ℕ DeskRefusal × Picture
 acked_by old s link number cursor None = refused_call old refusal.NoSuch
@@ -288,7 +289,7 @@ grown_subscription batch n q =
 abbrev pub begun_spans : ℕ → ℕ → ℕ → List Subscription → List (ℕ × ℕ)
 begun_spans batch n s [] = []
 begun_spans batch n s (q ∷ rest) =
-    if q.closed || last_takes batch q.spans then begun_spans batch n (suc s) rest else (s, n)
+    if q.closed || last_takes batch n q.spans then begun_spans batch n (suc s) rest else (s, n)
     ∷ begun_spans batch n (suc s) rest
 
 unfoldable pub place : Picture → Picture

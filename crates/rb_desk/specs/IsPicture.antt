@@ -1,13 +1,13 @@
 -- The invariant of a picture (*IsPicture*), which every call preserves.
 use Rattle.std.specs.Prelude.{◌≡◌, ℕ, suc, ◌+◌, ◌<◌, ◌≤◌, Bool, true, false, List, [], ◌∷◌, length}
-use Rattle.std.specs.Prelude.{IfSome, Option, Some, None, slice_get, ◌==◌}
+use Rattle.std.specs.Prelude.{IfSome, Option, Some, None, slice_get, ◌==◌, ◌⊎◌}
 use Rattle.std.specs.List.{filter, AllByRecursion}
 use Rattle.rb_deliveries.specs.declared.span.Span.{Span}
 use Rattle.rb_deliveries.specs.declared.span.Status.{Status}
-use Rattle.rb_deliveries.specs.declared.span.Status.TheVariants.{Ready, InFlight, Settled}
+use Rattle.rb_deliveries.specs.declared.span.Status.TheVariants.{Ready, InFlight}
 use Rattle.rb_desk.specs.Limits.{Limits, first_out_of_range}
-use Rattle.rb_deliveries.specs.Spans.{is_ready, is_fresh, is_out, is_out_as, is_settled, beginning}
-use Rattle.rb_deliveries.specs.Spans.{how_many_out}
+use Rattle.rb_deliveries.specs.Spans.{is_ready, is_fresh, is_out, is_out_as, beginning}
+use Rattle.rb_deliveries.specs.Spans.{how_many_out, floor_of}
 use Rattle.rb_desk.specs.Picture.{Picture, Subscription}
 use Rattle.rb_desk.specs.Calls.{is_span}
 
@@ -15,12 +15,17 @@ use Rattle.rb_desk.specs.Calls.{is_span}
 abbrev pub AreInRange : Limits → Type 0
 AreInRange c = first_out_of_range c.batch c.window c.timeout c.capacity c.intake c.appliers ≡ None
 
--- spans partition the numbers from low to high: each follows the one before it, and each has a
--- number
-abbrev pub Partition : ℕ → List Span → ℕ → Type 0
-Partition low [] high = suc high ≡ low
-Partition low (p ∷ rest) high = (p.first ≡ low) × (p.first ≤ p.last)
-    × Partition (suc p.last) rest high
+-- spans rise within the numbers from low to high: each has a number, and begins after the one
+-- before it ends
+abbrev pub SpansRise : ℕ → List Span → ℕ → Type 0
+SpansRise low [] high = low ≤ suc high
+SpansRise low (p ∷ rest) high = (low ≤ p.first) × (p.first ≤ p.last)
+    × SpansRise (suc p.last) rest high
+
+-- a number is in a span
+abbrev pub IsInSpan : ℕ → List Span → Type 0
+IsInSpan n [] = ⊥
+IsInSpan n (p ∷ rest) = ((p.first ≤ n) × (n ≤ p.last)) ⊎ IsInSpan n rest
 
 -- A span has at most `batch` numbers. If it was taken, its numbers were delivered. If it is in
 -- flight, its delivery's number was issued.
@@ -31,29 +36,26 @@ WasOffered offered next p = (is_fresh p.status ≡ false → p.last ≤ offered)
     IsNumbered : ℕ → Status → Type 0
     IsNumbered next (Ready taken) = Unit {0}
     IsNumbered next (InFlight number moment) = number < next
-    IsNumbered next Settled = Unit {0}
 
 pub record IsGoodSpan (batch offered next : ℕ) (p : Span) : Type 0 where
   pub short : p.last < p.first + batch
   pub handed_out : WasOffered offered next p
 
--- the first span isn't settled
-abbrev pub StartsUnsettled : List Span → Type 0
-StartsUnsettled [] = Unit {0}
-StartsUnsettled (p ∷ rest) = is_settled p.status ≡ false
-
 -- A good subscription. The start is at most the floor, the floor at most the greatest number
 -- delivered, and that at most the front. Its link was issued. If it is closed, it has no spans.
--- Else its spans partition the numbers from the floor to the front. The first span isn't settled,
--- and no more are in flight than the window holds.
+-- Else its spans rise from the floor to the front; the number after the floor begins the first
+-- span, or the floor is the front; and each number that was never delivered is in a span. No more
+-- spans are in flight than the window holds.
 pub record IsGoodSubscription (p : Picture) (q : Subscription) : Type 0 where
   pub begins : q.start ≤ q.floor
   pub reaches : q.floor ≤ q.offered
   pub placed : q.offered ≤ p.front
   pub linked : q.link < p.next_link
   pub has_none : q.closed ≡ true → q.spans ≡ []
-  pub parts : q.closed ≡ false → Partition (suc q.floor) q.spans p.front
-  pub unsettled : StartsUnsettled q.spans
+  pub rise : q.closed ≡ false → SpansRise (suc q.floor) q.spans p.front
+  pub from_floor : q.closed ≡ false → q.floor ≡ floor_of q.spans p.front
+  pub never_delivered : q.closed ≡ false → (n : ℕ) → q.offered < n → n ≤ p.front
+      → IsInSpan n q.spans
   pub good : AllByRecursion (IsGoodSpan p.limits.batch q.offered p.next_delivery) q.spans
   pub few : how_many_out q.spans ≤ p.limits.window
 

@@ -6,7 +6,8 @@ use Rattle.rb_deliveries.specs.declared.span.Span.{Span}
 use Rattle.rb_desk.specs.Limits.{Limits, limits_code}
 
 -- A subscription: the number after which it began, the floor, the greatest number delivered, the
--- current link, whether it is closed, its spans in order. Everything up to the floor is settled.
+-- current link, whether it is closed, its spans in order. Everything up to the floor is settled,
+-- and so is a number after it that is in no span.
 pub record Subscription : Type 0 where
   pub start : ℕ
   pub floor : ℕ

@@ -5,7 +5,7 @@ use Rattle.std.specs.Prelude.{⊤}
 use Rattle.rb_deliveries.specs.declared.span.Span.{Span}
 use Rattle.rb_deliveries.specs.declared.sub.Sub.{Sub}
 use Rattle.rb_deliveries.specs.Spans.{first_ready, how_many_out}
-use Rattle.rb_deliveries.specs.Lanes.{AreJoined, lane_spans, most_numbers, spans_of}
+use Rattle.rb_deliveries.specs.Lanes.{AreRising, lane_floor, lane_spans, most_numbers, spans_of}
 use Rattle.rb_deliveries.specs.Orders.{order, ready_at, out_at}
 use Rattle.rb_deliveries.specs.Subs.{sub_held, sub_out_as, delivered_sub}
 use Rattle.rb_desk.specs.declared.delivery.Delivery.{Delivery}
@@ -20,7 +20,7 @@ use Rattle.rb_desk.specs.Picture.{Picture, Subscription}
 abbrev pub shown_sub : ℕ → ℕ → Sub → Subscription
 shown_sub batch front sub = record {
   start = sub.start;
-  floor = sub.lane.floor;
+  floor = lane_floor sub.lane;
   offered = sub.offered;
   link = sub.link;
   closed = sub.closed;
@@ -83,7 +83,7 @@ pub record IsToTake (window batch front : ℕ) (subs : List Sub) (s link : ℕ) 
     pub is_open : sub.closed ≡ false
     pub room : how_many_out (spans_of sub.lane.held) < window
     pub first : first_ready (lane_spans batch front sub.lane) ≡ Some span
-    pub joined : AreJoined sub.lane
+    pub rising : AreRising sub.lane
 
 -- What `take` finds: the span that it delivers, or why it refuses, whatever the clock and the next
 -- numbers are.
@@ -104,14 +104,14 @@ pub record IsInFlight (subs : List Sub) (s link number : ℕ) (span : Span) : Ty
   pub found : slice_get subs s ≡ Some sub
   pub linked : sub.link ≡ link
   pub out : sub_out_as number sub ≡ Some span
-  pub joined : AreJoined sub.lane
+  pub rising : AreRising sub.lane
 
 -- the subscription is open, and may continue after this cursor
 pub record MayReconnect (subs : List Sub) (s cursor : ℕ) : Type 0 where
   pub sub : Sub
   pub found : slice_get subs s ≡ Some sub
   pub is_open : sub.closed ≡ false
-  pub from : sub.lane.floor ≤ cursor
+  pub from : lane_floor sub.lane ≤ cursor
   pub to : cursor ≤ sub.offered
 
 -- the subscription is open, and has this link
@@ -120,7 +120,7 @@ pub record MayClose (subs : List Sub) (s link : ℕ) : Type 0 where
   pub found : slice_get subs s ≡ Some sub
   pub linked : sub.link ≡ link
   pub is_open : sub.closed ≡ false
-  pub joined : AreJoined sub.lane
+  pub rising : AreRising sub.lane
 
 -- What these calls find, or why they refuse, whatever the limits, the front, the clock and the next
 -- numbers are.

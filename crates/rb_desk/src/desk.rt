@@ -292,7 +292,7 @@ impl Desk {
         if self.journal.reserve(alloc).is_err() {
             return Err(stopped(self.board.refuses_reconnect(sub, cursor)));
         }
-        let link = self.board.reconnect(alloc, sub, cursor)?;
+        let link = self.board.reconnect(sub, cursor)?;
         self.journal.push(Step::Reconnect { sub, cursor });
         Ok(link)
     }

@@ -57,12 +57,7 @@ impl Board {
     /// Refuses `NoSuch`, `Closed`, and `BadCursor` if the cursor isn't between the floor and the
     /// last number delivered.
     #[tactic(auto, unfolding(crate::specs::Calls::reconnect))]
-    pub(crate) fn reconnect(
-        &mut self,
-        alloc: Global,
-        sub: u64,
-        cursor: u64,
-    ) -> Result<u64, DeskError>
+    pub(crate) fn reconnect(&mut self, sub: u64, cursor: u64) -> Result<u64, DeskError>
         ensures { DeskAnswers result (reconnect self.old sub cursor) self.old self.new }
     {
         to_reconnect(&self.deliveries, sub, cursor)?;
@@ -71,7 +66,7 @@ impl Board {
         let turn = after(self.turn)?;
         let front = self.front;
         let ticket = Ticket { front, turn };
-        self.deliveries.reconnect(alloc, sub, cursor, link, ticket);
+        self.deliveries.reconnect(sub, cursor, link, ticket);
         self.next_link = next_link;
         self.turn = turn;
         Ok(link)

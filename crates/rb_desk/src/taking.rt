@@ -5,6 +5,7 @@ ghost use Rattle.rb_desk.specs.Calls.{take, take_any};
 ghost use Rattle.rb_desk.specs.Answers.{DeskAnswers, call_refusal};
 ghost use Rattle.rb_desk.specs.Shown.{why_none, WhenDelivered, FindsToTake};
 ghost use Rattle.rb_deliveries.specs.Lanes.{AreLimited, HasNumbers};
+ghost use Rattle.rb_deliveries.specs.Subs.{IsNewestAt};
 
 use crate::board::Board;
 use crate::config::Config;
@@ -144,7 +145,8 @@ fn deliver(
     span: Span,
     now: u64,
 ) -> Result<Delivery, DeskError>
-    requires { (sub < length deliveries.old.subs) × HasNumbers span }
+    requires span { (sub < length deliveries.old.subs) × HasNumbers span }
+    requires last { IsNewestAt deliveries.old.subs sub next_delivery.old }
     ensures delivered { WhenDelivered result deliveries.old.subs sub span next_delivery.old
         clock.old now deliveries.new.subs next_delivery.new clock.new }
     ensures window { deliveries.new.window ≡ deliveries.old.window }

@@ -266,11 +266,11 @@ impl TalliedBoard {
     }
 
     /// Continues a subscription after `cursor`, under a new link.
-    pub fn reconnect(&mut self, alloc: Global, sub: u64, cursor: u64) -> Result<u64, DeskError>
+    pub fn reconnect(&mut self, sub: u64, cursor: u64) -> Result<u64, DeskError>
         ensures { TallyAnswers result (reconnect self.old.picture sub cursor) self.old self.new }
     {
         self.begin()?;
-        let link = self.board.reconnect(alloc, sub, cursor)?;
+        let link = self.board.reconnect(sub, cursor)?;
         self.steps += 1;
         Ok(link)
     }

@@ -7,10 +7,11 @@ use Rattle.rb_deliveries.specs.declared.ticket.Ticket.{Ticket}
 use Rattle.rb_deliveries.specs.declared.ticket.Held.{Held}
 use Rattle.rb_deliveries.specs.declared.sub.Sub.{Sub}
 use Rattle.rb_deliveries.specs.Spans.{beginning, how_many_out, is_ready}
-use Rattle.rb_deliveries.specs.Lanes.{FollowOn, spans_of, lane_held, earlier, better, if_ready, least}
+use Rattle.rb_deliveries.specs.Lanes.{AreRising, HeldRise, spans_of, lane_held, earlier, better, if_ready, least}
 use Rattle.rb_deliveries.specs.Orders.{all_at, ready_at, order}
 use Rattle.rb_deliveries.specs.Subs.{sub_held}
-use Rattle.rb_deliveries.proofs.orders.Line.{sooner, first_of, first_of_append, find_first}
+use Rattle.rb_deliveries.proofs.orders.Line.{chosen_seen, sooner, first_of, first_of_append, find_first}
+use Rattle.rb_deliveries.proofs.spans.FoundLaws.{better_one}
 use Rattle.rb_deliveries.proofs.spans.JoinLaws.{joins_lane}
 use Rattle.rb_deliveries.proofs.orders.OrderLaws.{At}
 
@@ -24,12 +25,7 @@ in_ready s h = (h.ticket, (s, h.span.first))
 first_better : (s : ℕ) (h : Held) (o : Option Held) → sooner (Some (in_ready s h)) (option_map (in_ready s) o)
     ≡ option_map (in_ready s) (better (Some h) o)
 first_better s h None = refl
-first_better s h (Some k) = by (earlier k.ticket h.ticket)
-  where
-    by : (b : Bool) → cond b (Some (in_ready s k)) (Some (in_ready s h))
-        ≡ option_map (in_ready s) (cond b (Some k) (Some h))
-    by true = refl
-    by false = refl
+first_better s h (Some k) = sym (chosen_seen (in_ready s) (earlier k.ticket h.ticket) h k)
 
 -- the first in line of a lane is the one with the least ticket
 pub first_ready_of : (test : ℕ → Bool) (s : ℕ) (lane : List Held)
@@ -124,16 +120,6 @@ first_of_subs batch front p test s (sub ∷ subs) own =
 
 -- ---- the span that it is
 
--- the first of two in line is one of them
-better_either : (a b : Option Held) (h : Held) → better a b ≡ Some h → (a ≡ Some h) ⊎ (b ≡ Some h)
-better_either None b h is = inr is
-better_either (Some a) None h is = inl is
-better_either (Some a) (Some b) h is = by (earlier b.ticket a.ticket) is
-  where
-    by : (t : Bool) → cond t (Some b) (Some a) ≡ Some h → (Some a ≡ Some h) ⊎ (Some b ≡ Some h)
-    by true is = inr is
-    by false is = inl is
-
 -- it is ready
 ready_one : (x h : Held) → if_ready x ≡ Some h → (x ≡ h) × (is_ready h.span.status ≡ true)
 ready_one x h is = by (is_ready x.span.status) refl is
@@ -143,17 +129,17 @@ ready_one x h is = by (is_ready x.span.status) refl is
     by true ready is = let same : x ≡ h = cc in (same, ap (λ (h : Held). is_ready h.span.status) (sym same) ∙ ready)
     by false ready is = let none : ⊥ = cc in absurd none
 
--- among spans that follow one another it is the one that begins where it does
+-- among spans that rise it is the one that begins where it does
 record SearchBegins (low : ℕ) (held : List Held) (h : Held) : Type 0 where
   from : low ≤ h.span.first
   found : beginning h.span.first (spans_of held) ≡ Some h.span
   ready : is_ready h.span.status ≡ true
 
-least_begins : (low next : ℕ) (held : List Held) (h : Held) → FollowOn low held next → least held ≡ Some h
+least_begins : (low next : ℕ) (held : List Held) (h : Held) → HeldRise low held next → least held ≡ Some h
     → SearchBegins low held h
 least_begins low next [] h j is = let none : ⊥ = cc in absurd none
 least_begins low next (x ∷ rest) h j is =
-    by (better_either (if_ready x) (least rest) h is) (least_begins (suc x.span.last) next rest h j.2)
+    by (better_one (if_ready x) (least rest) h is) (least_begins (suc x.span.last) next rest h j.2)
   where
     by : (if_ready x ≡ Some h) ⊎ (least rest ≡ Some h) → (least rest ≡ Some h → SearchBegins (suc x.span.last) rest h)
         → SearchBegins low (x ∷ rest) h
@@ -167,7 +153,7 @@ least_begins low next (x ∷ rest) h j is =
         }
     by (inr there) more =
         let m = more there in
-        let low_is : x.span.first ≡ low = j.0 in
+        let low_is : low ≤ x.span.first = j.0 in
         let up : x.span.first ≤ x.span.last = j.1 in
         record {
           from = omega (arith, low_is, up, m.from);
@@ -177,10 +163,10 @@ least_begins low next (x ∷ rest) h j is =
 
 -- the span that is found by the number that the first in line begins with is that span
 pub least_found : (batch front : ℕ) (sub : Sub) (h : Held) → 1 ≤ batch → sub.lane.next ≤ suc front
-    → FollowOn (suc sub.lane.floor) sub.lane.held sub.lane.next → sub.closed ≡ false
+    → AreRising sub.lane → sub.closed ≡ false
     → least (lane_held batch front sub.lane) ≡ Some h
     → beginning h.span.first (spans_of (sub_held batch front sub)) ≡ Some h.span
 least_found batch front sub h one le j opened is =
     ap (λ c. beginning h.span.first (spans_of (cond c [] (lane_held batch front sub.lane)))) opened
-    ∙ (least_begins (suc sub.lane.floor) (suc front) (lane_held batch front sub.lane) h
+    ∙ (least_begins 1 (suc front) (lane_held batch front sub.lane) h
     (joins_lane batch front sub.lane one le j) is).found

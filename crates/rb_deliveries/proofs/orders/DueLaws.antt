@@ -13,75 +13,52 @@ use Rattle.rb_deliveries.specs.declared.ticket.Held.{Held}
 use Rattle.rb_deliveries.specs.declared.ticket.Ticket.{Ticket}
 use Rattle.rb_deliveries.specs.declared.tournament.Winner.{Winner}
 use Rattle.rb_deliveries.specs.Spans.{is_due}
-use Rattle.rb_deliveries.specs.Lanes.{earlier, AreJoined, FollowOn}
+use Rattle.rb_deliveries.specs.Lanes.{earlier, AreRising}
 use Rattle.rb_deliveries.specs.Expiry.{due_held, due_in, all_due, expired_held, expired_sub}
-use Rattle.rb_deliveries.specs.Subs.{Belongs, IsGiven, AreGiven}
-use Rattle.rb_deliveries.specs.Tournament.{winner_of_two, at_place, winner_from, earlier_of}
+use Rattle.rb_deliveries.specs.Subs.{Belongs, IsGiven}
+use Rattle.rb_deliveries.specs.Tournament.{winner_of_two, at_place, winner_from}
 use Rattle.rb_deliveries.specs.Waiting.{earliest, sub_moment, sub_ticket, is_past, FirstPast, AreWaiting, StandsAgain}
-use Rattle.rb_deliveries.proofs.orders.MomentLaws.{past_later, some_due, none_due, undue_held, undue_same}
+use Rattle.rb_deliveries.proofs.orders.MomentLaws.{some_due, none_due, undue_held, undue_same}
 use Rattle.rb_deliveries.proofs.orders.MomentLaws.{held_undue, expired_undue}
-use Rattle.rb_deliveries.proofs.orders.WaitingLaws.{earlier_fronts, not_earlier}
+use Rattle.rb_deliveries.proofs.orders.Line.{earlier_fronts, not_earlier}
+use Rattle.rb_deliveries.proofs.subs.KnownLaws.{all_set}
+use Rattle.rb_deliveries.proofs.spans.LaneLaws.{count_rising}
 
 -- ---- the earliest of all
 
+-- what follows of each ticket that there is
+pub each_some : {X : Type 0} {P Q : X → Type 0} → ((x : X) → P x → Q x) → (xs : List (Option X))
+    → AllByRecursion (λ o. IfSome o P) xs → AllByRecursion (λ o. IfSome o Q) xs
+each_some step [] h = tt
+each_some step (None ∷ xs) h = (tt, each_some step xs h.1)
+each_some step (Some x ∷ xs) h = (step x h.0, each_some step xs h.1)
+
 -- the winner has a ticket of this list, and no other has a smaller front
 abbrev pub IsLeast : ℕ → List (Option Ticket) → Option Winner → Type 0
-IsLeast n ts None = AllByRecursion (λ o. o ≡ None) ts
+IsLeast n ts None = AllByRecursion (λ o. IfSome o (λ (t : Ticket). ⊥)) ts
 IsLeast n ts (Some w) = (i : ℕ) × (w.place ≡ n + i) × (slice_get ts i ≡ Some (Some w.ticket))
     × AllByRecursion (λ o. IfSome o (λ (t : Ticket). w.ticket.front ≤ t.front)) ts
 
-all_none : (front : ℕ) (ts : List (Option Ticket)) → AllByRecursion (λ o. o ≡ None) ts
-    → AllByRecursion (λ o. IfSome o (λ (t : Ticket). front ≤ t.front)) ts
-all_none front [] h = tt
-all_none front (t ∷ ts) h =
-    (subst (λ o. IfSome o (λ (t : Ticket). front ≤ t.front)) (sym h.0) tt, all_none front ts h.1)
-
-all_lower : (a b : ℕ) → a ≤ b → (ts : List (Option Ticket))
-    → AllByRecursion (λ o. IfSome o (λ (t : Ticket). b ≤ t.front)) ts
-    → AllByRecursion (λ o. IfSome o (λ (t : Ticket). a ≤ t.front)) ts
-all_lower a b le [] h = tt
-all_lower a b le (None ∷ ts) h = (tt, all_lower a b le ts h.1)
-all_lower a b le (Some t ∷ ts) h = (omega (arith, le, h.0), all_lower a b le ts h.1)
-
 least_of_two : (n : ℕ) (a : Ticket) (ts : List (Option Ticket)) (o : Option Winner) → IsLeast (suc n) ts o
     → IsLeast n (Some a ∷ ts) (winner_of_two (at_place n (Some a)) o)
-least_of_two n a ts None h = (0, omega arith, refl, (omega arith, all_none a.front ts h))
+least_of_two n a ts None h = (0, omega arith, refl, (omega arith, each_some (λ t e. absurd e) ts h))
 least_of_two n a ts (Some w) h = by (earlier w.ticket a) refl
   where
-    mine : Winner
-    mine = record { first = n; place = n; ticket = a }
-
-    by : (t : Bool) → earlier w.ticket a ≡ t → IsLeast n (Some a ∷ ts) (Some (earlier_of mine w))
-    by true is = subst (λ v. IsLeast n (Some a ∷ ts) (Some v))
-        (sym (ap (λ t. if t then record w { first = n } else mine) is))
-        (suc h.0, omega (arith, h.1), h.2, (earlier_fronts w.ticket a is, h.3))
-    by false is = subst (λ v. IsLeast n (Some a ∷ ts) (Some v))
-        (sym (ap (λ t. if t then record w { first = n } else mine) is))
-        (0, omega arith, refl, (omega arith, all_lower a.front w.ticket.front (not_earlier w.ticket a is) ts h.3))
+    by : (t : Bool) → earlier w.ticket a ≡ t
+        → IsLeast n (Some a ∷ ts) (if t then Some w else Some (record { place = n; ticket = a }))
+    by true is = (suc h.0, omega (arith, h.1), h.2, (earlier_fronts w.ticket a is, h.3))
+    by false is =
+        let le = not_earlier w.ticket a is in
+        (0, omega arith, refl, (omega arith, each_some (λ t more. omega (arith, le, more)) ts h.3))
 
 least_behind : (n : ℕ) (ts : List (Option Ticket)) (o : Option Winner) → IsLeast (suc n) ts o → IsLeast n (None ∷ ts) o
-least_behind n ts None h = (refl, h)
+least_behind n ts None h = (tt, h)
 least_behind n ts (Some w) h = (suc h.0, omega (arith, h.1), h.2, (tt, h.3))
 
 pub winner_is_least : (n : ℕ) (ts : List (Option Ticket)) → IsLeast n ts (winner_from n ts)
 winner_is_least n [] = tt
 winner_is_least n (None ∷ ts) = least_behind n ts (winner_from (suc n) ts) (winner_is_least (suc n) ts)
 winner_is_least n (Some a ∷ ts) = least_of_two n a ts (winner_from (suc n) ts) (winner_is_least (suc n) ts)
-
--- ---- what is past
-
-pub none_past : (timeout clock : ℕ) (ts : List (Option Ticket)) → AllByRecursion (λ o. o ≡ None) ts
-    → FirstPast timeout clock ts None
-none_past timeout clock [] h = tt
-none_past timeout clock (t ∷ ts) h =
-    (subst (λ o. IfSome o (λ t. is_past timeout clock t ≡ false)) (sym h.0) tt, none_past timeout clock ts h.1)
-
-pub none_past_yet : (timeout clock : ℕ) (w : Ticket) → is_past timeout clock w ≡ false → (ts : List (Option Ticket))
-    → AllByRecursion (λ o. IfSome o (λ (t : Ticket). w.front ≤ t.front)) ts → FirstPast timeout clock ts None
-none_past_yet timeout clock w is [] h = tt
-none_past_yet timeout clock w is (None ∷ ts) h = (tt, none_past_yet timeout clock w is ts h.1)
-none_past_yet timeout clock w is (Some t ∷ ts) h =
-    (past_later timeout clock w t h.0 is, none_past_yet timeout clock w is ts h.1)
 
 -- ---- one subscription expires its own
 
@@ -153,10 +130,10 @@ module _ (timeout clock : ℕ) (ticket : Held → Ticket) where
       by true h = refl
       by false h = undue_same timeout clock ticket sub.lane.held (held_undue timeout clock sub.lane.held h)
 
-  given_expired : (next turn : ℕ) (held : List Held) → AllByRecursion (λ h. IsGiven next h.span.status) held
+  given_expired : (next : ℕ) (held : List Held) → AllByRecursion (λ h. IsGiven next h.span.status) held
       → AllByRecursion (λ h. IsGiven next h.span.status) (map (expired_held timeout clock ticket) held)
-  given_expired next turn [] h = tt
-  given_expired next turn (x ∷ held) h = (by (is_due timeout clock x.span.status), given_expired next turn held h.1)
+  given_expired next [] h = tt
+  given_expired next (x ∷ held) h = (by (is_due timeout clock x.span.status), given_expired next held h.1)
     where
       by : (b : Bool) → IsGiven next (if b then record {
         span = record x.span { status = Ready true };
@@ -165,14 +142,14 @@ module _ (timeout clock : ℕ) (ticket : Held → Ticket) where
       by true = tt
       by false = h.0
 
-  pub given_expired_sub : (next turn : ℕ) (sub : Sub) → AllByRecursion (λ h. IsGiven next h.span.status) sub.lane.held
+  pub given_expired_sub : (next : ℕ) (sub : Sub) → AllByRecursion (λ h. IsGiven next h.span.status) sub.lane.held
       → AllByRecursion (λ h. IsGiven next h.span.status) (expired_sub timeout clock ticket sub).lane.held
-  given_expired_sub next turn sub h = by sub.closed
+  given_expired_sub next sub h = by sub.closed
     where
       by : (b : Bool) → AllByRecursion (λ h. IsGiven next h.span.status)
           (if b then sub.lane.held else map (expired_held timeout clock ticket) sub.lane.held)
       by true = h
-      by false = given_expired next turn sub.lane.held h
+      by false = given_expired next sub.lane.held h
 
 -- ---- sums over subscriptions
 
@@ -186,15 +163,13 @@ due_after timeout clock (x ∷ subs) zero sub new is =
 due_after timeout clock (x ∷ subs) (suc s) sub new is = omega (arith, due_after timeout clock subs s sub new is)
 
 -- the subscription whose moment is past has a span that is due
-pub past_has_due : (timeout clock : ℕ) (subs : List Sub) (s : ℕ) → ((t : Ticket)
-    × (slice_get (map sub_moment subs) s ≡ Some (Some t)) × (is_past timeout clock t ≡ true))
-    → (sub : Sub) × (slice_get subs s ≡ Some sub) × (1 ≤ due_in timeout clock sub)
-past_has_due timeout clock [] s past = absurd (let e : None ≡ Some (Some past.0) = past.1 in cc)
-past_has_due timeout clock (sub ∷ subs) zero past = (
-  sub,
-  refl,
-  by sub.closed (inner past.1),
-)
+abbrev HasDue : ℕ → ℕ → List Sub → ℕ → Type 0
+HasDue timeout clock subs s = (sub : Sub) × (slice_get subs s ≡ Some sub) × (1 ≤ due_in timeout clock sub)
+
+past_at : (timeout clock : ℕ) (subs : List Sub) (s : ℕ) → FirstPast timeout clock (map sub_moment subs) (Some s)
+    → HasDue timeout clock subs s
+past_at timeout clock [] s past = absurd (let e : None ≡ Some (Some past.0) = past.1 in cc)
+past_at timeout clock (sub ∷ subs) zero past = (sub, refl, by sub.closed (inner past.1))
   where
     inner : {X : Type 0} {a b : X} → Some a ≡ Some b → a ≡ b
     inner e = cc
@@ -203,8 +178,14 @@ past_has_due timeout clock (sub ∷ subs) zero past = (
         → 1 ≤ (if b then 0 else due_held timeout clock sub.lane.held)
     by true is = absurd (let e : None ≡ Some past.0 = is in cc)
     by false is = some_due timeout clock sub.lane.held past.0 is past.2
-past_has_due timeout clock (sub ∷ subs) (suc s) past =
-    let rest = past_has_due timeout clock subs s past in (rest.0, rest.1, rest.2)
+past_at timeout clock (sub ∷ subs) (suc s) past = past_at timeout clock subs s past
+
+-- so has the one that is found among the moments
+pub past_has_due : (timeout clock : ℕ) (subs : List Sub) (moments : List (Option Ticket)) (o : Option ℕ) (s : ℕ)
+    → moments ≡ map sub_moment subs → FirstPast timeout clock moments o → o ≡ Some s → HasDue timeout clock subs s
+past_has_due timeout clock subs moments o s are past is =
+    past_at timeout clock subs s (subst (λ ts. FirstPast timeout clock ts (Some s)) are
+    (subst (FirstPast timeout clock moments) is past))
 
 pub due_part : (timeout clock : ℕ) (subs : List Sub) (s : ℕ) (sub : Sub) → slice_get subs s ≡ Some sub
     → due_in timeout clock sub ≤ all_due timeout clock subs
@@ -220,17 +201,11 @@ pub any_past : (timeout clock : ℕ) (subs : List Sub) (o : Option ℕ) → Firs
     → is_some o ≡ nat_lt 0 (all_due timeout clock subs)
 any_past timeout clock subs None past = sym (ap (nat_lt 0) (all_expired timeout clock (λ h. h.ticket) subs past).1)
 any_past timeout clock subs (Some s) past =
-    let f = past_has_due timeout clock subs s past in
+    let f = past_at timeout clock subs s past in
     sym (lt-ltb 0 (all_due timeout clock subs)
     (omega (arith, f.2, due_part timeout clock subs s f.0 f.1)))
 
 -- ---- what stands after a change
-
-all_stand : (P : Sub → Type 0) (subs : List Sub) (s : ℕ) (sub : Sub) → AllByRecursion P subs → P sub
-    → AllByRecursion P (slice_set subs s sub)
-all_stand P [] s sub h p = tt
-all_stand P (x ∷ subs) zero sub h p = (p, h.1)
-all_stand P (x ∷ subs) (suc s) sub h p = (h.0, all_stand P subs s sub h.1 p)
 
 pub waiting_after : (window s : ℕ) (subs : List Sub) (sub : Sub) (line moments new_line new_moments : List (Option
     Ticket))
@@ -241,17 +216,8 @@ waiting_after window s subs sub line moments new_line new_moments old stands = r
       ∙ sym (map-set (sub_ticket window) subs s sub);
   in_flight = stands.in_flight ∙ ap (λ l. slice_set l s (sub_moment sub)) old.in_flight
       ∙ sym (map-set sub_moment subs s sub);
-  joined = all_stand (λ sub. AreJoined sub.lane) subs s sub old.joined stands.joins;
+  rising = all_set (λ sub. AreRising sub.lane) subs s sub old.rising stands.rises;
 }
-
-pub all_given : (next turn : ℕ) (subs : List Sub) (s : ℕ) (sub : Sub)
-    → AllByRecursion (λ sub. AreGiven next turn sub.lane.held) subs → AreGiven next turn sub.lane.held
-    → AllByRecursion (λ sub. AreGiven next turn sub.lane.held) (slice_set subs s sub)
-all_given next turn subs s sub h p = all_stand (λ sub. AreGiven next turn sub.lane.held) subs s sub h p
-
-abbrev pub HasDue : ℕ → ℕ → List (Option Ticket) → ℕ → Type 0
-HasDue timeout clock moments s = (t : Ticket) × (slice_get moments s ≡ Some (Some t))
-    × (is_past timeout clock t ≡ true)
 
 pub set_there : (xs : List Sub) (i : ℕ) (x : Sub) → i < length xs → slice_get (slice_set xs i x) i ≡ Some x
 set_there [] i x h = absurd (omega (arith, h))
@@ -270,12 +236,6 @@ waiting_as window s subs now sub line moments new_line new_moments old less is g
 
 -- ---- how many can be due
 
--- spans that follow one another are no more than their numbers
-count_joined : (low next : ℕ) (held : List Held) → FollowOn low held next → length held + low ≤ next
-count_joined low next [] joined = omega (arith, joined)
-count_joined low next (x ∷ held) joined =
-    omega (arith, joined.0, joined.1, count_joined (suc x.span.last) next held joined.2)
-
 due_at_most : (timeout clock : ℕ) (held : List Held) → due_held timeout clock held ≤ length held
 due_at_most timeout clock [] = omega arith
 due_at_most timeout clock (x ∷ held) = by (is_due timeout clock x.span.status) (due_at_most timeout clock held)
@@ -287,18 +247,18 @@ due_at_most timeout clock (x ∷ held) = by (is_due timeout clock x.span.status)
     by false le = omega (arith, le)
 
 pub few_due : (timeout clock front turn number : ℕ) (subs : List Sub)
-    → AllByRecursion (Belongs front turn number) subs → AllByRecursion (λ sub. AreJoined sub.lane) subs
+    → AllByRecursion (Belongs front turn number) subs → AllByRecursion (λ sub. AreRising sub.lane) subs
     → front ≤ 16777216 → all_due timeout clock subs ≤ 16777217 * length subs
-few_due timeout clock front turn number [] belong joined le = omega arith
-few_due timeout clock front turn number (sub ∷ subs) belong joined le =
-    omega (arith, few_due timeout clock front turn number subs belong.1 joined.1 le, by sub.closed)
+few_due timeout clock front turn number [] belong rising le = omega arith
+few_due timeout clock front turn number (sub ∷ subs) belong rising le =
+    omega (arith, few_due timeout clock front turn number subs belong.1 rising.1 le, by sub.closed)
   where
     by : (b : Bool) → (if b then 0 else due_held timeout clock sub.lane.held) ≤ 16777217
     by true = omega arith
     by false = omega (
       arith,
       due_at_most timeout clock sub.lane.held,
-      count_joined (suc sub.lane.floor) sub.lane.next sub.lane.held joined.0,
+      count_rising 1 sub.lane.next sub.lane.held rising.0,
       belong.0.is_next,
       le,
     )

@@ -9,13 +9,9 @@ use Rattle.rb_deliveries.specs.Expiry.{turns_from}
 use Rattle.rb_deliveries.specs.declared.ticket.Ticket.{Ticket}
 use Rattle.rb_deliveries.specs.Lanes.{earlier}
 use Rattle.rb_deliveries.specs.Orders.{placed_in, in_line}
-use Rattle.rb_deliveries.proofs.orders.OrderLaws.{seen_filter}
+use Rattle.rb_deliveries.proofs.orders.OrderLaws.{OrderEntries, seen_filter}
 use Rattle.rb_deliveries.proofs.orders.Line.{placed_first, placed_behind, all_both, all_passing, all_line, line_filter}
 use Rattle.rb_deliveries.proofs.orders.Line.{earlier_asymmetric}
-
--- entries of an order, with their tickets
-abbrev pub ExpireOrderEntries : Type 0
-ExpireOrderEntries = List (Ticket × (ℕ × ℕ))
 
 -- ---- lines
 
@@ -32,15 +28,15 @@ not_true true is = sym is
 not_true false is = refl
 
 -- a line is the line of those that are earlier than a ticket, and that of the others
-line_parts : (t : Ticket) (xs : ExpireOrderEntries) → in_line xs ≡ in_line (filter (λ e. earlier e.0 t) xs)
+line_parts : (t : Ticket) (xs : OrderEntries) → in_line xs ≡ in_line (filter (λ e. earlier e.0 t) xs)
     ++ in_line (filter (λ e. not (earlier e.0 t)) xs)
 line_parts t [] = refl
 line_parts t (e ∷ xs) = ap (placed_in e) (line_parts t xs) ∙ by (earlier e.0 t) refl
   where
-    firsts : ExpireOrderEntries
+    firsts : OrderEntries
     firsts = filter (λ e. earlier e.0 t) xs
 
-    lasts : ExpireOrderEntries
+    lasts : OrderEntries
     lasts = filter (λ e. not (earlier e.0 t)) xs
 
     by : (b : Bool) → earlier e.0 t ≡ b → placed_in e (in_line firsts ++ in_line lasts)
@@ -83,7 +79,7 @@ same_rise : (a b : Ticket) → a.turn ≡ 0 → b.turn ≡ 0 → nat_lt a.front 
 same_rise a b h k = grind arith
 
 placed_retagged : (front turn : ℕ) (D : ℕ → Type 0) (tk : ℕ → Ticket) → Rising front turn D tk
-    → (e : Ticket × (ℕ × ℕ)) (xs : ExpireOrderEntries) → IsPlain D e → AllByRecursion (IsPlain D) xs
+    → (e : Ticket × (ℕ × ℕ)) (xs : OrderEntries) → IsPlain D e → AllByRecursion (IsPlain D) xs
     → placed_in (retagged tk e) (map (retagged tk) xs) ≡ map (retagged tk) (placed_in e xs)
 placed_retagged front turn D tk r e [] p h = refl
 placed_retagged front turn D tk r e (f ∷ xs) p h =
@@ -96,10 +92,10 @@ placed_retagged front turn D tk r e (f ∷ xs) p h =
         → cond b (retagged tk f ∷ placed_in (retagged tk e) (map (retagged tk) xs))
         (retagged tk e ∷ retagged tk f ∷ map (retagged tk) xs)
         ≡ map (retagged tk) (cond b (f ∷ placed_in e xs) (e ∷ f ∷ xs))
-    by true rest = ap (λ (l : ExpireOrderEntries). retagged tk f ∷ l) rest
+    by true rest = ap (λ (l : OrderEntries). retagged tk f ∷ l) rest
     by false rest = refl
 
-line_retagged : (front turn : ℕ) (D : ℕ → Type 0) (tk : ℕ → Ticket) → Rising front turn D tk → (xs : ExpireOrderEntries)
+line_retagged : (front turn : ℕ) (D : ℕ → Type 0) (tk : ℕ → Ticket) → Rising front turn D tk → (xs : OrderEntries)
     → AllByRecursion (IsPlain D) xs → in_line (map (retagged tk) xs) ≡ map (retagged tk) (in_line xs)
 line_retagged front turn D tk r [] h = refl
 line_retagged front turn D tk r (e ∷ xs) h = ap (placed_in (retagged tk e)) (line_retagged front turn D tk r xs h.1)
@@ -109,14 +105,14 @@ line_retagged front turn D tk r (e ∷ xs) h = ap (placed_in (retagged tk e)) (l
 
 -- the entries that are earlier than a ticket are those that were ready; the others are those of what was due
 pub record ExpireOrderParts (D : ℕ → Type 0) (due : ℕ × ℕ → Bool) (t : Ticket) (tk : ℕ → Ticket)
-    (new ready out : ExpireOrderEntries) : Type 0 where
+    (new ready out : OrderEntries) : Type 0 where
   pub early : filter (λ e. earlier e.0 t) new ≡ ready
   pub late : filter (λ e. not (earlier e.0 t)) new ≡ map (retagged tk) (filter (λ e. due e.1) out)
   pub plain : AllByRecursion (λ e. due e.1 ≡ true → IsPlain D e) out
 
 -- two lists of entries in a row
 pub parts_both : (D : ℕ → Type 0) (due : ℕ × ℕ → Bool) (t : Ticket) (tk : ℕ → Ticket)
-    (new new' ready ready' out out' : ExpireOrderEntries) → ExpireOrderParts D due t tk new ready out
+    (new new' ready ready' out out' : OrderEntries) → ExpireOrderParts D due t tk new ready out
     → ExpireOrderParts D due t tk new' ready' out'
     → ExpireOrderParts D due t tk (new ++ new') (ready ++ ready') (out ++ out')
 parts_both D due t tk new new' ready ready' out out' p q = record {
@@ -128,13 +124,13 @@ parts_both D due t tk new new' ready ready' out out' p q = record {
 }
 
 -- the second parts of entries
-names_retagged : (tk : ℕ → Ticket) (es : ExpireOrderEntries) → map (λ e. e.1) (map (retagged tk) es) ≡ map (λ e. e.1) es
+names_retagged : (tk : ℕ → Ticket) (es : OrderEntries) → map (λ e. e.1) (map (retagged tk) es) ≡ map (λ e. e.1) es
 names_retagged tk [] = refl
 names_retagged tk (e ∷ es) = ap (λ (l : List (ℕ × ℕ)). e.1 ∷ l) (names_retagged tk es)
 
 -- entries of which the earlier ones were ready and the others are what was due stand so
 pub ordered_parts : (front turn : ℕ) (D : ℕ → Type 0) (due : ℕ × ℕ → Bool) (t : Ticket) (tk : ℕ → Ticket)
-    (new ready out : ExpireOrderEntries) → Rising front turn D tk → ExpireOrderParts D due t tk new ready out
+    (new ready out : OrderEntries) → Rising front turn D tk → ExpireOrderParts D due t tk new ready out
     → map (λ e. e.1) (in_line new) ≡ map (λ e. e.1) (in_line ready) ++ filter due (map (λ e. e.1) (in_line out))
 ordered_parts front turn D due t tk new ready out r p =
     ap (map (λ e. e.1)) (line_parts t new ∙ (λ i. in_line (p.early i) ++ in_line (p.late i))
@@ -148,7 +144,7 @@ ordered_parts front turn D due t tk new ready out r p =
 
 -- ---- how long a line is
 
-length_placed : (e : Ticket × (ℕ × ℕ)) (xs : ExpireOrderEntries) → length (placed_in e xs) ≡ suc (length xs)
+length_placed : (e : Ticket × (ℕ × ℕ)) (xs : OrderEntries) → length (placed_in e xs) ≡ suc (length xs)
 length_placed e [] = refl
 length_placed e (f ∷ xs) = by (earlier f.0 e.0) (length_placed e xs)
   where
@@ -157,6 +153,6 @@ length_placed e (f ∷ xs) = by (earlier f.0 e.0) (length_placed e xs)
     by true rest = ap suc rest
     by false rest = refl
 
-pub length_line : (xs : ExpireOrderEntries) → length (in_line xs) ≡ length xs
+pub length_line : (xs : OrderEntries) → length (in_line xs) ≡ length xs
 length_line [] = refl
 length_line (e ∷ xs) = length_placed e (in_line xs) ∙ ap suc (length_line xs)

@@ -10,7 +10,7 @@ use Rattle.rb_deliveries.specs.Expiry.{by_number, expired_held, expired_sub, due
 use Rattle.rb_deliveries.specs.declared.ticket.Ticket.{Ticket}
 use Rattle.rb_deliveries.specs.declared.ticket.Held.{Held}
 use Rattle.rb_deliveries.specs.declared.span.Status.{Status}
-use Rattle.rb_deliveries.specs.declared.span.Status.TheVariants.{Ready, InFlight, Settled}
+use Rattle.rb_deliveries.specs.declared.span.Status.TheVariants.{Ready, InFlight}
 use Rattle.rb_deliveries.specs.declared.sub.Sub.{Sub}
 use Rattle.rb_deliveries.specs.Spans.{fresh, cut_spans, is_due}
 use Rattle.rb_deliveries.specs.Lanes.{ticketed, with_birth, lane_held, earlier}
@@ -19,8 +19,8 @@ use Rattle.rb_deliveries.specs.Subs.{sub_held, IsDrawn, IsKnown, Belongs}
 use Rattle.rb_deliveries.proofs.spans.CutLaws.{cut_ends, cut_induction}
 use Rattle.rb_deliveries.proofs.spans.LaneLaws.{cutting_all}
 use Rattle.rb_deliveries.proofs.orders.Line.{all_first, all_both, all_then}
-use Rattle.rb_deliveries.proofs.orders.OrderLaws.{lane_out}
-use Rattle.rb_deliveries.proofs.orders.ExpireLines.{ExpireOrderEntries, Rising, ExpireOrderParts}
+use Rattle.rb_deliveries.proofs.orders.OrderLaws.{OrderEntries, lane_out}
+use Rattle.rb_deliveries.proofs.orders.ExpireLines.{Rising, ExpireOrderParts}
 use Rattle.rb_deliveries.proofs.orders.ExpireLines.{parts_both}
 use Rattle.rb_deliveries.proofs.subs.KnownLaws.{drawn_before, known_birth_drawn}
 use Rattle.rb_deliveries.proofs.subs.ExpiredLaws.{Numbered, AllNumbered}
@@ -61,7 +61,7 @@ lane_parts front turn D due timeout clock s tk r (x ∷ lane) h =
     t : Ticket
     t = next_turn front turn
 
-    news : ExpireOrderEntries
+    news : OrderEntries
     news = filter_map (ready_at s) (map (expired_held timeout clock (by_number tk)) lane)
 
     -- the span, in this state
@@ -77,7 +77,7 @@ lane_parts front turn D due timeout clock s tk r (x ∷ lane) h =
     old_one rest =
         let first : earlier x.ticket t ≡ true = early_by front turn x.ticket h.0.0 in
         record {
-          early = rw first (ap (λ (l : ExpireOrderEntries). (x.ticket, name) ∷ l) rest.early);
+          early = rw first (ap (λ (l : OrderEntries). (x.ticket, name) ∷ l) rest.early);
           late = rw first rest.late;
           plain = rest.plain;
         }
@@ -90,7 +90,7 @@ lane_parts front turn D due timeout clock s tk r (x ∷ lane) h =
         let last : earlier (tk number) t ≡ false = late_by front turn (tk number) (r.is_later number (num refl)) in
         record {
           early = rw last rest.early;
-          late = rw (last, is) (ap (λ (l : ExpireOrderEntries). (tk number, name) ∷ l) rest.late);
+          late = rw (last, is) (ap (λ (l : OrderEntries). (tk number, name) ∷ l) rest.late);
           plain =
               (λ _. (refl, num refl), rest.plain);
         }
@@ -118,7 +118,6 @@ lane_parts front turn D due timeout clock s tk r (x ∷ lane) h =
     one (InFlight number moment) tell num rest =
         rw (turned number moment (nat_le timeout (clock - moment)))
         (by number (nat_le timeout (clock - moment)) tell num rest)
-    one Settled tell num rest = rest
 
 -- ---- a subscription
 
@@ -237,7 +236,6 @@ lane_due due timeout clock s (h ∷ lane) tells = one h.span.status tells.0 (lan
             (filter (λ h. is_due timeout clock h.span.status) lane))
         by true is = rw is (ap suc rest)
         by false is = rw is rest
-    one Settled tell rest = rest
 
 sub_due : (batch front : ℕ) (due : ℕ × ℕ → Bool) (timeout clock s : ℕ) (sub : Sub) → 1 ≤ batch
     → (sub.closed ≡ false → AllByRecursion (ExpireReports due timeout clock s) (lane_held batch front sub.lane))

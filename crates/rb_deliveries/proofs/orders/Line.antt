@@ -1,7 +1,8 @@
 -- Items with tickets, and the line that they form: how a change to the items changes the line.
 use Rattle.std.proofs.Common.{◌≡◌, Bool, true, false, cond, List, [], ◌∷◌, ◌++◌, map, Option, Some, None}
 use Rattle.std.proofs.Common.{option_map, filter, find, if◌then◌else◌, append_assoc, append-nil, refl, sym, ap, ◌∙◌}
-use Rattle.std.proofs.Common.{arith}
+use Rattle.std.proofs.Common.{arith, nat_lt, ◌<◌, ◌≤◌, ◌⊎◌, inl, inr}
+use Rattle.std.proofs.lemmas.Bool.{ltb-true, ltb-false}
 use Rattle.std.specs.Prelude.{⊤}
 use Rattle.std.specs.List.{AllByRecursion}
 use Rattle.rb_deliveries.specs.declared.ticket.Ticket.{Ticket}
@@ -25,6 +26,27 @@ earlier_asymmetric a b p = grind arith
 -- a ticket that is not earlier than one that is not earlier is not earlier
 pub later_transitive : (a b c : Ticket) → earlier a b ≡ false → earlier b c ≡ false → earlier a c ≡ false
 later_transitive a b c p q = grind arith
+
+-- of two tickets, the front of the later one is no smaller
+pub earlier_fronts : (a b : Ticket) → earlier a b ≡ true → a.front ≤ b.front
+earlier_fronts a b is = by (nat_lt b.front a.front) refl
+  where
+    later_front : (a b : Ticket) → b.front < a.front → earlier a b ≡ false
+    later_front a b less = grind arith
+
+    by : (t : Bool) → nat_lt b.front a.front ≡ t → a.front ≤ b.front
+    by true less = absurd (let e : true ≡ false = sym is ∙ later_front a b (ltb-true b.front a.front less) in cc)
+    by false le = ltb-false b.front a.front le
+
+pub not_earlier : (a b : Ticket) → earlier a b ≡ false → b.front ≤ a.front
+not_earlier a b is = by (nat_lt a.front b.front) refl
+  where
+    sooner_front : (a b : Ticket) → a.front < b.front → earlier a b ≡ true
+    sooner_front a b less = grind arith
+
+    by : (t : Bool) → nat_lt a.front b.front ≡ t → b.front ≤ a.front
+    by true less = absurd (let e : true ≡ false = sym (sooner_front a b (ltb-true a.front b.front less)) ∙ is in cc)
+    by false le = ltb-false a.front b.front le
 
 -- ---- what holds of each thing of a list
 
@@ -219,6 +241,17 @@ module _ {X : Type 0} where
       ∙ ap (λ l. in_line (xs ++ ys) ++ map (λ x. (t, x)) l) (append-nil new)
 
 -- ---- the first one
+
+-- one of two things is chosen: what it becomes, and which it is
+pub chosen_seen : {X Y : Type 0} (f : X → Y) (t : Bool) (a b : X) → option_map f (if t then Some b else Some a)
+    ≡ (if t then Some (f b) else Some (f a))
+chosen_seen f true a b = refl
+chosen_seen f false a b = refl
+
+pub chosen_one : {X : Type 0} (t : Bool) (a b c : X) → (if t then Some b else Some a) ≡ Some c → (Some a ≡ Some c)
+    ⊎ (Some b ≡ Some c)
+chosen_one true a b c h = inr h
+chosen_one false a b c h = inl h
 
 -- the one with the earlier ticket, and the first where they have the same
 abbrev pub sooner : {X : Type 0} → Option (Ticket × X) → Option (Ticket × X) → Option (Ticket × X)

@@ -1,20 +1,18 @@
 -- The earliest moments of deliveries in flight, and which spans are due.
-use Rattle.std.proofs.Common.{◌≡◌, ℕ, ◌-◌, ◌≤◌, Bool, true, false, List, [], ◌∷◌, ◌++◌}
-use Rattle.std.proofs.Common.{length, take, drop, map, filter, Option, Some, None, IfSome, refl, sym, ap}
+use Rattle.std.proofs.Common.{◌≡◌, ℕ, ◌-◌, ◌≤◌, Bool, true, false, List, [], ◌∷◌}
+use Rattle.std.proofs.Common.{length, map, filter, Option, Some, None, IfSome, refl, sym, ap}
 use Rattle.std.proofs.Common.{subst, ◌∙◌, arith, cond, if◌then◌else◌}
 use Rattle.std.specs.List.{AllByRecursion}
 use Rattle.std.proofs.lemmas.Bool.{leb-false, lt-leb}
-use Rattle.std.proofs.lemmas.List.{take-append-drop}
 use Rattle.rb_deliveries.specs.declared.span.Status.{Status}
-use Rattle.rb_deliveries.specs.declared.span.Status.TheVariants.{Ready, InFlight, Settled}
+use Rattle.rb_deliveries.specs.declared.span.Status.TheVariants.{Ready, InFlight}
 use Rattle.rb_deliveries.specs.declared.ticket.Held.{Held}
 use Rattle.rb_deliveries.specs.declared.ticket.Ticket.{Ticket}
-use Rattle.rb_deliveries.specs.Spans.{is_out, is_due, is_settled}
+use Rattle.rb_deliveries.specs.Spans.{is_out, is_due}
 use Rattle.rb_deliveries.specs.Lanes.{earlier}
 use Rattle.rb_deliveries.specs.Expiry.{due_held, expired_held}
-use Rattle.rb_deliveries.specs.Taken.{IsPassed}
 use Rattle.rb_deliveries.specs.Waiting.{moment_of, first_ticket, earliest, is_past}
-use Rattle.rb_deliveries.proofs.orders.WaitingLaws.{earlier_fronts, not_earlier}
+use Rattle.rb_deliveries.proofs.orders.Line.{earlier_fronts, not_earlier}
 
 -- ---- the earliest of some spans
 
@@ -27,7 +25,6 @@ first_assoc (Some a) (Some b) (Some c) = grind arith
 no_moment : (status : Status) → is_out status ≡ false → moment_of status ≡ None
 no_moment (Ready taken) is = refl
 no_moment (InFlight number moment) is = absurd (let e : true ≡ false = is in cc)
-no_moment Settled is = refl
 
 -- only spans in flight have a moment
 pub earliest_out : (xs : List Held) → earliest (filter (λ h. is_out h.span.status) xs) ≡ earliest xs
@@ -40,21 +37,6 @@ earliest_out (x ∷ xs) = by (is_out x.span.status) refl (earliest_out xs)
     by true is e = ap (first_ticket (moment_of x.span.status)) e
     by false is e = e ∙ sym (ap (λ o. first_ticket o (earliest xs)) (no_moment x.span.status is))
 
-settled_moment : (status : Status) → is_settled status ≡ true → moment_of status ≡ None
-settled_moment (Ready taken) is = refl
-settled_moment (InFlight number moment) is = absurd (let e : false ≡ true = is in cc)
-settled_moment Settled is = refl
-
-passed_earliest : (pre xs : List Held) → AllByRecursion IsPassed pre → earliest (pre ++ xs) ≡ earliest xs
-passed_earliest [] xs h = refl
-passed_earliest (x ∷ pre) xs h =
-    ap (λ o. first_ticket o (earliest (pre ++ xs))) (settled_moment x.span.status h.0) ∙ passed_earliest pre xs h.1
-
-pub earliest_left : (passed : ℕ) (xs : List Held) → AllByRecursion IsPassed (take passed xs)
-    → earliest xs ≡ earliest (drop passed xs)
-earliest_left passed xs over = ap earliest (sym (take-append-drop passed xs))
-    ∙ passed_earliest (take passed xs) (drop passed xs) over
-
 -- ---- what is due
 
 module _ (timeout clock : ℕ) where
@@ -63,7 +45,6 @@ module _ (timeout clock : ℕ) where
   past_is_due (Ready taken) t is = absurd (let e : None ≡ Some t = is in cc)
   past_is_due (InFlight number moment) t is =
       ap (is_past timeout clock) (let e : record { front = moment; turn = 0 } ≡ t = cc in e)
-  past_is_due Settled t is = absurd (let e : None ≡ Some t = is in cc)
 
   pub past_later : (a b : Ticket) → a.front ≤ b.front → is_past timeout clock a ≡ false → is_past timeout clock b
       ≡ false
@@ -120,7 +101,6 @@ module _ (timeout clock : ℕ) where
           never (Ready taken) e = refl
           never (InFlight number moment) e = absurd (let f : Some (record { front = moment; turn = 0 })
               ≡ None = e in cc)
-          never Settled e = refl
       own (Some a) e p = past_is_due x.span.status a e ∙ p
 
       two : (b : Bool) (a u : Ticket) → earlier u a ≡ b → IfSome (if b then Some u else Some a)

@@ -1,6 +1,8 @@
 -- A node of a tournament's tree is the winner of the places below it.
 use Rattle.std.proofs.Common.{◌≡◌, ℕ, zero, suc, ◌+◌, ◌<◌, ◌≤◌, List, [], ◌∷◌, ◌++◌, length, take, drop, replicate}
-use Rattle.std.proofs.Common.{Option, Some, None, get_or, refl, sym, ap, ◌∙◌, arith}
+use Rattle.std.proofs.Common.{Option, Some, None, refl, sym, ap, ◌∙◌, arith}
+use Rattle.std.proofs.lemmas.List.{drop-drop}
+use Rattle.std.proofs.Math.Seq.{drop-cons, take-add}
 use Rattle.rb_deliveries.specs.declared.ticket.Ticket.{Ticket}
 use Rattle.rb_deliveries.specs.declared.tournament.Winner.{Winner}
 use Rattle.rb_deliveries.specs.Tournament.{winner_of_two, at_place, winner_from, leaves_from, places_at, node, NodesWin}
@@ -65,43 +67,14 @@ some_places (suc depth) = omega (arith, some_places depth)
 
 -- ---- a node is the winner of the places below it
 
-abbrev none_of : {X : Type 0} → List X
-none_of = []
-
-take_none : {X : Type 0} (n : ℕ) → take n (none_of {X = X}) ≡ none_of
-take_none zero = refl
-take_none (suc n) = refl
-
-pub take_more : {X : Type 0} (n m : ℕ) (xs : List X) → take n xs ++ take m (drop n xs) ≡ take (n + m) xs
-take_more zero m xs = ap (λ k. take k xs) (let e : m ≡ 0 + m = omega arith in e)
-take_more {X} (suc n) m [] = take_none {X = X} m ∙ sym (take_none {X = X} (suc n + m))
-take_more (suc n) m (x ∷ xs) =
-    ap (λ l. x ∷ l) (take_more n m xs)
-    ∙ ap (λ k. take k (x ∷ xs)) (let e : suc (n + m) ≡ suc n + m = omega arith in e)
-
 take_twice : {X : Type 0} (n m at : ℕ) (xs : List X) → take n (drop at xs) ++ take m (drop (at + n) xs)
     ≡ take (n + m) (drop at xs)
-take_twice n m zero xs = ap (λ k. take n xs ++ take m (drop k xs)) (let e : 0 + n ≡ n = omega arith in e)
-    ∙ take_more n m xs
-take_twice {X} n m (suc at) [] =
-    ap (λ k. take n none_of ++ take m (drop k none_of)) (let e : suc at + n ≡ suc (at + n) = omega arith in e)
-    ∙ ap (λ l. l ++ take m none_of) (take_none {X = X} n) ∙ take_none {X = X} m ∙ sym (take_none {X = X} (n + m))
-take_twice n m (suc at) (x ∷ xs) =
-    ap (λ k. take n (drop at xs) ++ take m (drop k (x ∷ xs))) (let e : suc at + n ≡ suc (at + n) = omega arith in e)
-    ∙ take_twice n m at xs
+take_twice n m at xs = ap (λ l. take n (drop at xs) ++ take m l) (sym (drop-drop n at xs))
+    ∙ sym (take-add n m (drop at xs))
 
 node_alone : (nodes : List (Option Winner)) (i : ℕ) → i < length nodes → node nodes i
     ≡ winner_of (take 1 (drop i nodes))
-node_alone [] i h = absurd (omega (arith, h))
-node_alone (x ∷ nodes) zero h = sym (joined_none x)
-node_alone (x ∷ nodes) (suc i) h = node_alone nodes i (omega (arith, h))
-
--- a node that is there is the same whatever stands for one that isn't
-pub node_read : (nodes : List (Option Winner)) (i : ℕ) (d : Option Winner) → i < length nodes → get_or nodes i d
-    ≡ node nodes i
-node_read [] i d h = absurd (omega (arith, h))
-node_read (x ∷ nodes) zero d h = refl
-node_read (x ∷ nodes) (suc i) d h = node_read nodes i d (omega (arith, h))
+node_alone nodes i h = sym (ap (λ l. winner_of (take 1 l)) (drop-cons nodes i None h) ∙ joined_none (node nodes i))
 
 pub node_wins : (nodes : List (Option Winner)) (room : ℕ) → length nodes ≡ room + room → NodesWin nodes room
     → (depth i : ℕ) → 1 ≤ i → start depth i + places_at depth ≤ room + room

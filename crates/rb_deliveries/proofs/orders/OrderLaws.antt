@@ -9,7 +9,7 @@ use Rattle.std.proofs.lemmas.Option.{slice_get_within}
 use Rattle.rb_deliveries.specs.declared.ticket.Ticket.{Ticket}
 use Rattle.rb_deliveries.specs.declared.ticket.Held.{Held}
 use Rattle.rb_deliveries.specs.declared.span.Status.{Status}
-use Rattle.rb_deliveries.specs.declared.span.Status.TheVariants.{Ready, InFlight, Settled}
+use Rattle.rb_deliveries.specs.declared.span.Status.TheVariants.{Ready, InFlight}
 use Rattle.rb_deliveries.specs.Spans.{cut_spans, is_ready}
 use Rattle.rb_deliveries.specs.Lanes.{Lane, ticketed, lane_held, earlier}
 use Rattle.rb_deliveries.specs.Orders.{in_line, ready_at, out_at, out_at_status, all_at, order}
@@ -22,7 +22,7 @@ abbrev pub At : Type 0
 At = ℕ → Held → Option (Ticket × (ℕ × ℕ))
 
 -- entries of an order, with their tickets
-abbrev OrderEntries : Type 0
+abbrev pub OrderEntries : Type 0
 OrderEntries = List (Ticket × (ℕ × ℕ))
 
 -- each span stands there under its subscription and its first number
@@ -49,7 +49,6 @@ tagged_out s h = by h.span.status
     by : (status : Status) → IfSome (out_at_status s h.span.first status) (λ e. e.1 ≡ (s, h.span.first))
     by (Ready taken) = tt
     by (InFlight number moment) = refl
-    by Settled = tt
 
 -- ---- lists
 

@@ -5,18 +5,18 @@ use Rattle.std.proofs.Common.{Bool, true, false, ◌==◌, eqb-true, eq-eqb}
 use Rattle.std.proofs.lemmas.Bool.{false≢true}
 use Rattle.std.proofs.lemmas.List.{drop-set-add, get_or-set_same, get_or-set_other, set-append_left}
 use Rattle.std.proofs.lemmas.List.{append_assoc, drop-replicate, length-append, length-drop, length-set, length-take-le}
-use Rattle.std.proofs.Math.Seq.{take-length, take-append_seam}
+use Rattle.std.proofs.Math.Seq.{set-append_seam, take-append_seam, take-length, take-suc}
 use Rattle.rb_deliveries.specs.declared.ticket.Ticket.{Ticket}
 use Rattle.rb_deliveries.specs.declared.tournament.Winner.{Winner}
 use Rattle.rb_deliveries.specs.Tournament.{winner_of_two, at_place, winner_from, leaves_from, places_at, node, WinsPair}
-use Rattle.rb_deliveries.specs.Tournament.{NodesWin, IsTree, ticket_at, tickets_of}
+use Rattle.rb_deliveries.specs.Tournament.{NodesWin, IsTree, winners_ticket, tickets_of}
 use Rattle.rb_deliveries.proofs.orders.NodeLaws.{joined_none, winner_of, winner_append, winner_none, winner_leaves}
 use Rattle.rb_deliveries.proofs.orders.NodeLaws.{length_leaves, start_one, node_wins}
 
 -- ---- a tree
 
 -- the tickets that its places have are the ones that its leaves were made of
-tickets_again : (n : ℕ) (tickets : List (Option Ticket)) → map ticket_at (leaves_from n tickets) ≡ tickets
+tickets_again : (n : ℕ) (tickets : List (Option Ticket)) → map winners_ticket (leaves_from n tickets) ≡ tickets
 tickets_again n [] = refl
 tickets_again n (None ∷ rest) = ap (λ l. None ∷ l) (tickets_again (suc n) rest)
 tickets_again n (Some ticket ∷ rest) = ap (λ l. Some ticket ∷ l) (tickets_again (suc n) rest)
@@ -25,9 +25,9 @@ pub tickets_are : (nodes : List (Option Winner)) (room len : ℕ) (tickets : Lis
     Winner))
     → length tickets ≡ len → drop room nodes ≡ leaves_from 0 tickets ++ pad → tickets_of nodes room len ≡ tickets
 tickets_are nodes room len tickets pad long leaves =
-    ap (λ l. map ticket_at (take len l)) leaves
-    ∙ ap (λ n. map ticket_at (take n (leaves_from 0 tickets ++ pad))) (sym long ∙ sym (length_leaves 0 tickets))
-    ∙ ap (map ticket_at) (take-append_seam (leaves_from 0 tickets) pad)
+    ap (λ l. map winners_ticket (take len l)) leaves
+    ∙ ap (λ n. map winners_ticket (take n (leaves_from 0 tickets ++ pad))) (sym long ∙ sym (length_leaves 0 tickets))
+    ∙ ap (map winners_ticket) (take-append_seam (leaves_from 0 tickets) pad)
     ∙ tickets_again 0 tickets
 
 length_places : (nodes : List (Option Winner)) (room : ℕ) → length nodes ≡ room + room → length (drop room nodes) ≡ room
@@ -157,10 +157,8 @@ leaves_more n (x ∷ rest) ticket =
 
 set_first : {X : Type 0} (xs : List X) (x y : X) (rest : List X) (n : ℕ) → length xs ≡ n
     → slice_set (xs ++ x ∷ rest) n y ≡ (xs ++ y ∷ []) ++ rest
-set_first [] x y rest zero e = refl
-set_first [] x y rest (suc n) e = absurd (omega (arith, e))
-set_first (z ∷ xs) x y rest zero e = absurd (omega (arith, e))
-set_first (z ∷ xs) x y rest (suc n) e = ap (λ l. z ∷ l) (set_first xs x y rest n (omega (arith, e)))
+set_first xs x y rest n e = ap (λ n. slice_set (xs ++ x ∷ rest) n y) (sym e) ∙ set-append_seam xs x rest y
+    ∙ sym (append_assoc xs (y ∷ []) rest)
 
 pad_first : (room len : ℕ) → len < room
     → replicate (room - len) None ≡ None ∷ (let rest : List (Option Winner) = replicate (room - suc len) None in rest)
@@ -229,13 +227,7 @@ widened_more wider new places wide place d there less before after =
       arith,
       there,
     )))
-    ∙ ap (λ l. l ++ replicate (wide - suc place) None) (sym (take_last places place d there))
-  where
-    take_last : {X : Type 0} (xs : List X) (n : ℕ) (d : X) → n < length xs → take (suc n) xs
-        ≡ take n xs ++ get_or xs n d ∷ []
-    take_last [] n d h = absurd (omega (arith, h))
-    take_last (x ∷ xs) zero d h = refl
-    take_last (x ∷ xs) (suc n) d h = ap (λ l. x ∷ l) (take_last xs n d (omega (arith, h)))
+    ∙ ap (λ l. l ++ replicate (wide - suc place) None) (sym (take-suc places place d there))
 
 -- with all places of a full tree set, it has the same tickets
 pub tree_widened : (nodes new : List (Option Winner)) (room wide : ℕ) → IsTree nodes room room → room < wide
@@ -265,14 +257,6 @@ tree_widened nodes new room wide tree less long even places inner =
 pub twice_even : (room : ℕ) → ((0 < room) → (depth : ℕ) × (room ≡ places_at depth)) → 0 < room
     → (depth : ℕ) × (room + room ≡ places_at depth)
 twice_even room even some = (suc (even some).0, omega (arith, (even some).1))
-
--- a place is the node of that number after as many as there are places
-pub places_read : (nodes : List (Option Winner)) (room place : ℕ) (d : Option Winner)
-    → get_or (drop room nodes) place d ≡ get_or nodes (room + place) d
-places_read nodes zero place d = ap (λ n. get_or nodes n d) (let e : place ≡ 0 + place = omega arith in e)
-places_read [] (suc room) place d = refl
-places_read (x ∷ nodes) (suc room) place d = places_read nodes room place d
-    ∙ ap (λ n. get_or (x ∷ nodes) n d) (let e : suc (room + place) ≡ suc room + place = omega arith in e)
 
 -- a tree without its last place
 pub tree_popped : (nodes new : List (Option Winner)) (room len : ℕ) (rest : List (Option Ticket)) (ticket : Option
@@ -310,14 +294,10 @@ tree_popped nodes new room len rest ticket tree last long places inner =
 pub last_place : (nodes : List (Option Winner)) (room len : ℕ) → IsTree nodes room (suc len)
     → (rest : List (Option Ticket)) × (ticket : Option Ticket) × (tickets_of nodes room (suc len) ≡ rest ++ ticket ∷ [])
 last_place nodes room len tree =
-    let cut = cut_last tree.leaves.0 len tree.leaves.1 in
-    (cut.0, cut.1, tickets_are nodes room (suc len) tree.leaves.0 _ tree.leaves.1 tree.leaves.2 ∙ cut.2)
-  where
-    cut_last : {X : Type 0} (xs : List X) (n : ℕ) → length xs ≡ suc n
-        → (rest : List X) × (x : X) × (xs ≡ rest ++ x ∷ [])
-    cut_last [] n e = absurd (omega (arith, e))
-    cut_last (x ∷ []) n e = ([], x, refl)
-    cut_last (x ∷ y ∷ xs) zero e = absurd (omega (arith, e))
-    cut_last (x ∷ y ∷ xs) (suc n) e =
-        let c = cut_last (y ∷ xs) n (omega (arith, e)) in
-        (x ∷ c.0, c.1, ap (λ l. x ∷ l) c.2)
+    let tickets = tree.leaves.0 in
+    let count = tree.leaves.1 in (
+      take len tickets,
+      get_or tickets len None,
+      tickets_are nodes room (suc len) tickets _ count tree.leaves.2 ∙ sym (take-length tickets)
+          ∙ ap (λ n. take n tickets) count ∙ take-suc tickets len None (omega (arith, count)),
+    )

@@ -1,4 +1,4 @@
--- One span of a lane changes: what that changes in the lane's spans, and in the orders.
+-- One span of a lane changes or is removed: what that changes in the lane's spans, and in the orders.
 use Rattle.std.proofs.Common.{◌≡◌, ℕ, eq-eqb, Bool, true, false, not, ◌==◌, ◌&&◌, cond, List, [], ◌∷◌, ◌++◌, map}
 use Rattle.std.proofs.Common.{Option, Some, None, IfSome, filter, filter_map, append_assoc, refl, sym, ap, ◌∙◌}
 use Rattle.std.specs.List.{AllByRecursion, cons_option}
@@ -8,8 +8,8 @@ use Rattle.rb_deliveries.specs.declared.span.Span.{Span}
 use Rattle.rb_deliveries.specs.declared.span.Status.{Status}
 use Rattle.rb_deliveries.specs.declared.ticket.Ticket.{Ticket}
 use Rattle.rb_deliveries.specs.declared.ticket.Held.{Held}
-use Rattle.rb_deliveries.specs.Spans.{with_status}
-use Rattle.rb_deliveries.specs.Lanes.{spans_of, stated, restated}
+use Rattle.rb_deliveries.specs.Spans.{with_status, without_first}
+use Rattle.rb_deliveries.specs.Lanes.{spans_of, stated, restated, without_held}
 use Rattle.rb_deliveries.proofs.orders.OrderLaws.{At, Tagged, is_at}
 use Rattle.rb_deliveries.proofs.spans.JoinLaws.{Other}
 
@@ -60,6 +60,20 @@ others_left at s first (h ∷ xs) tagged others =
     (own_entry s first (at s h) h (tagged s h) false others.0)
     ∙ ap (cons_option (at s h)) (others_left at s first xs tagged others.1)
 
+-- without one span, those ahead of it and behind it are left
+left_behind : (at : At) (s first : ℕ) (ahead : List Held) (one : Held) (behind : List Held) → Tagged at
+    → one.span.first ≡ first → AllByRecursion (Other first) ahead × AllByRecursion (Other first) behind
+    → filter (λ e. not (is_at s first e.1)) (filter_map (at s) ahead
+    ++ cons_option (at s one) (filter_map (at s) behind))
+    ≡ filter_map (at s) ahead ++ filter_map (at s) behind
+left_behind at s first ahead one behind tagged is others =
+    let test : Ticket × (ℕ × ℕ) → Bool = λ e. not (is_at s first e.1) in
+    filter-append test (filter_map (at s) ahead) (cons_option (at s one) (filter_map (at s) behind))
+    ∙ (λ i. others_left at s first ahead tagged others.0 i
+    ++ one_gone test (at s one) (filter_map (at s) behind)
+    (own_entry s first (at s one) one (tagged s one) true (eq-eqb one.span.first first is)) i)
+    ∙ ap (λ z. filter_map (at s) ahead ++ z) (others_left at s first behind tagged others.1)
+
 -- a span with another status and ticket
 abbrev pub become : Span → Status → Ticket → Held
 become span status ticket = record { span = record span { status = status }; ticket = ticket }
@@ -108,13 +122,6 @@ module _ (span : Span) (status : Status) (ticket : Ticket) where
     stands at s = ap (filter_map (at s)) c.after
         ∙ filter_map-append (at s) c.ahead (become span status ticket ∷ c.behind)
 
-    -- it didn't stand there, and doesn't
-    pub stands_same : (at : At) (s : ℕ) → ((h : Held) → h.span ≡ span → at s h ≡ None)
-        → at s (become span status ticket) ≡ None → filter_map (at s) ys ≡ filter_map (at s) xs
-    stands_same at s old new =
-        stands at s ∙ ap (λ o. filter_map (at s) c.ahead ++ cons_option o (filter_map (at s) c.behind))
-        (new ∙ sym (old c.one c.is)) ∙ sym (stood at s)
-
     -- it didn't stand there, and does now
     pub stands_new : (at : At) (s : ℕ) (t : Ticket) → ((h : Held) → h.span ≡ span → at s h ≡ None)
         → at s (become span status ticket) ≡ Some (t, (s, span.first))
@@ -131,13 +138,79 @@ module _ (span : Span) (status : Status) (ticket : Ticket) where
     pub stands_left : (at : At) (s : ℕ) → Tagged at → at s (become span status ticket) ≡ None → filter_map (at s) ys
         ≡ filter (λ e. not (is_at s span.first e.1)) (filter_map (at s) xs)
     stands_left at s tagged new =
-        let test : Ticket × (ℕ × ℕ) → Bool = λ e. not (is_at s span.first e.1) in
-        let left : filter test (filter_map (at s) xs) ≡ filter_map (at s) c.ahead ++ filter_map (at s) c.behind =
-        ap (filter test) (stood at s)
-        ∙ filter-append test (filter_map (at s) c.ahead) (cons_option (at s c.one) (filter_map (at s) c.behind))
-        ∙ (λ i. others_left at s span.first c.ahead tagged c.others.0 i
-        ++ one_gone test (at s c.one) (filter_map (at s) c.behind)
-        (own_entry s span.first (at s c.one) c.one (tagged s c.one) true
-        (eq-eqb c.one.span.first span.first (ap (λ p. p.first) c.is))) i)
-        ∙ ap (λ z. filter_map (at s) c.ahead ++ z) (others_left at s span.first c.behind tagged c.others.1) in
-        stands at s ∙ ap (λ o. filter_map (at s) c.ahead ++ cons_option o (filter_map (at s) c.behind)) new ∙ sym left
+        stands at s ∙ ap (λ o. filter_map (at s) c.ahead ++ cons_option o (filter_map (at s) c.behind)) new
+        ∙ sym (ap (filter (λ e. not (is_at s span.first e.1))) (stood at s)
+        ∙ left_behind at s span.first c.ahead c.one c.behind tagged (ap (λ p. p.first) c.is) c.others)
+
+-- ---- one span is removed
+
+-- the spans without the one that begins with a number are those of what is left
+spans_without : (first : ℕ) (xs : List Held) → spans_of (without_held first xs) ≡ without_first first (spans_of xs)
+spans_without first [] = refl
+spans_without first (h ∷ xs) = by (not (h.span.first == first)) (spans_without first xs)
+  where
+    by : (b : Bool) → spans_of (without_held first xs) ≡ without_first first (spans_of xs)
+        → spans_of (cond b (h ∷ without_held first xs) (without_held first xs))
+        ≡ cond b (h.span ∷ without_first first (spans_of xs)) (without_first first (spans_of xs))
+    by true rest = ap (λ spans. h.span ∷ spans) rest
+    by false rest = rest
+
+-- those that begin with other numbers stay
+pub without_others : (first : ℕ) (xs : List Held) → AllByRecursion (Other first) xs → without_held first xs ≡ xs
+without_others first [] others = refl
+without_others first (h ∷ xs) others =
+    (λ i. cond (not (others.0 i)) (h ∷ without_others first xs others.1 i) (without_held first xs))
+
+-- ys are xs without the one span that begins as this one does
+pub record Removes (span : Span) (xs ys : List Held) : Type 0 where
+  pub ahead : List Held
+  pub one : Held
+  pub behind : List Held
+  pub is : one.span ≡ span
+  pub before : xs ≡ ahead ++ one ∷ behind
+  pub after : ys ≡ ahead ++ behind
+  pub others : AllByRecursion (Other span.first) ahead × AllByRecursion (Other span.first) behind
+
+module _ (span : Span) where
+  -- where the others begin with other numbers, this one is removed
+  pub without_one : (ahead : List Held) (one : Held) (behind : List Held) → one.span ≡ span
+      → AllByRecursion (Other span.first) ahead × AllByRecursion (Other span.first) behind
+      → without_held span.first (ahead ++ one ∷ behind) ≡ ahead ++ behind
+  without_one ahead one behind is others =
+      filter-append (λ (h : Held). not (h.span.first == span.first)) ahead (one ∷ behind)
+      ∙ (λ i. without_others span.first ahead others.0 i ++ here i)
+    where
+      here : without_held span.first (one ∷ behind) ≡ behind
+      here = ap (λ b. cond (not b) (one ∷ without_held span.first behind) (without_held span.first behind))
+          (eq-eqb one.span.first span.first (ap (λ p. p.first) is))
+          ∙ without_others span.first behind others.1
+
+  module _ {xs ys : List Held} (r : Removes span xs ys) where
+    -- the spans are those without it
+    pub removed_spans : spans_of ys ≡ without_first span.first (spans_of xs)
+    removed_spans =
+        ap spans_of (r.after ∙ sym (without_one r.ahead r.one r.behind r.is r.others)
+        ∙ ap (without_held span.first) (sym r.before)) ∙ spans_without span.first xs
+
+    -- what stood in an order, and stands there
+    removed_stood : (at : At) (s : ℕ) → filter_map (at s) xs ≡ filter_map (at s) r.ahead
+        ++ cons_option (at s r.one) (filter_map (at s) r.behind)
+    removed_stood at s = ap (filter_map (at s)) r.before ∙ filter_map-append (at s) r.ahead (r.one ∷ r.behind)
+
+    removed_stands : (at : At) (s : ℕ) → filter_map (at s) ys ≡ filter_map (at s) r.ahead
+        ++ filter_map (at s) r.behind
+    removed_stands at s = ap (filter_map (at s)) r.after ∙ filter_map-append (at s) r.ahead r.behind
+
+    -- it didn't stand there
+    pub removed_same : (at : At) (s : ℕ) → ((h : Held) → h.span ≡ span → at s h ≡ None)
+        → filter_map (at s) ys ≡ filter_map (at s) xs
+    removed_same at s old = removed_stands at s
+        ∙ ap (λ o. filter_map (at s) r.ahead ++ cons_option o (filter_map (at s) r.behind)) (sym (old r.one r.is))
+        ∙ sym (removed_stood at s)
+
+    -- it doesn't stand there any more
+    pub removed_left : (at : At) (s : ℕ) → Tagged at → filter_map (at s) ys
+        ≡ filter (λ e. not (is_at s span.first e.1)) (filter_map (at s) xs)
+    removed_left at s tagged =
+        removed_stands at s ∙ sym (ap (filter (λ e. not (is_at s span.first e.1))) (removed_stood at s)
+        ∙ left_behind at s span.first r.ahead r.one r.behind tagged (ap (λ p. p.first) r.is) r.others)

@@ -1,6 +1,6 @@
 -- Numbers cut into spans: what the first span is, and what one more number changes.
 use Rattle.std.proofs.Common.{◌≡◌, ℕ, zero, suc, ◌+◌, ◌-◌, ◌<◌, ◌≤◌, min, Bool, true, false, cond, ◌⊎◌, inl, inr, List}
-use Rattle.std.proofs.Common.{[], ◌∷◌, ◌++◌, nat_lt, refl, sym, ap, ◌∙◌, arith}
+use Rattle.std.proofs.Common.{[], ◌∷◌, ◌++◌, ◌&&◌, ◌==◌, eq-eqb, nat_lt, refl, sym, ap, ◌∙◌, arith}
 use Rattle.std.specs.List.{AllByRecursion}
 use Rattle.std.proofs.lemmas.Bool.{cases_lt, lt-ltb, le-ltb}
 use Rattle.rb_deliveries.specs.declared.span.Span.{Span}
@@ -91,15 +91,19 @@ cut_induction batch b P one none some (suc most) a h =
     by_cases (inr more) rest = rw (cut_some batch a b one more) (some a more rest)
 
 -- a span that can't take one number more stays, and what is behind it grows
-pub grown_behind : (batch n : ℕ) (p : Span) (rest : List Span) → takes_one_more batch p ≡ false
+pub grown_behind : (batch n : ℕ) (p : Span) (rest : List Span) → takes_one_more batch n p ≡ false
     → grown_spans batch n (p ∷ rest) ≡ p ∷ grown_spans batch n rest
 grown_behind batch n p [] h = ap (λ t. cond t (last_with n (p ∷ [])) (p ∷ fresh n n ∷ [])) h
-grown_behind batch n p (q ∷ rest) h = either_grown (last_takes batch (q ∷ rest))
+grown_behind batch n p (q ∷ rest) h = either_grown (last_takes batch n (q ∷ rest))
   where
     either_grown : (t : Bool) → cond t (p ∷ last_with n (q ∷ rest)) (p ∷ q ∷ rest ++ fresh n n ∷ []) ≡ p
         ∷ cond t (last_with n (q ∷ rest)) (q ∷ rest ++ fresh n n ∷ [])
     either_grown true = refl
     either_grown false = refl
+
+never_both : (s : Bool) {t : Bool} → t ≡ false → s && t ≡ false
+never_both true is = is
+never_both false is = refl
 
 -- the cutting of one number more is the cutting, grown by it
 pub cut_grows : (batch a b : ℕ) → 1 ≤ batch → a ≤ suc b → grown_spans batch (suc b) (cut_spans batch a b)
@@ -129,12 +133,13 @@ cut_grows batch a b one =
               let whole : cut_spans batch a (suc b) ≡ fresh a (suc b) ∷ [] = cut_some batch a (suc b) one i
               ∙ rw (cut_none batch (suc (cut_ends batch a (suc b))) (suc b) (omega arith), longer) refl in
               rw (cut_none batch (suc (cut_ends batch a b)) b (omega arith), end, whole)
-              (ap (λ t. cond t (fresh a (suc b) ∷ []) (fresh a b ∷ fresh (suc b) (suc b) ∷ []))
-              (lt-ltb (suc b - a) batch (omega arith)))
+              (λ k. cond (eq-eqb (suc b) (suc b) refl k && lt-ltb (suc b - a) batch (omega arith) k)
+              (fresh a (suc b) ∷ []) (fresh a b ∷ fresh (suc b) (suc b) ∷ []))
           | inr full ↦
               let end : cut_ends batch a b ≡ cut_ends batch a (suc b) = omega arith in
               grown_behind batch (suc b) (fresh a (cut_ends batch a b)) (cut_spans batch (suc (cut_ends batch a b)) b)
-              (le-ltb (suc (cut_ends batch a b) - a) batch (omega arith))
+              (never_both (suc (cut_ends batch a b) == suc b)
+              (le-ltb (suc (cut_ends batch a b) - a) batch (omega arith)))
               ∙ ap (λ spans. fresh a (cut_ends batch a b) ∷ spans) (rest (omega arith))
               ∙ sym (rw end (cut_some batch a (suc b) one i))
         ]

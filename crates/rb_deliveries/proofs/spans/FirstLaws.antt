@@ -5,7 +5,7 @@ use Rattle.std.proofs.Common.{None, option_map, sym, ap, ◌∙◌, refl, arith}
 use Rattle.rb_deliveries.specs.declared.ticket.Ticket.{Ticket}
 use Rattle.rb_deliveries.specs.Spans.{how_many_out}
 use Rattle.rb_deliveries.specs.Lanes.{spans_of, lane_held, least, earlier}
-use Rattle.rb_deliveries.proofs.orders.Line.{sooner}
+use Rattle.rb_deliveries.proofs.orders.Line.{sooner, chosen_seen, chosen_one}
 use Rattle.rb_deliveries.proofs.spans.FoundLaws.{lane_how_many_out}
 use Rattle.rb_deliveries.proofs.orders.CandidateLaws.{candidate, candidates}
 use Rattle.rb_deliveries.specs.declared.ticket.Held.{Held}
@@ -17,16 +17,11 @@ use Rattle.rb_deliveries.specs.Subs.{goes_first, next_to_deliver, first_to_deliv
 abbrev pub tagged_to_go : ℕ × Held → Ticket × (ℕ × ℕ)
 tagged_to_go c = (c.1.ticket, (c.0, c.1.span.first))
 
-chosen_tagged : (t : Bool) (a b : ℕ × Held) → option_map tagged_to_go (if t then Some b else Some a)
-    ≡ (if t then Some (tagged_to_go b) else Some (tagged_to_go a))
-chosen_tagged true a b = refl
-chosen_tagged false a b = refl
-
 ahead_tagged : (a b : Option (ℕ × Held)) → option_map tagged_to_go (goes_first a b)
     ≡ sooner (option_map tagged_to_go a) (option_map tagged_to_go b)
 ahead_tagged None b = refl
 ahead_tagged (Some a) None = refl
-ahead_tagged (Some a) (Some b) = chosen_tagged (earlier b.1.ticket a.1.ticket) a b
+ahead_tagged (Some a) (Some b) = chosen_seen tagged_to_go (earlier b.1.ticket a.1.ticket) a b
 
 candidate_by : (s : ℕ) (t : Bool) (o : Option Held)
     → (if t then option_map (λ h. (h.ticket, (s, h.span.first))) o else None)
@@ -52,11 +47,6 @@ candidates_are window batch front s (sub ∷ rest) =
     (λ i. sooner (candidate_is window batch front s sub i) (candidates_are window batch front (suc s) rest i))
     ∙ sym (ahead_tagged (option_map (λ h. (s, h)) (next_to_deliver window batch front sub))
     (first_to_deliver window batch front (suc s) rest))
-
-chosen_one : (t : Bool) (a b c : ℕ × Held) → (if t then Some b else Some a) ≡ Some c → (Some a ≡ Some c)
-    ⊎ (Some b ≡ Some c)
-chosen_one true a b c h = inr h
-chosen_one false a b c h = inl h
 
 ahead_one : (a b : Option (ℕ × Held)) (c : ℕ × Held) → goes_first a b ≡ Some c → (a ≡ Some c) ⊎ (b ≡ Some c)
 ahead_one None b c h = inr h

@@ -5,7 +5,7 @@ use Rattle.std.specs.Option.{option_or}
 use Rattle.std.proofs.lemmas.List.Elements.{filter-append}
 use Rattle.rb_deliveries.specs.declared.span.Span.{Span}
 use Rattle.rb_deliveries.specs.declared.span.Status.{Status}
-use Rattle.rb_deliveries.specs.declared.span.Status.TheVariants.{Ready, InFlight, Settled}
+use Rattle.rb_deliveries.specs.declared.span.Status.TheVariants.{Ready, InFlight}
 use Rattle.rb_deliveries.specs.declared.ticket.Ticket.{Ticket}
 use Rattle.rb_deliveries.specs.declared.ticket.Held.{Held}
 use Rattle.rb_deliveries.specs.Spans.{cut_spans, first_ready, out_as, how_many_out, is_ready, is_out, is_out_as}
@@ -14,7 +14,7 @@ use Rattle.rb_deliveries.specs.Lanes.{better, if_ready}
 use Rattle.rb_deliveries.specs.Subs.{IsHeld, IsDeliverable}
 use Rattle.rb_deliveries.proofs.spans.CutLaws.{CutIsFresh, cut_fresh}
 use Rattle.rb_deliveries.proofs.spans.LaneLaws.{lane_spans_is, first_ready_is, first_in_line_is}
-use Rattle.rb_deliveries.proofs.orders.Line.{all_then, filter_none}
+use Rattle.rb_deliveries.proofs.orders.Line.{all_then, chosen_one, filter_none}
 
 -- a span is among these
 abbrev pub IsAmong : List Held → Span → Type 0
@@ -42,7 +42,6 @@ found_among test (x ∷ xs) span found = by (test x.span.status) refl found (fou
 pub out_is_out : (number : ℕ) (status : Status) → is_out_as number status ≡ true → is_out status ≡ true
 out_is_out number (Ready taken) is = is
 out_is_out number (InFlight n moment) is = refl
-out_is_out number Settled is = is
 
 -- the span that is out as a delivery was taken before, and is out
 pub out_as_held : (number : ℕ) (kept : Lane) (span : Span) → out_as number (spans_of kept.held) ≡ Some span
@@ -76,14 +75,10 @@ may_go_first batch front kept span found =
     by (Some p) is given = inl (found_among is_ready kept.held span (is ∙ given))
 
 -- the first of two in line is one of them
-better_one : (a b : Option Held) (h : Held) → better a b ≡ Some h → (a ≡ Some h) ⊎ (b ≡ Some h)
+pub better_one : (a b : Option Held) (h : Held) → better a b ≡ Some h → (a ≡ Some h) ⊎ (b ≡ Some h)
 better_one None b h is = inr is
 better_one (Some a) None h is = inl is
-better_one (Some a) (Some b) h is = by (earlier b.ticket a.ticket) is
-  where
-    by : (t : Bool) → cond t (Some b) (Some a) ≡ Some h → (Some a ≡ Some h) ⊎ (Some b ≡ Some h)
-    by true is = inr is
-    by false is = inl is
+better_one (Some a) (Some b) h is = chosen_one (earlier b.ticket a.ticket) a b h is
 
 -- the first in line of these is one of them, and ready
 least_among : (xs : List Held) (h : Held) → least xs ≡ Some h → IsAmong xs h.span × (is_ready h.span.status ≡ true)

@@ -1,38 +1,37 @@
--- Spans that follow one another: each begins with a number of its own.
-use Rattle.std.proofs.Common.{◌≡◌, ℕ, suc, ◌-◌, ◌<◌, ◌≤◌, ne_eqb, false, ◌==◌, List, [], ◌∷◌, ◌++◌, refl, subst, arith}
+-- Spans that rise: each begins with a number of its own.
+use Rattle.std.proofs.Common.{◌≡◌, ℕ, suc, ◌-◌, ◌<◌, ◌≤◌, ne_eqb, false, ◌==◌, List, [], ◌∷◌, ◌++◌, arith}
 use Rattle.std.specs.List.{AllByRecursion}
 use Rattle.rb_deliveries.specs.declared.ticket.Ticket.{Ticket}
 use Rattle.rb_deliveries.specs.declared.ticket.Held.{Held}
 use Rattle.rb_deliveries.specs.Spans.{cut_spans}
-use Rattle.rb_deliveries.specs.Lanes.{Lane, FollowOn, ticketed, lane_held}
+use Rattle.rb_deliveries.specs.Lanes.{AreRising, Lane, HeldRise, ticketed, lane_held}
 use Rattle.rb_deliveries.proofs.spans.CutLaws.{cut_induction}
-use Rattle.rb_deliveries.proofs.spans.LaneLaws.{joins_reach}
+use Rattle.rb_deliveries.proofs.spans.LaneLaws.{joins_reach, rises_earlier}
 use Rattle.rb_deliveries.proofs.orders.Line.{all_then, all_second}
 
 -- spans behind spans
-pub joins_append : (low mid next : ℕ) (xs ys : List Held) → FollowOn low xs mid → FollowOn mid ys next
-    → FollowOn low (xs ++ ys) next
-joins_append low mid next [] ys j k = subst (λ n. FollowOn n ys next) j k
+pub joins_append : (low mid next : ℕ) (xs ys : List Held) → HeldRise low xs mid → HeldRise mid ys next
+    → HeldRise low (xs ++ ys) next
+joins_append low mid next [] ys j k = rises_earlier mid low next ys j k
 joins_append low mid next (x ∷ xs) ys j k = (j.0, j.1, joins_append (suc x.span.last) mid next xs ys j.2 k)
 
--- those of a cutting follow one another up to the front
+-- those of a cutting rise up to the front
 pub joins_cut : (batch front a : ℕ) (cutting : Ticket) → 1 ≤ batch → a ≤ suc front
-    → FollowOn a (ticketed cutting (cut_spans batch a front)) (suc front)
+    → HeldRise a (ticketed cutting (cut_spans batch a front)) (suc front)
 joins_cut batch front a cutting one =
-    cut_induction batch front (λ a spans. a ≤ suc front → FollowOn a (ticketed cutting spans) (suc front)) one
-    (λ a less h. omega arith)
-    (λ a le rest h. (refl, omega arith, rest (omega arith)))
+    cut_induction batch front (λ a spans. a ≤ suc front → HeldRise a (ticketed cutting spans) (suc front)) one
+    (λ a less h. h)
+    (λ a le rest h. (omega arith, omega arith, rest (omega arith)))
     (suc front - a) a (omega arith)
 
 -- and so do all spans of a lane
-pub joins_lane : (batch front : ℕ) (kept : Lane) → 1 ≤ batch → kept.next ≤ suc front
-    → FollowOn (suc kept.floor) kept.held kept.next → FollowOn (suc kept.floor) (lane_held batch front kept) (suc front)
+pub joins_lane : (batch front : ℕ) (kept : Lane) → 1 ≤ batch → kept.next ≤ suc front → AreRising kept
+    → HeldRise 1 (lane_held batch front kept) (suc front)
 joins_lane batch front kept one le j =
-    joins_append (suc kept.floor) kept.next (suc front) kept.held _ j
-    (joins_cut batch front kept.next kept.cutting one le)
+    joins_append 1 kept.next (suc front) kept.held _ j (joins_cut batch front kept.next kept.cutting one le)
 
 -- none begins below the first number, and each ends ahead of the next one
-pub joins_begin : (low next : ℕ) (xs : List Held) → FollowOn low xs next → AllByRecursion (λ h. low ≤ h.span.first) xs
+pub joins_begin : (low next : ℕ) (xs : List Held) → HeldRise low xs next → AllByRecursion (λ h. low ≤ h.span.first) xs
 joins_begin low next [] j = tt
 joins_begin low next (x ∷ xs) j = (
   omega (arith, j.0),
@@ -40,7 +39,7 @@ joins_begin low next (x ∷ xs) j = (
       (joins_begin (suc x.span.last) next xs j.2),
 )
 
-pub joins_end : (low next : ℕ) (xs : List Held) → FollowOn low xs next
+pub joins_end : (low next : ℕ) (xs : List Held) → HeldRise low xs next
     → AllByRecursion (λ h. (h.span.first ≤ h.span.last) × (h.span.last < next)) xs
 joins_end low next [] j = tt
 joins_end low next (x ∷ xs) j =
@@ -52,7 +51,7 @@ Other first h = (h.span.first == first) ≡ false
 
 -- those ahead of a span and behind it begin with other numbers
 pub joins_others : (low next : ℕ) (ahead : List Held) (one : Held) (behind : List Held)
-    → FollowOn low (ahead ++ one ∷ behind) next → AllByRecursion (Other one.span.first) ahead
+    → HeldRise low (ahead ++ one ∷ behind) next → AllByRecursion (Other one.span.first) ahead
     × AllByRecursion (Other one.span.first) behind
 joins_others low next [] one behind j = (
   tt,

@@ -1,30 +1,26 @@
 -- What a call changes in the spans of a lane: one is delivered, returned, settled.
-use Rattle.std.proofs.Common.{◌≡◌, ℕ, suc, ◌<◌, ◌≤◌, eq-eqb, ne_eqb, Bool, true, false, ◌==◌, cond, List, [], ◌∷◌, ◌++◌}
-use Rattle.std.proofs.Common.{Some, None, ◌⊎◌, inl, inr, filter_map, slice_get, append_assoc, refl, sym, ap, ◌∙◌, subst}
+use Rattle.std.proofs.Common.{◌≡◌, ℕ, suc, ◌<◌, ◌≤◌, eq-eqb, ne_eqb, true, false, ◌==◌, cond, List, [], ◌∷◌, ◌++◌}
+use Rattle.std.proofs.Common.{Some, None, ◌⊎◌, inl, inr, slice_get, append_assoc, refl, sym, ap, ◌∙◌, subst}
 use Rattle.std.proofs.Common.{arith}
-use Rattle.std.specs.List.{AllByRecursion, cons_option}
+use Rattle.std.specs.List.{AllByRecursion}
 use Rattle.std.proofs.lemmas.Bool.{cases_lt}
-use Rattle.std.proofs.lemmas.List.Elements.{filter_map-append}
 use Rattle.rb_deliveries.specs.declared.span.Span.{Span}
 use Rattle.rb_deliveries.specs.declared.span.Status.{Status}
-use Rattle.rb_deliveries.specs.declared.span.Status.TheVariants.{Settled}
 use Rattle.rb_deliveries.specs.declared.ticket.Ticket.{Ticket}
 use Rattle.rb_deliveries.specs.declared.ticket.Held.{Held}
-use Rattle.rb_deliveries.specs.Spans.{fresh, cut_spans, is_ready, is_settled, raised, with_status}
-use Rattle.rb_deliveries.specs.Lanes.{Lane, FollowOn, ticketed, with_birth, spans_of, lane_held, restated, risen}
-use Rattle.rb_deliveries.specs.Lanes.{restated_lane, pushed_lane, delivered_lane, settled_lane}
+use Rattle.rb_deliveries.specs.Spans.{fresh, cut_spans, is_ready}
+use Rattle.rb_deliveries.specs.Lanes.{AreRising, Lane, HeldRise, ticketed, with_birth, lane_held, restated}
+use Rattle.rb_deliveries.specs.Lanes.{without_held, restated_lane, pushed_lane, delivered_lane, settled_lane}
 use Rattle.rb_deliveries.specs.Subs.{IsHeld, IsDeliverable}
-use Rattle.rb_deliveries.proofs.spans.CutLaws.{CutIsFresh, cut_none, cut_some, cut_fresh, cut_ends}
-use Rattle.rb_deliveries.proofs.spans.LaneLaws.{lane_spans_is}
+use Rattle.rb_deliveries.proofs.spans.CutLaws.{cut_none, cut_some, cut_ends}
 use Rattle.rb_deliveries.proofs.orders.Line.{all_first, all_second}
-use Rattle.rb_deliveries.proofs.orders.OrderLaws.{At}
 use Rattle.rb_deliveries.proofs.spans.JoinLaws.{Other, joins_lane, joins_end, joins_others}
-use Rattle.rb_deliveries.proofs.spans.ChangeLaws.{Changes, become, restated_one, changed_spans}
+use Rattle.rb_deliveries.proofs.spans.ChangeLaws.{Changes, Removes, become, restated_one, without_one}
 
 -- ---- which span it is
 
 -- a span that is held has a number and ends ahead of the next one
-pub held_span : (low : ℕ) (kept : Lane) (span : Span) → FollowOn low kept.held kept.next → IsHeld kept span
+pub held_span : (low : ℕ) (kept : Lane) (span : Span) → HeldRise low kept.held kept.next → IsHeld kept span
     → (span.first ≤ span.last) × (span.last < kept.next)
 held_span low kept span j held =
     let all = subst (AllByRecursion (λ h. (h.span.first ≤ h.span.last) × (h.span.last < kept.next))) held.3
@@ -58,7 +54,7 @@ leads_lane_changes batch front next span one found = by (cases_lt front next)
 
 -- a span that may go has a number, and its numbers are placed
 pub may_go_span : (batch front low : ℕ) (kept : Lane) (span : Span) → 1 ≤ batch → kept.next ≤ suc front
-    → FollowOn low kept.held kept.next → IsDeliverable batch front kept span → (span.first ≤ span.last)
+    → HeldRise low kept.held kept.next → IsDeliverable batch front kept span → (span.first ≤ span.last)
     × (span.last ≤ front)
 may_go_span batch front low kept span one le j (inl held) = let at = held_span low kept span j held.0 in
     omega (arith, at, le)
@@ -77,7 +73,7 @@ may_go_ready batch front kept span one (inr found) =
 -- ---- what becomes of the spans
 
 module _ (batch front : ℕ) (kept : Lane) (span : Span) (one : 1 ≤ batch) (le : kept.next ≤ suc front)
-    (j : FollowOn (suc kept.floor) kept.held kept.next) where
+    (j : AreRising kept) where
   -- the spans of the cutting
   abbrev rest_of : List Held
   rest_of = ticketed kept.cutting (cut_spans batch kept.next front)
@@ -87,8 +83,8 @@ module _ (batch front : ℕ) (kept : Lane) (span : Span) (one : 1 ≤ batch) (le
       ++ h ∷ behind → AllByRecursion (Other span.first) ahead × AllByRecursion (Other span.first) behind
   others_of ahead h behind is whole =
       subst (λ n. AllByRecursion (Other n) ahead × AllByRecursion (Other n) behind) (ap (λ p. p.first) is)
-      (joins_others (suc kept.floor) (suc front) ahead h behind
-      (subst (λ xs. FollowOn (suc kept.floor) xs (suc front)) whole (joins_lane batch front kept one le j)))
+      (joins_others 1 (suc front) ahead h behind
+      (subst (λ xs. HeldRise 1 xs (suc front)) whole (joins_lane batch front kept one le j)))
 
   -- a span that is held becomes so
   pub restated_changes : (status : Status) (ticket : Ticket) → IsHeld kept span
@@ -135,7 +131,7 @@ module _ (batch front : ℕ) (kept : Lane) (span : Span) (one : 1 ≤ batch) (le
       → Changes span status kept.cutting (lane_held batch front kept)
       (lane_held batch front (delivered_lane kept span status))
   handed_changes status (inl held) =
-      let at = held_span (suc kept.floor) kept span j held.0 in
+      let at = held_span 1 kept span j held.0 in
       let other : (span.first == kept.next) ≡ false = ne_eqb span.first kept.next (omega (arith, at)) in
       subst (λ t. Changes span status kept.cutting (lane_held batch front kept)
       (lane_held batch front (cond t (pushed_lane kept span status)
@@ -148,73 +144,23 @@ module _ (batch front : ℕ) (kept : Lane) (span : Span) (one : 1 ≤ batch) (le
       (lane_held batch front (cond t (pushed_lane kept span status)
       (restated_lane kept span.first status kept.cutting)))) (sym same) (pushed_changes status l)
 
--- ---- the floor rises
-
--- over what is held it rises as over its spans
-risen_spans : (floor : ℕ) (xs : List Held) → ((risen floor xs).0, spans_of (risen floor xs).1)
-    ≡ raised floor (spans_of xs)
-risen_spans floor [] = refl
-risen_spans floor (h ∷ xs) = by (is_settled h.span.status) (risen_spans h.span.last xs)
-  where
-    seen : ℕ × List Held → ℕ × List Span
-    seen r = (r.0, spans_of r.1)
-
-    by : (b : Bool) → seen (risen h.span.last xs) ≡ raised h.span.last (spans_of xs)
-        → seen (cond b (risen h.span.last xs) (floor, h ∷ xs))
-        ≡ cond b (raised h.span.last (spans_of xs)) (floor, h.span ∷ spans_of xs)
-    by true rest = rest
-    by false rest = refl
-
--- it doesn't rise over spans that were never taken
-raised_behind : (floor : ℕ) (xs ys : List Span) → AllByRecursion CutIsFresh ys → raised floor (xs ++ ys)
-    ≡ ((raised floor xs).0, (raised floor xs).1 ++ ys)
-raised_behind floor [] [] h = refl
-raised_behind floor [] (y ∷ ys) h = ap (λ status. cond (is_settled status) (raised y.last ys) (floor, y ∷ ys)) h.0
-raised_behind floor (x ∷ xs) ys h = by (is_settled x.status) (raised_behind x.last xs ys h)
-  where
-    by : (b : Bool) → raised x.last (xs ++ ys) ≡ ((raised x.last xs).0, (raised x.last xs).1 ++ ys)
-        → cond b (raised x.last (xs ++ ys)) (floor, x ∷ xs ++ ys)
-        ≡ ((cond b (raised x.last xs) (floor, x ∷ xs)).0, (cond b (raised x.last xs) (floor, x ∷ xs)).1 ++ ys)
-    by true rest = rest
-    by false rest = refl
-
--- the spans that it rises over stand in no order in which no settled one stands
-pub risen_stands : (at : At) (s floor : ℕ) (xs : List Held)
-    → ((h : Held) → is_settled h.span.status ≡ true → at s h ≡ None) → filter_map (at s) (risen floor xs).1
-    ≡ filter_map (at s) xs
-risen_stands at s floor [] none = refl
-risen_stands at s floor (h ∷ xs) none = by (is_settled h.span.status) refl (risen_stands at s h.span.last xs none)
-  where
-    by : (b : Bool) → is_settled h.span.status ≡ b → filter_map (at s) (risen h.span.last xs).1 ≡ filter_map (at s) xs
-        → filter_map (at s) (cond b (risen h.span.last xs) (floor, h ∷ xs)).1
-        ≡ cons_option (at s h) (filter_map (at s) xs)
-    by true is rest = rest ∙ ap (λ o. cons_option o (filter_map (at s) xs)) (sym (none h is))
-    by false is rest = refl
-
-module _ (batch front : ℕ) (kept : Lane) (span : Span) (one : 1 ≤ batch) (le : kept.next ≤ suc front)
-    (j : FollowOn (suc kept.floor) kept.held kept.next) (held : IsHeld kept span) where
-  -- what becomes of the floor and the spans where one is settled
-  pub settled_spans : raised kept.floor (with_status span.first Settled (spans_of (lane_held batch front kept)))
-      ≡ ((settled_lane kept span.first).floor, spans_of (lane_held batch front (settled_lane kept span.first)))
-  settled_spans =
-      let stated : Lane = restated_lane kept span.first Settled kept.cutting in
-      let cutting : List Span = cut_spans batch kept.next front in
-      ap (raised kept.floor)
-      (sym (changed_spans span Settled kept.cutting
-      (restated_changes batch front kept span one le j Settled kept.cutting held))
-      ∙ lane_spans_is batch front stated)
-      ∙ raised_behind kept.floor (spans_of stated.held) cutting (cut_fresh batch kept.next front)
-      ∙ ap (λ (r : ℕ × List Span). (r.0, r.1 ++ cutting)) (sym (risen_spans kept.floor stated.held))
-      ∙ ap (λ (spans : List Span). ((settled_lane kept span.first).floor, spans))
-      (sym (lane_spans_is batch front (settled_lane kept span.first)))
-
-  -- what stands in an order is what stands there where it is settled but the floor hasn't risen
-  pub settled_stands : (at : At) (s : ℕ) → ((h : Held) → is_settled h.span.status ≡ true → at s h ≡ None)
-      → filter_map (at s) (lane_held batch front (settled_lane kept span.first))
-      ≡ filter_map (at s) (lane_held batch front (restated_lane kept span.first Settled kept.cutting))
-  settled_stands at s none =
-      let stated : List Held = restated span.first Settled kept.cutting kept.held in
-      let later : List Held = ticketed kept.cutting (cut_spans batch kept.next front) in
-      filter_map-append (at s) (risen kept.floor stated).1 later
-      ∙ ap (λ z. z ++ filter_map (at s) later) (risen_stands at s kept.floor stated none)
-      ∙ sym (filter_map-append (at s) stated later)
+  -- one that is settled is removed
+  pub settled_changes : IsHeld kept span
+      → Removes span (lane_held batch front kept) (lane_held batch front (settled_lane kept span.first))
+  settled_changes held =
+      let whole : lane_held batch front kept ≡ held.0 ++ held.1 ∷ (held.2 ++ rest_of) = ap (λ xs. xs ++ rest_of) held.3
+      ∙ append_assoc held.0 (held.1 ∷ held.2) rest_of in
+      let others = others_of held.0 held.1 (held.2 ++ rest_of) held.4 whole in
+      record {
+        ahead = held.0;
+        one = held.1;
+        behind = held.2 ++ rest_of;
+        is = held.4;
+        before = whole;
+        after = ap (λ xs. without_held span.first xs ++ rest_of) held.3
+            ∙ ap (λ xs. xs ++ rest_of)
+            (without_one span held.0 held.1 held.2 held.4
+            (others.0, all_first (Other span.first) held.2 rest_of others.1))
+            ∙ append_assoc held.0 held.2 rest_of;
+        others = others;
+      }

@@ -1,9 +1,10 @@
 -- The spans of a lane: those that were taken before, then the cutting.
-use Rattle.std.proofs.Common.{◌≡◌, ℕ, suc, ◌-◌, ◌≤◌, Bool, true, false, cond, List, [], ◌∷◌, ◌++◌}
-use Rattle.std.proofs.Common.{Option, Some, None, option_map, map, slice_get, ◌==◌}
-use Rattle.std.proofs.Common.{if◌then◌else◌, refl, sym, ap, ◌∙◌, arith}
+use Rattle.std.proofs.Common.{◌≡◌, ℕ, suc, ◌+◌, ◌-◌, ◌<◌, ◌≤◌, Bool, true, false, not, cond, List, [], ◌∷◌, ◌++◌}
+use Rattle.std.proofs.Common.{◌⊎◌, inl, inr, Option, Some, None, length, option_map, map, slice_get, ◌==◌}
+use Rattle.std.proofs.Common.{if◌then◌else◌, eqb-true, refl, sym, ap, ◌∙◌, arith}
 use Rattle.std.specs.List.{AllByRecursion}
 use Rattle.std.specs.Option.{option_or}
+use Rattle.std.proofs.lemmas.Bool.{cases_lt}
 use Rattle.std.proofs.lemmas.List.{map-append}
 use Rattle.std.proofs.lemmas.List.Folds.{find-append}
 use Rattle.rb_deliveries.specs.declared.span.Span.{Span}
@@ -11,11 +12,12 @@ use Rattle.rb_deliveries.specs.declared.span.Status.{Status}
 use Rattle.rb_deliveries.specs.declared.span.Status.TheVariants.{Ready}
 use Rattle.rb_deliveries.specs.declared.ticket.Ticket.{Ticket}
 use Rattle.rb_deliveries.specs.declared.ticket.Held.{Held}
-use Rattle.rb_deliveries.specs.Spans.{fresh, cut_spans, first_ready, is_ready, is_settled, is_due}
-use Rattle.rb_deliveries.specs.Lanes.{Lane, FollowOn, restated, risen, ticketed, spans_of, lane_held, lane_spans}
+use Rattle.rb_deliveries.specs.Spans.{fresh, cut_spans, first_ready, floor_of, is_ready, is_due}
+use Rattle.rb_deliveries.specs.Lanes.{Lane, HeldRise, restated, without_held, ticketed, spans_of, lane_held, lane_spans}
+use Rattle.rb_deliveries.specs.Lanes.{lane_floor, floor_before, delivered_lane, pushed_lane, restated_lane}
 use Rattle.rb_deliveries.specs.Lanes.{earlier, birth, with_birth, better, if_ready, least}
 use Rattle.rb_deliveries.specs.Expiry.{expired_held}
-use Rattle.rb_deliveries.proofs.spans.CutLaws.{CutIsFresh, cut_fresh, cut_ends, cut_induction}
+use Rattle.rb_deliveries.proofs.spans.CutLaws.{CutIsFresh, cut_fresh, cut_ends, cut_induction, cut_none, cut_some}
 
 spans_of_ticketed : (cutting : Ticket) (spans : List Span) → spans_of (ticketed cutting spans) ≡ spans
 spans_of_ticketed cutting [] = refl
@@ -94,11 +96,81 @@ pub first_in_line_is : (batch front : ℕ) (kept : Lane) → 1 ≤ batch → lea
 first_in_line_is batch front kept one = least_append kept.held _
     ∙ ap (better (least kept.held)) (cut_leads batch front kept.next kept.cutting one).0
 
--- spans that follow one another end where they say
-pub joins_reach : (low next : ℕ) (held : List Held) → FollowOn low held next → low ≤ next
-joins_reach low next [] h = omega (arith, h)
-joins_reach low next (p ∷ rest) h = let rest_reach = joins_reach (suc p.span.last) next rest h.2 in
-    omega (arith, h.0, h.1, rest_reach)
+-- the floor of a lane is the number before its first span, or the front
+pub lane_floor_is : (batch front : ℕ) (kept : Lane) → 1 ≤ batch → kept.next ≤ suc front
+    → floor_of (lane_spans batch front kept) front ≡ lane_floor kept
+lane_floor_is batch front kept one le = ap (λ spans. floor_of spans front) (lane_spans_is batch front kept)
+    ∙ by kept.held (cases_lt front kept.next)
+  where
+    by : (held : List Held) → (front < kept.next) ⊎ (kept.next ≤ front)
+        → floor_of (spans_of held ++ cut_spans batch kept.next front) front ≡ floor_before held kept.next
+    by [] (inl less) = ap (λ spans. floor_of spans front) (cut_none batch kept.next front less) ∙ omega arith
+    by [] (inr more) = ap (λ spans. floor_of spans front) (cut_some batch kept.next front one more)
+    by (h ∷ rest) order = refl
+
+-- it stays where a span changes and where one is handed over
+same_begin : (t : Bool) (h : Held) (status : Status) (ticket : Ticket)
+    → (if t then record { span = record h.span { status = status }; ticket = ticket } else h).span.first - 1
+    ≡ h.span.first - 1
+same_begin true h status ticket = refl
+same_begin false h status ticket = refl
+
+pub floor_restated : (first next : ℕ) (status : Status) (ticket : Ticket) (held : List Held)
+    → floor_before (restated first status ticket held) next ≡ floor_before held next
+floor_restated first next status ticket [] = refl
+floor_restated first next status ticket (h ∷ rest) = same_begin (h.span.first == first) h status ticket
+
+pub floor_delivered : (kept : Lane) (span : Span) (status : Status)
+    → lane_floor (delivered_lane kept span status) ≡ lane_floor kept
+floor_delivered kept span status = by (span.first == kept.next) refl
+  where
+    pushed : (held : List Held) → span.first ≡ kept.next
+        → floor_before (held ++ record { span = record span { status = status }; ticket = kept.cutting } ∷ [])
+        (suc span.last) ≡ floor_before held kept.next
+    pushed [] same = ap (λ n. n - 1) same
+    pushed (h ∷ rest) same = refl
+
+    by : (t : Bool) → (span.first == kept.next) ≡ t
+        → lane_floor (cond t (pushed_lane kept span status) (restated_lane kept span.first status kept.cutting))
+        ≡ lane_floor kept
+    by true is = pushed kept.held (eqb-true span.first kept.next is)
+    by false is = floor_restated span.first kept.next status kept.cutting kept.held
+
+-- and where spans expire
+pub floor_expired : (next timeout clock : ℕ) (ticket : Held → Ticket) (held : List Held)
+    → floor_before (map (expired_held timeout clock ticket) held) next ≡ floor_before held next
+floor_expired next timeout clock ticket [] = refl
+floor_expired next timeout clock ticket (h ∷ rest) =
+    same_begin (is_due timeout clock h.span.status) h (Ready true) (ticket h)
+
+-- ---- spans that rise
+
+pub joins_reach : (low next : ℕ) (held : List Held) → HeldRise low held next → low ≤ next
+joins_reach low next [] j = j
+joins_reach low next (p ∷ rest) j = omega (arith, j.0, j.1, joins_reach (suc p.span.last) next rest j.2)
+
+-- the first one begins no earlier
+pub first_held_begins : (low next : ℕ) (held : List Held) (span : Span) → HeldRise low held next
+    → option_map (λ (h : Held). h.span) (slice_get held 0) ≡ Some span → low ≤ span.first
+first_held_begins low next [] span j is = absurd (let e : None ≡ Some span = is in cc)
+first_held_begins low next (h ∷ rest) span j is = let same : h.span ≡ span = cc in
+    omega (arith, j.0, ap (λ (p : Span). p.first) same)
+
+-- the floor is below the next number
+pub floor_below : (next : ℕ) (held : List Held) → HeldRise 1 held next → floor_before held next < next
+floor_below next [] j = omega (arith, j)
+floor_below next (h ∷ rest) j = omega (arith, j.0, j.1, joins_reach (suc h.span.last) next rest j.2)
+
+-- they are no more than their numbers
+pub count_rising : (low next : ℕ) (held : List Held) → HeldRise low held next → length held + low ≤ next
+count_rising low next [] j = omega (arith, j)
+count_rising low next (h ∷ rest) j = omega (arith, j.0, j.1, count_rising (suc h.span.last) next rest j.2)
+
+-- they rise from an earlier number on, too
+pub rises_earlier : (low low' next : ℕ) (held : List Held) → low' ≤ low → HeldRise low held next
+    → HeldRise low' held next
+rises_earlier low low' next [] le j = omega (arith, le, j)
+rises_earlier low low' next (h ∷ rest) le j = (omega (arith, le, j.0), j.1, j.2)
 
 pub first_ready_some : (batch front : ℕ) (kept : Lane) (span : Span) → first_ready (spans_of kept.held) ≡ Some span
     → Some span ≡ first_ready (lane_spans batch front kept)
@@ -110,55 +182,48 @@ pub first_ready_none : (batch front : ℕ) (kept : Lane) → first_ready (spans_
 first_ready_none batch front kept h =
     sym (first_ready_is batch front kept ∙ ap (λ o. option_or o (slice_get (cut_spans batch kept.next front) 0)) h)
 
--- ---- spans that follow one another
+-- ---- spans that rise, after a change
 
 same_ends : (t : Bool) (h : Held) (status : Status) (ticket : Ticket) (low next : ℕ) (rest : List Held)
-    → (h.span.first ≡ low) → (h.span.first ≤ h.span.last) → FollowOn (suc h.span.last) rest next
-    → FollowOn low ((if t then record { span = record h.span { status = status }; ticket = ticket } else h) ∷ rest) next
+    → low ≤ h.span.first → h.span.first ≤ h.span.last → HeldRise (suc h.span.last) rest next
+    → HeldRise low ((if t then record { span = record h.span { status = status }; ticket = ticket } else h) ∷ rest) next
 same_ends true h status ticket low next rest a b c = (a, b, c)
 same_ends false h status ticket low next rest a b c = (a, b, c)
 
 pub joins_restated : (low next first : ℕ) (status : Status) (ticket : Ticket) (held : List Held)
-    → FollowOn low held next → FollowOn low (restated first status ticket held) next
+    → HeldRise low held next → HeldRise low (restated first status ticket held) next
 joins_restated low next first status ticket [] j = j
 joins_restated low next first status ticket (h ∷ rest) j =
     same_ends (h.span.first == first) h status ticket low next (restated first status ticket rest) j.0 j.1
     (joins_restated (suc h.span.last) next first status ticket rest j.2)
 
 -- one span more, where they end
-pub joins_pushed : (low next end : ℕ) (held : List Held) (more : Held) → FollowOn low held next → more.span.first ≡ next
-    → more.span.first ≤ more.span.last → end ≡ suc more.span.last → FollowOn low (held ++ more ∷ []) end
-joins_pushed low next end [] more j first last e = (first ∙ j, last, e)
+pub joins_pushed : (low next end : ℕ) (held : List Held) (more : Held) → HeldRise low held next → more.span.first ≡ next
+    → more.span.first ≤ more.span.last → end ≡ suc more.span.last → HeldRise low (held ++ more ∷ []) end
+joins_pushed low next end [] more j first last e = (omega (arith, first, j), last, omega (arith, e))
 joins_pushed low next end (h ∷ rest) more j first last e =
     (j.0, j.1, joins_pushed (suc h.span.last) next end rest more j.2 first last e)
 
-risen_one : (t : Bool) (floor next : ℕ) (h : Held) (rest : List Held) → FollowOn (suc floor) (h ∷ rest) next
-    → FollowOn (suc (risen h.span.last rest).0) (risen h.span.last rest).1 next
-    → FollowOn (suc (if t then risen h.span.last rest else (floor, h ∷ rest)).0)
-    (if t then risen h.span.last rest else (floor, h ∷ rest)).1 next
-risen_one true floor next h rest j k = k
-risen_one false floor next h rest j k = j
+-- one span less
+pub joins_without : (low next first : ℕ) (held : List Held) → HeldRise low held next
+    → HeldRise low (without_held first held) next
+joins_without low next first [] j = j
+joins_without low next first (h ∷ rest) j =
+    by (not (h.span.first == first)) (joins_without (suc h.span.last) next first rest j.2)
+  where
+    by : (t : Bool) → HeldRise (suc h.span.last) (without_held first rest) next
+        → HeldRise low (cond t (h ∷ without_held first rest) (without_held first rest)) next
+    by true more = (j.0, j.1, more)
+    by false more = rises_earlier (suc h.span.last) low next (without_held first rest) (omega (arith, j.0, j.1)) more
 
-pub joins_risen : (floor next : ℕ) (held : List Held) → FollowOn (suc floor) held next
-    → FollowOn (suc (risen floor held).0) (risen floor held).1 next
-joins_risen floor next [] j = j
-joins_risen floor next (h ∷ rest) j =
-    risen_one (is_settled h.span.status) floor next h rest j (joins_risen h.span.last next rest j.2)
-
--- ---- loops
-
--- spans that follow one another do so with other states
-pub joins_expired : (low next timeout clock : ℕ) (ticket : Held → Ticket) (held : List Held) → FollowOn low held next
-    → FollowOn low (map (expired_held timeout clock ticket) held) next
+-- the same spans with other states
+pub joins_expired : (low next timeout clock : ℕ) (ticket : Held → Ticket) (held : List Held) → HeldRise low held next
+    → HeldRise low (map (expired_held timeout clock ticket) held) next
 joins_expired low next timeout clock ticket [] j = j
 joins_expired low next timeout clock ticket (h ∷ rest) j =
-    by (is_due timeout clock h.span.status) (joins_expired (suc h.span.last) next timeout clock ticket rest j.2)
-  where
-    by : (t : Bool) → FollowOn (suc h.span.last) (map (expired_held timeout clock ticket) rest) next
-        → FollowOn low (cond t (record { span = record h.span { status = Ready true }; ticket = ticket h }) h
-        ∷ map (expired_held timeout clock ticket) rest) next
-    by true more = (j.0, j.1, more)
-    by false more = (j.0, j.1, more)
+    same_ends (is_due timeout clock h.span.status) h (Ready true) (ticket h) low next
+    (map (expired_held timeout clock ticket) rest) j.0 j.1
+    (joins_expired (suc h.span.last) next timeout clock ticket rest j.2)
 
 -- what holds of each span that begins and ends between two numbers holds of a cutting
 pub cutting_all : (batch b : ℕ) (cutting : Ticket) (P : Held → Type 0) → 1 ≤ batch → (low : ℕ)

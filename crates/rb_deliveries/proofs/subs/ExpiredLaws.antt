@@ -7,7 +7,7 @@ use Rattle.rb_deliveries.specs.Expiry.{turns_from, by_number, expired_held, expi
 use Rattle.rb_deliveries.specs.declared.ticket.Ticket.{Ticket}
 use Rattle.rb_deliveries.specs.declared.ticket.Held.{Held}
 use Rattle.rb_deliveries.specs.declared.span.Status.{Status}
-use Rattle.rb_deliveries.specs.declared.span.Status.TheVariants.{Ready, InFlight, Settled}
+use Rattle.rb_deliveries.specs.declared.span.Status.TheVariants.{Ready, InFlight}
 use Rattle.rb_deliveries.specs.declared.sub.Sub.{Sub}
 use Rattle.rb_deliveries.specs.Subs.{IsDrawn, IsGiven, IsKnown, Belongs}
 use Rattle.rb_deliveries.proofs.orders.Line.{all_then}
@@ -18,7 +18,6 @@ use Rattle.rb_deliveries.proofs.orders.Line.{all_then}
 abbrev pub Numbered : (ℕ → Type 0) → ℕ → ℕ → Status → Type 0
 Numbered D timeout clock (Ready taken) = ⊤
 Numbered D timeout clock (InFlight number moment) = nat_le timeout (clock - moment) ≡ true → D number
-Numbered D timeout clock Settled = ⊤
 
 abbrev pub AllNumbered : (ℕ → Type 0) → ℕ → ℕ → Sub → Type 0
 AllNumbered D timeout clock sub = AllByRecursion (λ h. Numbered D timeout clock h.span.status) sub.lane.held
@@ -35,7 +34,6 @@ given_numbered front turn number timeout clock subs =
     by : (status : Status) → IsGiven number status → Numbered (λ n. n < number) timeout clock status
     by (Ready taken) given = tt
     by (InFlight n moment) given = λ _. given
-    by Settled given = tt
 
 -- ---- what stays so
 
@@ -66,7 +64,6 @@ belongs_expired front turn turn' number timeout clock D tk (sub ∷ subs) le dra
                 (in_state (InFlight n moment)))
             either_known true num = (refl, drawn n (num refl), tt)
             either_known false num = (k.0, (k.1.0, omega (arith, k.1.1)), k.2)
-        by Settled k num = (k.0, (k.1.0, omega (arith, k.1.1)), k.2)
 
     all_known : (held : List Held) → AllByRecursion (IsKnown front turn number) held
         → AllByRecursion (λ h. Numbered D timeout clock h.span.status) held

@@ -1,26 +1,26 @@
 -- What agrees with the front, the turns and the deliveries: its tickets are before the next one, and it still agrees
 -- after a call.
-use Rattle.std.proofs.Common.{◌≡◌, ℕ, zero, suc, max, ◌<◌, ◌≤◌, Bool, true, false, ◌==◌, cond, List, [], ◌∷◌, ◌++◌}
+use Rattle.std.proofs.Common.{◌≡◌, ℕ, zero, suc, max, ◌≤◌, Bool, true, false, not, ◌==◌, cond, List, [], ◌∷◌, ◌++◌}
 use Rattle.std.proofs.Common.{Some, None, IfSome, map, nat_le, slice_get, slice_set, refl, sym, ap, subst, arith}
 use Rattle.std.proofs.Common.{length}
 use Rattle.std.specs.List.{AllByRecursion}
 use Rattle.std.proofs.lemmas.List.{length-map, length-set}
 use Rattle.rb_deliveries.specs.declared.span.Span.{Span}
 use Rattle.rb_deliveries.specs.declared.span.Status.{Status}
-use Rattle.rb_deliveries.specs.declared.span.Status.TheVariants.{Ready, InFlight, Settled}
+use Rattle.rb_deliveries.specs.declared.span.Status.TheVariants.{Ready, InFlight}
 use Rattle.rb_deliveries.specs.declared.ticket.Ticket.{Ticket}
 use Rattle.rb_deliveries.specs.declared.ticket.Held.{Held}
 use Rattle.rb_deliveries.specs.declared.sub.Sub.{Sub}
-use Rattle.rb_deliveries.specs.Spans.{cut_spans, is_fresh, is_ready, is_settled}
-use Rattle.rb_deliveries.specs.Lanes.{Lane, earlier, birth, with_birth, ticketed, lane_held, restated, risen}
+use Rattle.rb_deliveries.specs.Spans.{cut_spans, is_fresh, is_ready}
+use Rattle.rb_deliveries.specs.Lanes.{Lane, earlier, birth, with_birth, ticketed, lane_held, restated}
 use Rattle.rb_deliveries.specs.Lanes.{restated_lane, pushed_lane}
 use Rattle.rb_deliveries.specs.Orders.{ready_at, out_at, out_at_status, all_at}
 use Rattle.rb_deliveries.specs.Subs.{sub_held, IsDrawn, IsGiven, IsKnown, Belongs, delivered_sub, returned_sub}
 use Rattle.rb_deliveries.specs.Subs.{settled_sub}
 use Rattle.rb_deliveries.proofs.spans.CutLaws.{CutIsFresh, cut_fresh}
-use Rattle.rb_deliveries.proofs.orders.Line.{all_both, all_then}
+use Rattle.rb_deliveries.proofs.orders.Line.{all_both, all_filter, all_then}
 use Rattle.rb_deliveries.proofs.orders.OrderLaws.{At, all_earlier}
-use Rattle.rb_deliveries.proofs.spans.JoinLaws.{joins_cut, joins_end}
+use Rattle.rb_deliveries.proofs.spans.LaneLaws.{cutting_all}
 
 -- ---- lists
 
@@ -50,11 +50,6 @@ pub all_mapped : {A B : Type 0} (P : B → Type 0) (f : A → B) (xs : List A) �
 all_mapped P f [] h = tt
 all_mapped P f (x ∷ xs) h = (h.0, all_mapped P f xs h.1)
 
-pub all_unmapped : {A B : Type 0} (P : B → Type 0) (f : A → B) (xs : List A) → AllByRecursion P (map f xs)
-    → AllByRecursion (λ x. P (f x)) xs
-all_unmapped P f [] h = tt
-all_unmapped P f (x ∷ xs) h = (h.0, all_unmapped P f xs h.1)
-
 -- ---- earlier tickets
 
 -- a span stands in an order earlier than a ticket, if it stands there
@@ -66,7 +61,6 @@ out_before : (number s first : ℕ) (status : Status) → IsGiven number status
     → IfSome (out_at_status s first status) (λ e. earlier e.0 (record { front = number; turn = 0 }) ≡ true)
 out_before number s first (Ready taken) given = tt
 out_before number s first (InFlight n moment) given = grind arith
-out_before number s first Settled given = tt
 
 -- a drawn ticket is earlier than that of the next turn
 pub drawn_before : (front turn : ℕ) (t : Ticket) → IsDrawn front turn t
@@ -102,15 +96,11 @@ fresh_before number cutting spans h =
     (sym is) tt) h)
 
 -- the tickets of a cutting were drawn
-births_drawn : (batch front turn a : ℕ) (cutting : Ticket) → 1 ≤ batch → a ≤ suc front → IsDrawn front turn cutting
+births_drawn : (batch front turn a : ℕ) (cutting : Ticket) → 1 ≤ batch → IsDrawn front turn cutting
     → AllByRecursion (λ h. IsDrawn front turn h.ticket) (ticketed cutting (cut_spans batch a front))
-births_drawn batch front turn a cutting one le drawn =
-    let spans = cut_spans batch a front in
-    let ends = all_unmapped (λ h. (h.span.first ≤ h.span.last) × (h.span.last < suc front)) (with_birth cutting) spans
-    (joins_end a (suc front) (ticketed cutting spans) (joins_cut batch front a cutting one le)) in
-    all_mapped (λ h. IsDrawn front turn h.ticket) (with_birth cutting) spans
-    (all_then (λ p. (p.first ≤ p.last) × (p.last < suc front)) (λ p. IsDrawn front turn (birth cutting p.first)) spans
-    (λ p is. known_birth_drawn front turn p.first cutting drawn (omega (arith, is))) ends)
+births_drawn batch front turn a cutting one drawn =
+    cutting_all batch front cutting (λ h. IsDrawn front turn h.ticket) one a
+    (λ x end l m n. known_birth_drawn front turn x cutting drawn (omega arith))
 
 -- an open subscription has the spans of its lane
 pub held_open : (batch front : ℕ) (sub : Sub) → sub.closed ≡ false → sub_held batch front sub
@@ -150,7 +140,7 @@ module _ (batch front turn number : ℕ) where
       (all_both (λ h. IsDrawn front turn h.ticket) kept.held cutting
       (all_then (IsKnown front turn number) (λ h. IsDrawn front turn h.ticket) kept.held (λ h known. known.1)
       b.are_known)
-      (births_drawn batch front turn kept.next kept.cutting one b.is_next b.is_drawn)))
+      (births_drawn batch front turn kept.next kept.cutting one b.is_drawn)))
 
   -- all that is in flight stands earlier than the next delivery will, and all that is ready earlier than the next
   -- turn's
@@ -180,7 +170,6 @@ module _ (batch front turn number : ℕ) where
 given_later : (number number' : ℕ) (status : Status) → number ≤ number' → IsGiven number status → IsGiven number' status
 given_later number number' (Ready taken) le given = tt
 given_later number number' (InFlight n moment) le given = omega (arith, given, le)
-given_later number number' Settled le given = tt
 
 known_later : (front turn turn' number number' : ℕ) (h : Held) → turn ≤ turn' → number ≤ number'
     → IsKnown front turn number h → IsKnown front turn' number' h
@@ -210,17 +199,6 @@ module _ (front turn number : ℕ) where
           (cond b (record { span = record h.span { status = status }; ticket = ticket }) h)
       one true = (taken, drawn, given)
       one false = known.0
-
-  -- those that are left where the floor rises are known
-  known_risen : (floor : ℕ) (xs : List Held) → AllByRecursion (IsKnown front turn number) xs
-      → AllByRecursion (IsKnown front turn number) (risen floor xs).1
-  known_risen floor [] known = tt
-  known_risen floor (h ∷ xs) known = by (is_settled h.span.status) (known_risen h.span.last xs known.1)
-    where
-      by : (b : Bool) → AllByRecursion (IsKnown front turn number) (risen h.span.last xs).1
-          → AllByRecursion (IsKnown front turn number) (cond b (risen h.span.last xs) (floor, h ∷ xs)).1
-      by true rest = rest
-      by false rest = known
 
 module _ (front turn number : ℕ) where
   -- a subscription belongs after a span was handed over
@@ -274,6 +252,5 @@ module _ (front turn number : ℕ) where
     is_offered = b.is_offered;
     is_next = b.is_next;
     is_drawn = b.is_drawn;
-    are_known = known_risen front turn number sub.lane.floor (restated first Settled sub.lane.cutting sub.lane.held)
-        (known_restated front turn number first Settled sub.lane.cutting sub.lane.held refl b.is_drawn tt b.are_known);
+    are_known = all_filter (IsKnown front turn number) (λ h. not (h.span.first == first)) sub.lane.held b.are_known;
   }

@@ -7,10 +7,10 @@ use Rattle.rb_deliveries.specs.declared.ticket.Held.{Held}
 use Rattle.rb_deliveries.specs.declared.sub.Sub.{Sub}
 use Rattle.rb_desk.specs.declared.refusal.DeskRefusal.TheVariants as refusal
 use Rattle.rb_desk.specs.Limits.{Limits}
-use Rattle.rb_deliveries.specs.Lanes.{AreJoined, least, lane_held}
+use Rattle.rb_deliveries.specs.Lanes.{AreRising, least, lane_held}
 use Rattle.rb_desk.specs.Calls.{take_any, refused_call, delivered_picture, delivery_from}
 use Rattle.rb_desk.specs.Shown.{shown, shown_sub}
-use Rattle.rb_deliveries.specs.Subs.{Belongs, IsDeliverable, IsJoinedAt, first_to_deliver, span_to_deliver}
+use Rattle.rb_deliveries.specs.Subs.{Belongs, IsDeliverable, IsRisingAt, first_to_deliver, span_to_deliver}
 use Rattle.rb_deliveries.proofs.subs.KnownLaws.{all_get}
 use Rattle.rb_deliveries.proofs.spans.FoundLaws.{may_go_least}
 use Rattle.rb_desk.proofs.calls.OpenLaws.{IsOpen}
@@ -38,7 +38,7 @@ same_sub {a} {b} h = cc
 goes_with : (lim : Limits) (front turn number : ℕ) (subs : List Sub) (s : ℕ) (span : Span) (o : Option (ℕ × Held)) → 1
     ≤ lim.batch → AllByRecursion (Belongs front turn number) subs
     → first_to_deliver lim.window lim.batch front 0 subs ≡ o → option_map span_to_deliver o ≡ Some (s, span)
-    → IsJoinedAt subs s → AnyGoes lim front turn number subs s span
+    → IsRisingAt subs s → AnyGoes lim front turn number subs s span
 goes_with lim front turn number subs s span None one h e is j = absurd (none_some is)
 goes_with lim front turn number subs s span (Some c) one h e is j =
     let same = pair_same (span_to_deliver c) s span is in
@@ -55,7 +55,7 @@ goes_with lim front turn number subs s span (Some c) one h e is j =
         belong = h;
         found = here;
         is_open = o.0;
-        joins = subst (λ (sub : Sub). AreJoined sub.lane) one_sub j.2;
+        rises = subst (λ (sub : Sub). AreRising sub.lane) one_sub j.2;
       };
       leads = o.1;
       same = same.1;
@@ -65,7 +65,7 @@ goes_with lim front turn number subs s span (Some c) one h e is j =
 pub any_goes_first : (lim : Limits) (front turn number : ℕ) (subs : List Sub) (s : ℕ) (span : Span) → 1 ≤ lim.batch
     → AllByRecursion (Belongs front turn number) subs
     → option_map span_to_deliver (first_to_deliver lim.window lim.batch front 0 subs) ≡ Some (s, span)
-    → IsJoinedAt subs s → AnyGoes lim front turn number subs s span
+    → IsRisingAt subs s → AnyGoes lim front turn number subs s span
 any_goes_first lim front turn number subs s span one h is j =
     goes_with lim front turn number subs s span (first_to_deliver lim.window lim.batch front 0 subs) one h refl is j
 
@@ -90,7 +90,7 @@ any_taken lim front turn clock next_link number now closing subs s span g =
     let own = all_get (Belongs front turn number) subs s g.sub g.opened.belong g.opened.found in
     take_any_some lim front clock next_link number now s closing subs g.sub g.held g.opened.one
     (candidates_are lim.window lim.batch front 0 subs ∙ ap (option_map tagged_to_go) g.first) g.opened.found own.is_next
-    g.opened.joins g.opened.is_open g.leads
+    g.opened.rises g.opened.is_open g.leads
     ∙ ap (λ (span : Span). (
       Ok (delivery_from (shown lim front closing clock next_link number subs) s (shown_sub lim.batch front g.sub)
           span),

@@ -10,15 +10,14 @@ use Rattle.std.proofs.lemmas.List.Folds.{find-append}
 use Rattle.std.proofs.lemmas.List.Elements.{filter-append}
 use Rattle.std.proofs.lemmas.Bool.{ltb-true, ltb-false, leb-false, lt-ltb, le-ltb, lt-leb, false≢true}
 use Rattle.rb_deliveries.specs.declared.span.Span.{Span}
-use Rattle.rb_deliveries.specs.declared.span.Status.TheVariants.{Settled}
 use Rattle.rb_deliveries.specs.declared.sub.Sub.{Sub}
 use Rattle.rb_deliveries.specs.declared.ticket.Held.{Held}
 use Rattle.rb_desk.specs.declared.refusal.DeskRefusal.{DeskRefusal}
 use Rattle.rb_desk.specs.declared.refusal.DeskRefusal.TheVariants as refusal
 use Rattle.rb_desk.specs.declared.refusal.DeskError.{DeskError}
 use Rattle.rb_desk.specs.declared.refusal.DeskError.TheVariants.{Memory}
-use Rattle.rb_deliveries.specs.Spans.{cut_spans, first_ready, is_out, how_many_out, is_out_as, out_as, raised}
-use Rattle.rb_deliveries.specs.Spans.{with_status}
+use Rattle.rb_deliveries.specs.Spans.{cut_spans, first_ready, is_out, how_many_out, is_out_as, out_as}
+use Rattle.rb_deliveries.specs.Spans.{without_first}
 use Rattle.rb_desk.specs.Picture.{Picture, Subscription}
 use Rattle.rb_desk.specs.Calls.{subscribe, subscribed_picture, settled_span, prepare, next_place, delivery_from}
 use Rattle.rb_desk.specs.Calls.{delivered_picture, is_drained, none_ready, has_room, refused_call, reconnect}
@@ -28,7 +27,7 @@ use Rattle.rb_desk.specs.Calls.{nacked_span}
 use Rattle.rb_desk.specs.Shown.{shown, shown_sub, why_none, FindsToTake}
 use Rattle.rb_deliveries.specs.Subs.{sub_held, sub_out_as}
 use Rattle.rb_desk.specs.Limits.{Limits}
-use Rattle.rb_deliveries.specs.Lanes.{Lane, spans_of, lane_held, lane_spans, is_none_left}
+use Rattle.rb_deliveries.specs.Lanes.{Lane, lane_floor, spans_of, lane_held, lane_spans, is_none_left}
 use Rattle.rb_deliveries.proofs.spans.CutLaws.{CutIsFresh, cut_fresh, cut_none, cut_some}
 use Rattle.rb_deliveries.proofs.spans.LaneLaws.{lane_spans_is}
 use Rattle.rb_desk.specs.Answers.{DeskAnswers, call_refusal}
@@ -89,17 +88,7 @@ reconnect_found p s cursor q h running =
 
 -- ---- refusals
 
--- a call is refused if a test holds, or by what comes behind the test
-refused_by : {A : Type 0} (test : Bool) (p : Picture) (first why : DeskRefusal) (rest : Result A DeskRefusal × Picture)
-    → (call_refusal rest.0 ≡ Some why → rest ≡ refused_call p why)
-    → call_refusal (cond test (refused_call p first) rest).0 ≡ Some why
-    → cond test (refused_call p first) rest ≡ refused_call p why
-refused_by true p first why rest h e = ap (refused_call p) (same_why first why e)
-  where
-    same_why : (a b : DeskRefusal) → Some a ≡ Some b → a ≡ b
-    same_why a b e = cc
-refused_by false p first why rest h e = h e
-
+-- a call that isn't refused passes the first test, and what comes behind it doesn't refuse it
 not_refused_by : {A : Type 0} (test : Bool) (p : Picture) (first : DeskRefusal) (rest : Result A DeskRefusal × Picture)
     → call_refusal (cond test (refused_call p first) rest).0 ≡ None
     → (test ≡ false) × (call_refusal rest.0 ≡ None)
@@ -108,13 +97,6 @@ not_refused_by true p first rest e = absurd (some_why first e)
     some_why : (why : DeskRefusal) → Some why ≡ None → ⊥
     some_why why e = cc
 not_refused_by false p first rest e = (refl, e)
-
-pub subscribe_refused : (p : Picture) (start : ℕ) (why : DeskRefusal) → call_refusal (subscribe p start).0 ≡ Some why
-    → subscribe p start ≡ refused_call p why
-unfolding subscribe
-subscribe_refused p start why =
-    refused_by (nat_lt p.front start) p (refusal.StartAhead p.front) why _
-    (refused_by (nat_le 1024 (length p.subscriptions)) p refusal.TooMany why _ (λ e. absurd cc))
 
 pub subscribe_goes : (p : Picture) (start : ℕ) → call_refusal (subscribe p start).0 ≡ None
     → (start ≤ p.front) × (length p.subscriptions < 1024)
@@ -230,46 +212,46 @@ module _ (lim : Limits) (front : ℕ) (closing : Option ℕ) (clock next_link ne
   ack_behind link d cursor same span out behind =
       ack_kept link d cursor same ∙ ap (acked_span old s mine cursor) out
       ∙ ap (λ t. if t then refused_call old (refusal.NotAccepted cursor) else settled_span old s mine span.first
-      (raised sub.lane.floor (with_status span.first Settled (spans_of (sub_held lim.batch front sub)))))
+      (without_first span.first (spans_of (sub_held lim.batch front sub))))
       (lt-ltb _ _ behind)
 
   pub acked : (link d cursor : ℕ) → sub.link ≡ link → (span : Span) → sub_out_as d sub ≡ Some span → span.last ≤ cursor
       → ack old s link d cursor
       ≡ settled_span old s mine span.first
-      (raised sub.lane.floor (with_status span.first Settled (spans_of (sub_held lim.batch front sub))))
+      (without_first span.first (spans_of (sub_held lim.batch front sub)))
   acked link d cursor same span out whole =
       ack_kept link d cursor same ∙ ap (acked_span old s mine cursor) out
       ∙ ap (λ t. if t then refused_call old (refusal.NotAccepted cursor) else settled_span old s mine span.first
-      (raised sub.lane.floor (with_status span.first Settled (spans_of (sub_held lim.batch front sub)))))
+      (without_first span.first (spans_of (sub_held lim.batch front sub))))
       (le-ltb _ _ whole)
 
   pub reconnect_kept : (cursor : ℕ) → sub.closed ≡ false
-      → reconnect old s cursor ≡ (if nat_lt cursor sub.lane.floor
-      || nat_lt sub.offered cursor then refused_call old (refusal.BadCursor sub.lane.floor sub.offered) else
+      → reconnect old s cursor ≡ (if nat_lt cursor (lane_floor sub.lane)
+      || nat_lt sub.offered cursor then refused_call old (refusal.BadCursor (lane_floor sub.lane) sub.offered) else
       (Ok next_link, reconnected_picture old s mine cursor (cut_spans lim.batch (suc cursor) front)))
   reconnect_kept cursor running = reconnect_found old s cursor mine (sub_shown lim.batch front s subs sub here) running
 
-  pub reconnect_ok : (cursor : ℕ) → sub.closed ≡ false → sub.lane.floor ≤ cursor → cursor ≤ sub.offered
+  pub reconnect_ok : (cursor : ℕ) → sub.closed ≡ false → lane_floor sub.lane ≤ cursor → cursor ≤ sub.offered
       → reconnect old s cursor
       ≡ (Ok next_link, reconnected_picture old s mine cursor (cut_spans lim.batch (suc cursor) front))
   reconnect_ok cursor running reached offered =
       reconnect_kept cursor running
       ∙ (λ i. cond (le-ltb _ _ reached i || le-ltb _ _ offered i)
-      (refused_call old (refusal.BadCursor sub.lane.floor sub.offered))
+      (refused_call old (refusal.BadCursor (lane_floor sub.lane) sub.offered))
       (Ok next_link, reconnected_picture old s mine cursor (cut_spans lim.batch (suc cursor) front)))
 
   pub reconnect_bad : (cursor : ℕ) → sub.closed ≡ false
-      → (cursor < sub.lane.floor) ⊎ ((sub.lane.floor ≤ cursor) × (sub.offered < cursor))
-      → reconnect old s cursor ≡ (Err (refusal.BadCursor sub.lane.floor sub.offered), old)
+      → (cursor < lane_floor sub.lane) ⊎ ((lane_floor sub.lane ≤ cursor) × (sub.offered < cursor))
+      → reconnect old s cursor ≡ (Err (refusal.BadCursor (lane_floor sub.lane) sub.offered), old)
   reconnect_bad cursor running (inl before) =
       reconnect_kept cursor running
       ∙ (λ i. cond (lt-ltb _ _ before i || nat_lt sub.offered cursor)
-      (refused_call old (refusal.BadCursor sub.lane.floor sub.offered))
+      (refused_call old (refusal.BadCursor (lane_floor sub.lane) sub.offered))
       (Ok next_link, reconnected_picture old s mine cursor (cut_spans lim.batch (suc cursor) front)))
   reconnect_bad cursor running (inr past) =
       reconnect_kept cursor running
       ∙ (λ i. cond (le-ltb _ _ past.0 i || lt-ltb _ _ past.1 i)
-      (refused_call old (refusal.BadCursor sub.lane.floor sub.offered))
+      (refused_call old (refusal.BadCursor (lane_floor sub.lane) sub.offered))
       (Ok next_link, reconnected_picture old s mine cursor (cut_spans lim.batch (suc cursor) front)))
 
   pub unsubscribe_kept : (link : ℕ) → sub.link ≡ link → sub.closed ≡ false → unsubscribe old s link

@@ -10,10 +10,11 @@ use Rattle.rb_deliveries.specs.declared.ticket.Ticket.{Ticket}
 use Rattle.rb_deliveries.specs.declared.ticket.Held.{Held}
 use Rattle.rb_deliveries.specs.declared.span.Span.{Span}
 use Rattle.rb_deliveries.specs.declared.span.Status.{Status}
-use Rattle.rb_deliveries.specs.declared.span.Status.TheVariants.{Ready, InFlight, Settled}
+use Rattle.rb_deliveries.specs.declared.span.Status.TheVariants.{Ready, InFlight}
 use Rattle.rb_deliveries.specs.declared.sub.Sub.{Sub}
 use Rattle.rb_deliveries.specs.Spans.{fresh, cut_spans, is_ready}
-use Rattle.rb_deliveries.specs.Lanes.{FollowOn, cut_lane, ticketed, with_birth, birth, spans_of, lane_held, earlier}
+use Rattle.rb_deliveries.specs.Lanes.{AreRising, HeldRise, floor_before, lane_floor, cut_lane, ticketed, with_birth}
+use Rattle.rb_deliveries.specs.Lanes.{birth, spans_of, lane_held, earlier}
 use Rattle.rb_deliveries.specs.Orders.{order, all_at, ready_at, out_at, out_at_status}
 use Rattle.rb_desk.specs.Limits.{Limits}
 use Rattle.rb_desk.specs.Picture.{Picture, Subscription}
@@ -114,7 +115,6 @@ out_earlier batch front turn number subs one h =
         → IfSome (out_at_status s first status) (λ e. earlier e.0 (record { front = number; turn = 0 }) ≡ true)
     of_status s first (Ready taken) given = tt
     of_status s first (InFlight n moment) given = before_delivery n number given
-    of_status s first Settled given = tt
 
     of_sub : (sub : Sub) → Belongs front turn number sub → AllByRecursion IsEarlier (sub_held batch front sub)
     of_sub sub b =
@@ -154,6 +154,10 @@ cut_ready batch front a s t one le =
 fresh_lane : (batch front cursor : ℕ) (t : Ticket) → spans_of (lane_held batch front (cut_lane cursor t))
     ≡ cut_spans batch (suc cursor) front
 fresh_lane batch front cursor t = lane_spans_is batch front (cut_lane cursor t)
+
+-- and where its floor is
+cut_at : (cursor : ℕ) → suc cursor - 1 ≡ cursor
+cut_at cursor = omega arith
 
 -- two pictures that agree in what a call changes
 abbrev pub picture_of : Limits → ℕ → ℕ → ℕ → ℕ → Option ℕ → List Subscription → List (ℕ × ℕ) → List (ℕ × ℕ) → Picture
@@ -198,9 +202,15 @@ pub subscribed_shown : (lim : Limits) (front turn clock next_link next_delivery 
 subscribed_shown lim front turn clock next_link next_delivery start closing subs one h =
     same_picture lim front clock (suc next_link) next_delivery closing _ _ _ _ _ _
     (map-append (shown_sub lim.batch front) subs (new ∷ [])
-    ∙ ap (λ spans. map (shown_sub lim.batch front) subs
-    ++ record { start = start; floor = start; offered = start; link = next_link; closed = false; spans = spans }
-    ∷ []) (fresh_lane lim.batch front start t))
+    ∙ (λ i. map (shown_sub lim.batch front) subs
+    ++ record {
+      start = start;
+      floor = cut_at start i;
+      offered = start;
+      link = next_link;
+      closed = false;
+      spans = fresh_lane lim.batch front start t i;
+    } ∷ []))
     (ap (order ready_at) lanes_are
     ∙ order_pushed ready_at t lanes lane
     (named (length (map (shown_sub lim.batch front) subs)) (cut_spans lim.batch (suc start) front))
@@ -250,15 +260,15 @@ pub reconnected_shown : (lim : Limits) (front turn clock next_link next_delivery
 reconnected_shown lim front turn clock next_link next_delivery s cursor closing subs sub one h found opened =
     same_picture lim front clock (suc next_link) next_delivery closing _ _ _ _ _ _
     (map-set (shown_sub lim.batch front) subs s new
-    ∙ ap (λ spans. slice_set (map (shown_sub lim.batch front) subs) s
+    ∙ (λ i. slice_set (map (shown_sub lim.batch front) subs) s
     (record {
       start = sub.start;
-      floor = cursor;
+      floor = cut_at cursor i;
       offered = sub.offered;
       link = next_link;
       closed = sub.closed;
-      spans = spans;
-    })) (ap spans_of lane_is ∙ fresh_lane lim.batch front cursor t))
+      spans = spans_are i;
+    })))
     (ap (order ready_at) lanes_are ∙ order_replaced ready_at t lanes s (sub_held lim.batch front sub) lane
     (named s (cut_spans lim.batch (suc cursor) front)) lane_found tagged_ready
     (cut_ready lim.batch front (suc cursor) s t one (omega arith))
@@ -281,6 +291,9 @@ reconnected_shown lim front turn clock next_link next_delivery s cursor closing 
 
     lane_is : sub_held lim.batch front new ≡ lane
     lane_is = ap (λ b. cond b [] lane) opened
+
+    spans_are : spans_of (sub_held lim.batch front new) ≡ cut_spans lim.batch (suc cursor) front
+    spans_are = ap spans_of lane_is ∙ fresh_lane lim.batch front cursor t
 
     lanes_are : map (sub_held lim.batch front) (slice_set subs s new) ≡ slice_set lanes s lane
     lanes_are = map-set (sub_held lim.batch front) subs s new ∙ ap (slice_set lanes s) lane_is
@@ -311,7 +324,16 @@ pub unsubscribed_shown : (lim : Limits) (front clock next_link next_delivery s :
     (shown_sub lim.batch front sub)
 unsubscribed_shown lim front clock next_link next_delivery s closing subs sub found =
     same_picture lim front clock next_link next_delivery closing _ _ _ _ _ _
-    (map-set (shown_sub lim.batch front) subs s (closed_sub sub))
+    (map-set (shown_sub lim.batch front) subs s (closed_sub sub)
+    ∙ ap (λ floor. slice_set (map (shown_sub lim.batch front) subs) s
+    (record {
+      start = sub.start;
+      floor = floor;
+      offered = sub.offered;
+      link = sub.link;
+      closed = true;
+      spans = [];
+    })) (cut_at (lane_floor sub.lane)))
     (ap (order ready_at) lanes_are ∙ order_cleared ready_at lanes s (sub_held lim.batch front sub) tagged_ready
     lane_found)
     (ap (order out_at) lanes_are ∙ order_cleared out_at lanes s (sub_held lim.batch front sub) tagged_out lane_found)
@@ -325,13 +347,18 @@ unsubscribed_shown lim front clock next_link next_delivery s closing subs sub fo
     lane_found : slice_get lanes s ≡ Some (sub_held lim.batch front sub)
     lane_found = slice_get-map (sub_held lim.batch front) subs s ∙ ap (option_map (sub_held lim.batch front)) found
 
+-- the floor comes before the next number
+floor_before_next : (held : List Held) (next : ℕ) → HeldRise 1 held next → floor_before held next < next
+floor_before_next [] next rises = omega (arith, rises)
+floor_before_next (h ∷ rest) next rises =
+    omega (arith, rises.0, rises.1, joins_reach (suc h.span.last) next rest rises.2)
+
 pub belongs_unsubscribed : (front turn next_delivery s : ℕ) (subs : List Sub) (sub : Sub)
     → AllByRecursion (Belongs front turn next_delivery) subs → slice_get subs s ≡ Some sub
-    → FollowOn (suc sub.lane.floor) sub.lane.held sub.lane.next
-    → AllByRecursion (Belongs front turn next_delivery) (slice_set subs s (closed_sub sub))
-belongs_unsubscribed front turn next_delivery s subs sub h found joins =
+    → AreRising sub.lane → AllByRecursion (Belongs front turn next_delivery) (slice_set subs s (closed_sub sub))
+belongs_unsubscribed front turn next_delivery s subs sub h found rises =
     let b = all_get (Belongs front turn next_delivery) subs s sub h found in
-    let reach = joins_reach (suc sub.lane.floor) sub.lane.next sub.lane.held joins in
+    let reach = floor_before_next sub.lane.held sub.lane.next rises in
     all_set (Belongs front turn next_delivery) subs s (closed_sub sub) h
     (record {
       is_offered = b.is_offered;

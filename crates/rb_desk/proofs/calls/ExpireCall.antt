@@ -6,7 +6,7 @@ use Rattle.std.specs.List.{AllByRecursion}
 use Rattle.rb_deliveries.specs.declared.sub.Sub.{Sub}
 use Rattle.rb_deliveries.proofs.orders.DueLaws.{none_expire}
 use Rattle.rb_desk.specs.Limits.{Limits}
-use Rattle.rb_deliveries.specs.Lanes.{AreJoined}
+use Rattle.rb_deliveries.specs.Lanes.{AreRising}
 use Rattle.rb_desk.specs.Calls.{expire}
 use Rattle.rb_desk.specs.Shown.{shown}
 use Rattle.rb_deliveries.specs.Subs.{Belongs}
@@ -14,14 +14,14 @@ use Rattle.rb_deliveries.specs.Expiry.{turns_from, by_number, expired_sub, all_d
 use Rattle.rb_desk.proofs.calls.ExpireLaws.{ExpireFollows}
 use Rattle.rb_desk.proofs.calls.ExpireShown.{turned_back_shown, expired_count}
 
--- what belongs and follows one another follows up to the front
+-- what belongs and rises does so up to the front
 follow : (front turn number : ℕ) (subs : List Sub) → AllByRecursion (Belongs front turn number) subs
-    → AllByRecursion (λ sub. AreJoined sub.lane) subs → AllByRecursion (ExpireFollows front) subs
+    → AllByRecursion (λ sub. AreRising sub.lane) subs → AllByRecursion (ExpireFollows front) subs
 follow front turn number [] b j = tt
 follow front turn number (sub ∷ rest) b j = ((b.0.is_next, j.0), follow front turn number rest b.1 j.1)
 
 pub expire_is : (lim : Limits) (front turn clock now next_link number : ℕ) (closing : Option ℕ) (subs : List Sub) → 1
-    ≤ lim.batch → AllByRecursion (Belongs front turn number) subs → AllByRecursion (λ sub. AreJoined sub.lane) subs
+    ≤ lim.batch → AllByRecursion (Belongs front turn number) subs → AllByRecursion (λ sub. AreRising sub.lane) subs
     → expire (shown lim front closing clock next_link number subs) now
     ≡ (
       all_due lim.timeout (max clock now) subs,
@@ -43,7 +43,7 @@ said_on_err (Err e) p = p
 
 module _ (lim : Limits) (front turn clock now next_link number : ℕ) (closing : Option ℕ) (subs : List Sub)
     (one : 1 ≤ lim.batch) (b : AllByRecursion (Belongs front turn number) subs)
-    (j : AllByRecursion (λ sub. AreJoined sub.lane) subs) (timeout at : ℕ) (waits : timeout ≡ lim.timeout)
+    (j : AllByRecursion (λ sub. AreRising sub.lane) subs) (timeout at : ℕ) (waits : timeout ≡ lim.timeout)
     (latest : at ≡ max clock now) where
   same_due : all_due lim.timeout (max clock now) subs ≡ all_due timeout at subs
   same_due = λ i. all_due (sym waits i) (sym latest i) subs

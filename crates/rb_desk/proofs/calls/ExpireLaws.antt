@@ -10,10 +10,11 @@ use Rattle.rb_deliveries.specs.declared.ticket.Ticket.{Ticket}
 use Rattle.rb_deliveries.specs.declared.ticket.Held.{Held}
 use Rattle.rb_deliveries.specs.declared.span.Span.{Span}
 use Rattle.rb_deliveries.specs.declared.span.Status.{Status}
-use Rattle.rb_deliveries.specs.declared.span.Status.TheVariants.{Ready, InFlight, Settled}
+use Rattle.rb_deliveries.specs.declared.span.Status.TheVariants.{Ready, InFlight}
 use Rattle.rb_deliveries.specs.declared.sub.Sub.{Sub}
 use Rattle.rb_deliveries.specs.Spans.{cut_spans, beginning, is_due, gone_back}
-use Rattle.rb_deliveries.specs.Lanes.{Lane, FollowOn, spans_of, lane_held}
+use Rattle.rb_deliveries.specs.Lanes.{Lane, AreRising, HeldRise, floor_before, lane_floor, spans_of}
+use Rattle.rb_deliveries.specs.Lanes.{lane_held}
 use Rattle.rb_deliveries.specs.Orders.{order, ready_at, out_at, out_at_status}
 use Rattle.rb_desk.specs.Limits.{Limits}
 use Rattle.rb_desk.specs.Picture.{Subscription}
@@ -21,7 +22,7 @@ use Rattle.rb_desk.specs.Calls.{expires, expired_at, goes_back, is_due_of, span_
 use Rattle.rb_desk.specs.Shown.{shown, shown_sub}
 use Rattle.rb_deliveries.specs.Subs.{sub_held}
 use Rattle.rb_deliveries.proofs.spans.CutLaws.{CutIsFresh, cut_fresh}
-use Rattle.rb_deliveries.proofs.spans.LaneLaws.{lane_spans_is}
+use Rattle.rb_deliveries.proofs.spans.LaneLaws.{lane_spans_is, floor_expired}
 use Rattle.rb_deliveries.proofs.orders.Line.{all_first, all_then}
 use Rattle.rb_deliveries.proofs.orders.OrderLaws.{Leaves, expired_order, lane_out}
 use Rattle.rb_deliveries.proofs.orders.ExpireOrder.{ExpireReports}
@@ -32,7 +33,7 @@ use Rattle.rb_deliveries.proofs.spans.JoinLaws.{joins_lane}
 -- a subscription of which the spans that are due went back if it is open, whatever their tickets are
 pub record ExpiresNow (timeout clock : ℕ) (old new : Sub) : Type 0 where
   pub start : new.start ≡ old.start
-  pub floor : new.lane.floor ≡ old.lane.floor
+  pub floor : lane_floor new.lane ≡ lane_floor old.lane
   pub offered : new.offered ≡ old.offered
   pub link : new.link ≡ old.link
   pub closed : new.closed ≡ old.closed
@@ -63,7 +64,7 @@ pub sub_expires : (timeout clock : ℕ) (ticket : Held → Ticket) (sub : Sub)
 sub_expires timeout clock ticket sub =
     record {
       start = refl;
-      floor = refl;
+      floor = same_floor sub.closed;
       offered = refl;
       link = refl;
       closed = refl;
@@ -71,6 +72,12 @@ sub_expires timeout clock ticket sub =
       spans = λ opened. ap (λ c. spans_of (cond c sub.lane.held (map (expired_held timeout clock ticket)
           sub.lane.held))) opened ∙ held_expire timeout clock ticket sub.lane.held;
     }
+  where
+    same_floor : (c : Bool)
+        → floor_before (cond c sub.lane.held (map (expired_held timeout clock ticket) sub.lane.held)) sub.lane.next
+        ≡ lane_floor sub.lane
+    same_floor true = refl
+    same_floor false = floor_expired sub.lane.next timeout clock ticket sub.lane.held
 
 pub subs_expire : (timeout clock : ℕ) (ticket : Held → Ticket) (subs : List Sub)
     → AllExpire timeout clock subs (map (expired_sub timeout clock ticket) subs)
@@ -112,7 +119,7 @@ sub_goes_back : (batch front timeout clock : ℕ) (old new : Sub) → ExpiresNow
 sub_goes_back batch front timeout clock old new e =
     (λ i. shown_as (e.start i) (e.floor i) (e.offered i) (e.link i) (e.closed i)
     (spans_of (cond (e.closed i) [] (lane_held batch front new.lane))))
-    ∙ ap (shown_as old.start old.lane.floor old.offered old.link old.closed) (by old.closed refl)
+    ∙ ap (shown_as old.start (lane_floor old.lane) old.offered old.link old.closed) (by old.closed refl)
   where
     shown_as : ℕ → ℕ → ℕ → ℕ → Bool → List Span → Subscription
     shown_as start floor offered link closed spans =
@@ -135,14 +142,14 @@ expired_subscriptions batch front timeout clock (old ∷ olds) (new ∷ news) e 
 
 -- ---- the in-flight order
 
--- among spans that follow one another each is the one that begins where it does
+-- among spans that rise each is the one that begins where it does
 abbrev ExpireFound : ℕ → List Held → Held → Type 0
 ExpireFound low all h = (low ≤ h.span.first) × (beginning h.span.first (spans_of all) ≡ Some h.span)
 
-each_begins : (low next : ℕ) (held : List Held) → FollowOn low held next → AllByRecursion (ExpireFound low held) held
+each_begins : (low next : ℕ) (held : List Held) → HeldRise low held next → AllByRecursion (ExpireFound low held) held
 each_begins low next [] j = tt
 each_begins low next (x ∷ rest) j =
-    let at : x.span.first ≡ low = j.0 in
+    let at : low ≤ x.span.first = j.0 in
     let up : x.span.first ≤ x.span.last = j.1 in (
       (omega (arith, at), rw (eq-eqb x.span.first x.span.first refl) refl),
       all_then (ExpireFound (suc x.span.last) rest) (ExpireFound low (x ∷ rest)) rest
@@ -179,7 +186,6 @@ spans_leave due timeout clock s held held' tells spans = seen held' ∙ ap (filt
         by true is = rw is h
         by false is =
             rw is (ap (λ (l : List (Ticket × (ℕ × ℕ))). (record { front = number; turn = 0 }, (s, p.first)) ∷ l) h)
-    one p Settled tell rest left h = h
 
     left : (held : List Held) → AllByRecursion (ExpireReports due timeout clock s) held
         → filter_map span_out (gone_back timeout clock (spans_of held))
@@ -220,9 +226,9 @@ subs_leave batch front due timeout clock s (old ∷ olds) (new ∷ news) one tel
       (λ k i sub is found. tell k (suc i) sub (omega (arith, is)) found) e.1,
 )
 
--- the spans that a subscription keeps follow one another from its floor on
+-- the spans that a subscription keeps rise, and the next number is no later than the one behind the front
 abbrev pub ExpireFollows : ℕ → Sub → Type 0
-ExpireFollows front sub = (sub.lane.next ≤ suc front) × FollowOn (suc sub.lane.floor) sub.lane.held sub.lane.next
+ExpireFollows front sub = (sub.lane.next ≤ suc front) × AreRising sub.lane
 
 -- the picture's test on a name tells whether the span is due
 pub expire_told : (lim : Limits) (front clock now next_link next_delivery : ℕ) (closing : Option ℕ) (subs : List Sub)
@@ -230,16 +236,16 @@ pub expire_told : (lim : Limits) (front clock now next_link next_delivery : ℕ)
     → AllByRecursion (ExpireReports (expires (shown lim front closing clock next_link next_delivery subs) now)
     lim.timeout now k) (lane_held lim.batch front sub.lane)
 expire_told lim front clock now next_link next_delivery closing subs k sub one follows found opened =
-    all_then (ExpireFound (suc sub.lane.floor) (lane_held lim.batch front sub.lane))
+    all_then (ExpireFound 1 (lane_held lim.batch front sub.lane))
     (ExpireReports (expires (shown lim front closing clock next_link next_delivery subs) now) lim.timeout now k)
     (lane_held lim.batch front sub.lane) each
-    (each_begins (suc sub.lane.floor) (suc front) (lane_held lim.batch front sub.lane)
+    (each_begins 1 (suc front) (lane_held lim.batch front sub.lane)
     (joins_lane lim.batch front sub.lane one follows.0 follows.1))
   where
     seen : slice_get (map (shown_sub lim.batch front) subs) k ≡ Some (shown_sub lim.batch front sub)
     seen = slice_get-map (shown_sub lim.batch front) subs k ∙ ap (option_map (shown_sub lim.batch front)) found
 
-    each : (h : Held) → ExpireFound (suc sub.lane.floor) (lane_held lim.batch front sub.lane) h
+    each : (h : Held) → ExpireFound 1 (lane_held lim.batch front sub.lane) h
         → is_due_of lim.timeout now h.span.first (slice_get (map (shown_sub lim.batch front) subs) k)
         ≡ is_due lim.timeout now h.span.status
     each h f =

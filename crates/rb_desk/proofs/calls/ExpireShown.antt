@@ -10,8 +10,8 @@ use Rattle.rb_deliveries.specs.Lanes.{lane_held}
 use Rattle.rb_deliveries.specs.Orders.{in_line, order, all_at, ready_at, out_at}
 use Rattle.rb_deliveries.specs.Subs.{sub_held, Belongs}
 use Rattle.rb_deliveries.proofs.orders.Line.{line_filter}
-use Rattle.rb_deliveries.proofs.orders.OrderLaws.{seen_filter}
-use Rattle.rb_deliveries.proofs.orders.ExpireLines.{ExpireOrderEntries, Rising, turns_rise, ordered_parts, length_line}
+use Rattle.rb_deliveries.proofs.orders.OrderLaws.{OrderEntries, seen_filter}
+use Rattle.rb_deliveries.proofs.orders.ExpireLines.{Rising, turns_rise, ordered_parts, length_line}
 use Rattle.rb_deliveries.proofs.orders.ExpireOrder.{ExpireReports, next_turn, subs_parts, subs_due}
 use Rattle.rb_deliveries.proofs.subs.ExpiredLaws.{AllNumbered, given_numbered}
 use Rattle.rb_deliveries.proofs.subs.KnownLaws.{all_get}
@@ -88,5 +88,5 @@ expired_count lim front clock now next_link next_delivery closing subs one follo
     due : ℕ × ℕ → Bool
     due = expires (shown lim front closing clock next_link next_delivery subs) now
 
-    outs : ExpireOrderEntries
+    outs : OrderEntries
     outs = all_at out_at 0 (map (sub_held lim.batch front) subs)

@@ -1,18 +1,17 @@
 -- After a span is delivered, returned or settled, what a desk stores shows the picture of that call.
-use Rattle.std.proofs.Common.{◌≡◌, ℕ, suc, max, Bool, true, false, ◌==◌, cond, List, [], ◌∷◌, ◌++◌, Option, Some}
+use Rattle.std.proofs.Common.{◌≡◌, ℕ, suc, max, true, List, [], ◌∷◌, ◌++◌, Option, Some}
 use Rattle.std.proofs.Common.{length, ◌≤◌, Result, Ok, Err, filter_map, slice_get, slice_set, refl, sym, ap, ◌∙◌, arith}
 use Rattle.std.specs.List.{AllByRecursion}
 use Rattle.rb_deliveries.specs.declared.span.Span.{Span}
 use Rattle.rb_deliveries.specs.declared.span.Status.{Status}
-use Rattle.rb_deliveries.specs.declared.span.Status.TheVariants.{Ready, InFlight, Settled}
+use Rattle.rb_deliveries.specs.declared.span.Status.TheVariants.{Ready, InFlight}
 use Rattle.rb_deliveries.specs.declared.ticket.Ticket.{Ticket}
 use Rattle.rb_deliveries.specs.declared.ticket.Held.{Held}
 use Rattle.rb_deliveries.specs.declared.sub.Sub.{Sub}
 use Rattle.rb_desk.specs.declared.delivery.Delivery.{Delivery}
 use Rattle.rb_desk.specs.declared.refusal.DeskError.{DeskError}
-use Rattle.rb_deliveries.specs.Spans.{out_as, is_ready, is_out, raised, with_status}
-use Rattle.rb_deliveries.specs.Lanes.{Lane, spans_of, lane_held, pushed_lane, restated_lane, delivered_lane}
-use Rattle.rb_deliveries.specs.Lanes.{settled_lane}
+use Rattle.rb_deliveries.specs.Spans.{out_as, is_ready, is_out, with_status, without_first, floor_of}
+use Rattle.rb_deliveries.specs.Lanes.{lane_floor, spans_of, lane_held, settled_lane}
 use Rattle.rb_deliveries.specs.Orders.{order, ready_at, out_at}
 use Rattle.rb_desk.specs.Limits.{Limits}
 use Rattle.rb_desk.specs.Answers.{DeskAnswers}
@@ -21,24 +20,16 @@ use Rattle.rb_desk.specs.Shown.{shown_sub, shown, WhenDelivered}
 use Rattle.rb_deliveries.specs.Subs.{sub_held, Belongs, delivered_sub, returned_sub, settled_sub, IsHeld, IsDeliverable}
 use Rattle.rb_deliveries.proofs.orders.Line.{all_then}
 use Rattle.rb_deliveries.proofs.orders.OrderLaws.{tagged_ready, tagged_out, order_same, order_without, order_with}
-use Rattle.rb_deliveries.proofs.spans.ChangeLaws.{Changes, stands_same, stands_new, stands_left}
+use Rattle.rb_deliveries.proofs.spans.ChangeLaws.{Changes, stands_new, stands_left, Removes, removed_spans}
+use Rattle.rb_deliveries.proofs.spans.ChangeLaws.{removed_same, removed_left}
+use Rattle.rb_deliveries.proofs.spans.LaneLaws.{lane_floor_is, floor_restated, floor_delivered}
 use Rattle.rb_deliveries.proofs.spans.LaneChanges.{may_go_span, may_go_ready, restated_changes, handed_changes}
-use Rattle.rb_deliveries.proofs.spans.LaneChanges.{settled_spans, settled_stands}
+use Rattle.rb_deliveries.proofs.spans.LaneChanges.{settled_changes}
 use Rattle.rb_deliveries.proofs.subs.KnownLaws.{all_set, few_set, held_open, out_earlier, ready_earlier}
 use Rattle.rb_deliveries.proofs.subs.KnownLaws.{known_belongs_later, sub_handed, sub_returned, sub_settled}
 use Rattle.rb_deliveries.proofs.spans.FoundLaws.{out_as_held}
 use Rattle.rb_desk.proofs.calls.OpenLaws.{IsOpen, lanes, lane_found, belongs, shown_changed, spans_changed}
-use Rattle.rb_desk.proofs.calls.OpenLaws.{out_not_ready, ready_not_out, settled_not_ready, settled_not_out}
-use Rattle.rb_desk.proofs.calls.OpenLaws.{not_ready_at, not_out_at, stood_not_ready, stood_not_out}
-
--- handing over changes no floor
-handed_floor : (kept : Lane) (span : Span) (status : Status) → (delivered_lane kept span status).floor ≡ kept.floor
-handed_floor kept span status = by (span.first == kept.next)
-  where
-    by : (b : Bool) → (cond b (pushed_lane kept span status) (restated_lane kept span.first status kept.cutting)).floor
-        ≡ kept.floor
-    by true = refl
-    by false = refl
+use Rattle.rb_desk.proofs.calls.OpenLaws.{out_not_ready, ready_not_out, stood_not_ready, stood_not_out}
 
 module _ (lim : Limits) (front turn number : ℕ) (subs : List Sub) (s : ℕ) (sub : Sub)
     (o : IsOpen lim.batch front turn number subs s sub) where
@@ -71,8 +62,8 @@ module _ (lim : Limits) (front turn number : ℕ) (subs : List Sub) (s : ℕ) (s
       let sub' : Sub = delivered_sub sub span number clock' in
       let lane' : List Held = lane_held batch front sub'.lane in
       let c : Changes span status sub.lane.cutting lane lane' =
-      handed_changes batch front sub.lane span o.one own.is_next o.joins status may in
-      let floor : sub'.lane.floor ≡ sub.lane.floor = handed_floor sub.lane span status in
+      handed_changes batch front sub.lane span o.one own.is_next o.rises status may in
+      let floor : lane_floor sub'.lane ≡ lane_floor sub.lane = floor_delivered sub.lane span status in
       let spans = spans_changed lim front turn number subs s sub o span status sub.lane.cutting sub' o.is_open c in
       let was_ready : is_ready span.status ≡ true = may_go_ready batch front sub.lane span o.one may in
       let new = stands_new span status sub.lane.cutting c out_at s t
@@ -100,7 +91,7 @@ module _ (lim : Limits) (front turn number : ℕ) (subs : List Sub) (s : ℕ) (s
   pub belongs_handed : (clock : ℕ) (span : Span) → IsDeliverable lim.batch front sub.lane span
       → AllByRecursion (Belongs front turn (suc number)) (slice_set subs s (delivered_sub sub span number clock))
   belongs_handed clock span may =
-      let at = may_go_span batch front (suc sub.lane.floor) sub.lane span o.one own.is_next o.joins may in
+      let at = may_go_span batch front 1 sub.lane span o.one own.is_next o.rises may in
       all_set (Belongs front turn (suc number)) subs s (delivered_sub sub span number clock)
       (all_then (Belongs front turn number) (Belongs front turn (suc number)) subs
       (λ sub. known_belongs_later front turn turn number (suc number) sub (omega arith) (omega arith)) o.belong)
@@ -152,7 +143,9 @@ module _ (lim : Limits) (front turn number : ℕ) (subs : List Sub) (s : ℕ) (s
       let sub' : Sub = returned_sub sub span.first t in
       let lane' : List Held = lane_held batch front sub'.lane in
       let c : Changes span status t lane lane' =
-      restated_changes batch front sub.lane span o.one own.is_next o.joins status t held in
+      restated_changes batch front sub.lane span o.one own.is_next o.rises status t held in
+      let floor : lane_floor sub'.lane ≡ lane_floor sub.lane =
+      floor_restated span.first sub.lane.next status t sub.lane.held in
       let spans = spans_changed lim front turn number subs s sub o span status t sub' o.is_open c in
       let new = stands_new span status t c ready_at s t
       (λ h is. stood_not_ready s h span is (out_not_ready span.status out)) refl in
@@ -160,7 +153,7 @@ module _ (lim : Limits) (front turn number : ℕ) (subs : List Sub) (s : ℕ) (s
       (record (shown_sub batch front sub)
       { spans = with_status span.first status (spans_of (sub_held batch front sub)) })
       (order ready_at all ++ (s, span.first) ∷ []) (without_span s span.first (order out_at all)) o.is_open
-      (ap (λ (spans : List Span). record (shown_sub batch front sub) { spans = spans }) spans)
+      (λ i. record (shown_sub batch front sub) { floor = floor i; spans = spans i })
       (order_with ready_at t all s lane lane' (filter_map (ready_at s) c.ahead) (filter_map (ready_at s) c.behind)
       ((s, span.first) ∷ []) found new.0 new.1 (ready_earlier batch front turn number o.one subs o.belong))
       (order_without out_at all s span.first lane lane' tagged_out found
@@ -188,60 +181,50 @@ module _ (lim : Limits) (front turn number : ℕ) (subs : List Sub) (s : ℕ) (s
 
   -- ---- a span is settled
 
-  -- the floor and the spans are those of the picture
-  settled_is : (span : Span) → IsHeld sub.lane span
-      → raised sub.lane.floor (with_status span.first Settled (spans_of (sub_held batch front sub)))
-      ≡ ((settled_lane sub.lane span.first).floor, spans_of (sub_held batch front (settled_sub sub span.first)))
+  -- the spans and the floor are those of the picture
+  settled_is : (span : Span) → IsHeld sub.lane span → spans_of (sub_held batch front (settled_sub sub span.first))
+      ≡ without_first span.first (spans_of (sub_held batch front sub))
   settled_is span held =
-      ap (λ held. raised sub.lane.floor (with_status span.first Settled (spans_of held)))
-      (held_open batch front sub o.is_open)
-      ∙ settled_spans batch front sub.lane span o.one own.is_next o.joins held
-      ∙ ap (λ (held : List Held). ((settled_lane sub.lane span.first).floor, spans_of held))
-      (sym (held_open batch front (settled_sub sub span.first) o.is_open))
+      ap spans_of (held_open batch front (settled_sub sub span.first) o.is_open)
+      ∙ removed_spans span (settled_changes batch front sub.lane span o.one own.is_next o.rises held)
+      ∙ ap (λ held. without_first span.first (spans_of held)) (sym (held_open batch front sub o.is_open))
 
-  -- the answer is the floor that is kept
-  pub settled_floor : (span : Span) → IsHeld sub.lane span
-      → (raised sub.lane.floor (with_status span.first Settled (spans_of (sub_held lim.batch front sub)))).0
-      ≡ (settled_lane sub.lane span.first).floor
-  settled_floor span held = ap (λ r. r.0) (settled_is span held)
+  pub settled_floor : (span : Span) → IsHeld sub.lane span → lane_floor (settled_lane sub.lane span.first)
+      ≡ floor_of (without_first span.first (spans_of (sub_held lim.batch front sub))) front
+  settled_floor span held =
+      sym (lane_floor_is batch front (settled_lane sub.lane span.first) o.one own.is_next)
+      ∙ ap (λ held. floor_of (spans_of held) front)
+      (sym (held_open batch front (settled_sub sub span.first) o.is_open))
+      ∙ ap (λ spans. floor_of spans front) (settled_is span held)
 
   -- it leaves the in-flight order
   pub settled_shown : (closing : Option ℕ) (clock next_link : ℕ) (span : Span) → IsHeld sub.lane span
       → is_out span.status ≡ true
       → shown lim front closing clock next_link number (slice_set subs s (settled_sub sub span.first))
       ≡ (settled_span (shown lim front closing clock next_link number subs) s (shown_sub lim.batch front sub) span.first
-      (raised sub.lane.floor (with_status span.first Settled (spans_of (sub_held lim.batch front sub))))).1
+      (without_first span.first (spans_of (sub_held lim.batch front sub)))).1
   settled_shown closing clock next_link span held out =
       let sub' : Sub = settled_sub sub span.first in
-      let stated : List Held = lane_held batch front (restated_lane sub.lane span.first Settled sub.lane.cutting) in
       let lane' : List Held = lane_held batch front sub'.lane in
-      let c : Changes span Settled sub.lane.cutting lane stated =
-      restated_changes batch front sub.lane span o.one own.is_next o.joins Settled sub.lane.cutting held in
-      let rest = raised sub.lane.floor (with_status span.first Settled (spans_of (sub_held batch front sub))) in
-      let same : (sub'.lane.floor, spans_of (sub_held batch front sub')) ≡ rest = sym (settled_is span held) in
-      let ready : filter_map (ready_at s) lane' ≡ filter_map (ready_at s) lane =
-      settled_stands batch front sub.lane span o.one own.is_next o.joins held ready_at s
-      (λ h is. not_ready_at s h (settled_not_ready h.span.status is))
-      ∙ stands_same span Settled sub.lane.cutting c ready_at s
-      (λ h is. stood_not_ready s h span is (out_not_ready span.status out)) refl in
-      let left =
-      settled_stands batch front sub.lane span o.one own.is_next o.joins held out_at s
-      (λ h is. not_out_at s h.span.first h.span.status (settled_not_out h.span.status is))
-      ∙ stands_left span Settled sub.lane.cutting c out_at s tagged_out refl in
+      let r : Removes span lane lane' = settled_changes batch front sub.lane span o.one own.is_next o.rises held in
+      let spans = settled_is span held in
+      let floor = settled_floor span held in
+      let others : List Span = without_first span.first (spans_of (sub_held batch front sub)) in
       shown_changed lim front turn number subs s sub o closing clock next_link number sub'
-      (record (shown_sub batch front sub) { floor = rest.0; spans = rest.1 }) (order ready_at all)
+      (record (shown_sub batch front sub) { floor = floor_of others front; spans = others }) (order ready_at all)
       (without_span s span.first (order out_at all))
       o.is_open
-      (ap (λ (r : ℕ × List Span). record (shown_sub batch front sub) { floor = r.0; spans = r.1 }) same)
-      (order_same ready_at all s lane lane' found ready)
-      (order_without out_at all s span.first lane lane' tagged_out found left)
+      (λ i. record (shown_sub batch front sub) { floor = floor i; spans = spans i })
+      (order_same ready_at all s lane lane' found
+      (removed_same span r ready_at s (λ h is. stood_not_ready s h span is (out_not_ready span.status out))))
+      (order_without out_at all s span.first lane lane' tagged_out found (removed_left span r out_at s tagged_out))
 
   -- so it is of the one that is out as a delivery
   pub settled_as : (closing : Option ℕ) (clock next_link delivery : ℕ) (span : Span)
       → out_as delivery (spans_of sub.lane.held) ≡ Some span
       → shown lim front closing clock next_link number (slice_set subs s (settled_sub sub span.first))
       ≡ (settled_span (shown lim front closing clock next_link number subs) s (shown_sub lim.batch front sub) span.first
-      (raised sub.lane.floor (with_status span.first Settled (spans_of (sub_held lim.batch front sub))))).1
+      (without_first span.first (spans_of (sub_held lim.batch front sub)))).1
   settled_as closing clock next_link delivery span is = let h = out_as_held delivery sub.lane span is in
       settled_shown closing clock next_link span h.0 h.1
 

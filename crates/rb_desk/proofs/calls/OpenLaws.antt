@@ -6,19 +6,20 @@ use Rattle.std.proofs.lemmas.List.{map-set}
 use Rattle.std.proofs.lemmas.Option.{slice_get-map}
 use Rattle.rb_deliveries.specs.declared.span.Span.{Span}
 use Rattle.rb_deliveries.specs.declared.span.Status.{Status}
-use Rattle.rb_deliveries.specs.declared.span.Status.TheVariants.{Ready, InFlight, Settled}
+use Rattle.rb_deliveries.specs.declared.span.Status.TheVariants.{Ready, InFlight}
 use Rattle.rb_deliveries.specs.declared.ticket.Ticket.{Ticket}
 use Rattle.rb_deliveries.specs.declared.ticket.Held.{Held}
 use Rattle.rb_deliveries.specs.declared.sub.Sub.{Sub}
-use Rattle.rb_deliveries.specs.Spans.{is_ready, is_out, is_settled, with_status}
-use Rattle.rb_deliveries.specs.Lanes.{FollowOn, spans_of, lane_held}
+use Rattle.rb_deliveries.specs.Spans.{is_ready, is_out, with_status}
+use Rattle.rb_deliveries.specs.Lanes.{AreRising, earlier, spans_of, lane_held}
 use Rattle.rb_deliveries.specs.Orders.{order, ready_at, out_at, out_at_status}
 use Rattle.rb_desk.specs.Limits.{Limits}
 use Rattle.rb_desk.specs.Picture.{Subscription}
 use Rattle.rb_desk.specs.Shown.{shown_sub, shown, IsToTake}
-use Rattle.rb_deliveries.specs.Subs.{sub_held, Belongs}
+use Rattle.rb_deliveries.specs.Subs.{sub_held, Belongs, IsGiven, IsKnown, IsNewestAt, ComesLastAt}
 use Rattle.rb_deliveries.proofs.spans.ChangeLaws.{Changes, changed_spans}
-use Rattle.rb_deliveries.proofs.subs.KnownLaws.{all_get, held_open}
+use Rattle.rb_deliveries.proofs.orders.Line.{all_then}
+use Rattle.rb_deliveries.proofs.subs.KnownLaws.{all_get, drawn_before, held_open}
 
 -- subscription s of those that a desk keeps is this one, and open
 pub record IsOpen (batch front turn number : ℕ) (subs : List Sub) (s : ℕ) (sub : Sub) : Type 0 where
@@ -26,46 +27,51 @@ pub record IsOpen (batch front turn number : ℕ) (subs : List Sub) (s : ℕ) (s
   pub belong : AllByRecursion (Belongs front turn number) subs
   pub found : slice_get subs s ≡ Some sub
   pub is_open : sub.closed ≡ false
-  pub joins : FollowOn (suc sub.lane.floor) sub.lane.held sub.lane.next
+  pub rises : AreRising sub.lane
 
 -- so it is of what `take` finds
 pub to_take_open : (lim : Limits) (front turn number : ℕ) (subs : List Sub) (s link : ℕ) (span : Span)
     (t : IsToTake lim.window lim.batch front subs s link span) → 1 ≤ lim.batch
     → AllByRecursion (Belongs front turn number) subs → IsOpen lim.batch front turn number subs s t.sub
 to_take_open lim front turn number subs s link span t one belong =
-    record { one = one; belong = belong; found = t.found; is_open = t.is_open; joins = t.joined }
+    record { one = one; belong = belong; found = t.found; is_open = t.is_open; rises = t.rising }
+
+-- ---- what comes next
+
+-- the next delivery's number is greater than those that were given
+pub next_is_newest : (front turn number s : ℕ) (subs : List Sub) → AllByRecursion (Belongs front turn number) subs
+    → IsNewestAt subs s number
+next_is_newest front turn number s subs b sub found =
+    all_then (IsKnown front turn number) (λ h. IsGiven number h.span.status) sub.lane.held (λ h known. known.2)
+    (all_get (Belongs front turn number) subs s sub b found).are_known
+
+-- the next turn's ticket comes after those that were drawn
+pub next_comes_last : (front turn number s : ℕ) (subs : List Sub) → AllByRecursion (Belongs front turn number) subs
+    → ComesLastAt subs s (record { front = front; turn = suc turn })
+next_comes_last front turn number s subs b sub found =
+    all_then (IsKnown front turn number)
+    (λ h. earlier h.ticket (record { front = front; turn = suc turn }) ≡ true) sub.lane.held
+    (λ h known. drawn_before front turn h.ticket known.1)
+    (all_get (Belongs front turn number) subs s sub b found).are_known
 
 -- ---- which order a span stands in
 
--- what is out isn't ready, what is ready isn't out, and what is settled is neither
+-- what is out isn't ready, and what is ready isn't out
 pub out_not_ready : (status : Status) → is_out status ≡ true → is_ready status ≡ false
 out_not_ready (Ready taken) is = sym is
 out_not_ready (InFlight number moment) is = refl
-out_not_ready Settled is = refl
 
 pub ready_not_out : (status : Status) → is_ready status ≡ true → is_out status ≡ false
 ready_not_out (Ready taken) is = refl
 ready_not_out (InFlight number moment) is = sym is
-ready_not_out Settled is = refl
-
-pub settled_not_ready : (status : Status) → is_settled status ≡ true → is_ready status ≡ false
-settled_not_ready (Ready taken) is = sym is
-settled_not_ready (InFlight number moment) is = refl
-settled_not_ready Settled is = refl
-
-pub settled_not_out : (status : Status) → is_settled status ≡ true → is_out status ≡ false
-settled_not_out (Ready taken) is = refl
-settled_not_out (InFlight number moment) is = sym is
-settled_not_out Settled is = refl
 
 -- one that isn't ready doesn't stand in the ready order, and one that isn't out doesn't stand in the in-flight order
-pub not_ready_at : (s : ℕ) (h : Held) → is_ready h.span.status ≡ false → ready_at s h ≡ None
+not_ready_at : (s : ℕ) (h : Held) → is_ready h.span.status ≡ false → ready_at s h ≡ None
 not_ready_at s h is = ap (λ b. cond b (Some (h.ticket, (s, h.span.first))) None) is
 
-pub not_out_at : (s first : ℕ) (status : Status) → is_out status ≡ false → out_at_status s first status ≡ None
+not_out_at : (s first : ℕ) (status : Status) → is_out status ≡ false → out_at_status s first status ≡ None
 not_out_at s first (Ready taken) is = refl
 not_out_at s first (InFlight number moment) is = absurd (cc)
-not_out_at s first Settled is = refl
 
 -- so it is of a span that is this one
 pub stood_not_ready : (s : ℕ) (h : Held) (span : Span) → h.span ≡ span → is_ready span.status ≡ false → ready_at s h

@@ -1,7 +1,7 @@
 -- What a desk shows after a number is placed.
-use Rattle.std.proofs.Common.{◌≡◌, ℕ, suc, ◌-◌, ◌≤◌, Bool, true, false, ◌&&◌, ◌||◌, cond, List, [], ◌∷◌, ◌++◌, map}
-use Rattle.std.proofs.Common.{Option, Some, None, filter_map, nat_lt, if◌then◌else◌, append_assoc, append-nil, refl}
-use Rattle.std.proofs.Common.{sym, ap, ◌∙◌, arith}
+use Rattle.std.proofs.Common.{◌≡◌, ℕ, suc, ◌-◌, ◌≤◌, Bool, true, false, ◌==◌, ◌&&◌, ◌||◌, cond, List, [], ◌∷◌, ◌++◌}
+use Rattle.std.proofs.Common.{map, Option, Some, None, filter_map, nat_lt, if◌then◌else◌, append_assoc, append-nil}
+use Rattle.std.proofs.Common.{refl, sym, ap, ◌∙◌, arith}
 use Rattle.std.specs.List.{AllByRecursion, cons_option}
 use Rattle.std.proofs.lemmas.Bool.{le-ltb}
 use Rattle.std.proofs.lemmas.List.Elements.{filter_map-append}
@@ -10,7 +10,7 @@ use Rattle.rb_deliveries.specs.declared.ticket.Held.{Held}
 use Rattle.rb_deliveries.specs.declared.span.Span.{Span}
 use Rattle.rb_deliveries.specs.declared.sub.Sub.{Sub}
 use Rattle.rb_deliveries.specs.Spans.{fresh, cut_spans, is_fresh, takes_one_more, last_takes, last_with, grown_spans}
-use Rattle.rb_deliveries.specs.Lanes.{Lane, ticketed, with_birth, birth, spans_of, lane_held}
+use Rattle.rb_deliveries.specs.Lanes.{Lane, lane_floor, ticketed, with_birth, birth, spans_of, lane_held}
 use Rattle.rb_deliveries.specs.Orders.{in_line, all_at, ready_at, out_at}
 use Rattle.rb_desk.specs.Limits.{Limits}
 use Rattle.rb_desk.specs.Picture.{Subscription}
@@ -26,29 +26,31 @@ use Rattle.rb_desk.proofs.calls.CuttingLaws.{before_placement, ready_earlier, sa
 -- ---- spans that were taken before
 
 -- one that isn't fresh takes no number more
-not_fresh : (batch : ℕ) (p : Span) → is_fresh p.status ≡ false → takes_one_more batch p ≡ false
-not_fresh batch p h = ap (λ t. t && nat_lt (suc p.last - p.first) batch) h
+not_fresh : (batch n : ℕ) (p : Span) → is_fresh p.status ≡ false → takes_one_more batch n p ≡ false
+not_fresh batch n p h = ap (λ t. t && ((suc p.last == n) && nat_lt (suc p.last - p.first) batch)) h
 
 -- what is behind spans that were taken before grows
 pub grown_held : (batch n : ℕ) (held : List Held) (rest : List Span)
     → AllByRecursion (λ h. is_fresh h.span.status ≡ false) held → grown_spans batch n (spans_of held ++ rest)
     ≡ spans_of held ++ grown_spans batch n rest
 grown_held batch n [] rest h = refl
-grown_held batch n (x ∷ held) rest h = grown_behind batch n x.span (spans_of held ++ rest) (not_fresh batch x.span h.0)
+grown_held batch n (x ∷ held) rest h =
+    grown_behind batch n x.span (spans_of held ++ rest) (not_fresh batch n x.span h.0)
     ∙ ap (λ (l : List Span). x.span ∷ l) (grown_held batch n held rest h.1)
 
-place_last_behind : (batch : ℕ) (p : Span) (rest : List Span) → takes_one_more batch p ≡ false
-    → last_takes batch (p ∷ rest) ≡ last_takes batch rest
-place_last_behind batch p [] h = h
-place_last_behind batch p (q ∷ rest) h = refl
+place_last_behind : (batch n : ℕ) (p : Span) (rest : List Span) → takes_one_more batch n p ≡ false
+    → last_takes batch n (p ∷ rest) ≡ last_takes batch n rest
+place_last_behind batch n p [] h = h
+place_last_behind batch n p (q ∷ rest) h = refl
 
 -- and it decides whether the last span takes a number
-pub last_held : (batch : ℕ) (held : List Held) (rest : List Span)
-    → AllByRecursion (λ h. is_fresh h.span.status ≡ false) held → last_takes batch (spans_of held ++ rest)
-    ≡ last_takes batch rest
-last_held batch [] rest h = refl
-last_held batch (x ∷ held) rest h = place_last_behind batch x.span (spans_of held ++ rest) (not_fresh batch x.span h.0)
-    ∙ last_held batch held rest h.1
+pub last_held : (batch n : ℕ) (held : List Held) (rest : List Span)
+    → AllByRecursion (λ h. is_fresh h.span.status ≡ false) held → last_takes batch n (spans_of held ++ rest)
+    ≡ last_takes batch n rest
+last_held batch n [] rest h = refl
+last_held batch n (x ∷ held) rest h =
+    place_last_behind batch n x.span (spans_of held ++ rest) (not_fresh batch n x.span h.0)
+    ∙ last_held batch n held rest h.1
 
 -- ---- a lane
 
@@ -90,8 +92,8 @@ ready_one_more s n c (p ∷ rest) = by (ready_at s (with_birth c p)) (ready_one_
 ready_grown : (batch s n : ℕ) (c : Ticket) (spans : List Span)
     → filter_map (ready_at s) (ticketed c (grown_spans batch n spans))
     ≡ filter_map (ready_at s) (ticketed c spans)
-    ++ map (λ x. (birth c n, x)) (if last_takes batch spans then [] else (s, n) ∷ [])
-ready_grown batch s n c spans = by (last_takes batch spans)
+    ++ map (λ x. (birth c n, x)) (if last_takes batch n spans then [] else (s, n) ∷ [])
+ready_grown batch s n c spans = by (last_takes batch n spans)
   where
     by : (t : Bool) → filter_map (ready_at s) (ticketed c (cond t (last_with n spans) (spans ++ fresh n n ∷ [])))
         ≡ filter_map (ready_at s) (ticketed c spans) ++ map (λ x. (birth c n, x)) (cond t [] ((s, n) ∷ []))
@@ -105,7 +107,7 @@ birth_now front c le = ap (λ (t : Bool). if t then c else record { front = suc 
 
 -- the number that a subscription has more in the ready order
 abbrev pub place_begins : ℕ → ℕ → ℕ → Subscription → List (ℕ × ℕ)
-place_begins batch n s q = if q.closed || last_takes batch q.spans then [] else (s, n) ∷ []
+place_begins batch n s q = if q.closed || last_takes batch n q.spans then [] else (s, n) ∷ []
 
 -- what is ready of a lane at the next front
 lane_ready : (batch front s : ℕ) (kept : Lane) → 1 ≤ batch → kept.next ≤ suc front → kept.cutting.front ≤ front
@@ -113,7 +115,7 @@ lane_ready : (batch front s : ℕ) (kept : Lane) → 1 ≤ batch → kept.next �
     → filter_map (ready_at s) (lane_held batch (suc front) kept)
     ≡ filter_map (ready_at s) (lane_held batch front kept)
     ++ map (λ x. (record { front = suc front; turn = 0 }, x))
-    (if last_takes batch (spans_of (lane_held batch front kept)) then [] else (s, suc front) ∷ [])
+    (if last_takes batch (suc front) (spans_of (lane_held batch front kept)) then [] else (s, suc front) ∷ [])
 lane_ready batch front s kept one le drawn h =
     filter_map-append (ready_at s) kept.held _
     ∙ ap (λ l. filter_map (ready_at s) kept.held ++ filter_map (ready_at s) (ticketed kept.cutting l))
@@ -125,10 +127,10 @@ lane_ready batch front s kept one le drawn h =
     ∙ (λ i. sym (filter_map-append (ready_at s) kept.held (ticketed kept.cutting (cut_spans batch kept.next front))) i
     ++ map (λ x. (birth_now front kept.cutting drawn i, x)) (cond (same_last i) [] ((s, suc front) ∷ [])))
   where
-    same_last : last_takes batch (cut_spans batch kept.next front)
-        ≡ last_takes batch (spans_of (lane_held batch front kept))
-    same_last = sym (ap (last_takes batch) (lane_spans_is batch front kept)
-        ∙ last_held batch kept.held (cut_spans batch kept.next front) h)
+    same_last : last_takes batch (suc front) (cut_spans batch kept.next front)
+        ≡ last_takes batch (suc front) (spans_of (lane_held batch front kept))
+    same_last = sym (ap (last_takes batch (suc front)) (lane_spans_is batch front kept)
+        ∙ last_held batch (suc front) kept.held (cut_spans batch kept.next front) h)
 
 -- ---- a subscription
 
@@ -147,7 +149,7 @@ sub_grows batch front turn number sub one b =
     with_spans : Bool → List Span → Subscription
     with_spans t spans = record {
       start = sub.start;
-      floor = sub.lane.floor;
+      floor = lane_floor sub.lane;
       offered = sub.offered;
       link = sub.link;
       closed = t;
@@ -175,11 +177,12 @@ sub_ready batch front turn number s sub one b =
 
     by : (b : Bool) → filter_map (ready_at s) (lane_held batch (suc front) sub.lane)
         ≡ filter_map (ready_at s) (lane_held batch front sub.lane)
-        ++ map (λ x. (t, x)) (cond (last_takes batch (spans_of (lane_held batch front sub.lane))) []
+        ++ map (λ x. (t, x)) (cond (last_takes batch (suc front) (spans_of (lane_held batch front sub.lane))) []
         ((s, suc front) ∷ []))
         → filter_map (ready_at s) (cond b [] (lane_held batch (suc front) sub.lane))
         ≡ filter_map (ready_at s) (cond b [] (lane_held batch front sub.lane))
-        ++ map (λ x. (t, x)) (cond (b || last_takes batch (spans_of (cond b [] (lane_held batch front sub.lane))))
+        ++ map (λ x. (t, x))
+        (cond (b || last_takes batch (suc front) (spans_of (cond b [] (lane_held batch front sub.lane))))
         [] ((s, suc front) ∷ []))
     by true h = refl
     by false h = h
@@ -210,7 +213,7 @@ all_grow batch front turn number (sub ∷ subs) one h = λ i. sub_grows batch fr
 
 begun_parts : (batch n s : ℕ) (q : Subscription) (rest : List Subscription) → begun_spans batch n s (q ∷ rest)
     ≡ place_begins batch n s q ++ begun_spans batch n (suc s) rest
-begun_parts batch n s q rest = by (q.closed || last_takes batch q.spans)
+begun_parts batch n s q rest = by (q.closed || last_takes batch n q.spans)
   where
     by : (t : Bool) → cond t (begun_spans batch n (suc s) rest) ((s, n) ∷ begun_spans batch n (suc s) rest)
         ≡ cond t [] ((s, n) ∷ []) ++ begun_spans batch n (suc s) rest

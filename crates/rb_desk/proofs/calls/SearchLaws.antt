@@ -5,7 +5,7 @@ use Rattle.std.proofs.lemmas.Option.{slice_get-map}
 use Rattle.rb_deliveries.specs.declared.ticket.Held.{Held}
 use Rattle.rb_deliveries.specs.declared.sub.Sub.{Sub}
 use Rattle.rb_deliveries.specs.Spans.{how_many_out}
-use Rattle.rb_deliveries.specs.Lanes.{FollowOn, spans_of, lane_held, least}
+use Rattle.rb_deliveries.specs.Lanes.{AreRising, spans_of, lane_held, least}
 use Rattle.rb_deliveries.specs.Orders.{ready_at}
 use Rattle.rb_deliveries.specs.Subs.{sub_held}
 use Rattle.rb_desk.specs.Limits.{Limits}
@@ -61,7 +61,7 @@ pub take_any_some : (lim : Limits) (front clock next_link next_delivery now s : 
     (λ sub. nat_lt (how_many_out (spans_of (lane_held lim.batch front sub.lane))) lim.window) 0 subs
     ≡ Some (h.ticket, (s, h.span.first))
     → slice_get subs s ≡ Some sub → sub.lane.next ≤ suc front
-    → FollowOn (suc sub.lane.floor) sub.lane.held sub.lane.next → sub.closed ≡ false
+    → AreRising sub.lane → sub.closed ≡ false
     → least (lane_held lim.batch front sub.lane) ≡ Some h
     → take_any (shown lim front closing clock next_link next_delivery subs) now
     ≡ (

@@ -9,7 +9,7 @@ use Rattle.rb_desk.specs.Calls.{delivery_from, delivered_picture}
 use Rattle.rb_desk.specs.IsPicture.{IsPicture}
 use Rattle.rb_desk.specs.Outline.{Member, Outline, member_of, outline_of}
 use Rattle.rb_desk.specs.Outline as outline
-use Rattle.rb_desk.proofs.pictures.PartLaws.{part_begins, part_ends, all_found}
+use Rattle.rb_desk.proofs.pictures.RiseLaws.{rise_begins, rise_ends, all_spans_found}
 use Rattle.rb_desk.proofs.pictures.StandLaws.{found_good}
 
 -- ---- answers
@@ -80,11 +80,11 @@ pub handed_shows : (p : Picture) (s : ℕ) (q : Subscription) (span : Span) (clo
     → outline.Delivers (outline_of p) (outline_of (delivered_picture p s q span clock)) (delivery_from p s q span)
 handed_shows p s q span clock test good here runs found =
     let mine = found_good p s q here good in
-    let part = mine.parts runs in
-    let begins = all_found (λ x. suc q.floor ≤ x.first) test q.spans span
-    (part_begins (suc q.floor) p.front q.spans part) found in
-    let ends = all_found (λ x. (x.first ≤ x.last) × (x.last ≤ p.front)) test q.spans span
-    (part_ends (suc q.floor) p.front q.spans part) found in
+    let rise = mine.rise runs in
+    let begins = all_spans_found (λ x. suc q.floor ≤ x.first) test q.spans span
+    (rise_begins (suc q.floor) p.front q.spans rise) found in
+    let ends = all_spans_found (λ x. (x.first ≤ x.last) × (x.last ≤ p.front)) test q.spans span
+    (rise_ends (suc q.floor) p.front q.spans rise) found in
     record {
       member = member_of q;
       found = found_member p.subscriptions s q here;

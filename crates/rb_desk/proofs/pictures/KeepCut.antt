@@ -5,7 +5,7 @@ use Rattle.std.proofs.Common.{◌==◌, cond, ◌⊎◌, inl, inr, List, [], ◌
 use Rattle.std.proofs.Common.{Result, filter, nat_lt, nat_le, slice_get, slice_set, append-nil, refl, sym, ap, ◌∙◌}
 use Rattle.std.proofs.Common.{subst, arith, length-append}
 use Rattle.std.specs.List.{AllByRecursion}
-use Rattle.std.proofs.lemmas.Bool.{false≢true, eqb-true, ltb-false, leb-true, leb-false}
+use Rattle.std.proofs.lemmas.Bool.{false≢true, cases_lt, eqb-true, ltb-false, leb-true, leb-false}
 use Rattle.std.proofs.Math.Dec.{eqb-suc-suc}
 use Rattle.rb_desk.specs.declared.config.ConfigFault.{ConfigFault}
 use Rattle.rb_desk.specs.declared.config.ConfigFault.TheVariants.{Batch}
@@ -13,14 +13,14 @@ use Rattle.rb_desk.specs.declared.refusal.DeskRefusal.{DeskRefusal}
 use Rattle.rb_deliveries.specs.declared.span.Span.{Span}
 use Rattle.rb_deliveries.specs.declared.span.Status.{Status}
 use Rattle.rb_desk.specs.Limits.{Limits}
-use Rattle.rb_deliveries.specs.Spans.{cut_spans, is_ready, is_out, is_out_as, is_settled, beginning, how_many_out}
+use Rattle.rb_deliveries.specs.Spans.{fresh, cut_spans, is_ready, is_out, is_out_as, beginning, how_many_out, floor_of}
 use Rattle.rb_desk.specs.Picture.{Picture, Subscription, empty_picture}
 use Rattle.rb_desk.specs.Calls.{named, with_subscription, without_subscription, subscribe, subscribed_picture}
 use Rattle.rb_desk.specs.Calls.{reconnect, reconnected_picture, reconnected_by, unsubscribe, unsubscribed_picture}
 use Rattle.rb_desk.specs.Calls.{unsubscribed_by, close, last_number}
-use Rattle.rb_desk.specs.IsPicture.{AreInRange, Partition, IsGoodSpan, StartsUnsettled, IsGoodSubscription, how_often}
+use Rattle.rb_desk.specs.IsPicture.{AreInRange, SpansRise, IsInSpan, IsGoodSpan, IsGoodSubscription, how_often}
 use Rattle.rb_desk.specs.IsPicture.{one_if, span_there, stands_there, links_of, IsPicture}
-use Rattle.rb_deliveries.proofs.spans.CutLaws.{CutIsFresh, cut_fresh, cut_induction}
+use Rattle.rb_deliveries.proofs.spans.CutLaws.{CutIsFresh, cut_ends, cut_fresh, cut_induction}
 use Rattle.rb_deliveries.proofs.orders.Line.{all_both, all_then, filter_none}
 use Rattle.rb_deliveries.proofs.subs.KnownLaws.{all_get}
 use Rattle.rb_desk.proofs.pictures.PictureLaws.{count_cons, often_append, often_without_all, often_named, links_none}
@@ -64,13 +64,34 @@ one_in_batch limits h = leb-true 1 limits.batch (by (nat_le 1 limits.batch) (nat
 
 -- ---- a cutting
 
--- its spans partition the numbers that are cut
-pub cut_parts : (batch a b : ℕ) → 1 ≤ batch → a ≤ suc b → Partition a (cut_spans batch a b) b
-cut_parts batch a b one =
-    cut_induction batch b (λ a spans. a ≤ suc b → Partition a spans b) one
+-- its spans rise, the first one begins where the cutting does, and each number that is cut is in one
+pub cut_rise : (batch a b : ℕ) → 1 ≤ batch → a ≤ suc b → SpansRise a (cut_spans batch a b) b
+cut_rise batch a b one =
+    cut_induction batch b (λ a spans. a ≤ suc b → SpansRise a spans b) one
     (λ a less h. omega arith)
-    (λ a le rest h. (refl, omega arith, rest (omega arith)))
+    (λ a le rest h. (omega arith, omega arith, rest (omega arith)))
     (suc b - a) a (omega arith)
+
+pub cut_floor : (batch a b : ℕ) → 1 ≤ batch → a ≤ b → floor_of (cut_spans batch (suc a) b) b ≡ a
+cut_floor batch a b one le =
+    cut_induction batch b (λ low spans. low ≡ suc a → floor_of spans b ≡ a) one
+    (λ low less is. omega (arith, less, is, le))
+    (λ low more rest is. omega (arith, is))
+    (suc b - suc a) (suc a) (omega arith) refl
+
+pub cut_in : (batch a b n : ℕ) → 1 ≤ batch → a ≤ n → n ≤ b → IsInSpan n (cut_spans batch a b)
+cut_in batch a b n one low high =
+    cut_induction batch b (λ low spans. low ≤ n → IsInSpan n spans) one
+    (λ low less le. absurd (omega (arith, less, le, high)))
+    (λ low more rest le. by low (cut_spans batch (suc (cut_ends batch low b)) b) le rest
+    (cases_lt (cut_ends batch low b) n))
+    (suc b - a) a (omega arith) low
+  where
+    by : (from : ℕ) (spans : List Span) → from ≤ n → (suc (cut_ends batch from b) ≤ n → IsInSpan n spans)
+        → (cut_ends batch from b < n) ⊎ (n ≤ cut_ends batch from b)
+        → IsInSpan n (fresh from (cut_ends batch from b) ∷ spans)
+    by from spans le rest (inl less) = inr (rest less)
+    by from spans le rest (inr more) = inl (le, more)
 
 -- each of them is good, whatever was offered or given
 pub cut_good : (batch a b offered next : ℕ) → 1 ≤ batch
@@ -81,11 +102,7 @@ cut_good batch a b offered next one =
     (λ a le rest. (record { short = omega arith; handed_out = (λ taken. absurd (false≢true (sym taken)), tt) }, rest))
     (suc b - a) a (omega arith)
 
--- the first of fresh spans isn't settled, and none of them is out
-pub fresh_unsettled : (spans : List Span) → AllByRecursion CutIsFresh spans → StartsUnsettled spans
-fresh_unsettled [] h = tt
-fresh_unsettled (p ∷ rest) h = ap is_settled h.0
-
+-- none of them is out
 pub fresh_not_out : (spans : List Span) → AllByRecursion CutIsFresh spans
     → AllByRecursion (λ (p : Span). is_out p.status ≡ false) spans
 fresh_not_out spans h = all_then CutIsFresh (λ (p : Span). is_out p.status ≡ false) spans (λ p is. ap is_out is) h
@@ -102,7 +119,7 @@ fresh_outs d spans h = ap length
 -- ---- the span that begins with a number
 
 -- no span begins below the first number
-pub begins_later : (low high : ℕ) (spans : List Span) (first : ℕ) → Partition low spans high → first < low
+pub begins_later : (low high : ℕ) (spans : List Span) (first : ℕ) → SpansRise low spans high → first < low
     → length (filter (λ (p : Span). p.first == first) spans) ≡ 0
 begins_later low high [] first j less = refl
 begins_later low high (p ∷ rest) first j less =
@@ -110,7 +127,7 @@ begins_later low high (p ∷ rest) first j less =
     rw (count_cons (λ (p : Span). p.first == first) p rest, ne_eqb p.first first (omega (arith, j.0, less)), none) refl
 
 -- of fresh spans in a row as many begin with a number as there is one that does
-pub fresh_there : (low high : ℕ) (spans : List Span) (first : ℕ) → Partition low spans high
+pub fresh_there : (low high : ℕ) (spans : List Span) (first : ℕ) → SpansRise low spans high
     → AllByRecursion CutIsFresh spans → length (filter (λ (p : Span). p.first == first) spans)
     ≡ span_there is_ready (beginning first spans)
 fresh_there low high [] first j f = refl
@@ -131,18 +148,6 @@ pub none_there : (test : Status → Bool) (first : ℕ) (spans : List Span)
 none_there test first [] h = refl
 none_there test first (p ∷ rest) h = either_way (λ (o : Option Span). span_there test o ≡ 0) (p.first == first) (Some p)
     (beginning first rest) (ap one_if h.0) (none_there test first rest h.1)
-
--- the spans of a cutting stand once among their names, as ready ones, and none of them is out
-pub cut_often : (batch a b s first : ℕ) → 1 ≤ batch → a ≤ suc b → how_often s first (named s (cut_spans batch a b))
-    ≡ span_there is_ready (beginning first (cut_spans batch a b))
-cut_often batch a b s first one le =
-    often_named s s first (cut_spans batch a b)
-    ∙ (λ i. cond (eq-eqb s s refl i)
-    (fresh_there a b (cut_spans batch a b) first (cut_parts batch a b one le) (cut_fresh batch a b) i) 0)
-
-pub cut_none_out : (batch a b first : ℕ) → span_there is_out (beginning first (cut_spans batch a b)) ≡ 0
-cut_none_out batch a b first =
-    none_there is_out first (cut_spans batch a b) (fresh_not_out (cut_spans batch a b) (cut_fresh batch a b))
 
 -- ---- a subscription more
 
@@ -176,7 +181,7 @@ subscribed_keeps p start k behind room = record {
       often_append s first p.ready (named (length p.subscriptions) spans)
       ∙ (λ i. k.ready s first i + often_named (length p.subscriptions) s first spans i)
       ∙ ap (λ n. stands_there is_ready first (slice_get p.subscriptions s) + cond (length p.subscriptions == s) n 0)
-      (fresh_there (suc start) p.front spans first parts fresh)
+      (fresh_there (suc start) p.front spans first rise fresh)
       ∙ sym (stands_appended is_ready first p.subscriptions q s);
   out = λ s first.
       k.out s first ∙ none_more (length p.subscriptions == s) (stands_there is_out first (slice_get p.subscriptions s))
@@ -197,8 +202,8 @@ subscribed_keeps p start k behind room = record {
     fresh : AllByRecursion CutIsFresh spans
     fresh = cut_fresh p.limits.batch (suc start) p.front
 
-    parts : Partition (suc start) spans p.front
-    parts = cut_parts p.limits.batch (suc start) p.front (one_in_batch p.limits k.in_range) (omega arith)
+    rise : SpansRise (suc start) spans p.front
+    rise = cut_rise p.limits.batch (suc start) p.front (one_in_batch p.limits k.in_range) (omega arith)
 
     mine : IsGoodSubscription new q
     mine = record {
@@ -207,8 +212,10 @@ subscribed_keeps p start k behind room = record {
       placed = behind;
       linked = omega arith;
       has_none = λ is. absurd (false≢true is);
-      parts = λ running. parts;
-      unsettled = fresh_unsettled spans fresh;
+      rise = λ running. rise;
+      from_floor = λ running. sym (cut_floor p.limits.batch start p.front (one_in_batch p.limits k.in_range) behind);
+      never_delivered = λ running n less le.
+          cut_in p.limits.batch (suc start) p.front n (one_in_batch p.limits k.in_range) less le;
       good = cut_good p.limits.batch (suc start) p.front start p.next_delivery (one_in_batch p.limits k.in_range);
       few = omega (arith, fresh_few spans fresh);
     }
@@ -244,15 +251,15 @@ replaced p s q' link ready =
 pub replaced_keeps : (p : Picture) (s link low high : ℕ) (q q' : Subscription) → IsPicture p
     → slice_get p.subscriptions s ≡ Some q → p.next_link ≤ link → (q'.link ≡ q.link) ⊎ (p.next_link ≤ q'.link)
     → IsGoodSubscription (replaced p s q' link (without_subscription s p.ready ++ named s q'.spans)) q'
-    → Partition low q'.spans high → AllByRecursion CutIsFresh q'.spans
+    → SpansRise low q'.spans high → AllByRecursion CutIsFresh q'.spans
     → IsPicture (replaced p s q' link (without_subscription s p.ready ++ named s q'.spans))
-replaced_keeps p s link low high q q' k found le own mine parts fresh =
+replaced_keeps p s link low high q q' k found le own mine rise fresh =
     changed_keeps p s q found q' p.clock link p.next_delivery (without_subscription s p.ready ++ named s q'.spans)
     (without_subscription s p.in_flight) k le (omega arith) mine
     (λ at. one_link at (links_of at (slice_set p.subscriptions s q')) own (links_set at p.subscriptions s q q' found))
     (λ d. omega (arith, out_set d p.subscriptions s q q' found, fresh_outs d q'.spans fresh, k.deliveries d))
     (λ first. stands s first ∙ (λ i. cond (eq-eqb s s refl i) 0 (how_often s first p.ready)
-    + cond (eq-eqb s s refl i) (fresh_there low high q'.spans first parts fresh i) 0) ∙ omega arith)
+    + cond (eq-eqb s s refl i) (fresh_there low high q'.spans first rise fresh i) 0) ∙ omega arith)
     (λ t first other. stands t first
     ∙ (λ i. cond (ne_eqb t s other i) 0 (how_often t first p.ready)
     + cond (ne_eqb s t (λ e. other (sym e)) i) (begin first) 0) ∙ omega arith)
@@ -297,7 +304,7 @@ pub reconnected_keeps : (p : Picture) (s cursor : ℕ) (q : Subscription) → Is
 reconnected_keeps p s cursor q k found running low high =
     replaced_keeps p s (suc p.next_link) (suc cursor) p.front q
     (record q { floor = cursor; link = p.next_link; spans = spans }) k found (omega arith) (inr (omega arith)) mine
-    parts fresh
+    rise fresh
   where
     spans : List Span
     spans = cut_spans p.limits.batch (suc cursor) p.front
@@ -308,8 +315,8 @@ reconnected_keeps p s cursor q k found running low high =
     fresh : AllByRecursion CutIsFresh spans
     fresh = cut_fresh p.limits.batch (suc cursor) p.front
 
-    parts : Partition (suc cursor) spans p.front
-    parts = cut_parts p.limits.batch (suc cursor) p.front (one_in_batch p.limits k.in_range)
+    rise : SpansRise (suc cursor) spans p.front
+    rise = cut_rise p.limits.batch (suc cursor) p.front (one_in_batch p.limits k.in_range)
         (omega (arith, high, was.placed))
 
     mine : IsGoodSubscription (reconnected_picture p s q cursor spans)
@@ -320,8 +327,11 @@ reconnected_keeps p s cursor q k found running low high =
       placed = was.placed;
       linked = omega arith;
       has_none = λ is. absurd (false≢true (sym running ∙ is));
-      parts = λ _. parts;
-      unsettled = fresh_unsettled spans fresh;
+      rise = λ _. rise;
+      from_floor = λ _. sym (cut_floor p.limits.batch cursor p.front (one_in_batch p.limits k.in_range)
+          (omega (arith, high, was.placed)));
+      never_delivered = λ _ n less le. cut_in p.limits.batch (suc cursor) p.front n
+          (one_in_batch p.limits k.in_range) (omega (arith, high, less)) le;
       good = cut_good p.limits.batch (suc cursor) p.front q.offered p.next_delivery (one_in_batch p.limits k.in_range);
       few = omega (arith, fresh_few spans fresh);
     }
@@ -347,7 +357,7 @@ pub unsubscribed_keeps : (p : Picture) (s : ℕ) (q : Subscription) → IsPictur
     → IsPicture (unsubscribed_picture p s q)
 unsubscribed_keeps p s q k found =
     subst (λ ready. IsPicture (replaced p s q' p.next_link ready)) (append-nil (without_subscription s p.ready))
-    (replaced_keeps p s p.next_link 1 0 q q' k found (omega arith) (inl refl) mine refl tt)
+    (replaced_keeps p s p.next_link 1 0 q q' k found (omega arith) (inl refl) mine (omega arith) tt)
   where
     q' : Subscription
     q' = record q { closed = true; spans = [] }
@@ -362,8 +372,9 @@ unsubscribed_keeps p s q k found =
       placed = was.placed;
       linked = was.linked;
       has_none = λ is. refl;
-      parts = λ running. absurd (false≢true (sym running));
-      unsettled = tt;
+      rise = λ running. absurd (false≢true (sym running));
+      from_floor = λ running. absurd (false≢true (sym running));
+      never_delivered = λ running. absurd (false≢true (sym running));
       good = tt;
       few = omega arith;
     }

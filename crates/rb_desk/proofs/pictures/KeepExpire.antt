@@ -1,18 +1,19 @@
 -- The invariant of a picture holds after the spans that are due are returned.
-use Rattle.std.proofs.Common.{◌≡◌, ℕ, suc, max, ◌+◌, ◌-◌, ◌≤◌, Bool, true, false, not, ◌==◌, cond, List, [], ◌∷◌}
-use Rattle.std.proofs.Common.{length, Option, Some, None, option_map, filter, nat_le, slice_get, refl, sym, ap, ◌∙◌}
-use Rattle.std.proofs.Common.{arith}
+use Rattle.std.proofs.Common.{◌≡◌, ℕ, suc, max, ◌+◌, ◌-◌, ◌≤◌, ◌⊎◌, inl, inr, Bool, true, false, not, ◌==◌, cond, List}
+use Rattle.std.proofs.Common.{[], ◌∷◌, length, Option, Some, None, option_map, filter, nat_le, slice_get, refl, sym, ap}
+use Rattle.std.proofs.Common.{◌∙◌, arith}
 use Rattle.std.specs.List.{AllByRecursion}
 use Rattle.std.proofs.lemmas.Bool.{false≢true}
 use Rattle.std.proofs.lemmas.Option.{slice_get-map}
 use Rattle.std.proofs.lemmas.List.{length-map}
 use Rattle.rb_deliveries.specs.declared.span.Span.{Span}
 use Rattle.rb_deliveries.specs.declared.span.Status.{Status}
-use Rattle.rb_deliveries.specs.declared.span.Status.TheVariants.{Ready, InFlight, Settled}
-use Rattle.rb_deliveries.specs.Spans.{is_ready, is_fresh, is_out, is_out_as, is_settled, is_due, beginning, gone_back}
+use Rattle.rb_deliveries.specs.declared.span.Status.TheVariants.{Ready, InFlight}
+use Rattle.rb_deliveries.specs.Spans.{is_ready, is_fresh, is_out, is_out_as, is_due, beginning, gone_back}
+use Rattle.rb_deliveries.specs.Spans.{floor_of}
 use Rattle.rb_desk.specs.Picture.{Picture, Subscription}
 use Rattle.rb_desk.specs.Calls.{expire, expired_at, expires, goes_back, is_due_of, span_is_due}
-use Rattle.rb_desk.specs.IsPicture.{Partition, IsGoodSpan, StartsUnsettled, IsGoodSubscription, one_if, span_there}
+use Rattle.rb_desk.specs.IsPicture.{SpansRise, IsInSpan, IsGoodSpan, IsGoodSubscription, one_if, span_there}
 use Rattle.rb_desk.specs.IsPicture.{stands_there, IsPicture}
 use Rattle.rb_deliveries.proofs.orders.Line.{all_then}
 use Rattle.rb_deliveries.proofs.subs.KnownLaws.{all_mapped}
@@ -43,7 +44,6 @@ module _ (timeout clock : ℕ) where
   due_taken : (status : Status) → is_due timeout clock status ≡ true → is_fresh status ≡ false
   due_taken (Ready taken) due = absurd (false≢true due)
   due_taken (InFlight number moment) due = refl
-  due_taken Settled due = refl
 
   -- what is out and due is ready, what was ready still is, and nothing else
   ready_now : (status : Status) → one_if (is_ready (cond (is_due timeout clock status) (Ready true) status))
@@ -54,7 +54,6 @@ module _ (timeout clock : ℕ) where
       by : (b : Bool) → one_if (is_ready (cond b (Ready true) (InFlight number moment))) ≡ 0 + cond b 1 0
       by true = refl
       by false = refl
-  ready_now Settled = refl
 
   -- what is out and not due is out
   out_now : (status : Status) → one_if (is_out (cond (is_due timeout clock status) (Ready true) status))
@@ -65,26 +64,36 @@ module _ (timeout clock : ℕ) where
       by : (b : Bool) → one_if (is_out (cond b (Ready true) (InFlight number moment))) ≡ cond (not b) 1 0
       by true = refl
       by false = refl
-  out_now Settled = refl
 
   -- ---- the spans of a subscription
 
-  -- they partition the same numbers
-  pub back_parts : (low high : ℕ) (spans : List Span) → Partition low spans high
-      → Partition low (gone_back timeout clock spans) high
-  back_parts low high [] j = j
-  back_parts low high (p ∷ rest) j = by (is_due timeout clock p.status) (back_parts (suc p.last) high rest j.2)
+  -- they rise as before
+  pub back_rise : (low high : ℕ) (spans : List Span) → SpansRise low spans high
+      → SpansRise low (gone_back timeout clock spans) high
+  back_rise low high [] j = j
+  back_rise low high (p ∷ rest) j = by (is_due timeout clock p.status) (back_rise (suc p.last) high rest j.2)
     where
-      by : (b : Bool) → Partition (suc p.last) (gone_back timeout clock rest) high
-          → Partition low (cond b (record p { status = Ready true }) p ∷ gone_back timeout clock rest) high
+      by : (b : Bool) → SpansRise (suc p.last) (gone_back timeout clock rest) high
+          → SpansRise low (cond b (record p { status = Ready true }) p ∷ gone_back timeout clock rest) high
       by true h = (j.0, j.1, h)
       by false h = (j.0, j.1, h)
 
-  -- the first of them isn't settled
-  pub back_unsettled : (spans : List Span) → StartsUnsettled spans → StartsUnsettled (gone_back timeout clock spans)
-  back_unsettled [] h = tt
-  back_unsettled (p ∷ rest) h = either_way (λ (x : Span). is_settled x.status ≡ false) (is_due timeout clock p.status)
-      (record p { status = Ready true }) p refl h
+  -- the first one begins where it did, and a number is in one where it was
+  back_floor : (front : ℕ) (spans : List Span) → floor_of (gone_back timeout clock spans) front ≡ floor_of spans front
+  back_floor front [] = refl
+  back_floor front (p ∷ rest) = ap (λ n. n - 1) (back_first p)
+
+  back_in : (n : ℕ) (spans : List Span) → IsInSpan n spans → IsInSpan n (gone_back timeout clock spans)
+  back_in n [] i = i
+  back_in n (p ∷ rest) i = by (is_due timeout clock p.status) i (back_in n rest)
+    where
+      by : (b : Bool) → ((p.first ≤ n) × (n ≤ p.last)) ⊎ IsInSpan n rest
+          → (IsInSpan n rest → IsInSpan n (gone_back timeout clock rest))
+          → IsInSpan n (cond b (record p { status = Ready true }) p ∷ gone_back timeout clock rest)
+      by true (inl here) next = inl here
+      by false (inl here) next = inl here
+      by true (inr there) next = inr (next there)
+      by false (inr there) next = inr (next there)
 
   -- they are good
   pub back_good : (batch offered next : ℕ) (spans : List Span) → AllByRecursion (IsGoodSpan batch offered next) spans
@@ -166,8 +175,10 @@ module _ (timeout clock : ℕ) where
     placed = omega (arith, g.placed, front);
     linked = omega (arith, g.linked, link);
     has_none = λ closed. ap (gone_back timeout clock) (g.has_none closed);
-    parts = λ running. rw front (back_parts (suc q.floor) p.front q.spans (g.parts running));
-    unsettled = back_unsettled q.spans g.unsettled;
+    rise = λ running. rw front (back_rise (suc q.floor) p.front q.spans (g.rise running));
+    from_floor = λ running. rw front (g.from_floor running ∙ sym (back_floor p.front q.spans));
+    never_delivered = λ running n less le. back_in n q.spans
+        (g.never_delivered running n less (omega (arith, le, front)));
     good = rw (limits, delivery) (back_good p.limits.batch q.offered p.next_delivery q.spans g.good);
     few = rw limits (omega (arith, g.few, back_having is_out q.spans refl));
   }

@@ -7,7 +7,7 @@ use Rattle.std.proofs.lemmas.Bool.{false≢true, cases_eq}
 use Rattle.rb_desk.proofs.pictures.PictureLaws.{NoFloorFalls}
 use Rattle.rb_deliveries.specs.declared.span.Span.{Span}
 use Rattle.rb_deliveries.specs.declared.span.Status.{Status}
-use Rattle.rb_deliveries.specs.declared.span.Status.TheVariants.{Ready, InFlight, Settled}
+use Rattle.rb_deliveries.specs.declared.span.Status.TheVariants.{Ready, InFlight}
 use Rattle.rb_desk.specs.declared.delivery.Delivery.{Delivery}
 use Rattle.rb_desk.specs.declared.refusal.DeskRefusal.TheVariants as refusal
 use Rattle.rb_deliveries.specs.Spans.{is_ready, is_out, is_out_as, beginning, first_ready, how_many_out, with_status}
@@ -15,16 +15,16 @@ use Rattle.rb_desk.specs.Picture.{Picture, Subscription}
 use Rattle.rb_desk.specs.Calls.{has_room, delivered_picture, is_span, without_span, take, delivered_from}
 use Rattle.rb_desk.specs.Calls.{delivered_span, take_any, delivered_any_from, delivered_any_of, delivered_any_span}
 use Rattle.rb_desk.specs.Calls.{may_deliver, refused_call}
-use Rattle.rb_desk.specs.IsPicture.{IsPicture, IsGoodSubscription, IsGoodSpan, Partition, how_often, one_if, span_there}
+use Rattle.rb_desk.specs.IsPicture.{IsPicture, IsGoodSubscription, IsGoodSpan, SpansRise, how_often, one_if, span_there}
 use Rattle.rb_desk.specs.IsPicture.{out_in}
 use Rattle.rb_desk.proofs.pictures.PictureLaws.{out_of, out_set, spans_later, floors_same, floors_set, changed_keeps}
 use Rattle.rb_desk.proofs.pictures.PictureLaws.{links_as_before, count_cons}
-use Rattle.rb_desk.proofs.pictures.StandLaws.{own_name, found_good, open_part, order_here, goes_others, goes_mine}
+use Rattle.rb_desk.proofs.pictures.StandLaws.{own_name, found_good, open_rise, order_here, goes_others, goes_mine}
 use Rattle.rb_desk.proofs.pictures.StandLaws.{comes_others, comes_mine}
 use Rattle.rb_desk.proofs.calls.OpenLaws.{ready_not_out}
 use Rattle.rb_deliveries.proofs.orders.Line.{all_then, filter_none}
-use Rattle.rb_desk.proofs.pictures.PartLaws.{part_ends, all_found, found_passes, found_begins, restated_part}
-use Rattle.rb_desk.proofs.pictures.PartLaws.{restated_count, restated_all, restated_unsettled}
+use Rattle.rb_desk.proofs.pictures.RiseLaws.{rise_ends, all_spans_found, found_passes, found_begins, restated_rise}
+use Rattle.rb_desk.proofs.pictures.RiseLaws.{restated_count, restated_all, restated_floor, restated_in}
 
 -- ---- which spans are out
 
@@ -32,7 +32,6 @@ use Rattle.rb_desk.proofs.pictures.PartLaws.{restated_count, restated_all, resta
 pub ready_not_out_as : (d : ℕ) (status : Status) → is_ready status ≡ true → is_out_as d status ≡ false
 ready_not_out_as d (Ready taken) is = refl
 ready_not_out_as d (InFlight number moment) is = absurd (false≢true is)
-ready_not_out_as d Settled is = refl
 
 -- no span is out as a delivery that wasn't given
 not_out_as : (batch offered next d first last : ℕ) (status : Status) → next ≤ d
@@ -41,7 +40,6 @@ not_out_as : (batch offered next d first last : ℕ) (status : Status) → next 
 not_out_as batch offered next d first last (Ready taken) le h = refl
 not_out_as batch offered next d first last (InFlight number moment) le h =
     ne_eqb number d (omega (arith, le, h.handed_out.1))
-not_out_as batch offered next d first last Settled le h = refl
 
 pub out_none : (p : Picture) (d : ℕ) (subs : List Subscription) → p.next_delivery ≤ d
     → AllByRecursion (IsGoodSubscription p) subs → out_in d subs ≡ 0
@@ -68,12 +66,12 @@ module _ (p : Picture) (s : ℕ) (q : Subscription) (span : Span) (clock : ℕ) 
             q.spans;
       }
 
-  -- it was good, and its spans partition its numbers
+  -- it was good, and its spans rise from its floor
   mine : IsGoodSubscription p q
   mine = found_good p s q here good
 
-  part : Partition (suc q.floor) q.spans p.front
-  part = open_part p s q here good span span.first found
+  rise : SpansRise (suc q.floor) q.spans p.front
+  rise = open_rise p s q here good span span.first found
 
   -- one more is out
   out_more : how_many_out with_one_out.spans ≡ suc (how_many_out q.spans)
@@ -83,7 +81,7 @@ module _ (p : Picture) (s : ℕ) (q : Subscription) (span : Span) (clock : ℕ) 
         arith,
         none,
         restated_count is_out (suc q.floor) p.front span.first (InFlight p.next_delivery clock)
-            q.spans span part found,
+            q.spans span rise found,
       )
 
   -- as the next delivery
@@ -96,7 +94,7 @@ module _ (p : Picture) (s : ℕ) (q : Subscription) (span : Span) (clock : ℕ) 
         none,
         out_set d p.subscriptions s q with_one_out here,
         restated_count (is_out_as d) (suc q.floor) p.front span.first (InFlight p.next_delivery clock) q.spans span
-            part found,
+            rise found,
       )
 
   -- no two spans are out as one delivery
@@ -117,10 +115,10 @@ module _ (p : Picture) (s : ℕ) (q : Subscription) (span : Span) (clock : ℕ) 
       let number = p.next_delivery in
       let offered = max q.offered span.last in
       let is : IsGoodSpan p.limits.batch q.offered number span =
-      all_found (IsGoodSpan p.limits.batch q.offered number) (λ x. x.first == span.first) q.spans span mine.good
+      all_spans_found (IsGoodSpan p.limits.batch q.offered number) (λ x. x.first == span.first) q.spans span mine.good
       found in
-      let ends = all_found (λ x. (x.first ≤ x.last) × (x.last ≤ p.front)) (λ x. x.first == span.first) q.spans span
-      (part_ends (suc q.floor) p.front q.spans part) found in
+      let ends = all_spans_found (λ x. (x.first ≤ x.last) × (x.last ≤ p.front)) (λ x. x.first == span.first) q.spans span
+      (rise_ends (suc q.floor) p.front q.spans rise) found in
       let out : IsGoodSpan p.limits.batch offered (suc number) (record span { status = InFlight number clock }) =
       record { short = is.short; handed_out = (λ e. omega arith, omega arith) } in
       record {
@@ -129,10 +127,13 @@ module _ (p : Picture) (s : ℕ) (q : Subscription) (span : Span) (clock : ℕ) 
         placed = omega (arith, mine.placed, ends.1);
         linked = mine.linked;
         has_none = λ e. ap (with_status span.first (InFlight number clock)) (mine.has_none e);
-        parts = λ e. restated_part (suc q.floor) p.front span.first (InFlight number clock) q.spans part;
-        unsettled = restated_unsettled span.first (InFlight number clock) q.spans refl mine.unsettled;
+        rise = λ e. restated_rise (suc q.floor) p.front span.first (InFlight number clock) q.spans rise;
+        from_floor = λ e. mine.from_floor e
+            ∙ sym (restated_floor span.first p.front (InFlight number clock) q.spans);
+        never_delivered = λ e n less le. restated_in n span.first (InFlight number clock) q.spans
+            (mine.never_delivered e n (omega (arith, less)) le);
         good = restated_all (IsGoodSpan p.limits.batch offered (suc number)) (suc q.floor) p.front span.first
-            (InFlight number clock) q.spans span part found out
+            (InFlight number clock) q.spans span rise found out
             (spans_later p.limits.batch q.offered offered number (suc number) q.spans (omega arith) (omega arith)
             mine.good);
         few = omega (arith, out_more, ltb-true (how_many_out q.spans) p.limits.window room);
@@ -148,10 +149,10 @@ module _ (p : Picture) (s : ℕ) (q : Subscription) (span : Span) (clock : ℕ) 
       (links_as_before p s q here with_one_out good refl)
       out_once
       (goes_mine p s q here is_ready span status found p.ready refl (order_here p s q here is_ready p.ready good.ready))
-      (goes_others p s q here is_ready span status found p.ready)
+      (goes_others p s q here is_ready span p.ready)
       (comes_mine p s q here is_out span status found p.in_flight (ready_not_out span.status ready) refl
       (order_here p s q here is_out p.in_flight good.out))
-      (comes_others p s q here is_out span status found p.in_flight)
+      (comes_others p s q here is_out span p.in_flight)
 
 -- no floor falls
 pub floors_rise_handed : (p : Picture) (s : ℕ) (q : Subscription) (span : Span) (clock : ℕ)
@@ -203,9 +204,9 @@ keep_hand_take_keeps p s link cursor now good = take_does IsPicture p s link cur
         → has_room p.limits.window q ≡ true → first_ready q.spans ≡ Some span
         → IsPicture (delivered_picture p s q span (max p.clock now))
     goes q span here runs room found =
-        let part = (found_good p s q here good).parts runs in
+        let rise = (found_good p s q here good).rise runs in
         handed_keeps p s q span (max p.clock now) good here
-        (found_begins (λ x. is_ready x.status) (suc q.floor) p.front q.spans span part found)
+        (found_begins (λ x. is_ready x.status) (suc q.floor) p.front q.spans span rise found)
         (found_passes (λ x. is_ready x.status) q.spans span found) room
 
 -- floors stay, and so does the front
@@ -213,10 +214,6 @@ pub floors_rise_take : (p : Picture) (s link cursor now : ℕ) → NoFloorFalls 
 floors_rise_take p s link cursor now =
     take_does (NoFloorFalls p) p s link cursor now (floors_same p p refl)
     (λ q span here runs room found. floors_rise_handed p s q span (max p.clock now) here)
-
-pub front_take : (p : Picture) (s link cursor now : ℕ) → (take p s link cursor now).1.front ≡ p.front
-front_take p s link cursor now =
-    take_does (λ r. r.front ≡ p.front) p s link cursor now refl (λ q span here runs room found. refl)
 
 -- ---- take any
 
@@ -267,7 +264,6 @@ may_go_room p at q here = rw here refl
 stands_ready : (status : Status) (n : ℕ) → 1 ≤ n → n ≡ one_if (is_ready status) → is_ready status ≡ true
 stands_ready (Ready taken) n le e = refl
 stands_ready (InFlight number moment) n le e = absurd (omega (arith, le, e))
-stands_ready Settled n le e = absurd (omega (arith, le, e))
 
 -- a picture is one after take any
 pub keep_hand_take_any_keeps : (p : Picture) (now : ℕ) → IsPicture p → IsPicture (take_any p now).1
@@ -291,6 +287,3 @@ pub floors_rise_take_any : (p : Picture) (now : ℕ) → NoFloorFalls p (take_an
 floors_rise_take_any p now =
     take_any_does (NoFloorFalls p) p now (floors_same p p refl)
     (λ at q span first here found. floors_rise_handed p at.0 q span (max p.clock now) here)
-
-pub front_take_any : (p : Picture) (now : ℕ) → (take_any p now).1.front ≡ p.front
-front_take_any p now = take_any_does (λ r. r.front ≡ p.front) p now refl (λ at q span first here found. refl)

@@ -1,9 +1,9 @@
 -- The invariant of a picture holds after a number is placed.
-use Rattle.std.proofs.Common.{◌≡◌, ℕ, zero, suc, ◌+◌, ◌-◌, ◌<◌, ◌≤◌, ne_eqb, eq-eqb, Bool, true, false, ◌&&◌, ◌||◌}
-use Rattle.std.proofs.Common.{◌==◌, cond, List, [], ◌∷◌, ◌++◌, length, map, Option, Some, None, option_map, IfSome}
-use Rattle.std.proofs.Common.{Result, Ok, IsOk, filter, nat_lt, slice_get, refl, sym, ap, ◌∙◌, subst, arith}
+use Rattle.std.proofs.Common.{◌≡◌, ℕ, zero, suc, ◌+◌, ◌-◌, ◌<◌, ◌≤◌, ◌⊎◌, inl, inr, ne_eqb, eq-eqb, Bool, true, false}
+use Rattle.std.proofs.Common.{◌&&◌, ◌||◌, ◌==◌, cond, List, [], ◌∷◌, ◌++◌, length, map, Option, Some, None, option_map}
+use Rattle.std.proofs.Common.{IfSome, Result, Ok, IsOk, filter, nat_lt, slice_get, refl, sym, ap, ◌∙◌, subst, arith}
 use Rattle.std.specs.List.{AllByRecursion}
-use Rattle.std.proofs.lemmas.Bool.{false≢true, eqb-true, ltb-true}
+use Rattle.std.proofs.lemmas.Bool.{false≢true, cases_lt, eqb-true, ltb-true}
 use Rattle.std.proofs.lemmas.Option.{slice_get-map}
 use Rattle.std.proofs.lemmas.List.{length-map}
 use Rattle.rb_desk.specs.declared.refusal.DeskRefusal.{DeskRefusal}
@@ -11,44 +11,106 @@ use Rattle.rb_deliveries.specs.declared.span.Span.{Span}
 use Rattle.rb_deliveries.specs.declared.span.Status.{Status}
 use Rattle.rb_deliveries.specs.declared.span.Status.TheVariants.{Ready}
 use Rattle.rb_deliveries.specs.Spans.{fresh, is_ready, is_fresh, is_out, is_out_as, beginning, last_takes, last_with}
-use Rattle.rb_deliveries.specs.Spans.{grown_spans}
+use Rattle.rb_deliveries.specs.Spans.{grown_spans, floor_of}
 use Rattle.rb_desk.specs.Picture.{Picture, Subscription}
 use Rattle.rb_desk.specs.Calls.{is_span, prepare, place, grown_subscription, begun_spans}
-use Rattle.rb_desk.specs.IsPicture.{Partition, IsGoodSpan, StartsUnsettled, IsGoodSubscription, how_often, one_if}
+use Rattle.rb_desk.specs.IsPicture.{SpansRise, IsInSpan, IsGoodSpan, IsGoodSubscription, how_often, one_if}
 use Rattle.rb_desk.specs.IsPicture.{span_there, stands_there, links_of, out_in, IsPicture}
 use Rattle.rb_desk.proofs.calls.CallLaws.{may_place}
 use Rattle.rb_deliveries.proofs.orders.Line.{all_both, all_then}
 use Rattle.rb_deliveries.proofs.subs.KnownLaws.{all_get, all_mapped}
 use Rattle.rb_desk.proofs.pictures.PictureLaws.{count_cons, count_append, often_append, out_of}
 use Rattle.rb_desk.proofs.pictures.KeepCut.{keep_cut_either, either_way, one_in_batch}
+use Rattle.rb_desk.proofs.pictures.RiseLaws.{rise_reach}
 
 -- ---- the numbers of spans
 
--- spans in a row reach the number behind the last one
-pub parts_reach : (low high : ℕ) (spans : List Span) → Partition low spans high → low ≤ suc high
-parts_reach low high [] j = omega (arith, j)
-parts_reach low high (p ∷ rest) j = omega (arith, j.0, j.1, parts_reach (suc p.last) high rest j.2)
-
 -- the last span takes the next number
-parts_with : (batch low front : ℕ) (spans : List Span) → last_takes batch spans ≡ true → Partition low spans front
-    → Partition low (last_with (suc front) spans) (suc front)
-parts_with batch low front [] takes j = absurd (false≢true takes)
-parts_with batch low front (p ∷ []) takes j = (j.0, omega (arith, j.1, j.2), refl)
-parts_with batch low front (p ∷ q ∷ rest) takes j = (j.0, j.1, parts_with batch (suc p.last) front (q ∷ rest) takes j.2)
+rise_with : (low front : ℕ) (spans : List Span) → SpansRise low spans front
+    → SpansRise low (last_with (suc front) spans) (suc front)
+rise_with low front [] j = omega (arith, j)
+rise_with low front (p ∷ []) j = (j.0, omega (arith, j.1, j.2), omega arith)
+rise_with low front (p ∷ q ∷ rest) j = (j.0, j.1, rise_with (suc p.last) front (q ∷ rest) j.2)
 
 -- or it begins a new one
-parts_more : (low front : ℕ) (spans : List Span) → Partition low spans front
-    → Partition low (spans ++ fresh (suc front) (suc front) ∷ []) (suc front)
-parts_more low front [] j = (j, omega arith, refl)
-parts_more low front (p ∷ rest) j = (j.0, j.1, parts_more (suc p.last) front rest j.2)
+rise_more : (low front : ℕ) (spans : List Span) → SpansRise low spans front
+    → SpansRise low (spans ++ fresh (suc front) (suc front) ∷ []) (suc front)
+rise_more low front [] j = (j, omega arith, omega arith)
+rise_more low front (p ∷ rest) j = (j.0, j.1, rise_more (suc p.last) front rest j.2)
 
--- so grown spans partition the numbers up to it
-pub grown_parts : (batch low front : ℕ) (spans : List Span) → Partition low spans front
-    → Partition low (grown_spans batch (suc front) spans) (suc front)
-grown_parts batch low front spans j =
-    keep_cut_either (λ xs. Partition low xs (suc front)) (last_takes batch spans) (last_with (suc front) spans)
-    (spans ++ fresh (suc front) (suc front) ∷ []) (λ takes. parts_with batch low front spans takes j)
-    (λ full. parts_more low front spans j)
+-- so grown spans rise up to it
+pub grown_rise : (batch low front : ℕ) (spans : List Span) → SpansRise low spans front
+    → SpansRise low (grown_spans batch (suc front) spans) (suc front)
+grown_rise batch low front spans j =
+    either_way (λ xs. SpansRise low xs (suc front)) (last_takes batch (suc front) spans) (last_with (suc front) spans)
+    (spans ++ fresh (suc front) (suc front) ∷ []) (rise_with low front spans j) (rise_more low front spans j)
+
+-- the first one begins where it did, or with the number behind the front
+floor_with : (n front : ℕ) (spans : List Span) → floor_of (last_with n spans) front ≡ floor_of spans front
+floor_with n front [] = refl
+floor_with n front (p ∷ []) = refl
+floor_with n front (p ∷ q ∷ rest) = refl
+
+floor_more : (front : ℕ) (spans : List Span)
+    → floor_of (spans ++ fresh (suc front) (suc front) ∷ []) (suc front) ≡ floor_of spans front
+floor_more front [] = omega arith
+floor_more front (p ∷ rest) = refl
+
+-- where the last one takes a number there is one, whose first number begins all the same
+floor_takes : (batch n front later : ℕ) (spans : List Span) → last_takes batch n spans ≡ true
+    → floor_of spans later ≡ floor_of spans front
+floor_takes batch n front later [] takes = absurd (false≢true takes)
+floor_takes batch n front later (p ∷ rest) takes = refl
+
+pub grown_floor : (batch front : ℕ) (spans : List Span)
+    → floor_of (grown_spans batch (suc front) spans) (suc front) ≡ floor_of spans front
+grown_floor batch front spans =
+    keep_cut_either (λ xs. floor_of xs (suc front) ≡ floor_of spans front) (last_takes batch (suc front) spans)
+    (last_with (suc front) spans) (spans ++ fresh (suc front) (suc front) ∷ [])
+    (λ takes. floor_with (suc front) (suc front) spans ∙ floor_takes batch (suc front) front (suc front) spans takes)
+    (λ full. floor_more front spans)
+
+-- a number is in one where it was, and the next number is in the last one
+in_with : (n low front : ℕ) (spans : List Span) → SpansRise low spans front → IsInSpan n spans
+    → IsInSpan n (last_with (suc front) spans)
+in_with n low front [] j i = i
+in_with n low front (p ∷ []) j (inl here) = inl (here.0, omega (arith, here.1, j.2))
+in_with n low front (p ∷ []) j (inr there) = absurd there
+in_with n low front (p ∷ q ∷ rest) j (inl here) = inl here
+in_with n low front (p ∷ q ∷ rest) j (inr there) = inr (in_with n (suc p.last) front (q ∷ rest) j.2 there)
+
+in_more : (n : ℕ) (spans more : List Span) → IsInSpan n spans → IsInSpan n (spans ++ more)
+in_more n [] more i = absurd i
+in_more n (p ∷ rest) more (inl here) = inl here
+in_more n (p ∷ rest) more (inr there) = inr (in_more n rest more there)
+
+next_with : (batch low front : ℕ) (spans : List Span) → last_takes batch (suc front) spans ≡ true
+    → SpansRise low spans front → IsInSpan (suc front) (last_with (suc front) spans)
+next_with batch low front [] takes j = absurd (false≢true takes)
+next_with batch low front (p ∷ []) takes j = inl (omega (arith, j.1, j.2), omega arith)
+next_with batch low front (p ∷ q ∷ rest) takes j = inr (next_with batch (suc p.last) front (q ∷ rest) takes j.2)
+
+next_more : (n : ℕ) (spans : List Span) → IsInSpan n (spans ++ fresh n n ∷ [])
+next_more n [] = inl (omega arith, omega arith)
+next_more n (p ∷ rest) = inr (next_more n rest)
+
+pub grown_in : (batch low front n : ℕ) (spans : List Span) → SpansRise low spans front → n ≤ suc front
+    → (n ≤ front → IsInSpan n spans) → IsInSpan n (grown_spans batch (suc front) spans)
+grown_in batch low front n spans j le was =
+    keep_cut_either (IsInSpan n) (last_takes batch (suc front) spans) (last_with (suc front) spans)
+    (spans ++ fresh (suc front) (suc front) ∷ []) (λ takes. longer takes (cases_lt front n))
+    (λ full. more (cases_lt front n))
+  where
+    longer : last_takes batch (suc front) spans ≡ true → (front < n) ⊎ (n ≤ front)
+        → IsInSpan n (last_with (suc front) spans)
+    longer takes (inl less) = let e : suc front ≡ n = omega (arith, less, le) in
+        subst (λ m. IsInSpan m (last_with (suc front) spans)) e (next_with batch low front spans takes j)
+    longer takes (inr before) = in_with n low front spans j (was before)
+
+    more : (front < n) ⊎ (n ≤ front) → IsInSpan n (spans ++ fresh (suc front) (suc front) ∷ [])
+    more (inl less) = let e : suc front ≡ n = omega (arith, less, le) in
+        subst (λ m. IsInSpan m (spans ++ fresh (suc front) (suc front) ∷ [])) e (next_more (suc front) spans)
+    more (inr before) = in_more n spans (fresh (suc front) (suc front) ∷ []) (was before)
 
 -- ---- good spans
 
@@ -57,15 +119,17 @@ both_true true true h = (refl, refl)
 both_true true false h = absurd (false≢true h)
 both_true false b h = absurd (false≢true h)
 
-good_with : (batch offered next low front : ℕ) (spans : List Span) → last_takes batch spans ≡ true
-    → Partition low spans front → AllByRecursion (IsGoodSpan batch offered next) spans
+good_with : (batch offered next low front : ℕ) (spans : List Span) → last_takes batch (suc front) spans ≡ true
+    → SpansRise low spans front → AllByRecursion (IsGoodSpan batch offered next) spans
     → AllByRecursion (IsGoodSpan batch offered next) (last_with (suc front) spans)
 good_with batch offered next low front [] takes j g = tt
 good_with batch offered next low front (p ∷ []) takes j g =
-    let t = both_true (is_fresh p.status) (nat_lt (suc p.last - p.first) batch) takes in
-    let less : suc p.last - p.first < batch = ltb-true _ _ t.1 in (
+    let t = both_true (is_fresh p.status) ((suc p.last == suc front) && nat_lt (suc p.last - p.first) batch) takes in
+    let u = both_true (suc p.last == suc front) (nat_lt (suc p.last - p.first) batch) t.1 in
+    let less : suc p.last - p.first < batch = ltb-true _ _ u.1 in
+    let ends : suc p.last ≡ suc front = eqb-true _ _ u.0 in (
       record {
-        short = omega (arith, less, j.1, j.2);
+        short = omega (arith, less, ends, j.1);
         handed_out = (λ taken. absurd (false≢true (sym taken ∙ t.0)), g.0.handed_out.1);
       },
       tt,
@@ -74,31 +138,15 @@ good_with batch offered next low front (p ∷ q ∷ rest) takes j g =
     (g.0, good_with batch offered next (suc p.last) front (q ∷ rest) takes j.2 g.1)
 
 -- grown spans are good
-pub grown_good : (batch offered next low front : ℕ) (spans : List Span) → 1 ≤ batch → Partition low spans front
+pub grown_good : (batch offered next low front : ℕ) (spans : List Span) → 1 ≤ batch → SpansRise low spans front
     → AllByRecursion (IsGoodSpan batch offered next) spans
     → AllByRecursion (IsGoodSpan batch offered next) (grown_spans batch (suc front) spans)
 grown_good batch offered next low front spans one j g =
-    keep_cut_either (AllByRecursion (IsGoodSpan batch offered next)) (last_takes batch spans)
+    keep_cut_either (AllByRecursion (IsGoodSpan batch offered next)) (last_takes batch (suc front) spans)
     (last_with (suc front) spans) (spans ++ fresh (suc front) (suc front) ∷ [])
     (λ takes. good_with batch offered next low front spans takes j g)
     (λ full. all_both (IsGoodSpan batch offered next) spans (fresh (suc front) (suc front) ∷ []) g
     (record { short = omega (arith, one); handed_out = (λ taken. absurd (false≢true (sym taken)), tt) }, tt))
-
--- the first of them isn't settled
-pub grown_unsettled : (batch n : ℕ) (spans : List Span) → StartsUnsettled spans
-    → StartsUnsettled (grown_spans batch n spans)
-grown_unsettled batch n spans h =
-    either_way StartsUnsettled (last_takes batch spans) (last_with n spans) (spans ++ fresh n n ∷ []) (longer spans h)
-    (more spans h)
-  where
-    longer : (spans : List Span) → StartsUnsettled spans → StartsUnsettled (last_with n spans)
-    longer [] h = tt
-    longer (p ∷ []) h = h
-    longer (p ∷ q ∷ rest) h = h
-
-    more : (spans : List Span) → StartsUnsettled spans → StartsUnsettled (spans ++ fresh n n ∷ [])
-    more [] h = refl
-    more (p ∷ rest) h = h
 
 -- ---- how many have a status
 
@@ -120,7 +168,8 @@ module _ (test : Status → Bool) where
   pub grown_having : (batch n : ℕ) (spans : List Span) → test (Ready false) ≡ false → having (grown_spans batch n spans)
       ≡ having spans
   grown_having batch n spans h =
-      either_way (λ xs. having xs ≡ having spans) (last_takes batch spans) (last_with n spans) (spans ++ fresh n n ∷ [])
+      either_way (λ xs. having xs ≡ having spans) (last_takes batch n spans) (last_with n spans)
+      (spans ++ fresh n n ∷ [])
       (having_with n spans)
       (count_append (λ (p : Span). test p.status) spans (fresh n n ∷ [])
       ∙ (let none : having (fresh n n ∷ []) ≡ 0 = ap (λ b. length (cond b (fresh n n ∷ []) [])) h in
@@ -146,7 +195,7 @@ module _ (test : Status → Bool) where
       by false h = h
 
   -- the new span has it where fresh ones do
-  there_more : (n first low high : ℕ) (spans : List Span) → Partition low spans high → high < n
+  there_more : (n first low high : ℕ) (spans : List Span) → SpansRise low spans high → high < n
       → span_there test (beginning first (spans ++ fresh n n ∷ [])) ≡ span_there test (beginning first spans)
       + cond (n == first) (one_if (test (Ready false))) 0
   there_more n first low high [] j less = by (n == first)
@@ -163,7 +212,7 @@ module _ (test : Status → Bool) where
           ≡ span_there test (cond b (Some p) (beginning first rest))
           + cond (n == first) (one_if (test (Ready false))) 0
       by true is h =
-          rw (ne_eqb n first (omega (arith, eqb-true _ _ is, j.1, less, parts_reach (suc p.last) high rest j.2)))
+          rw (ne_eqb n first (omega (arith, eqb-true _ _ is, j.1, less, rise_reach (suc p.last) high rest j.2)))
           (omega arith)
       by false is h = h
 
@@ -171,10 +220,11 @@ module _ (test : Status → Bool) where
   pub grows_there : (p : Picture) (q : Subscription) (batch first : ℕ) → IsGoodSubscription p q
       → span_there test (beginning first (grown_subscription batch (suc p.front) q).spans)
       ≡ span_there test (beginning first q.spans)
-      + cond (q.closed || last_takes batch q.spans) 0 (cond (suc p.front == first) (one_if (test (Ready false))) 0)
-  grows_there p q batch first g = by q.closed (last_takes batch q.spans) g.parts
+      + cond (q.closed || last_takes batch (suc p.front) q.spans) 0
+      (cond (suc p.front == first) (one_if (test (Ready false))) 0)
+  grows_there p q batch first g = by q.closed (last_takes batch (suc p.front) q.spans) g.rise
     where
-      by : (b c : Bool) → (b ≡ false → Partition (suc q.floor) q.spans p.front)
+      by : (b c : Bool) → (b ≡ false → SpansRise (suc q.floor) q.spans p.front)
           → span_there test
           (beginning first
           (cond b q
@@ -184,23 +234,23 @@ module _ (test : Status → Bool) where
           })).spans)
           ≡ span_there test (beginning first q.spans)
           + cond (b || c) 0 (cond (suc p.front == first) (one_if (test (Ready false))) 0)
-      by true c parts = omega arith
-      by false true parts = let same = there_with (suc p.front) first q.spans in omega (arith, same)
-      by false false parts = there_more (suc p.front) first (suc q.floor) p.front q.spans (parts refl) (omega arith)
+      by true c rise = omega arith
+      by false true rise = let same = there_with (suc p.front) first q.spans in omega (arith, same)
+      by false false rise = there_more (suc p.front) first (suc q.floor) p.front q.spans (rise refl) (omega arith)
 
 -- ---- the spans that begin
 
 -- whether a subscription begins one, with this number
 abbrev begins_one : ℕ → ℕ → ℕ → Option Subscription → ℕ
 begins_one batch n first None = 0
-begins_one batch n first (Some q) = cond (q.closed || last_takes batch q.spans) 0 (cond (n == first) 1 0)
+begins_one batch n first (Some q) = cond (q.closed || last_takes batch n q.spans) 0 (cond (n == first) 1 0)
 
 module _ (batch n s first : ℕ) where
   begun_cons : (k : ℕ) (q : Subscription) (subs : List Subscription)
       → how_often s first (begun_spans batch n k (q ∷ subs))
-      ≡ cond (q.closed || last_takes batch q.spans) 0 (one_if ((k == s) && (n == first)))
+      ≡ cond (q.closed || last_takes batch n q.spans) 0 (one_if ((k == s) && (n == first)))
       + how_often s first (begun_spans batch n (suc k) subs)
-  begun_cons k q subs = by (q.closed || last_takes batch q.spans)
+  begun_cons k q subs = by (q.closed || last_takes batch n q.spans)
     where
       by : (b : Bool) → how_often s first
           (cond b (begun_spans batch n (suc k) subs) ((k, n) ∷ begun_spans batch n (suc k) subs))
@@ -217,10 +267,10 @@ module _ (batch n s first : ℕ) where
   begun_ahead k [] less = refl
   begun_ahead k (q ∷ subs) less =
       begun_cons k q subs
-      ∙ (λ i. cond (q.closed || last_takes batch q.spans) 0
+      ∙ (λ i. cond (q.closed || last_takes batch n q.spans) 0
       (one_if (ne_eqb k s (omega (arith, less)) i && (n == first)))
       + begun_ahead (suc k) subs (omega (arith, less)) i)
-      ∙ ap (λ m. m + 0) (none_of (q.closed || last_takes batch q.spans) (n == first))
+      ∙ ap (λ m. m + 0) (none_of (q.closed || last_takes batch n q.spans) (n == first))
 
   -- each begins its own
   begun_own : (k i : ℕ) (subs : List Subscription) → s ≡ k + i → how_often s first (begun_spans batch n k subs)
@@ -228,9 +278,10 @@ module _ (batch n s first : ℕ) where
   begun_own k i [] is = refl
   begun_own k zero (q ∷ subs) is =
       begun_cons k q subs
-      ∙ (λ i. cond (q.closed || last_takes batch q.spans) 0 (one_if (eq-eqb k s (omega (arith, is)) i && (n == first)))
+      ∙ (λ i. cond (q.closed || last_takes batch n q.spans) 0
+      (one_if (eq-eqb k s (omega (arith, is)) i && (n == first)))
       + begun_ahead (suc k) subs (omega (arith, is)) i)
-      ∙ by (q.closed || last_takes batch q.spans) (n == first)
+      ∙ by (q.closed || last_takes batch n q.spans) (n == first)
     where
       by : (b c : Bool) → cond b 0 (one_if (true && c)) + 0 ≡ cond b 0 (cond c 1 0)
       by true c = refl
@@ -238,10 +289,11 @@ module _ (batch n s first : ℕ) where
       by false false = refl
   begun_own k (suc j) (q ∷ subs) is =
       begun_cons k q subs
-      ∙ (λ i. cond (q.closed || last_takes batch q.spans) 0 (one_if (ne_eqb k s (omega (arith, is)) i && (n == first)))
+      ∙ (λ i. cond (q.closed || last_takes batch n q.spans) 0
+      (one_if (ne_eqb k s (omega (arith, is)) i && (n == first)))
       + begun_own (suc k) j subs (omega (arith, is)) i)
       ∙ ap (λ m. m + begins_one batch n first (slice_get subs j))
-      (none_of (q.closed || last_takes batch q.spans) (n == first))
+      (none_of (q.closed || last_takes batch n q.spans) (n == first))
       ∙ omega arith
 
 -- ---- all subscriptions
@@ -285,8 +337,9 @@ grows_good p q one g =
       placed = omega (arith, g.placed);
       linked = g.linked;
       has_none = g.has_none;
-      parts = λ running. absurd (false≢true (sym running ∙ is));
-      unsettled = g.unsettled;
+      rise = λ running. absurd (false≢true (sym running ∙ is));
+      from_floor = λ running. absurd (false≢true (sym running ∙ is));
+      never_delivered = λ running. absurd (false≢true (sym running ∙ is));
       good = g.good;
       few = g.few;
     })
@@ -296,9 +349,11 @@ grows_good p q one g =
       placed = omega (arith, g.placed);
       linked = g.linked;
       has_none = λ closed. absurd (false≢true (sym is ∙ closed));
-      parts = λ running. grown_parts p.limits.batch (suc q.floor) p.front q.spans (g.parts running);
-      unsettled = grown_unsettled p.limits.batch (suc p.front) q.spans g.unsettled;
-      good = grown_good p.limits.batch q.offered p.next_delivery (suc q.floor) p.front q.spans one (g.parts is) g.good;
+      rise = λ running. grown_rise p.limits.batch (suc q.floor) p.front q.spans (g.rise running);
+      from_floor = λ running. g.from_floor running ∙ sym (grown_floor p.limits.batch p.front q.spans);
+      never_delivered = λ running n less le. grown_in p.limits.batch (suc q.floor) p.front n q.spans (g.rise running)
+          le (g.never_delivered running n less);
+      good = grown_good p.limits.batch q.offered p.next_delivery (suc q.floor) p.front q.spans one (g.rise is) g.good;
       few = omega (arith, g.few, grown_having is_out p.limits.batch (suc p.front) q.spans refl);
     })
 
@@ -345,7 +400,7 @@ keep_place_keeps p n k ok = record {
     more : (Status → Bool) → ℕ → Option Subscription → ℕ
     more test first None = 0
     more test first (Some q) =
-        cond (q.closed || last_takes p.limits.batch q.spans) 0
+        cond (q.closed || last_takes p.limits.batch (suc p.front) q.spans) 0
         (cond (suc p.front == first) (one_if (test (Ready false))) 0)
 
     stands_by : (test : Status → Bool) (s first : ℕ) (o : Option Subscription) → slice_get p.subscriptions s ≡ o
@@ -366,7 +421,7 @@ keep_place_keeps p n k ok = record {
 
     out_more : (first : ℕ) (o : Option Subscription) → more is_out first o ≡ 0
     out_more first None = refl
-    out_more first (Some q) = by (q.closed || last_takes p.limits.batch q.spans) (suc p.front == first)
+    out_more first (Some q) = by (q.closed || last_takes p.limits.batch (suc p.front) q.spans) (suc p.front == first)
       where
         by : (b c : Bool) → ◌≡◌ {A = ℕ} (cond b 0 (cond c 0 0)) 0
         by true c = refl

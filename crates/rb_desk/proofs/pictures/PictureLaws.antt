@@ -8,7 +8,7 @@ use Rattle.std.proofs.lemmas.Bool.{false≢true, cases_eq}
 use Rattle.std.proofs.lemmas.List.{length-set}
 use Rattle.rb_deliveries.specs.declared.span.Span.{Span}
 use Rattle.rb_deliveries.specs.declared.span.Status.{Status}
-use Rattle.rb_deliveries.specs.declared.span.Status.TheVariants.{Ready, InFlight, Settled}
+use Rattle.rb_deliveries.specs.declared.span.Status.TheVariants.{Ready, InFlight}
 use Rattle.rb_deliveries.specs.Spans.{is_ready, is_out, is_out_as, beginning}
 use Rattle.rb_desk.specs.Picture.{Picture, Subscription}
 use Rattle.rb_desk.specs.Calls.{is_span, without_span, without_subscription, named}
@@ -206,7 +206,6 @@ pub offered_later : (offered offered' next next' first last : ℕ) (status : Sta
 offered_later offered offered' next next' first last (Ready taken) le le' h = (λ e. omega (arith, h.0 e, le), tt)
 offered_later offered offered' next next' first last (InFlight number moment) le le' h =
     (λ e. omega (arith, h.0 e, le), omega (arith, h.1, le'))
-offered_later offered offered' next next' first last Settled le le' h = (λ e. omega (arith, h.0 e, le), tt)
 
 pub span_later : (batch offered offered' next next' : ℕ) (p : Span) → offered ≤ offered' → next ≤ next'
     → IsGoodSpan batch offered next p → IsGoodSpan batch offered' next' p
@@ -236,8 +235,9 @@ good_later p r q lim front links number h =
       placed = omega (arith, h.placed, front);
       linked = omega (arith, h.linked, links);
       has_none = h.has_none;
-      parts = λ e. rw front (h.parts e);
-      unsettled = h.unsettled;
+      rise = λ e. rw front (h.rise e);
+      from_floor = λ e. rw front (h.from_floor e);
+      never_delivered = λ e n less le. h.never_delivered e n less (omega (arith, le, front));
       good = rw batch (spans_later p.limits.batch q.offered q.offered p.next_delivery r.next_delivery q.spans
           (omega arith) number h.good);
       few = omega (arith, h.few, window);

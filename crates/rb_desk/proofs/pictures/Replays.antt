@@ -1,8 +1,8 @@
 -- Calls one after another: each preserves the invariant of a picture, links and deliveries' numbers rise strictly, and
 -- the front and the floors do not fall.
-use Rattle.std.proofs.Common.{◌≡◌, ℕ, zero, suc, max, ◌+◌, ◌<◌, ◌≤◌, true, false, not, ◌||◌, ◌==◌, ◌⊎◌, inl, inr, List, []}
-use Rattle.std.proofs.Common.{◌∷◌, ◌++◌, length, map, Option, Some, None, option_map, Result, Ok, Err, find, nat_lt}
-use Rattle.std.proofs.Common.{nat_le, slice_get, slice_set, refl, sym, ap, ◌∙◌, subst, arith, length-append}
+use Rattle.std.proofs.Common.{◌≡◌, ℕ, zero, suc, max, ◌+◌, ◌<◌, ◌≤◌, true, false, not, ◌||◌, ◌==◌, ◌⊎◌, inl, inr, List}
+use Rattle.std.proofs.Common.{[], ◌∷◌, ◌++◌, length, map, Option, Some, None, option_map, Result, Ok, Err, find, nat_lt}
+use Rattle.std.proofs.Common.{nat_le, slice_get, slice_set, refl, sym, ap, ◌∙◌, arith, length-append}
 use Rattle.std.specs.List.{cons_option}
 use Rattle.std.proofs.lemmas.Bool.{leb-false, ltb-false, cases_lt}
 use Rattle.std.proofs.lemmas.List.{length-map, length-set}
@@ -24,8 +24,8 @@ use Rattle.rb_desk.specs.Calls.{reconnected_by, unsubscribe, unsubscribed_pictur
 use Rattle.rb_desk.specs.Calls.{place, grown_subscription, close}
 use Rattle.rb_desk.specs.IsPicture.{AreInRange, IsPicture}
 use Rattle.rb_desk.specs.Steps.{links_given, numbers_given, RisesAbove, FloorsRise, placed_if, after_step, replayed}
-use Rattle.rb_desk.specs.Steps.{replay, second_of, link_of, delivery_number, link_given, number_given, made_of, subscriptions_made}
-use Rattle.rb_desk.specs.Steps.{KeepsFrame}
+use Rattle.rb_desk.specs.Steps.{replay, second_of, link_of, delivery_number, link_given, number_given, made_of}
+use Rattle.rb_desk.specs.Steps.{subscriptions_made, KeepsFrame}
 use Rattle.rb_desk.proofs.pictures.KeepHand.{keep_hand_take_keeps, keep_hand_take_any_keeps, floors_rise_take}
 use Rattle.rb_desk.proofs.pictures.KeepHand.{floors_rise_take_any}
 use Rattle.rb_desk.proofs.pictures.KeepSettle.{keep_settle_ack_keeps, keep_settle_nack_keeps, floors_rise_ack}
@@ -415,34 +415,6 @@ subscribe_fits p start s link =
 
     Fits : Result (ℕ × ℕ) DeskRefusal × Picture → Type 0
     Fits x = x.0 ≡ Ok (s, link) → (s ≡ length p.subscriptions) × (length p.subscriptions < 1024) × (made_of x.0 ≡ 1)
-
--- what goes on gave the next one, where it gave one, and isn't lower in any case
-went_on : (next next' n : ℕ) (o : Option ℕ) → ReplaysGoesOn next next' o → o ≡ Some n → (n ≡ next) × (next < next')
-went_on next next' n o h is = subst (ReplaysGoesOn next next') is h
-
-not_lower : (next next' : ℕ) (o : Option ℕ) → ReplaysGoesOn next next' o → next ≤ next'
-not_lower next next' None h = h
-not_lower next next' (Some n) h = omega (arith, h.1)
-
--- a link that a step gives is the next one, and below the next one then
-pub links_rise : (p : Picture) (step : Step) (l : ℕ) → link_given p step ≡ Some l → (l ≡ p.next_link)
-    × (p.next_link < (after_step p step).next_link)
-links_rise p step l is = went_on p.next_link (after_step p step).next_link l (link_given p step)
-    (after_rises p step).links is
-
-pub next_link_rises : (p : Picture) (step : Step) → p.next_link ≤ (after_step p step).next_link
-next_link_rises p step = not_lower p.next_link (after_step p step).next_link (link_given p step)
-    (after_rises p step).links
-
--- and so it is with a delivery's number
-pub numbers_rise : (p : Picture) (step : Step) (n : ℕ) → number_given p step ≡ Some n → (n ≡ p.next_delivery)
-    × (p.next_delivery < (after_step p step).next_delivery)
-numbers_rise p step n is = went_on p.next_delivery (after_step p step).next_delivery n (number_given p step)
-    (after_rises p step).numbers is
-
-pub next_delivery_rises : (p : Picture) (step : Step) → p.next_delivery ≤ (after_step p step).next_delivery
-next_delivery_rises p step = not_lower p.next_delivery (after_step p step).next_delivery (number_given p step)
-    (after_rises p step).numbers
 
 -- ---- what a list of steps gives
 

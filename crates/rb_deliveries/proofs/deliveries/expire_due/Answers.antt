@@ -1,4 +1,4 @@
-use Rattle.std.proofs.Common.{◌≡◌, ◌∙◌, None, ap, sym, subst, arith, map, slice_get}
+use Rattle.std.proofs.Common.{◌≡◌, ◌∙◌, ◌≤◌, refl, None, ap, sym, subst, arith, map, slice_get}
 use Rattle.std.proofs.Common.{slice_set}
 use Rattle.std.proofs.lemmas.Option.{get_or_from_slice_get, slice_get_within}
 use Rattle.rb_deliveries.specs.declared.sub.Sub.{Sub}
@@ -6,19 +6,20 @@ use Rattle.rb_deliveries.specs.declared.ticket.Held.{Held}
 use Rattle.rb_deliveries.specs.declared.ticket.Ticket.{Ticket}
 use Rattle.rb_deliveries.specs.Expiry.{due_in, expired_sub, by_number, turns_from}
 use Rattle.std.specs.List.{AllByRecursion}
-use Rattle.rb_deliveries.specs.Subs.{AreGiven, IsGiven}
-use Rattle.rb_deliveries.proofs.subs.KnownLaws.{all_get}
+use Rattle.rb_deliveries.specs.Subs.{AreGiven, IsDrawn, IsGiven}
+use Rattle.rb_deliveries.proofs.subs.KnownLaws.{all_get, all_set}
+use Rattle.rb_deliveries.proofs.orders.Line.{all_then}
 use Rattle.rb_deliveries.specs.Waiting.{FirstPast}
 use Rattle.rb_deliveries.proofs.orders.DueLaws.{past_has_due, map_expired, none_left, due_after, all_expired}
-use Rattle.rb_deliveries.proofs.orders.DueLaws.{waiting_after, given_expired_sub, all_given, due_part, set_there, HasDue}
+use Rattle.rb_deliveries.proofs.orders.DueLaws.{waiting_after, given_expired_sub, due_part}
+use Rattle.rb_deliveries.proofs.orders.DueLaws.{set_there}
 use Rattle.rb_deliveries.proofs.deliveries.expire_due.Goals as goal
 
 pub overflow_add-many : goal.overflow_add-many
 overflow_add-many c =
     let i = c.loop-past.invariant in
-    let f = past_has_due c.args.timeout c.args.clock c.loop-past.subs.items c.in-Some.s
-    (subst (λ ts. HasDue c.args.timeout c.args.clock ts c.in-Some.s) i.waiting.in_flight
-    (subst (FirstPast c.args.timeout c.args.clock c.loop-past.moments) c.in-Some.is i.past)) in
+    let f = past_has_due c.args.timeout c.args.clock c.loop-past.subs.items c.loop-past.moments c.loop-past.past
+    c.in-Some.s i.waiting.in_flight i.past c.in-Some.is in
     let same = c.index.ensures ∙ get_or_from_slice_get c.loop-past.subs.items c.in-Some.s f.0 c.index.result.now f.1 in
     omega (
       arith,
@@ -32,17 +33,42 @@ overflow_add-many c =
 pub index_mut-requires : goal.index_mut-requires
 index_mut-requires c =
     let i = c.loop-past.invariant in
-    let f = past_has_due c.args.timeout c.args.clock c.loop-past.subs.items c.in-Some.s
-    (subst (λ ts. HasDue c.args.timeout c.args.clock ts c.in-Some.s) i.waiting.in_flight
-    (subst (FirstPast c.args.timeout c.args.clock c.loop-past.moments) c.in-Some.is i.past)) in
+    let f = past_has_due c.args.timeout c.args.clock c.loop-past.subs.items c.loop-past.moments c.loop-past.past
+    c.in-Some.s i.waiting.in_flight i.past c.in-Some.is in
     omega (arith, slice_get_within c.loop-past.subs.items c.in-Some.s f.0 f.1, c.loop-past.subs.ok)
+
+pub loop-past-init : goal.loop-past-init
+loop-past-init c = record {
+  subs = refl;
+  many = omega arith;
+  waiting = c.requires.waiting;
+  given = c.requires.given;
+  drawn = all_then (λ (sub : Sub). AllByRecursion (λ h. IsDrawn c.args.latest.front c.args.latest.turn h.ticket)
+      sub.lane.held)
+      (λ sub. 1 ≤ due_in c.args.timeout c.args.clock sub
+      → AllByRecursion (λ h. IsDrawn c.args.latest.front c.args.latest.turn h.ticket) sub.lane.held)
+      c.args.subs.now.items (λ sub drawn _. drawn) c.requires.drawn;
+  past = c.first_past-past.ensures;
+}
+
+pub expire-requires-clause-drawn : goal.expire-requires-clause-drawn
+expire-requires-clause-drawn c =
+    let i = c.loop-past.invariant in
+    let f = past_has_due c.args.timeout c.args.clock c.loop-past.subs.items c.loop-past.moments c.loop-past.past
+    c.in-Some.s i.waiting.in_flight i.past c.in-Some.is in
+    let same = c.index_mut.ensures.value
+    ∙ get_or_from_slice_get c.loop-past.subs.items c.in-Some.s f.0 c.index_mut.result.now f.1 in
+    subst (λ (sub : Sub). AllByRecursion (λ h. IsDrawn c.args.latest.front c.args.latest.turn h.ticket) sub.lane.held)
+    (sym same)
+    (all_get (λ (sub : Sub). 1 ≤ due_in c.args.timeout c.args.clock sub
+    → AllByRecursion (λ h. IsDrawn c.args.latest.front c.args.latest.turn h.ticket) sub.lane.held)
+    c.loop-past.subs.items c.in-Some.s f.0 i.drawn f.1 f.2)
 
 pub loop-past-smaller : goal.loop-past-smaller
 loop-past-smaller c =
     let i = c.loop-past.invariant in
-    let f = past_has_due c.args.timeout c.args.clock c.loop-past.subs.items c.in-Some.s
-    (subst (λ ts. HasDue c.args.timeout c.args.clock ts c.in-Some.s) i.waiting.in_flight
-    (subst (FirstPast c.args.timeout c.args.clock c.loop-past.moments) c.in-Some.is i.past)) in
+    let f = past_has_due c.args.timeout c.args.clock c.loop-past.subs.items c.loop-past.moments c.loop-past.past
+    c.in-Some.s i.waiting.in_flight i.past c.in-Some.is in
     let same = c.index_mut.ensures.value
     ∙ get_or_from_slice_get c.loop-past.subs.items c.in-Some.s f.0 c.index_mut.result.now f.1 in
     let tickets : Held → Ticket = by_number (turns_from c.args.latest.front c.args.latest.turn) in
@@ -59,9 +85,8 @@ loop-past-smaller c =
 pub loop-past-preserved : goal.loop-past-preserved
 loop-past-preserved c =
     let i = c.loop-past.invariant in
-    let f = past_has_due c.args.timeout c.args.clock c.loop-past.subs.items c.in-Some.s
-    (subst (λ ts. HasDue c.args.timeout c.args.clock ts c.in-Some.s) i.waiting.in_flight
-    (subst (FirstPast c.args.timeout c.args.clock c.loop-past.moments) c.in-Some.is i.past)) in
+    let f = past_has_due c.args.timeout c.args.clock c.loop-past.subs.items c.loop-past.moments c.loop-past.past
+    c.in-Some.s i.waiting.in_flight i.past c.in-Some.is in
     let within = slice_get_within c.loop-past.subs.items c.in-Some.s f.0 f.1 in
     let read = c.index.ensures ∙ get_or_from_slice_get c.loop-past.subs.items c.in-Some.s f.0 c.index.result.now f.1 in
     let same = c.index_mut.ensures.value
@@ -88,11 +113,20 @@ loop-past-preserved c =
           c.loop-past.moments c.stand.new.line c.stand.new.moments i.waiting
           (c.stand.ensures c.expire.new.self (ap (λ l. slice_get l c.in-Some.s) c.deref.ensures.value
           ∙ set_there c.loop-past.subs.items c.in-Some.s c.expire.new.self within));
-      given = all_given c.args.next c.args.latest.turn c.loop-past.subs.items c.in-Some.s c.expire.new.self i.given (
-        subst (λ (sub : Sub). AllByRecursion (λ h. IsGiven c.args.next h.span.status) sub.lane.held) (sym made)
-            (given_expired_sub c.args.timeout c.args.clock tickets c.args.next c.args.latest.turn f.0 given.0),
-        given.1,
-      );
+      given = all_set (λ (sub : Sub). AreGiven c.args.next c.args.latest.turn sub.lane.held) c.loop-past.subs.items
+          c.in-Some.s c.expire.new.self i.given (
+            subst (λ (sub : Sub). AllByRecursion (λ h. IsGiven c.args.next h.span.status) sub.lane.held) (sym made)
+                (given_expired_sub c.args.timeout c.args.clock tickets c.args.next f.0 given.0),
+            given.1,
+          );
+      drawn = all_set (λ (sub : Sub). 1 ≤ due_in c.args.timeout c.args.clock sub
+          → AllByRecursion (λ h. IsDrawn c.args.latest.front c.args.latest.turn h.ticket) sub.lane.held)
+          c.loop-past.subs.items c.in-Some.s c.expire.new.self i.drawn (λ due. absurd (omega (
+            arith,
+            due,
+            ap (due_in c.args.timeout c.args.clock) made,
+            none_left c.args.timeout c.args.clock tickets f.0,
+          )));
       past = c.first_past-past-in-Some.ensures;
     }
 

@@ -1,13 +1,14 @@
 use Rattle.std.proofs.Common.{◌≡◌, ◌∙◌, ◌-◌, ap, sym, subst, arith, slice_get}
 use Rattle.std.proofs.lemmas.Bool.{le-leb, lt-leb}
-use Rattle.rb_deliveries.proofs.orders.DueLaws.{winner_is_least, IsLeast, none_past, none_past_yet}
+use Rattle.rb_deliveries.proofs.orders.DueLaws.{winner_is_least, IsLeast, each_some}
+use Rattle.rb_deliveries.proofs.orders.MomentLaws.{past_later}
 use Rattle.rb_deliveries.proofs.deliveries.first_past.Goals as goal
 
 pub returns-in_err-winner : goal.returns-in_err-winner
 returns-in_err-winner c =
     let none = subst (IsLeast 0 c.args.moments.now) (sym (sym c.in_err-winner.was ∙ c.winner.ensures))
     (winner_is_least 0 c.args.moments.now) in
-    rw c.from_residual.ensures (none_past c.args.timeout c.args.clock c.args.moments.now none)
+    rw c.from_residual.ensures (each_some (λ t e. absurd e) c.args.moments.now none)
 
 pub returns-then-timeout-saturating_sub : goal.returns-then-timeout-saturating_sub
 returns-then-timeout-saturating_sub c =
@@ -22,8 +23,9 @@ returns-then-timeout-saturating_sub c =
 
 pub returns : goal.returns
 returns c =
+    let w = c.in_ok-winner.winner.ticket in
     let least = subst (IsLeast 0 c.args.moments.now) (sym (sym c.in_ok-winner.was ∙ c.winner.ensures))
     (winner_is_least 0 c.args.moments.now) in
-    none_past_yet c.args.timeout c.args.clock c.in_ok-winner.winner.ticket
-    (lt-leb c.args.timeout (c.args.clock - c.in_ok-winner.winner.ticket.front)
-    (omega (arith, c.if-timeout-saturating_sub.false, c.saturating_sub.ensures))) c.args.moments.now least.3
+    let yet = lt-leb c.args.timeout (c.args.clock - w.front)
+    (omega (arith, c.if-timeout-saturating_sub.false, c.saturating_sub.ensures)) in
+    each_some (λ t le. past_later c.args.timeout c.args.clock w t le yet) c.args.moments.now least.3

@@ -1,9 +1,8 @@
 use Rattle.std.proofs.Common.{arith, ◌≡◌, ◌∙◌, ◌+◌, ◌-◌, ◌<◌, ◌++◌, ℕ, zero, sym, ap, suc, drop, take, replicate, None}
 use Rattle.std.proofs.Common.{slice_set}
-use Rattle.std.proofs.lemmas.List.{length-replicate, length-drop}
+use Rattle.std.proofs.lemmas.List.{get_or-drop, length-replicate, length-drop}
 use Rattle.rb_deliveries.specs.Tournament.{places_at}
 use Rattle.rb_deliveries.proofs.orders.TreeLaws.{empty_joined, drop_empty, widened_more, tree_widened, twice_even}
-use Rattle.rb_deliveries.proofs.orders.TreeLaws.{places_read}
 use Rattle.rb_deliveries.proofs.tournament.widened.Goals as goal
 use Rattle.rb_deliveries.proofs.tournament.widened.Goals.{then-room-eq0, else-room-eq0}
 
@@ -31,7 +30,7 @@ loop-place-preserved c =
           (c.put.ensures.places
           ∙ ap (λ leaf. drop c.if-room-eq0.wide
           (slice_set c.loop-place.wider.items (c.if-room-eq0.wide + c.loop-place.place) leaf))
-          (sym (places_read c.args.nodes.now c.args.room c.loop-place.place None)))
+          (sym (get_or-drop c.args.room c.args.nodes.now c.loop-place.place None)))
           ∙ ap (λ n. take n (drop c.args.room c.args.nodes.now) ++ replicate (c.if-room-eq0.wide - n) None)
           (let e : suc c.loop-place.place ≡ c.loop-place.place + 1 = omega arith in e);
       inner = c.put.ensures.inner;

@@ -28,5 +28,5 @@ returns-clause-delivered c found here = record {
 
 pub returns-clause-window : goal.returns-clause-window
 returns-clause-window c =
-    let found = one_there c.args.deliveries.now.subs c.args.sub c.requires.0 in
+    let found = one_there c.args.deliveries.now.subs c.args.sub c.requires.span.0 in
     ap (λ kept. kept.window) (c.in_ok-link.ensures.ok found.0 found.1)

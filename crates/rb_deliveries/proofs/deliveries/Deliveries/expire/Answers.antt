@@ -11,6 +11,6 @@ expire_due-requires-clause-few c =
     omega (
       arith,
       few_due c.args.timeout c.args.clock c.args.latest.front c.args.latest.turn c.args.next c.self.inside.subs.items
-          belong c.self.invariant.joined c.requires.few.0,
+          belong c.self.invariant.rising c.requires.few.0,
       rw (← c.self.view_is) at c.requires.few.1,
     )

@@ -1,43 +1,39 @@
-use Rattle.std.proofs.Common.{◌≡◌, ◌∙◌, ap, sym, subst, Some, None, option_map, arith}
+use Rattle.std.proofs.Common.{◌≡◌, ◌∙◌, ap, sym, refl, subst, Some, None, option_map, arith, if◌then◌else◌}
+use Rattle.std.proofs.lemmas.Bool.{lt-leb}
 use Rattle.std.proofs.lemmas.Option.{slice_get_within, get_or_from_slice_get}
 use Rattle.rb_deliveries.specs.declared.sub.Sub.{Sub}
 use Rattle.rb_deliveries.specs.declared.ticket.Held.{Held}
-use Rattle.rb_deliveries.specs.Lanes.{AreJoined, lane_held, least}
-use Rattle.rb_deliveries.specs.Subs.{first_to_deliver, span_to_deliver}
+use Rattle.rb_deliveries.specs.Lanes.{AreRising, lane_held, least}
+use Rattle.rb_deliveries.specs.Subs.{span_to_deliver}
 use Rattle.rb_deliveries.specs.Tournament.{winner_from}
 use Rattle.rb_deliveries.specs.Waiting.{BelongAll}
-use Rattle.rb_deliveries.proofs.orders.WaitingLaws.{all_say, WinSays, winner_delivers}
+use Rattle.rb_deliveries.proofs.orders.WaitingLaws.{none_delivers, winner_delivers}
 use Rattle.rb_deliveries.proofs.deliveries.Deliveries.first_to_deliver.Goals as goal
 
 pub returns-in_err-winner-clause-value : goal.returns-in_err-winner-clause-value
 returns-in_err-winner-clause-value c =
     let d = c.self.inside in
     let belong : BelongAll c.args.front d.subs.items = rw (← c.self.view_is) at c.requires.belong in
-    let says =
-    all_say d.window c.args.batch c.args.front belong.0 belong.1 0 d.subs.items c.requires.limits.0 belong.2 in
-    let none : WinSays c.args.front (first_to_deliver d.window c.args.batch c.args.front 0 d.subs.items) None =
-    subst (WinSays c.args.front (first_to_deliver d.window c.args.batch c.args.front 0 d.subs.items))
-    (sym (sym c.in_err-winner.was ∙ c.winner.ensures ∙ ap (winner_from 0) c.self.invariant.in_line)) says in
+    let none = none_delivers c.args.front d.window c.args.batch belong.0 belong.1 c.requires.limits.0 d.subs.items None
+    belong.2 (sym (sym c.in_err-winner.was ∙ c.winner.ensures ∙ ap (winner_from 0) c.self.invariant.in_line)) refl in
     rw (← c.self.view_is) (c.from_residual.ensures ∙ sym (ap (option_map span_to_deliver) none))
 
 pub returns-then-front-winner-clause-value : goal.returns-then-front-winner-clause-value
 returns-then-front-winner-clause-value c =
     let d = c.self.inside in
+    let w = c.in_ok-winner.winner in
     let belong : BelongAll c.args.front d.subs.items = rw (← c.self.view_is) at c.requires.belong in
-    let says =
-    all_say d.window c.args.batch c.args.front belong.0 belong.1 0 d.subs.items c.requires.limits.0 belong.2 in
-    let won : WinSays c.args.front (first_to_deliver d.window c.args.batch c.args.front 0 d.subs.items)
-    (Some c.in_ok-winner.winner) =
-    subst (WinSays c.args.front (first_to_deliver d.window c.args.batch c.args.front 0 d.subs.items))
-    (sym (sym c.in_ok-winner.was ∙ c.winner.ensures ∙ ap (winner_from 0) c.self.invariant.in_line)) says in
-    rw (← c.self.view_is) (sym (ap (option_map span_to_deliver) (won.1 c.if-front-winner.true)))
+    let none = none_delivers c.args.front d.window c.args.batch belong.0 belong.1 c.requires.limits.0 d.subs.items
+    (Some w) belong.2 (sym (sym c.in_ok-winner.was ∙ c.winner.ensures ∙ ap (winner_from 0) c.self.invariant.in_line))
+    (ap (λ t. if t then Some w else None) (lt-leb w.ticket.front c.args.front c.if-front-winner.true)) in
+    rw (← c.self.view_is) (sym (ap (option_map span_to_deliver) none))
 
 pub index-requires : goal.index-requires
 index-requires c =
     let d = c.self.inside in
     let belong : BelongAll c.args.front d.subs.items = rw (← c.self.view_is) at c.requires.belong in
-    let f = winner_delivers d.window c.args.batch c.args.front belong.0 belong.1 d.subs.items c.in_ok-winner.winner
-    c.requires.limits.0 belong.2
+    let f = winner_delivers c.args.front d.window c.args.batch belong.0 belong.1 c.requires.limits.0 d.subs.items
+    c.in_ok-winner.winner belong.2
     (sym (sym c.in_ok-winner.was ∙ c.winner.ensures ∙ ap (winner_from 0) c.self.invariant.in_line))
     c.if-front-winner.false in
     omega (arith, slice_get_within d.subs.items c.in_ok-winner.winner.place f.sub f.there, d.subs.ok)
@@ -46,8 +42,8 @@ pub returns-in_err-held-clause-value : goal.returns-in_err-held-clause-value
 returns-in_err-held-clause-value c =
     let d = c.self.inside in
     let belong : BelongAll c.args.front d.subs.items = rw (← c.self.view_is) at c.requires.belong in
-    let f = winner_delivers d.window c.args.batch c.args.front belong.0 belong.1 d.subs.items c.in_ok-winner.winner
-    c.requires.limits.0 belong.2
+    let f = winner_delivers c.args.front d.window c.args.batch belong.0 belong.1 c.requires.limits.0 d.subs.items
+    c.in_ok-winner.winner belong.2
     (sym (sym c.in_ok-winner.was ∙ c.winner.ensures ∙ ap (winner_from 0) c.self.invariant.in_line))
     c.if-front-winner.false in
     let same = c.index.ensures ∙ get_or_from_slice_get d.subs.items c.in_ok-winner.winner.place f.sub
@@ -60,8 +56,8 @@ pub returns-clause-value : goal.returns-clause-value
 returns-clause-value c =
     let d = c.self.inside in
     let belong : BelongAll c.args.front d.subs.items = rw (← c.self.view_is) at c.requires.belong in
-    let f = winner_delivers d.window c.args.batch c.args.front belong.0 belong.1 d.subs.items c.in_ok-winner.winner
-    c.requires.limits.0 belong.2
+    let f = winner_delivers c.args.front d.window c.args.batch belong.0 belong.1 c.requires.limits.0 d.subs.items
+    c.in_ok-winner.winner belong.2
     (sym (sym c.in_ok-winner.was ∙ c.winner.ensures ∙ ap (winner_from 0) c.self.invariant.in_line))
     c.if-front-winner.false in
     let same = c.index.ensures ∙ get_or_from_slice_get d.subs.items c.in_ok-winner.winner.place f.sub
@@ -71,14 +67,14 @@ returns-clause-value c =
     rw (← c.self.view_is) (ap (option_map (λ (h : Held). (c.in_ok-winner.winner.place, h.span))) found
     ∙ sym (ap (option_map span_to_deliver) f.first))
 
-pub returns-clause-joined : goal.returns-clause-joined
-returns-clause-joined c =
+pub returns-clause-rising : goal.returns-clause-rising
+returns-clause-rising c =
     let d = c.self.inside in
     let belong : BelongAll c.args.front d.subs.items = rw (← c.self.view_is) at c.requires.belong in
-    let f = winner_delivers d.window c.args.batch c.args.front belong.0 belong.1 d.subs.items c.in_ok-winner.winner
-    c.requires.limits.0 belong.2
+    let f = winner_delivers c.args.front d.window c.args.batch belong.0 belong.1 c.requires.limits.0 d.subs.items
+    c.in_ok-winner.winner belong.2
     (sym (sym c.in_ok-winner.was ∙ c.winner.ensures ∙ ap (winner_from 0) c.self.invariant.in_line))
     c.if-front-winner.false in
     let same = c.index.ensures ∙ get_or_from_slice_get d.subs.items c.in_ok-winner.winner.place f.sub
     c.index.result.now f.there in
-    rw (← c.self.view_is) (f.sub, f.there, subst (λ (sub : Sub). AreJoined sub.lane) same c.in_ok-held.ensures.joined)
+    rw (← c.self.view_is) (f.sub, f.there, subst (λ (sub : Sub). AreRising sub.lane) same c.in_ok-held.ensures.rising)

@@ -7,7 +7,7 @@ use Rattle.rb_deliveries.proofs.deliveries.Deliveries.give_back.Goals as goal
 pub invariant_of-self : goal.invariant_of-self
 invariant_of-self c =
     waiting_as c.self.inside.window c.args.s c.self.inside.subs.items _ c.give_back.new.self c.self.inside.line
-    c.self.inside.moments _ _ c.self.invariant (rw (← c.self.view_is) at c.requires) c.deref.ensures.value
+    c.self.inside.moments _ _ c.self.invariant (rw (← c.self.view_is) at c.requires.there) c.deref.ensures.value
     c.stand.ensures
 
 pub returns : goal.returns

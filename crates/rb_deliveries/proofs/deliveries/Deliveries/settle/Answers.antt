@@ -1,7 +1,7 @@
 use Rattle.std.proofs.Common.{◌≡◌, ◌∙◌, Some, ap, refl, slice_get}
 use Rattle.std.proofs.lemmas.Option.{get_or_from_slice_get}
 use Rattle.rb_deliveries.specs.declared.sub.Sub.{Sub}
-use Rattle.rb_deliveries.specs.Lanes.{settled_lane}
+use Rattle.rb_deliveries.specs.Lanes.{lane_floor, settled_lane}
 use Rattle.rb_deliveries.specs.Subs.{settled_sub}
 use Rattle.rb_deliveries.proofs.orders.DueLaws.{waiting_as}
 use Rattle.rb_deliveries.proofs.deliveries.Deliveries.settle.Goals as goal
@@ -26,4 +26,4 @@ returns-clause-floor c sub found =
     let here : slice_get c.self.inside.subs.items c.args.s ≡ Some sub = rw (← c.self.view_is) at found in
     let same : c.index_mut.result.now ≡ sub = c.index_mut.ensures.value
     ∙ get_or_from_slice_get c.self.inside.subs.items c.args.s sub c.index_mut.result.now here in
-    c.settle-floor.ensures.floor ∙ ap (λ (sub : Sub). (settled_lane sub.lane c.args.first).floor) same
+    c.settle-floor.ensures.floor ∙ ap (λ (sub : Sub). lane_floor (settled_lane sub.lane c.args.first)) same

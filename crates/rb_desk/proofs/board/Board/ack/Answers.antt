@@ -1,7 +1,6 @@
 use Rattle.std.proofs.Common.{◌≡◌, ◌∙◌, Ok, ap, sym}
 use Rattle.std.proofs.lemmas.Option.{slice_get_within}
-use Rattle.rb_deliveries.specs.Spans.{raised, with_status}
-use Rattle.rb_deliveries.specs.declared.span.Status.TheVariants.{Settled}
+use Rattle.rb_deliveries.specs.Spans.{without_first, floor_of}
 use Rattle.rb_deliveries.specs.Lanes.{spans_of}
 use Rattle.rb_deliveries.specs.Subs.{sub_held}
 use Rattle.rb_desk.specs.Shown.{IsInFlight}
@@ -40,7 +39,7 @@ invariant_of-self c =
       belong = c.self.invariant.1;
       found = here;
       is_open = running.0;
-      joins = t.joined;
+      rises = t.rising;
     } in
     let made = c.settle.ensures.kept t.sub here in
     rw made (
@@ -65,28 +64,24 @@ returns-clause-answer c =
       belong = c.self.invariant.1;
       found = here;
       is_open = running.0;
-      joins = t.joined;
+      rises = t.rising;
     } in
     let made = c.settle.ensures.kept t.sub here in
     let shows = settled_as d.config d.front d.turn d.next_delivery
     d.deliveries.subs c.args.sub t.sub found d.closing d.clock
     d.next_link c.args.delivery span running.1 in
     let floor : c.settle.result
-    ≡ (raised t.sub.lane.floor
-    (with_status span.first Settled
-    (spans_of (sub_held d.config.batch d.front t.sub)))).0 =
+    ≡ floor_of (without_first span.first (spans_of (sub_held d.config.batch d.front t.sub))) d.front =
     c.settle.ensures.floor t.sub here
-    ∙ sym (settled_floor d.config d.front d.turn d.next_delivery
+    ∙ settled_floor d.config d.front d.turn d.next_delivery
     d.deliveries.subs c.args.sub t.sub found span
-    (out_as_held c.args.delivery t.sub.lane span running.1).0) in
+    (out_as_held c.args.delivery t.sub.lane span running.1).0 in
     rw (← c.self.view_is, made, floor)
     (acked d.config d.front d.closing d.clock d.next_link
     d.next_delivery d.deliveries.subs c.args.sub t.sub here c.args.link
     c.args.delivery c.args.cursor t.linked span t.out
     c.if-cursor-span.false ∙ ap
     (λ p. (
-      Ok (raised t.sub.lane.floor
-          (with_status span.first Settled
-          (spans_of (sub_held d.config.batch d.front t.sub)))).0,
+      Ok (floor_of (without_first span.first (spans_of (sub_held d.config.batch d.front t.sub))) d.front),
       p,
     )) (sym shows))

@@ -21,7 +21,7 @@ returns-then-not-any_due-clause-ok c =
     rw (← c.self.view_is)
     (none_expires c.self.inside.config c.self.inside.front c.self.inside.turn c.self.inside.clock c.args.now
     c.self.inside.next_link c.self.inside.next_delivery c.self.inside.closing c.self.inside.deliveries.subs
-    c.self.invariant.0.0 c.self.invariant.1 c.any_due.ensures.joined c.timeout-timeout.result c.max-clock.result
+    c.self.invariant.0.0 c.self.invariant.1 c.any_due.ensures.rising c.timeout-timeout.result c.max-clock.result
     c.timeout-timeout.ensures c.max-clock.ensures (sym c.any_due.ensures.value ∙ c.if-not-any_due.true))
 
 pub returns-in_err-turn-clause-memory : goal.returns-in_err-turn-clause-memory
@@ -29,7 +29,7 @@ returns-in_err-turn-clause-memory c =
     said_on_err c.from_residual.result (rw (← c.self.view_is)
     (some_expires c.self.inside.config c.self.inside.front c.self.inside.turn c.self.inside.clock c.args.now
     c.self.inside.next_link c.self.inside.next_delivery c.self.inside.closing c.self.inside.deliveries.subs
-    c.self.invariant.0.0 c.self.invariant.1 c.any_due.ensures.joined c.timeout-timeout.result c.max-clock.result
+    c.self.invariant.0.0 c.self.invariant.1 c.any_due.ensures.rising c.timeout-timeout.result c.max-clock.result
     c.timeout-timeout.ensures c.max-clock.ensures (sym c.any_due.ensures.value ∙ c.if-not-any_due.false)))
 
 pub returns-clause-ok : goal.returns-clause-ok
@@ -39,7 +39,7 @@ returns-clause-ok c =
     let many = sym c.expire-many.ensures.many in
     let call = expire_is c.self.inside.config c.self.inside.front c.self.inside.turn c.self.inside.clock c.args.now
     c.self.inside.next_link c.self.inside.next_delivery c.self.inside.closing c.self.inside.deliveries.subs
-    c.self.invariant.0.0 c.self.invariant.1 c.expire-many.ensures.joined in
+    c.self.invariant.0.0 c.self.invariant.1 c.expire-many.ensures.rising in
     rw (← c.self.view_is, c.expire-many.ensures.kept)
     (call ∙ (λ i. (
       all_due (timeout i) (clock i) c.self.inside.deliveries.subs,

@@ -5,7 +5,7 @@ use Rattle.rb_desk.specs.Calls.{nacked_span}
 use Rattle.rb_desk.specs.Shown.{IsInFlight}
 use Rattle.rb_desk.proofs.calls.CallLaws.{out_running, nack_kept, ok_call, memory_answers}
 use Rattle.rb_desk.proofs.calls.FindLaws.{refused_answers}
-use Rattle.rb_desk.proofs.calls.OpenLaws.{IsOpen}
+use Rattle.rb_desk.proofs.calls.OpenLaws.{IsOpen, next_comes_last}
 use Rattle.rb_desk.proofs.calls.HandLaws.{returned_as, belongs_returned}
 use Rattle.rb_deliveries.proofs.subs.KnownLaws.{few_set}
 use Rattle.rb_desk.proofs.board.Board.nack.Goals as goal
@@ -30,11 +30,17 @@ returns-in_err-turn c =
     memory_answers _ _ _ _ (found.1 ∙ ap Err (found.2 ∙ c.in_err-turn.ensures))
     (rw (← c.self.view_is) (ok_call _ _ _ call)) refl
 
-pub give_back-requires : goal.give_back-requires
-give_back-requires c =
+pub give_back-requires-clause-there : goal.give_back-requires-clause-there
+give_back-requires-clause-there c =
     let t : IsInFlight c.self.inside.deliveries.subs c.args.sub c.args.link c.args.delivery c.in_ok-span.span =
     c.in_ok-span.ensures in
     slice_get_within c.self.inside.deliveries.subs c.args.sub t.sub t.found
+
+pub give_back-requires-clause-last : goal.give_back-requires-clause-last
+give_back-requires-clause-last c =
+    let d = c.self.inside in
+    rw c.in_ok-turn.ensures
+    (next_comes_last d.front d.turn d.next_delivery c.args.sub d.deliveries.subs c.self.invariant.1)
 
 pub invariant_of-self : goal.invariant_of-self
 invariant_of-self c =
@@ -50,7 +56,7 @@ invariant_of-self c =
       belong = c.self.invariant.1;
       found = here;
       is_open = running.0;
-      joins = t.joined;
+      rises = t.rising;
     } in
     let made = c.give_back.ensures t.sub here in
     rw (made, c.in_ok-turn.ensures) (
@@ -75,7 +81,7 @@ returns c =
       belong = c.self.invariant.1;
       found = here;
       is_open = running.0;
-      joins = t.joined;
+      rises = t.rising;
     } in
     let made = c.give_back.ensures t.sub here in
     let shows = returned_as d.config d.front d.turn d.next_delivery

@@ -20,7 +20,7 @@ returns-in-Some c now =
     let g =
     any_goes_first d.config d.front d.turn d.next_delivery d.deliveries.subs found.0 found.1 c.self.invariant.0.0
     c.self.invariant.1 searched
-    c.in-Some.ensures.joined in
+    c.in-Some.ensures.rising in
     rw (← c.self.view_is)
     (why_of (take_any picture now) (Ok (delivery_from picture found.0 (shown_sub d.config.batch d.front g.sub) found.1))
     _ (any_taken d.config d.front d.turn d.clock d.next_link d.next_delivery now d.closing d.deliveries.subs found.0

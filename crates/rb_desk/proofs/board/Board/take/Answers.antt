@@ -1,4 +1,4 @@
-use Rattle.std.proofs.Common.{◌∙◌, suc, arith}
+use Rattle.std.proofs.Common.{◌∙◌, arith}
 use Rattle.std.proofs.lemmas.Option.{slice_get_within}
 use Rattle.rb_desk.specs.Shown.{IsToTake}
 use Rattle.rb_deliveries.specs.Subs.{Belongs}
@@ -7,11 +7,11 @@ use Rattle.rb_deliveries.proofs.subs.KnownLaws.{all_get}
 use Rattle.rb_deliveries.proofs.spans.FoundLaws.{may_go_first}
 use Rattle.rb_deliveries.proofs.spans.LaneChanges.{may_go_span}
 use Rattle.rb_desk.proofs.calls.HandLaws.{delivered_belongs, delivered_few, delivered_answers}
-use Rattle.rb_desk.proofs.calls.OpenLaws.{to_take_open}
+use Rattle.rb_desk.proofs.calls.OpenLaws.{to_take_open, next_is_newest}
 use Rattle.rb_desk.proofs.board.Board.take.Goals as goal
 
-pub deliver-requires : goal.deliver-requires
-deliver-requires c =
+pub deliver-requires-clause-span : goal.deliver-requires-clause-span
+deliver-requires-clause-span c =
     let d = c.self.inside in
     let t : IsToTake d.config.window d.config.batch d.front d.deliveries.subs c.args.sub c.args.link c.in_ok-span.span =
     c.in_ok-span.ensures in
@@ -21,11 +21,16 @@ deliver-requires c =
       slice_get_within d.deliveries.subs c.args.sub t.sub t.found,
       omega (
         arith,
-        may_go_span d.config.batch d.front (suc t.sub.lane.floor) t.sub.lane c.in_ok-span.span c.self.invariant.0.0
-            next t.joined may,
+        may_go_span d.config.batch d.front 1 t.sub.lane c.in_ok-span.span c.self.invariant.0.0
+            next t.rising may,
         c.self.invariant.0,
       ),
     )
+
+pub deliver-requires-clause-last : goal.deliver-requires-clause-last
+deliver-requires-clause-last c =
+    let d = c.self.inside in
+    next_is_newest d.front d.turn d.next_delivery c.args.sub d.deliveries.subs c.self.invariant.1
 
 pub invariant_of-self : goal.invariant_of-self
 invariant_of-self c =

@@ -1,9 +1,10 @@
-use Rattle.std.proofs.Common.{◌≡◌, ◌∙◌, suc, Some, None, sym, refl, arith, option_map}
+use Rattle.std.proofs.Common.{◌≡◌, ◌∙◌, Some, None, sym, refl, arith, option_map}
 use Rattle.std.proofs.lemmas.Option.{slice_get_within}
 use Rattle.rb_deliveries.specs.Subs.{Belongs, first_to_deliver, span_to_deliver}
 use Rattle.rb_deliveries.proofs.subs.KnownLaws.{all_get}
 use Rattle.rb_deliveries.proofs.spans.LaneChanges.{may_go_span}
 use Rattle.rb_desk.proofs.calls.HandLaws.{delivered_belongs, delivered_few, delivered_answers}
+use Rattle.rb_desk.proofs.calls.OpenLaws.{next_is_newest}
 use Rattle.rb_desk.proofs.calls.AnyLaws.{any_goes_first, goes_may, any_taken, none_taken}
 use Rattle.rb_desk.proofs.board.Board.take_any.Goals as goal
 
@@ -23,8 +24,8 @@ returns-in_default c =
       refl,
     )
 
-pub deliver-requires : goal.deliver-requires
-deliver-requires c =
+pub deliver-requires-clause-span : goal.deliver-requires-clause-span
+deliver-requires-clause-span c =
     let d = c.self.inside in
     let searched : option_map span_to_deliver
     (first_to_deliver d.config.window d.config.batch d.front 0
@@ -35,19 +36,24 @@ deliver-requires c =
     ∙ sym c.first_to_deliver.ensures.value ∙ c.in-Some.is in
     let g = any_goes_first d.config d.front d.turn d.next_delivery
     d.deliveries.subs c.in-Some.sub c.in-Some.span c.self.invariant.0.0 c.self.invariant.1 searched
-    c.in-Some.ensures.joined in
+    c.in-Some.ensures.rising in
     let next =
     (all_get (Belongs d.front d.turn d.next_delivery) d.deliveries.subs
     c.in-Some.sub g.sub g.opened.belong g.opened.found).is_next in (
       slice_get_within d.deliveries.subs c.in-Some.sub g.sub g.opened.found,
       omega (
         arith,
-        may_go_span d.config.batch d.front (suc g.sub.lane.floor) g.sub.lane
-            c.in-Some.span c.self.invariant.0.0 next g.opened.joins (goes_may d.config d.front
+        may_go_span d.config.batch d.front 1 g.sub.lane
+            c.in-Some.span c.self.invariant.0.0 next g.opened.rises (goes_may d.config d.front
             d.turn d.next_delivery d.deliveries.subs c.in-Some.sub c.in-Some.span g),
         c.self.invariant.0,
       ),
     )
+
+pub deliver-requires-clause-last : goal.deliver-requires-clause-last
+deliver-requires-clause-last c =
+    let d = c.self.inside in
+    next_is_newest d.front d.turn d.next_delivery c.in-Some.sub d.deliveries.subs c.self.invariant.1
 
 pub invariant_of-self : goal.invariant_of-self
 invariant_of-self c =
@@ -61,7 +67,7 @@ invariant_of-self c =
     ∙ sym c.first_to_deliver.ensures.value ∙ c.in-Some.is in
     let g = any_goes_first d.config d.front d.turn d.next_delivery
     d.deliveries.subs c.in-Some.sub c.in-Some.span c.self.invariant.0.0 c.self.invariant.1 searched
-    c.in-Some.ensures.joined in (
+    c.in-Some.ensures.rising in (
       c.self.invariant.0,
       delivered_belongs d.config d.front d.turn
           d.next_delivery d.deliveries.subs c.in-Some.sub g.sub g.opened c.in-Some.span
@@ -86,7 +92,7 @@ returns c =
     ∙ sym c.first_to_deliver.ensures.value ∙ c.in-Some.is in
     let g = any_goes_first d.config d.front d.turn d.next_delivery
     d.deliveries.subs c.in-Some.sub c.in-Some.span c.self.invariant.0.0 c.self.invariant.1 searched
-    c.in-Some.ensures.joined in
+    c.in-Some.ensures.rising in
     let call = any_taken d.config d.front d.turn d.clock
     d.next_link d.next_delivery c.args.now d.closing d.deliveries.subs
     c.in-Some.sub c.in-Some.span g in

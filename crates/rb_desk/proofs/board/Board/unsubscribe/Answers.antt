@@ -21,7 +21,7 @@ invariant_of-self c =
       c.self.invariant.0,
       belongs_unsubscribed d.front d.turn d.next_delivery
           c.args.sub d.deliveries.subs t.sub c.self.invariant.1 here
-          t.joined,
+          t.rising,
       few_set d.deliveries.subs c.args.sub _ c.self.invariant.2,
       c.self.invariant.3,
     )

@@ -1,0 +1,19 @@
+-- The lists of keys in which the spans of a subscription stand.
+pub mod KeyLaws
+pub mod RiseLaws
+pub mod StandLaws
+pub mod ListedLaws
+pub mod PushLaws
+pub mod WalkLaws
+pub mod FindLaws
+pub mod OnceLaws
+pub mod ReadyLaws
+pub mod LeastLaws
+pub mod OutLaws
+pub mod SoonLaws
+pub mod BeginLaws
+pub mod MoveLaws
+pub mod RestateLaws
+pub mod StateLaws
+pub mod ExpireKeys
+pub mod ExpireWalk
