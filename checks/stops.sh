@@ -1,7 +1,8 @@
 #!/bin/sh
 # Stops the database file or the log of a replica after each operation of a commit of so many changes, as the program
 # `replica_stops` does in the gate for a commit of two, and prints what was found. The replica that is opened then must have the
-# rows and the cursor of before the commit, or those of after it.
+# rows and the cursor of before the commit, or those of after it. The same of an accept, whose subscription falls and must be
+# resumed.
 #   sh checks/stops.sh CHANGES [PAGES]        needs the program as `rt run` leaves it in crates/replica_stops
 # PAGES, 4 where it isn't given, is how many pages a database keeps in memory. With fewer a commit has more operations.
 cd "$(dirname "$0")/.." || exit 2
@@ -24,3 +25,5 @@ right=$(grep -c ' 0 wrong; a whole commit lasts$' "$work/out")
 [ "$right" -eq 12 ] || fail "$right of 12 losses are right" 1
 stopped=$(grep -c 'stops [1-9][0-9]* times$' "$work/out")
 [ "$stopped" -eq 3 ] || fail "$stopped of 3 files were stopped" 1
+resumed=$(grep -c 'stops [1-9][0-9]* times; .* 0 wrong$' "$work/out")
+[ "$resumed" -eq 3 ] || fail "$resumed of 3 accepts were resumed" 1

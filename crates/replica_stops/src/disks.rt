@@ -102,7 +102,12 @@ pub struct Wreck {
 }
 
 impl Wreck {
-    pub fn of(alloc: Global, files: Files<TestDisk>) -> io::Result<Wreck> {
+    /// What a database leaves.
+    pub fn of(alloc: Global, conn: Connection<FileStore<TestDisk>>) -> io::Result<Wreck> {
+        Wreck::of_files(alloc, conn.into_store().close())
+    }
+
+    fn of_files(alloc: Global, files: Files<TestDisk>) -> io::Result<Wreck> {
         let Files { log, db } = files;
         Ok(Wreck {
             log: Contents::of(alloc, log)?,

@@ -1,20 +1,28 @@
 //! Tries replicas over databases that are no replica, and over disks that stop.
 //! In a commit of so many changes as the first argument says, a file stops after each number of
 //! operations. The replica that is opened then must have the rows and the cursor of before the
-//! commit, or those of after it. The second argument is how many pages a database keeps in memory.
+//! commit, or those of after it. The same of an accept: the subscription falls, and must be resumed
+//! with what the replica has. The second argument is how many pages a database keeps in memory.
 //! Prints what was found, and fails if anything else was.
 #![tactic(auto)]
 
 mod cases;
 mod disks;
+mod falls;
+mod kept;
 mod reading;
 mod rows;
+mod stand;
 mod stops;
+mod texts;
 
+use crate::falls::Falls;
 use crate::rows::Commits;
 use crate::stops::Trial;
 use std::alloc::Global;
 use std::process::ExitCode;
+use std::sync::Wait;
+use std::thread::Threads;
 use std::{env, io};
 
 fn main(rt: HostRuntime) -> io::Result<ExitCode> {
@@ -27,8 +35,10 @@ fn main(rt: HostRuntime) -> io::Result<ExitCode> {
     cases::tell_all(&rt, alloc)?;
     cases::tell_created(&rt, alloc, &commits)?;
     println!(rt; "{} changes:", commits.second.len())?;
-    let are_right = tell_stops(&rt, alloc, &commits, usize::from(pages))?;
-    Ok(if are_right {
+    let pages = usize::from(pages);
+    let are_right = tell_stops(&rt, alloc, &commits, pages)?;
+    let are_resumed = tell_falls(&rt, alloc, &commits, pages)?;
+    Ok(if are_right && are_resumed {
         ExitCode::SUCCESS
     } else {
         ExitCode::FAILURE
@@ -64,6 +74,23 @@ fn tell_stops(rt: &impl Print, alloc: Global, commits: &Commits, pages: usize) -
             println!(rt; "{counts}")?;
         }
         are_right = are_right && stops.are_right();
+    }
+    Ok(are_right)
+}
+
+// Tries each stop of each trial in an accept, and tells how often a subscription fell and was
+// resumed. Returns whether all is as it must be.
+fn tell_falls<R: Print + Wait + Threads + Sync>(
+    rt: &R,
+    alloc: Global,
+    commits: &Commits,
+    pages: usize,
+) -> io::Result<bool> {
+    let mut are_right = true;
+    for trial in Trial::all(pages) {
+        let falls = Falls::of(rt, alloc, trial, commits)?;
+        println!(rt; "{falls}")?;
+        are_right = are_right && falls.are_right();
     }
     Ok(are_right)
 }

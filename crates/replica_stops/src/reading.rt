@@ -31,7 +31,8 @@ impl Found {
         }
     }
 
-    fn of(alloc: Global, tables: &Tables, cursor: u64, commits: &Commits) -> io::Result<Found> {
+    /// The state with these rows and this cursor.
+    pub fn of(alloc: Global, tables: &Tables, cursor: u64, commits: &Commits) -> io::Result<Found> {
         if commits.before.is(alloc, tables, cursor)? {
             return Ok(Found::Before);
         }

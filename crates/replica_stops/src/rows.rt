@@ -1,5 +1,6 @@
 //! The rows of the test: a table, the states before a commit and after it, and its changes.
 
+use crate::texts::changeset;
 use cs_apply::Tables;
 use cs_model::{FieldRef, Row, RowKey, Schema, Seq, Shape, field_push};
 use par_apply::RowChange;
@@ -12,11 +13,14 @@ pub const FIRST_CURSOR: u64 = 5;
 
 pub const SECOND_CURSOR: u64 = 7;
 
-/// Two commits, and what a replica has after each of them.
+/// Two commits, the changesets that lead to the same rows, and what a replica has after each of
+/// them.
 #[derive(Drop)]
 pub struct Commits {
     pub first: Vec<RowChange>,
     pub second: Vec<RowChange>,
+    pub first_text: Vec<u8>,
+    pub second_text: Vec<u8>,
     pub before: State,
     pub after: State,
 }
@@ -26,8 +30,10 @@ impl Commits {
     /// adds one beside the third.
     pub fn new(alloc: Global, count: u32) -> io::Result<Commits> {
         Ok(Commits {
-            first: all_rows(alloc, count)?,
-            second: all_changes(alloc, count)?,
+            first: all_changes(alloc, count, Moment::Empty, Moment::Before)?,
+            second: all_changes(alloc, count, Moment::Before, Moment::After)?,
+            first_text: changeset(alloc, count, Moment::Empty, Moment::Before)?,
+            second_text: changeset(alloc, count, Moment::Before, Moment::After)?,
             before: State::at(alloc, Moment::Before, count, FIRST_CURSOR)?,
             after: State::at(alloc, Moment::After, count, SECOND_CURSOR)?,
         })
@@ -71,17 +77,19 @@ fn are_same(found: &[(&RowKey, &Row)], wanted: &[(RowKey, Row)]) -> bool {
     true
 }
 
-/// Before the second commit, or after it.
+/// Before the first commit, before the second one, or after it.
 #[derive(Clone, Copy)]
-enum Moment {
+pub enum Moment {
+    Empty,
     Before,
     After,
 }
 
 impl Moment {
-    // the text of the row with this id, if there is one
-    fn text(self, count: u32, id: u32) -> Option<&'static str> {
+    /// The text of the row with this id, if there is one.
+    pub fn text(self, count: u32, id: u32) -> Option<&'static str> {
         match self {
+            Moment::Empty => None,
             Moment::Before => text_before(count, id),
             Moment::After => text_after(count, id),
         }
@@ -107,29 +115,17 @@ fn text_after(count: u32, id: u32) -> Option<&'static str> {
     }
 }
 
-// the last id that a row may have
-fn last_id(count: u32) -> u32 {
+/// The last id that a row may have.
+pub fn last_id(count: u32) -> u32 {
     count.saturating_mul(2)
 }
 
-// the first commit: each row that there is before the second
-fn all_rows(alloc: Global, count: u32) -> io::Result<Vec<RowChange>> {
+// a commit: each row that differs after it
+fn all_changes(alloc: Global, count: u32, from: Moment, to: Moment) -> io::Result<Vec<RowChange>> {
     let mut changes = Vec::new(alloc);
     for id in 1..=last_id(count) {
-        let text = Moment::Before.text(count, id);
-        if text.is_some() {
-            changes.push(change(alloc, id, text)?)?;
-        }
-    }
-    Ok(changes)
-}
-
-// the second commit: each row that differs after it
-fn all_changes(alloc: Global, count: u32) -> io::Result<Vec<RowChange>> {
-    let mut changes = Vec::new(alloc);
-    for id in 1..=last_id(count) {
-        let text = Moment::After.text(count, id);
-        if text != Moment::Before.text(count, id) {
+        let text = to.text(count, id);
+        if text != from.text(count, id) {
             changes.push(change(alloc, id, text)?)?;
         }
     }

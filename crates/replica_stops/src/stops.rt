@@ -11,7 +11,7 @@ use std::sync::Arc;
 use std::{fmt, io};
 
 /// More operations than a commit has.
-const TOO_MANY: u64 = 10_000_000;
+pub const TOO_MANY: u64 = 10_000_000;
 
 /// What a commit does with the log before it writes to it.
 #[derive(Clone, Copy)]
@@ -35,8 +35,8 @@ impl fmt::Display for LogUse {
 /// A commit in which a file stops.
 #[derive(Clone, Copy)]
 pub struct Trial {
-    log: LogUse,
-    file: StoppedFile,
+    pub log: LogUse,
+    pub file: StoppedFile,
     // how many pages stay in memory: of few, a larger commit writes some before its end, and reads
     // them again
     pages: usize,
@@ -64,7 +64,8 @@ impl Trial {
         ]
     }
 
-    fn options(self) -> Options {
+    /// How its database is kept.
+    pub fn options(self) -> Options {
         let checkpoint_frames = match self.log {
             LogUse::Copies => 1,
             LogUse::Keeps => usize::MAX,
@@ -99,7 +100,7 @@ impl Trial {
             return Ok(None);
         };
         Ok(Some(Left {
-            wreck: Wreck::of(alloc, conn.into_store().close())?,
+            wreck: Wreck::of(alloc, conn)?,
             committed,
         }))
     }

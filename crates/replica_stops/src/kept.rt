@@ -1,0 +1,253 @@
+//! A subscription whose rows and cursor a replica keeps: how it begins, accepts, falls, and is
+//! resumed.
+
+ghost use Rattle.std.specs.Prelude.{◌≡◌, IfOk, IfSome, IsTrue};
+ghost use Rattle.rb_subscriber.specs.Subscription.{cursor_of};
+ghost use Rattle.replica_store.specs.Durable.{KeepsRows};
+ghost use Rattle.replica_store.specs.Picture.{HoldsReplica};
+ghost use Rattle.sqlite.specs.Held.{state};
+ghost use Rattle.sqlite.specs.State.{HasCleanDisk};
+
+use crate::rows::SECOND_CURSOR;
+use cs_apply::Tables;
+use cs_model::Schema;
+use par_apply::Open;
+use rb_broker::{Broker, Hall, RefusedResume, ResumeError, TakeError};
+use rb_desk::{Delivery, DeskError, DeskRefusal};
+use rb_subscriber::{AcceptRefusal, Lost, Subscription, SubscriptionError, Workers};
+use replica_store::{Replica, ReplicaError};
+use sqlite::{Alter, Connection};
+use std::alloc::Global;
+use std::io;
+use std::sync::{Arc, Wait};
+use std::thread::Threads;
+
+/// A replica, and the rows and the cursor that it has.
+#[derive(Drop)]
+pub struct Loaded<S: Alter> {
+    pub replica: Replica<S>,
+    pub tables: Tables,
+    pub cursor: u64,
+}
+
+/// A subscription, and the replica that has its rows and its cursor.
+#[derive(Drop)]
+pub struct Kept<L: Hall, S: Alter> {
+    pub subscription: Subscription<L>,
+    pub replica: Replica<S>,
+}
+
+/// Makes a replica in an empty database.
+pub fn created<S: Alter + Drop>(
+    alloc: Global,
+    conn: Connection<S>,
+    schema: Arc<Schema>,
+) -> Result<Loaded<S>, ReplicaError>
+    ensures { IfOk result (λ l.
+        KeepsRows (state S.Store l.replica.conn) l.tables.rows l.cursor) }
+{
+    match Replica::create(conn, schema) {
+        Ok(replica) => load(alloc, replica),
+        Err(error) => Err(error),
+    }
+}
+
+/// Opens a replica again.
+pub fn reopened<S: Alter + Drop>(
+    alloc: Global,
+    conn: Connection<S>,
+    schema: Arc<Schema>,
+) -> Result<Loaded<S>, ReplicaError>
+    ensures { IfOk result (λ l.
+        KeepsRows (state S.Store l.replica.conn) l.tables.rows l.cursor) }
+{
+    match Replica::open(conn, schema) {
+        Ok(replica) => load(alloc, replica),
+        Err(error) => Err(error),
+    }
+}
+
+fn load<S: Alter + Drop>(alloc: Global, mut replica: Replica<S>) -> Result<Loaded<S>, ReplicaError>
+    requires { HasCleanDisk (state S.Store replica.conn)
+        → HoldsReplica (state S.Store replica.conn) }
+    ensures { IfOk result (λ l.
+        KeepsRows (state S.Store l.replica.conn) l.tables.rows l.cursor) }
+{
+    let (tables, cursor) = replica.load(alloc)?;
+    Ok(Loaded {
+        replica,
+        tables,
+        cursor,
+    })
+}
+
+/// A new subscription with the rows and the cursor of a replica.
+pub fn subscribed<L: Hall, S: Alter + Drop, R: Wait>(
+    rt: &R,
+    alloc: Global,
+    broker: &Broker<L>,
+    loaded: Loaded<S>,
+) -> Option<Kept<L, S>>
+    requires { KeepsRows (state S.Store loaded.replica.conn) loaded.tables.rows loaded.cursor }
+    ensures { IfSome result (λ k. KeepsRows (state S.Store k.replica.conn)
+        k.subscription.tables.rows (cursor_of k.subscription)) }
+{
+    let Loaded {
+        replica,
+        tables,
+        cursor,
+    } = loaded;
+    let Ok(subscription) = broker.subscribe(rt, alloc, tables, cursor) else {
+        return None;
+    };
+    if subscription.cursor() != cursor {
+        return None;
+    }
+    Some(Kept {
+        subscription,
+        replica,
+    })
+}
+
+/// Accepts the next delivery. Returns whether it is accepted: if not, the subscription has fallen.
+pub fn accept_next<L: Hall, S: Alter + Drop, R: Wait + Threads + Sync>(
+    rt: &R,
+    alloc: Global,
+    broker: &Broker<L>,
+    subscription: &mut Subscription<L>,
+    replica: &mut Replica<S>,
+) -> io::Result<bool>
+    requires { KeepsRows (state S.Store replica.old.conn) subscription.old.tables.rows
+        (cursor_of subscription.old) }
+    ensures { IfOk result (λ accepted. IsTrue accepted
+        → KeepsRows (state S.Store replica.new.conn) subscription.new.tables.rows
+        (cursor_of subscription.new)) }
+{
+    let Ok(delivery) = broker.take(rt, alloc, subscription, 0) else {
+        return Err(io::Error::other("nothing is delivered"));
+    };
+    accept(rt, alloc, broker, subscription, replica, &delivery)
+}
+
+fn accept<L: Hall, S: Alter + Drop, R: Wait + Threads + Sync>(
+    rt: &R,
+    alloc: Global,
+    broker: &Broker<L>,
+    subscription: &mut Subscription<L>,
+    replica: &mut Replica<S>,
+    delivery: &Delivery,
+) -> io::Result<bool>
+    requires { KeepsRows (state S.Store replica.old.conn) subscription.old.tables.rows
+        (cursor_of subscription.old) }
+    ensures { IfOk result (λ accepted. IsTrue accepted
+        → KeepsRows (state S.Store replica.new.conn) subscription.new.tables.rows
+        (cursor_of subscription.new)) }
+{
+    let workers = Workers {
+        rt,
+        n: 1,
+        gate: &Open,
+    };
+    match subscription.accept_durable(&workers, alloc, broker.sequence(), replica, delivery) {
+        Ok(_) => Ok(true),
+        Err(SubscriptionError::Refused(AcceptRefusal::Store)) => Ok(false),
+        Err(_) => Err(io::Error::other("a delivery is refused")),
+    }
+}
+
+/// Accepts what is left, and hands the connection of the replica back, if nothing is left then.
+pub fn gone_on<L: Hall, S: Alter + Drop, R: Wait + Threads + Sync>(
+    rt: &R,
+    alloc: Global,
+    broker: &Broker<L>,
+    kept: Kept<L, S>,
+) -> io::Result<Option<Connection<S>>>
+    requires { KeepsRows (state S.Store kept.replica.conn) kept.subscription.tables.rows
+        (cursor_of kept.subscription) }
+{
+    let Kept {
+        mut subscription,
+        mut replica,
+    } = kept;
+    if subscription.cursor() < SECOND_CURSOR {
+        accept_next(rt, alloc, broker, &mut subscription, &mut replica)?;
+    }
+    let is_over = has_nothing_left(rt, alloc, broker, &mut subscription);
+    Ok(if is_over {
+        Some(replica.into_connection())
+    } else {
+        None
+    })
+}
+
+// whether it has accepted everything
+fn has_nothing_left<L: Hall, R: Wait>(
+    rt: &R,
+    alloc: Global,
+    broker: &Broker<L>,
+    subscription: &mut Subscription<L>,
+) -> bool {
+    matches!(
+        broker.take(rt, alloc, subscription, 0),
+        Err(TakeError::Desk(DeskError::Refused(DeskRefusal::Empty { .. })))
+    ) && subscription.cursor() == SECOND_CURSOR
+}
+
+/// Resumes a subscription with the rows and the cursor of its replica, after the cursor of the
+/// other state with these rows was refused.
+pub fn resumed<L: Hall, S: Alter + Drop, R: Wait>(
+    rt: &R,
+    alloc: Global,
+    broker: &Broker<L>,
+    lost: Lost<L>,
+    loaded: Loaded<S>,
+) -> Option<Kept<L, S>>
+    requires { KeepsRows (state S.Store loaded.replica.conn) loaded.tables.rows loaded.cursor }
+    ensures { IfSome result (λ k. KeepsRows (state S.Store k.replica.conn)
+        k.subscription.tables.rows (cursor_of k.subscription)) }
+{
+    let Loaded {
+        replica,
+        tables,
+        cursor,
+    } = loaded;
+    let (lost, tables) = refused(rt, alloc, broker, lost, tables, cursor)?;
+    let Ok(subscription) = broker.resume(rt, alloc, lost, tables, cursor) else {
+        return None;
+    };
+    if subscription.cursor() != cursor {
+        return None;
+    }
+    Some(Kept {
+        subscription,
+        replica,
+    })
+}
+
+// tries the cursor of the other state, and hands back what was refused
+fn refused<L: Hall, R: Wait>(
+    rt: &R,
+    alloc: Global,
+    broker: &Broker<L>,
+    lost: Lost<L>,
+    tables: Tables,
+    cursor: u64,
+) -> Option<(Lost<L>, Tables)>
+    ensures { IfSome result (λ back. back.1 ≡ tables) }
+{
+    let other = if cursor == lost.before() {
+        lost.after()
+    } else {
+        lost.before()
+    };
+    match broker.resume(rt, alloc, lost, tables, other) {
+        Err(
+            RefusedResume {
+                why: ResumeError::OtherState,
+                lost,
+                tables,
+            },
+        ) => Some((lost, tables)),
+        _ => None,
+    }
+}
