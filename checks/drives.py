@@ -16,7 +16,11 @@ program must be there as `rt run` leaves it (README.md); the variable PROGRAM na
 | `conflict-..` | one publisher and deliveries of one entry; a changeset conflicts |
 | `recorded-..`, `sqlite-..` | one publisher with a history that SQLite recorded; the rows are those that SQLite had |
 | `bad-..` | a line of no form, first, in the middle or last |
+| `drive-two` | an INSERT, and an UPDATE of its row |
 | the others | limits |
+
+Those of REPLICAS are driven with a replica too. What it must have comes from the rows of the report: each row's key is
+its fields that the table's flags name.
 """
 import os
 import random
@@ -30,6 +34,7 @@ from changesets import CONFLICTS, FAULTS, Author, header, integer, shapes, strin
 
 TOP = os.path.join(os.path.dirname(os.path.abspath(__file__)), '..')
 DATA = os.path.join(TOP, 'crates', 'rb_drive_cases', 'data')
+REPLICAS = ['drive-two', 'commuting-085', 'conflict-an-insert-of-a-row-1', 'recorded-text-keys']
 PROGRAM = os.path.normpath(os.path.join(TOP, os.environ.get('PROGRAM', 'crates/rb_run/out/rb_run')))
 
 
@@ -113,6 +118,20 @@ def end_of(accepts, placed):
             return 'cursor %d conflict %s %s' % (cursor, words[2], words[3]), 3
     assert cursor == placed, 'not drained'
     return 'cursor %d drained' % cursor, 0
+
+
+def replica(drive, report):
+    """what the replica of subscriber 0 has: its cursor, and each row with its table, its key and its body"""
+    lines = report.split('subscriber ')[1].splitlines()
+    rows = []
+    for line in lines[2:]:
+        _, table, *fields = line.split(' ')
+        flags = shapes_of(drive)[int(table)][1]
+        key = ''.join(field for field, flag in zip(fields, flags) if flag)
+        rows.append((int(table), bytes.fromhex(key), 'row %s %s %s' % (table, key, ''.join(fields))))
+    words = lines[0].split(' ')
+    assert words[:2] == ['0', 'cursor'] and lines[1] == 'rows %d' % len(rows), 'no such report'
+    return '\n'.join(['cursor ' + words[2]] + [line for _, _, line in sorted(rows)]) + '\n'
 
 
 # ---------------------------------------------------------------- the drives
@@ -207,6 +226,8 @@ def limits():
         givens = [(0, row(number)) for number in range(6)] + [(0, b'P')]
         yield Drive('one-more-than-the-capacity-%d' % subscribers, [head], givens,
                     {'subscribers': subscribers, 'capacity': 5, 'intake': 1}, [6])
+    yield Drive('drive-two', [head], [(0, row(1)), (0, head + b'\x17\x00' + integer(1) + string(3, b'x') + b'\x00'
+                                                   + string(3, b'y'))], {})
     yield Drive('sixty-four-publishers', [head], [(number, row(number)) for number in range(64)], {'intake': 1})
     yield Drive('the-last-publisher-alone', [head], [(63, row(number)) for number in range(8)], {'subscribers': 2})
     yield Drive('no-line', [], [], {})
@@ -248,6 +269,8 @@ def files_of(drive, wanted):
         files['args'] = drive.args().encode() + b'\n'
     if status:
         files['status'] = b'%d\n' % status
+    if drive.name in REPLICAS:
+        files['replica'] = replica(drive, report).encode()
     return drive.name, files
 
 

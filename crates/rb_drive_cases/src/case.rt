@@ -1,24 +1,29 @@
 //! `DriveCase`: an input with its expected report, read from files and compared.
 
+use crate::replica::replica_lines;
 use rb_case_files::{Options, difference, lines, read_if_there};
-use rb_drive::{DriveFault, run_drive};
+use rb_drive::{DriveFault, run_drive, run_durable_drive};
+use sqlite::{Connection, Error, FileStore};
+use sqlite_disk::Disk;
 use std::alloc::{AllocError, Global};
 use std::sync::Wait;
 use std::thread::Threads;
 use std::{fs, io};
 
-/// An input, its options, its expected report, and how it is expected to end.
+/// An input, its options, its expected report, how it is expected to end, and what the replica of
+/// its first subscriber must have, if it is driven with one too.
 #[derive(Drop)]
 pub struct DriveCase {
     input: Vec<u8>,
     options: Vec<u8>,
     report: Vec<u8>,
     ending: Vec<u8>,
+    replica: Vec<u8>,
 }
 
 impl DriveCase {
     /// Reads `NAME.drive` and, if they exist, `NAME.args`, such as `--batch 1 --subscribers 2`,
-    /// `NAME.report`, and how it ends: `NAME.status` or `NAME.fault`.
+    /// `NAME.report`, `NAME.replica`, and how it ends: `NAME.status` or `NAME.fault`.
     pub fn read(rt: &HostRuntime, alloc: Global, name: &str) -> io::Result<DriveCase> {
         let mut ending = read_if_there(rt, alloc, &format!(in alloc; "{name}.status")?)?;
         if ending.is_empty() {
@@ -29,7 +34,13 @@ impl DriveCase {
             options: read_if_there(rt, alloc, &format!(in alloc; "{name}.args")?)?,
             report: read_if_there(rt, alloc, &format!(in alloc; "{name}.report")?)?,
             ending,
+            replica: read_if_there(rt, alloc, &format!(in alloc; "{name}.replica")?)?,
         })
+    }
+
+    /// Whether it is driven with a replica too.
+    pub fn has_replica(&self) -> bool {
+        !self.replica.is_empty()
     }
 
     /// Drives a broker with the input, and compares its ending and its report. Returns how many
@@ -42,11 +53,6 @@ impl DriveCase {
         let Some(options) = Options::of(&self.options) else {
             return Ok(Err(String::from_str(alloc, "no such options")?));
         };
-        let Options {
-            config,
-            subscribers,
-            ..
-        } = options;
         let mut reader: &[u8] = &self.input;
         let mut written = Vec::new(alloc);
         let ended = run_drive(
@@ -54,16 +60,65 @@ impl DriveCase {
             alloc,
             &mut reader,
             &mut written,
-            config,
-            subscribers,
+            options.config,
+            options.subscribers,
         );
-        let ending = text_of_end(alloc, &ended)?;
+        self.compare(alloc, &ended, &written)
+    }
+
+    /// The same, with a replica of the first subscriber in this database.
+    pub fn run_durable<T: Threads + Wait + Sync, D: Disk + Drop + Send>(
+        &self,
+        threads: &T,
+        alloc: Global,
+        file: Result<Connection<FileStore<D>>, Error>,
+    ) -> Result<Result<usize, String>, AllocError> {
+        let Some(options) = Options::of(&self.options) else {
+            return Ok(Err(String::from_str(alloc, "no such options")?));
+        };
+        let mut reader: &[u8] = &self.input;
+        let mut written = Vec::new(alloc);
+        let ended = run_durable_drive(
+            threads,
+            alloc,
+            &mut reader,
+            &mut written,
+            options.config,
+            options.subscribers,
+            file,
+        );
+        self.compare(alloc, &ended, &written)
+    }
+
+    // compares the ending and the report
+    fn compare(
+        &self,
+        alloc: Global,
+        ended: &Result<u8, DriveFault>,
+        written: &[u8],
+    ) -> Result<Result<usize, String>, AllocError> {
+        let ending = text_of_end(alloc, ended)?;
         if ending.as_bytes() != self.ending.as_slice() {
             return Ok(Err(format!(in alloc; "it ended with '{}'", ending.trim_end())?));
         }
-        let given = lines(alloc, &written)?;
+        let given = lines(alloc, written)?;
         let wanted = lines(alloc, &self.report)?;
         difference(alloc, "line", &given, &wanted)
+    }
+
+    /// Opens the database again, as another program would, and compares the replica in it. Returns
+    /// how many lines it has, or a text with the first one that differs.
+    pub fn compare_replica<D: Disk + Drop>(
+        &self,
+        alloc: Global,
+        file: Result<Connection<FileStore<D>>, Error>,
+    ) -> Result<Result<usize, String>, AllocError> {
+        let Ok(text) = replica_lines(alloc, &self.input, file) else {
+            return Ok(Err(String::from_str(alloc, "its replica isn't opened")?));
+        };
+        let given = lines(alloc, text.as_bytes())?;
+        let wanted = lines(alloc, &self.replica)?;
+        difference(alloc, "line of the replica", &given, &wanted)
     }
 }
 

@@ -1,16 +1,19 @@
 //! Drives a broker with each input of a folder, and compares the report and how it ends with what
-//! they must be. A case is files and no code. Prints what differs, and how many lines it compared.
+//! they must be. A case is files and no code. One that says what a replica must have is driven once
+//! more, with a database file. Prints what differs, and how many lines it compared.
 #![tactic(auto)]
 
 mod case;
+mod replica;
 
 use case::DriveCase;
 use rb_case_files::names;
+use sqlite::Connection;
 use std::alloc::Global;
-use std::io;
 use std::process::ExitCode;
 use std::sync::Wait;
 use std::thread::Threads;
+use std::{fs, io};
 
 fn main(rt: HostRuntime) -> io::Result<ExitCode> {
     // files need the runtime itself, and threads a runtime of any type that can make them
@@ -42,7 +45,7 @@ fn drives<T: Threads + Wait + Sync>(
     Ok(failed)
 }
 
-// Runs a drive. Returns the number of lines of its report; if something differs, prints it and
+// Runs a drive. Returns the number of lines that were compared; if something differs, prints it and
 // returns nothing.
 fn compared<T: Threads + Wait + Sync>(
     rt: &HostRuntime,
@@ -51,11 +54,68 @@ fn compared<T: Threads + Wait + Sync>(
     name: &str,
 ) -> io::Result<Option<usize>> {
     let case = DriveCase::read(rt, alloc, name)?;
-    match case.run(threads, alloc)? {
+    match ran(rt, threads, alloc, name, &case)? {
         Ok(count) => Ok(Some(count)),
         Err(difference) => {
             println!(rt; "{name}: {difference}")?;
             Ok(None)
         }
+    }
+}
+
+// Runs a drive, and once more with a replica if it has one. Returns how many lines are as they must
+// be, or what differs.
+fn ran<T: Threads + Wait + Sync>(
+    rt: &HostRuntime,
+    threads: &T,
+    alloc: Global,
+    name: &str,
+    case: &DriveCase,
+) -> io::Result<Result<usize, String>> {
+    let plain = case.run(threads, alloc)?;
+    if !case.has_replica() {
+        return Ok(plain);
+    }
+    let Ok(lines) = plain else {
+        return Ok(plain);
+    };
+    let path = format!(in alloc; "{name}.db")?;
+    let log = format!(in alloc; "{name}.db-wal")?;
+    remove(rt, &path)?;
+    remove(rt, &log)?;
+    let kept = ran_durable(rt, threads, alloc, &path, case)?;
+    remove(rt, &path)?;
+    remove(rt, &log)?;
+    Ok(match kept {
+        Ok(more) => Ok(lines.saturating_add(more)),
+        Err(difference) => Err(difference),
+    })
+}
+
+// Runs a drive with a replica in a new file, and opens that file again.
+fn ran_durable<T: Threads + Wait + Sync>(
+    rt: &HostRuntime,
+    threads: &T,
+    alloc: Global,
+    path: &str,
+    case: &DriveCase,
+) -> io::Result<Result<usize, String>> {
+    let lines = match case.run_durable(threads, alloc, Connection::open(rt, path))? {
+        Ok(lines) => lines,
+        Err(difference) => return Ok(Err(difference)),
+    };
+    Ok(
+        match case.compare_replica(alloc, Connection::open(rt, path))? {
+            Ok(more) => Ok(lines.saturating_add(more)),
+            Err(difference) => Err(difference),
+        },
+    )
+}
+
+// Removes a file, if it is there.
+fn remove(rt: &HostRuntime, path: &str) -> io::Result<()> {
+    match fs::remove_file(rt, path) {
+        Err(why) if why.kind() == io::ErrorKind::NotFound => Ok(()),
+        removed => removed,
     }
 }
