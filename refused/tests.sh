@@ -5,9 +5,9 @@
 #   sh refused/tests.sh CRATE..        needs gcc, and the test programs as `rt test` leaves them in crates/CRATE/out
 # ONLY is a pattern that the tests' names match, where not all are wanted: those of rb_threads with threads allocate more
 # often than anybody waits for, so it is
-# ONLY='^(appliers|cells|rows|tokens|deliveries|subscriptions|finishing|driving)' there. With REFUSE_LEAST only
-# allocations of so many bytes are refused: REFUSE_LEAST=500000 ONLY='^(cells|segments)' refuses each segment of the
-# sequence.
+# ONLY='^(appliers|cells|rows|tokens|deliveries|subscriptions|finishing|driving|falling|restarts)' there. With
+# REFUSE_LEAST only allocations of so many bytes are refused: REFUSE_LEAST=500000 ONLY='^(cells|segments)' refuses each
+# segment of the sequence.
 if [ $# -eq 0 ]; then
     echo "tests.sh: usage: sh refused/tests.sh CRATE.." >&2
     exit 2

@@ -35,7 +35,7 @@ pub enum Call {
 
 /// What a call answers.
 #[derive(Clone, Copy, Debug, PartialEq, Eq)]
-pub enum Answer {
+pub enum Said {
     /// The number that is placed.
     Placed(Option<u64>),
     Made,
@@ -64,10 +64,10 @@ pub struct History<L: Hall> {
     pub deliveries: Vec<Delivery>,
 }
 
-fn desk(error: DeskError) -> Answer {
+fn desk(error: DeskError) -> Said {
     match error {
-        DeskError::Refused(why) => Answer::Desk(why),
-        DeskError::Memory => Answer::Memory,
+        DeskError::Refused(why) => Said::Desk(why),
+        DeskError::Memory => Said::Memory,
     }
 }
 
@@ -92,11 +92,11 @@ impl<L: Hall> History<L> {
         &mut self,
         rt: &R,
         alloc: Global,
-        row: &[(Call, Answer)],
+        row: &[(Call, Said)],
     ) -> Result<(), Fail> {
         for (call, answer) in row {
             let given = match self.call(rt, alloc, *call)? {
-                Answer::Memory => self.call(rt, alloc, *call)?,
+                Said::Memory => self.call(rt, alloc, *call)?,
                 given => given,
             };
             assert_eq!(rt; given, *answer);
@@ -104,7 +104,7 @@ impl<L: Hall> History<L> {
         Ok(())
     }
 
-    fn call<R: Wait + Abort>(&mut self, rt: &R, alloc: Global, call: Call) -> Result<Answer, Fail> {
+    fn call<R: Wait + Abort>(&mut self, rt: &R, alloc: Global, call: Call) -> Result<Said, Fail> {
         match call {
             Call::Put(key) => self.put(rt, alloc, key),
             Call::Subscribe(start) => self.subscribe(rt, alloc, start),
@@ -114,24 +114,24 @@ impl<L: Hall> History<L> {
             Call::Ack(delivery) => self.ack(rt, alloc, delivery),
             Call::Nack(delivery) => self.nack(rt, alloc, delivery),
             Call::Expire(now) => Ok(match self.bench.broker.expire(rt, alloc, now) {
-                Ok(many) => Answer::Expired(many),
+                Ok(many) => Said::Expired(many),
                 Err(error) => desk(error),
             }),
             Call::Reconnect(sub) => self.reconnect(rt, alloc, sub),
             Call::Unsubscribe(sub) => self.unsubscribe(rt, alloc, sub),
             Call::Close => match self.bench.broker.close(rt) {
-                Some(told) => Ok(Answer::Closed(told.last())),
+                Some(told) => Ok(Said::Closed(told.last())),
                 None => Err(Fail::new("the closing cell is set")),
             },
         }
     }
 
-    fn put<R: Wait + Abort>(&mut self, rt: &R, alloc: Global, key: u64) -> Result<Answer, Fail> {
+    fn put<R: Wait + Abort>(&mut self, rt: &R, alloc: Global, key: u64) -> Result<Said, Fail> {
         let number = put(rt, alloc, &mut self.bench, &insert(key))?;
-        Ok(Answer::Placed(number))
+        Ok(Said::Placed(number))
     }
 
-    fn subscribe<R: Wait>(&mut self, rt: &R, alloc: Global, start: u64) -> Result<Answer, Fail> {
+    fn subscribe<R: Wait>(&mut self, rt: &R, alloc: Global, start: u64) -> Result<Said, Fail> {
         self.subscriptions.reserve(1)?;
         let kept = vec![in alloc; true; 1]?;
         let schema = Arc::new(alloc, schema(alloc)?)?;
@@ -142,7 +142,7 @@ impl<L: Hall> History<L> {
         match self.bench.broker.subscribe(rt, alloc, tables, start) {
             Ok(subscription) => {
                 self.subscriptions.push_reserved(subscription);
-                Ok(Answer::Made)
+                Ok(Said::Made)
             }
             Err(RefusedSubscription { why, .. }) => match why {
                 SubscribeError::Desk(error) => Ok(desk(error)),
@@ -151,31 +151,25 @@ impl<L: Hall> History<L> {
         }
     }
 
-    fn take<R: Wait>(
-        &mut self,
-        rt: &R,
-        alloc: Global,
-        sub: usize,
-        now: u64,
-    ) -> Result<Answer, Fail> {
+    fn take<R: Wait>(&mut self, rt: &R, alloc: Global, sub: usize, now: u64) -> Result<Said, Fail> {
         let subscription = made(self.subscriptions.get_mut(sub))?;
         match self.bench.broker.take(rt, alloc, subscription, now) {
             Ok(delivery) => self.keep(delivery),
-            Err(TakeError::Drained(told)) => Ok(Answer::Drained(told.last())),
+            Err(TakeError::Drained(told)) => Ok(Said::Drained(told.last())),
             Err(TakeError::Desk(error)) => Ok(desk(error)),
         }
     }
 
-    fn take_any<R: Wait>(&mut self, rt: &R, alloc: Global, now: u64) -> Result<Answer, Fail> {
+    fn take_any<R: Wait>(&mut self, rt: &R, alloc: Global, now: u64) -> Result<Said, Fail> {
         match self.bench.broker.take_any(rt, alloc, now) {
             Ok(delivery) => self.keep(delivery),
             Err(error) => Ok(desk(error)),
         }
     }
 
-    fn keep(&mut self, delivery: Delivery) -> Result<Answer, Fail> {
+    fn keep(&mut self, delivery: Delivery) -> Result<Said, Fail> {
         self.deliveries.push(delivery)?;
-        Ok(Answer::Delivery(
+        Ok(Said::Delivery(
             delivery.number(),
             delivery.sub(),
             delivery.first(),
@@ -183,51 +177,51 @@ impl<L: Hall> History<L> {
         ))
     }
 
-    fn accept(&mut self, alloc: Global, delivery: usize) -> Result<Answer, Fail> {
+    fn accept(&mut self, alloc: Global, delivery: usize) -> Result<Said, Fail> {
         let delivery = *made(self.deliveries.get(delivery))?;
         let sub = delivery.sub() as usize;
         let subscription = made(self.subscriptions.get_mut(sub))?;
         let sequence = self.bench.broker.sequence();
         match subscription.accept_alone(alloc, sequence, &delivery) {
-            Ok(cursor) => Ok(Answer::Accepted(cursor)),
-            Err(SubscriptionError::Refused(why)) => Ok(Answer::Refused(why)),
-            Err(SubscriptionError::Memory) => Ok(Answer::Memory),
+            Ok(cursor) => Ok(Said::Accepted(cursor)),
+            Err(SubscriptionError::Refused(why)) => Ok(Said::Refused(why)),
+            Err(SubscriptionError::Memory) => Ok(Said::Memory),
             Err(SubscriptionError::Unseen { .. }) => Err(Fail::new("the cell shows its entry")),
         }
     }
 
-    fn ack<R: Wait>(&mut self, rt: &R, alloc: Global, delivery: usize) -> Result<Answer, Fail> {
+    fn ack<R: Wait>(&mut self, rt: &R, alloc: Global, delivery: usize) -> Result<Said, Fail> {
         let delivery = *made(self.deliveries.get(delivery))?;
         let sub = delivery.sub() as usize;
         let subscription = made(self.subscriptions.get_mut(sub))?;
         match self.bench.broker.ack(rt, alloc, subscription, &delivery) {
-            Ok(floor) => Ok(Answer::Floor(floor)),
+            Ok(floor) => Ok(Said::Floor(floor)),
             Err(error) => Ok(desk(error)),
         }
     }
 
-    fn nack<R: Wait>(&mut self, rt: &R, alloc: Global, delivery: usize) -> Result<Answer, Fail> {
+    fn nack<R: Wait>(&mut self, rt: &R, alloc: Global, delivery: usize) -> Result<Said, Fail> {
         let delivery = *made(self.deliveries.get(delivery))?;
         let sub = delivery.sub() as usize;
         let subscription = made(self.subscriptions.get_mut(sub))?;
         match self.bench.broker.nack(rt, alloc, subscription, &delivery) {
-            Ok(()) => Ok(Answer::Done),
+            Ok(()) => Ok(Said::Done),
             Err(error) => Ok(desk(error)),
         }
     }
 
-    fn reconnect<R: Wait>(&mut self, rt: &R, alloc: Global, sub: usize) -> Result<Answer, Fail> {
+    fn reconnect<R: Wait>(&mut self, rt: &R, alloc: Global, sub: usize) -> Result<Said, Fail> {
         let subscription = made(self.subscriptions.get_mut(sub))?;
         match self.bench.broker.reconnect(rt, alloc, subscription) {
-            Ok(link) => Ok(Answer::Link(link)),
+            Ok(link) => Ok(Said::Link(link)),
             Err(error) => Ok(desk(error)),
         }
     }
 
-    fn unsubscribe<R: Wait>(&mut self, rt: &R, alloc: Global, sub: usize) -> Result<Answer, Fail> {
+    fn unsubscribe<R: Wait>(&mut self, rt: &R, alloc: Global, sub: usize) -> Result<Said, Fail> {
         let subscription = made(self.subscriptions.get_mut(sub))?;
         match self.bench.broker.unsubscribe(rt, alloc, subscription) {
-            Ok(()) => Ok(Answer::Done),
+            Ok(()) => Ok(Said::Done),
             Err(error) => Ok(desk(error)),
         }
     }

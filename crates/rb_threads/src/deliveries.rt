@@ -4,12 +4,12 @@
 ghost use Rattle.std.specs.Prelude.{◌≡◌};
 
 use crate::bench::Bench;
-use crate::calls::{Answer, Call, History};
+use crate::calls::{Call, History, Said};
 use crate::given::schema;
-use Answer::{Accepted, Closed, Desk, Done, Drained, Expired, Floor, Link, Made, Placed, Refused};
 use Call::{
     Accept, Ack, Close, Expire, Nack, Put, Reconnect, Subscribe, Take, TakeAny, Unsubscribe,
 };
+use Said::{Accepted, Closed, Desk, Done, Drained, Expired, Floor, Link, Made, Placed, Refused};
 use cs_apply::Tables;
 use cs_model::Schema;
 use rb_broker::{Hall, Opened, RefusedSubscription, SubscribeError};
@@ -27,8 +27,8 @@ fn opened(alloc: Global, batch: u64, window: u64) -> Result<Opened, Fail> {
     Ok(Opened::new(alloc, config, schema(alloc)?)?)
 }
 
-fn delivery(number: u64, first: u64, last: u64) -> Answer {
-    Answer::Delivery(number, 0, first, last)
+fn delivery(number: u64, first: u64, last: u64) -> Said {
+    Said::Delivery(number, 0, first, last)
 }
 
 #[test]
@@ -145,7 +145,7 @@ fn counts<L: Hall, R: Wait + Abort>(
     rt: &R,
     alloc: Global,
     opened: Opened,
-    row: &[(Call, Answer)],
+    row: &[(Call, Said)],
     steps: u64,
 ) -> Result<(), Fail>
     requires cells { opened.cells ≡ L.cells }
@@ -228,6 +228,6 @@ fn subscribes_often<L: Hall, R: Wait + Abort>(
     rows.run(rt, alloc, &[(Subscribe(0), Desk(DeskRefusal::TooMany))])?;
     let last = MOST_SUBSCRIPTIONS - 1;
     rows.run(rt, alloc, &[(Put(1), Placed(Some(1)))])?;
-    let taken = Answer::Delivery(1, last, 1, 1);
+    let taken = Said::Delivery(1, last, 1, 1);
     rows.run(rt, alloc, &[(Take(last as usize, 0), taken)])
 }

@@ -1,13 +1,16 @@
-//! What the tests are given: a table, changesets of one INSERT, items, brokers and publishers.
+//! What the tests are given: a table, changesets of one INSERT, the rows that changesets leave,
+//! items, brokers and publishers.
 
 ghost use Rattle.std.specs.Prelude.{◌≡◌, IfOk};
 
+use cs_apply::Tables;
 use cs_model::{Octets, Origin, Schema, Seq, Shape};
 use cs_parse::{ParseError, parse};
 use rb_broker::{AddRefusal, Broker, Hall, Opened, Publisher, PublisherMaker};
 use rb_desk::Config;
 use rb_sequence::{Entry, Item};
 use std::alloc::{AllocError, Global};
+use std::sync::Arc;
 use std::test::Fail;
 
 /// An INSERT of (key, 'x') into a table `t` of two columns, the first of which is its key.
@@ -30,6 +33,24 @@ pub fn schema(alloc: Global) -> Result<Schema, Fail> {
     let mut shapes = Vec::new(alloc);
     shapes.push(Shape { name, flags })?;
     Ok(Schema::new(shapes)?)
+}
+
+/// The table without rows.
+pub fn empty_tables(alloc: Global) -> Result<Tables, Fail> {
+    let schema = Arc::new(alloc, schema(alloc)?)?;
+    let kept = vec![in alloc; true; schema.tables().len()]?;
+    Ok(Tables::new(alloc, schema, kept))
+}
+
+/// The table after so many of these changesets, which are in hexadecimal, applied one after
+/// another.
+pub fn tables_after(alloc: Global, changesets: &[&str], count: u64) -> Result<Tables, Fail> {
+    let mut tables = empty_tables(alloc)?;
+    for text in changesets.iter().take(count as usize) {
+        let bytes = hex::decode(alloc, *text)?;
+        tables.apply(alloc, &parse(alloc, &bytes)?)?;
+    }
+    Ok(tables)
 }
 
 /// A broker of the table, for this many entries and waiting items.

@@ -23,11 +23,15 @@ mod driving;
 #[cfg(test)]
 mod embedding;
 #[cfg(test)]
+mod falling;
+#[cfg(test)]
 mod finishing;
 #[cfg(test)]
 mod given;
 #[cfg(test)]
 mod recorded;
+#[cfg(test)]
+mod restarts;
 #[cfg(test)]
 mod rows;
 #[cfg(test)]

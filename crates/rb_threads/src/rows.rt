@@ -100,6 +100,22 @@ pub(crate) fn put<L: Hall, R: Wait + Abort>(
     Ok(placed(rt, alloc, &bench.broker, &mut bench.sequencer))
 }
 
+// sends and places these changesets, which are in hexadecimal: their numbers are 1, 2 and so on
+pub(crate) fn put_all<L: Hall, R: Wait + Abort>(
+    rt: &R,
+    alloc: Global,
+    bench: &mut Bench<L>,
+    changesets: &[&str],
+) -> Result<(), Fail> {
+    let mut last: u64 = 0;
+    for text in changesets {
+        let bytes = hex::decode(alloc, *text)?;
+        last = last.wrapping_add(1);
+        assert_eq!(rt; put(rt, alloc, bench, &bytes)?, Some(last));
+    }
+    Ok(())
+}
+
 fn fills_the_intake<L: Hall, R: Wait + Abort>(
     rt: &R,
     alloc: Global,

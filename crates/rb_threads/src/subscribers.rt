@@ -4,7 +4,7 @@
 ghost use Rattle.std.specs.Prelude.{◌≡◌, IfOk};
 
 use crate::courses::{Course, accept_all};
-use crate::given::{publisher, schema};
+use crate::given::{empty_tables, publisher, schema};
 use crate::threads::{place, send, stage};
 use cs_apply::Tables;
 use rb_broker::{Broker, Hall, Opened, Publisher, StagedSet, Started, WithdrawRefusal};
@@ -16,7 +16,7 @@ use rb_subscriber::{Auditor, Missing, Subscription};
 use std::alloc::{AllocError, Global};
 use std::marker::Brand;
 use std::process::Abort;
-use std::sync::{Arc, Wait};
+use std::sync::Wait;
 use std::test::Fail;
 use std::thread;
 use std::thread::Threads;
@@ -159,13 +159,6 @@ fn has_all<L: Hall, R: Abort>(
     let rows = subscription.tables().rows_in_order(alloc)?;
     assert!(rt; rows == singly.rows_in_order(alloc)?);
     Ok(())
-}
-
-// tables of the schema without rows
-fn empty_tables(alloc: Global) -> Result<Tables, Fail> {
-    let schema = Arc::new(alloc, schema(alloc)?)?;
-    let kept = vec![in alloc; true; schema.tables().len()]?;
-    Ok(Tables::new(alloc, schema, kept))
 }
 
 // Runs the publisher, the sequencer and so many subscribers to the end.
