@@ -594,6 +594,17 @@ class World:
         self.back(span)
         return ['ok']
 
+    def do_nackopen(self, d):
+        sub, span = self.in_flight(d)
+        self.flight.remove(span)
+        at = sub.spans.index(span)
+        alone = [Span(sub, n, n) for n in range(span.first, span.last + 1)]
+        for one in alone:
+            one.taken = True
+        sub.spans[at:at + 1] = alone
+        self.ready += alone
+        return ['opened %d' % len(alone)]
+
     def do_expire(self, now):
         self.clock = max(self.clock, now)
         late = [span for span in self.flight if self.clock - span.moment >= self.timeout]
@@ -660,7 +671,7 @@ class World:
     # -- script
     FORMS = {'table': 'h', 'publisher': '', 'feed': 'nh', 'end': 'n', 'reset': 'n', 'send': 'n', 'withdraw': 'nn', 'turn': '',
              'subscribe': 'n', 'take': 'nn', 'takeany': 'n', 'accept': 'n', 'crash': 'nb', 'ack': 'n', 'nack': 'n',
-             'expire': 'n', 'reconnect': 'nn', 'resume': 'n', 'unsubscribe': 'n', 'close': '', 'entry': 'n', 'combine': 'nn', 'rows': 'n',
+             'nackopen': 'n', 'expire': 'n', 'reconnect': 'nn', 'resume': 'n', 'unsubscribe': 'n', 'close': '', 'entry': 'n', 'combine': 'nn', 'rows': 'n',
              'left': ''}
 
     def line(self, raw):

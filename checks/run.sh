@@ -166,7 +166,7 @@ need_status 0
 need_nothing err
 need "no word of '< FILE'" grep -q '< FILE' "$out"
 need "no word of statuses" grep -qi status "$out"
-for line in table publisher feed reset end send turn close subscribe take takeany accept crash ack nack expire \
+for line in table publisher feed reset end send turn close subscribe take takeany accept crash ack nack nackopen expire \
     reconnect resume unsubscribe entry rows left; do
     need "no word of '$line'" grep -qw "$line" "$out"
 done

@@ -3,7 +3,8 @@
 ghost use Rattle.std.specs.Prelude.{◌≡◌, ◌+◌, IfErr, IfOk, Ok, OnErr, OnOk};
 ghost use Rattle.std.specs.Arc.{arc_value};
 ghost use Rattle.std.specs.Bool.{Decides};
-ghost use Rattle.rb_desk.specs.Calls.{ack, expire, nack, reconnect, take, take_any, unsubscribe};
+ghost use Rattle.rb_desk.specs.Calls.{ack, expire, nack, nack_opened, reconnect, take, take_any};
+ghost use Rattle.rb_desk.specs.Calls.{unsubscribe};
 ghost use Rattle.rb_desk.specs.declared.step.Step.TheVariants as step;
 ghost use Rattle.rb_subscriber.specs.Lost.{FitsLost, gone_on};
 ghost use Rattle.rb_subscriber.specs.Register.{all_steps};
@@ -139,6 +140,29 @@ impl<L: Hall> Broker<L> {
     {
         let mut locked = self.locked.lock(rt);
         locked.nack(alloc, subscription, delivery)
+    }
+
+    /// Gives a delivery back and opens it: each of its numbers is ready again, alone, so that a
+    /// later delivery has one of them. A subscriber does so where a delivery of several numbers
+    /// conflicts: it then accepts all that apply, and finds the one that doesn't. Returns how many
+    /// numbers it has.
+    ///
+    /// Refuses as the desk's `nack_opened` does.
+    pub fn nack_opened<R: Wait>(
+        &self,
+        rt: &R,
+        alloc: Global,
+        subscription: &mut Subscription<L>,
+        delivery: &Delivery,
+    ) -> Result<u64, DeskError>
+        ensures ok { OnOk result (subscription.new ≡ counted_step subscription.old) }
+        ensures err { OnErr result (subscription.new ≡ subscription.old) }
+        ensures desk { DeskReturns result (λ p. nack_opened p subscription.old.sub
+            delivery.now.link delivery.now.number)
+            (step.NackOpened subscription.old.sub delivery.now.link delivery.now.number) }
+    {
+        let mut locked = self.locked.lock(rt);
+        locked.nack_opened(alloc, subscription, delivery)
     }
 
     /// Makes all deliveries ready again that were taken the timeout ago or earlier. Returns how

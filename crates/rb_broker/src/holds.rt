@@ -2,7 +2,8 @@
 //! step.
 
 ghost use Rattle.std.specs.Prelude.{◌≡◌, ◌+◌, ◌<◌, Err, IfErr, IfOk, Ok, OnErr, OnOk};
-ghost use Rattle.rb_desk.specs.Calls.{ack, expire, nack, reconnect, take, take_any, unsubscribe};
+ghost use Rattle.rb_desk.specs.Calls.{ack, expire, nack, nack_opened, reconnect, take, take_any};
+ghost use Rattle.rb_desk.specs.Calls.{unsubscribe};
 ghost use Rattle.rb_desk.specs.Journaled.{IsReplay, JournalAnswers, counted_steps, is_own};
 ghost use Rattle.rb_desk.specs.declared.step.Step.TheVariants as step;
 ghost use Rattle.rb_subscriber.specs.Lost.{FitsLost};
@@ -166,6 +167,32 @@ impl<L: Hall> Locked<L> {
             .nack(alloc, sub, delivery.link(), delivery.number())?;
         self.register.count(subscription);
         Ok(())
+    }
+
+    /// The desk's `nack_opened` of a delivery, for a subscription.
+    pub(crate) fn nack_opened(
+        &mut self,
+        alloc: Global,
+        subscription: &mut Subscription<L>,
+        delivery: &Delivery,
+    ) -> Result<u64, DeskError>
+        ensures desk { JournalAnswers result (nack_opened self.old.desk.picture
+            subscription.old.sub delivery.now.link delivery.now.number)
+            (step.NackOpened subscription.old.sub delivery.now.link delivery.now.number)
+            self.old.desk self.new.desk }
+        ensures replay { IsReplay self.old.desk }
+        ensures ok { OnOk result (subscription.new ≡ counted_step subscription.old) }
+        ensures err { OnErr result (subscription.new ≡ subscription.old) }
+    {
+        steps_are_counted();
+        only_subscribe_and_close();
+        let _few = self.desk.steps();
+        let sub = subscription.sub();
+        let count = self
+            .desk
+            .nack_opened(alloc, sub, delivery.link(), delivery.number())?;
+        self.register.count(subscription);
+        Ok(count)
     }
 
     /// The desk's `expire`.

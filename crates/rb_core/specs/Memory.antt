@@ -25,6 +25,7 @@ MayRunOut (event.Accept d) (reply.Refused (refusal.Accept (Conflict conflict))) 
 MayRunOut (event.Crash d kept) (reply.Crashed s last) = Unit {0}
 MayRunOut (event.Crash d kept) (reply.Refused (refusal.Accept (Conflict conflict))) = Unit {0}
 MayRunOut (event.Nack d) reply.Returned = Unit {0}
+MayRunOut (event.NackOpened d) (reply.Opened count) = Unit {0}
 MayRunOut (event.Expire now) (reply.Expired count) = 0 < count
 MayRunOut (event.Reconnect s cursor) (reply.Link link) = Unit {0}
 MayRunOut (event.Resume s) (reply.Link link) = Unit {0}

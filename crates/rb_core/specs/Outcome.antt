@@ -354,6 +354,23 @@ nacked_for old (Some delivery) =
 abbrev pub nacked : State → ℕ → Reply × State
 nacked old d = nacked_for old (delivery_of old d)
 
+-- Nack opened: as the desk does, with the delivery's link.
+abbrev pub opened_by_desk : State → Result ℕ DeskRefusal → Picture → Reply × State
+opened_by_desk old (Ok count) picture =
+    (reply.Opened count, record old { desk = picture; steps = suc old.steps })
+opened_by_desk old (Err why) picture = refused old (refusal.Desk why)
+
+abbrev pub opened_for : State → Option Delivery → Reply × State
+opened_for old None = refused old refusal.NoDelivery
+opened_for old (Some delivery) =
+    opened_by_desk old
+    (answer_after old.steps
+    (desk.nack_opened old.desk delivery.sub delivery.link delivery.number).0)
+    (desk.nack_opened old.desk delivery.sub delivery.link delivery.number).1
+
+abbrev pub opened : State → ℕ → Reply × State
+opened old d = opened_for old (delivery_of old d)
+
 -- Expire: as the desk does.
 abbrev pub expired_by_desk : State → Result ℕ DeskRefusal → Picture → Reply × State
 expired_by_desk old (Ok count) picture =
@@ -438,6 +455,7 @@ outcome old (event.Accept d) = accepted old d
 outcome old (event.Crash d kept) = crashed old d kept
 outcome old (event.Ack d) = acked old d
 outcome old (event.Nack d) = nacked old d
+outcome old (event.NackOpened d) = opened old d
 outcome old (event.Expire now) = expired old now
 outcome old (event.Reconnect s cursor) = reconnected old s cursor
 outcome old (event.Resume s) = resumed old s

@@ -2,7 +2,7 @@
 
 ghost use Rattle.std.specs.Prelude.{◌≡◌, ℕ, IfOk, IfSome, OnErr, Some};
 ghost use Rattle.std.specs.Option.{option_copied};
-ghost use Rattle.rb_core.specs.Outcome.{delivery_of, nacked_for};
+ghost use Rattle.rb_core.specs.Outcome.{delivery_of, nacked_for, opened_for};
 ghost use Rattle.rb_core.specs.Memory.{MayRunOut};
 ghost use Rattle.rb_core.specs.Outcome as outcome;
 ghost use Rattle.rb_core.specs.declared.event.Event.TheVariants as event;
@@ -135,6 +135,38 @@ impl Parts {
             .nack(delivery.sub(), delivery.link(), delivery.number())
         {
             Ok(()) => Ok(Reply::Returned),
+            Err(DeskError::Refused(why)) => refused(BrokerRefusal::Desk(why)),
+            Err(DeskError::Memory) => Err(AllocError),
+        }
+    }
+
+    /// Negatively acknowledges a delivery and opens it: each of its entries is ready again, alone.
+    pub(crate) fn nack_opened(&mut self, delivery: u64) -> Result<Reply, AllocError>
+        requires { IsWorld self.old }
+        ensures ok { IfOk result (λ reply. outcome.opened self.old delivery ≡ (reply, self.new)) }
+        ensures err { OnErr result (self.new ≡ self.old) }
+        ensures memory { OnErr result (MayRunOut (event.NackOpened delivery)
+            (outcome.opened self.old delivery).0) }
+    {
+        let Some(delivery) = self.known(delivery) else {
+            return refused(BrokerRefusal::NoDelivery);
+        };
+        self.open(delivery)
+    }
+
+    // negatively acknowledges this delivery and opens it
+    fn open(&mut self, delivery: Delivery) -> Result<Reply, AllocError>
+        ensures ok { IfOk result (λ reply.
+            opened_for self.old (Some delivery) ≡ (reply, self.new)) }
+        ensures err { OnErr result (self.new ≡ self.old) }
+        ensures memory { OnErr result ((d : ℕ) → MayRunOut (event.NackOpened d)
+            (opened_for self.old (Some delivery)).0) }
+    {
+        match self
+            .desk
+            .nack_opened(delivery.sub(), delivery.link(), delivery.number())
+        {
+            Ok(count) => Ok(Reply::Opened(count)),
             Err(DeskError::Refused(why)) => refused(BrokerRefusal::Desk(why)),
             Err(DeskError::Memory) => Err(AllocError),
         }

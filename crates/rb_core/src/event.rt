@@ -40,6 +40,8 @@ pub enum Event {
     Ack { delivery: u64 },
     /// Negatively acknowledges a delivery: its entries are ready again.
     Nack { delivery: u64 },
+    /// Negatively acknowledges a delivery and opens it: each of its entries is ready again, alone.
+    NackOpened { delivery: u64 },
     /// Expires every delivery that has been out for the timeout or longer, at tick `now`.
     Expire { now: u64 },
     /// Continues a subscription after number `cursor`, under a new link.

@@ -37,6 +37,8 @@ pub enum Reply {
     Floor(u64),
     /// The delivery is returned.
     Returned,
+    /// The delivery is returned, and opened: how many entries it has.
+    Opened(u64),
     /// How many deliveries expired and were returned.
     Expired(u64),
     /// The subscription's new link.
@@ -58,7 +60,7 @@ pub enum BrokerRefusal {
     /// `Feed`, `Reset`, `End`, `Send`, `Withdraw`: no publisher has this number.
     #[error("there is no such publisher")]
     NoPublisher,
-    /// `Accept`, `Crash`, `Ack`, `Nack`: no delivery has this number.
+    /// `Accept`, `Crash`, `Ack`, `Nack`, `NackOpened`: no delivery has this number.
     #[error("there is no such delivery")]
     NoDelivery,
     /// `Publisher`: there are 64 publishers.
@@ -94,8 +96,8 @@ pub enum BrokerRefusal {
     /// `Resume`: the subscription hasn't fallen.
     #[error("the subscription has not fallen")]
     NotFallen,
-    /// `Turn`, `Subscribe`, `Take`, `TakeAny`, `Ack`, `Nack`, `Reconnect`, `Resume`, `Unsubscribe`:
-    /// the desk refuses the call.
+    /// `Turn`, `Subscribe`, `Take`, `TakeAny`, `Ack`, `Nack`, `NackOpened`, `Reconnect`, `Resume`,
+    /// `Unsubscribe`: the desk refuses the call.
     #[error(transparent)]
     Desk(DeskRefusal),
     /// `Accept`, `Crash`: the subscription's endpoint refuses the delivery.
@@ -128,6 +130,7 @@ impl fmt::Display for Reply {
             } => { write!(f, "subscription {subscription} has fallen at {cursor}") }
             Reply::Floor(floor) => write!(f, "settled up to {floor}"),
             Reply::Returned => f.write_str("the delivery is returned"),
+            Reply::Opened(count) => write!(f, "the delivery of {count} entries is opened"),
             Reply::Expired(count) => write!(f, "{count} deliveries expired"),
             Reply::Link(link) => write!(f, "a new link, {link}"),
             Reply::Unsubscribed => f.write_str("the subscription is closed"),

@@ -150,6 +150,7 @@ impl Parts {
             Event::Crash { delivery, kept } => self.crash(alloc, *delivery, *kept),
             Event::Ack { delivery } => Ok(self.ack(*delivery)),
             Event::Nack { delivery } => self.nack(*delivery),
+            Event::NackOpened { delivery } => self.nack_opened(*delivery),
             Event::Expire { now } => self.expire(*now),
             Event::Reconnect {
                 subscription,

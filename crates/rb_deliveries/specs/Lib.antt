@@ -7,3 +7,4 @@ pub mod Subs
 pub mod Waiting
 pub mod Expiry
 pub mod KeptSubs
+pub mod Opening

@@ -75,6 +75,25 @@ gone_back timeout clock (p ∷ rest) =
 abbrev pub without_first : ℕ → List Span → List Span
 without_first first = filter (λ p. not (p.first == first))
 
+-- how many numbers a span has
+abbrev pub span_length : Span → ℕ
+span_length p = suc p.last - p.first
+
+-- `count` numbers from n on, each a ready span of its own, which counts as taken
+abbrev pub single : ℕ → Span
+single n = record { first = n; last = n; status = Ready true }
+
+abbrev pub singles : ℕ → ℕ → List Span
+singles n zero = []
+singles n (suc count) = single n ∷ singles (suc n) count
+
+-- opens the span that begins with this number: each of its numbers is a span in its place
+abbrev pub opened_spans : ℕ → List Span → List Span
+opened_spans first [] = []
+opened_spans first (p ∷ rest) =
+    (if p.first == first then singles p.first (span_length p) else p ∷ [])
+    ++ opened_spans first rest
+
 -- everything before the first span is settled; if there is none, everything up to the front
 abbrev pub floor_of : List Span → ℕ → ℕ
 floor_of [] front = front

@@ -9,6 +9,7 @@ ghost use Rattle.rb_deliveries.specs.Expiry.{all_due, expired_sub, by_number, tu
 ghost use Rattle.rb_deliveries.specs.KeptSubs.{with_sub};
 ghost use Rattle.rb_deliveries.specs.Lanes.{AreRising, AreLimited, HasNumbers, lane_floor};
 ghost use Rattle.rb_deliveries.specs.Lanes.{most_numbers, settled_lane};
+ghost use Rattle.rb_deliveries.specs.Opening.{IsLatestAt, opened_sub};
 ghost use Rattle.rb_deliveries.specs.Subs.{AreGiven, Belongs, ComesLastAt, IsDrawn, IsNewestAt};
 ghost use Rattle.rb_deliveries.specs.Subs.{IsRisingAt, new_sub, delivered_sub};
 ghost use Rattle.rb_deliveries.specs.Subs.{returned_sub, settled_sub, reconnected_sub, closed_sub};
@@ -145,6 +146,28 @@ impl Deliveries {
             self.window,
             s,
         );
+    }
+
+    /// Opens a span of a subscription: each of its numbers is a ready span of its own, in its place.
+    /// They are in line after all other spans, by rising number: their tickets come after `latest`,
+    /// which no ticket of that subscription comes after. An `Err` changes nothing.
+    pub fn open_up(&mut self, s: u64, first: u64, latest: Ticket) -> Result<(), AllocError>
+        requires there { s < length self.old.subs }
+        requires latest { IsLatestAt self.old.subs s latest }
+        ensures ok { OnOk result ((sub : Sub) → slice_get self.old.subs s ≡ Some sub
+            → self.new ≡ with_sub self.old s (opened_sub sub first latest)) }
+        ensures err { OnErr result (self.new ≡ self.old) }
+    {
+        let s = s as usize;
+        self.subs[s].open(first, latest)?;
+        stand(
+            &self.subs,
+            &mut self.line,
+            &mut self.moments,
+            self.window,
+            s,
+        );
+        Ok(())
     }
 
     /// Settles a span of a subscription. Returns the floor, up to which everything is settled now.

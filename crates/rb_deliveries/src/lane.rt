@@ -9,6 +9,7 @@ ghost use Rattle.rb_deliveries.specs.Lanes.{AreRising, AreLimited, HasNumbers, s
 ghost use Rattle.rb_deliveries.specs.Lanes.{lane_spans, is_none_left, lane_floor, least, cut_lane};
 ghost use Rattle.rb_deliveries.specs.Lanes.{delivered_lane, returned_lane, settled_lane};
 ghost use Rattle.rb_deliveries.specs.Lanes.{pushed_lane};
+ghost use Rattle.rb_deliveries.specs.Opening.{IsLatest, opened_lane};
 ghost use Rattle.rb_deliveries.specs.Waiting.{earliest, lane_ticket};
 
 use crate::span::{Span, Status};
@@ -195,6 +196,16 @@ impl Lane {
         ensures { self.new ≡ returned_lane self.old first ticket }
     {
         self.held.give_back(first, ticket);
+    }
+
+    /// Opens a span: each of its numbers is a ready span of its own. Their tickets come after
+    /// `latest`. An `Err` changes nothing.
+    pub(crate) fn open(&mut self, first: u64, latest: Ticket) -> Result<(), AllocError>
+        requires { IsLatest latest self.old }
+        ensures ok { OnOk result (self.new ≡ opened_lane self.old first latest) }
+        ensures err { OnErr result (self.new ≡ self.old) }
+    {
+        self.held.open(first, latest)
     }
 
     /// Settles a span: it is removed.

@@ -5,6 +5,7 @@
 
 mod deliveries;
 mod lane;
+mod opening;
 mod records;
 mod span;
 mod steps;

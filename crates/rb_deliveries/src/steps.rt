@@ -111,9 +111,9 @@ pub(crate) fn expire(
     rest
 }
 
-// The key of the span that begins with this number. What a call names is in flight, first in line,
-// or among the first of all, after as many as are in flight.
-fn key_beginning(records: &Woven<Held>, flying: u64, first: u64) -> Option<usize>
+/// The key of the span that begins with this number. What a call names is in flight, first in line,
+/// or among the first of all, after as many as are in flight.
+pub(crate) fn key_beginning(records: &Woven<Held>, flying: u64, first: u64) -> Option<usize>
     requires lists { AreKept (Some records.now) flying }
     requires few { length (held_in records.now) < 2 ^ 64 - 1 }
     ensures { MatchOption result (NoSpanBegins first (held_in records.now))
@@ -163,8 +163,8 @@ fn key_in_order(records: &Woven<Held>, first: u64) -> Option<usize>
     None
 }
 
-// Takes the key out of the line, or from those in flight. Returns how many are in flight then.
-fn without(records: &mut Woven<Held>, flying: u64, key: usize) -> u64
+/// Takes the key out of the line, or from those in flight. Returns how many are in flight then.
+pub(crate) fn without(records: &mut Woven<Held>, flying: u64, key: usize) -> u64
     requires lists { AreKept (Some records.old) flying }
     requires there { lists_key key (nth_list 0 records.old.second) ≡ true }
     requires kept { IsSome (value_under records.old key) }

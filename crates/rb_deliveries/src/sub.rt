@@ -28,6 +28,7 @@ pub struct Sub {
 
 impl Sub {
     ghost use Rattle.rb_deliveries.specs.Expiry.{due_in, expired_sub, by_number, turns_from};
+    ghost use Rattle.rb_deliveries.specs.Opening.{IsLatest, opened_sub};
     ghost use Rattle.rb_deliveries.specs.Subs.{AreGiven, ComesLast, IsDrawn, IsNewest};
     ghost use Rattle.rb_deliveries.specs.Subs.{new_sub, sub_out_as, delivered_sub};
     ghost use Rattle.rb_deliveries.specs.Subs.{returned_sub, settled_sub, reconnected_sub};
@@ -74,6 +75,16 @@ impl Sub {
         ensures { self.new ≡ returned_sub self.old first ticket }
     {
         self.lane.give_back(first, ticket);
+    }
+
+    /// Opens a span: each of its numbers is a ready span of its own. Their tickets come after
+    /// `latest`. An `Err` changes nothing.
+    pub(crate) fn open(&mut self, first: u64, latest: Ticket) -> Result<(), AllocError>
+        requires { IsLatest latest self.old.lane }
+        ensures ok { OnOk result (self.new ≡ opened_sub self.old first latest) }
+        ensures err { OnErr result (self.new ≡ self.old) }
+    {
+        self.lane.open(first, latest)
     }
 
     /// Settles a span. Returns the floor, up to which everything is settled now.

@@ -1,13 +1,14 @@
 //! The spans of a subscription that were taken before and are not settled: the ready ones by their
 //! tickets, those in flight by their deliveries' numbers, and all by their own numbers.
 
-ghost use Rattle.std.specs.Prelude.{◌≡◌, ◌<◌, ◌^◌, ◌++◌, ◌∷◌, ◌==◌, [], map, length, slice_get};
+ghost use Rattle.std.specs.Prelude.{◌≡◌, ◌<◌, ◌^◌, ◌+◌, ◌++◌, ◌∷◌, ◌==◌, [], map, length, slice_get};
 ghost use Rattle.std.specs.Prelude.{◌-◌, true, OnOk, OnErr};
 ghost use Rattle.std.specs.List.{AllByRecursion};
 ghost use Rattle.std.specs.Option.{option_map};
 ghost use Rattle.rb_deliveries.specs.declared.span.Status.TheVariants.{Ready, InFlight};
 ghost use Rattle.rb_deliveries.specs.Expiry.{due_held, expired_by};
 ghost use Rattle.rb_deliveries.specs.Lanes.{spans_of, least, restated, without_held, RiseSome};
+ghost use Rattle.rb_deliveries.specs.Opening.{opened_held};
 ghost use Rattle.rb_deliveries.specs.Spans as spans;
 ghost use Rattle.rb_deliveries.specs.Subs.{AreGiven, ComesLast, IsDrawn, IsNewest};
 ghost use Rattle.rb_deliveries.specs.Taken.{GoesLast};
@@ -15,7 +16,7 @@ ghost use Rattle.rb_deliveries.specs.Waiting.{earliest};
 
 use crate::span::{Span, Status};
 use crate::ticket::{Held, Ticket};
-use crate::{records, steps};
+use crate::{opening, records, steps};
 use link_lists::Woven;
 use std::alloc::{AllocError, Global};
 use std::marker::Model;
@@ -166,6 +167,25 @@ impl Taken {
         };
         let status = Status::Ready { taken: true };
         self.flying = steps::restate(records, self.flying, first, status, ticket);
+    }
+
+    /// Opens the span that begins with this number, if there is one: each of its numbers is a ready
+    /// span of its own. Their tickets come after `latest`, which comes after all others. An `Err`
+    /// changes nothing.
+    pub(crate) fn open(&mut self, first: u64, latest: Ticket) -> Result<(), AllocError>
+        requires rising { RiseSome self.old }
+        requires few { length self.old < 2 ^ 64 - 1 }
+        requires drawn { AllByRecursion (λ h. IsDrawn latest.front latest.turn h.ticket) self.old }
+        requires turns { AllByRecursion (λ h. latest.turn + h.span.last < 18446744073709551616)
+            self.old }
+        ensures ok { OnOk result (self.new ≡ opened_held first latest self.old) }
+        ensures err { OnErr result (self.new ≡ self.old) }
+    {
+        let Some(records) = &mut self.records else {
+            return Ok(());
+        };
+        self.flying = opening::open(records, self.flying, first, latest)?;
+        Ok(())
     }
 
     /// Removes the span that begins with this number, if there is one.

@@ -10,7 +10,7 @@ use Rattle.rb_desk.specs.declared.refusal.DeskRefusal.{DeskRefusal}
 use Rattle.rb_desk.specs.declared.refusal.DeskRefusal.TheVariants as refusal
 use Rattle.rb_deliveries.specs.Spans.{cut_spans, first_ready, out_as, beginning, how_many_out}
 use Rattle.rb_deliveries.specs.Spans.{is_due, with_status, without_first, floor_of, gone_back}
-use Rattle.rb_deliveries.specs.Spans.{grown_spans, last_takes}
+use Rattle.rb_deliveries.specs.Spans.{grown_spans, last_takes, opened_spans, singles, span_length}
 use Rattle.rb_desk.specs.Picture.{Picture, Subscription}
 
 -- a refused call
@@ -196,6 +196,30 @@ nacked_by old s link number (Some q) =
 
 unfoldable pub nack : Picture → ℕ → ℕ → ℕ → Result ⊤ DeskRefusal × Picture
 nack old s link number = nacked_by old s link number (slice_get old.subscriptions s)
+
+-- Nack opened: opens the span that is in flight as this delivery. Each of its numbers is a ready
+-- span of its own, in its place, and they go to the end of the ready order by rising number. Each
+-- counts as taken, so a placement does not lengthen it. Returns how many numbers were opened.
+abbrev pub opened_picture : Picture → ℕ → Subscription → Span → Picture
+opened_picture old s q span =
+    record (with_subscription old s
+    (record q { spans = opened_spans span.first q.spans })) {
+      ready = old.ready ++ named s (singles span.first (span_length span));
+      in_flight = without_span s span.first old.in_flight;
+    }
+
+abbrev pub opened_span : Picture → ℕ → Subscription → Option Span → Result ℕ DeskRefusal × Picture
+opened_span old s q None = refused_call old refusal.NotInFlight
+opened_span old s q (Some span) = (Ok (span_length span), opened_picture old s q span)
+
+abbrev pub opened_by : Picture → ℕ → ℕ → ℕ → Option Subscription → Result ℕ DeskRefusal × Picture
+opened_by old s link number None = refused_call old refusal.NoSuch
+opened_by old s link number (Some q) =
+    if not (link == q.link) then refused_call old refusal.StaleLink
+    else opened_span old s q (out_as number q.spans)
+
+unfoldable pub nack_opened : Picture → ℕ → ℕ → ℕ → Result ℕ DeskRefusal × Picture
+nack_opened old s link number = opened_by old s link number (slice_get old.subscriptions s)
 
 -- Expire: each span in flight that was taken `timeout` ticks ago or earlier is ready again, in the
 -- in-flight order.

@@ -13,7 +13,7 @@ use Rattle.rb_desk.specs.declared.refusal.DeskRefusal.TheVariants.{JournalFull}
 use Rattle.rb_desk.specs.declared.step.Step.{Step}
 use Rattle.rb_desk.specs.declared.step.Step.TheVariants.{Subscribe, Take, TakeAny, Ack, Nack}
 use Rattle.rb_desk.specs.declared.step.Step.TheVariants.{Expire, Reconnect, Unsubscribe, Place}
-use Rattle.rb_desk.specs.declared.step.Step.TheVariants.{Close}
+use Rattle.rb_desk.specs.declared.step.Step.TheVariants.{Close, NackOpened}
 use Rattle.rb_desk.specs.Picture.{Picture, picture_code}
 use Rattle.rb_desk.specs.Steps.{replay}
 
@@ -79,7 +79,7 @@ closing_steps (Some last) = []
 
 -- ---- how many steps a journal has of a kind
 
--- A subscription's own steps, which its owner counts: taking, acknowledging, giving back,
+-- A subscription's own steps, which its owner counts: taking, acknowledging, giving back, opening,
 -- reconnecting and unsubscribing.
 abbrev pub is_own : Step → Bool
 is_own (Subscribe start) = false
@@ -87,6 +87,7 @@ is_own (Take s link cursor now) = true
 is_own (TakeAny now) = false
 is_own (Ack s link delivery cursor) = true
 is_own (Nack s link delivery) = true
+is_own (NackOpened s link delivery) = true
 is_own (Expire now) = false
 is_own (Reconnect s cursor) = true
 is_own (Unsubscribe s link) = true

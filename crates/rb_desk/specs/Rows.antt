@@ -2,13 +2,13 @@
 use Rattle.std.specs.Prelude.{◌≡◌, [], ◌∷◌, Ok, Err, refl}
 use Rattle.rb_desk.specs.declared.refusal.DeskRefusal.TheVariants as refusal
 use Rattle.rb_desk.specs.declared.step.Step.TheVariants.{Subscribe, Take, Ack, Nack, Reconnect}
-use Rattle.rb_desk.specs.declared.step.Step.TheVariants.{Place, Close}
+use Rattle.rb_desk.specs.declared.step.Step.TheVariants.{Place, Close, NackOpened, TakeAny}
 use Rattle.rb_desk.specs.Limits.{Limits}
 use Rattle.rb_desk.specs.Picture.{Picture}
 use Rattle.rb_deliveries.specs.Spans.{cut_spans}
 use Rattle.rb_desk.specs.Calls.{subscribe, take, take_any, ack, nack, expire, reconnect, prepare}
-use Rattle.rb_desk.specs.Calls.{place, close}
-use Rattle.rb_desk.specs.Steps.{after_step, replay}
+use Rattle.rb_desk.specs.Calls.{place, close, nack_opened}
+use Rattle.rb_desk.specs.Steps.{after_step, replay, replayed}
 
 -- batches of one number with two deliveries in flight; batches of up to 256
 abbrev two_in_flight : Limits
@@ -89,6 +89,44 @@ cut_anew = refl
 pub stale : (take (after_step taken_and_placed (Reconnect 0 0)) 0 1 0 0).0 ≡ Err refusal.StaleLink
 unfolding subscribe take reconnect prepare place after_step cut_spans
 stale = refl
+
+-- A delivery of three numbers is opened, and another number is placed. Each number is delivered
+-- alone: by `take` the lowest first, and by `take_any` too. The delivery isn't in flight any more.
+abbrev three_taken : Picture
+three_taken = replay large_batches
+    (Subscribe 0 ∷ Place ∷ Place ∷ Place ∷ Take 0 1 0 0 ∷ [])
+
+abbrev three_opened : Picture
+three_opened = replayed three_taken (NackOpened 0 1 1 ∷ Place ∷ [])
+
+pub opens_three : (nack_opened three_taken 0 1 1).0 ≡ Ok 3
+unfolding subscribe take nack_opened prepare place after_step cut_spans
+opens_three = refl
+
+pub alone : (take three_opened 0 1 0 0).0
+    ≡ Ok (record { number = 2; sub = 0; link = 1; first = 1; last = 1 })
+unfolding subscribe take nack_opened prepare place after_step cut_spans
+alone = refl
+
+pub by_rising_number : (take_any (replayed three_opened (TakeAny 0 ∷ TakeAny 0 ∷ [])) 0).0
+    ≡ Ok (record { number = 4; sub = 0; link = 1; first = 3; last = 3 })
+unfolding subscribe take take_any nack_opened prepare place after_step cut_spans
+by_rising_number = refl
+
+pub placed_after_opening :
+    (take_any (replayed three_opened (TakeAny 0 ∷ TakeAny 0 ∷ TakeAny 0 ∷ [])) 0).0
+    ≡ Ok (record { number = 5; sub = 0; link = 1; first = 4; last = 4 })
+unfolding subscribe take take_any nack_opened prepare place after_step cut_spans
+placed_after_opening = refl
+
+pub opened_once : (nack_opened three_opened 0 1 1).0 ≡ Err refusal.NotInFlight
+unfolding subscribe take nack_opened prepare place after_step cut_spans
+opened_once = refl
+
+pub cut_together_again : (take (after_step three_opened (Reconnect 0 0)) 0 2 0 0).0
+    ≡ Ok (record { number = 2; sub = 0; link = 2; first = 1; last = 4 })
+unfolding subscribe take nack_opened reconnect prepare place after_step cut_spans
+cut_together_again = refl
 
 -- after a close, placed numbers can still be taken; then the subscription is drained
 pub delivers_after_close :

@@ -13,7 +13,8 @@ use Rattle.rb_desk.specs.declared.refusal.DeskRefusal.{DeskRefusal}
 use Rattle.rb_desk.specs.declared.refusal.DeskRefusal.TheVariants.{Empty, Drained}
 use Rattle.rb_desk.specs.declared.refusal.DeskError.{DeskError}
 use Rattle.rb_desk.specs.declared.refusal.DeskError.TheVariants.{Memory}
-use Rattle.rb_desk.specs.Calls.{take, ack, nack, reconnect, unsubscribe, refused_call}
+use Rattle.rb_desk.specs.Calls.{take, ack, nack, nack_opened, reconnect, unsubscribe}
+use Rattle.rb_desk.specs.Calls.{refused_call}
 use Rattle.rb_desk.specs.Limits.{Limits}
 use Rattle.rb_desk.specs.Picture.{Picture, Subscription}
 
@@ -131,6 +132,8 @@ FindsInFlight (Err why) subs s link number =
     → (ack (shown limits front closing clock next_link next_delivery subs) s link number cursor
     ≡ refused_call (shown limits front closing clock next_link next_delivery subs) why)
     × (nack (shown limits front closing clock next_link next_delivery subs) s link number
+    ≡ refused_call (shown limits front closing clock next_link next_delivery subs) why)
+    × (nack_opened (shown limits front closing clock next_link next_delivery subs) s link number
     ≡ refused_call (shown limits front closing clock next_link next_delivery subs) why)
 
 abbrev pub FindsToReconnect : Result ⊤ DeskRefusal → List Sub → ℕ → ℕ → Type 0

@@ -7,11 +7,11 @@ use Rattle.rb_desk.specs.declared.delivery.Delivery.{Delivery}
 use Rattle.rb_desk.specs.declared.step.Step.{Step}
 use Rattle.rb_desk.specs.declared.step.Step.TheVariants.{Subscribe, Take, TakeAny, Ack, Nack}
 use Rattle.rb_desk.specs.declared.step.Step.TheVariants.{Expire, Reconnect, Unsubscribe, Place}
-use Rattle.rb_desk.specs.declared.step.Step.TheVariants.{Close}
+use Rattle.rb_desk.specs.declared.step.Step.TheVariants.{Close, NackOpened}
 use Rattle.rb_desk.specs.Limits.{Limits}
 use Rattle.rb_desk.specs.Picture.{Picture, Subscription, empty_picture}
 use Rattle.rb_desk.specs.Calls.{subscribe, take, take_any, ack, nack, expire, reconnect}
-use Rattle.rb_desk.specs.Calls.{unsubscribe, prepare, place, close}
+use Rattle.rb_desk.specs.Calls.{unsubscribe, prepare, place, close, nack_opened}
 
 -- a placement that isn't prepared changes nothing
 abbrev pub placed_if : Picture → Result ℕ DeskRefusal → Picture
@@ -25,6 +25,7 @@ after_step old (Take s link cursor now) = (take old s link cursor now).1
 after_step old (TakeAny now) = (take_any old now).1
 after_step old (Ack s link delivery cursor) = (ack old s link delivery cursor).1
 after_step old (Nack s link delivery) = (nack old s link delivery).1
+after_step old (NackOpened s link delivery) = (nack_opened old s link delivery).1
 after_step old (Expire now) = (expire old now).1
 after_step old (Reconnect s cursor) = (reconnect old s cursor).1
 after_step old (Unsubscribe s link) = (unsubscribe old s link).1
@@ -70,6 +71,7 @@ subscriptions_made old (Take s link cursor now) = 0
 subscriptions_made old (TakeAny now) = 0
 subscriptions_made old (Ack s link delivery cursor) = 0
 subscriptions_made old (Nack s link delivery) = 0
+subscriptions_made old (NackOpened s link delivery) = 0
 subscriptions_made old (Expire now) = 0
 subscriptions_made old (Reconnect s cursor) = 0
 subscriptions_made old (Unsubscribe s link) = 0
@@ -82,6 +84,7 @@ link_given old (Take s link cursor now) = None
 link_given old (TakeAny now) = None
 link_given old (Ack s link delivery cursor) = None
 link_given old (Nack s link delivery) = None
+link_given old (NackOpened s link delivery) = None
 link_given old (Expire now) = None
 link_given old (Reconnect s cursor) = link_of (reconnect old s cursor).0
 link_given old (Unsubscribe s link) = None
@@ -94,6 +97,7 @@ number_given old (Take s link cursor now) = delivery_number (take old s link cur
 number_given old (TakeAny now) = delivery_number (take_any old now).0
 number_given old (Ack s link delivery cursor) = None
 number_given old (Nack s link delivery) = None
+number_given old (NackOpened s link delivery) = None
 number_given old (Expire now) = None
 number_given old (Reconnect s cursor) = None
 number_given old (Unsubscribe s link) = None

@@ -2,7 +2,7 @@
 
 ghost use Rattle.std.specs.Prelude.{◌≡◌, ◌≤◌, ◌++◌, [], length, Ok, IsOk, IfOk};
 ghost use Rattle.rb_desk.specs.Calls.{subscribe, take, take_any, ack, nack, expire, reconnect};
-ghost use Rattle.rb_desk.specs.Calls.{unsubscribe, prepare, place, close};
+ghost use Rattle.rb_desk.specs.Calls.{unsubscribe, prepare, place, close, nack_opened};
 ghost use Rattle.rb_desk.specs.Journaled.{JournalAnswers, IsReplay, answer_after, closing_steps};
 ghost use Rattle.rb_desk.specs.Journaled.{error_of, journaled};
 ghost use Rattle.rb_desk.specs.Picture.{empty_picture};
@@ -255,6 +255,34 @@ impl Desk {
             delivery,
         });
         Ok(())
+    }
+
+    /// Negatively acknowledges a delivery and opens it: each of its numbers is ready again, alone,
+    /// after all that are ready, by rising number. So a later delivery has one of them. Returns how
+    /// many numbers it has. A `reconnect` cuts them as all others.
+    ///
+    /// Refuses `NoSuch`, `StaleLink`, `NotInFlight`.
+    pub fn nack_opened(
+        &mut self,
+        alloc: Global,
+        sub: u64,
+        link: u64,
+        delivery: u64,
+    ) -> Result<u64, DeskError>
+        ensures { JournalAnswers result (nack_opened self.old.picture sub link delivery)
+            (step.NackOpened sub link delivery) self.old self.new }
+    {
+        calls_keep_limits();
+        if self.journal.reserve(alloc).is_err() {
+            return Err(stopped(self.board.refuses_nack_opened(sub, link, delivery)));
+        }
+        let count = self.board.nack_opened(sub, link, delivery)?;
+        self.journal.push(Step::NackOpened {
+            sub,
+            link,
+            delivery,
+        });
+        Ok(count)
     }
 
     /// Expires every delivery that has been out for `timeout` ticks or longer, in the order they

@@ -10,7 +10,7 @@ ghost use Rattle.rb_desk.specs.declared.step.Step.{Step};
 ghost use Rattle.rb_desk.specs.Limits.{Limits};
 ghost use Rattle.rb_desk.specs.Picture.{Picture, empty_picture};
 ghost use Rattle.rb_desk.specs.Calls.{subscribe, take, take_any, ack, nack, expire, reconnect};
-ghost use Rattle.rb_desk.specs.Calls.{unsubscribe, prepare, place, close};
+ghost use Rattle.rb_desk.specs.Calls.{unsubscribe, prepare, place, close, nack_opened};
 ghost use Rattle.rb_desk.specs.Steps.{after_step, replayed, replay, links_given, numbers_given};
 ghost use Rattle.rb_desk.specs.Steps.{RisesAbove, FloorsRise, KeepsFrame};
 ghost use Rattle.rb_desk.specs.Outline.{outline_of};
@@ -50,7 +50,7 @@ pub fn front_and_floors_rise()
 {}
 
 /// What a call that isn't refused changes in the outline, which has no spans and no clock. `ack`,
-/// `nack` and `expire` do not change it.
+/// `nack`, `nack_opened` and `expire` do not change it.
 pub fn calls_show_in_outline()
     ensures subscribe { (old : Picture) (start s link : ℕ) (new : Picture)
         → subscribe old start ≡ (Ok (s, link), new)
@@ -65,6 +65,8 @@ pub fn calls_show_in_outline()
         → ack old s link number cursor ≡ (Ok floor, new) → outline_of new ≡ outline_of old }
     ensures nack { (old : Picture) (s link number : ℕ) (new : Picture)
         → nack old s link number ≡ (Ok tt, new) → outline_of new ≡ outline_of old }
+    ensures nack_opened { (old : Picture) (s link number count : ℕ) (new : Picture)
+        → nack_opened old s link number ≡ (Ok count, new) → outline_of new ≡ outline_of old }
     ensures expire { (old : Picture) (now many : ℕ) (new : Picture)
         → expire old now ≡ (many, new) → outline_of new ≡ outline_of old }
     ensures reconnect { (old : Picture) (s cursor link : ℕ) (new : Picture)
@@ -109,6 +111,8 @@ pub fn only_subscribe_and_close()
         → KeepsFrame old (ack old s link number cursor).1 }
     ensures nack { (old : Picture) (s link number : ℕ)
         → KeepsFrame old (nack old s link number).1 }
+    ensures nack_opened { (old : Picture) (s link number : ℕ)
+        → KeepsFrame old (nack_opened old s link number).1 }
     ensures expire { (old : Picture) (now : ℕ) → KeepsFrame old (expire old now).1 }
     ensures reconnect { (old : Picture) (s cursor : ℕ)
         → KeepsFrame old (reconnect old s cursor).1 }
@@ -131,6 +135,8 @@ pub fn refused_calls_change_nothing()
         → ack old s link number cursor ≡ (Err why, new) → new ≡ old }
     ensures nack { (old : Picture) (s link number : ℕ) (why : DeskRefusal) (new : Picture)
         → nack old s link number ≡ (Err why, new) → new ≡ old }
+    ensures nack_opened { (old : Picture) (s link number : ℕ) (why : DeskRefusal) (new : Picture)
+        → nack_opened old s link number ≡ (Err why, new) → new ≡ old }
     ensures reconnect { (old : Picture) (s cursor : ℕ) (why : DeskRefusal) (new : Picture)
         → reconnect old s cursor ≡ (Err why, new) → new ≡ old }
     ensures unsubscribe { (old : Picture) (s link : ℕ) (why : DeskRefusal) (new : Picture)

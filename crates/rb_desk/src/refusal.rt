@@ -13,10 +13,12 @@ pub enum DeskRefusal {
     /// Every call but `close`, before its other refusals: 268,435,455 steps were made.
     #[error("the journal is full")]
     JournalFull,
-    /// `take`, `ack`, `nack`, `reconnect`, `unsubscribe`: no subscription has this number.
+    /// `take`, `ack`, `nack`, `nack_opened`, `reconnect`, `unsubscribe`: no subscription has this
+    /// number.
     #[error("there is no such subscription")]
     NoSuch,
-    /// `take`, `ack`, `nack`, `unsubscribe`: the link isn't the subscription's current one.
+    /// `take`, `ack`, `nack`, `nack_opened`, `unsubscribe`: the link isn't the subscription's
+    /// current one.
     #[error("the subscription has another link now")]
     StaleLink,
     /// `take`, `reconnect`, `unsubscribe`: the subscription is closed. `prepare`: the sequence is
@@ -33,7 +35,7 @@ pub enum DeskRefusal {
     /// `take`, `take_any`: nothing can be delivered now. The last number placed is `front`.
     #[error("nothing is ready; the last number placed is {front}")]
     Empty { front: u64 },
-    /// `ack`, `nack`: no delivery with this number is in flight to the subscription.
+    /// `ack`, `nack`, `nack_opened`: no delivery with this number is in flight to the subscription.
     #[error("no such delivery is in flight")]
     NotInFlight,
     /// `ack`: the delivery's last number is after the cursor, so not all of it is accepted.

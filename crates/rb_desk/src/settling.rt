@@ -1,7 +1,7 @@
-//! Calls that end a delivery: acknowledge, negatively acknowledge, expire.
+//! Calls that end a delivery: acknowledge, negatively acknowledge, open, expire.
 
 ghost use Rattle.std.specs.Prelude.{◌≡◌, ◌<◌, ◌+◌, IfOk, OnErr};
-ghost use Rattle.rb_desk.specs.Calls.{ack, nack, expire};
+ghost use Rattle.rb_desk.specs.Calls.{ack, nack, nack_opened, expire};
 ghost use Rattle.rb_desk.specs.Answers.{DeskAnswers, call_refusal};
 ghost use Rattle.rb_desk.specs.Shown.{FindsInFlight};
 
@@ -77,6 +77,42 @@ impl Board {
         in_flight(&self.deliveries, sub, link, delivery).err()
     }
 
+    /// Negatively acknowledges a delivery and opens it: each of its numbers is ready again, alone,
+    /// after all that are ready, by rising number. Returns how many numbers it has.
+    ///
+    /// Refuses `NoSuch`, `StaleLink`, `NotInFlight`.
+    #[tactic(auto, unfolding(crate::specs::Calls::nack_opened))]
+    pub(crate) fn nack_opened(
+        &mut self,
+        sub: u64,
+        link: u64,
+        delivery: u64,
+    ) -> Result<u64, DeskError>
+        ensures { DeskAnswers result (nack_opened self.old sub link delivery) self.old self.new }
+    {
+        let span = in_flight(&self.deliveries, sub, link, delivery)?;
+        let turn = turn_behind(self.turn, self.front)?;
+        let latest = Ticket {
+            front: self.front,
+            turn: self.turn,
+        };
+        self.deliveries.open_up(sub, span.first, latest)?;
+        self.turn = turn;
+        Ok(span.last - span.first + 1)
+    }
+
+    /// Why `nack_opened` would refuse these numbers, or `None` where it would not.
+    pub(crate) fn refuses_nack_opened(
+        &self,
+        sub: u64,
+        link: u64,
+        delivery: u64,
+    ) -> Option<DeskRefusal>
+        ensures { result ≡ call_refusal (nack_opened self.now sub link delivery).0 }
+    {
+        in_flight(&self.deliveries, sub, link, delivery).err()
+    }
+
     /// Expires every delivery that has been out for `timeout` ticks or longer, in the order they
     /// were taken: its numbers are ready again. `now` is a tick of the caller's clock; the desk's
     /// clock is the greatest tick so far. Returns how many deliveries expired.
@@ -110,7 +146,7 @@ impl Board {
 }
 
 // the span that is in flight to the subscription as this delivery, or why there is none
-#[tactic(auto, unfolding(crate::specs::Calls::ack, crate::specs::Calls::nack))]
+#[tactic(auto, unfolding(crate::specs::Calls::ack, crate::specs::Calls::nack, crate::specs::Calls::nack_opened))]
 fn in_flight(
     deliveries: &Deliveries,
     sub: u64,
@@ -131,7 +167,7 @@ fn in_flight(
     }
 }
 
-// the last turn that deliveries with numbers below `next` may take
+// the last turn that tickets with numbers up to `next` may take
 fn turn_behind(turn: u64, next: u64) -> Result<u64, AllocError>
     ensures { IfOk result (λ t. t ≡ turn + next) }
 {

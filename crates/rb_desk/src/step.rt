@@ -28,6 +28,11 @@ pub enum Step {
         link: u64,
         delivery: u64,
     },
+    NackOpened {
+        sub: u64,
+        link: u64,
+        delivery: u64,
+    },
     Expire {
         now: u64,
     },

@@ -3,7 +3,7 @@
 ghost use Rattle.std.specs.Prelude.{◌≡◌, ◌<◌, ◌≤◌, ◌+◌, ℕ, length, Ok, Err, IsOk, OnOk, OnErr};
 ghost use Rattle.rb_desk.specs.Answers.{call_refusal};
 ghost use Rattle.rb_desk.specs.Calls.{subscribe, take, take_any, ack, nack, expire, reconnect};
-ghost use Rattle.rb_desk.specs.Calls.{unsubscribe, prepare, place, close};
+ghost use Rattle.rb_desk.specs.Calls.{unsubscribe, prepare, place, close, nack_opened};
 ghost use Rattle.rb_desk.specs.Journaled.{TallyAnswers, answer_after, closing_steps, is_full};
 ghost use Rattle.rb_desk.specs.Journaled.{tallied};
 ghost use Rattle.rb_desk.specs.Picture.{empty_picture};
@@ -250,6 +250,28 @@ impl TalliedBoard {
             return Some(DeskRefusal::JournalFull);
         }
         self.board.refuses_nack(sub, link, delivery)
+    }
+
+    /// Negatively acknowledges a delivery and opens it.
+    pub fn nack_opened(&mut self, sub: u64, link: u64, delivery: u64) -> Result<u64, DeskError>
+        ensures { TallyAnswers result (nack_opened self.old.picture sub link delivery)
+            self.old self.new }
+    {
+        self.begin()?;
+        let count = self.board.nack_opened(sub, link, delivery)?;
+        self.steps += 1;
+        Ok(count)
+    }
+
+    /// Why `nack_opened` would refuse these numbers, or `None` where it would not.
+    pub fn refuses_nack_opened(&self, sub: u64, link: u64, delivery: u64) -> Option<DeskRefusal>
+        ensures { result ≡ call_refusal (answer_after self.now.steps
+            (nack_opened self.now.picture sub link delivery).0) }
+    {
+        if self.is_full() {
+            return Some(DeskRefusal::JournalFull);
+        }
+        self.board.refuses_nack_opened(sub, link, delivery)
     }
 
     /// Expires every delivery that has been out for the timeout or longer.

@@ -1,4 +1,4 @@
-//! A subscriber's thread: takes, accepts and acknowledges until all is drained or a change
+//! A subscriber's thread: takes, accepts and acknowledges until all is drained or an entry
 //! conflicts.
 
 ghost use Rattle.std.specs.Prelude.{◌≡◌};
@@ -21,7 +21,7 @@ use std::thread::Threads;
 pub enum SubscriberEnd {
     /// It has accepted everything up to the last number.
     Drained,
-    /// A change conflicts with its rows.
+    /// An entry conflicts with its rows. It has accepted all entries before it.
     Conflict(Conflict),
     /// All loops were ended first.
     Stopped,
@@ -112,7 +112,8 @@ fn accept_all<L: Hall, S: Alter, R: Threads + Wait + Sync>(
 }
 
 // Accepts a delivery and acknowledges it. One whose entries this thread doesn't see yet goes back.
-// Returns how the subscriber ends, if it does.
+// One of several entries that conflicts goes back opened. Returns how the subscriber ends, if it
+// does: a conflict of one entry ends it.
 fn settle<L: Hall, S: Alter, R: Threads + Wait + Sync>(
     workers: &Workers<R, Open>,
     alloc: Global,
@@ -128,7 +129,11 @@ fn settle<L: Hall, S: Alter, R: Threads + Wait + Sync>(
         Ok(_) => subscription.ack(rt, alloc, broker, delivery),
         Err(SubscriptionError::Unseen { .. }) => subscription.nack(rt, alloc, broker, delivery),
         Err(SubscriptionError::Refused(AcceptRefusal::Conflict(conflict))) => {
-            return Some(SubscriberEnd::Conflict(conflict));
+            if delivery.first() == delivery.last() {
+                return Some(SubscriberEnd::Conflict(conflict));
+            }
+            // one of its entries conflicts: those before it are accepted alone
+            subscription.nack_opened(rt, alloc, broker, delivery)
         }
         Err(SubscriptionError::Refused(AcceptRefusal::Store)) => {
             signs.fail_store();

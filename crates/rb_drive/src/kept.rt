@@ -106,6 +106,21 @@ impl<L: Hall, S: Alter> KeptSubscription<L, S> {
             .is_ok()
     }
 
+    /// Gives a delivery back and opens it. False if it is refused.
+    pub fn nack_opened<R: Wait>(
+        &mut self,
+        rt: &R,
+        alloc: Global,
+        broker: &Broker<L>,
+        delivery: &Delivery,
+    ) -> bool
+        ensures { beginning_of self.new ≡ beginning_of self.old }
+    {
+        broker
+            .nack_opened(rt, alloc, &mut self.subscription, delivery)
+            .is_ok()
+    }
+
     /// Gives a delivery back. False if it is refused.
     pub fn nack<R: Wait>(
         &mut self,

@@ -34,6 +34,7 @@ Lines, each with its answer when it is done:
   crash D 0|1         crashed CURSOR      a durable accept falls: undone (0) or kept (1)
   ack D               floor F             settled; so is everything up to F
   nack D              ok                  it is returned
+  nackopen D          opened COUNT        it is returned, each of its entries alone
   expire NOW          expired COUNT       what is out too long at tick NOW is returned
   reconnect S CURSOR  link L              a subscription goes on after CURSOR
   resume S            link L              one that has fallen goes on after its cursor

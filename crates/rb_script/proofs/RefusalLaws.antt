@@ -89,6 +89,7 @@ text_refuses (reply.Accepted s cursor) = refl
 text_refuses (reply.Crashed s cursor) = refl
 text_refuses (reply.Floor floor) = refl
 text_refuses reply.Returned = refl
+text_refuses (reply.Opened count) = refl
 text_refuses (reply.Expired count) = refl
 text_refuses (reply.Link link) = refl
 text_refuses reply.Unsubscribed = refl

@@ -18,7 +18,7 @@ one_word name =
     else None
 
 -- `reset P`, `end P`, `send P`, `subscribe START`, `takeany NOW`, `accept D`, `ack D`, `nack D`,
--- `expire NOW`, `resume S`, `unsubscribe S`, `entry N` and `rows S`
+-- `nackopen D`, `expire NOW`, `resume S`, `unsubscribe S`, `entry N` and `rows S`
 abbrev pub name_and_number : List ℕ → Option ℕ → Option Form
 name_and_number name None = None
 name_and_number name (Some n) =
@@ -30,6 +30,7 @@ name_and_number name (Some n) =
     else if same_bytes name (codes "accept") then Some (Happens (event.Accept n))
     else if same_bytes name (codes "ack") then Some (Happens (event.Ack n))
     else if same_bytes name (codes "nack") then Some (Happens (event.Nack n))
+    else if same_bytes name (codes "nackopen") then Some (Happens (event.NackOpened n))
     else if same_bytes name (codes "expire") then Some (Happens (event.Expire n))
     else if same_bytes name (codes "resume") then Some (Happens (event.Resume n))
     else if same_bytes name (codes "unsubscribe") then Some (Happens (event.Unsubscribe n))

@@ -104,6 +104,7 @@ reply_text (reply.Accepted s cursor) = codes "accepted " ++ decimal cursor
 reply_text (reply.Crashed s cursor) = codes "crashed " ++ decimal cursor
 reply_text (reply.Floor floor) = codes "floor " ++ decimal floor
 reply_text reply.Returned = codes "ok"
+reply_text (reply.Opened count) = codes "opened " ++ decimal count
 reply_text (reply.Expired count) = codes "expired " ++ decimal count
 reply_text (reply.Link link) = codes "link " ++ decimal link
 reply_text reply.Unsubscribed = codes "ok"

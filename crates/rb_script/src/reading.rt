@@ -87,6 +87,8 @@ fn with_number(name: &[u8], n: u64) -> Option<Form>
         Some(Form::Happens(Event::Ack { delivery: n }))
     } else if is(name, b"nack") {
         Some(Form::Happens(Event::Nack { delivery: n }))
+    } else if is(name, b"nackopen") {
+        Some(Form::Happens(Event::NackOpened { delivery: n }))
     } else if is(name, b"expire") {
         Some(Form::Happens(Event::Expire { now: n }))
     } else if is(name, b"resume") {

@@ -37,6 +37,7 @@ pub fn text_of(alloc: Global, reply: Reply) -> Result<String, AllocError>
             cursor,
         } => format!(in alloc; "crashed {cursor}"),
         Reply::Floor(floor) => format!(in alloc; "floor {floor}"),
+        Reply::Opened(count) => format!(in alloc; "opened {count}"),
         Reply::Expired(count) => format!(in alloc; "expired {count}"),
         Reply::Link(link) => format!(in alloc; "link {link}"),
         Reply::Fault(fault) => {
