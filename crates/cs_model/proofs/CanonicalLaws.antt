@@ -64,17 +64,28 @@ number_below bytes are = omega (arith, are 0, are 1, are 2, are 3, are 4, are 5,
 signed_fits : (n : ℕ) → n < 2 ^ 64 → FitsSigned w64 (cast_signed w64 n)
 signed_fits n below = let f : Fits w64 n = omega arith in sfits_to_z f
 
+-- the eight bytes after a type byte
+pub eight_bytes : (bytes rest : List ℕ) (kind : ℕ) → bytes ≡ kind ∷ rest → AreBytes bytes → AreBytes (take 8 rest)
+eight_bytes bytes rest kind whole are =
+    let behind : AreBytes rest = λ i. (let b = are (suc i) in rw whole at b) in
+    take_bytes 8 rest behind
+
+-- eight bytes are those of the number that they encode
+pub number_back : (text : List ℕ) → length text ≡ 8 → AreBytes text
+    → to_be_bytes w64 (cast_unsigned w64 (cast_signed w64 (from_be_bytes w64 text))) ≡ text
+number_back text long are =
+    let n = from_be_bytes w64 text in
+    ap (λ (k : ℕ). to_be_bytes w64 k) (of_z-to_z w64 n (number_below text are)) ∙ be_bytes_8 text n long are refl
+
 pub starts_integer : (bytes rest after : List ℕ) (kind : ℕ) → bytes ≡ kind ∷ rest → kind ≡ 1 → 8 ≤ length rest
     → AreBytes bytes → after ≡ take (length rest - 8) (drop 8 rest) → StartsField bytes after
 starts_integer bytes rest after kind whole is long are e =
     let text = take 8 rest in
-    let behind : AreBytes rest = λ i. (let b = are (suc i) in rw whole at b) in
-    let small : AreBytes text = take_bytes 8 rest behind in
+    let small : AreBytes text = eight_bytes bytes rest kind whole are in
     let n = from_be_bytes w64 text in
     let below : n < 2 ^ 64 = number_below text small in
     let back : to_be_bytes w64 (cast_unsigned w64 (cast_signed w64 n)) ≡ text =
-    ap (λ (k : ℕ). to_be_bytes w64 k) (of_z-to_z w64 n below)
-    ∙ be_bytes_8 text n (length-take-le 8 rest long) small refl in
+    number_back text (length-take-le 8 rest long) small in
     let parts : rest ≡ text ++ after = sym (take-append-drop 8 rest)
     ∙ ap (λ (w : List ℕ). text ++ w) (sym (e ∙ take_rest rest 8)) in
     record {

@@ -13,3 +13,4 @@ pub mod CanonicalLaws
 pub mod Fronts
 pub mod PartLaws
 pub mod PackedOne
+pub mod FieldReads

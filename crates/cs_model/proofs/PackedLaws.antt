@@ -142,21 +142,23 @@ integer_back n rest fits =
     (ap (λ k. cast_signed w64 k) (from_be_bytes-to_be_bytes_8 (cast_unsigned w64 n) (unsigned_below n fits))
     ∙ to_z-of_z w64 n fits)
 
-text_back : (text bytes rest : List ℕ) → SpellsBytes text bytes → typed_in 3 (text ++ rest) ≡ (Is (Text bytes), rest)
+pub text_back : (text bytes rest : List ℕ) → SpellsBytes text bytes
+    → typed_in 3 (text ++ rest) ≡ (Is (Text bytes), rest)
 unfolding typed_in
 text_back text bytes rest spells =
     ap (λ (x : List ℕ × List ℕ). (Is (Text x.0), x.1)) (counted_back text bytes rest spells)
 
-blob_back : (text bytes rest : List ℕ) → SpellsBytes text bytes → typed_in 4 (text ++ rest) ≡ (Is (Blob bytes), rest)
+pub blob_back : (text bytes rest : List ℕ) → SpellsBytes text bytes
+    → typed_in 4 (text ++ rest) ≡ (Is (Blob bytes), rest)
 unfolding typed_in
 blob_back text bytes rest spells =
     ap (λ (x : List ℕ × List ℕ). (Is (Blob x.0), x.1)) (counted_back text bytes rest spells)
 
-none_back : (rest : List ℕ) → typed_in 0 rest ≡ (Undefined, rest)
+pub none_back : (rest : List ℕ) → typed_in 0 rest ≡ (Undefined, rest)
 unfolding typed_in
 none_back rest = refl
 
-null_back : (rest : List ℕ) → typed_in 5 rest ≡ (Is Null, rest)
+pub null_back : (rest : List ℕ) → typed_in 5 rest ≡ (Is Null, rest)
 unfolding typed_in
 null_back rest = refl
 

@@ -1,15 +1,19 @@
-//! Encodes fields in canonical form.
+//! Encodes fields in canonical form, and reads a field in any encoding.
 
 ghost use Rattle.std.specs.List.{AllByRecursion};
-ghost use Rattle.std.specs.Prelude.{◌≡◌, ◌++◌, ◌∷◌, OnOk, OnErr, length, take};
+ghost use Rattle.std.specs.Option.{option_map};
+ghost use Rattle.std.specs.Prelude.{◌≡◌, ◌≤◌, ◌++◌, ◌∷◌, ℕ, List, Some, IfSome, OnOk, OnErr};
+ghost use Rattle.std.specs.Prelude.{length, take};
 ghost use Rattle.cs_model.specs.Bytes.{AddsBytes};
 ghost use Rattle.cs_model.specs.FieldBytes.{field_bytes};
 ghost use Rattle.cs_model.specs.Packed.{packed, Fits, IsLength};
 ghost use Rattle.cs_model.specs.Seen.{field_seen, fields_seen};
+ghost use Rattle.cs_model.specs.Text.{SpellsBytes, SpellsField};
 ghost use Rattle.cs_model.specs.Varint.{varint};
+ghost use Rattle.cs_model.specs.declared.value.Field.{Field};
 
 use crate::field_ref::FieldRef;
-use crate::varint::varint_push;
+use crate::varint::{varint_push, varint_read};
 use std::alloc::AllocError;
 
 /// Appends a field to `out` in canonical form: its type byte, then an INTEGER's eight bytes, or the
@@ -81,4 +85,51 @@ fn has_length(bytes: &[u8])
     ensures { IsLength (length bytes.now) }
 {
     let _len = bytes.len();
+}
+
+/// Reads the field that `bytes` begins with. Returns it and its length in bytes. Accepts encodings
+/// of a length that are longer than the shortest. Returns `None` if no field begins the bytes: they
+/// end inside one, or the first byte is no field's type. A REAL is no field.
+pub fn field_read(bytes: &[u8]) -> Option<(FieldRef, usize)>
+    ensures found { IfSome result (λ found. (found.1 ≤ length bytes.now)
+        × SpellsField (take found.1 bytes.now) (field_seen found.0)) }
+    ensures only { (field : Field) (len : ℕ) → Fits field → len ≤ length bytes.now
+        → SpellsField (take len bytes.now) field
+        → option_map {U = Field × ℕ} (λ found. (field_seen found.0, found.1)) result
+        ≡ Some (field, len) }
+{
+    let (&kind, rest) = bytes.split_first()?;
+    match kind {
+        0 => Some((FieldRef::Undefined, 1)),
+        1 => {
+            let number = rest.first_chunk::<8>()?;
+            Some((FieldRef::Integer(i64::from_be_bytes(*number)), 9))
+        }
+        3 => {
+            let (text, len) = counted_read(rest)?;
+            Some((FieldRef::Text(text), 1 + len))
+        }
+        4 => {
+            let (blob, len) = counted_read(rest)?;
+            Some((FieldRef::Blob(blob), 1 + len))
+        }
+        5 => Some((FieldRef::Null, 1)),
+        _ => None,
+    }
+}
+
+// reads a length and that number of bytes; returns these bytes, and how many were read in all
+fn counted_read(bytes: &[u8]) -> Option<(&[u8], usize)>
+    ensures found { IfSome result (λ found. (found.1 ≤ length bytes.now)
+        × SpellsBytes (take found.1 bytes.now) found.0.now) }
+    ensures only { (text : List ℕ) (len : ℕ) → len ≤ length bytes.now
+        → SpellsBytes (take len bytes.now) text
+        → option_map {U = List ℕ × ℕ} (λ found. (found.0.now, found.1)) result ≡ Some (text, len) }
+{
+    let (count, read) = varint_read(bytes)?;
+    let rest = &bytes[read..];
+    if (rest.len() as u64) < count {
+        return None;
+    }
+    Some((&rest[..count as usize], read + count as usize))
 }

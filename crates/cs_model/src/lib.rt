@@ -33,7 +33,7 @@ pub use change_ref::{ChangeRef, ChangeRefs, RecordRef};
 pub use changes::{Changes, same_changes};
 pub use changeset::Changeset;
 pub use copy::CopyIn;
-pub use field::field_push;
+pub use field::{field_push, field_read};
 pub use field_ref::FieldRef;
 pub use fields::Fields;
 pub use origin::Origin;
