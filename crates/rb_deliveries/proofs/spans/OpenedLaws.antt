@@ -1,13 +1,14 @@
 -- The stored spans after one of them is opened.
 use Rattle.std.proofs.Common.{◌≡◌, ℕ, zero, suc, ◌+◌, ◌-◌, ◌≤◌, Bool, true, false, cond, List, [], ◌∷◌, ◌++◌}
-use Rattle.std.proofs.Common.{eqb, eq-eqb, refl, sym, ap, ◌∙◌, arith}
+use Rattle.std.proofs.Common.{◌<◌, eqb, eq-eqb, Ok, Err, OnOk, OnErr, Result, refl, sym, ap, subst, ◌∙◌, arith}
+use Rattle.std.specs.List.{AllByRecursion}
 use Rattle.rb_deliveries.specs.declared.ticket.Ticket.{Ticket}
 use Rattle.rb_deliveries.specs.declared.ticket.Held.{Held}
 use Rattle.rb_deliveries.specs.Lanes.{HeldRise}
 use Rattle.rb_deliveries.specs.Opening.{opened_held, single_held, singles_held}
 use Rattle.rb_deliveries.specs.Spans.{span_length}
 use Rattle.rb_deliveries.specs.Taken.{NoSpanBegins}
-use Rattle.rb_deliveries.proofs.spans.LaneLaws.{rises_earlier}
+use Rattle.rb_deliveries.proofs.spans.LaneLaws.{joins_reach, rises_earlier}
 
 -- one number more
 pub singles_more : (latest : Ticket) (n count : ℕ) → singles_held latest n (suc count)
@@ -64,3 +65,19 @@ module _ (first : ℕ) (latest : Ticket) where
           singles_rise low h.span.first (span_length h.span) (suc h.span.last) next (opened_held first latest rest)
           rise.0 (omega (arith, rise.1)) later
       by_test false later = (rise.0, rise.1, later)
+
+  -- they rise whether memory ran out or not
+  pub joins_tried : {A E : Type 0} (r : Result A E) (low next : ℕ) (old new : List Held) →
+      OnOk r (new ≡ opened_held first latest old) → OnErr r (new ≡ old) → HeldRise low old next → HeldRise low new next
+  joins_tried (Ok x) low next old new ok err rise =
+      subst (λ held. HeldRise low held next) (sym ok) (joins_opened low next old rise)
+  joins_tried (Err e) low next old new ok err rise = subst (λ held. HeldRise low held next) (sym err) rise
+
+-- a turn is left for each of their numbers
+pub turns_left : (turn most low next : ℕ) (held : List Held) → HeldRise low held next → turn + next ≤ most →
+    AllByRecursion (λ h. turn + h.span.last < most) held
+turns_left turn most low next [] rise few = tt
+turns_left turn most low next (h ∷ rest) rise few = (
+  omega (arith, joins_reach (suc h.span.last) next rest rise.2, few),
+  turns_left turn most (suc h.span.last) next rest rise.2 few,
+)
