@@ -1,9 +1,9 @@
 -- How the spans of a subscription that were taken before are stored: as records under keys, in
 -- three lists of keys. The first lane has the ready ones by their tickets, and those in flight by
 -- their deliveries' numbers; the second lane has all of them by their own numbers.
-use Rattle.std.specs.Prelude.{◌≡◌, ℕ, ◌+◌, ◌<◌, Bool, true, false, ◌&&◌, nat_eq, ◌==◌, List, [], ◌∷◌}
+use Rattle.std.specs.Prelude.{◌≡◌, ℕ, ◌<◌, Bool, true, false, ◌&&◌, nat_eq, ◌==◌, List, [], ◌∷◌}
 use Rattle.std.specs.Prelude.{length, map, Option, Some, None, IsSome, slice_index_or, slice_set}
-use Rattle.std.specs.Prelude.{if◌then◌else◌}
+use Rattle.std.specs.Prelude.{◌+◌, if◌then◌else◌}
 use Rattle.std.specs.List.{list_any, AllByRecursion}
 use Rattle.link_lists.specs.Lanes.{Lanes, ChangesSlot, StandsIn, pushed_back, put_after}
 use Rattle.link_lists.specs.Lanes.{value_under, without_key}

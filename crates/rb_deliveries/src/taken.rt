@@ -1,8 +1,8 @@
 //! The spans of a subscription that were taken before and are not settled: the ready ones by their
 //! tickets, those in flight by their deliveries' numbers, and all by their own numbers.
 
-ghost use Rattle.std.specs.Prelude.{◌≡◌, ◌<◌, ◌^◌, ◌+◌, ◌++◌, ◌∷◌, ◌==◌, [], map, length, slice_get};
-ghost use Rattle.std.specs.Prelude.{◌-◌, true, OnOk, OnErr};
+ghost use Rattle.std.specs.Prelude.{◌≡◌, ◌<◌, ◌^◌, ◌++◌, ◌∷◌, ◌==◌, [], map, length, slice_get};
+ghost use Rattle.std.specs.Prelude.{◌-◌, ◌+◌, true, OnOk, OnErr};
 ghost use Rattle.std.specs.List.{AllByRecursion};
 ghost use Rattle.std.specs.Option.{option_map};
 ghost use Rattle.rb_deliveries.specs.declared.span.Status.TheVariants.{Ready, InFlight};

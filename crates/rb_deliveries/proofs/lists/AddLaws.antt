@@ -1,5 +1,5 @@
 -- What is listed after a record joins the end of the line, directly after another among all.
-use Rattle.std.proofs.Common.{◌≡◌, ℕ, ◌&&◌, true, false, cond, List, [], ◌∷◌, ◌++◌, get_or, eqb, Option, Some}
+use Rattle.std.proofs.Common.{◌≡◌, ℕ, ◌&&◌, true, false, cond, List, [], ◌∷◌, ◌++◌, get_or, eqb, Some}
 use Rattle.std.proofs.Common.{None, refl, sym, ap, ◌∙◌, append_assoc}
 use Rattle.link_lists.specs.Lanes.{Lanes, pushed_back, put_after}
 use Rattle.rb_deliveries.specs.declared.ticket.Held.{Held}

@@ -1,4 +1,4 @@
--- A span that is opened: its record becomes that of its first number, and each further number joins after the one before.
+-- A span that is opened: its record becomes that of its first number, and each further number joins after the last.
 use Rattle.std.proofs.Common.{◌≡◌, ℕ, suc, ◌+◌, ◌-◌, ◌<◌, ◌≤◌, ◌||◌, ◌==◌, Bool, true, false, cond, List, []}
 use Rattle.std.proofs.Common.{◌∷◌, ◌++◌}
 use Rattle.std.proofs.Common.{map, length, set, eqb, Option, Some, refl, sym, ap, subst, ◌∙◌, inl, inr}
@@ -15,8 +15,8 @@ use Rattle.rb_deliveries.specs.Opening.{RiseFromOne, opened_held, single_held, s
 use Rattle.rb_deliveries.specs.Subs.{IsDrawn}
 use Rattle.rb_deliveries.specs.Taken.{AddsAfter, AreWoven, IsKeyOf, NoSpanBegins, lists_key, held_in, held_under}
 use Rattle.rb_deliveries.specs.Taken.{nth_list, ticket_under}
-use Rattle.rb_deliveries.proofs.lists.KeyLaws.{all_keys, has_behind, has_first, has_in_front, has_later, key_of_all}
-use Rattle.rb_deliveries.proofs.lists.KeyLaws.{key_same, keys_but, map_keys, not_this_key, pushed_key}
+use Rattle.rb_deliveries.proofs.lists.KeyLaws.{all_keys, has_behind, has_in_front, has_later, key_of_all}
+use Rattle.rb_deliveries.proofs.lists.KeyLaws.{key_same, keys_but, map_keys, not_this_key}
 use Rattle.rb_deliveries.proofs.lists.ListedLaws.{ready_key}
 use Rattle.rb_deliveries.proofs.lists.StandLaws.{StandAs, out_stand, standing, step_in_line, step_unlinked}
 use Rattle.rb_deliveries.proofs.lists.MoveLaws.{KeyMoves, between, held_moved, line_records, sets_it}
@@ -53,10 +53,10 @@ before_next latest t n is = next t.front t.turn latest.front latest.turn is
         earlier (record { front = f; turn = u }) (record { front = g; turn = v + (n + 1) }) ≡ true
     next f u g v is = grind arith
 
--- ---- where a span that rises stands
+-- ---- spans that rise, under their keys
 
 module _ (f : ℕ → Held) where
-  -- a key among others that rise has its numbers in order, after this one
+  -- the span under one of the keys begins at `low` or later, and does not end before
   pub key_numbers : (low : ℕ) (keys : List ℕ) (next : ℕ) → HeldRise low (map f keys) next → (key : ℕ) →
       lists_key key keys ≡ true → (low ≤ (f key).span.first) × ((f key).span.first ≤ (f key).span.last)
   key_numbers low [] next rise key there = absurd cc
@@ -69,8 +69,8 @@ module _ (f : ℕ → Held) where
         (omega (arith, later.0, rise.0, rise.1), later.1)
   ]
 
-  -- it does not stand there again
-  pub not_again : (low : ℕ) (before : List ℕ) (key : ℕ) (after : List ℕ) (next : ℕ) →
+  -- a key does not stand there again
+  not_again : (low : ℕ) (before : List ℕ) (key : ℕ) (after : List ℕ) (next : ℕ) →
       HeldRise low (map f (before ++ key ∷ after)) next → lists_key key after ≡ false
   not_again low [] key after next rise = by_case (lists_key key after) refl
     where
@@ -155,7 +155,8 @@ module _ (old one two new : Lanes Held) (first last key flying : ℕ) (latest : 
       ∙ ap (λ b. cond b (single_held latest first) (held_under old.slots k)) (not_this_key key keys free k there))
 
   none_begins : (keys : List ℕ) → lists_key key keys ≡ false →
-      ((k : ℕ) → lists_key k keys ≡ true → lists_key k all ≡ true) → NoSpanBegins first (map (held_under old.slots) keys)
+      ((k : ℕ) → lists_key k keys ≡ true → lists_key k all ≡ true) →
+      NoSpanBegins first (map (held_under old.slots) keys)
   none_begins keys free among =
       all_keys (λ h. (h.span.first == first) ≡ false) (held_under old.slots) keys (λ k there.
       begins_one old first key is (1, rising.0, rising.1) k (among k there) ∙ not_this_key key keys free k there)
@@ -218,8 +219,12 @@ module _ (old one two new : Lanes Held) (first last key flying : ℕ) (latest : 
           ∙ ap (λ b. cond b (single_held latest first) (held_under old.slots key)) (key_same key);
       rest = same_under splits.after not_behind;
       whole = opened_there;
-      room = omega (arith, room, ap (λ (l : Lanes Held). l.spare) joins
-          ∙ ap (λ (l : Lanes Held). l.spare) moves.changed ∙ ap (λ (l : Lanes Held). l.spare) moves.unlinked);
+      room = omega (
+        arith,
+        room,
+        ap (λ (l : Lanes Held). l.spare) joins
+            ∙ ap (λ (l : Lanes Held). l.spare) moves.changed ∙ ap (λ (l : Lanes Held). l.spare) moves.unlinked,
+      );
       line = λ k there. begun_line k (sym (ap (λ s. lists_key k (nth_list 0 s)) begun_lists.one_list) ∙ there);
     }
 
@@ -231,7 +236,7 @@ module _ (old one two new : Lanes Held) (first last key flying : ℕ) (latest : 
 module _ (start old one two new : Lanes Held) (first last key flying : ℕ) (latest : Ticket)
     (same : old ≡ record start { spare = old.spare }) (are : AreWoven start) (is : IsKeyOf start first key)
     (moves : KeyMoves old one two key (λ h. single_held latest first)) where
-  pub woven_reserved : AreWoven old
+  woven_reserved : AreWoven old
   woven_reserved = subst AreWoven (sym same) (record { two = are.two; one = are.one; listed = are.listed })
 
   key_reserved : IsKeyOf old first key
@@ -331,18 +336,24 @@ module _ (first last : ℕ) (latest : Ticket) (start : List Held) (now new : Lan
 
 -- ---- it ends
 
-pub opening_ends : (first last : ℕ) (latest : Ticket) (start : List Held) (now : Lanes Held) (flying n at : ℕ) →
-    IsOpening first last latest start now flying n at → n ≡ last → held_in now ≡ opened_held first latest start
-opening_ends first last latest start now flying n at o over =
-    ap (map (held_under now.slots)) o.keys
-    ∙ map-append (held_under now.slots) o.before (at ∷ o.after)
-    ∙ (λ i. o.opened i ++ o.here i ∷ o.rest i)
-    ∙ append_assoc o.front (singles_held latest first o.count) (single_held latest n ∷ o.back)
-    ∙ ap (λ hs. o.front ++ hs) (sym (append_assoc (singles_held latest first o.count) (single_held latest n ∷ []) o.back)
-    ∙ ap (λ hs. hs ++ o.back)
-    (ap (λ m. singles_held latest first o.count ++ single_held latest m ∷ []) (sym o.numbers)
-    ∙ sym (singles_more latest first o.count) ∙ ap (singles_held latest first) all_numbers))
-    ∙ sym o.whole
-  where
-    all_numbers : suc o.count ≡ suc last - first
-    all_numbers = omega (arith, o.numbers, over)
+module _ (first last : ℕ) (latest : Ticket) (start : List Held) (now : Lanes Held) (flying n at : ℕ)
+    (o : IsOpening first last latest start now flying n at) (over : n ≡ last) where
+  all_numbers : suc o.count ≡ suc last - first
+  all_numbers = omega (arith, o.numbers, over)
+
+  all_singles : singles_held latest first o.count ++ single_held latest n ∷ o.back
+      ≡ singles_held latest first (suc last - first) ++ o.back
+  all_singles =
+      sym (append_assoc (singles_held latest first o.count) (single_held latest n ∷ []) o.back)
+      ∙ ap (λ hs. hs ++ o.back)
+      (ap (λ m. singles_held latest first o.count ++ single_held latest m ∷ []) (sym o.numbers)
+      ∙ sym (singles_more latest first o.count) ∙ ap (singles_held latest first) all_numbers)
+
+  pub opening_ends : held_in now ≡ opened_held first latest start
+  opening_ends =
+      ap (map (held_under now.slots)) o.keys
+      ∙ map-append (held_under now.slots) o.before (at ∷ o.after)
+      ∙ (λ i. o.opened i ++ o.here i ∷ o.rest i)
+      ∙ append_assoc o.front (singles_held latest first o.count) (single_held latest n ∷ o.back)
+      ∙ ap (λ hs. o.front ++ hs) all_singles
+      ∙ sym o.whole

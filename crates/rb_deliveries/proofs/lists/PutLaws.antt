@@ -29,11 +29,11 @@ pub key_splits : (key : ℕ) (keys : List ℕ) → lists_key key keys ≡ true �
 key_splits key [] there = absurd cc
 key_splits key (k ∷ keys) there = elim (eqb_tells key k) [
   | inl same ↦ record {
-      before = [];
-      after = keys;
-      parts = ap (λ (q : ℕ). q ∷ keys) (sym same.1);
-      not_before = refl;
-    }
+    before = [];
+    after = keys;
+    parts = ap (λ (q : ℕ). q ∷ keys) (sym same.1);
+    not_before = refl;
+  }
   | inr differs ↦
       let later = key_splits key keys (ap (λ b. b || lists_key key keys) (sym differs.0) ∙ there) in
       record {

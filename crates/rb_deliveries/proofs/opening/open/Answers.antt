@@ -1,4 +1,4 @@
-use Rattle.std.proofs.Common.{◌≡◌, ◌+◌, ◌<◌, ◌≤◌, sym, arith}
+use Rattle.std.proofs.Common.{◌+◌, ◌<◌, sym, arith}
 use Rattle.rb_deliveries.specs.Opening.{single_held}
 use Rattle.rb_deliveries.specs.Taken.{held_in, held_under, nth_list}
 use Rattle.rb_deliveries.proofs.spans.OpenedLaws.{opened_absent}
