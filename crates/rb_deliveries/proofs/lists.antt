@@ -17,3 +17,6 @@ pub mod RestateLaws
 pub mod StateLaws
 pub mod ExpireKeys
 pub mod ExpireWalk
+pub mod PutLaws
+pub mod AddLaws
+pub mod OpenLaws

@@ -6,3 +6,4 @@ pub mod ChangeLaws
 pub mod LaneChanges
 pub mod FirstLaws
 pub mod FoundLaws
+pub mod OpenedLaws

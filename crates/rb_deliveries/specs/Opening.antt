@@ -7,7 +7,7 @@ use Rattle.rb_deliveries.specs.declared.ticket.Ticket.{Ticket}
 use Rattle.rb_deliveries.specs.declared.ticket.Held.{Held}
 use Rattle.rb_deliveries.specs.declared.sub.Sub.{Sub}
 use Rattle.rb_deliveries.specs.Spans.{single, span_length}
-use Rattle.rb_deliveries.specs.Lanes.{Lane}
+use Rattle.rb_deliveries.specs.Lanes.{HeldRise, Lane}
 use Rattle.rb_deliveries.specs.Subs.{IsDrawn}
 
 -- the ticket of a number, after `latest`: a greater number's comes later
@@ -29,6 +29,10 @@ opened_held first latest (h ∷ rest) =
     (if h.span.first == first then singles_held latest h.span.first (span_length h.span)
     else h ∷ [])
     ++ opened_held first latest rest
+
+-- The spans rise from number 1 on. A number 0 would have the ticket `latest` itself.
+abbrev pub RiseFromOne : List Held → Type 0
+RiseFromOne held = (next : ℕ) × HeldRise 1 held next
 
 abbrev pub opened_lane : Lane → ℕ → Ticket → Lane
 opened_lane kept first latest = record kept { held = opened_held first latest kept.held }

@@ -3,9 +3,10 @@
 -- their deliveries' numbers; the second lane has all of them by their own numbers.
 use Rattle.std.specs.Prelude.{◌≡◌, ℕ, ◌<◌, Bool, true, false, ◌&&◌, nat_eq, ◌==◌, List, [], ◌∷◌}
 use Rattle.std.specs.Prelude.{length, map, Option, Some, None, IsSome, slice_index_or, slice_set}
-use Rattle.std.specs.Prelude.{if◌then◌else◌}
+use Rattle.std.specs.Prelude.{◌+◌, if◌then◌else◌}
 use Rattle.std.specs.List.{list_any, AllByRecursion}
-use Rattle.link_lists.specs.Lanes.{Lanes, pushed_back, value_under, without_key}
+use Rattle.link_lists.specs.Lanes.{Lanes, ChangesSlot, StandsIn, pushed_back, put_after}
+use Rattle.link_lists.specs.Lanes.{value_under, without_key}
 use Rattle.rb_deliveries.specs.declared.span.Status.{Status}
 use Rattle.rb_deliveries.specs.declared.span.Status.TheVariants.{Ready, InFlight}
 use Rattle.rb_deliveries.specs.declared.ticket.Ticket.{Ticket}
@@ -130,3 +131,11 @@ expired_key timeout clock latest key lanes =
           (Some (expired_by timeout clock latest (held_under lanes.slots key)));
       first = pushed_back 0 key (without_key key lanes.first);
     } else lanes
+
+-- a record under a new key stands at the end of the line, and directly after `at` among all
+pub record AddsAfter (old new : Lanes Held) (at key : ℕ) (h : Held) : Type 0 where
+  pub free : StandsIn key old.second → ⊥
+  pub slots : ChangesSlot old new key (Some h)
+  pub first : new.first ≡ pushed_back 0 key old.first
+  pub second : new.second ≡ put_after at key old.second
+  pub spare : old.spare ≡ new.spare + 1

@@ -148,9 +148,9 @@ impl Deliveries {
         );
     }
 
-    /// Opens a span of a subscription: each of its numbers is a ready span of its own, in its place.
-    /// They are in line after all other spans, by rising number: their tickets come after `latest`,
-    /// which no ticket of that subscription comes after. An `Err` changes nothing.
+    /// Opens a span of a subscription: each of its numbers is a ready span of its own, in its
+    /// place. They are in line after all other spans, by rising number: their tickets come after
+    /// `latest`, which no ticket of that subscription comes after. An `Err` changes nothing.
     pub fn open_up(&mut self, s: u64, first: u64, latest: Ticket) -> Result<(), AllocError>
         requires there { s < length self.old.subs }
         requires latest { IsLatestAt self.old.subs s latest }

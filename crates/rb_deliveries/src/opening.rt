@@ -1,11 +1,13 @@
 //! Opens a span: each of its numbers becomes a ready span of its own, in its place.
 
-ghost use Rattle.std.specs.Prelude.{◌≡◌, ◌<◌, ◌^◌, ◌-◌, ◌+◌, IfOk, OnOk, OnErr, Some, length};
+ghost use Rattle.std.specs.Prelude.{◌≡◌, ◌<◌, ◌^◌, ◌-◌, ◌+◌, IfOk, OnOk, OnErr, Some, IsSome};
+ghost use Rattle.std.specs.Prelude.{length, slice_set, true};
 ghost use Rattle.std.specs.List.{AllByRecursion};
-ghost use Rattle.rb_deliveries.specs.Lanes.{RiseSome};
-ghost use Rattle.rb_deliveries.specs.Opening.{opened_held, single_held};
+ghost use Rattle.link_lists.specs.Lanes.{value_under};
+ghost use Rattle.rb_deliveries.specs.Opening.{opened_held, single_held, RiseFromOne};
 ghost use Rattle.rb_deliveries.specs.Subs.{IsDrawn};
-ghost use Rattle.rb_deliveries.specs.Taken.{AreKept, held_in, held_under};
+ghost use Rattle.rb_deliveries.specs.Taken.{AddsAfter, AreKept, AreWoven, held_in, held_under};
+ghost use Rattle.rb_deliveries.specs.Taken.{lists_key, nth_list};
 
 use crate::span::{Span, Status};
 use crate::steps::{key_beginning, without};
@@ -23,7 +25,7 @@ pub(crate) fn open(
     latest: Ticket,
 ) -> Result<u64, AllocError>
     requires lists { AreKept (Some records.old) flying }
-    requires rising { RiseSome (held_in records.old) }
+    requires rising { RiseFromOne (held_in records.old) }
     requires few { length (held_in records.old) < 2 ^ 64 - 1 }
     requires drawn { AllByRecursion (λ h. IsDrawn latest.front latest.turn h.ticket)
         (held_in records.old) }
@@ -61,14 +63,26 @@ fn last_at(records: &Woven<Held>, key: usize) -> u64
 }
 
 // makes the span under this key one of this number alone
-fn set_single(records: &mut Woven<Held>, key: usize, n: u64, latest: Ticket) {
+fn set_single(records: &mut Woven<Held>, key: usize, n: u64, latest: Ticket)
+    requires kept { IsSome (value_under records.old key) }
+    requires fits { latest.turn + n < 18446744073709551616 }
+    ensures { records.new ≡ record records.old {
+      slots = slice_set records.old.slots key (Some (single_held latest n));
+    } }
+{
     if let Some(held) = records.get_mut(key) {
         *held = single(n, latest);
     }
 }
 
 // Adds this number after the span under key `at`, as a ready span of its own. Returns its key.
-fn add_after(records: &mut Woven<Held>, at: usize, n: u64, latest: Ticket) -> usize {
+fn add_after(records: &mut Woven<Held>, at: usize, n: u64, latest: Ticket) -> usize
+    requires room { 0 < records.old.spare }
+    requires lists { AreWoven records.old }
+    requires there { lists_key at (nth_list 0 records.old.second) ≡ true }
+    requires fits { latest.turn + n < 18446744073709551616 }
+    ensures { AddsAfter records.old records.new at result (single_held latest n) }
+{
     let key = records.insert(single(n, latest));
     records.push_back(Lane::First, 0, key);
     records.insert_after(Lane::Second, at, key);

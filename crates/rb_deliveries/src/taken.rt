@@ -1,14 +1,14 @@
 //! The spans of a subscription that were taken before and are not settled: the ready ones by their
 //! tickets, those in flight by their deliveries' numbers, and all by their own numbers.
 
-ghost use Rattle.std.specs.Prelude.{◌≡◌, ◌<◌, ◌^◌, ◌+◌, ◌++◌, ◌∷◌, ◌==◌, [], map, length, slice_get};
-ghost use Rattle.std.specs.Prelude.{◌-◌, true, OnOk, OnErr};
+ghost use Rattle.std.specs.Prelude.{◌≡◌, ◌<◌, ◌^◌, ◌++◌, ◌∷◌, ◌==◌, [], map, length, slice_get};
+ghost use Rattle.std.specs.Prelude.{◌-◌, ◌+◌, true, OnOk, OnErr};
 ghost use Rattle.std.specs.List.{AllByRecursion};
 ghost use Rattle.std.specs.Option.{option_map};
 ghost use Rattle.rb_deliveries.specs.declared.span.Status.TheVariants.{Ready, InFlight};
 ghost use Rattle.rb_deliveries.specs.Expiry.{due_held, expired_by};
 ghost use Rattle.rb_deliveries.specs.Lanes.{spans_of, least, restated, without_held, RiseSome};
-ghost use Rattle.rb_deliveries.specs.Opening.{opened_held};
+ghost use Rattle.rb_deliveries.specs.Opening.{opened_held, RiseFromOne};
 ghost use Rattle.rb_deliveries.specs.Spans as spans;
 ghost use Rattle.rb_deliveries.specs.Subs.{AreGiven, ComesLast, IsDrawn, IsNewest};
 ghost use Rattle.rb_deliveries.specs.Taken.{GoesLast};
@@ -173,7 +173,7 @@ impl Taken {
     /// span of its own. Their tickets come after `latest`, which comes after all others. An `Err`
     /// changes nothing.
     pub(crate) fn open(&mut self, first: u64, latest: Ticket) -> Result<(), AllocError>
-        requires rising { RiseSome self.old }
+        requires rising { RiseFromOne self.old }
         requires few { length self.old < 2 ^ 64 - 1 }
         requires drawn { AllByRecursion (λ h. IsDrawn latest.front latest.turn h.ticket) self.old }
         requires turns { AllByRecursion (λ h. latest.turn + h.span.last < 18446744073709551616)

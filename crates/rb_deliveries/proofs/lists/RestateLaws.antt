@@ -19,7 +19,7 @@ use Rattle.rb_deliveries.proofs.lists.BeginLaws.{begins_here, begins_key}
 -- ---- one span
 
 module _ (f : ℕ → Held) where
-  begin_later : (low : ℕ) (keys : List ℕ) (next : ℕ) → HeldRise low (map f keys) next → (key : ℕ) →
+  pub begin_later : (low : ℕ) (keys : List ℕ) (next : ℕ) → HeldRise low (map f keys) next → (key : ℕ) →
       lists_key key keys ≡ true → low ≤ (f key).span.first
   begin_later low [] next rise key there = absurd cc
   begin_later low (k ∷ keys) next rise key there = elim (eqb_tells key k) [
