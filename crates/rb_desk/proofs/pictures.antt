@@ -4,6 +4,8 @@ pub mod RiseLaws
 pub mod StandLaws
 pub mod KeepHand
 pub mod KeepSettle
+pub mod OpenedLaws
+pub mod KeepOpen
 pub mod KeepCut
 pub mod KeepPlace
 pub mod KeepExpire

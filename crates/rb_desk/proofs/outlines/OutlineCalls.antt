@@ -11,7 +11,7 @@ use Rattle.rb_deliveries.specs.Spans.{cut_spans, is_ready, first_ready, out_as, 
 use Rattle.rb_desk.specs.Picture.{Picture, Subscription}
 use Rattle.rb_desk.specs.Calls.{has_room, subscribe, subscribed_picture, take, delivered_from, delivered_span, take_any}
 use Rattle.rb_desk.specs.Calls.{delivered_any_from, delivered_any_of, delivered_any_span, may_deliver, ack, acked_by}
-use Rattle.rb_desk.specs.Calls.{acked_span, nack, nacked_by, nacked_span, expire, goes_back, reconnect}
+use Rattle.rb_desk.specs.Calls.{acked_span, nack, nacked_by, nacked_span, nack_opened, opened_by, opened_span, expire, goes_back, reconnect}
 use Rattle.rb_desk.specs.Calls.{reconnected_picture, reconnected_by, unsubscribe, unsubscribed_picture, unsubscribed_by}
 use Rattle.rb_desk.specs.Calls.{prepare, place, grown_subscription, close, last_number}
 use Rattle.rb_desk.specs.IsPicture.{IsPicture}
@@ -104,7 +104,7 @@ outline_calls_take_any_tells p now = by (find (may_deliver p) p.ready)
     by None = refl
     by (Some at) = by_sub at (slice_get p.subscriptions at.0) refl
 
--- ---- ack, nack and expire
+-- ---- ack, nack, nack_opened and expire
 
 pub outline_calls_ack_tells : (p : Picture) (s link number cursor : ℕ)
     → OutlinesTells p (Stays p) (ack p s link number cursor)
@@ -135,6 +135,22 @@ outline_calls_nack_tells p s link number = by (slice_get p.subscriptions s) refl
 
     by : (o : Option Subscription) → slice_get p.subscriptions s ≡ o
         → OutlinesTells p (Stays p) (nacked_by p s link number o)
+    by None here = refl
+    by (Some q) here = either_way (OutlinesTells p (Stays p)) (not (link == q.link)) _ _ refl
+        (by_span q (out_as number q.spans) here)
+
+pub outline_calls_nack_opened_tells : (p : Picture) (s link number : ℕ)
+    → OutlinesTells p (Stays p) (nack_opened p s link number)
+unfolding nack_opened
+outline_calls_nack_opened_tells p s link number = by (slice_get p.subscriptions s) refl
+  where
+    by_span : (q : Subscription) (o : Option Span) → slice_get p.subscriptions s ≡ Some q
+        → OutlinesTells p (Stays p) (opened_span p s q o)
+    by_span q None here = refl
+    by_span q (Some span) here = ap (with_members (outline_of p)) (same_members p.subscriptions s q _ here refl)
+
+    by : (o : Option Subscription) → slice_get p.subscriptions s ≡ o
+        → OutlinesTells p (Stays p) (opened_by p s link number o)
     by None here = refl
     by (Some q) here = either_way (OutlinesTells p (Stays p)) (not (link == q.link)) _ _ refl
         (by_span q (out_as number q.spans) here)

@@ -182,7 +182,7 @@ module _ (p : Picture) (s : ℕ) (q : Subscription) (span : Span) (good : IsPict
       (λ t first other. refl)
       (goes_away p s q here is_out span p.in_flight others
       (ap (span_there is_out) (without_there span.first q.spans))
-      (λ first other. without_other first span.first q.spans other)
+      (λ first other. ap (span_there is_out) (without_other first span.first q.spans other))
       (order_here p s q here is_out p.in_flight good.out))
       (goes_others p s q here is_out span p.in_flight)
 

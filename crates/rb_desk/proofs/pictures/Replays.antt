@@ -13,13 +13,13 @@ use Rattle.rb_desk.specs.declared.refusal.DeskRefusal.{DeskRefusal}
 use Rattle.rb_deliveries.specs.declared.span.Span.{Span}
 use Rattle.rb_desk.specs.declared.step.Step.{Step}
 use Rattle.rb_desk.specs.declared.step.Step.TheVariants.{Subscribe, Take, TakeAny, Ack, Nack, Expire, Reconnect}
-use Rattle.rb_desk.specs.declared.step.Step.TheVariants.{Unsubscribe, Place, Close}
+use Rattle.rb_desk.specs.declared.step.Step.TheVariants.{Unsubscribe, Place, Close, NackOpened}
 use Rattle.rb_desk.specs.Limits.{Limits}
 use Rattle.rb_deliveries.specs.Spans.{cut_spans, first_ready, out_as, beginning, grown_spans}
 use Rattle.rb_desk.specs.Picture.{Picture, Subscription, empty_picture}
 use Rattle.rb_desk.specs.Calls.{subscribe, subscribed_picture, take, delivered_from, delivered_span, has_room, take_any}
 use Rattle.rb_desk.specs.Calls.{delivered_any_from, delivered_any_of, delivered_any_span, may_deliver, ack, acked_by}
-use Rattle.rb_desk.specs.Calls.{acked_span, nack, nacked_by, nacked_span, expire, reconnect, reconnected_picture}
+use Rattle.rb_desk.specs.Calls.{acked_span, nack, nacked_by, nacked_span, nack_opened, opened_by, opened_span, expire, reconnect, reconnected_picture}
 use Rattle.rb_desk.specs.Calls.{reconnected_by, unsubscribe, unsubscribed_picture, unsubscribed_by, goes_back, prepare}
 use Rattle.rb_desk.specs.Calls.{place, grown_subscription, close}
 use Rattle.rb_desk.specs.IsPicture.{AreInRange, IsPicture}
@@ -30,6 +30,7 @@ use Rattle.rb_desk.proofs.pictures.KeepHand.{keep_hand_take_keeps, keep_hand_tak
 use Rattle.rb_desk.proofs.pictures.KeepHand.{floors_rise_take_any}
 use Rattle.rb_desk.proofs.pictures.KeepSettle.{keep_settle_ack_keeps, keep_settle_nack_keeps, floors_rise_ack}
 use Rattle.rb_desk.proofs.pictures.KeepSettle.{floors_rise_nack}
+use Rattle.rb_desk.proofs.pictures.KeepOpen.{keep_open_keeps, floors_rise_nack_opened}
 use Rattle.rb_desk.proofs.pictures.PictureLaws.{floors_same, floors_set}
 use Rattle.rb_desk.proofs.pictures.KeepCut.{keep_cut_either, either_way, either_false, opening_keeps}
 use Rattle.rb_desk.proofs.pictures.KeepCut.{keep_cut_subscribe_keeps, keep_cut_reconnect_keeps}
@@ -52,6 +53,7 @@ after_keeps p (Take s link cursor now) k = keep_hand_take_keeps p s link cursor 
 after_keeps p (TakeAny now) k = keep_hand_take_any_keeps p now k
 after_keeps p (Ack s link delivery cursor) k = keep_settle_ack_keeps p s link delivery cursor k
 after_keeps p (Nack s link delivery) k = keep_settle_nack_keeps p s link delivery k
+after_keeps p (NackOpened s link delivery) k = keep_open_keeps p s link delivery k
 after_keeps p (Expire now) k = keep_expire_keeps p now k
 after_keeps p (Reconnect s cursor) k = keep_cut_reconnect_keeps p s cursor k
 after_keeps p (Unsubscribe s link) k = keep_cut_unsubscribe_keeps p s link k
@@ -225,6 +227,27 @@ nack_rises p s link delivery = by (slice_get p.subscriptions s)
     by (Some q) = either_way (λ (x : Result Unit DeskRefusal × Picture). ReplaysRises p x.1 None None 0 p.closing)
         (not (link == q.link)) _ _ (rises_same p) (of_span q (out_as delivery q.spans))
 
+nack_opened_rises : (p : Picture) (s link delivery : ℕ)
+    → ReplaysRises p (nack_opened p s link delivery).1 None None 0 p.closing
+unfolding nack_opened
+nack_opened_rises p s link delivery = by (slice_get p.subscriptions s)
+  where
+    of_span : (q : Subscription) (o : Option Span) → ReplaysRises p (opened_span p s q o).1 None None 0 p.closing
+    of_span q None = rises_same p
+    of_span q (Some span) = record {
+      limits = refl;
+      closing = refl;
+      front = omega arith;
+      count = same_length p s _;
+      links = omega arith;
+      numbers = omega arith;
+    }
+
+    by : (o : Option Subscription) → ReplaysRises p (opened_by p s link delivery o).1 None None 0 p.closing
+    by None = rises_same p
+    by (Some q) = either_way (λ (x : Result ℕ DeskRefusal × Picture). ReplaysRises p x.1 None None 0 p.closing)
+        (not (link == q.link)) _ _ (rises_same p) (of_span q (out_as delivery q.spans))
+
 expire_rises : (p : Picture) (now : ℕ) → ReplaysRises p (expire p now).1 None None 0 p.closing
 unfolding expire
 expire_rises p now =
@@ -315,6 +338,7 @@ closing_after p (Take s link cursor now) = p.closing
 closing_after p (TakeAny now) = p.closing
 closing_after p (Ack s link delivery cursor) = p.closing
 closing_after p (Nack s link delivery) = p.closing
+closing_after p (NackOpened s link delivery) = p.closing
 closing_after p (Expire now) = p.closing
 closing_after p (Reconnect s cursor) = p.closing
 closing_after p (Unsubscribe s link) = p.closing
@@ -331,6 +355,7 @@ after_rises p (Take s link cursor now) = take_rises p s link cursor now
 after_rises p (TakeAny now) = take_any_rises p now
 after_rises p (Ack s link delivery cursor) = ack_rises p s link delivery cursor
 after_rises p (Nack s link delivery) = nack_rises p s link delivery
+after_rises p (NackOpened s link delivery) = nack_opened_rises p s link delivery
 after_rises p (Expire now) = expire_rises p now
 after_rises p (Reconnect s cursor) = reconnect_rises p s cursor
 after_rises p (Unsubscribe s link) = unsubscribe_rises p s link
@@ -381,6 +406,9 @@ ack_frame p s link delivery cursor = frame p _ _ _ (ack_rises p s link delivery 
 
 pub nack_frame : (p : Picture) (s link delivery : ℕ) → KeepsFrame p (nack p s link delivery).1
 nack_frame p s link delivery = frame p _ _ _ (nack_rises p s link delivery)
+
+pub nack_opened_frame : (p : Picture) (s link delivery : ℕ) → KeepsFrame p (nack_opened p s link delivery).1
+nack_opened_frame p s link delivery = frame p _ _ _ (nack_opened_rises p s link delivery)
 
 pub expire_frame : (p : Picture) (now : ℕ) → KeepsFrame p (expire p now).1
 expire_frame p now = frame p _ _ _ (expire_rises p now)
@@ -560,6 +588,7 @@ after_floors p (Take s link cursor now) k = floors_rise_take p s link cursor now
 after_floors p (TakeAny now) k = floors_rise_take_any p now
 after_floors p (Ack s link delivery cursor) k = floors_rise_ack p s link delivery cursor k
 after_floors p (Nack s link delivery) k = floors_rise_nack p s link delivery
+after_floors p (NackOpened s link delivery) k = floors_rise_nack_opened p s link delivery
 after_floors p (Expire now) k = expire_floors p now
 after_floors p (Reconnect s cursor) k = reconnect_floors p s cursor
 after_floors p (Unsubscribe s link) k = unsubscribe_floors p s link

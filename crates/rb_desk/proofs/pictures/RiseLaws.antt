@@ -209,7 +209,7 @@ restated_in n first status (p ∷ rest) i = by (p.first == first) i (restated_in
 -- ---- the floor
 
 -- spans that rise from a number rise from a lower one
-rise_lower : (low low' high : ℕ) (spans : List Span) → low ≤ low' → SpansRise low' spans high
+pub rise_lower : (low low' high : ℕ) (spans : List Span) → low ≤ low' → SpansRise low' spans high
     → SpansRise low spans high
 rise_lower low low' high [] le h = omega (arith, le, h)
 rise_lower low low' high (p ∷ rest) le h = (omega (arith, le, h.0), h.1, h.2)

@@ -64,7 +64,8 @@ module _ (p : Picture) (s : ℕ) (q : Subscription) (here : slice_get p.subscrip
 
     -- a span that goes out becomes what the order doesn't have, or nothing, and the others are as before
     pub goes_away : (later : List Span) → span_there test (beginning span.first later) ≡ 0
-        → ((first : ℕ) → (first ≡ span.first → ⊥) → beginning first later ≡ beginning first q.spans)
+        → ((first : ℕ) → (first ≡ span.first → ⊥)
+        → span_there test (beginning first later) ≡ span_there test (beginning first q.spans))
         → ((first : ℕ) → how_often s first xs ≡ span_there test (beginning first q.spans)) → (first : ℕ)
         → how_often s first (without_span s span.first xs) ≡ span_there test (beginning first later)
     goes_away later none same was first = often_without s span.first s first xs ∙ by (cases_eq first span.first)
@@ -73,7 +74,7 @@ module _ (p : Picture) (s : ℕ) (q : Subscription) (here : slice_get p.subscrip
             → cond (is_span s span.first (s, first)) 0 (how_often s first xs)
             ≡ span_there test (beginning first later)
         by (inl e) = rw (e, own_name s span.first, none) refl
-        by (inr e) = rw (other_span s span.first first e, same first e) (was first)
+        by (inr e) = rw (other_span s span.first first e) (was first ∙ sym (same first e))
 
   -- a span gets a status with which it doesn't stand there any more, or comes to stand there
   module _ (test : Status → Bool) (span : Span) (status : Status) (found : beginning span.first q.spans ≡ Some span)
@@ -85,7 +86,7 @@ module _ (p : Picture) (s : ℕ) (q : Subscription) (here : slice_get p.subscrip
     goes_mine none =
         goes_away test span xs (with_status span.first status q.spans)
         (restated_there test span.first status q.spans span found ∙ ap one_if none)
-        (λ first other. restated_other first span.first status q.spans other)
+        (λ first other. ap (span_there test) (restated_other first span.first status q.spans other))
 
     -- a span comes to the end of an order in which it didn't stand
     pub comes_mine : test span.status ≡ false → test status ≡ true

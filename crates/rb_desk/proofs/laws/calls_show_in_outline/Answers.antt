@@ -1,13 +1,14 @@
 use Rattle.std.proofs.Common.{◌≡◌, ℕ, subst}
 use Rattle.rb_desk.specs.Picture.{Picture}
-use Rattle.rb_desk.specs.Calls.{subscribe, take, take_any, ack, nack, reconnect, unsubscribe}
+use Rattle.rb_desk.specs.Calls.{subscribe, take, take_any, ack, nack, nack_opened, reconnect, unsubscribe}
 use Rattle.rb_desk.specs.Outline.{outline_of}
 use Rattle.rb_desk.specs.Outline as outline
 use Rattle.rb_desk.proofs.outlines.Outlines.{outlines_told}
 use Rattle.rb_desk.proofs.outlines.OutlineCalls.{Joined, TookOf, OutlineCallsTook, Stays, Relinked, Gone}
 use Rattle.rb_desk.proofs.outlines.OutlineCalls.{outline_calls_subscribe_tells, outline_calls_take_tells}
 use Rattle.rb_desk.proofs.outlines.OutlineCalls.{outline_calls_take_any_tells, outline_calls_ack_tells}
-use Rattle.rb_desk.proofs.outlines.OutlineCalls.{outline_calls_nack_tells, expire_stays, outline_calls_reconnect_tells}
+use Rattle.rb_desk.proofs.outlines.OutlineCalls.{outline_calls_nack_tells, outline_calls_nack_opened_tells, expire_stays}
+use Rattle.rb_desk.proofs.outlines.OutlineCalls.{outline_calls_reconnect_tells}
 use Rattle.rb_desk.proofs.outlines.OutlineCalls.{outline_calls_unsubscribe_tells, outline_calls_place_shows}
 use Rattle.rb_desk.proofs.outlines.OutlineCalls.{outline_calls_close_shows}
 use Rattle.rb_desk.proofs.laws.calls_show_in_outline.Goals as goal
@@ -32,6 +33,10 @@ returns-clause-ack c = λ old s link number cursor floor new is. outlines_told o
 pub returns-clause-nack : goal.returns-clause-nack
 returns-clause-nack c = λ old s link number new is. outlines_told old new (Stays old) (nack old s link number) tt
     (outline_calls_nack_tells old s link number) is
+
+pub returns-clause-nack_opened : goal.returns-clause-nack_opened
+returns-clause-nack_opened c = λ old s link number count new is. outlines_told old new (Stays old)
+    (nack_opened old s link number) count (outline_calls_nack_opened_tells old s link number) is
 
 pub returns-clause-expire : goal.returns-clause-expire
 returns-clause-expire c = λ old now many new is. subst (λ (x : ℕ × Picture). outline_of x.1 ≡ outline_of old) is

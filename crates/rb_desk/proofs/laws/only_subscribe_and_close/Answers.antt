@@ -2,8 +2,8 @@ use Rattle.std.proofs.Common.{arith}
 use Rattle.rb_desk.specs.declared.step.Step.TheVariants as step
 use Rattle.rb_desk.specs.Steps.{after_step}
 use Rattle.rb_desk.proofs.pictures.Replays.{subscriptions_counted, subscribe_fits, subscribe_frame, take_frame}
-use Rattle.rb_desk.proofs.pictures.Replays.{take_any_frame, ack_frame, nack_frame, expire_frame, reconnect_frame}
-use Rattle.rb_desk.proofs.pictures.Replays.{unsubscribe_frame, place_frame, close_frame}
+use Rattle.rb_desk.proofs.pictures.Replays.{take_any_frame, ack_frame, nack_frame, nack_opened_frame, expire_frame}
+use Rattle.rb_desk.proofs.pictures.Replays.{reconnect_frame, unsubscribe_frame, place_frame, close_frame}
 use Rattle.rb_desk.proofs.laws.only_subscribe_and_close.Goals as goal
 
 pub returns-clause-subscribe : goal.returns-clause-subscribe
@@ -26,6 +26,9 @@ returns-clause-ack c = ack_frame
 
 pub returns-clause-nack : goal.returns-clause-nack
 returns-clause-nack c = nack_frame
+
+pub returns-clause-nack_opened : goal.returns-clause-nack_opened
+returns-clause-nack_opened c = nack_opened_frame
 
 pub returns-clause-expire : goal.returns-clause-expire
 returns-clause-expire c = expire_frame

@@ -1,9 +1,10 @@
-use Rattle.rb_desk.specs.Calls.{subscribe, take, take_any, ack, nack, reconnect, unsubscribe}
+use Rattle.rb_desk.specs.Calls.{subscribe, take, take_any, ack, nack, nack_opened, reconnect, unsubscribe}
 use Rattle.rb_desk.proofs.outlines.Outlines.{left_alone}
 use Rattle.rb_desk.proofs.outlines.OutlineCalls.{Joined, TookOf, OutlineCallsTook, Stays, Relinked, Gone}
 use Rattle.rb_desk.proofs.outlines.OutlineCalls.{outline_calls_subscribe_tells, outline_calls_take_tells}
 use Rattle.rb_desk.proofs.outlines.OutlineCalls.{outline_calls_take_any_tells, outline_calls_ack_tells}
-use Rattle.rb_desk.proofs.outlines.OutlineCalls.{outline_calls_nack_tells, outline_calls_reconnect_tells}
+use Rattle.rb_desk.proofs.outlines.OutlineCalls.{outline_calls_nack_tells, outline_calls_nack_opened_tells}
+use Rattle.rb_desk.proofs.outlines.OutlineCalls.{outline_calls_reconnect_tells}
 use Rattle.rb_desk.proofs.outlines.OutlineCalls.{outline_calls_unsubscribe_tells}
 use Rattle.rb_desk.proofs.laws.refused_calls_change_nothing.Goals as goal
 
@@ -26,6 +27,10 @@ returns-clause-ack c = λ old s link number cursor why new is. left_alone old ne
 pub returns-clause-nack : goal.returns-clause-nack
 returns-clause-nack c = λ old s link number why new is. left_alone old new (Stays old) (nack old s link number) why
     (outline_calls_nack_tells old s link number) is
+
+pub returns-clause-nack_opened : goal.returns-clause-nack_opened
+returns-clause-nack_opened c = λ old s link number why new is. left_alone old new (Stays old)
+    (nack_opened old s link number) why (outline_calls_nack_opened_tells old s link number) is
 
 pub returns-clause-reconnect : goal.returns-clause-reconnect
 returns-clause-reconnect c = λ old s cursor why new is. left_alone old new (Relinked old s) (reconnect old s cursor) why
