@@ -11,7 +11,8 @@ use Rattle.rb_deliveries.specs.Spans.{cut_spans, is_ready, first_ready, out_as, 
 use Rattle.rb_desk.specs.Picture.{Picture, Subscription}
 use Rattle.rb_desk.specs.Calls.{has_room, subscribe, subscribed_picture, take, delivered_from, delivered_span, take_any}
 use Rattle.rb_desk.specs.Calls.{delivered_any_from, delivered_any_of, delivered_any_span, may_deliver, ack, acked_by}
-use Rattle.rb_desk.specs.Calls.{acked_span, nack, nacked_by, nacked_span, nack_opened, opened_by, opened_span, expire, goes_back, reconnect}
+use Rattle.rb_desk.specs.Calls.{acked_span, nack, nacked_by, nacked_span, nack_opened, opened_by, opened_span}
+use Rattle.rb_desk.specs.Calls.{expire, goes_back, reconnect}
 use Rattle.rb_desk.specs.Calls.{reconnected_picture, reconnected_by, unsubscribe, unsubscribed_picture, unsubscribed_by}
 use Rattle.rb_desk.specs.Calls.{prepare, place, grown_subscription, close, last_number}
 use Rattle.rb_desk.specs.IsPicture.{IsPicture}

@@ -1,18 +1,17 @@
 -- The invariant of a picture holds after a span is opened: the laws of `nack_opened`.
-use Rattle.std.proofs.Common.{◌≡◌, ℕ, suc, ◌+◌, ◌-◌, ◌<◌, ◌≤◌, Bool, true, false, not, cond, ◌==◌, List, ◌++◌, length}
-use Rattle.std.proofs.Common.{Option, Some, None, filter, slice_get, slice_set, eq-eqb, ne_eqb, refl, sym, ap, ◌∙◌, arith}
+use Rattle.std.proofs.Common.{◌≡◌, ℕ, suc, ◌+◌, ◌≤◌, Bool, true, false, not, cond, ◌==◌, List, ◌++◌}
+use Rattle.std.proofs.Common.{Option, Some, None, slice_get, slice_set, eq-eqb, ne_eqb, refl, sym, ap, ◌∙◌, arith}
 use Rattle.rb_deliveries.specs.declared.span.Span.{Span}
-use Rattle.rb_deliveries.specs.declared.span.Status.TheVariants.{Ready}
 use Rattle.rb_desk.specs.declared.refusal.DeskRefusal.TheVariants as refusal
-use Rattle.rb_deliveries.specs.Spans.{is_ready, is_out, is_out_as, beginning, out_as, how_many_out, opened_spans, single}
-use Rattle.rb_deliveries.specs.Spans.{singles, span_length}
+use Rattle.rb_deliveries.specs.Spans.{is_ready, is_out, is_out_as, beginning, out_as, how_many_out, opened_spans}
+use Rattle.rb_deliveries.specs.Spans.{single, singles, span_length}
 use Rattle.rb_desk.specs.Picture.{Picture, Subscription}
 use Rattle.rb_desk.specs.Calls.{named, without_span, opened_picture, nack_opened, opened_by, opened_span, refused_call}
 use Rattle.rb_desk.specs.IsPicture.{IsPicture, IsGoodSubscription, IsGoodSpan, SpansRise, how_often, span_there, out_in}
 use Rattle.rb_desk.proofs.calls.OpenLaws.{out_not_ready}
-use Rattle.rb_desk.proofs.pictures.PictureLaws.{NoFloorFalls, often_append, often_named, out_of, out_set, floors_same}
+use Rattle.rb_desk.proofs.pictures.PictureLaws.{NoFloorFalls, often_append, often_named, out_set, floors_same}
 use Rattle.rb_desk.proofs.pictures.PictureLaws.{floors_set, changed_keeps, links_as_before}
-use Rattle.rb_desk.proofs.pictures.RiseLaws.{all_spans_found, rise_ends}
+use Rattle.rb_desk.proofs.pictures.RiseLaws.{all_spans_found}
 use Rattle.rb_desk.proofs.pictures.StandLaws.{found_good, open_rise, order_here, goes_others, goes_away}
 use Rattle.rb_desk.proofs.pictures.KeepSettle.{out_not_fresh, found_out}
 use Rattle.rb_desk.proofs.pictures.OpenedLaws.{how_many_begin, opened_rise, opened_floor, opened_in, opened_all}

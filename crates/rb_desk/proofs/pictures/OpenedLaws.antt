@@ -1,6 +1,6 @@
 -- Spans that rise, one of which is opened: each of its numbers is a span in its place.
 use Rattle.std.proofs.Common.{◌≡◌, ℕ, zero, suc, ◌+◌, ◌-◌, ◌<◌, ◌≤◌, ◌⊎◌, inl, inr, Bool, true, false, cond, ◌==◌, List}
-use Rattle.std.proofs.Common.{[], ◌∷◌, ◌++◌, length, Option, Some, None, filter, eq-eqb, ne_eqb, eqb-true, refl, sym, ap}
+use Rattle.std.proofs.Common.{[], ◌∷◌, ◌++◌, length, Some, None, filter, eq-eqb, ne_eqb, eqb-true, refl, sym, ap}
 use Rattle.std.proofs.Common.{◌∙◌, subst, arith}
 use Rattle.std.specs.List.{AllByRecursion}
 use Rattle.std.proofs.lemmas.Bool.{cases_lt, cases_eq}
@@ -64,7 +64,7 @@ singles_floor n (suc count) front rest less = refl
 abbrev pub how_many_begin : ℕ → List Span → ℕ
 how_many_begin k spans = length (filter (λ (p : Span). p.first == k) spans)
 
--- a number is one of these, and one span begins with it; or it isn't, and what begins with it stands behind them
+-- A number is one of these, and one of their spans begins with it; or it isn't, and what begins with it is behind them.
 abbrev IsOneOf : ℕ → ℕ → ℕ → List Span → Type 0
 IsOneOf k n count rest =
     (n ≤ k) × (k < n + count) × (how_many_begin k (singles n count) ≡ 1)
@@ -156,7 +156,7 @@ opened_induction P high span opens goes low (p ∷ rest) h found =
         (rise_begins (suc p.last) high rest h.2) here in
         goes low p rest (opened_spans span.first rest) h.0 h.1 behind (next here)
 
--- nothing, either way; and one
+-- nothing is nothing either way, and a count of at most one as a choice
 no_way : (b : Bool) → ◌≡◌ {A = ℕ} (cond b 0 0) 0
 no_way true = refl
 no_way false = refl
@@ -231,7 +231,8 @@ module _ (high : ℕ) (span : Span) (low : ℕ) (spans : List Span) (h : SpansRi
   abbrev opened_begin : ℕ → ℕ
   opened_begin k = how_many_begin k (singles span.first (span_length span))
 
-  -- the span of an opened number comes to stand there if its status passes the test, and the one that is opened goes
+  -- What begins with a number and passes a test: before, with the spans of the opened numbers if their status passes; and
+  -- after, with the opened span if it passed.
   opened_there : (test : Status → Bool) (k : ℕ)
       → span_there test (beginning k (opened_spans span.first spans))
       + cond (span.first == k) (one_if (test span.status)) 0
@@ -286,17 +287,18 @@ module _ (high : ℕ) (span : Span) (low : ℕ) (spans : List Span) (h : SpansRi
           (omega (arith, no_way (test (Ready true))))
       over p rest opened order before next false is = next
 
-  -- they stand there where the span didn't
+  -- the opened numbers come to pass a test that the span didn't pass
   pub opened_comes : (test : Status → Bool) → test span.status ≡ false → test (Ready true) ≡ true → (k : ℕ)
       → span_there test (beginning k (opened_spans span.first spans))
       ≡ span_there test (beginning k spans) + opened_begin k
   opened_comes test none some k =
       let gone : cond (span.first == k) (one_if (test span.status)) 0 ≡ 0 =
       ap (λ b. cond (span.first == k) (one_if b) 0) none ∙ no_way (span.first == k) in
-      let come : cond (test (Ready true)) (opened_begin k) 0 ≡ opened_begin k = ap (λ b. cond b (opened_begin k) 0) some in
+      let come : cond (test (Ready true)) (opened_begin k) 0 ≡ opened_begin k =
+      ap (λ b. cond b (opened_begin k) 0) some in
       omega (arith, gone, come, opened_there test k)
 
-  -- or the span goes, and they don't come
+  -- or they don't pass: then nothing does that begins where the span did, and what begins elsewhere does as before
   pub opened_goes : (test : Status → Bool) → test (Ready true) ≡ false
       → span_there test (beginning span.first (opened_spans span.first spans)) ≡ 0
   opened_goes test none =

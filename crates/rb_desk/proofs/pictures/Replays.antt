@@ -19,7 +19,8 @@ use Rattle.rb_deliveries.specs.Spans.{cut_spans, first_ready, out_as, beginning,
 use Rattle.rb_desk.specs.Picture.{Picture, Subscription, empty_picture}
 use Rattle.rb_desk.specs.Calls.{subscribe, subscribed_picture, take, delivered_from, delivered_span, has_room, take_any}
 use Rattle.rb_desk.specs.Calls.{delivered_any_from, delivered_any_of, delivered_any_span, may_deliver, ack, acked_by}
-use Rattle.rb_desk.specs.Calls.{acked_span, nack, nacked_by, nacked_span, nack_opened, opened_by, opened_span, expire, reconnect, reconnected_picture}
+use Rattle.rb_desk.specs.Calls.{acked_span, nack, nacked_by, nacked_span, nack_opened, opened_by, opened_span}
+use Rattle.rb_desk.specs.Calls.{expire, reconnect, reconnected_picture}
 use Rattle.rb_desk.specs.Calls.{reconnected_by, unsubscribe, unsubscribed_picture, unsubscribed_by, goes_back, prepare}
 use Rattle.rb_desk.specs.Calls.{place, grown_subscription, close}
 use Rattle.rb_desk.specs.IsPicture.{AreInRange, IsPicture}

@@ -7,8 +7,8 @@ use Rattle.rb_desk.proofs.outlines.Outlines.{outlines_told}
 use Rattle.rb_desk.proofs.outlines.OutlineCalls.{Joined, TookOf, OutlineCallsTook, Stays, Relinked, Gone}
 use Rattle.rb_desk.proofs.outlines.OutlineCalls.{outline_calls_subscribe_tells, outline_calls_take_tells}
 use Rattle.rb_desk.proofs.outlines.OutlineCalls.{outline_calls_take_any_tells, outline_calls_ack_tells}
-use Rattle.rb_desk.proofs.outlines.OutlineCalls.{outline_calls_nack_tells, outline_calls_nack_opened_tells, expire_stays}
-use Rattle.rb_desk.proofs.outlines.OutlineCalls.{outline_calls_reconnect_tells}
+use Rattle.rb_desk.proofs.outlines.OutlineCalls.{outline_calls_nack_tells, outline_calls_nack_opened_tells}
+use Rattle.rb_desk.proofs.outlines.OutlineCalls.{expire_stays, outline_calls_reconnect_tells}
 use Rattle.rb_desk.proofs.outlines.OutlineCalls.{outline_calls_unsubscribe_tells, outline_calls_place_shows}
 use Rattle.rb_desk.proofs.outlines.OutlineCalls.{outline_calls_close_shows}
 use Rattle.rb_desk.proofs.laws.calls_show_in_outline.Goals as goal
