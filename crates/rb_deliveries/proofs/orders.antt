@@ -9,3 +9,4 @@ pub mod MomentLaws
 pub mod DueLaws
 pub mod ExpireLines
 pub mod ExpireOrder
+pub mod OpenedOrder

@@ -7,3 +7,4 @@ pub mod LaneChanges
 pub mod FirstLaws
 pub mod FoundLaws
 pub mod OpenedLaws
+pub mod OpenedSpans

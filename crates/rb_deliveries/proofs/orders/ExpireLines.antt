@@ -20,7 +20,7 @@ all_always P [] each = tt
 all_always P (x ∷ xs) each = (each x, all_always P xs each)
 
 -- of two tickets that one is earlier than t, and the other isn't, the first is earlier
-parted : (a b t : Ticket) → earlier a t ≡ true → earlier b t ≡ false → earlier a b ≡ true
+pub parted : (a b t : Ticket) → earlier a t ≡ true → earlier b t ≡ false → earlier a b ≡ true
 parted a b t h k = grind arith
 
 not_true : (b : Bool) → not b ≡ true → b ≡ false

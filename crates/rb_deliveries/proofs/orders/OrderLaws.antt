@@ -90,12 +90,12 @@ lane_own at s tagged (h ∷ lane) = by (at s h) (tagged s h) (lane_own at s tagg
     by (Some e) is rest = (ap (λ x. x.0) is, rest)
 
 -- what stands ahead of a lane's entries and behind them, whatever the lane is; under other numbers than the lane's
-record Around (at : At) (n k : ℕ) (lanes : List (List Held)) (s : ℕ) (lane : List Held) : Type 0 where
-  ahead : OrderEntries
-  behind : OrderEntries
-  whole : all_at at n lanes ≡ ahead ++ (filter_map (at k) lane ++ behind)
-  changed : (new : List Held) → all_at at n (slice_set lanes s new) ≡ ahead ++ (filter_map (at k) new ++ behind)
-  others : Tagged at → AllByRecursion (λ e. (e.1.0 == k) ≡ false) ahead
+pub record Around (at : At) (n k : ℕ) (lanes : List (List Held)) (s : ℕ) (lane : List Held) : Type 0 where
+  pub ahead : OrderEntries
+  pub behind : OrderEntries
+  pub whole : all_at at n lanes ≡ ahead ++ (filter_map (at k) lane ++ behind)
+  pub changed : (new : List Held) → all_at at n (slice_set lanes s new) ≡ ahead ++ (filter_map (at k) new ++ behind)
+  pub others : Tagged at → AllByRecursion (λ e. (e.1.0 == k) ≡ false) ahead
       × AllByRecursion (λ e. (e.1.0 == k) ≡ false) behind
 
 -- the entries of all subscriptions from a number on are under such numbers
@@ -145,7 +145,7 @@ around_from at n k (l ∷ lanes) (suc s) lane is found =
     }
 
 -- and where it is 0
-around : (at : At) (lanes : List (List Held)) (s : ℕ) (lane : List Held) → slice_get lanes s ≡ Some lane
+pub around : (at : At) (lanes : List (List Held)) (s : ℕ) (lane : List Held) → slice_get lanes s ≡ Some lane
     → Around at 0 s lanes s lane
 around at lanes s lane found = around_from at 0 s lanes s lane (omega arith) found
 
