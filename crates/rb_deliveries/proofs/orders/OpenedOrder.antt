@@ -60,8 +60,8 @@ abbrev pub opened_entries : ℕ → Ticket → ℕ → ℕ → OrderEntries
 opened_entries s latest n count = filter_map (ready_at s) (singles_held latest n count)
 
 -- a greater number's ticket is not earlier
-after_rises : (latest : Ticket) (n k : ℕ) → n ≤ k → earlier (ticket_after latest k) (ticket_after latest n) ≡ false
-after_rises latest n k le = grind arith
+greater_later : (latest : Ticket) (n k : ℕ) → n ≤ k → earlier (ticket_after latest k) (ticket_after latest n) ≡ false
+greater_later latest n k le = grind arith
 
 -- they are not earlier than a ticket that those of the numbers from n on are not earlier than
 entries_behind : (s : ℕ) (latest t : Ticket) (n count : ℕ)
@@ -74,7 +74,7 @@ entries_behind s latest t n (suc count) later =
 pub entries_rise : (s : ℕ) (latest : Ticket) (n count : ℕ) → Rises (opened_entries s latest n count)
 entries_rise s latest n zero = tt
 entries_rise s latest n (suc count) = (
-  entries_behind s latest (ticket_after latest n) (suc n) count (λ k le. after_rises latest n k (omega (arith, le))),
+  entries_behind s latest (ticket_after latest n) (suc n) count (λ k le. greater_later latest n k (omega (arith, le))),
   entries_rise s latest (suc n) count,
 )
 

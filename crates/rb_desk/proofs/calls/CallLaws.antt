@@ -182,7 +182,7 @@ out_running d sub span h = out_running_by sub.closed (out_as d (spans_of sub.lan
 
 -- ---- calls by what is kept
 
-same_link : (a b : ℕ) → a ≡ b → (b == a) ≡ true
+pub same_link : (a b : ℕ) → a ≡ b → (b == a) ≡ true
 same_link a b h = grind (arith, h)
 
 module _ (lim : Limits) (front : ℕ) (closing : Option ℕ) (clock next_link next_delivery : ℕ) (subs : List Sub) (s : ℕ)

@@ -9,11 +9,12 @@ use Rattle.rb_desk.specs.declared.refusal.DeskError.{DeskError}
 use Rattle.rb_desk.specs.declared.refusal.DeskError.TheVariants.{Refused}
 use Rattle.rb_deliveries.specs.Subs.{sub_out_as}
 use Rattle.rb_desk.specs.Answers.{DeskAnswers, call_refusal}
-use Rattle.rb_desk.specs.Calls.{ack, nack, reconnect, unsubscribe, refused_call, nacked_span}
+use Rattle.rb_desk.specs.Calls.{ack, nack, nack_opened, reconnect, unsubscribe, refused_call, nacked_span, opened_span}
 use Rattle.rb_desk.specs.Limits.{Limits}
 use Rattle.rb_desk.specs.Picture.{Picture}
 use Rattle.rb_desk.specs.Shown.{shown, shown_sub, FindsInFlight, FindsToReconnect, FindsToClose, IsInFlight}
 use Rattle.rb_desk.proofs.calls.CallLaws.{why_of, ack_none, ack_behind, acked, nack_kept, reconnect_ok, unsubscribe_kept}
+use Rattle.rb_desk.proofs.calls.OpenedCall.{opened_kept, opened_none}
 
 pub refused_answers : {A : Type 0} (result : Result A DeskError) (call : Result A DeskRefusal × Picture)
     (old : Picture) (why : DeskRefusal) → result ≡ Err (Refused why) → call ≡ refused_call old why
@@ -28,10 +29,13 @@ module _ (lim : Limits) (front : ℕ) (closing : Option ℕ) (clock next_link ne
         ≡ refused_call (shown lim front closing clock next_link next_delivery subs) refusal.NotInFlight)
         × (nack (shown lim front closing clock next_link next_delivery subs) s link d
         ≡ refused_call (shown lim front closing clock next_link next_delivery subs) refusal.NotInFlight)
+        × (nack_opened (shown lim front closing clock next_link next_delivery subs) s link d
+        ≡ refused_call (shown lim front closing clock next_link next_delivery subs) refusal.NotInFlight)
     nothing_out sub here link d cursor same none = (
       ack_none lim front closing clock next_link next_delivery subs s sub here link d cursor same none,
       nack_kept lim front closing clock next_link next_delivery subs s sub here link d same
           ∙ ap (nacked_span (shown lim front closing clock next_link next_delivery subs) s (shown_sub lim.batch front sub)) none,
+      opened_none lim front closing clock next_link next_delivery subs s sub here link d same none,
     )
 
     pub ack_goes : (link d cursor : ℕ) (span : Span) → IsInFlight subs s link d span → span.last ≤ cursor
@@ -57,6 +61,17 @@ module _ (lim : Limits) (front : ℕ) (closing : Option ℕ) (clock next_link ne
         ∙ ap (nacked_span (shown lim front closing clock next_link next_delivery subs) s (shown_sub lim.batch front t.sub)) t.out)
     nack_why link d (Err why) h = why_of (nack (shown lim front closing clock next_link next_delivery subs) s link d)
         (Err why) _ (h lim front closing clock next_link next_delivery 0).1
+
+    pub opened_why : (link d : ℕ) (result : Result Span DeskRefusal) → FindsInFlight result subs s link d
+        → call_refusal result
+        ≡ call_refusal (nack_opened (shown lim front closing clock next_link next_delivery subs) s link d).0
+    opened_why link d (Ok span) t =
+        why_of (nack_opened (shown lim front closing clock next_link next_delivery subs) s link d) (Ok _) _
+        (opened_kept lim front closing clock next_link next_delivery subs s t.sub t.found link d t.linked
+        ∙ ap (opened_span (shown lim front closing clock next_link next_delivery subs) s (shown_sub lim.batch front t.sub)) t.out)
+    opened_why link d (Err why) h =
+        why_of (nack_opened (shown lim front closing clock next_link next_delivery subs) s link d) (Err why) _
+        (h lim front closing clock next_link next_delivery 0).2
 
     pub reconnect_why : (cursor : ℕ) (result : Result ⊤ DeskRefusal) → FindsToReconnect result subs s cursor
         → call_refusal result
