@@ -9,7 +9,8 @@ use Rattle.rb_desk.specs.declared.refusal.DeskError.{DeskError}
 use Rattle.rb_desk.specs.declared.refusal.DeskError.TheVariants.{Refused}
 use Rattle.rb_deliveries.specs.Subs.{sub_out_as}
 use Rattle.rb_desk.specs.Answers.{DeskAnswers, call_refusal}
-use Rattle.rb_desk.specs.Calls.{ack, nack, nack_opened, reconnect, unsubscribe, refused_call, nacked_span, opened_span}
+use Rattle.rb_desk.specs.Calls.{ack, nack, reconnect, unsubscribe, refused_call, nacked_span}
+use Rattle.rb_desk.specs.Calls.{nack_opened, opened_span}
 use Rattle.rb_desk.specs.Limits.{Limits}
 use Rattle.rb_desk.specs.Picture.{Picture}
 use Rattle.rb_desk.specs.Shown.{shown, shown_sub, FindsInFlight, FindsToReconnect, FindsToClose, IsInFlight}
@@ -68,7 +69,8 @@ module _ (lim : Limits) (front : ℕ) (closing : Option ℕ) (clock next_link ne
     opened_why link d (Ok span) t =
         why_of (nack_opened (shown lim front closing clock next_link next_delivery subs) s link d) (Ok _) _
         (opened_kept lim front closing clock next_link next_delivery subs s t.sub t.found link d t.linked
-        ∙ ap (opened_span (shown lim front closing clock next_link next_delivery subs) s (shown_sub lim.batch front t.sub)) t.out)
+        ∙ ap (opened_span (shown lim front closing clock next_link next_delivery subs) s
+        (shown_sub lim.batch front t.sub)) t.out)
     opened_why link d (Err why) h =
         why_of (nack_opened (shown lim front closing clock next_link next_delivery subs) s link d) (Err why) _
         (h lim front closing clock next_link next_delivery 0).2

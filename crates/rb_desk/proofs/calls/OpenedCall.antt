@@ -26,7 +26,8 @@ module _ (lim : Limits) (front : ℕ) (closing : Option ℕ) (clock next_link ne
 
   pub opened_kept : (link d : ℕ) → sub.link ≡ link → nack_opened old s link d
       ≡ opened_span old s mine (sub_out_as d sub)
-  opened_kept link d same = opened_found old s link d mine (sub_shown lim.batch front s subs sub here) (same_link _ _ same)
+  opened_kept link d same =
+      opened_found old s link d mine (sub_shown lim.batch front s subs sub here) (same_link _ _ same)
       ∙ ap (opened_span old s mine) (out_shown lim.batch front d sub)
 
   pub opened_none : (link d : ℕ) → sub.link ≡ link → sub_out_as d sub ≡ None → nack_opened old s link d

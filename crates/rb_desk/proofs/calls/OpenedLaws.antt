@@ -1,6 +1,6 @@
 -- After a span is opened, what a desk stores shows the picture of that call.
-use Rattle.std.proofs.Common.{◌≡◌, ℕ, suc, ◌+◌, ◌-◌, ◌<◌, ◌≤◌, true, List, ◌∷◌, ◌++◌, map, Option, Some, filter, filter_map}
-use Rattle.std.proofs.Common.{slice_get, slice_set, sym, subst, ap, ◌∙◌, arith}
+use Rattle.std.proofs.Common.{◌≡◌, ℕ, suc, ◌+◌, ◌≤◌, true, List, ◌∷◌, ◌++◌, Option, Some, filter_map, slice_get}
+use Rattle.std.proofs.Common.{slice_set, sym, subst, ap, ◌∙◌, arith}
 use Rattle.std.specs.List.{AllByRecursion}
 use Rattle.rb_deliveries.specs.declared.span.Span.{Span}
 use Rattle.rb_deliveries.specs.declared.ticket.Ticket.{Ticket}
@@ -15,7 +15,6 @@ use Rattle.rb_deliveries.proofs.orders.Line.{all_second, all_then}
 use Rattle.rb_deliveries.proofs.orders.OrderLaws.{tagged_out, order_without}
 use Rattle.rb_deliveries.proofs.orders.OpenedOrder.{entries_late, entries_named, entries_rise, opened_entries}
 use Rattle.rb_deliveries.proofs.orders.OpenedOrder.{order_gains}
-use Rattle.rb_deliveries.proofs.spans.ChangeLaws.{Removes}
 use Rattle.rb_deliveries.proofs.spans.FoundLaws.{out_as_held}
 use Rattle.rb_deliveries.proofs.spans.JoinLaws.{joins_begin}
 use Rattle.rb_deliveries.proofs.spans.LaneChanges.{held_span, settled_changes}

@@ -1,4 +1,4 @@
-use Rattle.std.proofs.Common.{◌≡◌, ◌+◌, ◌-◌, ◌<◌, ◌≤◌, ◌∙◌, Ok, Err, ap, sym, refl, arith, rules}
+use Rattle.std.proofs.Common.{◌≡◌, ◌+◌, ◌-◌, ◌≤◌, ◌∙◌, Ok, Err, ap, sym, refl, arith, rules}
 use Rattle.std.proofs.lemmas.Result.{err_from_is_err_and}
 use Rattle.std.proofs.lemmas.Option.{slice_get_within}
 use Rattle.rb_deliveries.specs.Spans.{span_length}
@@ -22,7 +22,8 @@ returns-in_err-span c =
 pub returns-in_err-turn : goal.returns-in_err-turn
 returns-in_err-turn c =
     let d = c.self.inside in
-    let t : IsInFlight d.deliveries.subs c.args.sub c.args.link c.args.delivery c.in_ok-span.span = c.in_ok-span.ensures in
+    let span = c.in_ok-span.span in
+    let t : IsInFlight d.deliveries.subs c.args.sub c.args.link c.args.delivery span = c.in_ok-span.ensures in
     let found = err_from_is_err_and c.from_residual-in_err-turn.result c.from_residual-in_err-turn.ensures.1 in
     let call = opened_kept d.config d.front d.closing d.clock
     d.next_link d.next_delivery d.deliveries.subs c.args.sub t.sub t.found
@@ -46,7 +47,8 @@ open_up-requires-clause-latest c =
 pub returns-in_err-open_up : goal.returns-in_err-open_up
 returns-in_err-open_up c =
     let d = c.self.inside in
-    let t : IsInFlight d.deliveries.subs c.args.sub c.args.link c.args.delivery c.in_ok-span.span = c.in_ok-span.ensures in
+    let span = c.in_ok-span.span in
+    let t : IsInFlight d.deliveries.subs c.args.sub c.args.link c.args.delivery span = c.in_ok-span.ensures in
     let found = err_from_is_err_and c.from_residual-in_err-open_up.result
     c.from_residual-in_err-open_up.ensures.1 in
     let call = opened_kept d.config d.front d.closing d.clock
