@@ -6,7 +6,7 @@ use Rattle.std.specs.List.{AllByRecursion}
 use Rattle.rb_deliveries.specs.declared.ticket.Ticket.{Ticket}
 use Rattle.rb_deliveries.specs.declared.ticket.Held.{Held}
 use Rattle.rb_deliveries.specs.declared.sub.Sub.{Sub}
-use Rattle.rb_deliveries.specs.Spans.{single, span_length}
+use Rattle.rb_deliveries.specs.Spans.{single_span, span_length}
 use Rattle.rb_deliveries.specs.Lanes.{HeldRise, Lane}
 use Rattle.rb_deliveries.specs.Subs.{IsDrawn}
 
@@ -15,7 +15,7 @@ abbrev pub ticket_after : Ticket → ℕ → Ticket
 ticket_after latest n = record { front = latest.front; turn = latest.turn + n }
 
 abbrev pub single_held : Ticket → ℕ → Held
-single_held latest n = record { span = single n; ticket = ticket_after latest n }
+single_held latest n = record { span = single_span n; ticket = ticket_after latest n }
 
 -- `count` numbers from n on, each stored as a span of its own
 abbrev pub singles_held : Ticket → ℕ → ℕ → List Held

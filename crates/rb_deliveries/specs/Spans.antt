@@ -80,12 +80,12 @@ abbrev pub span_length : Span → ℕ
 span_length p = suc p.last - p.first
 
 -- `count` numbers from n on, each a ready span of its own, which counts as taken
-abbrev pub single : ℕ → Span
-single n = record { first = n; last = n; status = Ready true }
+abbrev pub single_span : ℕ → Span
+single_span n = record { first = n; last = n; status = Ready true }
 
 abbrev pub singles : ℕ → ℕ → List Span
 singles n zero = []
-singles n (suc count) = single n ∷ singles (suc n) count
+singles n (suc count) = single_span n ∷ singles (suc n) count
 
 -- opens the span that begins with this number: each of its numbers is a span in its place
 abbrev pub opened_spans : ℕ → List Span → List Span

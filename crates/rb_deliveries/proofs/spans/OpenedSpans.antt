@@ -7,7 +7,7 @@ use Rattle.std.proofs.lemmas.List.Elements.{filter_map-append}
 use Rattle.rb_deliveries.specs.declared.span.Span.{Span}
 use Rattle.rb_deliveries.specs.declared.ticket.Ticket.{Ticket}
 use Rattle.rb_deliveries.specs.declared.ticket.Held.{Held}
-use Rattle.rb_deliveries.specs.Spans.{cut_spans, opened_spans, single, singles, span_length}
+use Rattle.rb_deliveries.specs.Spans.{cut_spans, opened_spans, single_span, singles, span_length}
 use Rattle.rb_deliveries.specs.Lanes.{Lane, HeldRise, floor_before, lane_held, spans_of, ticketed}
 use Rattle.rb_deliveries.specs.Opening.{opened_held, opened_lane, singles_held}
 use Rattle.rb_deliveries.specs.Orders.{ready_at, out_at}
@@ -21,7 +21,7 @@ use Rattle.rb_deliveries.proofs.spans.JoinLaws.{Other, joins_begin, joins_cut}
 -- the stored numbers are spans of their own
 singles_stored : (latest : Ticket) (n count : ℕ) → spans_of (singles_held latest n count) ≡ singles n count
 singles_stored latest n zero = refl
-singles_stored latest n (suc count) = ap (λ (spans : List Span). single n ∷ spans) (singles_stored latest (suc n) count)
+singles_stored latest n (suc count) = ap (λ (spans : List Span). single_span n ∷ spans) (singles_stored latest (suc n) count)
 
 -- the spans are those with this one opened
 spans_opened : (first : ℕ) (latest : Ticket) (xs : List Held)

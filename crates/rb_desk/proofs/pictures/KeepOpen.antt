@@ -4,7 +4,7 @@ use Rattle.std.proofs.Common.{Option, Some, None, slice_get, slice_set, eq-eqb, 
 use Rattle.rb_deliveries.specs.declared.span.Span.{Span}
 use Rattle.rb_desk.specs.declared.refusal.DeskRefusal.TheVariants as refusal
 use Rattle.rb_deliveries.specs.Spans.{is_ready, is_out, is_out_as, beginning, out_as, how_many_out, opened_spans}
-use Rattle.rb_deliveries.specs.Spans.{single, singles, span_length}
+use Rattle.rb_deliveries.specs.Spans.{single_span, singles, span_length}
 use Rattle.rb_desk.specs.Picture.{Picture, Subscription}
 use Rattle.rb_desk.specs.Calls.{named, without_span, opened_picture, nack_opened, opened_by, opened_span, refused_call}
 use Rattle.rb_desk.specs.IsPicture.{IsPicture, IsGoodSubscription, IsGoodSpan, SpansRise, how_often, span_there, out_in}
@@ -36,7 +36,7 @@ module _ (p : Picture) (s : ℕ) (q : Subscription) (span : Span) (good : IsPict
   offered = was.handed_out.0 (out_not_fresh span.status out)
 
   good_alone : (k : ℕ) → span.first ≤ k → k ≤ span.last
-      → IsGoodSpan p.limits.batch q.offered p.next_delivery (single k)
+      → IsGoodSpan p.limits.batch q.offered p.next_delivery (single_span k)
   good_alone k from to = record {
     short = omega (arith, was.short, from, to);
     handed_out = (λ taken. omega (arith, offered, to), tt);

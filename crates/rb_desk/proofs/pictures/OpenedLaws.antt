@@ -7,7 +7,7 @@ use Rattle.std.proofs.lemmas.Bool.{cases_lt, cases_eq}
 use Rattle.rb_deliveries.specs.declared.span.Span.{Span}
 use Rattle.rb_deliveries.specs.declared.span.Status.{Status}
 use Rattle.rb_deliveries.specs.declared.span.Status.TheVariants.{Ready}
-use Rattle.rb_deliveries.specs.Spans.{beginning, floor_of, opened_spans, single, singles, span_length}
+use Rattle.rb_deliveries.specs.Spans.{beginning, floor_of, opened_spans, single_span, singles, span_length}
 use Rattle.rb_desk.specs.IsPicture.{SpansRise, IsInSpan, one_if, span_there}
 use Rattle.rb_desk.proofs.pictures.PictureLaws.{count_cons, count_append}
 use Rattle.rb_desk.proofs.pictures.RiseLaws.{rise_begins, rise_lower, none_begins, all_spans_found}
@@ -39,7 +39,7 @@ in_behind k (p ∷ front) rest i = inr (in_behind k front rest i)
 
 -- what holds of each number's span, and of those behind, holds of all
 singles_all : (P : Span → Type 0) (n count : ℕ) (rest : List Span)
-    → ((k : ℕ) → n ≤ k → k < n + count → P (single k)) → AllByRecursion P rest
+    → ((k : ℕ) → n ≤ k → k < n + count → P (single_span k)) → AllByRecursion P rest
     → AllByRecursion P (singles n count ++ rest)
 singles_all P n zero rest each h = h
 singles_all P n (suc count) rest each h = (
@@ -52,7 +52,7 @@ singles_none : (test : Status → Bool) (n count : ℕ) → test (Ready true) �
     → length (filter (λ (p : Span). test p.status) (singles n count)) ≡ 0
 singles_none test n zero none = refl
 singles_none test n (suc count) none =
-    count_cons (λ (p : Span). test p.status) (single n) (singles (suc n) count)
+    count_cons (λ (p : Span). test p.status) (single_span n) (singles (suc n) count)
     ∙ (λ i. one_if (none i) + singles_none test (suc n) count none i)
 
 -- the first one begins with the first number
@@ -68,7 +68,7 @@ how_many_begin k spans = length (filter (λ (p : Span). p.first == k) spans)
 abbrev IsOneOf : ℕ → ℕ → ℕ → List Span → Type 0
 IsOneOf k n count rest =
     (n ≤ k) × (k < n + count) × (how_many_begin k (singles n count) ≡ 1)
-    × (beginning k (singles n count ++ rest) ≡ Some (single k))
+    × (beginning k (singles n count ++ rest) ≡ Some (single_span k))
 
 abbrev IsNoneOf : ℕ → ℕ → ℕ → List Span → Type 0
 IsNoneOf k n count rest =
@@ -84,7 +84,7 @@ singles_begin k n zero rest = inr (by (cases_lt k n), refl, refl)
 singles_begin k n (suc count) rest = by (cases_eq n k) (singles_begin k (suc n) count rest)
   where
     more : how_many_begin k (singles n (suc count)) ≡ one_if (n == k) + how_many_begin k (singles (suc n) count)
-    more = count_cons (λ (p : Span). p.first == k) (single n) (singles (suc n) count)
+    more = count_cons (λ (p : Span). p.first == k) (single_span n) (singles (suc n) count)
 
     here : n ≡ k → how_many_begin k (singles (suc n) count) ≡ 0 → IsOneOf k n (suc count) rest
     here e none =
@@ -92,7 +92,7 @@ singles_begin k n (suc count) rest = by (cases_eq n k) (singles_begin k (suc n) 
           omega (arith, e),
           omega (arith, e),
           omega (arith, more, one, none),
-          rw (eq-eqb n k e) (ap (λ m. Some (single m)) e),
+          rw (eq-eqb n k e) (ap (λ m. Some (single_span m)) e),
         )
 
     there : (n ≡ k → ⊥) → beginning k (singles n (suc count) ++ rest) ≡ beginning k (singles (suc n) count ++ rest)
@@ -198,7 +198,7 @@ module _ (high : ℕ) (span : Span) (low : ℕ) (spans : List Span) (h : SpansRi
       over p rest opened next (inr there) = inr (next there)
 
   -- what holds of all, and of each opened number's span, holds of all then
-  pub opened_all : (P : Span → Type 0) → ((k : ℕ) → span.first ≤ k → k ≤ span.last → P (single k))
+  pub opened_all : (P : Span → Type 0) → ((k : ℕ) → span.first ≤ k → k ≤ span.last → P (single_span k))
       → AllByRecursion P spans → AllByRecursion P (opened_spans span.first spans)
   opened_all P each =
       opened_induction (λ low spans opened. AllByRecursion P spans → AllByRecursion P opened) high span
