@@ -72,10 +72,10 @@ counted_count bytes text len count read only within s =
     (number, omega (arith, so.long), rw (number, place) so.behind)
 
 -- fewer bytes than the length says
-pub counted_short : (bytes rest text : List ℕ) (len count read : ℕ) → OnlyCount bytes (Some (count, read))
+pub field_counted_short : (bytes rest text : List ℕ) (len count read : ℕ) → OnlyCount bytes (Some (count, read))
     → rest ≡ drop read bytes → length rest < count → len ≤ length bytes → SpellsBytes (take len bytes) text
     → ⊥
-counted_short bytes rest text len count read only is few within s =
+field_counted_short bytes rest text len count read only is few within s =
     let same = counted_count bytes text len count read only within s in
     omega (arith, same.1, ap length is, length-drop read bytes)
 
@@ -144,10 +144,10 @@ integer_typed rest n enough is =
     ap (λ (b : Bool). integer_by b rest) long ∙ ap (λ (m : ℤ). (Is (Integer m), drop 8 rest)) (sym is)
 
 -- the code's number, which it hands on as 64 bits
-pub same_number : (read : ℤ) (text rest : List ℕ) → FitsSigned w64 read
+pub same_field_number : (read : ℤ) (text rest : List ℕ) → FitsSigned w64 read
     → read ≡ cast_signed w64 (from_be_bytes w64 text) → text ≡ take 8 rest
     → to_z w64 (of_z w64 read) ≡ cast_signed w64 (from_be_bytes w64 (take 8 rest))
-same_number read text rest fits value same = to_z-of_z w64 read fits
+same_field_number read text rest fits value same = to_z-of_z w64 read fits
     ∙ (value ∙ ap (λ (w : List ℕ). cast_signed w64 (from_be_bytes w64 w)) same)
 
 pub found_integer : (bytes rest : List ℕ) (kind : ℕ) (n : ℤ) → bytes ≡ kind ∷ rest → kind ≡ 1 → 8 ≤ length rest
@@ -201,10 +201,10 @@ none_front len kind rest (Is (Blob text)) undefined few counted null within spel
 none_front len kind rest (Is Null) undefined few counted null within spells =
     null (front_so len kind rest 5 [] within spells).kind_is
 
-pub no_field : (bytes rest : List ℕ) (kind len : ℕ) (field : Field) → bytes ≡ kind ∷ rest → (kind ≡ 0 → ⊥)
+pub no_field_read : (bytes rest : List ℕ) (kind len : ℕ) (field : Field) → bytes ≡ kind ∷ rest → (kind ≡ 0 → ⊥)
     → (kind ≡ 1 → length rest < 8) → (3 ≤ kind → kind < 5 → NoneCounted rest) → (kind ≡ 5 → ⊥) → len ≤ length bytes
     → SpellsField (take len bytes) field
     → ⊥
-no_field bytes rest kind len field whole undefined few counted null within spells =
+no_field_read bytes rest kind len field whole undefined few counted null within spells =
     none_front len kind rest field undefined few counted null (omega (arith, ap length whole))
     (subst (λ (w : List ℕ). SpellsField (take len w) field) whole spells)

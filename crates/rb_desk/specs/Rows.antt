@@ -103,10 +103,10 @@ pub opens_three : (nack_opened three_taken 0 1 1).0 ≡ Ok 3
 unfolding subscribe take nack_opened prepare place after_step cut_spans
 opens_three = refl
 
-pub each_alone : (take three_opened 0 1 0 0).0
+pub taken_alone : (take three_opened 0 1 0 0).0
     ≡ Ok (record { number = 2; sub = 0; link = 1; first = 1; last = 1 })
 unfolding subscribe take nack_opened prepare place after_step cut_spans
-each_alone = refl
+taken_alone = refl
 
 pub by_rising_number : (take_any (replayed three_opened (TakeAny 0 ∷ TakeAny 0 ∷ [])) 0).0
     ≡ Ok (record { number = 4; sub = 0; link = 1; first = 3; last = 3 })

@@ -10,7 +10,7 @@ use Rattle.rb_deliveries.proofs.lists.KeyLaws.{SetsSlot, has_as, has_pushed, key
 use Rattle.rb_deliveries.proofs.lists.RiseLaws.{SlotAhead, IsLess, rise_kept, rise_joined, tickets_rise, rise_tickets}
 use Rattle.rb_deliveries.proofs.lists.RiseLaws.{numbers_in_order, in_order_numbers}
 use Rattle.rb_deliveries.proofs.lists.ListedLaws.{still_listed}
-use Rattle.rb_deliveries.proofs.lists.PutLaws.{has_between, put_there}
+use Rattle.rb_deliveries.proofs.lists.PutLaws.{put_has_between, put_key_there}
 use Rattle.rb_deliveries.proofs.lists.StandLaws.{StandAs, standing, records_stand, not_among, out_stand, slot_changed}
 
 module _ (old new : Lanes Held) (at key : ℕ) (h : Held) (before after : List ℕ) (are : AreWoven old)
@@ -35,7 +35,7 @@ module _ (old new : Lanes Held) (at key : ℕ) (h : Held) (before after : List �
 
   pub added_has : (other : ℕ) → lists_key other all_then ≡ cond (eqb key other) true (lists_key other all)
   added_has other =
-      has_between key other (before ++ at ∷ []) after
+      put_has_between key other (before ++ at ∷ []) after
       ∙ ap (λ ks. cond (eqb key other) true (lists_key other ks)) (append_assoc before (at ∷ []) after ∙ sym keys)
 
   -- the new record, and the others
@@ -52,7 +52,7 @@ module _ (old new : Lanes Held) (at key : ℕ) (h : Held) (before after : List �
       slots_are = refl;
       two_lists = adds.first ∙ ap (pushed_back 0 key) are.two;
       one_list = adds.second ∙ ap (put_after at key) (are.one ∙ ap (λ ks. ks ∷ []) keys)
-          ∙ ap (λ ks. ks ∷ []) (put_there at key before after not_before not_after
+          ∙ ap (λ ks. ks ∷ []) (put_key_there at key before after not_before not_after
           ∙ sym (append_assoc before (at ∷ []) (key ∷ after)));
     }
 

@@ -29,9 +29,9 @@ use Rattle.rb_deliveries.proofs.spans.OpenedLaws.{opened_between, singles_more}
 -- ---- tickets
 
 -- a ticket that was drawn comes before that of each number from 1 on
-drawn_before : (latest t : Ticket) (n : ℕ) → IsDrawn latest.front latest.turn t → 1 ≤ n →
+opened_drawn_before : (latest t : Ticket) (n : ℕ) → IsDrawn latest.front latest.turn t → 1 ≤ n →
     earlier t (ticket_after latest n) ≡ true
-drawn_before latest t n drawn some = before t.front t.turn latest.front latest.turn drawn.0 drawn.1
+opened_drawn_before latest t n drawn some = before t.front t.turn latest.front latest.turn drawn.0 drawn.1
   where
     before : (f u g v : ℕ) → f ≤ g → u ≤ v →
         earlier (record { front = f; turn = u }) (record { front = g; turn = v + n }) ≡ true
@@ -135,7 +135,7 @@ module _ (old one two new : Lanes Held) (first last key flying : ℕ) (latest : 
   begun_woven : AreWoven new
   begun_woven =
       line_records old one two new key (λ h. single_held latest first) are moves is.there is.kept joins refl refl
-      (λ k there. drawn_before latest (ticket_under old.slots k) first
+      (λ k there. opened_drawn_before latest (ticket_under old.slots k) first
       (drawn_there k (ready_key old.slots (nth_list 0 old.first) (nth_list 1 old.first) all are.listed k there).0)
       numbers_there.0)
 
@@ -171,7 +171,7 @@ module _ (old one two new : Lanes Held) (first last key flying : ℕ) (latest : 
           earlier (cond b (single_held latest first) (held_under old.slots k)).ticket (ticket_after latest (first + 1))
           ≡ true
       by_key true = less_before latest first (first + 1) (omega arith)
-      by_key false = drawn_before latest (ticket_under old.slots k) (first + 1) (drawn_there k there) (omega arith)
+      by_key false = opened_drawn_before latest (ticket_under old.slots k) (first + 1) (drawn_there k there) (omega arith)
 
   module _ (ends : last ≡ (held_under old.slots key).span.last) (splits : SplitsAt key all) where
     not_behind : lists_key key splits.after ≡ false

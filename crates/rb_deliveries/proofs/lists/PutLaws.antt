@@ -7,15 +7,15 @@ use Rattle.std.proofs.lemmas.List.Folds.{list_any-append}
 use Rattle.rb_deliveries.specs.Taken.{lists_key}
 use Rattle.rb_deliveries.proofs.lists.KeyLaws.{key_differs, key_same, or_else}
 
-neither : (a b : Bool) → (a || b) ≡ false → (a ≡ false) × (b ≡ false)
-neither true b is = absurd cc
-neither false b is = (refl, is)
+put_neither : (a b : Bool) → (a || b) ≡ false → (a ≡ false) × (b ≡ false)
+put_neither true b is = absurd cc
+put_neither false b is = (refl, is)
 
--- a key that is not in a list is in neither part of it
+-- a key that is not in a list is in put_neither part of it
 pub not_in_parts : (key : ℕ) (xs ys : List ℕ) → lists_key key (xs ++ ys) ≡ false →
     (lists_key key xs ≡ false) × (lists_key key ys ≡ false)
 not_in_parts key xs ys free =
-    neither (lists_key key xs) (lists_key key ys) (sym (list_any-append (eqb key) xs ys) ∙ free)
+    put_neither (lists_key key xs) (lists_key key ys) (sym (list_any-append (eqb key) xs ys) ∙ free)
 
 -- ---- where a key stands first
 
@@ -52,24 +52,24 @@ put_key at key = flat_map (λ other. cond (eqb at other) (other ∷ key ∷ []) 
 put_nowhere : (at key : ℕ) (keys : List ℕ) → lists_key at keys ≡ false → put_key at key keys ≡ keys
 put_nowhere at key [] apart = refl
 put_nowhere at key (k ∷ keys) apart =
-    let both = neither (eqb at k) (lists_key at keys) apart in
+    let both = put_neither (eqb at k) (lists_key at keys) apart in
     ap (λ b. cond b (k ∷ key ∷ []) (k ∷ []) ++ put_key at key keys) both.0
     ∙ ap (λ ks. k ∷ ks) (put_nowhere at key keys both.1)
 
-pub put_there : (at key : ℕ) (before after : List ℕ) → lists_key at before ≡ false → lists_key at after ≡ false →
+pub put_key_there : (at key : ℕ) (before after : List ℕ) → lists_key at before ≡ false → lists_key at after ≡ false →
     put_key at key (before ++ at ∷ after) ≡ before ++ at ∷ key ∷ after
-put_there at key [] after not_before not_after =
+put_key_there at key [] after not_before not_after =
     ap (λ b. cond b (at ∷ key ∷ []) (at ∷ []) ++ put_key at key after) (key_same at)
     ∙ ap (λ ks. at ∷ key ∷ ks) (put_nowhere at key after not_after)
-put_there at key (k ∷ before) after not_before not_after =
-    let both = neither (eqb at k) (lists_key at before) not_before in
+put_key_there at key (k ∷ before) after not_before not_after =
+    let both = put_neither (eqb at k) (lists_key at before) not_before in
     ap (λ b. cond b (k ∷ key ∷ []) (k ∷ []) ++ put_key at key (before ++ at ∷ after)) both.0
-    ∙ ap (λ ks. k ∷ ks) (put_there at key before after both.1 not_after)
+    ∙ ap (λ ks. k ∷ ks) (put_key_there at key before after both.1 not_after)
 
 -- what a list has with a key between two parts
-pub has_between : (key other : ℕ) (xs ys : List ℕ) → lists_key other (xs ++ key ∷ ys)
+pub put_has_between : (key other : ℕ) (xs ys : List ℕ) → lists_key other (xs ++ key ∷ ys)
     ≡ cond (eqb key other) true (lists_key other (xs ++ ys))
-has_between key other [] ys = elim (eqb_tells key other) [
+put_has_between key other [] ys = elim (eqb_tells key other) [
   | inl same ↦
       ap (λ b. b || lists_key other ys) (subst (λ o. eqb o key ≡ true) same.1 (key_same key))
       ∙ ap (λ b. cond b true (lists_key other ys)) (sym same.0)
@@ -77,8 +77,8 @@ has_between key other [] ys = elim (eqb_tells key other) [
       ap (λ b. b || lists_key other ys) (key_differs other key (λ e. differs.1 (sym e)))
       ∙ ap (λ b. cond b true (lists_key other ys)) (sym differs.0)
 ]
-has_between key other (x ∷ xs) ys =
-    ap (λ b. eqb other x || b) (has_between key other xs ys)
+put_has_between key other (x ∷ xs) ys =
+    ap (λ b. eqb other x || b) (put_has_between key other xs ys)
     ∙ by_key (eqb key other) (eqb other x) (lists_key other (xs ++ ys))
   where
     by_key : (b c d : Bool) → (c || cond b true d) ≡ cond b true (c || d)

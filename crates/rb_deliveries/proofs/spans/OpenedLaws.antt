@@ -74,10 +74,10 @@ module _ (first : ℕ) (latest : Ticket) where
   joins_tried (Err e) low next old new ok err rise = subst (λ held. HeldRise low held next) (sym err) rise
 
 -- a turn is left for each of their numbers
-pub turns_left : (turn most low next : ℕ) (held : List Held) → HeldRise low held next → turn + next ≤ most →
+pub opened_turns_left : (turn most low next : ℕ) (held : List Held) → HeldRise low held next → turn + next ≤ most →
     AllByRecursion (λ h. turn + h.span.last < most) held
-turns_left turn most low next [] rise few = tt
-turns_left turn most low next (h ∷ rest) rise few = (
+opened_turns_left turn most low next [] rise few = tt
+opened_turns_left turn most low next (h ∷ rest) rise few = (
   omega (arith, joins_reach (suc h.span.last) next rest rise.2, few),
-  turns_left turn most (suc h.span.last) next rest rise.2 few,
+  opened_turns_left turn most (suc h.span.last) next rest rise.2 few,
 )

@@ -1,6 +1,6 @@
 use Rattle.std.proofs.Common.{arith}
 use Rattle.std.proofs.lemmas.List.{take_rest}
-use Rattle.cs_model.proofs.FieldReads.{counted_none, counted_short, counted_found, counted_only}
+use Rattle.cs_model.proofs.FieldReads.{counted_none, field_counted_short, counted_found, counted_only}
 use Rattle.cs_model.proofs.field.counted_read.Goals as goal
 
 pub returns-in_err-count-clause-only : goal.returns-in_err-count-clause-only
@@ -10,7 +10,7 @@ returns-in_err-count-clause-only c = λ text len within s.
 pub returns-then-rest-count-clause-only : goal.returns-then-rest-count-clause-only
 returns-then-rest-count-clause-only c = λ text len within s.
     let bytes = c.args.bytes.now in
-    absurd (counted_short bytes _ text len _ _ c.in_ok-count.ensures.only (take_rest bytes c.in_ok-count.read)
+    absurd (field_counted_short bytes _ text len _ _ c.in_ok-count.ensures.only (take_rest bytes c.in_ok-count.read)
     (omega arith) within s)
 
 pub returns-clause-found : goal.returns-clause-found

@@ -2,34 +2,34 @@ use Rattle.std.proofs.Common.{arith, rules}
 use Rattle.cs_model.specs.declared.value.Value.TheVariants.{Null}
 use Rattle.cs_model.specs.declared.value.Field.TheVariants.{Undefined, Is}
 use Rattle.cs_model.proofs.PackedLaws.{none_back, null_back}
-use Rattle.cs_model.proofs.FieldReads.{only_typed, text_typed, blob_typed, integer_typed, same_number, found_integer}
-use Rattle.cs_model.proofs.FieldReads.{no_field}
+use Rattle.cs_model.proofs.FieldReads.{only_typed, text_typed, blob_typed, integer_typed, same_field_number, found_integer}
+use Rattle.cs_model.proofs.FieldReads.{no_field_read}
 use Rattle.cs_model.proofs.field.field_read.Goals as goal
 
 pub returns-in_err-number-in-1-clause-only : goal.returns-in_err-number-in-1-clause-only
 returns-in_err-number-in-1-clause-only c = λ field len fits within spells.
     let first = c.in_ok-kind in
-    absurd (no_field c.args.bytes.now first.rest.now _ len field first.ensures.cases.0 (λ is. omega arith)
+    absurd (no_field_read c.args.bytes.now first.rest.now _ len field first.ensures.cases.0 (λ is. omega arith)
     (λ is. c.in_err-number-in-1.ensures.cases) (λ low high. absurd (omega arith)) (λ is. omega arith) within spells)
 
 pub returns-in_err-text-in-3-clause-only : goal.returns-in_err-text-in-3-clause-only
 returns-in_err-text-in-3-clause-only c = λ field len fits within spells.
     let first = c.in_ok-kind in
-    absurd (no_field c.args.bytes.now first.rest.now _ len field first.ensures.cases.0 (λ is. omega arith)
+    absurd (no_field_read c.args.bytes.now first.rest.now _ len field first.ensures.cases.0 (λ is. omega arith)
     (λ is. absurd (omega arith)) (λ low high text n inside s. cc (c.in_err-text-in-3.ensures.only text n inside s))
     (λ is. omega arith) within spells)
 
 pub returns-in_err-blob-in-4-clause-only : goal.returns-in_err-blob-in-4-clause-only
 returns-in_err-blob-in-4-clause-only c = λ field len fits within spells.
     let first = c.in_ok-kind in
-    absurd (no_field c.args.bytes.now first.rest.now _ len field first.ensures.cases.0 (λ is. omega arith)
+    absurd (no_field_read c.args.bytes.now first.rest.now _ len field first.ensures.cases.0 (λ is. omega arith)
     (λ is. absurd (omega arith)) (λ low high text n inside s. cc (c.in_err-blob-in-4.ensures.only text n inside s))
     (λ is. omega arith) within spells)
 
 pub returns-in_default-clause-only : goal.returns-in_default-clause-only
 returns-in_default-clause-only c = λ field len fits within spells.
     let first = c.in_ok-kind in
-    absurd (no_field c.args.bytes.now first.rest.now _ len field first.ensures.cases.0 (λ is. omega arith)
+    absurd (no_field_read c.args.bytes.now first.rest.now _ len field first.ensures.cases.0 (λ is. omega arith)
     (λ is. absurd (omega arith)) (λ low high. absurd (omega arith)) (λ is. omega arith) within spells)
 
 pub returns-in-0-clause-only : goal.returns-in-0-clause-only
@@ -64,7 +64,7 @@ returns-in_ok-number-in-1-clause-found c =
     let chunk = c.in_ok-number-in-1.ensures.cases in
     found_integer c.args.bytes.now first.rest.now _ _ first.ensures.cases.0 c.in-1.is chunk.enough
     (λ i. omega (arith, c.type_inv.bytes i))
-    (same_number c.from_be_bytes.result _ first.rest.now (search rules) c.from_be_bytes.ensures chunk.same)
+    (same_field_number c.from_be_bytes.result _ first.rest.now (search rules) c.from_be_bytes.ensures chunk.same)
 
 pub returns-in_ok-number-in-1-clause-only : goal.returns-in_ok-number-in-1-clause-only
 returns-in_ok-number-in-1-clause-only c =
@@ -72,4 +72,4 @@ returns-in_ok-number-in-1-clause-only c =
     let chunk = c.in_ok-number-in-1.ensures.cases in
     only_typed c.args.bytes.now first.rest.now _ 1 8 _ first.ensures.cases.0 c.in-1.is chunk.enough
     (integer_typed first.rest.now _ chunk.enough
-    (same_number c.from_be_bytes.result _ first.rest.now (search rules) c.from_be_bytes.ensures chunk.same))
+    (same_field_number c.from_be_bytes.result _ first.rest.now (search rules) c.from_be_bytes.ensures chunk.same))

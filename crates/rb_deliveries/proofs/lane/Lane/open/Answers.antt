@@ -1,6 +1,6 @@
 use Rattle.std.proofs.Common.{ap, arith}
 use Rattle.rb_deliveries.proofs.spans.LaneLaws.{count_rising}
-use Rattle.rb_deliveries.proofs.spans.OpenedLaws.{joins_tried, turns_left}
+use Rattle.rb_deliveries.proofs.spans.OpenedLaws.{joins_tried, opened_turns_left}
 use Rattle.rb_deliveries.proofs.lane.Lane.open.Goals as goal
 
 pub open-requires-clause-few : goal.open-requires-clause-few
@@ -8,7 +8,7 @@ open-requires-clause-few c = omega (arith, count_rising _ _ _ c.self.invariant, 
 
 pub open-requires-clause-turns : goal.open-requires-clause-turns
 open-requires-clause-turns c =
-    turns_left c.args.latest.turn 18446744073709551616 1 c.self.inside.next c.self.inside.held c.self.invariant
+    opened_turns_left c.args.latest.turn 18446744073709551616 1 c.self.inside.next c.self.inside.held c.self.invariant
     (omega (arith, c.requires.turns, ap (λ k. k.next) c.self.view_is))
 
 pub invariant_of-self : goal.invariant_of-self
