@@ -4,7 +4,7 @@ use Rattle.rb_desk.specs.declared.delivery.Delivery.{Delivery}
 use Rattle.rb_desk.specs.declared.step.Step.{Step}
 use Rattle.rb_desk.specs.declared.step.Step.TheVariants as step
 use Rattle.rb_desk.specs.Calls.{subscribe, take, take_any, ack, nack, expire, reconnect, unsubscribe, prepare, place}
-use Rattle.rb_desk.specs.Calls.{close}
+use Rattle.rb_desk.specs.Calls.{close, nack_opened}
 use Rattle.rb_desk.specs.IsPicture.{IsPicture}
 use Rattle.rb_desk.specs.Outline.{outline_of}
 use Rattle.rb_desk.specs.Outline as outline
@@ -32,6 +32,8 @@ pub record DeskShows : Type 0 where
       ≡ (Ok floor, new) → outline_of new ≡ outline_of old
   pub nacks : (old : Picture) (s link number : ℕ) (new : Picture) → nack old s link number ≡ (Ok tt, new)
       → outline_of new ≡ outline_of old
+  pub opens : (old : Picture) (s link number count : ℕ) (new : Picture) → nack_opened old s link number
+      ≡ (Ok count, new) → outline_of new ≡ outline_of old
   pub expires : (old : Picture) (now many : ℕ) (new : Picture) → expire old now ≡ (many, new) → outline_of new
       ≡ outline_of old
   pub reconnects : (old : Picture) (s cursor link : ℕ) (new : Picture) → reconnect old s cursor ≡ (Ok link, new)
@@ -68,6 +70,11 @@ pub nack_keeps : KeepsPictures → (old : Picture) (s link number : ℕ) → IsP
     → KeepsLimits old (nack old s link number).1
 unfolding after_step
 nack_keeps keeps old s link number good = keeps old (step.Nack s link number) good
+
+pub open_keeps : KeepsPictures → (old : Picture) (s link number : ℕ) → IsPicture old
+    → KeepsLimits old (nack_opened old s link number).1
+unfolding after_step
+open_keeps keeps old s link number good = keeps old (step.NackOpened s link number) good
 
 pub expire_keeps : KeepsPictures → (old : Picture) (now : ℕ) → IsPicture old → KeepsLimits old (expire old now).1
 unfolding after_step

@@ -63,6 +63,10 @@ abbrev pub NackShows : Type 0
 NackShows = (old : Picture) (s link number : ℕ) (new : Picture) → desk.nack old s link number ≡ (Ok tt, new)
     → outline_of new ≡ outline_of old
 
+abbrev pub OpenShows : Type 0
+OpenShows = (old : Picture) (s link number count : ℕ) (new : Picture) → desk.nack_opened old s link number
+    ≡ (Ok count, new) → outline_of new ≡ outline_of old
+
 abbrev pub ExpireShows : Type 0
 ExpireShows = (old : Picture) (now many : ℕ) (new : Picture) → desk.expire old now ≡ (many, new) → outline_of new
     ≡ outline_of old
@@ -377,6 +381,31 @@ nacked_tells shows schema old world d (Some delivery) h =
 pub nack_tells : NackShows → (schema : List Shape) (old : State) (world : World) (d : ℕ) → IsToldBy schema old world
     → TellingGoes schema world (event.Nack d) (out.nacked old d)
 nack_tells shows schema old world d h = nacked_tells shows schema old world d (out.delivery_of old d) h
+
+split_tells : (schema : List Shape) (old : State) (world : World) (d : ℕ) (answer : Result ℕ DeskRefusal)
+    (picture : Picture) → ((count : ℕ) → answer ≡ Ok count → outline_of picture ≡ outline_of old.desk)
+    → IsToldBy schema old world
+    → TellingGoes schema world (event.NackOpened d) (out.opened_by_desk old answer picture)
+split_tells schema old world d (Err why) picture shown h =
+    nothing_told schema world (event.NackOpened d) (reply.Refused (refusal.Desk why)) old refl h
+split_tells schema old world d (Ok count) picture shown h =
+    nothing_told schema world (event.NackOpened d) (reply.Opened count)
+    (record old { desk = picture; steps = suc old.steps }) refl
+    (tell_deliveries_same_outline schema old world picture (shown count refl) h)
+
+opened_tells : OpenShows → (schema : List Shape) (old : State) (world : World) (d : ℕ) (found : Option Delivery)
+    → IsToldBy schema old world → TellingGoes schema world (event.NackOpened d) (out.opened_for old found)
+opened_tells shows schema old world d None h =
+    nothing_told schema world (event.NackOpened d) (reply.Refused refusal.NoDelivery) old refl h
+opened_tells shows schema old world d (Some delivery) h =
+    let call = desk.nack_opened old.desk delivery.sub delivery.link delivery.number in
+    split_tells schema old world d (answer_after old.steps call.0) call.1
+    (λ count ok. shows old.desk delivery.sub delivery.link delivery.number count call.1
+    (call_after old.steps call count ok)) h
+
+pub nack_opened_tells : OpenShows → (schema : List Shape) (old : State) (world : World) (d : ℕ)
+    → IsToldBy schema old world → TellingGoes schema world (event.NackOpened d) (out.opened old d)
+nack_opened_tells shows schema old world d h = opened_tells shows schema old world d (out.delivery_of old d) h
 
 expired_tells : (schema : List Shape) (old : State) (world : World) (now : ℕ) (answer : Result ℕ DeskRefusal)
     (picture : Picture) → outline_of picture ≡ outline_of old.desk → IsToldBy schema old world

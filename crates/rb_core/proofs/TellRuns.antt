@@ -21,9 +21,10 @@ use Rattle.rb_core.proofs.TellWithdrawals.{withdraw_tells}
 use Rattle.rb_core.proofs.TellSequence.{PlaceShows, CloseShows, turn_tells, close_tells}
 use Rattle.rb_core.proofs.TellSubscriptions.{SubscribeShows, ReconnectShows, UnsubscribeShows, subscribe_tells}
 use Rattle.rb_core.proofs.TellSubscriptions.{reconnect_tells, unsubscribe_tells}
-use Rattle.rb_core.proofs.TellDeliveries.{TakeShows, TakeAnyShows, AckShows, NackShows, ExpireShows, AcceptSteps}
+use Rattle.rb_core.proofs.TellDeliveries.{TakeShows, TakeAnyShows, AckShows, NackShows, OpenShows, ExpireShows}
 use Rattle.rb_core.proofs.TellFalls.{crash_tells, resume_tells}
-use Rattle.rb_core.proofs.TellDeliveries.{take_tells, take_any_tells, accept_tells, ack_tells, nack_tells, expire_tells}
+use Rattle.rb_core.proofs.TellDeliveries.{AcceptSteps, take_tells, take_any_tells, accept_tells, ack_tells}
+use Rattle.rb_core.proofs.TellDeliveries.{nack_tells, nack_opened_tells, expire_tells}
 
 -- every event keeps what a world keeps
 abbrev pub TellRunsKeepsWorlds : Type 0
@@ -46,6 +47,7 @@ pub record TellRunsLaws : Type 0 where
   pub accept : AcceptSteps
   pub ack : AckShows
   pub nack : NackShows
+  pub nack_opened : OpenShows
   pub expire : ExpireShows
 
 outcome_tells : TellRunsLaws → (schema : List Shape) (old : State) (world : World) (event : Event) → FeedsBytes event
@@ -74,6 +76,8 @@ outcome_tells laws schema old world (event.Crash d kept) feeds good h =
     crash_tells laws.accept schema old world d kept good h
 outcome_tells laws schema old world (event.Ack d) feeds good h = ack_tells laws.ack schema old world d h
 outcome_tells laws schema old world (event.Nack d) feeds good h = nack_tells laws.nack schema old world d h
+outcome_tells laws schema old world (event.NackOpened d) feeds good h =
+    nack_opened_tells laws.nack_opened schema old world d h
 outcome_tells laws schema old world (event.Expire now) feeds good h = expire_tells laws.expire schema old world now h
 outcome_tells laws schema old world (event.Reconnect s cursor) feeds good h =
     reconnect_tells laws.reconnect schema old world s cursor good h

@@ -17,12 +17,12 @@ use Rattle.rb_core.specs.declared.reply.Reply.{Reply}
 use Rattle.rb_core.specs.Outcome.{accepted_by, accepted_at, accepted_as, crashed_by, crashed_at, crashed_for}
 use Rattle.rb_core.specs.Outcome.{resumed_with, resumed_for, expired_by_desk, acked_by_desk, acked_at, acked_for}
 use Rattle.rb_core.specs.Outcome.{nacked_by_desk, nacked_for, reconnected_with, reconnected_for, unsubscribed_with}
-use Rattle.rb_core.specs.Outcome.{unsubscribed_for, with_endpoint}
+use Rattle.rb_core.specs.Outcome.{unsubscribed_for, with_endpoint, opened_by_desk, opened_for}
 use Rattle.rb_core.specs.Outcome as outcome
 use Rattle.rb_core.specs.State.{State, member_of_end, IsWorld}
 use Rattle.rb_core.proofs.DeskLaws.{KeepsLimits, KeepsPictures, DeskShows}
 use Rattle.rb_core.proofs.DeskLaws.{ack_keeps, nack_keeps, expire_keeps, reconnect_keeps}
-use Rattle.rb_core.proofs.DeskLaws.{unsubscribe_keeps}
+use Rattle.rb_core.proofs.DeskLaws.{unsubscribe_keeps, open_keeps}
 use Rattle.rb_core.proofs.Worlds.{worlds_changed, same_outline, set_end, same_end}
 use Rattle.rb_core.proofs.Worlds.{found_end, any_steps}
 use Rattle.rb_desk.proofs.journals.KeepLaws.{call_after}
@@ -130,6 +130,22 @@ nacked_keeps keeps shows old (Some delivery) good =
     returned_keeps old (answer_after old.steps call.0) call.1 good
     (nack_keeps keeps old.desk delivery.sub delivery.link delivery.number good.picture)
     (λ is. shows.nacks old.desk delivery.sub delivery.link delivery.number call.1 (call_after old.steps call tt is))
+
+split_keeps : (old : State) (r : Result ℕ DeskRefusal) (new : Picture) → IsWorld old → KeepsLimits old.desk new
+    → ((count : ℕ) → r ≡ Ok count → outline_of new ≡ outline_of old.desk) → IsWorld (opened_by_desk old r new).1
+split_keeps old (Ok count) new good picture same =
+    any_steps _ (suc old.steps) (same_outline old new good picture (same count refl))
+split_keeps old (Err why) new good picture same = good
+
+pub opened_keeps : KeepsPictures → DeskShows → (old : State) (found : Option Delivery) → IsWorld old
+    → IsWorld (opened_for old found).1
+opened_keeps keeps shows old None good = good
+opened_keeps keeps shows old (Some delivery) good =
+    let call = desk.nack_opened old.desk delivery.sub delivery.link delivery.number in
+    split_keeps old (answer_after old.steps call.0) call.1 good
+    (open_keeps keeps old.desk delivery.sub delivery.link delivery.number good.picture)
+    (λ count is. shows.opens old.desk delivery.sub delivery.link delivery.number count call.1
+    (call_after old.steps call count is))
 
 expired_by_keeps : (old : State) (r : Result ℕ DeskRefusal) (new : Picture) → IsWorld old → KeepsLimits old.desk new
     → outline_of new ≡ outline_of old.desk → IsWorld (expired_by_desk old r new).1

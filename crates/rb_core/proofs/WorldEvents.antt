@@ -38,7 +38,7 @@ use Rattle.rb_core.proofs.DeskLaws.{KeepsLimits, KeepsPictures, DeskShows, subsc
 use Rattle.rb_core.proofs.DeskLaws.{take_any_keeps}
 use Rattle.rb_core.proofs.DeskLaws.{close_keeps, place_keeps}
 use Rattle.rb_core.proofs.WorldDeliveries.{AcceptsBySteps, world_events_unless, accepted_as_keeps, crashed_for_keeps}
-use Rattle.rb_core.proofs.WorldDeliveries.{acked_keeps, nacked_keeps, world_events_expired_keeps}
+use Rattle.rb_core.proofs.WorldDeliveries.{acked_keeps, nacked_keeps, opened_keeps, world_events_expired_keeps}
 use Rattle.rb_core.proofs.WorldDeliveries.{world_events_reconnected_keeps, resumed_for_keeps}
 use Rattle.rb_core.proofs.WorldDeliveries.{world_events_unsubscribed_keeps}
 use Rattle.rb_core.proofs.Worlds.{apart, worlds_changed, handed_over, placed_next}
@@ -324,6 +324,7 @@ event_keeps keeps shows steps law old (event.Crash d kept) good =
     crashed_for_keeps steps old kept (delivery_of old d) good
 event_keeps keeps shows steps law old (event.Ack d) good = acked_keeps keeps shows old (delivery_of old d) good
 event_keeps keeps shows steps law old (event.Nack d) good = nacked_keeps keeps shows old (delivery_of old d) good
+event_keeps keeps shows steps law old (event.NackOpened d) good = opened_keeps keeps shows old (delivery_of old d) good
 event_keeps keeps shows steps law old (event.Expire now) good = world_events_expired_keeps keeps shows old now good
 event_keeps keeps shows steps law old (event.Reconnect s cursor) good =
     world_events_reconnected_keeps keeps shows old s cursor (slice_get old.endpoints s) refl good

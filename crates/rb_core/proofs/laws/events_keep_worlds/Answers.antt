@@ -14,6 +14,7 @@ returns c = λ old event given new good is.
       takes_any = c.calls_show_in_outline.ensures.take_any;
       acks = c.calls_show_in_outline.ensures.ack;
       nacks = c.calls_show_in_outline.ensures.nack;
+      opens = c.calls_show_in_outline.ensures.nack_opened;
       expires = c.calls_show_in_outline.ensures.expire;
       reconnects = c.calls_show_in_outline.ensures.reconnect;
       unsubscribes = c.calls_show_in_outline.ensures.unsubscribe;

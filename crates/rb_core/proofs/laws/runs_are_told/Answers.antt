@@ -20,6 +20,7 @@ laws_of c = record {
   accept = (λ old sequence delivery. c.accepting_is_step.ensures old (brought sequence delivery) delivery);
   ack = c.calls_show_in_outline.ensures.ack;
   nack = c.calls_show_in_outline.ensures.nack;
+  nack_opened = c.calls_show_in_outline.ensures.nack_opened;
   expire = c.calls_show_in_outline.ensures.expire;
 }
 
