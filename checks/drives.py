@@ -14,6 +14,7 @@ program must be there as `rt run` leaves it (README.md); the variable PROGRAM na
 | `commuting-..` | publishers whose changesets commute, as each has keys of its own; faulty lines among them |
 | `faulty-..` | one kind of fault, in lines of all publishers |
 | `conflict-..` | one publisher and deliveries of one entry; a changeset conflicts |
+| `opened-..-N` | one publisher and deliveries of up to 16 entries, which N threads apply; a changeset conflicts |
 | `recorded-..`, `sqlite-..` | one publisher with a history that SQLite recorded; the rows are those that SQLite had |
 | `bad-..` | a line of no form, first, in the middle or last |
 | `drive-two` | an INSERT, and an UPDATE of its row |
@@ -34,6 +35,8 @@ from changesets import CONFLICTS, FAULTS, Author, header, integer, shapes, strin
 
 TOP = os.path.join(os.path.dirname(os.path.abspath(__file__)), '..')
 DATA = os.path.join(TOP, 'crates', 'rb_drive_cases', 'data')
+# the conflicts of drives `opened-..`, and how many threads apply a delivery of each
+OPENED = {'an-insert-of-a-row': [1, 16], 'an-update-of-other-values': [1, 4], 'a-delete-of-no-row': [4, 16]}
 REPLICAS = ['drive-two', 'commuting-085', 'conflict-an-insert-of-a-row-1', 'recorded-text-keys']
 PROGRAM = os.path.normpath(os.path.join(TOP, os.environ.get('PROGRAM', 'crates/rb_run/out/rb_run')))
 
@@ -202,6 +205,28 @@ def conflict(kind, number):
     return Drive(name, [header(shape) for shape in schema], [(0, text) for text in texts], dict(options, batch=1))
 
 
+def opened(kind, appliers):
+    """One changeset conflicts, with a row that no changeset of the 16 before it and none after it changes. So each
+    delivery that has it conflicts, whichever others it has."""
+    name = 'opened-%s-%d' % (kind, appliers)
+    chance = random.Random(name)
+    schema = shapes(chance, 2)
+    while 0 not in schema[0][1]:
+        schema = shapes(chance, 2)
+    owners = {}
+    author, other = Author(chance, schema, owners, 0), Author(chance, schema, owners, 1)
+    head = header(schema[0])
+    texts = [other.changeset() for _ in range(chance.randrange(4))] + [head + author.insert(0)]
+    texts += [other.changeset() for _ in range(chance.randrange(16, 36))]
+    bad = CONFLICTS[kind](author)
+    front = b''.join(other.apart().insert(0) for _ in range(chance.randrange(2)))
+    texts += [other.apart().section(1, 2) + head + front + bad]
+    texts += [other.changeset() for _ in range(chance.randrange(2, 20))]
+    options = chosen(chance, subscribers=[None, 2], intake=[None, 1], batch=[None, 16])
+    return Drive(name, [header(shape) for shape in schema], [(0, text) for text in texts],
+                 dict(options, appliers=appliers))
+
+
 def recorded():
     """the histories that SQLite recorded, each with the rows that SQLite had"""
     for name, tables, texts, rows in histories.histories():
@@ -250,6 +275,9 @@ def all_drives():
     for kind in CONFLICTS:
         for number in (1, 2, 3):
             yield files_of(conflict(kind, number), 3)
+    for kind in OPENED:
+        for appliers in OPENED[kind]:
+            yield files_of(opened(kind, appliers), 3)
     for drive, rows in recorded():
         name, files = files_of(drive, 0)
         assert files['report'].decode().endswith(rows), '%s: other rows than SQLite had' % name

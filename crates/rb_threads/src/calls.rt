@@ -2,7 +2,7 @@
 //! made once more, and must answer as if nothing had happened.
 
 use crate::bench::Bench;
-use crate::given::{insert, schema};
+use crate::given::{delete, insert, schema};
 use crate::rows::put;
 use cs_apply::Tables;
 use rb_broker::{Hall, RefusedSubscription, SubscribeError, TakeError};
@@ -18,6 +18,8 @@ use std::test::Fail;
 pub enum Call {
     /// Sends the INSERT of this key, and places it.
     Put(u64),
+    /// Sends the DELETE of this key, and places it.
+    Delete(u64),
     /// After this number, with empty tables.
     Subscribe(u64),
     /// For this subscription, at this tick.
@@ -27,6 +29,7 @@ pub enum Call {
     Accept(usize),
     Ack(usize),
     Nack(usize),
+    Open(usize),
     Expire(u64),
     Reconnect(usize),
     Unsubscribe(usize),
@@ -45,6 +48,8 @@ pub enum Said {
     Accepted(u64),
     Floor(u64),
     Done,
+    /// How many numbers a delivery has that is opened.
+    Opened(u64),
     /// How many.
     Expired(u64),
     Link(u64),
@@ -106,13 +111,15 @@ impl<L: Hall> History<L> {
 
     fn call<R: Wait + Abort>(&mut self, rt: &R, alloc: Global, call: Call) -> Result<Said, Fail> {
         match call {
-            Call::Put(key) => self.put(rt, alloc, key),
+            Call::Put(key) => self.put(rt, alloc, &insert(key)),
+            Call::Delete(key) => self.put(rt, alloc, &delete(key)),
             Call::Subscribe(start) => self.subscribe(rt, alloc, start),
             Call::Take(sub, now) => self.take(rt, alloc, sub, now),
             Call::TakeAny(now) => self.take_any(rt, alloc, now),
             Call::Accept(delivery) => self.accept(alloc, delivery),
             Call::Ack(delivery) => self.ack(rt, alloc, delivery),
             Call::Nack(delivery) => self.nack(rt, alloc, delivery),
+            Call::Open(delivery) => self.nack_opened(rt, alloc, delivery),
             Call::Expire(now) => Ok(match self.bench.broker.expire(rt, alloc, now) {
                 Ok(many) => Said::Expired(many),
                 Err(error) => desk(error),
@@ -126,8 +133,8 @@ impl<L: Hall> History<L> {
         }
     }
 
-    fn put<R: Wait + Abort>(&mut self, rt: &R, alloc: Global, key: u64) -> Result<Said, Fail> {
-        let number = put(rt, alloc, &mut self.bench, &insert(key))?;
+    fn put<R: Wait + Abort>(&mut self, rt: &R, alloc: Global, text: &[u8]) -> Result<Said, Fail> {
+        let number = put(rt, alloc, &mut self.bench, text)?;
         Ok(Said::Placed(number))
     }
 
@@ -206,6 +213,22 @@ impl<L: Hall> History<L> {
         let subscription = made(self.subscriptions.get_mut(sub))?;
         match self.bench.broker.nack(rt, alloc, subscription, &delivery) {
             Ok(()) => Ok(Said::Done),
+            Err(error) => Ok(desk(error)),
+        }
+    }
+
+    fn nack_opened<R: Wait>(
+        &mut self,
+        rt: &R,
+        alloc: Global,
+        delivery: usize,
+    ) -> Result<Said, Fail> {
+        let delivery = *made(self.deliveries.get(delivery))?;
+        let sub = delivery.sub() as usize;
+        let subscription = made(self.subscriptions.get_mut(sub))?;
+        let broker = &self.bench.broker;
+        match broker.nack_opened(rt, alloc, subscription, &delivery) {
+            Ok(count) => Ok(Said::Opened(count)),
             Err(error) => Ok(desk(error)),
         }
     }

@@ -49,6 +49,7 @@ pub(crate) fn accept_all<L: Hall, R: Threads + Wait + Sync>(
             (0, _) => reconnect(rt, alloc, broker, subscription)?,
             (1, held) => expire(rt, alloc, broker, now, held)?,
             (2, Some(delivery)) => give_back(rt, alloc, broker, subscription, &delivery)?,
+            (3, Some(delivery)) => give_opened(rt, alloc, broker, subscription, &delivery)?,
             (_, None) => take(rt, alloc, broker, subscription, now)?,
             (_, Some(delivery)) => accept(rt, alloc, broker, subscription, delivery)?,
         };
@@ -93,6 +94,20 @@ fn give_back<L: Hall, R: Wait>(
     match broker.nack(rt, alloc, subscription, delivery) {
         Ok(()) | Err(DeskError::Refused(DeskRefusal::NotInFlight)) => Ok(None),
         Err(_) => Err("what is given back is refused"),
+    }
+}
+
+// each number of what it held is delivered alone then
+fn give_opened<L: Hall, R: Wait>(
+    rt: &R,
+    alloc: Global,
+    broker: &Broker<L>,
+    subscription: &mut Subscription<L>,
+    delivery: &Delivery,
+) -> Result<Option<Delivery>, &'static str> {
+    match broker.nack_opened(rt, alloc, subscription, delivery) {
+        Ok(_) | Err(DeskError::Refused(DeskRefusal::NotInFlight)) => Ok(None),
+        Err(_) => Err("what is opened is refused"),
     }
 }
 

@@ -7,10 +7,11 @@ use crate::bench::Bench;
 use crate::calls::{Call, History, Said};
 use crate::given::schema;
 use Call::{
-    Accept, Ack, Close, Expire, Nack, Put, Reconnect, Subscribe, Take, TakeAny, Unsubscribe,
+    Accept, Ack, Close, Delete, Expire, Nack, Open, Put, Reconnect, Subscribe, Take, TakeAny,
+    Unsubscribe,
 };
 use Said::{Accepted, Closed, Desk, Done, Drained, Expired, Floor, Link, Made, Placed, Refused};
-use cs_apply::Tables;
+use cs_apply::{Conflict, ConflictKind, Tables};
 use cs_model::Schema;
 use rb_broker::{Hall, Opened, RefusedSubscription, SubscribeError};
 use rb_desk::{Config, DeskRefusal};
@@ -77,6 +78,39 @@ fn what_is_given_back_goes_to_any(rt: HostRuntime) -> Result<(), Fail> {
     ];
     let opened = opened(rt.alloc(), 1, 2)?;
     counts::<Brand, _>(&rt, rt.alloc(), opened, &row, 6)
+}
+
+#[test]
+fn a_refused_batch_is_opened(rt: HostRuntime) -> Result<(), Fail> {
+    let row = [
+        (Subscribe(0), Made),
+        (Put(1), Placed(Some(1))),
+        (Delete(5), Placed(Some(2))),
+        (Put(2), Placed(Some(3))),
+        (Take(0, 0), delivery(1, 1, 3)),
+        (Accept(0), no_row_at(1)),
+        (Open(0), Said::Opened(3)),
+        (Put(3), Placed(Some(4))),
+        (Take(0, 0), delivery(2, 1, 1)),
+        (Accept(1), Accepted(1)),
+        (Ack(1), Floor(1)),
+        (Take(0, 0), delivery(3, 2, 2)),
+        (Accept(2), no_row_at(0)),
+        (Take(0, 0), delivery(4, 3, 3)),
+        (Accept(3), Refused(AcceptRefusal::Gap { expected: 2 })),
+        (Take(0, 0), delivery(5, 4, 4)),
+        (Open(0), Desk(DeskRefusal::NotInFlight)),
+        (Reconnect(0), Link(2)),
+        (Take(0, 0), delivery(6, 2, 4)),
+    ];
+    let opened = opened(rt.alloc(), 16, 4)?;
+    counts::<Brand, _>(&rt, rt.alloc(), opened, &row, 9)
+}
+
+// the conflict of a DELETE of no row, the change at this place of a delivery
+fn no_row_at(position: usize) -> Said {
+    let kind = ConflictKind::NotFound;
+    Refused(AcceptRefusal::Conflict(Conflict { position, kind }))
 }
 
 #[test]

@@ -1,4 +1,4 @@
-//! What the tests are given: a table, changesets of one INSERT, the rows that changesets leave,
+//! What the tests are given: a table, changesets of one change, the rows that changesets leave,
 //! items, brokers and publishers.
 
 ghost use Rattle.std.specs.Prelude.{◌≡◌, IfOk};
@@ -15,10 +15,19 @@ use std::test::Fail;
 
 /// An INSERT of (key, 'x') into a table `t` of two columns, the first of which is its key.
 pub fn insert(key: u64) -> [u8; 20] {
+    change(0x12, key)
+}
+
+/// A DELETE of (key, 'x') from it.
+pub fn delete(key: u64) -> [u8; 20] {
+    change(0x09, key)
+}
+
+fn change(operation: u8, key: u64) -> [u8; 20] {
     let k = key.to_be_bytes();
     [
-        0x54, 2, 1, 0, 0x74, 0, 0x12, 0, 1, k[0], k[1], k[2], k[3], k[4], k[5], k[6], k[7], 3, 1,
-        0x78,
+        0x54, 2, 1, 0, 0x74, 0, operation, 0, 1, k[0], k[1], k[2], k[3], k[4], k[5], k[6], k[7], 3,
+        1, 0x78,
     ]
 }
 
