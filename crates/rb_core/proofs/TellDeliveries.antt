@@ -404,7 +404,7 @@ opened_tells shows schema old world d (Some delivery) h =
     (call_after old.steps call count ok)) h
 
 pub nack_opened_tells : OpenShows → (schema : List Shape) (old : State) (world : World) (d : ℕ)
-    → IsToldBy schema old world → TellingGoes schema world (event.NackOpened d) (out.opened old d)
+    → IsToldBy schema old world → TellingGoes schema world (event.NackOpened d) (out.nacked_opened old d)
 nack_opened_tells shows schema old world d h = opened_tells shows schema old world d (out.delivery_of old d) h
 
 expired_tells : (schema : List Shape) (old : State) (world : World) (now : ℕ) (answer : Result ℕ DeskRefusal)

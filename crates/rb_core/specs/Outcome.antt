@@ -368,8 +368,8 @@ opened_for old (Some delivery) =
     (desk.nack_opened old.desk delivery.sub delivery.link delivery.number).0)
     (desk.nack_opened old.desk delivery.sub delivery.link delivery.number).1
 
-abbrev pub opened : State → ℕ → Reply × State
-opened old d = opened_for old (delivery_of old d)
+abbrev pub nacked_opened : State → ℕ → Reply × State
+nacked_opened old d = opened_for old (delivery_of old d)
 
 -- Expire: as the desk does.
 abbrev pub expired_by_desk : State → Result ℕ DeskRefusal → Picture → Reply × State
@@ -455,7 +455,7 @@ outcome old (event.Accept d) = accepted old d
 outcome old (event.Crash d kept) = crashed old d kept
 outcome old (event.Ack d) = acked old d
 outcome old (event.Nack d) = nacked old d
-outcome old (event.NackOpened d) = opened old d
+outcome old (event.NackOpened d) = nacked_opened old d
 outcome old (event.Expire now) = expired old now
 outcome old (event.Reconnect s cursor) = reconnected old s cursor
 outcome old (event.Resume s) = resumed old s
