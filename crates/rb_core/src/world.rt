@@ -96,6 +96,23 @@ impl World {
         entries.get(place as usize)
     }
 
+    /// The last number placed, or 0.
+    pub fn front(&self) -> u64
+        ensures { result ≡ length self.now.sequence }
+    {
+        self.parts.sequence.len() as u64
+    }
+
+    /// The last number that a subscription has accepted. Returns `None` if there is no such
+    /// subscription.
+    pub fn cursor(&self, subscription: u64) -> Option<u64>
+        ensures { result
+            ≡ option_map (λ end. end.cursor) (slice_get self.now.endpoints subscription) }
+    {
+        let end = self.parts.endpoints.get(subscription as usize)?;
+        Some(end.cursor())
+    }
+
     /// The rows of a subscription with their keys, sorted by table, then by the key's bytes.
     /// Returns `None` if there is no such subscription. Returns `AllocError` if memory runs out.
     pub fn rows(
