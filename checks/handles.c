@@ -1,0 +1,224 @@
+/* Calls every function of broker.h in one long run, once with each allocation refused. A call without memory is made
+ * again, and gives what it gives with memory, so it has changed nothing. Behind each run as many bytes are in use as
+ * before it. Prints the numbers. */
+#include "broker.h"
+#include "count.h"
+
+#include <stdio.h>
+#include <string.h>
+
+enum { MOST_NOTES = 600 };
+
+/* what the calls of a run gave: results and outputs */
+struct notes {
+    size_t count;
+    int64_t values[MOST_NOTES];
+};
+
+static struct notes wanted, found;
+static struct notes *notes;
+static long runs, starved, bad;
+
+static void note(int64_t value) {
+    if (notes->count < MOST_NOTES) notes->values[notes->count] = value;
+    notes->count++;
+}
+
+/* notes the result of a call, which is made again if there is no memory for it */
+#define CALL(call)                                                                                                     \
+    do {                                                                                                               \
+        int64_t given_ = (call);                                                                                       \
+        if (given_ == BROKER_NO_MEMORY) starved++, given_ = (call);                                                    \
+        note(given_);                                                                                                  \
+    } while (0)
+
+/* a header of two columns, of which the first is the key */
+#define HEADER 0x54, 2, 1, 0, 't', 0
+/* the INTEGER n, below 256 */
+#define INTEGER(n) 1, 0, 0, 0, 0, 0, 0, 0, n
+
+static const unsigned char inserted[] = {HEADER, 0x12, 0, INTEGER(1), INTEGER(5)};
+static const unsigned char updated[] = {HEADER, 0x17, 0, INTEGER(1), INTEGER(5), 0, INTEGER(6)};
+static const unsigned char faulty[] = {HEADER, 0x12, 0, 2};
+static const unsigned char unknown[] = {0x54, 1, 1, 'x', 0};
+static const unsigned char narrow[] = {0x54, 1, 1, 't', 0};
+
+static void why(broker *b) {
+    struct broker_numbers numbers = {7, 7};
+    CALL(broker_why(b, &numbers));
+    note((int64_t)numbers.first);
+    note((int64_t)numbers.second);
+}
+
+
+/* feeds a text, ends it and sends it */
+static void send(broker *b, uint64_t publisher, const unsigned char *text, size_t len) {
+    uint64_t own = 7;
+    CALL(broker_feed(b, publisher, text, 3));
+    CALL(broker_feed(b, publisher, text + 3, len - 3));
+    CALL(broker_end(b, publisher));
+    CALL(broker_end(b, publisher));
+    CALL(broker_reset(b, publisher));
+    CALL(broker_send(b, publisher, &own));
+    note((int64_t)own);
+    why(b);
+}
+
+static void turn(broker *b) {
+    uint64_t entry = 7;
+    CALL(broker_turn(b, &entry));
+    note((int64_t)entry);
+}
+
+static void take(broker *b, uint64_t subscription, struct broker_delivery *delivery) {
+    CALL(broker_take(b, subscription, 3, delivery));
+    note((int64_t)delivery->number);
+    note((int64_t)delivery->first);
+    note((int64_t)delivery->last);
+    why(b);
+}
+
+static void accept(broker *b, uint64_t delivery) {
+    uint64_t cursor = 7, floor = 7;
+    CALL(broker_accept(b, delivery, &cursor));
+    note((int64_t)cursor);
+    why(b);
+    CALL(broker_ack(b, delivery, &floor));
+    note((int64_t)floor);
+    why(b);
+}
+
+static void publishes(broker *b) {
+    uint64_t publisher = 7, other = 7, count = 7;
+    CALL(broker_publisher(b, &publisher));
+    CALL(broker_publisher(b, &other));
+    note((int64_t)other);
+    send(b, publisher, inserted, sizeof inserted);
+    send(b, other, updated, sizeof updated);
+    send(b, other, faulty, sizeof faulty);
+    send(b, other, unknown, sizeof unknown);
+    send(b, other, narrow, sizeof narrow);
+    CALL(broker_left(b, &count));
+    note((int64_t)count);
+    for (int i = 0; i < 3; i++) turn(b);
+    CALL(broker_withdraw(b, other, 1));
+    CALL(broker_withdraw(b, publisher, 1));
+    CALL(broker_withdraw(b, publisher, 1));
+    CALL(broker_send(b, publisher, &count));
+    CALL(broker_withdraw(b, publisher, 1));
+    CALL(broker_withdraw(b, publisher, 9));
+    turn(b);
+}
+
+static void subscribes(broker *b) {
+    struct broker_delivery delivery = {7, 7, 7, 7};
+    uint64_t subscription = 7, link = 7, second = 7, count = 7;
+    CALL(broker_subscribe(b, 9, &subscription, &link));
+    CALL(broker_subscribe(b, 0, &subscription, &link));
+    CALL(broker_subscribe(b, 1, &second, &link));
+    note((int64_t)second);
+    take(b, subscription, &delivery);
+    CALL(broker_nack_opened(b, delivery.number, &count));
+    note((int64_t)count);
+    take(b, subscription, &delivery);
+    accept(b, delivery.number);
+    take(b, subscription, &delivery);
+    CALL(broker_nack(b, delivery.number));
+    accept(b, delivery.number);
+    take(b, subscription, &delivery);
+    CALL(broker_crash(b, delivery.number, true, &count));
+    accept(b, delivery.number);
+    CALL(broker_resume(b, subscription, &link));
+    CALL(broker_resume(b, subscription, &link));
+    CALL(broker_reconnect(b, subscription, 1, &link));
+    why(b);
+    CALL(broker_cursor(b, subscription, &count));
+    note((int64_t)count);
+    /* the second one lacks the row */
+    take(b, second, &delivery);
+    accept(b, delivery.number);
+    CALL(broker_expire(b, 99, &count));
+    note((int64_t)count);
+    CALL(broker_take_any(b, 99, &delivery));
+    note((int64_t)delivery.number);
+    CALL(broker_unsubscribe(b, second));
+    CALL(broker_unsubscribe(b, second));
+}
+
+static void reads(broker *b) {
+    unsigned char out[100];
+    struct broker_about about = {7, 7, 7};
+    uint64_t entry = 7;
+    CALL(broker_front(b, &entry));
+    note((int64_t)entry);
+    for (uint64_t number = 0; number <= 4; number++) {
+        memset(out, 0xee, sizeof out);
+        CALL(broker_text(b, number, out, 20));
+        CALL(broker_text(b, number, out, sizeof out));
+        for (size_t i = 0; i < sizeof out; i += 13) note(out[i]);
+        CALL(broker_entry(b, number, &about));
+        note((int64_t)(about.publisher * 10000 + about.own * 100 + about.withdraws));
+        CALL(broker_combined(b, 1, number, out, sizeof out));
+        for (size_t i = 0; i < sizeof out; i += 13) note(out[i]);
+    }
+}
+
+static void run(void) {
+    static const unsigned char key[] = {1, 0};
+    struct broker_limits limits = BROKER_LIMITS;
+    struct broker_table table = {(const unsigned char *)"t", 1, key, 2}, tables[] = {table, table};
+    struct broker_numbers numbers = {7, 7};
+    uint64_t last = 7;
+    broker *b = NULL;
+    CALL(broker_open(&b, &limits, tables, 2, &numbers));
+    note((int64_t)(numbers.first * 10 + numbers.second));
+    limits.window = 65;
+    CALL(broker_open(&b, &limits, tables, 1, &numbers));
+    note((int64_t)(numbers.first * 10 + numbers.second));
+    limits.window = 4;
+    CALL(broker_open(&b, &limits, tables, 1, &numbers));
+    publishes(b);
+    subscribes(b);
+    reads(b);
+    CALL(broker_close(b, &last));
+    CALL(broker_close(b, &last));
+    note((int64_t)last);
+    turn(b);
+    broker_shut(b);
+    turn(b);
+    why(b);
+    broker_free(b);
+}
+
+/* a run where the allocation of this number is refused (0: none), and how many it asked for */
+static unsigned long run_without(unsigned long number) {
+    size_t before = in_use;
+    unsigned long asked_before = asked;
+    notes = number ? &found : &wanted;
+    notes->count = 0;
+    refused_at = number ? asked + number : 0;
+    run();
+    refused_at = 0;
+    runs++;
+    if (in_use != before) bad++, printf("%zu bytes are in use after run %lu, %zu before\n", in_use, number, before);
+    return asked - asked_before;
+}
+
+int main(void) {
+    unsigned long count = run_without(0);
+    if (wanted.count > MOST_NOTES) return printf("a run has %zu notes\n", wanted.count), 1;
+    for (unsigned long number = 1; number <= count; number++) {
+        run_without(number);
+        if (found.count != wanted.count || memcmp(found.values, wanted.values, wanted.count * sizeof *wanted.values)) {
+            bad++;
+            for (size_t i = 0; i < wanted.count; i++)
+                if (found.values[i] != wanted.values[i]) {
+                    printf("run %lu differs at note %zu\n", number, i);
+                    break;
+                }
+        }
+    }
+    printf("%ld runs, %zu results and outputs each, %ld calls without memory, %ld bad\n", runs, wanted.count, starved,
+           bad);
+    return bad != 0;
+}

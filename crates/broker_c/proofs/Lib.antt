@@ -1,0 +1,3 @@
+pub mod Steps
+pub mod AsBox
+pub mod AsSlot

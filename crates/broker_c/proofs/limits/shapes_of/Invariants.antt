@@ -1,0 +1,8 @@
+use Rattle.std.proofs.Common.{◌≡◌, ◌++◌, drop}
+use Rattle.broker_c.specs.Opening as opening
+use Rattle.broker_c.proofs.limits.shapes_of.Given as goal
+
+-- the copies so far, and those of the tables that are left
+abbrev pub invariant-loop-table : goal.invariant-loop-table
+invariant-loop-table l =
+    l.shapes.items ++ opening.shapes_of (drop l.table-index l.tables) ≡ opening.shapes_of l.tables

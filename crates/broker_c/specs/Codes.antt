@@ -1,0 +1,127 @@
+-- The numbers of replies and refusals. -1 is `negsuc 0`.
+use Rattle.std.specs.Prelude.{ℕ, ℤ, pos, negsuc}
+use Rattle.cs_apply.specs.Conflict.{code_of}
+use Rattle.cs_parse.specs.declared.fault.FaultKind.{FaultKind}
+use Rattle.cs_parse.specs.declared.fault.FaultKind.TheVariants as kind
+use Rattle.cs_parse.specs.declared.fault.ParseFault.{ParseFault}
+use Rattle.rb_core.specs.declared.reply.BrokerRefusal.{BrokerRefusal}
+use Rattle.rb_core.specs.declared.reply.BrokerRefusal.TheVariants as refusal
+use Rattle.rb_core.specs.declared.reply.Reply.{Reply}
+use Rattle.rb_core.specs.declared.reply.Reply.TheVariants as reply
+use Rattle.rb_desk.specs.declared.refusal.DeskRefusal.{DeskRefusal}
+use Rattle.rb_desk.specs.declared.refusal.DeskRefusal.TheVariants as desk
+use Rattle.rb_subscriber.specs.declared.refusal.AcceptRefusal.{AcceptRefusal}
+use Rattle.rb_subscriber.specs.declared.refusal.AcceptRefusal.TheVariants as accept
+use Rattle.broker_c.specs.declared.codes.Why.{Why}
+
+-- ---- codes
+
+abbrev pub desk_code : DeskRefusal → ℤ
+desk_code desk.TooMany = negsuc 10
+desk_code desk.Closed = negsuc 13
+desk_code desk.SequenceFull = negsuc 18
+desk_code desk.JournalFull = negsuc 21
+desk_code desk.NoSuch = negsuc 29
+desk_code desk.StaleLink = negsuc 30
+desk_code desk.WindowFull = negsuc 31
+desk_code desk.NotInFlight = negsuc 33
+desk_code (desk.Drained last) = negsuc 35
+desk_code (desk.Empty front) = negsuc 36
+desk_code (desk.NotAccepted cursor) = negsuc 37
+desk_code (desk.BadCursor floor offered) = negsuc 38
+desk_code (desk.StartAhead front) = negsuc 39
+
+abbrev pub accept_code : AcceptRefusal → ℤ
+accept_code accept.Closed = negsuc 13
+accept_code accept.StaleLink = negsuc 30
+accept_code accept.Seen = negsuc 34
+accept_code (accept.Gap expected) = negsuc 40
+accept_code (accept.Shape number) = negsuc 41
+accept_code (accept.Conflict conflict) = negsuc 42
+accept_code accept.Store = negsuc 44
+
+-- The code of a refusal. What means the same in two layers has one code.
+abbrev pub refusal_code : BrokerRefusal → ℤ
+refusal_code refusal.NoPublisher = negsuc 9
+refusal_code refusal.TooMany = negsuc 10
+refusal_code refusal.Holding = negsuc 11
+refusal_code refusal.NothingStaged = negsuc 12
+refusal_code refusal.Closed = negsuc 13
+refusal_code refusal.Full = negsuc 14
+refusal_code refusal.NotPlaced = negsuc 15
+refusal_code refusal.NotYours = negsuc 16
+refusal_code refusal.AlreadyWithdrawn = negsuc 17
+refusal_code (refusal.UnknownTable section) = negsuc 19
+refusal_code (refusal.ShapeDiffers section) = negsuc 20
+refusal_code refusal.NoDelivery = negsuc 32
+refusal_code refusal.NotFallen = negsuc 43
+refusal_code (refusal.Desk why) = desk_code why
+refusal_code (refusal.Accept why) = accept_code why
+
+-- The code of a reply: 0, or 1 for `Idle`, -3 for a fault, and -10 or less for a refusal.
+abbrev pub code : Reply → ℤ
+code reply.Idle = pos 1
+code (reply.Fault fault) = negsuc 2
+code (reply.Refused why) = refusal_code why
+code other = pos 0
+
+-- ---- the two numbers of a fault or a refusal, 0 for each that it doesn't have
+
+abbrev pub numbers : ℕ → ℕ → Why
+numbers first second = record { first = first; second = second }
+
+-- the number of a fault's kind
+abbrev pub kind_number : FaultKind → ℕ
+kind_number kind.BadMarker = 1
+kind_number kind.Patchset = 2
+kind_number kind.Columns = 3
+kind_number kind.NoKey = 4
+kind_number kind.EmptyName = 5
+kind_number kind.NameTooLong = 6
+kind_number kind.BadOperation = 7
+kind_number kind.BadType = 8
+kind_number kind.Real = 9
+kind_number kind.UndefinedField = 10
+kind_number kind.KeyMissing = 11
+kind_number kind.KeyChanged = 12
+kind_number kind.OneSided = 13
+kind_number kind.ValueTooLong = 14
+kind_number kind.TooLong = 15
+kind_number kind.Truncated = 16
+
+-- of a fault: its place, and the number of its kind
+abbrev pub fault_why : ParseFault → Why
+fault_why fault = numbers fault.at (kind_number fault.kind)
+
+abbrev pub desk_why : DeskRefusal → Why
+desk_why (desk.Drained last) = numbers last 0
+desk_why (desk.Empty front) = numbers front 0
+desk_why (desk.NotAccepted cursor) = numbers cursor 0
+desk_why (desk.BadCursor floor offered) = numbers floor offered
+desk_why (desk.StartAhead front) = numbers front 0
+desk_why other = numbers 0 0
+
+-- of a conflict: the change's place, and SQLite's number of the kind
+abbrev pub accept_why : AcceptRefusal → Why
+accept_why (accept.Gap expected) = numbers expected 0
+accept_why (accept.Shape number) = numbers number 0
+accept_why (accept.Conflict conflict) = numbers conflict.position (code_of conflict.kind)
+accept_why other = numbers 0 0
+
+abbrev pub refusal_why : BrokerRefusal → Why
+refusal_why (refusal.UnknownTable section) = numbers section 0
+refusal_why (refusal.ShapeDiffers section) = numbers section 0
+refusal_why (refusal.Desk why) = desk_why why
+refusal_why (refusal.Accept why) = accept_why why
+refusal_why other = numbers 0 0
+
+abbrev pub why_of : Reply → Why
+why_of (reply.Fault fault) = fault_why fault
+why_of (reply.Refused why) = refusal_why why
+why_of other = numbers 0 0
+
+-- a handle's numbers after a reply: those of a fault or a refusal, else those from before
+abbrev pub why_after : Reply → Why → Why
+why_after (reply.Fault fault) before = why_of (reply.Fault fault)
+why_after (reply.Refused why) before = why_of (reply.Refused why)
+why_after other before = before

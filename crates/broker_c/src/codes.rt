@@ -1,0 +1,238 @@
+//! Replies and refusals as numbers for C.
+
+ghost use Rattle.std.specs.Prelude.{◌≡◌};
+ghost use Rattle.broker_c.specs.Codes as codes;
+
+use cs_parse::{FaultKind, ParseFault};
+use rb_core::{BrokerRefusal, Reply};
+use rb_desk::DeskRefusal;
+use rb_subscriber::AcceptRefusal;
+
+/// No broker is behind the handle.
+pub const SHUT: i32 = -1;
+/// Memory ran out.
+pub const NO_MEMORY: i32 = -2;
+/// A limit is out of its range.
+pub const BAD_LIMIT: i32 = -4;
+/// A table is refused.
+pub const BAD_TABLE: i32 = -5;
+/// No entry has this number.
+pub const NOT_PLACED: i32 = -16;
+/// No subscription has this number.
+pub const NO_SUBSCRIPTION: i32 = -30;
+
+/// The numbers of a fault or of a refusal, and 0 for each that it doesn't have.
+#[derive(Clone, Copy)]
+#[repr(C)]
+pub struct Why {
+    pub first: u64,
+    pub second: u64,
+}
+
+/// The code of a reply: 0, or 1 for `Idle`, -3 for a fault, and -10 or less for a refusal.
+pub fn code(reply: &Reply) -> i32
+    ensures { result ≡ codes.code reply.now }
+{
+    match reply {
+        Reply::Idle => 1,
+        Reply::Fault(_) => -3,
+        Reply::Refused(why) => refusal_code(*why),
+        Reply::Publisher(_)
+        | Reply::Fed
+        | Reply::Reset
+        | Reply::Staged
+        | Reply::Sent(_)
+        | Reply::Placed(_)
+        | Reply::Closed(_)
+        | Reply::Subscriber { .. }
+        | Reply::Delivery(_)
+        | Reply::Accepted { .. }
+        | Reply::Crashed { .. }
+        | Reply::Floor(_)
+        | Reply::Returned
+        | Reply::Opened(_)
+        | Reply::Expired(_)
+        | Reply::Link(_)
+        | Reply::Unsubscribed => 0,
+    }
+}
+
+// The code of a refusal. What means the same in two layers has one code.
+fn refusal_code(why: BrokerRefusal) -> i32
+    ensures { result ≡ codes.refusal_code why }
+{
+    match why {
+        BrokerRefusal::NoPublisher => -10,
+        BrokerRefusal::TooMany => -11,
+        BrokerRefusal::Holding => -12,
+        BrokerRefusal::NothingStaged => -13,
+        BrokerRefusal::Closed => -14,
+        BrokerRefusal::Full => -15,
+        BrokerRefusal::NotPlaced => NOT_PLACED,
+        BrokerRefusal::NotYours => -17,
+        BrokerRefusal::AlreadyWithdrawn => -18,
+        BrokerRefusal::UnknownTable(_) => -20,
+        BrokerRefusal::ShapeDiffers(_) => -21,
+        BrokerRefusal::NoDelivery => -33,
+        BrokerRefusal::NotFallen => -44,
+        BrokerRefusal::Desk(why) => desk_code(why),
+        BrokerRefusal::Accept(why) => accept_code(why),
+    }
+}
+
+fn desk_code(why: DeskRefusal) -> i32
+    ensures { result ≡ codes.desk_code why }
+{
+    match why {
+        DeskRefusal::TooMany => -11,
+        DeskRefusal::Closed => -14,
+        DeskRefusal::SequenceFull => -19,
+        DeskRefusal::JournalFull => -22,
+        DeskRefusal::NoSuch => NO_SUBSCRIPTION,
+        DeskRefusal::StaleLink => -31,
+        DeskRefusal::WindowFull => -32,
+        DeskRefusal::NotInFlight => -34,
+        DeskRefusal::Drained { .. } => -36,
+        DeskRefusal::Empty { .. } => -37,
+        DeskRefusal::NotAccepted { .. } => -38,
+        DeskRefusal::BadCursor { .. } => -39,
+        DeskRefusal::StartAhead { .. } => -40,
+    }
+}
+
+fn accept_code(why: AcceptRefusal) -> i32
+    ensures { result ≡ codes.accept_code why }
+{
+    match why {
+        AcceptRefusal::Closed => -14,
+        AcceptRefusal::StaleLink => -31,
+        AcceptRefusal::Seen => -35,
+        AcceptRefusal::Gap { .. } => -41,
+        AcceptRefusal::Shape { .. } => -42,
+        AcceptRefusal::Conflict(_) => -43,
+        AcceptRefusal::Store => -45,
+    }
+}
+
+/// A handle's numbers after a reply: those of a fault or a refusal, else those from before.
+pub fn why_after(reply: &Reply, before: Why) -> Why
+    ensures { result ≡ codes.why_after reply.now before }
+{
+    match reply {
+        Reply::Fault(fault) => fault_why(*fault),
+        Reply::Refused(why) => refusal_why(*why),
+        Reply::Publisher(_)
+        | Reply::Fed
+        | Reply::Reset
+        | Reply::Staged
+        | Reply::Sent(_)
+        | Reply::Placed(_)
+        | Reply::Idle
+        | Reply::Closed(_)
+        | Reply::Subscriber { .. }
+        | Reply::Delivery(_)
+        | Reply::Accepted { .. }
+        | Reply::Crashed { .. }
+        | Reply::Floor(_)
+        | Reply::Returned
+        | Reply::Opened(_)
+        | Reply::Expired(_)
+        | Reply::Link(_)
+        | Reply::Unsubscribed => before,
+    }
+}
+
+fn numbers(first: u64, second: u64) -> Why
+    ensures { result ≡ record { first = first; second = second } }
+{
+    Why { first, second }
+}
+
+// a fault's place, and the number of its kind
+fn fault_why(fault: ParseFault) -> Why
+    ensures { result ≡ codes.fault_why fault }
+{
+    numbers(fault.at as u64, kind_number(fault.kind))
+}
+
+// the number of a fault's kind, 1 to 16, as in `changeset.h`
+fn kind_number(kind: FaultKind) -> u64
+    ensures { result ≡ codes.kind_number kind }
+{
+    match kind {
+        FaultKind::BadMarker => 1,
+        FaultKind::Patchset => 2,
+        FaultKind::Columns => 3,
+        FaultKind::NoKey => 4,
+        FaultKind::EmptyName => 5,
+        FaultKind::NameTooLong => 6,
+        FaultKind::BadOperation => 7,
+        FaultKind::BadType => 8,
+        FaultKind::Real => 9,
+        FaultKind::UndefinedField => 10,
+        FaultKind::KeyMissing => 11,
+        FaultKind::KeyChanged => 12,
+        FaultKind::OneSided => 13,
+        FaultKind::ValueTooLong => 14,
+        FaultKind::TooLong => 15,
+        FaultKind::Truncated => 16,
+    }
+}
+
+fn refusal_why(why: BrokerRefusal) -> Why
+    ensures { result ≡ codes.refusal_why why }
+{
+    match why {
+        BrokerRefusal::UnknownTable(section) | BrokerRefusal::ShapeDiffers(section) => {
+            numbers(section, 0)
+        }
+        BrokerRefusal::Desk(why) => desk_why(why),
+        BrokerRefusal::Accept(why) => accept_why(why),
+        BrokerRefusal::NoPublisher
+        | BrokerRefusal::NoDelivery
+        | BrokerRefusal::TooMany
+        | BrokerRefusal::Holding
+        | BrokerRefusal::NothingStaged
+        | BrokerRefusal::Closed
+        | BrokerRefusal::Full
+        | BrokerRefusal::NotPlaced
+        | BrokerRefusal::NotYours
+        | BrokerRefusal::AlreadyWithdrawn
+        | BrokerRefusal::NotFallen => numbers(0, 0),
+    }
+}
+
+fn desk_why(why: DeskRefusal) -> Why
+    ensures { result ≡ codes.desk_why why }
+{
+    match why {
+        DeskRefusal::Drained { last } => numbers(last, 0),
+        DeskRefusal::Empty { front } | DeskRefusal::StartAhead { front } => numbers(front, 0),
+        DeskRefusal::NotAccepted { cursor } => numbers(cursor, 0),
+        DeskRefusal::BadCursor { floor, offered } => numbers(floor, offered),
+        DeskRefusal::JournalFull
+        | DeskRefusal::NoSuch
+        | DeskRefusal::StaleLink
+        | DeskRefusal::Closed
+        | DeskRefusal::WindowFull
+        | DeskRefusal::NotInFlight
+        | DeskRefusal::TooMany
+        | DeskRefusal::SequenceFull => numbers(0, 0),
+    }
+}
+
+fn accept_why(why: AcceptRefusal) -> Why
+    ensures { result ≡ codes.accept_why why }
+{
+    match why {
+        AcceptRefusal::Gap { expected } => numbers(expected, 0),
+        AcceptRefusal::Shape { number } => numbers(number, 0),
+        AcceptRefusal::Conflict(conflict) => {
+            numbers(conflict.position as u64, u64::from(conflict.kind.code()))
+        }
+        AcceptRefusal::Store
+        | AcceptRefusal::Closed
+        | AcceptRefusal::StaleLink
+        | AcceptRefusal::Seen => numbers(0, 0),
+    }
+}

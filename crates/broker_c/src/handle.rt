@@ -1,0 +1,153 @@
+//! The handle: a world, or nothing once the world is let go, with the numbers of its last refusal.
+
+ghost use Rattle.std.specs.Prelude.{◌≡◌, true, false, IfOk, OnErr};
+ghost use Rattle.std.specs.Box.{box_value};
+ghost use Rattle.rb_core.specs.Memory.{MayRunOut};
+ghost use Rattle.rb_core.specs.Outcome.{outcome};
+ghost use Rattle.broker_c.specs.Codes as codes;
+
+use crate::codes::{Why, why_after};
+use crate::parts::Parts;
+use crate::seal::Seal;
+use rb_core::{Event, Reply, World};
+use std::alloc::{AllocError, Global};
+use std::mem;
+
+/// A broker, as C holds one. It is open while it holds a world. `why` has the numbers of the last
+/// fault or refusal.
+#[repr(C)]
+pub struct Broker {
+    is_open: bool,
+    seal: Seal,
+    why: Why,
+    ghost tied: { is_open ≡ seal.full },
+}
+
+impl Broker {
+    /// A handle that holds this world and these numbers.
+    pub fn of(world: Box<World>, why: Why) -> Broker
+        ensures full { result.seal.full ≡ true }
+        ensures held { result.seal.held ≡ box_value world }
+        ensures why { result.why ≡ why }
+    {
+        Broker {
+            is_open: true,
+            seal: Seal::of_parts(Parts::of(world)),
+            why,
+        }
+    }
+
+    // a handle that holds no world
+    fn shut(alloc: Global, why: Why) -> Broker
+        ensures full { result.seal.full ≡ false }
+        ensures why { result.why ≡ why }
+    {
+        Broker {
+            is_open: false,
+            seal: Seal::none(alloc),
+            why,
+        }
+    }
+
+    // the world of a handle
+    fn into_world(self) -> Box<World>
+        requires { self.seal.full ≡ true }
+        ensures { box_value result ≡ self.seal.held }
+    {
+        let Broker {
+            is_open: _,
+            seal,
+            why: _,
+        } = self;
+        seal.into_parts().into_box()
+    }
+
+    // Ends a handle that holds no world.
+    fn end(self)
+        requires { self.seal.full ≡ false }
+    {
+        let Broker {
+            is_open: _,
+            seal,
+            why: _,
+        } = self;
+        seal.end();
+    }
+
+    /// Whether the handle holds a world.
+    pub fn is_open(&self) -> bool
+        ensures { result ≡ self.now.seal.full }
+    {
+        self.is_open
+    }
+
+    /// The numbers of the last fault or refusal.
+    pub fn why(&self) -> Why
+        ensures { result ≡ self.now.why }
+    {
+        self.why
+    }
+
+    /// Takes the world out. The numbers stay.
+    pub fn take(&mut self, alloc: Global) -> Box<World>
+        requires { self.old.seal.full ≡ true }
+        ensures value { box_value result ≡ self.old.seal.held }
+        ensures full { self.new.seal.full ≡ false }
+        ensures why { self.new.why ≡ self.old.why }
+    {
+        let why = self.why;
+        mem::replace(self, Broker::shut(alloc, why)).into_world()
+    }
+
+    /// Puts a world into a handle that holds none, with these numbers.
+    pub fn put(&mut self, world: Box<World>, why: Why)
+        requires { self.old.seal.full ≡ false }
+        ensures full { self.new.seal.full ≡ true }
+        ensures held { self.new.seal.held ≡ box_value world }
+        ensures why { self.new.why ≡ why }
+    {
+        mem::replace(self, Broker::of(world, why)).end();
+    }
+
+    /// Applies an event to the world, and returns the reply. After a fault or a refusal the numbers
+    /// are the reply's. Returns `AllocError` if memory runs out, and changes nothing then.
+    pub fn serve(&mut self, alloc: Global, event: &Event) -> Result<Reply, AllocError>
+        requires { self.old.seal.full ≡ true }
+        ensures full { self.new.seal.full ≡ true }
+        ensures ok { IfOk result (λ reply. outcome self.old.seal.held event.now
+            ≡ (reply, self.new.seal.held)) }
+        ensures why { IfOk result (λ reply. self.new.why ≡ codes.why_after reply self.old.why) }
+        ensures err { OnErr result (self.new.seal.held ≡ self.old.seal.held) }
+        ensures same_why { OnErr result (self.new.why ≡ self.old.why) }
+        ensures memory { OnErr result (MayRunOut event.now
+            (outcome self.old.seal.held event.now).0) }
+    {
+        let why = self.why;
+        let mut world = self.take(alloc);
+        match world.serve(alloc, event) {
+            Ok(reply) => {
+                self.put(world, why_after(&reply, why));
+                Ok(reply)
+            }
+            Err(error) => {
+                self.put(world, why);
+                Err(error)
+            }
+        }
+    }
+}
+
+impl Drop for Broker {
+    fn drop(self) {
+        let Broker {
+            is_open,
+            seal,
+            why: _,
+        } = self;
+        if is_open {
+            drop(seal.into_parts().into_box());
+        } else {
+            seal.end();
+        }
+    }
+}

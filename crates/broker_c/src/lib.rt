@@ -1,0 +1,16 @@
+//! The broker behind a handle that C holds: a static library, with its header in
+//! `include/broker.h`. Theorem: each call for an event lets the world behind the handle make
+//! exactly that event's step, and its result, numbers and outputs are those of the reply.
+#![tactic(auto)]
+
+mod codes;
+mod handle;
+mod limits;
+mod opening;
+mod parts;
+mod publishers;
+mod seal;
+mod serving;
+mod slot;
+mod subscriptions;
+mod texts;

@@ -1,0 +1,148 @@
+//! The calls that give out a handle, let go of its world, free it, and tell its numbers.
+
+ghost use Rattle.std.specs.Prelude.{◌≡◌, [], IfErr, IfOk, None, false, true};
+ghost use Rattle.std.specs.Box.{box_value};
+ghost use Rattle.cs_model.specs.Schema.{tables_refusal};
+ghost use Rattle.broker_c.specs.Handle.{IsShut};
+ghost use Rattle.broker_c.specs.Opening.{IsBegun, Opens, RefusesOpening, RefusesTables, TellsWhy};
+ghost use Rattle.broker_c.specs.Opening as opening;
+
+use crate::codes::{BAD_LIMIT, BAD_TABLE, NO_MEMORY, SHUT, Why};
+use crate::handle::Broker;
+use crate::limits::{Limits, Table, config_of, place_of, shapes_of, table_why};
+use crate::parts::Parts;
+use crate::slot::Slot;
+use cs_model::{Schema, TableFault};
+use rb_core::{Config, ConfigFault, World};
+use std::alloc::{AllocError, Global};
+use std::mem;
+
+// why no broker is opened
+#[derive(Clone, Copy)]
+enum OpenError {
+    // this limit is out of its range
+    Limit(ConfigFault),
+    // this table is refused
+    Table(TableFault),
+    Memory,
+}
+
+impl From<AllocError> for OpenError {
+    ghost use Rattle.std.specs.Prelude.{◌≡◌};
+    ghost use Rattle.broker_c.specs.declared.opening.OpenError.TheVariants.{Memory};
+
+    ghost from_gives = { λ _ e. e ≡ Memory };
+
+    fn from(_: AllocError) -> OpenError {
+        OpenError::Memory
+    }
+}
+
+// the tables as a schema
+fn schema_of(alloc: Global, tables: &[Table]) -> Result<Schema, OpenError>
+    ensures ok { IfOk result (λ schema. schema ≡ opening.shapes_of tables.now) }
+    ensures fit { IfOk result (λ schema. tables_refusal [] (opening.shapes_of tables.now) ≡ None) }
+    ensures refused { IfErr result (λ error. RefusesTables error tables.now) }
+{
+    match Schema::new(shapes_of(alloc, tables)?) {
+        Ok(schema) => Ok(schema),
+        Err(refused) => Err(OpenError::Table(refused.fault)),
+    }
+}
+
+// a handle over an empty world, in a box
+fn begun(alloc: Global, config: Config, schema: Schema) -> Result<Box<Broker>, AllocError>
+    ensures { IfOk result (λ broker. IsBegun config schema (box_value broker)) }
+{
+    let world = Box::new(alloc, World::new(alloc, config, schema)?)?;
+    let why = Why {
+        first: 0,
+        second: 0,
+    };
+    Ok(Box::new(alloc, Broker::of(world, why))?)
+}
+
+fn opened(alloc: Global, limits: &Limits, tables: &[Table]) -> Result<Box<Broker>, OpenError>
+    ensures ok { IfOk result (λ broker.
+        opening.IsOpened limits.now tables.now (box_value broker)) }
+    ensures refused { IfErr result (λ error. RefusesOpening error limits.now tables.now) }
+{
+    let config = match config_of(limits) {
+        Ok(config) => config,
+        Err(fault) => return Err(OpenError::Limit(fault)),
+    };
+    let schema = schema_of(alloc, tables)?;
+    Ok(begun(alloc, config, schema)?)
+}
+
+/// Opens a broker without publishers, entries and subscriptions, and sets `out` to its handle. It
+/// copies the tables. Returns 0, or:
+/// - -4 if a limit is out of its range, and sets `why` to the first such limit's place and 0
+/// - -5 if a table is refused, and sets `why` to the first such table's place, and to 0 for its
+///   shape or 1 for the name of an earlier one
+/// - -2 if memory runs out
+///
+/// What it doesn't set stays as it was. It doesn't free what `out` was before.
+#[unsafe(no_mangle)]
+pub extern "C" fn broker_open(
+    alloc: Global,
+    out: &mut Slot,
+    limits: &Limits,
+    tables: &[Table],
+    why: &mut Why,
+) -> i32
+    requires { out.old.full ≡ false }
+    ensures { Opens result limits.now tables.now out.old out.new why.old why.new }
+{
+    match opened(alloc, limits, tables) {
+        Ok(broker) => {
+            mem::replace(out, Slot::of_parts(Parts::of(broker))).end();
+            0
+        }
+        Err(OpenError::Limit(fault)) => {
+            *why = Why {
+                first: place_of(fault),
+                second: 0,
+            };
+            BAD_LIMIT
+        }
+        Err(OpenError::Table(fault)) => {
+            *why = table_why(fault);
+            BAD_TABLE
+        }
+        Err(OpenError::Memory) => NO_MEMORY,
+    }
+}
+
+/// Lets go of everything behind the handle. The handle itself stays, and its other calls return -1
+/// from then on. A handle that is shut stays as it is.
+#[unsafe(no_mangle)]
+pub extern "C" fn broker_shut(alloc: Global, broker: &mut Broker)
+    ensures shut { IsShut broker.new }
+    ensures why { broker.new.why ≡ broker.old.why }
+{
+    if broker.is_open() {
+        drop(broker.take(alloc));
+    }
+}
+
+/// Frees a handle with everything behind it. No call may be given it again.
+#[unsafe(no_mangle)]
+pub extern "C" fn broker_free(_alloc: Global, slot: Slot)
+    requires { slot.full ≡ true }
+{
+    drop(slot.into_parts().into_box());
+}
+
+/// Tells the numbers of the last event with a negative code that was -3 or less. Sets `why` to them
+/// and returns 0; returns -1 if the handle is shut. It leaves the handle as it is.
+#[unsafe(no_mangle)]
+pub extern "C" fn broker_why(broker: &Broker, why: &mut Why) -> i32
+    ensures { TellsWhy result broker.now why.old why.new }
+{
+    if !broker.is_open() {
+        return SHUT;
+    }
+    *why = broker.why();
+    0
+}

@@ -1,0 +1,188 @@
+//! Serves an event to the world behind a handle, and sets a call's outputs.
+
+ghost use Rattle.std.specs.Prelude.{◌≡◌};
+ghost use Rattle.broker_c.specs.Serving.{ServesAlone, ServesLink, ServesNumber, ServesTaken};
+ghost use Rattle.broker_c.specs.Serving as serving;
+
+use crate::codes::{NO_MEMORY, SHUT, code};
+use crate::handle::Broker;
+use rb_core::{Event, Reply};
+use std::alloc::Global;
+
+/// A delivery, as C gets one: its number, its subscription's, and those of its entries.
+#[derive(Clone, Copy)]
+#[repr(C)]
+pub struct Taken {
+    pub number: u64,
+    pub subscription: u64,
+    pub first: u64,
+    pub last: u64,
+}
+
+/// Serves an event whose call has no outputs. Returns the reply's code, -1 if the handle is shut,
+/// or -2 if memory runs out.
+pub fn serve(alloc: Global, broker: &mut Broker, event: &Event) -> i32
+    ensures { ServesAlone result event.now broker.old broker.new }
+{
+    if !broker.is_open() {
+        return SHUT;
+    }
+    match broker.serve(alloc, event) {
+        Ok(reply) => code(&reply),
+        Err(_) => NO_MEMORY,
+    }
+}
+
+/// As `serve`, and sets `number` to the number that the reply gives, if it gives one.
+pub fn serve_number(alloc: Global, broker: &mut Broker, event: &Event, number: &mut u64) -> i32
+    ensures { ServesNumber result event.now broker.old broker.new number.old number.new }
+{
+    if !broker.is_open() {
+        return SHUT;
+    }
+    match broker.serve(alloc, event) {
+        Ok(reply) => {
+            *number = number_after(&reply, *number);
+            code(&reply)
+        }
+        Err(_) => NO_MEMORY,
+    }
+}
+
+/// As `serve`, and sets `number` and `link` to the new subscription's, if the reply gives one.
+pub fn serve_link(
+    alloc: Global,
+    broker: &mut Broker,
+    event: &Event,
+    number: &mut u64,
+    link: &mut u64,
+) -> i32
+    ensures { ServesLink result event.now broker.old broker.new number.old number.new link.old
+        link.new }
+{
+    if !broker.is_open() {
+        return SHUT;
+    }
+    match broker.serve(alloc, event) {
+        Ok(reply) => {
+            *number = number_after(&reply, *number);
+            *link = link_after(&reply, *link);
+            code(&reply)
+        }
+        Err(_) => NO_MEMORY,
+    }
+}
+
+/// As `serve`, and sets `taken` to the delivery that the reply gives, if it gives one.
+pub fn serve_taken(alloc: Global, broker: &mut Broker, event: &Event, taken: &mut Taken) -> i32
+    ensures { ServesTaken result event.now broker.old broker.new taken.old taken.new }
+{
+    if !broker.is_open() {
+        return SHUT;
+    }
+    match broker.serve(alloc, event) {
+        Ok(reply) => {
+            *taken = taken_after(&reply, *taken);
+            code(&reply)
+        }
+        Err(_) => NO_MEMORY,
+    }
+}
+
+fn number_after(reply: &Reply, before: u64) -> u64
+    ensures { result ≡ serving.number_after reply.now before }
+{
+    match reply {
+        Reply::Publisher(number)
+        | Reply::Sent(number)
+        | Reply::Placed(number)
+        | Reply::Closed(number)
+        | Reply::Floor(number)
+        | Reply::Opened(number)
+        | Reply::Expired(number)
+        | Reply::Link(number) => *number,
+        Reply::Subscriber {
+            subscription,
+            link: _,
+        } => *subscription,
+        Reply::Accepted {
+            subscription: _,
+            cursor,
+        }
+        | Reply::Crashed {
+            subscription: _,
+            cursor,
+        } => *cursor,
+        Reply::Fed
+        | Reply::Reset
+        | Reply::Staged
+        | Reply::Idle
+        | Reply::Delivery(_)
+        | Reply::Returned
+        | Reply::Unsubscribed
+        | Reply::Fault(_)
+        | Reply::Refused(_) => before,
+    }
+}
+
+fn link_after(reply: &Reply, before: u64) -> u64
+    ensures { result ≡ serving.link_after reply.now before }
+{
+    match reply {
+        Reply::Subscriber {
+            subscription: _,
+            link,
+        } => *link,
+        Reply::Publisher(_)
+        | Reply::Fed
+        | Reply::Reset
+        | Reply::Staged
+        | Reply::Sent(_)
+        | Reply::Placed(_)
+        | Reply::Idle
+        | Reply::Closed(_)
+        | Reply::Delivery(_)
+        | Reply::Accepted { .. }
+        | Reply::Crashed { .. }
+        | Reply::Floor(_)
+        | Reply::Returned
+        | Reply::Opened(_)
+        | Reply::Expired(_)
+        | Reply::Link(_)
+        | Reply::Unsubscribed
+        | Reply::Fault(_)
+        | Reply::Refused(_) => before,
+    }
+}
+
+fn taken_after(reply: &Reply, before: Taken) -> Taken
+    ensures { result ≡ serving.taken_after reply.now before }
+{
+    match reply {
+        Reply::Delivery(delivery) => Taken {
+            number: delivery.number(),
+            subscription: delivery.sub(),
+            first: delivery.first(),
+            last: delivery.last(),
+        },
+        Reply::Publisher(_)
+        | Reply::Fed
+        | Reply::Reset
+        | Reply::Staged
+        | Reply::Sent(_)
+        | Reply::Placed(_)
+        | Reply::Idle
+        | Reply::Closed(_)
+        | Reply::Subscriber { .. }
+        | Reply::Accepted { .. }
+        | Reply::Crashed { .. }
+        | Reply::Floor(_)
+        | Reply::Returned
+        | Reply::Opened(_)
+        | Reply::Expired(_)
+        | Reply::Link(_)
+        | Reply::Unsubscribed
+        | Reply::Fault(_)
+        | Reply::Refused(_) => before,
+    }
+}

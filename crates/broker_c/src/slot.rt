@@ -1,0 +1,59 @@
+//! What C sees as a `broker *`: a handle's box, without its type.
+
+ghost use Rattle.std.specs.Prelude.{◌≡◌, Bool, true, false};
+ghost use Rattle.broker_c.specs.Slot.{Kept, kept_coded, slot_owns};
+
+use crate::handle::Broker;
+use crate::parts::Parts;
+use std::alloc::Global;
+use std::marker::Model;
+
+/// A handle's box, or nothing. It owns the handle if it is `full`, and `held` is the handle then.
+#[repr(C)]
+pub struct Slot {
+    pointer: *mut u8,
+    alloc: Global,
+    pub ghost full: { Bool },
+    pub ghost held: { Kept } by { kept_coded },
+}
+
+impl Model for Slot {
+    ghost also_owns = { λ s. slot_owns s.full s.alloc s.pointer s.held };
+}
+
+impl Slot {
+    /// Ends a slot that has nothing.
+    pub fn end(self)
+        requires { self.full ≡ false }
+    {
+        let Slot {
+            pointer: _,
+            alloc: _,
+        } = self;
+    }
+
+    /// A slot of the parts of a handle's box.
+    pub fn of_parts(parts: Parts<Broker, Global>) -> Slot
+        ensures { (result.full ≡ true) × (result.held ≡ parts.value) }
+    {
+        let Parts { pointer, alloc } = parts;
+        Slot {
+            pointer: pointer as *mut u8,
+            alloc,
+        }
+    }
+
+    /// The parts of the handle's box, from a slot that has one.
+    pub fn into_parts(self) -> Parts<Broker, Global>
+        requires { self.full ≡ true }
+        ensures { result.value ≡ self.held }
+    {
+        let Slot { pointer, alloc } = self;
+        Parts {
+            pointer: pointer as *mut Broker,
+            alloc,
+        }
+    }
+}
+
+unsafe impl Send for Slot {}

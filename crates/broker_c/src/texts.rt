@@ -1,0 +1,227 @@
+//! The calls that read a broker and leave it as it is. They don't change the numbers that
+//! `broker_why` tells, and return -1 if the handle is shut.
+
+ghost use Rattle.std.specs.Prelude.{◌≡◌, IfOk, OnErr, OnOk, Some, length, pos};
+ghost use Rattle.cs_write.specs.Buffer.{given};
+ghost use Rattle.cs_write.specs.Text.{text_of};
+ghost use Rattle.rb_core.specs.Combined.{combined_of};
+ghost use Rattle.rb_core.specs.Outcome.{entry_of};
+ghost use Rattle.broker_c.specs.Texts.{AboutIs, CombinedIs, CursorIs, TextIs};
+ghost use Rattle.broker_c.specs.Texts.{ReadsAbout, ReadsCombined, ReadsCursor, ReadsFront};
+ghost use Rattle.broker_c.specs.Texts.{ReadsLeft, ReadsText};
+ghost use Rattle.broker_c.specs.Texts as texts;
+
+use crate::codes::{NO_MEMORY, NO_SUBSCRIPTION, NOT_PLACED, SHUT};
+use crate::handle::Broker;
+use cs_model::{Changeset, Origin};
+use cs_write::write_to;
+use rb_core::{Entry, World};
+use std::alloc::{AllocError, Global};
+
+/// What is known of an entry beside its text: its publisher, its number among the publisher's
+/// sendings, and the entry that it withdraws, or 0.
+#[derive(Clone, Copy)]
+#[repr(C)]
+pub struct About {
+    pub publisher: u64,
+    pub own: u64,
+    pub withdraws: u64,
+}
+
+/// The canonical text of an entry's changeset. Returns its length, and writes it to the front of
+/// `out` if there is room for it. Returns -16 if no entry has this number.
+#[unsafe(no_mangle)]
+pub extern "C" fn broker_text(alloc: Global, broker: &mut Broker, entry: u64, out: &mut [u8]) -> i64
+    ensures { ReadsText result entry broker.old broker.new out.old out.new }
+{
+    if !broker.is_open() {
+        return i64::from(SHUT);
+    }
+    let why = broker.why();
+    let world = broker.take(alloc);
+    let len = text_into(&world, entry, out);
+    broker.put(world, why);
+    len
+}
+
+// the length of an entry's text, which is written if there is room for it; or -16
+fn text_into(world: &World, number: u64, out: &mut [u8]) -> i64
+    ensures { TextIs result (entry_of world.now number) out.old out.new }
+{
+    let Some(entry) = world.entry(number) else {
+        return i64::from(NOT_PLACED);
+    };
+    let text: &[u8] = entry.text();
+    let len = text.len();
+    if len <= out.len() {
+        out[..len].copy_from_slice(text);
+    }
+    len as i64
+}
+
+/// The canonical text of the entries numbered `first` to `last` as one changeset. Returns its
+/// length, and writes it to the front of `out` if there is room for it. Returns -16 unless 1 <=
+/// `first` <= `last` and `last` is placed, and -2 if memory runs out.
+#[unsafe(no_mangle)]
+pub extern "C" fn broker_combined(
+    alloc: Global,
+    broker: &mut Broker,
+    first: u64,
+    last: u64,
+    out: &mut [u8],
+) -> i64
+    ensures { ReadsCombined result first last broker.old broker.new out.old out.new }
+{
+    if !broker.is_open() {
+        return i64::from(SHUT);
+    }
+    let why = broker.why();
+    let world = broker.take(alloc);
+    let len = combined_into(alloc, &world, first, last, out);
+    broker.put(world, why);
+    len
+}
+
+// the length of the combined text, which is written if there is room for it; -16; or -2
+fn combined_into(alloc: Global, world: &World, first: u64, last: u64, out: &mut [u8]) -> i64
+    ensures { CombinedIs result (combined_of world.now first last) out.old out.new }
+{
+    match world.combined(alloc, first, last) {
+        Ok(Some(changeset)) => written(alloc, &changeset, out),
+        Ok(None) => i64::from(NOT_PLACED),
+        Err(_) => i64::from(NO_MEMORY),
+    }
+}
+
+// the same of a changeset
+fn written(alloc: Global, changeset: &Changeset, out: &mut [u8]) -> i64
+    ensures { CombinedIs result (Some changeset.now) out.old out.new }
+{
+    match text_of(alloc, changeset, out) {
+        Ok(len) => len,
+        Err(_) => i64::from(NO_MEMORY),
+    }
+}
+
+fn text_of(alloc: Global, changeset: &Changeset, out: &mut [u8]) -> Result<i64, AllocError>
+    ensures len { IfOk result (λ n. n ≡ pos (length (text_of changeset.now))) }
+    ensures ok { OnOk result (out.new ≡ given (text_of changeset.now) out.old) }
+    ensures err { OnErr result (out.new ≡ out.old) }
+{
+    let len = write_to(alloc, changeset, out)?;
+    // no memory holds a longer text
+    i64::try_from(len).map_err(|_| AllocError)
+}
+
+/// What is known of an entry beside its text. Sets `about` and returns 0, or returns -16 if no
+/// entry has this number.
+#[unsafe(no_mangle)]
+pub extern "C" fn broker_entry(
+    alloc: Global,
+    broker: &mut Broker,
+    entry: u64,
+    about: &mut About,
+) -> i32
+    ensures { ReadsAbout result entry broker.old broker.new about.old about.new }
+{
+    if !broker.is_open() {
+        return SHUT;
+    }
+    let why = broker.why();
+    let world = broker.take(alloc);
+    let found = about_into(&world, entry, about);
+    broker.put(world, why);
+    found
+}
+
+fn about_into(world: &World, number: u64, about: &mut About) -> i32
+    ensures { AboutIs result (entry_of world.now number) about.old about.new }
+{
+    let Some(entry) = world.entry(number) else {
+        return NOT_PLACED;
+    };
+    *about = about_of(entry);
+    0
+}
+
+fn about_of(entry: &Entry) -> About
+    ensures { result ≡ texts.about_of entry.now }
+{
+    About {
+        publisher: entry.publisher(),
+        own: entry.own(),
+        withdraws: withdrawn_by(entry.origin()),
+    }
+}
+
+fn withdrawn_by(origin: Origin) -> u64
+    ensures { result ≡ texts.withdrawn_by origin }
+{
+    match origin {
+        Origin::Sent => 0,
+        Origin::Withdraws(number) => number,
+    }
+}
+
+/// The last number placed. Sets `entry` to it, or to 0 if there is none, and returns 0.
+#[unsafe(no_mangle)]
+pub extern "C" fn broker_front(alloc: Global, broker: &mut Broker, entry: &mut u64) -> i32
+    ensures { ReadsFront result broker.old broker.new entry.old entry.new }
+{
+    if !broker.is_open() {
+        return SHUT;
+    }
+    let why = broker.why();
+    let world = broker.take(alloc);
+    *entry = world.front();
+    broker.put(world, why);
+    0
+}
+
+/// How many changesets are sent and not placed. Sets `count` to it and returns 0.
+#[unsafe(no_mangle)]
+pub extern "C" fn broker_left(alloc: Global, broker: &mut Broker, count: &mut u64) -> i32
+    ensures { ReadsLeft result broker.old broker.new count.old count.new }
+{
+    if !broker.is_open() {
+        return SHUT;
+    }
+    let why = broker.why();
+    let world = broker.take(alloc);
+    *count = world.left();
+    broker.put(world, why);
+    0
+}
+
+/// The last number that a subscription has accepted. Sets `cursor` to it and returns 0, or returns
+/// -30 for an unknown subscription.
+#[unsafe(no_mangle)]
+pub extern "C" fn broker_cursor(
+    alloc: Global,
+    broker: &mut Broker,
+    subscription: u64,
+    cursor: &mut u64,
+) -> i32
+    ensures { ReadsCursor result subscription broker.old broker.new cursor.old cursor.new }
+{
+    if !broker.is_open() {
+        return SHUT;
+    }
+    let why = broker.why();
+    let world = broker.take(alloc);
+    let found = cursor_into(&world, subscription, cursor);
+    broker.put(world, why);
+    found
+}
+
+fn cursor_into(world: &World, subscription: u64, cursor: &mut u64) -> i32
+    ensures { CursorIs result (texts.cursor_of world.now subscription) cursor.old cursor.new }
+{
+    match world.cursor(subscription) {
+        Some(found) => {
+            *cursor = found;
+            0
+        }
+        None => NO_SUBSCRIPTION,
+    }
+}
