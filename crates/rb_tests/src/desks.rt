@@ -41,6 +41,13 @@ fn call(alloc: Global, desk: &mut Desk, step: Step) -> Result<(), DeskError> {
             link,
             delivery,
         } => desk.nack(alloc, sub, link, delivery)?,
+        Step::NackOpened {
+            sub,
+            link,
+            delivery,
+        } => {
+            desk.nack_opened(alloc, sub, link, delivery)?;
+        }
         Step::Expire { now } => {
             desk.expire(alloc, now)?;
         }
@@ -111,6 +118,14 @@ fn nack(link: u64) -> Step {
     }
 }
 
+fn nack_opened(delivery: u64) -> Step {
+    Step::NackOpened {
+        sub: 0,
+        link: 1,
+        delivery,
+    }
+}
+
 #[test]
 fn each_call_is_a_step(rt: HostRuntime) -> Result<(), Fail> {
     let alloc = rt.alloc();
@@ -142,31 +157,34 @@ fn each_call_is_a_step(rt: HostRuntime) -> Result<(), Fail> {
             Some(DeskRefusal::Empty { front: 3 }),
             9,
         ),
-        (Step::Expire { now: 12 }, None, 10),
+        (nack_opened(2), Some(DeskRefusal::NotInFlight), 9),
+        (nack_opened(3), None, 10),
+        (Step::TakeAny { now: 2 }, None, 11),
+        (Step::Expire { now: 12 }, None, 12),
         (
             Step::Reconnect { sub: 0, cursor: 1 },
             Some(DeskRefusal::BadCursor {
                 floor: 2,
                 offered: 3,
             }),
-            10,
+            12,
         ),
-        (Step::Reconnect { sub: 0, cursor: 3 }, None, 11),
-        (Step::Place, None, 12),
-        (Step::Place, Some(DeskRefusal::SequenceFull), 12),
-        (Step::Close, None, 13),
-        (Step::Close, None, 13),
-        (Step::Place, Some(DeskRefusal::Closed), 13),
+        (Step::Reconnect { sub: 0, cursor: 3 }, None, 13),
+        (Step::Place, None, 14),
+        (Step::Place, Some(DeskRefusal::SequenceFull), 14),
+        (Step::Close, None, 15),
+        (Step::Close, None, 15),
+        (Step::Place, Some(DeskRefusal::Closed), 15),
         (
             Step::Unsubscribe { sub: 0, link: 1 },
             Some(DeskRefusal::StaleLink),
-            13,
+            15,
         ),
-        (Step::Unsubscribe { sub: 0, link: 2 }, None, 14),
+        (Step::Unsubscribe { sub: 0, link: 2 }, None, 16),
         (
             Step::Unsubscribe { sub: 0, link: 2 },
             Some(DeskRefusal::Closed),
-            14,
+            16,
         ),
     ];
     for (step, why, steps) in table {

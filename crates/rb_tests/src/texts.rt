@@ -198,6 +198,7 @@ fn replies_say_what_was_done(rt: HostRuntime) -> Result<(), Fail> {
         ),
         (Reply::Floor(6), "settled up to 6"),
         (Reply::Returned, "the delivery is returned"),
+        (Reply::Opened(3), "the delivery of 3 entries is opened"),
         (Reply::Expired(12), "12 deliveries expired"),
         (Reply::Link(7), "a new link, 7"),
         (Reply::Unsubscribed, "the subscription is closed"),
