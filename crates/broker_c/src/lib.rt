@@ -13,4 +13,6 @@ mod seal;
 mod serving;
 mod slot;
 mod subscriptions;
+#[cfg(test)]
+mod tests;
 mod texts;

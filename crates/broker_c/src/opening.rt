@@ -17,9 +17,9 @@ use rb_core::{Config, ConfigFault, World};
 use std::alloc::{AllocError, Global};
 use std::mem;
 
-// why no broker is opened
+// Why no broker is opened.
 #[derive(Clone, Copy)]
-enum OpenError {
+pub(crate) enum OpenError {
     // this limit is out of its range
     Limit(ConfigFault),
     // this table is refused
@@ -62,7 +62,11 @@ fn begun(alloc: Global, config: Config, schema: Schema) -> Result<Box<Broker>, A
     Ok(Box::new(alloc, Broker::of(world, why))?)
 }
 
-fn opened(alloc: Global, limits: &Limits, tables: &[Table]) -> Result<Box<Broker>, OpenError>
+pub(crate) fn opened(
+    alloc: Global,
+    limits: &Limits,
+    tables: &[Table],
+) -> Result<Box<Broker>, OpenError>
     ensures ok { IfOk result (λ broker.
         opening.IsOpened limits.now tables.now (box_value broker)) }
     ensures refused { IfErr result (λ error. RefusesOpening error limits.now tables.now) }

@@ -1,7 +1,7 @@
 -- Two fields move out of a full seal, and what they own goes with them.
-use Rattle.broker_c.proofs.Steps.{◌≡◌, refl, List, [], ◌∷◌, ◌++◌, Val, id⊢, ftrue, fsep, fact, tables, WpFn}
-use Rattle.broker_c.proofs.Steps.{Item, ‵, raw, ◌⊛◌, prop, ◌$◌, ◌∵◌, !, qed, move, drop, use1, join, split, fsplit}
-use Rattle.broker_c.proofs.Steps.{fjoin, regoal, rewrite, suffices, done, whole, sub, agg, stop, fld, no_more, and_then}
+use Rattle.broker_c.proofs.Steps.{◌≡◌, refl, List, [], ◌∷◌, ◌++◌, Val, id⊢, ftrue, fsep, fact, tables, WpFn, Item, ‵}
+use Rattle.broker_c.proofs.Steps.{raw, ◌⊛◌, prop, ◌$◌, ◌∵◌, !, qed, move, drop, use1, join, split, fsplit, fjoin}
+use Rattle.broker_c.proofs.Steps.{regoal, rewrite, suffices, done, whole, sub, agg, stop, fld, no_more, and_then}
 use Rattle.broker_c.proofs.Steps.{of_opd, returns, enter, alloc_all, pass_all, free_all, look_at, get, get_in, sets}
 use Rattle.broker_c.proofs.Steps.{yes, type_at, heard, nothing, says, Stays, stay_dropped, walk_of, ends_at}
 use Rattle.broker_c.proofs.Steps.{Goes-dropped, proved_at, D, B, word, box_typed, box_out, box_in, Bool, true}

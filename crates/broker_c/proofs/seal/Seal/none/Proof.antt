@@ -1,8 +1,8 @@
 -- A seal over nothing is made of the null pointer and of what the allocator owns.
-use Rattle.broker_c.proofs.Steps.{refl, List, [], ◌∷◌, ◌++◌, Val, emp, id⊢, ftrue, fsep, tables, WpFn}
-use Rattle.broker_c.proofs.Steps.{‵, raw, ◌⊛◌, prop, ◌$◌, ◌∵◌, !, qed, move, drop, use1, join, split, fsplit, fjoin}
-use Rattle.broker_c.proofs.Steps.{fpack, feq_i, regoal, suffices, done, agg, no_more, and_then, lit, returns, enter}
-use Rattle.broker_c.proofs.Steps.{alloc_all, pass_all, free_all, look_at, get, sets, yes, type_at, nothing, says, Stays}
+use Rattle.broker_c.proofs.Steps.{refl, List, [], ◌∷◌, ◌++◌, Val, emp, id⊢, ftrue, fsep, tables, WpFn, ‵, raw, ◌⊛◌}
+use Rattle.broker_c.proofs.Steps.{prop, ◌$◌, ◌∵◌, !, qed, move, drop, use1, join, split, fsplit, fjoin, fpack, feq_i}
+use Rattle.broker_c.proofs.Steps.{regoal, suffices, done, agg, no_more, and_then, lit, returns, enter, alloc_all}
+use Rattle.broker_c.proofs.Steps.{pass_all, free_all, look_at, get, sets, yes, type_at, nothing, says, Stays}
 use Rattle.broker_c.proofs.Steps.{stay_dropped, walk_of, ends_at, Goes-dropped, proved_at, handle_tells, false}
 use Rattle.broker_c.proofs.Steps.{null_ptr, ptr_val, vstruct, of_list, Valss, within, shape, fields, to, and_tt, has_ty}
 use Rattle.broker_c.proofs.Steps.{α, lit<}

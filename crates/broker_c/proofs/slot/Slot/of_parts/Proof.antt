@@ -1,10 +1,10 @@
 -- Two fields move into the slot, and what they own goes with them.
-use Rattle.broker_c.proofs.Steps.{refl, List, [], ◌∷◌, ◌++◌, Val, emp, id⊢, ftrue, fsep, tables, WpFn}
-use Rattle.broker_c.proofs.Steps.{‵, raw, ◌⊛◌, prop, ◌$◌, ◌∵◌, !, qed, move, drop, use1, join, split, fsplit, fjoin}
-use Rattle.broker_c.proofs.Steps.{regoal, suffices, done, whole, sub, agg, stop, fld, no_more, and_then, of_opd}
-use Rattle.broker_c.proofs.Steps.{returns, enter, alloc_all, pass_all, free_all, look_at, get, get_in, sets, yes}
-use Rattle.broker_c.proofs.Steps.{type_at, nothing, says, Stays, stay_dropped, walk_of, ends_at, Goes-dropped}
-use Rattle.broker_c.proofs.Steps.{proved_at, D, B, word, box_typed, box_out, box_in, true}
+use Rattle.broker_c.proofs.Steps.{refl, List, [], ◌∷◌, ◌++◌, Val, emp, id⊢, ftrue, fsep, tables, WpFn, ‵, raw, ◌⊛◌}
+use Rattle.broker_c.proofs.Steps.{prop, ◌$◌, ◌∵◌, !, qed, move, drop, use1, join, split, fsplit, fjoin, regoal}
+use Rattle.broker_c.proofs.Steps.{suffices, done, whole, sub, agg, stop, fld, no_more, and_then, of_opd, returns, enter}
+use Rattle.broker_c.proofs.Steps.{alloc_all, pass_all, free_all, look_at, get, get_in, sets, yes, type_at, nothing}
+use Rattle.broker_c.proofs.Steps.{says, Stays, stay_dropped, walk_of, ends_at, Goes-dropped, proved_at, D, B, word}
+use Rattle.broker_c.proofs.Steps.{box_typed, box_out, box_in, true}
 use Rattle.broker_c.proofs.AsSlot.{E, Parted}
 use Rattle.broker_c.specs.contracts.slot.Slot.of_parts as F
 use Rattle.broker_c.specs.contracts.slot.Slot.of_parts.Key.{name as #self}

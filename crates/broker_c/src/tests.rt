@@ -1,0 +1,94 @@
+//! What no clause says: with enough memory a broker opens, and a changeset goes through it. The
+//! contracts state the rest.
+
+use crate::handle::Broker;
+use crate::limits::{Limits, Table};
+use crate::opening::{broker_shut, opened};
+use crate::publishers::{broker_end, broker_feed, broker_publisher, broker_send, broker_turn};
+use crate::serving::Taken;
+use crate::subscriptions::{broker_accept, broker_ack, broker_subscribe, broker_take};
+use crate::texts::{broker_combined, broker_text};
+use std::alloc::{AllocError, Global};
+use std::process::Abort;
+use std::test::*;
+
+// the INSERT of (1, 5) into a table t of two columns
+const INSERTED: [u8; 26] = [
+    0x54, 2, 1, 0, 0x74, 0, 0x12, 0, 1, 0, 0, 0, 0, 0, 0, 0, 1, 1, 0, 0, 0, 0, 0, 0, 0, 5,
+];
+
+const LIMITS: Limits = Limits {
+    batch: 16,
+    window: 4,
+    timeout: 10,
+    capacity: 100,
+    intake: 64,
+    appliers: 1,
+};
+
+// a publisher's changeset becomes entry 1
+fn publishes(rt: &impl Abort, alloc: Global, broker: &mut Broker) {
+    let (mut publisher, mut own, mut entry) = (7, 7, 7);
+    assert_eq!(rt; broker_publisher(alloc, broker, &mut publisher), 0);
+    assert_eq!(rt; broker_feed(alloc, broker, 0, &INSERTED), 0);
+    assert_eq!(rt; broker_end(alloc, broker, 0), 0);
+    assert_eq!(rt; broker_send(alloc, broker, 0, &mut own), 0);
+    assert_eq!(rt; broker_turn(alloc, broker, &mut entry), 0);
+    assert_eq!(rt; (publisher, own, entry), (0, 1, 1));
+}
+
+// a subscription takes, accepts and settles it
+fn delivers(rt: &impl Abort, alloc: Global, broker: &mut Broker) {
+    let (mut number, mut link, mut cursor, mut floor) = (7, 7, 7, 7);
+    let mut taken = Taken {
+        number: 7,
+        subscription: 7,
+        first: 7,
+        last: 7,
+    };
+    assert_eq!(rt;
+        broker_subscribe(alloc, broker, 0, &mut number, &mut link),
+        0
+    );
+    assert_eq!(rt; broker_take(alloc, broker, 0, 0, &mut taken), 0);
+    assert_eq!(rt; broker_accept(alloc, broker, 1, &mut cursor), 0);
+    assert_eq!(rt; broker_ack(alloc, broker, 1, &mut floor), 0);
+    assert_eq!(rt; (number, link, cursor, floor), (0, 1, 1, 1));
+    assert_eq!(rt;
+        (taken.number, taken.subscription, taken.first, taken.last),
+        (1, 0, 1, 1)
+    );
+}
+
+// its text is read, alone and combined
+fn tells(rt: &impl Abort, alloc: Global, broker: &mut Broker) {
+    let mut out = [9u8; 26];
+    assert_eq!(rt; broker_text(alloc, broker, 1, &mut out), 26);
+    assert!(rt; out == INSERTED);
+    let mut out = [9u8; 26];
+    assert_eq!(rt; broker_combined(alloc, broker, 1, 1, &mut out), 26);
+    assert!(rt; out == INSERTED);
+}
+
+// what may go to another thread
+fn sent<T: Send>(value: T) -> T {
+    value
+}
+
+#[test]
+fn a_changeset_goes_through(rt: HostRuntime) -> Result<(), Fail> {
+    let alloc = rt.alloc();
+    let tables = [Table {
+        name: b"t",
+        key: &[1, 0],
+    }];
+    let Ok(broker) = opened(alloc, &LIMITS, &tables) else {
+        return Err(AllocError)?;
+    };
+    let mut broker = sent(broker);
+    publishes(&rt, alloc, &mut broker);
+    delivers(&rt, alloc, &mut broker);
+    tells(&rt, alloc, &mut broker);
+    broker_shut(alloc, &mut broker);
+    Ok(())
+}
