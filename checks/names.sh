@@ -2,13 +2,14 @@
 # Lists names that mean two things, a line each: a name of specs/ or proofs/ that is defined in more than one file, or
 # differs from another's only in case or in an underscore; and a public type that two crates define. Nothing is the
 # right answer. Not counted:
-# - the answers to goals in proofs/, whose names the prover gives;
+# - the answers to goals in proofs/, and what stands in a proof by hand (Proof.antt, Send.antt), whose names the prover gives;
 # - a type and the lemma that makes it, in one file of proofs/;
 # - the events' verbs in the four files whose names say their layer. Clauses cite them as `outcome.sent` or
 #   `outline.Places`: rb_desk's Outline, and Outcome, Told and Moves of rb_core.
 #   sh checks/names.sh        ends with status 1 where it lists a name
 cd "$(dirname "$0")/.." || exit 2
-files=$(find crates \( -path '*/specs/*' -o -path '*/proofs/*' \) -name '*.antt' -not -path '*/out/*')
+files=$(find crates \( -path '*/specs/*' -o -path '*/proofs/*' \) -name '*.antt' -not -path '*/out/*' \
+    -not -name Proof.antt -not -name Send.antt)
 types=$(find crates -path '*/src/*' -name '*.rt' -not -path '*/out/*')
 fail() {
     echo "names.sh: $1" >&2

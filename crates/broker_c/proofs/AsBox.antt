@@ -12,8 +12,8 @@ use Rattle.broker_c.specs.contracts.parts.Parts as Parts
 use Rattle.broker_c.specs.contracts.seal.Seal as Seal
 
 -- a world's box
-abbrev pub E : Bx
-E = record {
+abbrev pub SealBx : Bx
+SealBx = record {
   row = World.the_row;
   laws = world.the_row_laws;
   al = record {
@@ -26,8 +26,8 @@ E = record {
 }
 
 -- its parts, as a parameter
-abbrev pub Parted : Slot 0
-Parted = plain (λ _. Parts.the_row World.the_row Heap.the_row ghosts)
+abbrev pub SealParts : Slot 0
+SealParts = plain (λ _. Parts.the_row World.the_row Heap.the_row ghosts)
 
 -- a seal, as a parameter
 abbrev pub Sealed : Slot 0

@@ -6,15 +6,15 @@ use Rattle.std_alloc.proofs.BoxSteps.Form.{Bx}
 use Rattle.std_heap.specs.contracts.Global as Heap
 use Rattle.std_heap.specs.contracts.GlobalAllocator.TheImpl.{ghosts, dict}
 use Rattle.std_heap.proofs.Global.TheLaws as heap
-use Rattle.broker_c.specs.contracts.handle.Broker as Broker
-use Rattle.broker_c.proofs.handle.Broker.TheLaws as broker
+use Rattle.broker_c.specs.contracts.handle.Handle as Handle
+use Rattle.broker_c.proofs.handle.Handle.TheLaws as broker
 use Rattle.broker_c.specs.contracts.parts.Parts as Parts
 use Rattle.broker_c.specs.contracts.slot.Slot as Slot
 
 -- a handle's box
-abbrev pub E : Bx
-E = record {
-  row = Broker.the_row;
+abbrev pub SlotBx : Bx
+SlotBx = record {
+  row = Handle.the_row;
   laws = broker.the_row_laws;
   al = record {
     row = Heap.the_row;
@@ -26,8 +26,8 @@ E = record {
 }
 
 -- its parts, as a parameter
-abbrev pub Parted : Parameter 0
-Parted = plain (λ _. Parts.the_row Broker.the_row Heap.the_row ghosts)
+abbrev pub SlotParts : Parameter 0
+SlotParts = plain (λ _. Parts.the_row Handle.the_row Heap.the_row ghosts)
 
 -- a slot, as a parameter
 abbrev pub Slotted : Parameter 0

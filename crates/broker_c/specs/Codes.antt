@@ -71,27 +71,27 @@ abbrev pub numbers : ℕ → ℕ → Why
 numbers first second = record { first = first; second = second }
 
 -- the number of a fault's kind
-abbrev pub kind_number : FaultKind → ℕ
-kind_number kind.BadMarker = 1
-kind_number kind.Patchset = 2
-kind_number kind.Columns = 3
-kind_number kind.NoKey = 4
-kind_number kind.EmptyName = 5
-kind_number kind.NameTooLong = 6
-kind_number kind.BadOperation = 7
-kind_number kind.BadType = 8
-kind_number kind.Real = 9
-kind_number kind.UndefinedField = 10
-kind_number kind.KeyMissing = 11
-kind_number kind.KeyChanged = 12
-kind_number kind.OneSided = 13
-kind_number kind.ValueTooLong = 14
-kind_number kind.TooLong = 15
-kind_number kind.Truncated = 16
+abbrev pub fault_number : FaultKind → ℕ
+fault_number kind.BadMarker = 1
+fault_number kind.Patchset = 2
+fault_number kind.Columns = 3
+fault_number kind.NoKey = 4
+fault_number kind.EmptyName = 5
+fault_number kind.NameTooLong = 6
+fault_number kind.BadOperation = 7
+fault_number kind.BadType = 8
+fault_number kind.Real = 9
+fault_number kind.UndefinedField = 10
+fault_number kind.KeyMissing = 11
+fault_number kind.KeyChanged = 12
+fault_number kind.OneSided = 13
+fault_number kind.ValueTooLong = 14
+fault_number kind.TooLong = 15
+fault_number kind.Truncated = 16
 
 -- of a fault: its place, and the number of its kind
 abbrev pub fault_why : ParseFault → Why
-fault_why fault = numbers fault.at (kind_number fault.kind)
+fault_why fault = numbers fault.at (fault_number fault.kind)
 
 abbrev pub desk_why : DeskRefusal → Why
 desk_why (desk.Drained last) = numbers last 0
@@ -115,13 +115,13 @@ refusal_why (refusal.Desk why) = desk_why why
 refusal_why (refusal.Accept why) = accept_why why
 refusal_why other = numbers 0 0
 
-abbrev pub why_of : Reply → Why
-why_of (reply.Fault fault) = fault_why fault
-why_of (reply.Refused why) = refusal_why why
-why_of other = numbers 0 0
+abbrev pub reply_numbers : Reply → Why
+reply_numbers (reply.Fault fault) = fault_why fault
+reply_numbers (reply.Refused why) = refusal_why why
+reply_numbers other = numbers 0 0
 
 -- a handle's numbers after a reply: those of a fault or a refusal, else those from before
-abbrev pub why_after : Reply → Why → Why
-why_after (reply.Fault fault) before = why_of (reply.Fault fault)
-why_after (reply.Refused why) before = why_of (reply.Refused why)
-why_after other before = before
+abbrev pub numbers_after : Reply → Why → Why
+numbers_after (reply.Fault fault) before = reply_numbers (reply.Fault fault)
+numbers_after (reply.Refused why) before = reply_numbers (reply.Refused why)
+numbers_after other before = before

@@ -12,9 +12,9 @@ use Rattle.rb_desk.specs.declared.config.ConfigFault.{ConfigFault}
 use Rattle.rb_desk.specs.declared.config.ConfigFault.TheVariants.{Batch, Window, Timeout, Capacity}
 use Rattle.rb_desk.specs.declared.config.ConfigFault.TheVariants.{Intake, Appliers}
 use Rattle.broker_c.specs.Codes.{numbers}
-use Rattle.broker_c.specs.Handle.{Holds, IsShut}
+use Rattle.broker_c.specs.Handle.{HoldsWorld, IsShut}
 use Rattle.broker_c.specs.declared.codes.Why.{Why}
-use Rattle.broker_c.specs.declared.handle.Broker.{Broker}
+use Rattle.broker_c.specs.declared.handle.Handle.{Handle}
 use Rattle.broker_c.specs.declared.limits.Limits.{Limits}
 use Rattle.broker_c.specs.declared.limits.Table.{Table}
 use Rattle.broker_c.specs.declared.opening.OpenError.{OpenError}
@@ -24,8 +24,8 @@ use Rattle.broker_c.specs.declared.slot.Slot.{Slot}
 -- ---- the limits
 
 -- the limits that C passes
-abbrev pub limits_of : Limits → desk.Limits
-limits_of c = record {
+abbrev pub desk_limits : Limits → desk.Limits
+desk_limits c = record {
   batch = c.batch;
   window = c.window;
   timeout = c.timeout;
@@ -40,21 +40,21 @@ limits_refusal c =
     first_out_of_range c.batch c.window c.timeout c.capacity c.intake c.appliers
 
 -- its place, from 0
-abbrev pub place_of : ConfigFault → ℕ
-place_of Batch = 0
-place_of Window = 1
-place_of Timeout = 2
-place_of Capacity = 3
-place_of Intake = 4
-place_of Appliers = 5
+abbrev pub limit_place : ConfigFault → ℕ
+limit_place Batch = 0
+limit_place Window = 1
+limit_place Timeout = 2
+limit_place Capacity = 3
+limit_place Intake = 4
+limit_place Appliers = 5
 
 -- ---- the tables
 
-abbrev pub shape_of : Table → Shape
-shape_of table = record { name = table.name.now; flags = table.key.now }
+abbrev pub table_shape : Table → Shape
+table_shape table = record { name = table.name.now; flags = table.key.now }
 
-abbrev pub shapes_of : List Table → List Shape
-shapes_of tables = map shape_of tables
+abbrev pub table_shapes : List Table → List Shape
+table_shapes tables = map table_shape tables
 
 -- the numbers of a refused table: its place, from 0, and 0 for its shape or 1 for its name
 abbrev pub table_why : TableFault → Why
@@ -64,26 +64,26 @@ table_why (DuplicateTable place) = numbers place 1
 -- ---- the steps
 
 -- a handle over an empty world with these limits and tables, whose numbers are 0
-pub record IsBegun (limits : desk.Limits) (schema : List Shape) (b : Broker) : Type 0 where
-  pub world : Holds b (empty_world limits schema)
+pub record IsBegun (limits : desk.Limits) (schema : List Shape) (b : Handle) : Type 0 where
+  pub world : HoldsWorld b (empty_world limits schema)
   pub why : b.why ≡ numbers 0 0
 
 -- The limits are in their ranges, the tables fit, and the handle's world is empty, with these
 -- limits and tables.
-pub record IsOpened (limits : Limits) (tables : List Table) (b : Broker) : Type 0 where
+pub record IsOpened (limits : Limits) (tables : List Table) (b : Handle) : Type 0 where
   pub in_range : limits_refusal limits ≡ None
-  pub fit : tables_refusal [] (shapes_of tables) ≡ None
-  pub begun : IsBegun (limits_of limits) (shapes_of tables) b
+  pub fit : tables_refusal [] (table_shapes tables) ≡ None
+  pub begun : IsBegun (desk_limits limits) (table_shapes tables) b
 
-abbrev pub RefusesTables : OpenError → List Table → Type 0
-RefusesTables (Limit fault) tables = ⊥
-RefusesTables (Refused fault) tables = tables_refusal [] (shapes_of tables) ≡ Some fault
-RefusesTables Memory tables = Unit {0}
+abbrev pub RefusesSchema : OpenError → List Table → Type 0
+RefusesSchema (Limit fault) tables = ⊥
+RefusesSchema (Refused fault) tables = tables_refusal [] (table_shapes tables) ≡ Some fault
+RefusesSchema Memory tables = Unit {0}
 
 abbrev pub RefusesOpening : OpenError → Limits → List Table → Type 0
 RefusesOpening (Limit fault) limits tables = limits_refusal limits ≡ Some fault
 RefusesOpening (Refused fault) limits tables = (limits_refusal limits ≡ None)
-    × (tables_refusal [] (shapes_of tables) ≡ Some fault)
+    × (tables_refusal [] (table_shapes tables) ≡ Some fault)
 RefusesOpening Memory limits tables = limits_refusal limits ≡ None
 
 -- ---- the results
@@ -92,13 +92,13 @@ RefusesOpening Memory limits tables = limits_refusal limits ≡ None
 pub record HasBadLimit (limits : Limits) (is : Why) : Type 0 where
   pub fault : ConfigFault
   pub refused : limits_refusal limits ≡ Some fault
-  pub why : is ≡ numbers (place_of fault) 0
+  pub why : is ≡ numbers (limit_place fault) 0
 
 -- the limits are in their ranges, a table is refused, and these are its numbers
 pub record HasBadTable (limits : Limits) (tables : List Table) (is : Why) : Type 0 where
   pub in_range : limits_refusal limits ≡ None
   pub fault : TableFault
-  pub refused : tables_refusal [] (shapes_of tables) ≡ Some fault
+  pub refused : tables_refusal [] (table_shapes tables) ≡ Some fault
   pub why : is ≡ table_why fault
 
 -- What the result of `broker_open` says: 0, -2 if memory ran out, -4 for the first bad limit, or -5
@@ -119,7 +119,7 @@ Opens (negsuc (suc (suc (suc (suc (suc n)))))) limits tables before after was is
 
 -- What the result of `broker_why` says: 0 and the handle's numbers, or -1 for a handle that is
 -- shut.
-abbrev pub TellsWhy : ℤ → Broker → Why → Why → Type 0
+abbrev pub TellsWhy : ℤ → Handle → Why → Why → Type 0
 TellsWhy (pos n) b was is = (n ≡ 0) × (b.seal.full ≡ true) × (is ≡ b.why)
 TellsWhy (negsuc zero) b was is = IsShut b × (is ≡ was)
 TellsWhy (negsuc (suc n)) b was is = ⊥

@@ -10,19 +10,19 @@ use Rattle.rb_core.specs.State.{empty_world}
 use Rattle.rb_core.specs.contracts.world.World.{the_row}
 
 -- a world, as contracts see one
-abbrev pub Held : Type 0
-Held = the_row.Denot
+abbrev pub SealedWorld : Type 0
+SealedWorld = the_row.Denot
 
-abbrev pub held_coded : Coded Held
-held_coded = the_row.coded
+abbrev pub sealed_coded : Coded SealedWorld
+sealed_coded = the_row.coded
 
 -- what a seal owns, full or not
-abbrev pub seal_owns : Bool → Global → Ptr → Held → Fml
+abbrev pub seal_owns : Bool → Global → Ptr → SealedWorld → Fml
 seal_owns true alloc pointer held = box_owns (ghosts.dealloc_token alloc) the_row pointer held
 seal_owns false alloc pointer held = ftrue
 
 -- what the ghost of an empty seal is: any world
-abbrev pub no_world : Held
+abbrev pub no_world : SealedWorld
 no_world = empty_world (record {
   batch = 1;
   window = 1;

@@ -8,39 +8,39 @@ use Rattle.rb_core.specs.declared.event.Event.{Event}
 use Rattle.rb_core.specs.declared.event.Event.TheVariants as event
 use Rattle.rb_core.specs.declared.reply.Reply.{Reply}
 use Rattle.rb_core.specs.declared.reply.Reply.TheVariants as reply
-use Rattle.broker_c.specs.Codes.{code, why_after}
-use Rattle.broker_c.specs.Handle.{Holds, IsShut, IsKept}
-use Rattle.broker_c.specs.declared.handle.Broker.{Broker}
+use Rattle.broker_c.specs.Codes.{code, numbers_after}
+use Rattle.broker_c.specs.Handle.{HoldsWorld, IsShut, KeepsWorld}
+use Rattle.broker_c.specs.declared.handle.Handle.{Handle}
 use Rattle.broker_c.specs.declared.serving.Taken.{Taken}
 
 -- ---- the results of a call
 
 -- The event is served: the world behind the handle makes the event's step. The result is the
 -- reply's code, and the handle's numbers and the outputs are the reply's.
-pub record Served (result : ℤ) (event : Event) (before after : Broker) (Outputs : Reply → Type 0)
+pub record Served (result : ℤ) (event : Event) (before after : Handle) (Outputs : Reply → Type 0)
     : Type 0 where
   pub world : State
   pub reply : Reply
   pub next : State
-  pub held : Holds before world
+  pub held : HoldsWorld before world
   pub step : outcome world event ≡ (reply, next)
-  pub holds : Holds after next
+  pub holds : HoldsWorld after next
   pub is_code : result ≡ code reply
-  pub why : after.why ≡ why_after reply before.why
+  pub why : after.why ≡ numbers_after reply before.why
   pub outputs : Outputs reply
 
 -- memory ran out for the event, as it may, and nothing changed
-pub record Starved (event : Event) (before after : Broker) (Same : Type 0) : Type 0 where
+pub record Starved (event : Event) (before after : Handle) (Same : Type 0) : Type 0 where
   pub world : State
-  pub held : Holds before world
+  pub held : HoldsWorld before world
   pub may : MayRunOut event (outcome world event).0
-  pub holds : Holds after world
+  pub holds : HoldsWorld after world
   pub why : after.why ≡ before.why
   pub same : Same
 
 -- What the result says: -1 for a handle that is shut, and -2 if memory ran out. Nothing changed
 -- then. Any other result says that the event is served.
-abbrev pub Serves : ℤ → Event → Broker → Broker → (Reply → Type 0) → Type 0 → Type 0
+abbrev pub Serves : ℤ → Event → Handle → Handle → (Reply → Type 0) → Type 0 → Type 0
 Serves (pos n) event before after Outputs Same = Served (pos n) event before after Outputs
 Serves (negsuc zero) event before after Outputs Same = IsShut before × (after ≡ before) × Same
 Serves (negsuc (suc zero)) event before after Outputs Same = Starved event before after Same
@@ -82,32 +82,32 @@ taken_after other before = before
 -- ---- calls by their outputs
 
 -- a call without outputs
-abbrev pub ServesAlone : ℤ → Event → Broker → Broker → Type 0
+abbrev pub ServesAlone : ℤ → Event → Handle → Handle → Type 0
 ServesAlone result event before after =
     Serves result event before after (λ reply. Unit {0}) (Unit {0})
 
 -- a call with one number as its output
-abbrev pub ServesNumber : ℤ → Event → Broker → Broker → ℕ → ℕ → Type 0
+abbrev pub ServesNumber : ℤ → Event → Handle → Handle → ℕ → ℕ → Type 0
 ServesNumber result event before after was is =
     Serves result event before after (λ reply. is ≡ number_after reply was) (is ≡ was)
 
 -- a call with a subscription and its link as outputs
-abbrev pub ServesLink : ℤ → Event → Broker → Broker → ℕ → ℕ → ℕ → ℕ → Type 0
+abbrev pub ServesLink : ℤ → Event → Handle → Handle → ℕ → ℕ → ℕ → ℕ → Type 0
 ServesLink result event before after was is link_was link_is =
     Serves result event before after
     (λ reply. (is ≡ number_after reply was) × (link_is ≡ link_after reply link_was))
     ((is ≡ was) × (link_is ≡ link_was))
 
 -- a call with a delivery as its output
-abbrev pub ServesTaken : ℤ → Event → Broker → Broker → Taken → Taken → Type 0
+abbrev pub ServesTaken : ℤ → Event → Handle → Handle → Taken → Taken → Type 0
 ServesTaken result event before after was is =
     Serves result event before after (λ reply. is ≡ taken_after reply was) (is ≡ was)
 
 -- `broker_feed` copies the bytes first, so that memory can run out for any feed.
-abbrev pub ServesFeed : ℤ → ℕ → List ℕ → Broker → Broker → Type 0
+abbrev pub ServesFeed : ℤ → ℕ → List ℕ → Handle → Handle → Type 0
 ServesFeed (pos n) publisher bytes before after =
     ServesAlone (pos n) (event.Feed publisher bytes) before after
 ServesFeed (negsuc zero) publisher bytes before after = IsShut before × (after ≡ before)
-ServesFeed (negsuc (suc zero)) publisher bytes before after = IsKept before after
+ServesFeed (negsuc (suc zero)) publisher bytes before after = KeepsWorld before after
 ServesFeed (negsuc (suc (suc n))) publisher bytes before after =
     ServesAlone (negsuc (suc (suc n))) (event.Feed publisher bytes) before after

@@ -116,7 +116,7 @@ fn accept_code(why: AcceptRefusal) -> i32
 
 /// A handle's numbers after a reply: those of a fault or a refusal, else those from before.
 pub fn why_after(reply: &Reply, before: Why) -> Why
-    ensures { result ≡ codes.why_after reply.now before }
+    ensures { result ≡ codes.numbers_after reply.now before }
 {
     match reply {
         Reply::Fault(fault) => fault_why(*fault),
@@ -157,7 +157,7 @@ fn fault_why(fault: ParseFault) -> Why
 
 // the number of a fault's kind, 1 to 16, as in `changeset.h`
 fn kind_number(kind: FaultKind) -> u64
-    ensures { result ≡ codes.kind_number kind }
+    ensures { result ≡ codes.fault_number kind }
 {
     match kind {
         FaultKind::BadMarker => 1,

@@ -16,21 +16,21 @@ use std::mem;
 /// A broker, as C holds one. It is open while it holds a world. `why` has the numbers of the last
 /// fault or refusal.
 #[repr(C)]
-pub struct Broker {
+pub struct Handle {
     is_open: bool,
     seal: Seal,
     why: Why,
     ghost tied: { is_open ≡ seal.full },
 }
 
-impl Broker {
+impl Handle {
     /// A handle that holds this world and these numbers.
-    pub fn of(world: Box<World>, why: Why) -> Broker
+    pub fn of(world: Box<World>, why: Why) -> Handle
         ensures full { result.seal.full ≡ true }
         ensures held { result.seal.held ≡ box_value world }
         ensures why { result.why ≡ why }
     {
-        Broker {
+        Handle {
             is_open: true,
             seal: Seal::of_parts(Parts::of(world)),
             why,
@@ -38,11 +38,11 @@ impl Broker {
     }
 
     // a handle that holds no world
-    fn shut(alloc: Global, why: Why) -> Broker
+    fn shut(alloc: Global, why: Why) -> Handle
         ensures full { result.seal.full ≡ false }
         ensures why { result.why ≡ why }
     {
-        Broker {
+        Handle {
             is_open: false,
             seal: Seal::none(alloc),
             why,
@@ -54,7 +54,7 @@ impl Broker {
         requires { self.seal.full ≡ true }
         ensures { box_value result ≡ self.seal.held }
     {
-        let Broker {
+        let Handle {
             is_open: _,
             seal,
             why: _,
@@ -66,7 +66,7 @@ impl Broker {
     fn end(self)
         requires { self.seal.full ≡ false }
     {
-        let Broker {
+        let Handle {
             is_open: _,
             seal,
             why: _,
@@ -96,7 +96,7 @@ impl Broker {
         ensures why { self.new.why ≡ self.old.why }
     {
         let why = self.why;
-        mem::replace(self, Broker::shut(alloc, why)).into_world()
+        mem::replace(self, Handle::shut(alloc, why)).into_world()
     }
 
     /// Puts a world into a handle that holds none, with these numbers.
@@ -106,7 +106,7 @@ impl Broker {
         ensures held { self.new.seal.held ≡ box_value world }
         ensures why { self.new.why ≡ why }
     {
-        mem::replace(self, Broker::of(world, why)).end();
+        mem::replace(self, Handle::of(world, why)).end();
     }
 
     /// Applies an event to the world, and returns the reply. After a fault or a refusal the numbers
@@ -116,7 +116,7 @@ impl Broker {
         ensures full { self.new.seal.full ≡ true }
         ensures ok { IfOk result (λ reply. outcome self.old.seal.held event.now
             ≡ (reply, self.new.seal.held)) }
-        ensures why { IfOk result (λ reply. self.new.why ≡ codes.why_after reply self.old.why) }
+        ensures why { IfOk result (λ reply. self.new.why ≡ codes.numbers_after reply self.old.why) }
         ensures err { OnErr result (self.new.seal.held ≡ self.old.seal.held) }
         ensures same_why { OnErr result (self.new.why ≡ self.old.why) }
         ensures memory { OnErr result (MayRunOut event.now
@@ -137,9 +137,9 @@ impl Broker {
     }
 }
 
-impl Drop for Broker {
+impl Drop for Handle {
     fn drop(self) {
-        let Broker {
+        let Handle {
             is_open,
             seal,
             why: _,

@@ -31,7 +31,7 @@ pub struct Table<'a> {
 
 /// The limits as a configuration. Refuses the first one that is out of its range.
 pub fn config_of(limits: &Limits) -> Result<Config, ConfigFault>
-    ensures ok { IfOk result (λ config. config ≡ opening.limits_of limits.now) }
+    ensures ok { IfOk result (λ config. config ≡ opening.desk_limits limits.now) }
     ensures valid { IfOk result (λ config. opening.limits_refusal limits.now ≡ None) }
     ensures refused { IfErr result (λ fault. opening.limits_refusal limits.now ≡ Some fault) }
 {
@@ -47,7 +47,7 @@ pub fn config_of(limits: &Limits) -> Result<Config, ConfigFault>
 
 /// The place of a limit in `Limits`, from 0.
 pub fn place_of(fault: ConfigFault) -> u64
-    ensures { result ≡ opening.place_of fault }
+    ensures { result ≡ opening.limit_place fault }
 {
     match fault {
         ConfigFault::Batch => 0,
@@ -77,7 +77,7 @@ pub fn table_why(fault: TableFault) -> Why
 
 // a copy of a table
 fn shape_of(alloc: Global, table: &Table) -> Result<Shape, AllocError>
-    ensures { IfOk result (λ shape. shape ≡ opening.shape_of table.now) }
+    ensures { IfOk result (λ shape. shape ≡ opening.table_shape table.now) }
 {
     let name = Seq::from_slice(alloc, table.name)?;
     let flags = Seq::from_slice(alloc, table.key)?;
@@ -86,7 +86,7 @@ fn shape_of(alloc: Global, table: &Table) -> Result<Shape, AllocError>
 
 /// Copies of the tables.
 pub fn shapes_of(alloc: Global, tables: &[Table]) -> Result<Vec<Shape>, AllocError>
-    ensures { IfOk result (λ shapes. shapes.items ≡ opening.shapes_of tables.now) }
+    ensures { IfOk result (λ shapes. shapes.items ≡ opening.table_shapes tables.now) }
 {
     let mut shapes = Vec::new(alloc);
     for table in tables {

@@ -4,11 +4,11 @@ ghost use Rattle.std.specs.Prelude.{◌≡◌, [], IfErr, IfOk, None, false, tru
 ghost use Rattle.std.specs.Box.{box_value};
 ghost use Rattle.cs_model.specs.Schema.{tables_refusal};
 ghost use Rattle.broker_c.specs.Handle.{IsShut};
-ghost use Rattle.broker_c.specs.Opening.{IsBegun, Opens, RefusesOpening, RefusesTables, TellsWhy};
+ghost use Rattle.broker_c.specs.Opening.{IsBegun, Opens, RefusesOpening, RefusesSchema, TellsWhy};
 ghost use Rattle.broker_c.specs.Opening as opening;
 
 use crate::codes::{BAD_LIMIT, BAD_TABLE, NO_MEMORY, SHUT, Why};
-use crate::handle::Broker;
+use crate::handle::Handle;
 use crate::limits::{Limits, Table, config_of, place_of, shapes_of, table_why};
 use crate::parts::Parts;
 use crate::slot::Slot;
@@ -40,9 +40,9 @@ impl From<AllocError> for OpenError {
 
 // the tables as a schema
 fn schema_of(alloc: Global, tables: &[Table]) -> Result<Schema, OpenError>
-    ensures ok { IfOk result (λ schema. schema ≡ opening.shapes_of tables.now) }
-    ensures fit { IfOk result (λ schema. tables_refusal [] (opening.shapes_of tables.now) ≡ None) }
-    ensures refused { IfErr result (λ error. RefusesTables error tables.now) }
+    ensures ok { IfOk result (λ schema. schema ≡ opening.table_shapes tables.now) }
+    ensures fit { IfOk result (λ schema. tables_refusal [] (opening.table_shapes tables.now) ≡ None) }
+    ensures refused { IfErr result (λ error. RefusesSchema error tables.now) }
 {
     match Schema::new(shapes_of(alloc, tables)?) {
         Ok(schema) => Ok(schema),
@@ -51,7 +51,7 @@ fn schema_of(alloc: Global, tables: &[Table]) -> Result<Schema, OpenError>
 }
 
 // a handle over an empty world, in a box
-fn begun(alloc: Global, config: Config, schema: Schema) -> Result<Box<Broker>, AllocError>
+fn begun(alloc: Global, config: Config, schema: Schema) -> Result<Box<Handle>, AllocError>
     ensures { IfOk result (λ broker. IsBegun config schema (box_value broker)) }
 {
     let world = Box::new(alloc, World::new(alloc, config, schema)?)?;
@@ -59,14 +59,14 @@ fn begun(alloc: Global, config: Config, schema: Schema) -> Result<Box<Broker>, A
         first: 0,
         second: 0,
     };
-    Ok(Box::new(alloc, Broker::of(world, why))?)
+    Ok(Box::new(alloc, Handle::of(world, why))?)
 }
 
 pub(crate) fn opened(
     alloc: Global,
     limits: &Limits,
     tables: &[Table],
-) -> Result<Box<Broker>, OpenError>
+) -> Result<Box<Handle>, OpenError>
     ensures ok { IfOk result (λ broker.
         opening.IsOpened limits.now tables.now (box_value broker)) }
     ensures refused { IfErr result (λ error. RefusesOpening error limits.now tables.now) }
@@ -121,7 +121,7 @@ pub extern "C" fn broker_open(
 /// Lets go of everything behind the handle. The handle itself stays, and its other calls return -1
 /// from then on. A handle that is shut stays as it is.
 #[unsafe(no_mangle)]
-pub extern "C" fn broker_shut(alloc: Global, broker: &mut Broker)
+pub extern "C" fn broker_shut(alloc: Global, broker: &mut Handle)
     ensures shut { IsShut broker.new }
     ensures why { broker.new.why ≡ broker.old.why }
 {
@@ -138,10 +138,10 @@ pub extern "C" fn broker_free(_alloc: Global, slot: Slot)
     drop(slot.into_parts().into_box());
 }
 
-/// Tells the numbers of the last event with a negative code that was -3 or less. Sets `why` to them
+/// TellsOf the numbers of the last event with a negative code that was -3 or less. Sets `why` to them
 /// and returns 0; returns -1 if the handle is shut. It leaves the handle as it is.
 #[unsafe(no_mangle)]
-pub extern "C" fn broker_why(broker: &Broker, why: &mut Why) -> i32
+pub extern "C" fn broker_why(broker: &Handle, why: &mut Why) -> i32
     ensures { TellsWhy result broker.now why.old why.new }
 {
     if !broker.is_open() {

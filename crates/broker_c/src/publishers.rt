@@ -8,7 +8,7 @@ ghost use Rattle.rb_core.specs.declared.event.Event.TheVariants as event;
 ghost use Rattle.broker_c.specs.Serving.{ServesAlone, ServesFeed, ServesNumber};
 
 use crate::codes::{NO_MEMORY, SHUT};
-use crate::handle::Broker;
+use crate::handle::Handle;
 use crate::serving::{serve, serve_number};
 use cs_model::Seq;
 use rb_core::Event;
@@ -16,7 +16,7 @@ use std::alloc::Global;
 
 /// Adds a publisher. Sets `publisher` to its number. Returns 0, or -11 if there are 64 publishers.
 #[unsafe(no_mangle)]
-pub extern "C" fn broker_publisher(alloc: Global, broker: &mut Broker, publisher: &mut u64) -> i32
+pub extern "C" fn broker_publisher(alloc: Global, broker: &mut Handle, publisher: &mut u64) -> i32
     ensures { ServesNumber result event.Publisher broker.old broker.new publisher.old
         publisher.new }
 {
@@ -29,7 +29,7 @@ pub extern "C" fn broker_publisher(alloc: Global, broker: &mut Broker, publisher
 #[unsafe(no_mangle)]
 pub extern "C" fn broker_feed(
     alloc: Global,
-    broker: &mut Broker,
+    broker: &mut Handle,
     publisher: u64,
     bytes: &[u8],
 ) -> i32
@@ -47,7 +47,7 @@ pub extern "C" fn broker_feed(
 /// Drops a publisher's stream, with its fault if it has one, and begins a new one. What is staged
 /// stays. Returns 0, or -10 for an unknown publisher.
 #[unsafe(no_mangle)]
-pub extern "C" fn broker_reset(alloc: Global, broker: &mut Broker, publisher: u64) -> i32
+pub extern "C" fn broker_reset(alloc: Global, broker: &mut Handle, publisher: u64) -> i32
     ensures { ServesAlone result (event.Reset publisher) broker.old broker.new }
 {
     serve(alloc, broker, &Event::Reset { publisher })
@@ -57,7 +57,7 @@ pub extern "C" fn broker_reset(alloc: Global, broker: &mut Broker, publisher: u6
 /// publisher, -12 if one is staged already, -3 for a fault, or -20 or -21 for the first section
 /// that the tables refuse. The stream stays as it is unless the result is 0.
 #[unsafe(no_mangle)]
-pub extern "C" fn broker_end(alloc: Global, broker: &mut Broker, publisher: u64) -> i32
+pub extern "C" fn broker_end(alloc: Global, broker: &mut Handle, publisher: u64) -> i32
     ensures { ServesAlone result (event.End publisher) broker.old broker.new }
 {
     serve(alloc, broker, &Event::End { publisher })
@@ -69,7 +69,7 @@ pub extern "C" fn broker_end(alloc: Global, broker: &mut Broker, publisher: u64)
 #[unsafe(no_mangle)]
 pub extern "C" fn broker_send(
     alloc: Global,
-    broker: &mut Broker,
+    broker: &mut Handle,
     publisher: u64,
     own: &mut u64,
 ) -> i32
@@ -84,7 +84,7 @@ pub extern "C" fn broker_send(
 #[unsafe(no_mangle)]
 pub extern "C" fn broker_withdraw(
     alloc: Global,
-    broker: &mut Broker,
+    broker: &mut Handle,
     publisher: u64,
     entry: u64,
 ) -> i32
@@ -99,7 +99,7 @@ pub extern "C" fn broker_withdraw(
 /// full. A turn that is refused may have taken a changeset out of the intake; the next turn tries
 /// that one first.
 #[unsafe(no_mangle)]
-pub extern "C" fn broker_turn(alloc: Global, broker: &mut Broker, entry: &mut u64) -> i32
+pub extern "C" fn broker_turn(alloc: Global, broker: &mut Handle, entry: &mut u64) -> i32
     ensures { ServesNumber result event.Turn broker.old broker.new entry.old entry.new }
 {
     serve_number(alloc, broker, &Event::Turn, entry)
@@ -108,7 +108,7 @@ pub extern "C" fn broker_turn(alloc: Global, broker: &mut Broker, entry: &mut u6
 /// Closes the sequence: nothing more is sent or placed. Sets `last` to its last number. Returns 0,
 /// also if it is closed already.
 #[unsafe(no_mangle)]
-pub extern "C" fn broker_close(alloc: Global, broker: &mut Broker, last: &mut u64) -> i32
+pub extern "C" fn broker_close(alloc: Global, broker: &mut Handle, last: &mut u64) -> i32
     ensures { ServesNumber result event.Close broker.old broker.new last.old last.new }
 {
     serve_number(alloc, broker, &Event::Close, last)

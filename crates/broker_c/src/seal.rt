@@ -2,7 +2,7 @@
 //! `Vec` crosses to C.
 
 ghost use Rattle.std.specs.Prelude.{◌≡◌, Bool, true, false};
-ghost use Rattle.broker_c.specs.Seal.{Held, held_coded, seal_owns};
+ghost use Rattle.broker_c.specs.Seal.{SealedWorld, sealed_coded, seal_owns};
 
 use crate::parts::Parts;
 use rb_core::World;
@@ -16,7 +16,7 @@ pub struct Seal {
     pointer: *mut u8,
     alloc: Global,
     pub ghost full: { Bool },
-    pub ghost held: { Held } by { held_coded },
+    pub ghost held: { SealedWorld } by { sealed_coded },
 }
 
 impl Model for Seal {

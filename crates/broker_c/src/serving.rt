@@ -5,7 +5,7 @@ ghost use Rattle.broker_c.specs.Serving.{ServesAlone, ServesLink, ServesNumber, 
 ghost use Rattle.broker_c.specs.Serving as serving;
 
 use crate::codes::{NO_MEMORY, SHUT, code};
-use crate::handle::Broker;
+use crate::handle::Handle;
 use rb_core::{Event, Reply};
 use std::alloc::Global;
 
@@ -21,7 +21,7 @@ pub struct Taken {
 
 /// Serves an event whose call has no outputs. Returns the reply's code, -1 if the handle is shut,
 /// or -2 if memory runs out.
-pub fn serve(alloc: Global, broker: &mut Broker, event: &Event) -> i32
+pub fn serve(alloc: Global, broker: &mut Handle, event: &Event) -> i32
     ensures { ServesAlone result event.now broker.old broker.new }
 {
     if !broker.is_open() {
@@ -34,7 +34,7 @@ pub fn serve(alloc: Global, broker: &mut Broker, event: &Event) -> i32
 }
 
 /// As `serve`, and sets `number` to the number that the reply gives, if it gives one.
-pub fn serve_number(alloc: Global, broker: &mut Broker, event: &Event, number: &mut u64) -> i32
+pub fn serve_number(alloc: Global, broker: &mut Handle, event: &Event, number: &mut u64) -> i32
     ensures { ServesNumber result event.now broker.old broker.new number.old number.new }
 {
     if !broker.is_open() {
@@ -52,7 +52,7 @@ pub fn serve_number(alloc: Global, broker: &mut Broker, event: &Event, number: &
 /// As `serve`, and sets `number` and `link` to the new subscription's, if the reply gives one.
 pub fn serve_link(
     alloc: Global,
-    broker: &mut Broker,
+    broker: &mut Handle,
     event: &Event,
     number: &mut u64,
     link: &mut u64,
@@ -74,7 +74,7 @@ pub fn serve_link(
 }
 
 /// As `serve`, and sets `taken` to the delivery that the reply gives, if it gives one.
-pub fn serve_taken(alloc: Global, broker: &mut Broker, event: &Event, taken: &mut Taken) -> i32
+pub fn serve_taken(alloc: Global, broker: &mut Handle, event: &Event, taken: &mut Taken) -> i32
     ensures { ServesTaken result event.now broker.old broker.new taken.old taken.new }
 {
     if !broker.is_open() {

@@ -1,9 +1,9 @@
 //! What C sees as a `broker *`: a handle's box, without its type.
 
 ghost use Rattle.std.specs.Prelude.{◌≡◌, Bool, true, false};
-ghost use Rattle.broker_c.specs.Slot.{Kept, kept_coded, slot_owns};
+ghost use Rattle.broker_c.specs.Slot.{SlotHandle, slot_coded, slot_owns};
 
-use crate::handle::Broker;
+use crate::handle::Handle;
 use crate::parts::Parts;
 use std::alloc::Global;
 use std::marker::Model;
@@ -14,7 +14,7 @@ pub struct Slot {
     pointer: *mut u8,
     alloc: Global,
     pub ghost full: { Bool },
-    pub ghost held: { Kept } by { kept_coded },
+    pub ghost held: { SlotHandle } by { slot_coded },
 }
 
 impl Model for Slot {
@@ -33,7 +33,7 @@ impl Slot {
     }
 
     /// A slot of the parts of a handle's box.
-    pub fn of_parts(parts: Parts<Broker, Global>) -> Slot
+    pub fn of_parts(parts: Parts<Handle, Global>) -> Slot
         ensures { (result.full ≡ true) × (result.held ≡ parts.value) }
     {
         let Parts { pointer, alloc } = parts;
@@ -44,13 +44,13 @@ impl Slot {
     }
 
     /// The parts of the handle's box, from a slot that has one.
-    pub fn into_parts(self) -> Parts<Broker, Global>
+    pub fn into_parts(self) -> Parts<Handle, Global>
         requires { self.full ≡ true }
         ensures { result.value ≡ self.held }
     {
         let Slot { pointer, alloc } = self;
         Parts {
-            pointer: pointer as *mut Broker,
+            pointer: pointer as *mut Handle,
             alloc,
         }
     }

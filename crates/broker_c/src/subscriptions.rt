@@ -8,7 +8,7 @@
 ghost use Rattle.rb_core.specs.declared.event.Event.TheVariants as event;
 ghost use Rattle.broker_c.specs.Serving.{ServesAlone, ServesLink, ServesNumber, ServesTaken};
 
-use crate::handle::Broker;
+use crate::handle::Handle;
 use crate::serving::{Taken, serve, serve_link, serve_number, serve_taken};
 use rb_core::Event;
 use std::alloc::Global;
@@ -19,7 +19,7 @@ use std::alloc::Global;
 #[unsafe(no_mangle)]
 pub extern "C" fn broker_subscribe(
     alloc: Global,
-    broker: &mut Broker,
+    broker: &mut Handle,
     start: u64,
     subscription: &mut u64,
     link: &mut u64,
@@ -42,7 +42,7 @@ pub extern "C" fn broker_subscribe(
 #[unsafe(no_mangle)]
 pub extern "C" fn broker_take(
     alloc: Global,
-    broker: &mut Broker,
+    broker: &mut Handle,
     subscription: u64,
     now: u64,
     taken: &mut Taken,
@@ -58,7 +58,7 @@ pub extern "C" fn broker_take(
 #[unsafe(no_mangle)]
 pub extern "C" fn broker_take_any(
     alloc: Global,
-    broker: &mut Broker,
+    broker: &mut Handle,
     now: u64,
     taken: &mut Taken,
 ) -> i32
@@ -74,7 +74,7 @@ pub extern "C" fn broker_take_any(
 #[unsafe(no_mangle)]
 pub extern "C" fn broker_accept(
     alloc: Global,
-    broker: &mut Broker,
+    broker: &mut Handle,
     delivery: u64,
     cursor: &mut u64,
 ) -> i32
@@ -90,7 +90,7 @@ pub extern "C" fn broker_accept(
 #[unsafe(no_mangle)]
 pub extern "C" fn broker_crash(
     alloc: Global,
-    broker: &mut Broker,
+    broker: &mut Handle,
     delivery: u64,
     kept: bool,
     cursor: &mut u64,
@@ -107,7 +107,7 @@ pub extern "C" fn broker_crash(
 #[unsafe(no_mangle)]
 pub extern "C" fn broker_ack(
     alloc: Global,
-    broker: &mut Broker,
+    broker: &mut Handle,
     delivery: u64,
     floor: &mut u64,
 ) -> i32
@@ -119,7 +119,7 @@ pub extern "C" fn broker_ack(
 /// Gives a delivery back: its entries are ready again. Returns 0, -33 for an unknown delivery, -31
 /// under an old link, or -34 if it isn't in flight.
 #[unsafe(no_mangle)]
-pub extern "C" fn broker_nack(alloc: Global, broker: &mut Broker, delivery: u64) -> i32
+pub extern "C" fn broker_nack(alloc: Global, broker: &mut Handle, delivery: u64) -> i32
     ensures { ServesAlone result (event.Nack delivery) broker.old broker.new }
 {
     serve(alloc, broker, &Event::Nack { delivery })
@@ -130,7 +130,7 @@ pub extern "C" fn broker_nack(alloc: Global, broker: &mut Broker, delivery: u64)
 #[unsafe(no_mangle)]
 pub extern "C" fn broker_nack_opened(
     alloc: Global,
-    broker: &mut Broker,
+    broker: &mut Handle,
     delivery: u64,
     count: &mut u64,
 ) -> i32
@@ -145,7 +145,7 @@ pub extern "C" fn broker_nack_opened(
 #[unsafe(no_mangle)]
 pub extern "C" fn broker_expire(
     alloc: Global,
-    broker: &mut Broker,
+    broker: &mut Handle,
     now: u64,
     count: &mut u64,
 ) -> i32
@@ -160,7 +160,7 @@ pub extern "C" fn broker_expire(
 #[unsafe(no_mangle)]
 pub extern "C" fn broker_reconnect(
     alloc: Global,
-    broker: &mut Broker,
+    broker: &mut Handle,
     subscription: u64,
     cursor: u64,
     link: &mut u64,
@@ -181,7 +181,7 @@ pub extern "C" fn broker_reconnect(
 #[unsafe(no_mangle)]
 pub extern "C" fn broker_resume(
     alloc: Global,
-    broker: &mut Broker,
+    broker: &mut Handle,
     subscription: u64,
     link: &mut u64,
 ) -> i32
@@ -193,7 +193,7 @@ pub extern "C" fn broker_resume(
 
 /// Closes a subscription. Returns 0, -30 for an unknown one, or -14 if it is closed already.
 #[unsafe(no_mangle)]
-pub extern "C" fn broker_unsubscribe(alloc: Global, broker: &mut Broker, subscription: u64) -> i32
+pub extern "C" fn broker_unsubscribe(alloc: Global, broker: &mut Handle, subscription: u64) -> i32
     ensures { ServesAlone result (event.Unsubscribe subscription) broker.old broker.new }
 {
     serve(alloc, broker, &Event::Unsubscribe { subscription })

@@ -1,7 +1,7 @@
 //! What no clause says: with enough memory a broker opens, and a changeset goes through it. The
 //! contracts state the rest.
 
-use crate::handle::Broker;
+use crate::handle::Handle;
 use crate::limits::{Limits, Table};
 use crate::opening::{broker_shut, opened};
 use crate::publishers::{broker_end, broker_feed, broker_publisher, broker_send, broker_turn};
@@ -27,7 +27,7 @@ const LIMITS: Limits = Limits {
 };
 
 // a publisher's changeset becomes entry 1
-fn publishes(rt: &impl Abort, alloc: Global, broker: &mut Broker) {
+fn publishes(rt: &impl Abort, alloc: Global, broker: &mut Handle) {
     let (mut publisher, mut own, mut entry) = (7, 7, 7);
     assert_eq!(rt; broker_publisher(alloc, broker, &mut publisher), 0);
     assert_eq!(rt; broker_feed(alloc, broker, 0, &INSERTED), 0);
@@ -38,7 +38,7 @@ fn publishes(rt: &impl Abort, alloc: Global, broker: &mut Broker) {
 }
 
 // a subscription takes, accepts and settles it
-fn delivers(rt: &impl Abort, alloc: Global, broker: &mut Broker) {
+fn delivers(rt: &impl Abort, alloc: Global, broker: &mut Handle) {
     let (mut number, mut link, mut cursor, mut floor) = (7, 7, 7, 7);
     let mut taken = Taken {
         number: 7,
@@ -61,7 +61,7 @@ fn delivers(rt: &impl Abort, alloc: Global, broker: &mut Broker) {
 }
 
 // its text is read, alone and combined
-fn tells(rt: &impl Abort, alloc: Global, broker: &mut Broker) {
+fn tells(rt: &impl Abort, alloc: Global, broker: &mut Handle) {
     let mut out = [9u8; 26];
     assert_eq!(rt; broker_text(alloc, broker, 1, &mut out), 26);
     assert!(rt; out == INSERTED);

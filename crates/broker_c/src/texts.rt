@@ -6,13 +6,13 @@ ghost use Rattle.cs_write.specs.Buffer.{given};
 ghost use Rattle.cs_write.specs.Text.{text_of};
 ghost use Rattle.rb_core.specs.Combined.{combined_of};
 ghost use Rattle.rb_core.specs.Outcome.{entry_of};
-ghost use Rattle.broker_c.specs.Texts.{AboutIs, CombinedIs, CursorIs, TextIs};
+ghost use Rattle.broker_c.specs.Texts.{IsAboutOf, IsCombinedOf, IsCursorOf, IsTextOf};
 ghost use Rattle.broker_c.specs.Texts.{ReadsAbout, ReadsCombined, ReadsCursor, ReadsFront};
 ghost use Rattle.broker_c.specs.Texts.{ReadsLeft, ReadsText};
 ghost use Rattle.broker_c.specs.Texts as texts;
 
 use crate::codes::{NO_MEMORY, NO_SUBSCRIPTION, NOT_PLACED, SHUT};
-use crate::handle::Broker;
+use crate::handle::Handle;
 use cs_model::{Changeset, Origin};
 use cs_write::write_to;
 use rb_core::{Entry, World};
@@ -31,7 +31,7 @@ pub struct About {
 /// The canonical text of an entry's changeset. Returns its length, and writes it to the front of
 /// `out` if there is room for it. Returns -16 if no entry has this number.
 #[unsafe(no_mangle)]
-pub extern "C" fn broker_text(alloc: Global, broker: &mut Broker, entry: u64, out: &mut [u8]) -> i64
+pub extern "C" fn broker_text(alloc: Global, broker: &mut Handle, entry: u64, out: &mut [u8]) -> i64
     ensures { ReadsText result entry broker.old broker.new out.old out.new }
 {
     if !broker.is_open() {
@@ -46,7 +46,7 @@ pub extern "C" fn broker_text(alloc: Global, broker: &mut Broker, entry: u64, ou
 
 // the length of an entry's text, which is written if there is room for it; or -16
 fn text_into(world: &World, number: u64, out: &mut [u8]) -> i64
-    ensures { TextIs result (entry_of world.now number) out.old out.new }
+    ensures { IsTextOf result (entry_of world.now number) out.old out.new }
 {
     let Some(entry) = world.entry(number) else {
         return i64::from(NOT_PLACED);
@@ -65,7 +65,7 @@ fn text_into(world: &World, number: u64, out: &mut [u8]) -> i64
 #[unsafe(no_mangle)]
 pub extern "C" fn broker_combined(
     alloc: Global,
-    broker: &mut Broker,
+    broker: &mut Handle,
     first: u64,
     last: u64,
     out: &mut [u8],
@@ -84,7 +84,7 @@ pub extern "C" fn broker_combined(
 
 // the length of the combined text, which is written if there is room for it; -16; or -2
 fn combined_into(alloc: Global, world: &World, first: u64, last: u64, out: &mut [u8]) -> i64
-    ensures { CombinedIs result (combined_of world.now first last) out.old out.new }
+    ensures { IsCombinedOf result (combined_of world.now first last) out.old out.new }
 {
     match world.combined(alloc, first, last) {
         Ok(Some(changeset)) => written(alloc, &changeset, out),
@@ -95,7 +95,7 @@ fn combined_into(alloc: Global, world: &World, first: u64, last: u64, out: &mut 
 
 // the same of a changeset
 fn written(alloc: Global, changeset: &Changeset, out: &mut [u8]) -> i64
-    ensures { CombinedIs result (Some changeset.now) out.old out.new }
+    ensures { IsCombinedOf result (Some changeset.now) out.old out.new }
 {
     match text_of(alloc, changeset, out) {
         Ok(len) => len,
@@ -118,7 +118,7 @@ fn text_of(alloc: Global, changeset: &Changeset, out: &mut [u8]) -> Result<i64, 
 #[unsafe(no_mangle)]
 pub extern "C" fn broker_entry(
     alloc: Global,
-    broker: &mut Broker,
+    broker: &mut Handle,
     entry: u64,
     about: &mut About,
 ) -> i32
@@ -135,7 +135,7 @@ pub extern "C" fn broker_entry(
 }
 
 fn about_into(world: &World, number: u64, about: &mut About) -> i32
-    ensures { AboutIs result (entry_of world.now number) about.old about.new }
+    ensures { IsAboutOf result (entry_of world.now number) about.old about.new }
 {
     let Some(entry) = world.entry(number) else {
         return NOT_PLACED;
@@ -155,7 +155,7 @@ fn about_of(entry: &Entry) -> About
 }
 
 fn withdrawn_by(origin: Origin) -> u64
-    ensures { result ≡ texts.withdrawn_by origin }
+    ensures { result ≡ texts.withdraws_of origin }
 {
     match origin {
         Origin::Sent => 0,
@@ -165,7 +165,7 @@ fn withdrawn_by(origin: Origin) -> u64
 
 /// The last number placed. Sets `entry` to it, or to 0 if there is none, and returns 0.
 #[unsafe(no_mangle)]
-pub extern "C" fn broker_front(alloc: Global, broker: &mut Broker, entry: &mut u64) -> i32
+pub extern "C" fn broker_front(alloc: Global, broker: &mut Handle, entry: &mut u64) -> i32
     ensures { ReadsFront result broker.old broker.new entry.old entry.new }
 {
     if !broker.is_open() {
@@ -180,7 +180,7 @@ pub extern "C" fn broker_front(alloc: Global, broker: &mut Broker, entry: &mut u
 
 /// How many changesets are sent and not placed. Sets `count` to it and returns 0.
 #[unsafe(no_mangle)]
-pub extern "C" fn broker_left(alloc: Global, broker: &mut Broker, count: &mut u64) -> i32
+pub extern "C" fn broker_left(alloc: Global, broker: &mut Handle, count: &mut u64) -> i32
     ensures { ReadsLeft result broker.old broker.new count.old count.new }
 {
     if !broker.is_open() {
@@ -198,7 +198,7 @@ pub extern "C" fn broker_left(alloc: Global, broker: &mut Broker, count: &mut u6
 #[unsafe(no_mangle)]
 pub extern "C" fn broker_cursor(
     alloc: Global,
-    broker: &mut Broker,
+    broker: &mut Handle,
     subscription: u64,
     cursor: &mut u64,
 ) -> i32
@@ -215,7 +215,7 @@ pub extern "C" fn broker_cursor(
 }
 
 fn cursor_into(world: &World, subscription: u64, cursor: &mut u64) -> i32
-    ensures { CursorIs result (texts.cursor_of world.now subscription) cursor.old cursor.new }
+    ensures { IsCursorOf result (texts.cursor_in world.now subscription) cursor.old cursor.new }
 {
     match world.cursor(subscription) {
         Some(found) => {

@@ -13,10 +13,10 @@ use Rattle.std_alloc.proofs.SendSync.{quiet, lies}
 use Rattle.std_heap.proofs.Global.TheSendSync as handle
 use Rattle.rb_core.specs.contracts.world.World as World
 use Rattle.rb_core.proofs.world.World.TheSendSync.{the_send as world}
-use Rattle.broker_c.specs.Seal.{Held, seal_owns}
+use Rattle.broker_c.specs.Seal.{SealedWorld, seal_owns}
 use Rattle.broker_c.specs.contracts.seal.Seal.{the_row, the_type}
 
-owned : (full : Bool) (alloc : Global) (pointer : Ptr) (held : Held) → Keyless (seal_owns full alloc pointer held)
+owned : (full : Bool) (alloc : Global) (pointer : Ptr) (held : SealedWorld) → Keyless (seal_owns full alloc pointer held)
 owned true alloc pointer held =
     (lies World.the_row world pointer held, heap.frees.frees alloc (raw (lone World.the_row.mir)) pointer)
 owned false alloc pointer held = tt

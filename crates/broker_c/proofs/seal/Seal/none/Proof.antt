@@ -6,7 +6,7 @@ use Rattle.broker_c.proofs.Steps.{pass_all, free_all, look_at, get, sets, yes, t
 use Rattle.broker_c.proofs.Steps.{stay_dropped, walk_of, ends_at, Goes-dropped, proved_at, handle_tells, false}
 use Rattle.broker_c.proofs.Steps.{null_ptr, ptr_val, vstruct, of_list, Valss, within, shape, fields, to, and_tt, has_ty}
 use Rattle.broker_c.proofs.Steps.{α, lit<}
-use Rattle.broker_c.proofs.AsBox.{E, Alloc}
+use Rattle.broker_c.proofs.AsBox.{SealBx, Alloc}
 use Rattle.broker_c.specs.Seal.{no_world}
 use Rattle.broker_c.specs.contracts.seal.Seal as Seal
 use Rattle.broker_c.specs.contracts.seal.Seal.none as F
@@ -27,13 +27,13 @@ none_spec 𝓤 𝓛 𝓜 𝓡 wired =
     let a = z.0.3.0 in
     let To = type_at F.signature.result tt in
     let made : To.Denot = record { pointer = null_ptr; alloc = a; full = false; held = no_world } in
-    qed 𝓛 ((‵ ftrue ⊛ ‵ (fsep (E.al.row.own_val a z.0.4.0) ftrue)) ∷ raw (emp 𝓤) ∷ []) ∵
-    split ! $ drop ! $ fsplit ! $ move ! (1 ∷ 2 ∷ []) $ drop ! $ drop ! $ handle_tells E.al ! a z.0.4.0 (λ h is fits.
+    qed 𝓛 ((‵ ftrue ⊛ ‵ (fsep (SealBx.al.row.own_val a z.0.4.0) ftrue)) ∷ raw (emp 𝓤) ∷ []) ∵
+    split ! $ drop ! $ fsplit ! $ move ! (1 ∷ 2 ∷ []) $ drop ! $ drop ! $ handle_tells SealBx.al ! a z.0.4.0 (λ h is fits.
     let w : Val = vstruct (of_list (ptr_val null_ptr ∷ h ∷ [])) in
     regoal ! (λ (us : List Val). prop (WpFn 𝓤 𝓛.H 𝓣.C 𝓣.Λ code.function (us ++ []) Post)) is refl $
     enter ! 𝓣.C 𝓣.Λ code.function (h ∷ []) _ $ alloc_all ! (λ ls. pass_all ! refl (fits, tt) $
     sets ! (agg ! (and_then ! (lit ! tt) (and_then ! (get ! refl) (no_more !)))) refl
-    (and_tt (has_ty (α E.al) h) fits.0, (record { fits = lit< tt }, (fits.1, tt))) $
+    (and_tt (has_ty (α SealBx.al) h) fits.0, (record { fits = lit< tt }, (fits.1, tt))) $
     returns ! (look_at ! 0 refl) $ free_all ! refl $
     nothing ! $ nothing ! $ move ! (2 ∷ 0 ∷ []) $ fjoin ! $
     feq_i ! (List Val) (ptr_val null_ptr ∷ []) (ptr_val null_ptr ∷ []) refl $ fjoin ! $

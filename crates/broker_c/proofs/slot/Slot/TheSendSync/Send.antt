@@ -11,14 +11,14 @@ use Rattle.std.specs.Prelude.{Bool, true, false}
 use Rattle.std.proofs.Crossing as heap
 use Rattle.std_alloc.proofs.SendSync.{quiet, lies}
 use Rattle.std_heap.proofs.Global.TheSendSync as handle
-use Rattle.broker_c.specs.contracts.handle.Broker as Broker
-use Rattle.broker_c.proofs.handle.Broker.TheSendSync.{the_send as broker}
-use Rattle.broker_c.specs.Slot.{Kept, slot_owns}
+use Rattle.broker_c.specs.contracts.handle.Handle as Handle
+use Rattle.broker_c.proofs.handle.Handle.TheSendSync.{the_send as broker}
+use Rattle.broker_c.specs.Slot.{SlotHandle, slot_owns}
 use Rattle.broker_c.specs.contracts.slot.Slot.{the_row, the_type}
 
-owned : (full : Bool) (alloc : Global) (pointer : Ptr) (held : Kept) → Keyless (slot_owns full alloc pointer held)
+owned : (full : Bool) (alloc : Global) (pointer : Ptr) (held : SlotHandle) → Keyless (slot_owns full alloc pointer held)
 owned true alloc pointer held =
-    (lies Broker.the_row broker pointer held, heap.frees.frees alloc (raw (lone Broker.the_row.mir)) pointer)
+    (lies Handle.the_row broker pointer held, heap.frees.frees alloc (raw (lone Handle.the_row.mir)) pointer)
 owned false alloc pointer held = tt
 
 pub send : IsSend the_row

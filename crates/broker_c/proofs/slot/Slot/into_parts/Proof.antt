@@ -5,7 +5,7 @@ use Rattle.broker_c.proofs.Steps.{regoal, rewrite, suffices, done, whole, sub, a
 use Rattle.broker_c.proofs.Steps.{of_opd, returns, enter, alloc_all, pass_all, free_all, look_at, get, get_in, sets}
 use Rattle.broker_c.proofs.Steps.{yes, type_at, heard, nothing, says, Stays, stay_dropped, walk_of, ends_at}
 use Rattle.broker_c.proofs.Steps.{Goes-dropped, proved_at, D, B, word, box_typed, box_out, box_in, Bool, true}
-use Rattle.broker_c.proofs.AsSlot.{E, Slotted}
+use Rattle.broker_c.proofs.AsSlot.{SlotBx, Slotted}
 use Rattle.broker_c.specs.contracts.slot.Slot as Slot
 use Rattle.broker_c.specs.contracts.slot.Slot.into_parts as F
 use Rattle.broker_c.specs.contracts.slot.Slot.into_parts.Key.{name as #self}
@@ -23,7 +23,7 @@ into_parts_spec 𝓤 𝓛 𝓜 𝓡 wired =
     (code.unfolded 𝓤 𝓛.H 𝓜 𝓡 wired) (λ z are.
     let Post = (walk_of 𝓛 F.ended stayed c).post z in
     let s = z.0.3.0 in
-    let v : D E = record { ptr = s.pointer; alloc = s.alloc; value = s.held } in
+    let v : D SlotBx = record { ptr = s.pointer; alloc = s.alloc; value = s.held } in
     let To = type_at F.signature.result tt in
     let made : To.Denot = record { pointer = v.ptr; alloc = v.alloc; value = v.value } in
     let at : Bool → Slot.the_row.Denot =
@@ -31,16 +31,16 @@ into_parts_spec 𝓤 𝓛 𝓜 𝓡 wired =
     let owned : Bool → Item 𝓤 = λ full. ‵ (Slot.the_row.own_val (at full) z.0.4.0) in
     qed 𝓛 ((‵ ftrue ⊛ ‵ (fsep (Slot.the_row.own_val s z.0.4.0) ftrue)) ∷ raw (fact 𝓤 (s.full ≡ true)) ∷ []) ∵
     move ! (1 ∷ []) $ heard ! (s.full ≡ true) (λ is_full.
-    split ! $ drop ! $ fsplit ! $ rewrite ! 0 owned is_full refl $ use1 𝓛 (‵ ((B E).own_val v z.0.4.0)) (id⊢ 𝓤 _) $
-    box_out E ! v z.0.4.0 (λ b o h e is fits. box_in E ! v b o v.value e refl $
-    use1 𝓛 (‵ (To.own_val made (word E h b o ∷ []))) (id⊢ 𝓤 _) $ move ! (1 ∷ []) $ drop ! $
-    let w = word E h b o in
+    split ! $ drop ! $ fsplit ! $ rewrite ! 0 owned is_full refl $ use1 𝓛 (‵ ((B SlotBx).own_val v z.0.4.0)) (id⊢ 𝓤 _) $
+    box_out SlotBx ! v z.0.4.0 (λ b o h e is fits. box_in SlotBx ! v b o v.value e refl $
+    use1 𝓛 (‵ (To.own_val made (word SlotBx h b o ∷ []))) (id⊢ 𝓤 _) $ move ! (1 ∷ []) $ drop ! $
+    let w = word SlotBx h b o in
     regoal ! (λ (us : List Val). prop (WpFn 𝓤 𝓛.H 𝓣.C 𝓣.Λ code.function (us ++ []) Post)) is refl $
-    enter ! 𝓣.C 𝓣.Λ code.function (w ∷ []) _ $ alloc_all ! (λ ls. pass_all ! refl (box_typed E h b o fits, tt) $
+    enter ! 𝓣.C 𝓣.Λ code.function (w ∷ []) _ $ alloc_all ! (λ ls. pass_all ! refl (box_typed SlotBx h b o fits, tt) $
     sets ! (of_opd ! (get_in ! (fld ! refl (stop !)) (sub ! 0 refl (whole !)))) refl (tt, tt) $
     sets ! (of_opd ! (get_in ! (fld ! refl (stop !)) (sub ! 1 refl (whole !)))) refl fits $
     sets ! (of_opd ! (get ! refl)) refl (tt, tt) $
-    sets ! (agg ! (and_then ! (get ! refl) (and_then ! (get ! refl) (no_more !)))) refl (box_typed E h b o fits) $
+    sets ! (agg ! (and_then ! (get ! refl) (and_then ! (get ! refl) (no_more !)))) refl (box_typed SlotBx h b o fits) $
     returns ! (look_at ! 0 refl) $ free_all ! refl $
     suffices ! _ (ends_at 𝓛 F.ended stayed c z w made (tt, tt) (tt, tt)) $ says ! refl $
     nothing ! $ nothing ! $ fjoin ! $ join ! $ nothing ! $ join ! $ done !))))
