@@ -151,7 +151,7 @@ struct broker_limits {
     uint64_t capacity;
     /* The most changesets that wait to be placed, 1 to 4,096. */
     uint64_t intake;
-    /* 1 to 16; 1 where nothing is known. The calls here apply a changeset in the caller's thread, whatever it is. */
+    /* 1 to 16. These calls apply a changeset in the caller's thread, so it changes nothing here. */
     uint64_t appliers;
 };
 

@@ -41,7 +41,8 @@ impl From<AllocError> for OpenError {
 // the tables as a schema
 fn schema_of(alloc: Global, tables: &[Table]) -> Result<Schema, OpenError>
     ensures ok { IfOk result (λ schema. schema ≡ opening.table_shapes tables.now) }
-    ensures fit { IfOk result (λ schema. tables_refusal [] (opening.table_shapes tables.now) ≡ None) }
+    ensures fit { IfOk result (λ schema.
+        tables_refusal [] (opening.table_shapes tables.now) ≡ None) }
     ensures refused { IfErr result (λ error. RefusesSchema error tables.now) }
 {
     match Schema::new(shapes_of(alloc, tables)?) {
@@ -138,8 +139,8 @@ pub extern "C" fn broker_free(_alloc: Global, slot: Slot)
     drop(slot.into_parts().into_box());
 }
 
-/// TellsOf the numbers of the last event with a negative code that was -3 or less. Sets `why` to them
-/// and returns 0; returns -1 if the handle is shut. It leaves the handle as it is.
+/// Tells the numbers of the last event whose code was -3 or less. Sets `why` to them and returns 0,
+/// or returns -1 if the handle is shut. It leaves the handle as it is.
 #[unsafe(no_mangle)]
 pub extern "C" fn broker_why(broker: &Handle, why: &mut Why) -> i32
     ensures { TellsWhy result broker.now why.old why.new }

@@ -16,7 +16,8 @@ use Rattle.rb_core.proofs.world.World.TheSendSync.{the_send as world}
 use Rattle.broker_c.specs.Seal.{SealedWorld, seal_owns}
 use Rattle.broker_c.specs.contracts.seal.Seal.{the_row, the_type}
 
-owned : (full : Bool) (alloc : Global) (pointer : Ptr) (held : SealedWorld) → Keyless (seal_owns full alloc pointer held)
+owned : (full : Bool) (alloc : Global) (pointer : Ptr) (held : SealedWorld)
+    → Keyless (seal_owns full alloc pointer held)
 owned true alloc pointer held =
     (lies World.the_row world pointer held, heap.frees.frees alloc (raw (lone World.the_row.mir)) pointer)
 owned false alloc pointer held = tt

@@ -28,7 +28,8 @@ none_spec 𝓤 𝓛 𝓜 𝓡 wired =
     let To = type_at F.signature.result tt in
     let made : To.Denot = record { pointer = null_ptr; alloc = a; full = false; held = no_world } in
     qed 𝓛 ((‵ ftrue ⊛ ‵ (fsep (SealBx.al.row.own_val a z.0.4.0) ftrue)) ∷ raw (emp 𝓤) ∷ []) ∵
-    split ! $ drop ! $ fsplit ! $ move ! (1 ∷ 2 ∷ []) $ drop ! $ drop ! $ handle_tells SealBx.al ! a z.0.4.0 (λ h is fits.
+    split ! $ drop ! $ fsplit ! $ move ! (1 ∷ 2 ∷ []) $ drop ! $ drop ! $
+    handle_tells SealBx.al ! a z.0.4.0 (λ h is fits.
     let w : Val = vstruct (of_list (ptr_val null_ptr ∷ h ∷ [])) in
     regoal ! (λ (us : List Val). prop (WpFn 𝓤 𝓛.H 𝓣.C 𝓣.Λ code.function (us ++ []) Post)) is refl $
     enter ! 𝓣.C 𝓣.Λ code.function (h ∷ []) _ $ alloc_all ! (λ ls. pass_all ! refl (fits, tt) $
