@@ -26,7 +26,8 @@ for input in examples/drives/*.drive crates/rb_drive_cases/data/*.drive "$most.d
     [ -f "$input" ] || continue
     name=${input%.drive}
     first "$name.args" ''
-    words=$found
+    # each number of appliers is tried below, whatever the options say of it
+    words=$(echo "$found" | sed 's/--appliers [0-9]*//')
     if [ -f "$name.fault" ]; then
         wanted=1 report=/dev/null
         first "$name.fault" ''
