@@ -1,5 +1,5 @@
 #!/bin/sh
-# Refuses each allocation of the program in turn, for four scripts. The program must then say that memory ran out, with
+# Refuses each allocation of the program in turn, for five scripts. The program must then say that memory ran out, with
 # status 1 and the answers to some first lines of the script; or do without, and answer all of them.
 #   sh refused/run.sh        needs gcc, and the program as `rt run` leaves it (README.md)
 . "$(dirname "$0")/shim.sh"
@@ -16,7 +16,8 @@ judge() {
     fi
 }
 
-for script in examples/first.script refused/changes.script refused/groups.script refused/withdrawals.script; do
+for script in examples/first.script refused/changes.script refused/groups.script refused/withdrawals.script \
+    refused/openings.script; do
     if ! "$program" script <"$script" >"$work/all" || [ ! -s "$work/all" ]; then
         wrong "$script: fails where nothing is refused"
         continue
