@@ -134,7 +134,7 @@ static void subscribes(broker *b) {
     why(b);
     CALL(broker_cursor(b, subscription, &count));
     note((int64_t)count);
-    /* the second one lacks the row */
+    /* the second one has no such row */
     take(b, second, &delivery);
     accept(b, delivery.number);
     CALL(broker_expire(b, 99, &count));

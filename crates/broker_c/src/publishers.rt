@@ -1,8 +1,8 @@
 //! The calls for publishers and for the sequence.
 //!
 //! Every call returns the code of its reply: 0, or a negative one. It returns -1 if the handle is
-//! shut, and -2 if memory runs out. A call with a negative code sets no output. Only a fault keeps
-//! the bytes that it is told of, and only a refused turn may change the world (`BrokerRefusal`).
+//! shut, and -2 if memory runs out. A call with a negative code sets no output. A stream
+//! keeps its fault, and a refused turn may change the world (`BrokerRefusal`).
 
 ghost use Rattle.rb_core.specs.declared.event.Event.TheVariants as event;
 ghost use Rattle.broker_c.specs.Serving.{ServesAlone, ServesFeed, ServesNumber};

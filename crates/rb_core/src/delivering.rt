@@ -143,7 +143,8 @@ impl Parts {
     /// Negatively acknowledges a delivery and opens it: each of its entries is ready again, alone.
     pub(crate) fn nack_opened(&mut self, delivery: u64) -> Result<Reply, AllocError>
         requires { IsWorld self.old }
-        ensures ok { IfOk result (λ reply. outcome.nacked_opened self.old delivery ≡ (reply, self.new)) }
+        ensures ok { IfOk result (λ reply.
+            outcome.nacked_opened self.old delivery ≡ (reply, self.new)) }
         ensures err { OnErr result (self.new ≡ self.old) }
         ensures memory { OnErr result (MayRunOut (event.NackOpened delivery)
             (outcome.nacked_opened self.old delivery).0) }
