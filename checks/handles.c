@@ -2,12 +2,20 @@
  * again, and gives what it gives with memory, so it has changed nothing. Behind each run as many bytes are in use as
  * before it. Prints the numbers. */
 #include "broker.h"
+#include "changeset.h"
 #include "count.h"
 
 #include <stdio.h>
 #include <string.h>
 
-enum { MOST_NOTES = 600 };
+enum { MOST_NOTES = 1200 };
+
+/* both headers number a kind of fault alike: else an array would have no length */
+#define ALIKE(kind) ((int)BROKER_FAULT_##kind == (int)CHANGESET_##kind ? 1 : -1)
+extern char alike[ALIKE(BAD_MARKER)], alike[ALIKE(PATCHSET)], alike[ALIKE(COLUMNS)], alike[ALIKE(NO_KEY)],
+    alike[ALIKE(EMPTY_NAME)], alike[ALIKE(NAME_TOO_LONG)], alike[ALIKE(BAD_OPERATION)], alike[ALIKE(BAD_TYPE)],
+    alike[ALIKE(REAL)], alike[ALIKE(UNDEFINED_FIELD)], alike[ALIKE(KEY_MISSING)], alike[ALIKE(KEY_CHANGED)],
+    alike[ALIKE(ONE_SIDED)], alike[ALIKE(VALUE_TOO_LONG)], alike[ALIKE(TOO_LONG)], alike[ALIKE(TRUNCATED)];
 
 /* what the calls of a run gave: results and outputs */
 struct notes {
@@ -163,6 +171,37 @@ static void reads(broker *b) {
     }
 }
 
+/* the rows of a subscription, each of them alone, and what is refused */
+static void rows(broker *b) {
+    static const unsigned char key[] = {INTEGER(1)}, none[] = {INTEGER(2)};
+    unsigned char out[100];
+    for (uint64_t subscription = 0; subscription <= 2; subscription++) {
+        memset(out, 0xee, sizeof out);
+        CALL(broker_rows(b, subscription, out, 20));
+        CALL(broker_rows(b, subscription, out, sizeof out));
+        for (size_t i = 0; i < sizeof out; i += 5) note(out[i]);
+        for (uint64_t table = 0; table <= 1; table++) {
+            memset(out, 0xee, sizeof out);
+            CALL(broker_row(b, subscription, table, key, sizeof key, out, sizeof out));
+            CALL(broker_row(b, subscription, table, none, sizeof none, out, sizeof out));
+            CALL(broker_row(b, subscription, table, key, 0, out, 0));
+            for (size_t i = 0; i < sizeof out; i += 5) note(out[i]);
+        }
+    }
+}
+
+/* every number has words, which end with the only zero byte */
+static void says(void) {
+    char words[BROKER_MESSAGE_ROOM + 1];
+    for (int code = 2; code >= -50; code--) {
+        memset(words, 'x', sizeof words);
+        int64_t len = broker_message(code, words, BROKER_MESSAGE_ROOM);
+        note(len);
+        note(memchr(words, 0, sizeof words) == words + len - 1 && words[len] == 'x');
+        note(broker_message(code, words, (size_t)len - 1));
+    }
+}
+
 static void run(void) {
     static const unsigned char key[] = {1, 0};
     struct broker_limits limits = BROKER_LIMITS;
@@ -180,6 +219,8 @@ static void run(void) {
     publishes(b);
     subscribes(b);
     reads(b);
+    rows(b);
+    says();
     CALL(broker_close(b, &last));
     CALL(broker_close(b, &last));
     note((int64_t)last);
@@ -187,6 +228,7 @@ static void run(void) {
     broker_shut(b);
     turn(b);
     why(b);
+    rows(b);
     broker_free(b);
 }
 

@@ -1,7 +1,7 @@
 #!/bin/sh
-# Kills drives whose subscriber 0 is durable at random moments (SIGKILL), and reads their replica by the shell sqlite3: it is
-# whole (PRAGMA integrity_check), and its rows and its mark are those of one accepted run. Prints how often the replica was not
-# there yet, was whole with which marks, and was at its end.
+# Kills drives whose subscriber 0 is durable at random moments (SIGKILL, SIGTERM and SIGHUP in turn), and reads their replica
+# by the shell sqlite3: it is whole (PRAGMA integrity_check), and its rows and its mark are those of one accepted run. Prints
+# how often the replica was not there yet, was whole with which marks, and was at its end.
 #   sh checks/killed.sh [TIMES] [SEED]      200 times; needs sqlite3, python3 and the program as `rt run` leaves it (README.md)
 cd "$(dirname "$0")/.." || exit 2
 program=$PWD/crates/rb_run/out/rb_run
@@ -20,19 +20,20 @@ fail() {
 begun=$(date +%s.%N)
 "$program" drive --batch "$batch" --replica "$work/whole.db" <"$work/in" >"$work/out" || fail 'a drive fails that nobody kills'
 awk -v n="$times" -v seed="$seed" -v begun="$begun" -v ended="$(date +%s.%N)" \
-    'BEGIN { srand(seed); for (i = 0; i < n; i++) printf "%.3f\n", rand() * (ended - begun) * 1.1 }' >"$work/moments"
+    'BEGIN { srand(seed); split("KILL TERM HUP", signals)
+        for (i = 0; i < n; i++) printf "%.3f %s\n", rand() * (ended - begun) * 1.1, signals[i % 3 + 1] }' >"$work/moments"
 
 # sql FILE SQL
 sql() { sqlite3 -bail -batch "$1" "$2"; }
 
 none=0 begun=0 ended=0
-while read -r moment; do
+while read -r moment signal; do
     file=$work/replica.db
     rm -f "$file"*
     "$program" drive --batch "$batch" --replica "$file" <"$work/in" >"$work/out" 2>"$work/err" &
     drive=$!
     sleep "$moment"
-    kill -KILL "$drive" 2>/dev/null
+    kill -"$signal" "$drive" 2>/dev/null
     # it holds the file until it is gone
     wait "$drive" 2>/dev/null
     if [ ! -s "$file" ] && [ ! -s "$file-wal" ]; then

@@ -75,6 +75,7 @@ static void combine(int64_t changes) {
     unsigned long count, ignored;
     int64_t answer = combine_again(len <= MOST ? len : MOST, 0, &count);
     must((changes < 0) == (answer == CHANGESET_NONE), "changeset_combine reads otherwise");
+    must(answer != CHANGESET_NO_MEMORY, "changeset_combine is out of memory where none is refused");
     for (unsigned long number = 1; number <= count; number++) {
         int64_t now = combine_again(0, number, &ignored);
         must(now == answer || now == CHANGESET_NO_MEMORY, "changeset_combine answers wrongly without memory");
@@ -147,6 +148,7 @@ int main(void) {
     for (unsigned key = 0; key < 500; key++) put_insert(key, 40);
     must(check() == 500, "changeset_check counts wrongly");
     call();
+
 
     /* the longest text, and a byte more */
     len = 0;

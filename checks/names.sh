@@ -1,11 +1,14 @@
 #!/bin/sh
 # Lists names that mean two things, a line each: a name of specs/ or proofs/ that is defined in more than one file, or
-# differs from another's only in case or in an underscore; and a public type that two crates define. Nothing is the
-# right answer. Not counted:
+# differs from another's only in case or in an underscore; a public type or a public function that two libraries define;
+# and a type, or another name of one, that two files of a library define. Nothing is the right answer. Not counted:
 # - the answers to goals in proofs/, and what stands in a proof by hand (Proof.antt, Send.antt), whose names the prover gives;
 # - a type and the lemma that makes it, in one file of proofs/;
 # - the events' verbs in the four files whose names say their layer. Clauses cite them as `outcome.sent` or
-#   `outline.Places`: rb_desk's Outline, and Outcome, Told and Moves of rb_core.
+#   `outline.Places`: rb_desk's Outline, and Outcome, Told and Moves of rb_core;
+# - laws, whose names are those of one theorem at several layers (`laws.rt`, `courses.rt`);
+# - functions and types of programs, of tests and of static libraries, which nobody else uses;
+# - `Tables` of cs_group, private in two files.
 #   sh checks/names.sh        ends with status 1 where it lists a name
 cd "$(dirname "$0")/.." || exit 2
 files=$(find crates \( -path '*/specs/*' -o -path '*/proofs/*' \) -name '*.antt' -not -path '*/out/*' \
@@ -41,7 +44,37 @@ public=$(
         }' $types |
         sort -u
 )
-[ -n "$definitions" ] && [ -n "$public" ] || fail 'no definition or no public type was found' 2
+# the crates that others use
+libraries=$(
+    sed -n 's/^\([a-z_]*\):.*/\1/p' crates.txt | while read -r crate; do
+        [ -e "crates/$crate/src/main.rt" ] || grep -rq '^#\[test\]' "crates/$crate/src" || echo "$crate"
+    done
+)
+# each public function that stands in no impl, and each type with the file of a library
+functions=$(
+    awk '
+        /^pub (const )?fn / && FILENAME !~ /\/(laws|courses)\.rt$/ {
+            name = $0
+            sub(/^pub (const )?fn /, "", name)
+            sub(/[<(].*/, "", name)
+            split(FILENAME, parts, "/")
+            print name, parts[2]
+        }' $types |
+        sort -u
+)
+kinds=$(
+    awk '
+        /^(pub(\([a-z]*\))? )?(struct|enum|trait|type) / {
+            name = $0
+            sub(/^(pub(\([a-z]*\))? )?(struct|enum|trait|type) /, "", name)
+            sub(/[<({;:= ].*/, "", name)
+            split(FILENAME, parts, "/")
+            print name, parts[2], FILENAME
+        }' $types |
+        sort -u
+)
+[ -n "$definitions" ] && [ -n "$public" ] && [ -n "$libraries" ] && [ -n "$functions" ] && [ -n "$kinds" ] ||
+    fail 'no definition, no public type or no public function was found' 2
 list=$(
     echo "$definitions" |
         awk '
@@ -71,6 +104,19 @@ list=$(
             }'
     echo "$public" |
         awk '{ n[$1]++; where[$1] = where[$1] " " $2 } END { for (t in n) if (n[t] > 1) print t ":" where[t] }'
+    {
+        echo "$libraries" | sed 's/^/library /'
+        echo "$functions" | sed 's/^/function /'
+        echo "$kinds" | sed 's/^/kind /'
+    } |
+        awk '
+            $1 == "library" { is_library[$2] = 1 }
+            $1 == "function" && is_library[$3] { n[$2]++; where[$2] = where[$2] " " $3 }
+            $1 == "kind" && is_library[$3] { m[$3 "::" $2]++; files[$3 "::" $2] = files[$3 "::" $2] " " $4 }
+            END {
+                for (f in n) if (n[f] > 1) print f ":" where[f]
+                for (k in m) if (m[k] > 1 && k != "cs_group::Tables") print k ":" files[k]
+            }'
 )
 [ -z "$list" ] && exit 0
 echo "$list" | sort

@@ -2,12 +2,12 @@
 # Checks that the scripts of checks/, refused/ and bench/ fail where they would test nothing. It tries each on a copy of
 # the repository with broken parts, such as a program that only exits: it must end with a status other than 0, and say why
 # on standard error. One line for each trial.
-#   sh checks/scripts.sh        needs gcc, python3, git and SQLite's library; no prover and no built program
+#   sh checks/scripts.sh        needs gcc, g++, valgrind, python3, git and SQLite's library; no prover and no built program
 cd "$(dirname "$0")/.." || exit 2
 work=$(mktemp -d) || exit 2
 trap 'rm -rf "$work"' EXIT
 count=0 bad=0
-git clone -q . "$work/top" && cp -R checks refused bench examples "$work/top" && cd "$work/top" || exit 2
+git clone -q . "$work/top" && cp -R checks refused bench examples include packaging "$work/top" && cd "$work/top" || exit 2
 program=crates/rb_run/out/rb_run
 export PROGRAM="$program" RT="$work/rt"
 
@@ -34,8 +34,9 @@ fails() {
     fi
 }
 
-# a prover's command that only exits
+# a prover's command and a valgrind that only exit
 make "$work/rt" "$exits"
+make "$work/kept/valgrind" "$exits"
 
 # No operand.
 fails 'edits.sh, no NAME' usage sh checks/edits.sh
@@ -43,22 +44,41 @@ fails 'edits_together.py, no NAME' usage python3 checks/edits_together.py
 fails 'model.py, no script' usage python3 checks/model.py
 fails 'model.py, no such script' 'No such file' python3 checks/model.py none.script
 fails 'stops.sh, no CHANGES' usage sh checks/stops.sh
+fails 'soak.sh, no SEED' usage sh checks/soak.sh
+fails 'soak.py, no SEED' usage python3 checks/soak.py
 fails 'tests.sh, no CRATE' usage sh refused/tests.sh
+fails 'machines.sh, no SEED' usage sh checks/machines.sh
 fails 'groups.py, no such folder' 'no folder' python3 checks/groups.py none
+fails 'inverses.py, no such folder' 'no folder' python3 checks/inverses.py none
+fails 'recorded.py, no such folder' 'no folder' python3 checks/recorded.py none
+fails 'replicate.sh, no SEED' usage sh checks/replicate.sh
 fails 'drives.py, no such folder' 'no folder' env PROGRAM=/bin/true python3 checks/drives.py none
 fails 'replicate/run.sh, one operand' usage sh examples/replicate/run.sh none
+fails 'install.sh, no PREFIX' usage sh packaging/install.sh
 
 # Nothing is built.
 fails 'run.sh, no program' 'no program' sh checks/run.sh
 fails 'drive.sh, no program' 'no program' sh checks/drive.sh
 fails 'drives.py, no program' 'no program' python3 checks/drives.py
 fails 'rings.py, no program' 'no program' python3 checks/rings.py
+fails 'hostile.py, no program' 'no program' python3 checks/hostile.py
+fails 'soak.sh, no program' 'no program' sh checks/soak.sh 1
+fails 'valgrind.sh, no program' 'no program' sh checks/valgrind.sh
 fails 'leaks.sh, no program' 'no crates' sh checks/leaks.sh
 fails 'stops.sh, no program' 'no program' sh checks/stops.sh 2
 fails 'header.sh, no library' 'no crates' sh checks/header.sh
+fails 'library.sh, no library' 'no crates' sh checks/library.sh
+fails 'install.sh, no library' 'no crates' sh packaging/install.sh "$work/prefix"
+fails 'packaging.sh, no library' 'nothing is installed' sh checks/packaging.sh
+fails 'examples.sh, no library' 'nothing is installed' sh checks/examples.sh
 fails 'refused/run.sh, no program' 'no program' sh refused/run.sh
 fails 'tests.sh, no program' 'no program' sh refused/tests.sh cs_tests
-fails 'replicate/run.sh, no program' 'no program' sh examples/replicate/run.sh
+fails 'replicate/run.sh, no library' 'no .*libbroker_c' sh examples/replicate/run.sh
+fails 'replicate.sh, no library' 'no .*libbroker_c' sh checks/replicate.sh 1
+fails 'record.sh, no program' 'no program' sh checks/record.sh
+fails 'machines/run.sh, no library' 'no library' sh examples/machines/run.sh
+fails 'machines.sh, no library' 'no library' sh checks/machines.sh 1
+fails 'bench/machines/run.sh, no library' 'no library' sh bench/machines/run.sh
 
 # The prover's command only exits.
 fails 'edits.sh, nothing is tried' '0 of ' sh checks/edits.sh rb_run
@@ -68,9 +88,12 @@ make "$work/bin/pgrep" '#!/bin/sh'
 fails 'gate-times.sh, nothing is run' 'no process' env PATH="$work/bin:$PATH" sh checks/gate-times.sh
 fails 'gate-times.sh, a command that fails' 'ended with status 3' sh checks/gate-times.sh sh -c 'exit 3'
 fails 'bench/run.sh, nothing is made' 'no crates' sh bench/run.sh
+fails 'bench/library/run.sh, nothing is made' 'no crates' sh bench/library/run.sh
 fails 'bench/script.sh, nothing is made' 'script.sh: ' sh bench/script.sh
 fails 'bench/apply/run.sh, nothing is made' 'no program' sh bench/apply/run.sh
 fails 'bench/pieces/run.sh, nothing is made' 'no program' sh bench/pieces/run.sh
+fails 'bench/broker/run.sh, nothing is made' 'the program is not built' bash bench/broker/run.sh
+fails 'bench/broker/deliver.sh, nothing is made' 'the program is not built' bash bench/broker/deliver.sh
 fails 'bench/drive/run.sh, nothing is made' 'no program' sh bench/drive/run.sh
 
 # The program only exits.
@@ -80,13 +103,16 @@ fails 'drive.sh, a program that only exits' 'drives are bad' sh checks/drive.sh
 fails 'drives.py, a program that only exits' 'answers otherwise' python3 checks/drives.py
 fails 'rings.py, a program that only exits' 'hung or differ' python3 checks/rings.py 5
 fails 'rings.py, no drive' 'no drive' python3 checks/rings.py 0
+fails 'hostile.py, a program that only exits' 'checks failed' python3 checks/hostile.py 'output fails'
+fails 'hostile.py, no check' 'checks failed' python3 checks/hostile.py 'no such name'
+fails 'soak.sh, a program that only exits' 'answers of' sh checks/soak.sh 1 1 200
+fails 'valgrind.sh, a valgrind that only exits' 'runs failed' env PATH="$work/kept:$PATH" sh checks/valgrind.sh
 make crates/replica_stops/out/replica_stops "$exits"
 fails 'stops.sh, a program that only exits' '0 of 12 losses' sh checks/stops.sh 2
-fails 'refused/run.sh, a program that only exits' '4 failures' sh refused/run.sh
+fails 'refused/run.sh, a program that only exits' '5 failures' sh refused/run.sh
 fails 'bench/script.sh, a program that only exits' '0 answers' sh bench/script.sh
 fails 'bench/drive/run.sh, a program that only exits' 'two reports' sh bench/drive/run.sh 1
-make "$program" '#!/bin/sh'
-fails 'replicate/run.sh, a program that only exits' 'the broker has ended' sh examples/replicate/run.sh
+fails 'record.sh, no library' 'no .*libbroker_c' sh checks/record.sh
 
 # The program answers, but its malloc isn't intercepted: it has no dynamic library.
 cat >"$work/static.c" <<'END'
@@ -98,20 +124,23 @@ int main(int count, char **words) {
 }
 END
 gcc -static "$work/static.c" -o "$program" || exit 2
-fails 'refused/run.sh, malloc is not intercepted' '4 failures' sh refused/run.sh
+fails 'refused/run.sh, malloc is not intercepted' '5 failures' sh refused/run.sh
 grep -q 'no allocation was seen' "$work/out" || { echo 'FAILED: no word of allocations'; bad=$((bad + 1)); }
 
 # Tests: none, malloc isn't intercepted, one that fails by itself.
 tests=crates/cs_tests/out/cs_tests_tests
 make "$tests" "$exits"
-fails 'tests.sh, an empty list of tests' '1 failures' sh refused/tests.sh cs_tests
+fails 'tests.sh, an empty list of tests' 'failures' sh refused/tests.sh cs_tests
+grep -q 'no tests' "$work/out" || { echo 'FAILED: no word of tests'; bad=$((bad + 1)); }
 gcc -static "$work/static.c" -o "$tests" || exit 2
-fails 'tests.sh, malloc is not intercepted' '2 failures' sh refused/tests.sh cs_tests
+fails 'tests.sh, malloc is not intercepted' 'failures' sh refused/tests.sh cs_tests
+grep -q 'no allocation was seen' "$work/out" || { echo 'FAILED: no word of allocations'; bad=$((bad + 1)); }
 make "$tests" '#!/bin/sh
 [ "$1" = --list ] && echo "one: test" && exit
 echo "assertion failed" >&2
 exit 101'
-fails 'tests.sh, a test that fails' '1 failures' sh refused/tests.sh cs_tests
+fails 'tests.sh, a test that fails' 'failures' sh refused/tests.sh cs_tests
+grep -q 'where nothing is refused' "$work/out" || { echo 'FAILED: no word of the test'; bad=$((bad + 1)); }
 cat >"$work/careless.c" <<'END'
 #include <stdio.h>
 #include <stdlib.h>
@@ -121,7 +150,10 @@ int main(int count, char **words) {
 }
 END
 gcc "$work/careless.c" -o "$tests" || exit 2
-fails 'tests.sh, a refusal that nothing reports' 'no refusal' sh refused/tests.sh cs_tests
+mkdir -p crates/rb_case_files/out && cp "$tests" crates/rb_case_files/out/rb_case_files_tests || exit 2
+fails 'tests.sh, a refusal that nothing reports' 'no refusal' sh refused/tests.sh rb_case_files
+fails 'tests.sh, calls that meet no refusal' 'failures' sh refused/tests.sh cs_tests
+grep -q 'are fewer than' "$work/out" || { echo 'FAILED: no word of the calls'; bad=$((bad + 1)); }
 
 # A library whose exports answer 0, by a toolchain that has an empty library.
 mkdir -p "$work/kit/c" crates/changeset_c/out
@@ -134,10 +166,25 @@ long changeset_combine(void) { return 0; }
 long changeset_invert(void) { return 0; }
 END
 gcc -c "$work/none.c" -o "$work/none.o" && ar cr crates/changeset_c/out/libchangeset_c.a "$work/none.o" || exit 2
+# the broker's functions, of which each answers 7
+mkdir -p crates/broker_c/out
+sed -n 's/^BROKER_\(CALL\|VOID\) .*\(broker_[a-z_]*\)(.*/long \2(void) { return 7; }/p' include/broker.h >"$work/seven.c"
+gcc -c "$work/seven.c" -o "$work/seven.o" && ar cr crates/broker_c/out/libbroker_c.a "$work/seven.o" || exit 2
 make crates/rb_threads/out/rb_threads_tests "$exits"
 fails 'header.sh, no toolchain' 'no .*liblibc_c' sh checks/header.sh
 fails 'leaks.sh, no toolchain' 'no .*liblibc_c' sh checks/leaks.sh
+fails 'record.sh, no toolchain' 'no .*liblibc_c' sh checks/record.sh
+fails 'replicate.sh, no toolchain' 'no .*liblibc_c' sh checks/replicate.sh 1
 ar cr "$work/kit/c/liblibc_c.a"
+fails 'record.sh, a program that only exits, a broker that answers 7' 'checks failed' sh checks/record.sh
+fails 'replicate.sh, a broker that answers 7' 'returns 7' sh checks/replicate.sh 1 5
+fails 'replicate/run.sh, a broker that answers 7' 'returns 7' sh examples/replicate/run.sh
+rm crates/broker_c/out/libbroker_c.a
+mkdir -p crates/broker_c/out
+sed -n 's/^[A-Z_]* *[a-z0-9_]* \(broker_[a-z_]*\)(.*/long \1(void) { return 0; }/p' include/broker.h >"$work/none.c"
+gcc -c "$work/none.c" -o "$work/none.o" && ar cr crates/broker_c/out/libbroker_c.a "$work/none.o" || exit 2
+fails 'library.sh, exports that answer 0' 'checks failed' env EVERY=1000 sh checks/library.sh
+fails 'packaging.sh, exports that answer 0' 'checks failed' sh checks/packaging.sh
 fails 'header.sh, exports that answer 0' 'checks failed' sh checks/header.sh
 fails 'leaks.sh, exports that answer 0' 'checks failed' sh checks/leaks.sh
 fails 'bench/run.sh, exports that answer 0' '.' sh bench/run.sh
@@ -145,14 +192,21 @@ fails 'bench/run.sh, no such job' 'no job' sh bench/run.sh ours sing integers
 fails 'bench/run.sh, a profiler that only exits' 'nothing was compared' env UNDER=true sh bench/run.sh
 
 # No files.
-fails 'groups.py, a library without sessions' 'with sessions' env SQLITE=libc.so.6 python3 checks/groups.py
+for script in groups inverses recorded; do
+    fails "$script.py, a library without sessions" 'with sessions' env SQLITE=libc.so.6 python3 "checks/$script.py"
+done
 rm -r crates/rb_drive_cases/data examples/drives
 fails 'drive.sh, no drives' 'of 1 drives' sh checks/drive.sh
 rm -r crates/rb_cases/data
 fails 'groups.py, no histories' 'no recorded history' python3 checks/groups.py
+fails 'inverses.py, no histories' 'no recorded history' python3 checks/inverses.py
+fails 'recorded.py, no histories' 'No such file' python3 checks/recorded.py
+rm -r examples/recorded
+fails 'recorded.py, no SQL' 'no history' python3 checks/recorded.py
 rm -r crates/rb_run/on-demand
 fails 'edits.sh, no edits' 'no edit' sh checks/edits.sh none
 fails 'edits_together.py, no edits' 'no edit' python3 checks/edits_together.py none
+fails 'files.sh, no such crate' 'no src/lib.rt' sh checks/files.sh none
 find crates -name '*.antt' | while read -r file; do : >"$file"; done
 fails 'names.sh, no definitions' 'no definition' sh checks/names.sh
 fails 'embed.py, an empty proof' 'not in the program' python3 checks/embed.py

@@ -61,8 +61,8 @@ enum broker_code {
     BROKER_SHUT = -1,
     /* Memory ran out. Nothing changed, and the call may be made again. */
     BROKER_NO_MEMORY = -2,
-    /* The stream spells no changeset. Numbers: the place of its fault, from 0, and the fault's kind as changeset.h
-     * numbers it. */
+    /* The stream spells no changeset. Numbers: the place of its fault, from 0, and the fault's kind, of
+     * broker_fault_kind. */
     BROKER_FAULT = -3,
     /* broker_open: a limit is out of its range. Numbers: the limit's place in broker_limits, from 0. */
     BROKER_BAD_LIMIT = -4,
@@ -124,13 +124,55 @@ enum broker_code {
     /* An entry is of other tables than the subscription's. Numbers: the entry. */
     BROKER_SHAPE = -42,
     /* A change conflicts with the subscription's rows. Numbers: the change among those of the delivery's group, from
-     * 0; and SQLite's number of the conflict: 1 DATA, 2 NOTFOUND, 3 CONFLICT. */
+     * 0; and the conflict's kind, of broker_conflict_kind. */
     BROKER_CONFLICT = -43,
     /* The subscription hasn't fallen. */
     BROKER_NOT_FALLEN = -44,
     /* The subscription has fallen. */
-    BROKER_STORE = -45
+    BROKER_STORE = -45,
+    /* The broker has no table at this place. */
+    BROKER_NO_TABLE = -46,
+    /* The table has no row with this key. */
+    BROKER_NO_ROW = -47
 };
+
+/* The kind of a fault. The numbers are those of changeset_fault_kind in changeset.h, which says more of each. */
+enum broker_fault_kind {
+    BROKER_FAULT_BAD_MARKER = 1,
+    BROKER_FAULT_PATCHSET = 2,
+    BROKER_FAULT_COLUMNS = 3,
+    BROKER_FAULT_NO_KEY = 4,
+    BROKER_FAULT_EMPTY_NAME = 5,
+    BROKER_FAULT_NAME_TOO_LONG = 6,
+    BROKER_FAULT_BAD_OPERATION = 7,
+    BROKER_FAULT_BAD_TYPE = 8,
+    BROKER_FAULT_REAL = 9,
+    BROKER_FAULT_UNDEFINED_FIELD = 10,
+    BROKER_FAULT_KEY_MISSING = 11,
+    BROKER_FAULT_KEY_CHANGED = 12,
+    BROKER_FAULT_ONE_SIDED = 13,
+    BROKER_FAULT_VALUE_TOO_LONG = 14,
+    BROKER_FAULT_TOO_LONG = 15,
+    BROKER_FAULT_TRUNCATED = 16
+};
+
+/* The kind of a conflict. The numbers are SQLite's, of SQLITE_CHANGESET_DATA and its kind. */
+enum broker_conflict_kind {
+    /* The row is there with other values. */
+    BROKER_CONFLICT_DATA = 1,
+    /* The row isn't there. */
+    BROKER_CONFLICT_NOTFOUND = 2,
+    /* The row is there already. */
+    BROKER_CONFLICT_CONFLICT = 3
+};
+
+/* Enough room for the words of any code. */
+#define BROKER_MESSAGE_ROOM 64
+
+/* Writes the words of a code, such as "no entry has this number", and a zero byte behind them. A number that is no code
+ * has words too. Returns how many bytes these are, with the zero byte: BROKER_MESSAGE_ROOM at most. They are written
+ * only if they are at most `room`; else `out` does not change. It takes no handle, and never fails. */
+BROKER_VOID int64_t broker_message(int code, char *out, size_t room);
 
 /* The numbers that go with a code. */
 struct broker_numbers {
@@ -303,6 +345,24 @@ BROKER_CALL int broker_resume(broker *b, uint64_t subscription, uint64_t *link);
 
 /* Closes a subscription. Refused: NO_SUBSCRIPTION, JOURNAL_FULL, CLOSED. */
 BROKER_CALL int broker_unsubscribe(broker *b, uint64_t subscription);
+
+/* ---- the rows of a subscription: what its accepted deliveries made of its tables. They come as the text of a
+ * changeset, with an INSERT for each row: sqlite3changeset_start reads them, and sqlite3changeset_apply makes a replica
+ * of them. Each table that has rows has one header, with its rows behind it. All lengths are the shortest. */
+
+/* The rows of a subscription, in order: by their tables, in the order that broker_open was given, and then by the bytes
+ * of their keys, as memcmp orders them; a key comes before one that it begins. Returns the text's length, which is 0
+ * without rows. The text is written as broker_text writes one. It is made anew by each call. Returns
+ * BROKER_NO_SUBSCRIPTION, or BROKER_NO_MEMORY, which comes only if the subscription is there. */
+BROKER_CALL int64_t broker_rows(broker *b, uint64_t subscription, unsigned char *out, size_t room);
+
+/* The same of one row: the one of the table at place `table`, from 0, with this key. `key` is the values of the table's
+ * key columns, in the order of the columns, each with the bytes that it has in a changeset: an INTEGER is 1 and eight
+ * bytes, the highest first; a TEXT is 3 and a BLOB 4, its length as SQLite's varint, and its bytes. Returns the first
+ * of these that applies: BROKER_NO_SUBSCRIPTION, BROKER_NO_TABLE, BROKER_NO_ROW; or BROKER_NO_MEMORY, which comes only
+ * if the subscription and the table are there. */
+BROKER_CALL int64_t broker_row(broker *b, uint64_t subscription, uint64_t table, const unsigned char *key, size_t len,
+                               unsigned char *out, size_t room);
 
 #ifdef __cplusplus
 }

@@ -52,7 +52,7 @@ extern "C" {
 /* The texts can't be combined: a section's table has the name of an earlier section's and another shape. */
 #define CHANGESET_CLASH (-3)
 
-/* The kind of a fault. */
+/* The kind of a fault. The numbers are those of broker_fault_kind in broker.h. */
 enum changeset_fault_kind {
     /* The first byte does not begin a changeset. */
     CHANGESET_BAD_MARKER = 1,

@@ -10,7 +10,8 @@ fail() {
 cd "$(dirname "$0")/.." || exit 2
 work=$(mktemp -d) || exit 2
 trap 'rm -rf "$work"' EXIT
-gcc -O2 -shared -fPIC -o "$work/refuse.so" refused/refuse.c -ldl || fail 'refuse.c is not compiled' 2
+gcc -O2 -Wall -Wextra -fno-omit-frame-pointer -fno-optimize-sibling-calls -shared -fPIC -o "$work/refuse.so" \
+    refused/refuse.c -ldl || fail 'refuse.c is not compiled' 2
 bad=0 all=0 all_told=0
 
 # wrong WHAT: something isn't as it must be
@@ -26,7 +27,8 @@ summary() {
 }
 
 # in_turn LABEL JUDGE INPUT COMMAND..: runs the command on the input once for each allocation that it asks for, which is
-# refused. JUDGE STATUS says `passed`, `told` or another word of what stands in $work/out and $work/err.
+# refused. JUDGE STATUS says `passed`, `told` or another word of what stands in $work/out and $work/err. $work/calls gets
+# the calls of each refusal (refuse.c).
 in_turn() {
     label=$1 judge=$2 input=$3
     shift 3
@@ -37,7 +39,7 @@ in_turn() {
     fi
     passed=0 told=0 at=1
     while [ "$at" -le "$count" ]; do
-        REFUSE_AT=$at LD_PRELOAD="$work/refuse.so" "$@" <"$input" >"$work/out" 2>"$work/err"
+        REFUSE_AT=$at REFUSE_CALLS=$work/calls LD_PRELOAD="$work/refuse.so" "$@" <"$input" >"$work/out" 2>"$work/err"
         status=$?
         case $($judge $status) in
         passed) passed=$((passed + 1)) ;;

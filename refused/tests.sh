@@ -1,7 +1,8 @@
 #!/bin/sh
 # Refuses each allocation of each test in turn. A test must then pass, or end with an error of its own (out of memory,
 # handed up), and never with a failed assertion or a signal: its assertions say that what was refused is as before. Where
-# a test can't hand it up, as in a sink that it lends to the library, it stops with "the test's own memory".
+# a test can't hand it up, as in a sink that it lends to the library, it stops with "the test's own memory". Then it
+# prints how many refusals the calls met that calls.txt wants of the crate, and fails where one met too few.
 #   sh refused/tests.sh CRATE..        needs gcc, and the test programs as `rt test` leaves them in crates/CRATE/out
 # ONLY is a pattern that the tests' names match, where not all are wanted: those of rb_threads with threads allocate more
 # often than anybody waits for, so it is
@@ -13,6 +14,7 @@ if [ $# -eq 0 ]; then
     exit 2
 fi
 . "$(dirname "$0")/shim.sh"
+. refused/reached.sh
 
 judge() {
     if [ "$1" -eq 0 ]; then
@@ -31,6 +33,7 @@ for crate in "$@"; do
     if [ -z "$tests" ]; then
         wrong "$crate: no tests"
     fi
+    : >"$work/calls"
     for test in $tests; do
         if ! "$program" "$test" </dev/null >"$work/out" 2>&1; then
             wrong "$crate $test: fails where nothing is refused"
@@ -38,5 +41,6 @@ for crate in "$@"; do
         fi
         in_turn "$crate $test" judge /dev/null "$program" "$test"
     done
+    [ -n "$REFUSE_LEAST" ] || reached "$crate" "$program"
 done
 summary

@@ -22,8 +22,8 @@ cp bench/broker/deliver.rt.in "$crate/src/main.rt"
 cp bench/broker/delivered.antt.in "$crate/proofs/measured/Invariants.antt"
 : >"$crate/proofs/Lib.antt"
 sed -n 's/^rb_threads: \(.*\)$/bench_deliver: \1/p' crates.txt >>"$work/clone/crates.txt"
-(cd "$crate" && "$RT" run -- deliver 1 1 1 1 >&2) || fail 'the program is not built'
 ours="$crate/out/bench_deliver"
+(cd "$crate" && "$RT" run -- deliver 1 1 1 1 >&2) && [ -x "$ours" ] || fail 'the program is not built'
 
 for batch in 1 16; do
     for subscribers in 1 4 16 64; do

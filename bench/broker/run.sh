@@ -25,9 +25,9 @@ cp bench/broker/measured.antt.in "$crate/proofs/measured/Invariants.antt"
 cp bench/broker/send.antt.in "$crate/proofs/send/Invariants.antt"
 : >"$crate/proofs/Lib.antt"
 sed -n 's/^rb_threads: \(.*\)$/bench_broker: crossbeam_channel \1/p' crates.txt >>"$work/clone/crates.txt"
-(cd "$crate" && "$RT" run -- broker 1 1 1 >&2) || fail 'the program is not built'
-(cd "$work/clone/crates/changeset_c" && "$RT" lib >&2)
 ours="$crate/out/bench_broker"
+(cd "$crate" && "$RT" run -- broker 1 1 1 >&2) && [ -x "$ours" ] || fail 'the program is not built'
+(cd "$work/clone/crates/changeset_c" && "$RT" lib >&2)
 heap="$(dirname "$($RT doc)")/c/liblibc_c.a"
 gcc -O2 -Wall -Wextra -pthread bench/broker/mutex.c "$work/clone/crates/changeset_c/out/libchangeset_c.a" "$heap" -o "$work/mutex"
 

@@ -1,6 +1,7 @@
--- Prints 400 transactions on the tables of sample.sql, of 25 changes each: 8 new clients, 5 of them with a basket, which
--- the trigger counts in 5 rows of `sold`; 4 prices; 2 clients swap what a unique index keeps apart; and a tag whose
--- name gets other letters, in two transactions, as the key compares without case. Transaction 100 has large blobs.
+-- Prints 400 transactions on the tables of sample.sql, of 30 changes each: 8 new clients, 5 of them with a basket, which
+-- the trigger counts in 5 rows of `sold`, and notes in 5 of `log`; 4 prices; 2 clients swap what a unique index keeps
+-- apart; and a tag whose name gets other letters, in two transactions, as the key compares without case. Transaction
+-- 100 has large blobs.
 WITH RECURSIVE n (i) AS (SELECT 1 UNION ALL SELECT i + 1 FROM n WHERE i < 400)
 SELECT replace('BEGIN;
 INSERT INTO client SELECT 1000 + 8 * %i + id, ''new '' || id, NULL FROM client WHERE id <= 8;

@@ -1,150 +1,156 @@
-/* ./replicate PROGRAM DATABASE SQL-FILE
- * Runs SQL on a copy of a database, live.db, and keeps two replicas of it, one.db and two.db, up to date through a
- * broker: PROGRAM is `rb_run`, which it starts. All three files stand in the current folder. Replica one follows each
- * transaction. Replica two begins with a snapshot, lags, lets a delivery expire, stops in the next and reconnects. */
+/* ./replicate LIVE REPLICA..
+ * Runs the SQL on standard input on the database LIVE, and keeps each REPLICA a copy of it, through a broker in this
+ * process. Each replica has a process of its own (replica.h), which starts again if it is killed. Where a broker can't
+ * go on, as where its sequence is full, a new one begins by itself. After the SQL all tables are compared.
+ * CAPACITY is the most entries of a broker, and SYNCHRONOUS what PRAGMA synchronous is in all files. */
+#define _GNU_SOURCE
 #define NAME "replicate"
 #include "../common.h"
-#include "broker.h"
+#include "rows.h"
+#include "entries.h"
+#include "replica.h"
+#include "compare.h"
+#include "input.h"
+#include <poll.h>
+#include <signal.h>
+#include <sys/wait.h>
 
-enum { PIECE = 32000 };
-struct replica {
+/* a replica gets a copy instead of a longer batch */
+enum { MOST_REPLICAS = 64, MOST_OF_BATCH = 1000000000 };
+
+/* A replica. `delivery` is accepted and not acknowledged yet, or 0. The subscription has settled what is up to `floor`,
+ * and accepted what is up to `cursor`. Its file stands at `number` of this broker's sequence; -1 says that it needs a
+ * copy. Its process is busy until it says where the file stands. */
+static struct replica {
     const char *path;
-    sqlite3 *db;
-    int subscription;
-    /* the last entry that is in the file, which keeps this number too; the last one accepted; the present delivery */
-    long long cursor, accepted, delivery, first, last;
-};
-static long long placed, changes, pieces, tick;
+    pid_t pid;
+    int to, from, is_busy;
+    uint64_t subscription, delivery, floor, cursor;
+    long long number, batches, copies;
+} replica[MOST_REPLICAS];
+static int replicas;
+static const char *synchronous;
 
-/* a new database, without what an earlier run left beside it */
-static sqlite3 *open_new(const char *path) {
-    const char *ends[] = {"", "-wal", "-shm", "-journal"};
-    char file[40];
-    for (int i = 0; i < 4; i++) snprintf(file, sizeof file, "%s%s", path, ends[i]), remove(file);
-    return open_database(path, SQLITE_OPEN_READWRITE | SQLITE_OPEN_CREATE);
-}
-
-static void reopen(struct replica *replica) {
-    if (replica->db) check(replica->db, sqlite3_close(replica->db));
-    replica->db = open_database(replica->path, SQLITE_OPEN_READWRITE);
-    run(replica->db, sqlite3_mprintf("PRAGMA foreign_keys = 0"));
-    replica->cursor = number(replica->db, sqlite3_mprintf("SELECT number FROM replica_cursor"));
-}
-
-/* Makes the file of a replica: a snapshot, which has entry 1, or the same tables without rows. */
-static void make(struct replica *replica, sqlite3 *live, int snapshot) {
-    replica->db = open_new(replica->path);
-    copy(replica->db, "main", live), strip(replica->db, "main", snapshot);
-    run(replica->db, sqlite3_mprintf("CREATE TABLE replica_cursor AS SELECT %d AS number", snapshot));
-    replica->subscription = atoi(ask("subscriber ", "subscribe 0"));
-    reopen(replica);
-}
-
-/* Feeds what a session recorded, in pieces, and places it as the next entry. No changes make no entry but the first. */
-static void place(sqlite3 *live, sqlite3_session *session) {
-    int len;
-    unsigned char *changeset = end(live, session, &len);
-    sqlite3_changeset_iter *each;
-    check(live, sqlite3changeset_start(&each, len, changeset));
-    while (sqlite3changeset_next(each) == SQLITE_ROW) changes++;
-    check(live, sqlite3changeset_finalize(each));
-    for (int at = 0; at < len; ask("ok", "%s", ""), pieces++) {
-        fputs("feed 0 ", to);
-        for (int stop = len - at > PIECE ? at + PIECE : len; at < stop; at++) fprintf(to, "%02x", changeset[at]);
-    }
-    sqlite3_free(changeset);
-    if (len || !placed) ask("staged", "end 0"), ask("sent", "send 0"), placed = atoll(ask("placed ", "turn"));
-}
-
-static void take(struct replica *replica) {
-    const char *said = ask("delivery ", "take %d %lld", replica->subscription, tick);
-    sscanf(said, "%lld %*s %lld %lld", &replica->delivery, &replica->first, &replica->last);
-}
-
-static int conflict(void *path, int kind, sqlite3_changeset_iter *change) {
-    const char *name = "";
-    int columns, op, indirect;
-    if (kind != SQLITE_CHANGESET_FOREIGN_KEY) sqlite3changeset_op(change, &name, &columns, &op, &indirect);
-    SAY("%s: a conflict of kind %d in table %s", (char *)path, kind, name);
-    return SQLITE_CHANGESET_ABORT;
-}
-
-static int digit(char it) { return it <= '9' ? it - '0' : it - 'a' + 10; }
-
-/* Applies those entries of the delivery that aren't in the file, and moves its cursor, in one transaction. */
-static void apply(struct replica *replica) {
-    run(replica->db, sqlite3_mprintf("BEGIN"));
-    while (replica->cursor < replica->last) {
-        char *text = strrchr(ask("entry ", "entry %lld", ++replica->cursor), ' ') + 1;
-        int len = (int)strlen(text) / 2;
-        for (int i = 0; i < len; i++) text[i] = (char)(16 * digit(text[2 * i]) + digit(text[2 * i + 1]));
-        check(replica->db, sqlite3changeset_apply(replica->db, len, text, NULL, conflict, (void *)replica->path));
-    }
-    run(replica->db, sqlite3_mprintf("UPDATE replica_cursor SET number = %lld; COMMIT", replica->cursor));
-}
-
-/* Brings a replica up to date. It accepts and acknowledges a delivery when the entries are in its file. */
-static void follow(struct replica *replica) {
-    while (replica->accepted < placed) {
-        take(replica), apply(replica);
-        replica->accepted = atoll(ask("accepted ", "accept %lld", replica->delivery));
-        ask("floor ", "ack %lld", replica->delivery);
+/* Begins a new broker. All replicas need a copy then. */
+static void begin_broker(void) {
+    uint64_t link;
+    open_broker();
+    for (struct replica *it = replica; it < replica + replicas; it++) {
+        MUST(broker_subscribe(held, 0, &it->subscription, &link));
+        it->delivery = it->floor = it->cursor = 0, it->number = -1;
     }
 }
 
-/* Replica two lags: it takes a delivery too late, stops in the next one, and starts again. */
-static void lag(struct replica *two) {
-    take(two), tick += TIMEOUT;
-    printf("two takes entries %lld to %lld, and waits too long: ", two->first, two->last);
-    printf("%s delivery expires\n", ask("expired ", "expire %lld", tick));
-    ask("refused NotInFlight", "ack %lld", two->delivery);
-    take(two), apply(two);
-    printf("two takes entries %lld to %lld, applies them, and stops before it accepts\n", two->first, two->last);
-    reopen(two);
-    printf("two starts again: its file is at entry %lld, the broker at %lld\n", two->cursor, two->accepted);
-    ask("link ", "reconnect %d %lld", two->subscription, two->accepted);
+/* Takes a replica's next entries and accepts them. What is accepted, its file applies. */
+static int accept_next(struct replica *it) {
+    struct broker_delivery next;
+    int take = broker_take(held, it->subscription, 0, &next);
+    if (take == BROKER_EMPTY) return 0;
+    MUST(take);
+    int accept = broker_accept(held, next.number, &it->cursor);
+    if (accept == BROKER_CONFLICT) return say_conflict(&next), begin_broker(), 0;
+    MUST(accept);
+    return it->delivery = next.number, 1;
 }
 
-/* Compares all tables with those of a replica, value by value. */
-static void compare(sqlite3 *live, struct replica *replica) {
-    run(live, sqlite3_mprintf("ATTACH %Q AS replica", replica->path));
-    for (int i = 0; i < tables; i++) {
-        for (int theirs = 0; theirs < 2; theirs++)
-            run(live, sqlite3_mprintf("DROP VIEW IF EXISTS temp.v%d; CREATE TEMP VIEW v%d AS SELECT %s FROM %s.\"%w\""
-                " WHERE %s", theirs, theirs, table[i].literals, theirs ? "replica" : "main", table[i].name,
-                table[i].has_key));
-        if (number(live, sqlite3_mprintf("SELECT count(*) FROM (SELECT * FROM v0 EXCEPT SELECT * FROM v1)"))
-            + number(live, sqlite3_mprintf("SELECT count(*) FROM (SELECT * FROM v1 EXCEPT SELECT * FROM v0)")))
-            FAIL("%s: table %s differs", replica->path, table[i].name);
-        printf("%s: table %s is equal, %lld rows\n", replica->path, table[i].name,
-            number(live, sqlite3_mprintf("SELECT count(*) FROM v1")));
+/* Acknowledges what is in the file. */
+static void settle(struct replica *it) {
+    if (it->delivery) MUST(broker_ack(held, it->delivery, &it->floor));
+    it->delivery = 0;
+}
+
+/* Starts a replica's process, which says first where its file stands. */
+static void start(struct replica *it) {
+    int in[2], out[2];
+    if (pipe2(in, O_CLOEXEC) || pipe2(out, O_CLOEXEC) || (it->pid = fork()) < 0) FAIL("no process can be started");
+    if (!it->pid) {
+        dup2(in[0], 0), dup2(out[1], 1);
+        execl("/proc/self/exe", NAME, "keep", sqlite3_db_filename(live, "main"), it->path, synchronous, (char *)NULL);
+        _exit(127);
     }
-    run(live, sqlite3_mprintf("DETACH replica"));
+    close(in[0]), close(out[1]), it->to = in[1], it->from = out[0], it->is_busy = 1;
+}
+
+/* Reads where a replica's file stands. If its process was killed, another one starts. */
+static void hear(struct replica *it) {
+    struct place at;
+    int status;
+    if (whole(read, it->from, &at, sizeof at)) {
+        int is_known = (uint64_t)at.number <= it->floor || (uint64_t)at.number == it->cursor;
+        it->is_busy = 0, it->number = at.broker == name && is_known ? at.number : -1;
+        if (at.broker == name && !is_known) SAY("%s: its cursor %lld is no number that it was given: it becomes a copy",
+            it->path, at.number);
+        return;
+    }
+    close(it->to), close(it->from);
+    if (waitpid(it->pid, &status, 0) < 0 || !WIFSIGNALED(status)) FAIL("the process of %s has failed", it->path);
+    SAY("the process of %s was killed, and starts again", it->path), start(it);
+}
+
+/* Sends a replica what its file lacks: a batch; or a copy, which the source waits for, so that it changes nothing. */
+static void send_next(struct replica *it) {
+    struct message next = {0, it->number, 0, -1};
+    int64_t len = 0;
+    void *text = NULL;
+    if ((uint64_t)it->number == it->cursor) {
+        settle(it);
+        if (!accept_next(it)) return;
+    }
+    if (it->number >= 0) text = combined(it->number + 1, it->cursor, &len);
+    if (it->number >= 0 && len <= MOST_OF_BATCH) next.len = len;
+    else for (settle(it); it->cursor < front; settle(it)) accept_next(it);
+    next.broker = name, next.number = it->cursor, it->is_busy = 1;
+    if (whole(put, it->to, &next, sizeof next) && next.len > 0) whole(put, it->to, text, next.len);
+    if (next.len < 0) it->copies++, hear(it);
+    else it->batches++;
+}
+
+/* Waits until a replica answers or there is more SQL, or only looks. */
+static void listen(int waits, int wants_sql) {
+    struct pollfd files[MOST_REPLICAS + 1];
+    for (int i = 0; i < replicas; i++) files[i] = (struct pollfd){replica[i].is_busy ? replica[i].from : -1, POLLIN, 0};
+    files[replicas] = (struct pollfd){wants_sql ? 0 : -1, POLLIN, 0};
+    if (poll(files, replicas + 1, waits ? -1 : 0) < 0) FAIL("poll fails");
+    for (int i = 0; i < replicas; i++)
+        if (files[i].revents) hear(&replica[i]);
+    if (files[replicas].revents) read_more();
+}
+
+/* Runs the SQL to its end, and brings the replicas up to date beside it, between transactions. */
+static void follow(void) {
+    for (int waits = 0;; listen(waits, waits && !input.is_ended)) {
+        const char *sql = next_statements();
+        int is_behind = sql || !input.is_ended;
+        waits = !sql;
+        while (sql && run_statement(live, &sql))
+            if (sqlite3_get_autocommit(live) && !place_recorded()) begin_broker();
+        for (struct replica *it = replica; sqlite3_get_autocommit(live) && it < replica + replicas; it++) {
+            if (!it->is_busy) send_next(it);
+            is_behind |= it->is_busy || it->number != (long long)front;
+            waits &= it->is_busy || it->number == (long long)front;
+        }
+        if (!is_behind) break;
+    }
+    if (!sqlite3_get_autocommit(live)) FAIL("the SQL ends in a transaction: COMMIT or ROLLBACK is missing");
 }
 
 int main(int count, char **words) {
-    const char *sql = count == 4 ? read_file(words[3]) : NULL;
-    if (!sql) return fputs("./replicate PROGRAM DATABASE SQL-FILE: no SQL file is read\n", stderr), 2;
-    struct replica one = {.path = "one.db"}, two = {.path = "two.db"};
-    sqlite3 *live = open_new("live.db");
-    copy(live, "main", open_database(words[2], SQLITE_OPEN_READONLY));
-    find_tables(live);
-    start(words[1]);
-    for (int i = 0; i < tables; i++) ask("ok", "%s", table[i].line);
-    ask("publisher", "publisher");
-    make(&one, live, 0), make(&two, live, 1);
-    run(live, sqlite3_mprintf("ATTACH 'one.db' AS one"));
-    place(live, begin(live, "one"));
-    run(live, sqlite3_mprintf("DETACH one"));
-    follow(&one), follow(&two);
-    printf("entry 1: the rows of %d tables, %lld changes, fed in pieces: %lld\n", tables, changes, pieces);
-    changes = pieces = 0;
-    for (sqlite3_session *session; session = begin(live, NULL), sql = run_transaction(live, sql); follow(&one), tick++)
-        place(live, session);
-    printf("entries 2 to %lld: the transactions, %lld changes, fed in pieces: %lld\n", placed, changes, pieces);
-    printf("one is at entry %lld, two at entry %lld\n", one.cursor, two.cursor);
-    if (placed > 1) lag(&two), follow(&two);
-    printf("two is at entry %lld\n", two.cursor);
-    compare(live, &one), compare(live, &two);
-    return sqlite3_close(one.db) || sqlite3_close(two.db) || sqlite3_close(live);
+    int bad = 0;
+    if (count == 5 && !strcmp(words[1], "keep")) return keep_replica(words[2], words[3], words[4]);
+    if (count < 3 || count > 2 + MOST_REPLICAS) return fputs("./replicate LIVE REPLICA.. <SQL\n", stderr), 2;
+    synchronous = getenv("SYNCHRONOUS") ? getenv("SYNCHRONOUS") : "normal", capacity = getenv("CAPACITY");
+    signal(SIGPIPE, SIG_IGN);
+    live = open_database(words[1], SQLITE_OPEN_READWRITE);
+    run(live, sqlite3_mprintf("PRAGMA synchronous = %s", synchronous)), schema_changed(live, "");
+    for (; replicas < count - 2; replicas++) replica[replicas].path = words[replicas + 2];
+    begin_broker();
+    for (struct replica *it = replica; it < replica + replicas; it++) {
+        start(it), hear(it);
+        if (!it->is_busy) send_next(it);
+    }
+    follow();
+    printf("%lld transactions, brokers: %lld\n", transactions, brokers);
+    for (struct replica *it = replica; it < replica + replicas; it++)
+        printf("%s: %lld batches, %lld copies\n", it->path, it->batches, it->copies), bad |= compare(live, it->path);
+    return !!bad;
 }

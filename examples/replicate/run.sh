@@ -1,9 +1,11 @@
 #!/bin/sh
-# Runs SQL on a copy of a database, keeps two replicas of it up to date through the broker, and compares all three
-# (docs/REPLICATE.md). They are examples/replicate/out/live.db, one.db and two.db. The status is 0 if they are equal.
-#   sh examples/replicate/run.sh [DATABASE SQL-FILE]        without operands, a sample of five tables and 10,000 changes
-# It needs gcc, SQLite's library with sessions and, for the sample, its shell: Debian's gcc, libsqlite3-dev and sqlite3.
-# PROGRAM names the built program where it isn't crates/rb_run/out/rb_run; CFLAGS are more words for the compiler.
+# Runs SQL on a copy of a database, keeps two replicas of it up to date through the broker's library, and compares all
+# three (docs/REPLICATE.md). They are examples/replicate/out/live.db, one.db and two.db. The status is 0 if they are
+# equal.
+#   sh examples/replicate/run.sh [DATABASE SQL-FILE]        without operands, a sample of six tables and 12,000 changes
+# It needs gcc, SQLite's library with sessions and its shell (Debian's gcc, libsqlite3-dev, sqlite3), and what `rt lib`
+# leaves in crates/broker_c. RT names the prover's command where it isn't `rt`; CFLAGS are more words for the compiler.
+# CAPACITY is the most entries of a broker, 65536 if it isn't set, and SYNCHRONOUS what PRAGMA synchronous is: normal.
 fail() {
     echo "run.sh: $1" >&2
     exit 2
@@ -11,11 +13,16 @@ fail() {
 
 [ $# -eq 0 ] || [ $# -eq 2 ] || fail 'usage: sh examples/replicate/run.sh [DATABASE SQL-FILE]'
 here=$(cd "$(dirname "$0")" && pwd) || exit 2
-: "${PROGRAM:=$here/../../crates/rb_run/out/rb_run}"
-[ -x "$PROGRAM" ] || fail "no program at $PROGRAM: README.md says how it is built"
-PROGRAM=$(realpath "$PROGRAM")
+top=$here/../..
 out=$here/out
+library=$top/crates/broker_c/out/libbroker_c.a
+[ -e "$library" ] || fail "no $library: (cd crates/broker_c && rt lib) makes it (docs/C.md)"
+heap="$(dirname "$(${RT:-rt} doc)")/c/liblibc_c.a"
+[ -e "$heap" ] || fail "no $heap: the command ${RT:-rt} names no toolchain"
 mkdir -p "$out" || exit 2
+# shellcheck disable=SC2086
+gcc -O2 -I "$top/include" "$here/replicate.c" $CFLAGS "$library" "$heap" -lsqlite3 -o "$out/replicate" ||
+    fail 'replicate.c is not compiled'
 if [ $# -eq 2 ]; then
     [ -f "$1" ] || fail "no file $1"
     [ -f "$2" ] || fail "no file $2"
@@ -26,6 +33,8 @@ else
     sqlite3 -bail "$database" <"$here/sample.sql" || fail 'the sample is not made'
     sqlite3 -bail :memory: <"$here/changes.sql" >"$sql" || fail 'the changes are not made'
 fi
-# shellcheck disable=SC2086
-gcc -O2 "$here/replicate.c" $CFLAGS -lsqlite3 -o "$out/replicate" || fail 'replicate.c is not compiled'
-cd "$out" && ./replicate "$PROGRAM" "$database" "$sql"
+cd "$out" || exit 2
+for name in live one two; do rm -f "$name.db" "$name.db-wal" "$name.db-shm" "$name.db-journal"; done
+sqlite3 -bail "$database" '.backup live.db' && sqlite3 -bail live.db 'PRAGMA journal_mode = WAL' >/dev/null ||
+    fail "$database is not copied"
+./replicate live.db one.db two.db <"$sql"

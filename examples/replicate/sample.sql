@@ -1,16 +1,16 @@
--- A shop: five tables that changesets can have, and `log`, which has no key. A trigger counts what is sold.
+-- A shop of six tables. A trigger counts what is sold, and writes a log.
 CREATE TABLE client (id INTEGER PRIMARY KEY, name TEXT NOT NULL, email TEXT);
 CREATE UNIQUE INDEX client_email ON client (email);
 CREATE TABLE item (colour TEXT, code TEXT, price INTEGER, photo BLOB, PRIMARY KEY (colour, code));
 CREATE TABLE basket (client INTEGER, code TEXT, count INTEGER, PRIMARY KEY (client, code)) WITHOUT ROWID;
 CREATE TABLE tag (name TEXT COLLATE NOCASE PRIMARY KEY, note TEXT);
 CREATE TABLE sold (code TEXT PRIMARY KEY, count INTEGER DEFAULT 0);
-CREATE TABLE log (line TEXT);
+CREATE TABLE log (id INTEGER PRIMARY KEY, line TEXT);
 CREATE VIEW best AS SELECT code, count FROM sold ORDER BY count DESC LIMIT 10;
 CREATE TRIGGER selling AFTER INSERT ON basket BEGIN
     INSERT OR IGNORE INTO sold (code) VALUES (new.code);
     UPDATE sold SET count = count + new.count WHERE code = new.code;
-    INSERT INTO log VALUES (new.client || ' takes ' || new.code);
+    INSERT INTO log (line) VALUES (new.client || ' takes ' || new.code);
 END;
 
 WITH RECURSIVE n (i) AS (SELECT 1 UNION ALL SELECT i + 1 FROM n WHERE i < 1000)

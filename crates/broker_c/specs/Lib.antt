@@ -1,6 +1,9 @@
 pub mod Codes
 pub mod Handle
+pub mod Messages
 pub mod Opening
+pub mod RowTexts
+pub mod Rows
 pub mod Seal
 pub mod Serving
 pub mod Slot

@@ -20,6 +20,10 @@ pub const BAD_TABLE: i32 = -5;
 pub const NOT_PLACED: i32 = -16;
 /// No subscription has this number.
 pub const NO_SUBSCRIPTION: i32 = -30;
+/// The broker has no table at this place.
+pub const NO_TABLE: i32 = -46;
+/// The table has no row with this key.
+pub const NO_ROW: i32 = -47;
 
 /// The numbers of a fault or of a refusal, and 0 for each that it doesn't have.
 #[derive(Clone, Copy)]

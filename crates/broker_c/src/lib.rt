@@ -6,9 +6,13 @@
 mod codes;
 mod handle;
 mod limits;
+mod messages;
 mod opening;
 mod parts;
 mod publishers;
+mod reading;
+mod row_texts;
+mod rows;
 mod seal;
 mod serving;
 mod slot;
@@ -16,3 +20,4 @@ mod subscriptions;
 #[cfg(test)]
 mod tests;
 mod texts;
+mod writing;

@@ -19,34 +19,38 @@ pub struct Taken {
     pub last: u64,
 }
 
+// The code of an event's reply, behind which `$set` sets the outputs; -1 if the handle is shut, or
+// -2 if memory runs out.
+macro_rules! served {
+    ($alloc:ident, $broker:ident, $event:ident, |$reply:ident| $set:block) => {{
+        if !$broker.is_open() {
+            return SHUT;
+        }
+        match $broker.serve($alloc, $event) {
+            Ok($reply) => {
+                $set
+                code(&$reply)
+            }
+            Err(_) => NO_MEMORY,
+        }
+    }};
+}
+
 /// Serves an event whose call has no outputs. Returns the reply's code, -1 if the handle is shut,
 /// or -2 if memory runs out.
 pub fn serve(alloc: Global, broker: &mut Handle, event: &Event) -> i32
     ensures { ServesAlone result event.now broker.old broker.new }
 {
-    if !broker.is_open() {
-        return SHUT;
-    }
-    match broker.serve(alloc, event) {
-        Ok(reply) => code(&reply),
-        Err(_) => NO_MEMORY,
-    }
+    served!(alloc, broker, event, |reply| {})
 }
 
 /// As `serve`, and sets `number` to the number that the reply gives, if it gives one.
 pub fn serve_number(alloc: Global, broker: &mut Handle, event: &Event, number: &mut u64) -> i32
     ensures { ServesNumber result event.now broker.old broker.new number.old number.new }
 {
-    if !broker.is_open() {
-        return SHUT;
-    }
-    match broker.serve(alloc, event) {
-        Ok(reply) => {
-            *number = number_after(&reply, *number);
-            code(&reply)
-        }
-        Err(_) => NO_MEMORY,
-    }
+    served!(alloc, broker, event, |reply| {
+        *number = number_after(&reply, *number);
+    })
 }
 
 /// As `serve`, and sets `number` and `link` to the new subscription's, if the reply gives one.
@@ -60,33 +64,19 @@ pub fn serve_link(
     ensures { ServesLink result event.now broker.old broker.new number.old number.new link.old
         link.new }
 {
-    if !broker.is_open() {
-        return SHUT;
-    }
-    match broker.serve(alloc, event) {
-        Ok(reply) => {
-            *number = number_after(&reply, *number);
-            *link = link_after(&reply, *link);
-            code(&reply)
-        }
-        Err(_) => NO_MEMORY,
-    }
+    served!(alloc, broker, event, |reply| {
+        *number = number_after(&reply, *number);
+        *link = link_after(&reply, *link);
+    })
 }
 
 /// As `serve`, and sets `taken` to the delivery that the reply gives, if it gives one.
 pub fn serve_taken(alloc: Global, broker: &mut Handle, event: &Event, taken: &mut Taken) -> i32
     ensures { ServesTaken result event.now broker.old broker.new taken.old taken.new }
 {
-    if !broker.is_open() {
-        return SHUT;
-    }
-    match broker.serve(alloc, event) {
-        Ok(reply) => {
-            *taken = taken_after(&reply, *taken);
-            code(&reply)
-        }
-        Err(_) => NO_MEMORY,
-    }
+    served!(alloc, broker, event, |reply| {
+        *taken = taken_after(&reply, *taken);
+    })
 }
 
 fn number_after(reply: &Reply, before: u64) -> u64

@@ -3,8 +3,10 @@
 
 use crate::handle::Handle;
 use crate::limits::{Limits, Table};
+use crate::messages::broker_message;
 use crate::opening::{broker_shut, opened};
 use crate::publishers::{broker_end, broker_feed, broker_publisher, broker_send, broker_turn};
+use crate::rows::{broker_row, broker_rows};
 use crate::serving::Taken;
 use crate::subscriptions::{broker_accept, broker_ack, broker_subscribe, broker_take};
 use crate::texts::{broker_combined, broker_text};
@@ -70,6 +72,28 @@ fn tells(rt: &impl Abort, alloc: Global, broker: &mut Handle) {
     assert!(rt; out == INSERTED);
 }
 
+// its rows are read: the first is the changeset that was sent
+fn tells_rows(rt: &impl Abort, alloc: Global, broker: &mut Handle) {
+    let mut out = [9u8; 26];
+    assert_eq!(rt; broker_rows(alloc, broker, 0, &mut out), 26);
+    assert!(rt; out == INSERTED);
+    let mut out = [9u8; 26];
+    let key = &INSERTED[8..17];
+    assert_eq!(rt; broker_row(alloc, broker, 0, 0, key, &mut out), 26);
+    assert!(rt; out == INSERTED);
+    assert_eq!(rt; broker_row(alloc, broker, 0, 0, &[5], &mut out), -47);
+    assert_eq!(rt; broker_row(alloc, broker, 0, 1, key, &mut out), -46);
+    assert_eq!(rt; broker_row(alloc, broker, 1, 0, key, &mut out), -30);
+    assert_eq!(rt; broker_rows(alloc, broker, 1, &mut out), -30);
+}
+
+// a code in words
+fn says(rt: &impl Abort) {
+    let mut words = [9u8; 25];
+    assert_eq!(rt; broker_message(-16, &mut words), 25);
+    assert!(rt; words == *b"no entry has this number\0");
+}
+
 // what may go to another thread
 fn sent<T: Send>(value: T) -> T {
     value
@@ -89,6 +113,8 @@ fn a_changeset_goes_through(rt: HostRuntime) -> Result<(), Fail> {
     publishes(&rt, alloc, &mut broker);
     delivers(&rt, alloc, &mut broker);
     tells(&rt, alloc, &mut broker);
+    tells_rows(&rt, alloc, &mut broker);
+    says(&rt);
     broker_shut(alloc, &mut broker);
     Ok(())
 }

@@ -13,6 +13,8 @@ ghost use Rattle.broker_c.specs.Texts as texts;
 
 use crate::codes::{NO_MEMORY, NO_SUBSCRIPTION, NOT_PLACED, SHUT};
 use crate::handle::Handle;
+use crate::reading::told;
+use crate::writing::text_into;
 use cs_model::{Changeset, Origin};
 use cs_write::write_to;
 use rb_core::{Entry, World};
@@ -34,29 +36,22 @@ pub struct About {
 pub extern "C" fn broker_text(alloc: Global, broker: &mut Handle, entry: u64, out: &mut [u8]) -> i64
     ensures { ReadsText result entry broker.old broker.new out.old out.new }
 {
-    if !broker.is_open() {
-        return i64::from(SHUT);
-    }
-    let why = broker.why();
-    let world = broker.take(alloc);
-    let len = text_into(&world, entry, out);
-    broker.put(world, why);
-    len
+    told!(
+        alloc,
+        broker,
+        i64::from(SHUT),
+        |world| entry_into(&world, entry, out)
+    )
 }
 
 // the length of an entry's text, which is written if there is room for it; or -16
-fn text_into(world: &World, number: u64, out: &mut [u8]) -> i64
+fn entry_into(world: &World, number: u64, out: &mut [u8]) -> i64
     ensures { IsTextOf result (entry_of world.now number) out.old out.new }
 {
     let Some(entry) = world.entry(number) else {
         return i64::from(NOT_PLACED);
     };
-    let text: &[u8] = entry.text();
-    let len = text.len();
-    if len <= out.len() {
-        out[..len].copy_from_slice(text);
-    }
-    len as i64
+    text_into(entry.text(), out)
 }
 
 /// The canonical text of the entries numbered `first` to `last` as one changeset. Returns its
@@ -72,14 +67,12 @@ pub extern "C" fn broker_combined(
 ) -> i64
     ensures { ReadsCombined result first last broker.old broker.new out.old out.new }
 {
-    if !broker.is_open() {
-        return i64::from(SHUT);
-    }
-    let why = broker.why();
-    let world = broker.take(alloc);
-    let len = combined_into(alloc, &world, first, last, out);
-    broker.put(world, why);
-    len
+    told!(
+        alloc,
+        broker,
+        i64::from(SHUT),
+        |world| combined_into(alloc, &world, first, last, out)
+    )
 }
 
 // the length of the combined text, which is written if there is room for it; -16; or -2
@@ -124,14 +117,12 @@ pub extern "C" fn broker_entry(
 ) -> i32
     ensures { ReadsAbout result entry broker.old broker.new about.old about.new }
 {
-    if !broker.is_open() {
-        return SHUT;
-    }
-    let why = broker.why();
-    let world = broker.take(alloc);
-    let found = about_into(&world, entry, about);
-    broker.put(world, why);
-    found
+    told!(
+        alloc,
+        broker,
+        SHUT,
+        |world| about_into(&world, entry, about)
+    )
 }
 
 fn about_into(world: &World, number: u64, about: &mut About) -> i32
@@ -168,14 +159,10 @@ fn withdrawn_by(origin: Origin) -> u64
 pub extern "C" fn broker_front(alloc: Global, broker: &mut Handle, entry: &mut u64) -> i32
     ensures { ReadsFront result broker.old broker.new entry.old entry.new }
 {
-    if !broker.is_open() {
-        return SHUT;
-    }
-    let why = broker.why();
-    let world = broker.take(alloc);
-    *entry = world.front();
-    broker.put(world, why);
-    0
+    told!(alloc, broker, SHUT, |world| {
+        *entry = world.front();
+        0
+    })
 }
 
 /// How many changesets are sent and not placed. Sets `count` to it and returns 0.
@@ -183,14 +170,10 @@ pub extern "C" fn broker_front(alloc: Global, broker: &mut Handle, entry: &mut u
 pub extern "C" fn broker_left(alloc: Global, broker: &mut Handle, count: &mut u64) -> i32
     ensures { ReadsLeft result broker.old broker.new count.old count.new }
 {
-    if !broker.is_open() {
-        return SHUT;
-    }
-    let why = broker.why();
-    let world = broker.take(alloc);
-    *count = world.left();
-    broker.put(world, why);
-    0
+    told!(alloc, broker, SHUT, |world| {
+        *count = world.left();
+        0
+    })
 }
 
 /// The last number that a subscription has accepted. Sets `cursor` to it and returns 0, or returns
@@ -204,14 +187,12 @@ pub extern "C" fn broker_cursor(
 ) -> i32
     ensures { ReadsCursor result subscription broker.old broker.new cursor.old cursor.new }
 {
-    if !broker.is_open() {
-        return SHUT;
-    }
-    let why = broker.why();
-    let world = broker.take(alloc);
-    let found = cursor_into(&world, subscription, cursor);
-    broker.put(world, why);
-    found
+    told!(
+        alloc,
+        broker,
+        SHUT,
+        |world| cursor_into(&world, subscription, cursor)
+    )
 }
 
 fn cursor_into(world: &World, subscription: u64, cursor: &mut u64) -> i32

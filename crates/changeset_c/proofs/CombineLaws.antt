@@ -9,9 +9,7 @@ use Rattle.cs_parse.specs.Fault.{IsFault}
 use Rattle.cs_group.specs.Adding.{first_refused, refused_earliest, sections_in}
 use Rattle.cs_group.specs.Group.{first_clash}
 use Rattle.changeset_c.specs.declared.combining.Text.{Text}
-use Rattle.cs_group.specs.Texts.{SpellAll}
-use Rattle.cs_group.proofs.Holdings.{spell_more}
-use Rattle.changeset_c.specs.Combining.{texts_of, HasTextFault, HasClash}
+use Rattle.changeset_c.specs.Combining.{texts_of, SpellAll, HasTextFault, HasClash}
 use Rattle.changeset_c.specs.declared.combining.CombineError.{CombineError}
 use Rattle.changeset_c.specs.declared.combining.CombineError.TheVariants.{Fault, Clash, Memory}
 use Rattle.changeset_c.specs.Combining.{AreReadSo, IsReadSo}
@@ -57,6 +55,13 @@ split (t ∷ ts) (c ∷ front) changeset rest all =
 
 abbrev pub blank_text : Text
 blank_text = record { bytes = record { ref_ptr = (0, 0); now = [] } }
+
+spell_more : (texts : List (List ℕ)) (changesets : List (List Section)) (text : List ℕ) (changeset : List Section)
+    → SpellAll texts changesets → Spells text changeset → SpellAll (texts ++ text ∷ []) (changesets ++ changeset ∷ [])
+spell_more [] [] text changeset all one = (one, tt)
+spell_more [] (c ∷ cs) text changeset all one = absurd all
+spell_more (t ∷ ts) [] text changeset all one = absurd all
+spell_more (t ∷ ts) (c ∷ cs) text changeset all one = (all.0, spell_more ts cs text changeset all.1 one)
 
 pub texts_front : (texts : List Text) (i : ℕ) → texts_of texts ≡ texts_of (take i texts) ++ texts_of (drop i texts)
 texts_front texts i = ap texts_of (sym (take-append-drop i texts))

@@ -9,9 +9,8 @@ use Rattle.cs_parse.specs.Reading.{answer_of}
 use Rattle.cs_write.specs.Text.{text_of}
 use Rattle.cs_group.specs.Adding.{first_refused, sections_in}
 use Rattle.cs_group.specs.Group.{first_clash, group_of}
-use Rattle.cs_group.specs.Texts.{SpellAll, combined_text}
 use Rattle.changeset_c.specs.Combining.{IsFirstBad, HasTextFault, HasClash, CombineSays}
-use Rattle.changeset_c.specs.Combining.{IsTextFault, IsClash, IsReadSo, AreReadSo}
+use Rattle.changeset_c.specs.Combining.{IsTextFault, IsClash, IsReadSo, AreReadSo, SpellAll, combined_text}
 use Rattle.changeset_c.specs.Kinds.{kind_number}
 use Rattle.changeset_c.specs.Says.{IsNumber}
 use Rattle.changeset_c.proofs.CombineLaws.{both_none}

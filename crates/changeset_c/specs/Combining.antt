@@ -7,8 +7,9 @@ use Rattle.cs_parse.specs.declared.fault.ParseFault.{ParseFault}
 use Rattle.cs_parse.specs.Fault.{IsFault}
 use Rattle.cs_parse.specs.Reading.{answer_of}
 use Rattle.cs_group.specs.Adding.{first_refused, sections_in}
-use Rattle.cs_group.specs.Group.{first_clash}
-use Rattle.cs_group.specs.Texts.{IsCombined, SpellAll}
+use Rattle.cs_group.specs.Group.{first_clash, group_of}
+use Rattle.cs_write.specs.Buffer.{given}
+use Rattle.cs_write.specs.Text.{text_of}
 use Rattle.changeset_c.specs.declared.combining.CombineError.{CombineError}
 use Rattle.changeset_c.specs.declared.combining.CombineError.TheVariants.{Fault, Clash, Memory}
 use Rattle.changeset_c.specs.declared.combining.Text.{Text}
@@ -21,7 +22,28 @@ use Rattle.changeset_c.specs.Says.{HasFaultAt}
 abbrev pub texts_of : List Text → List (List ℕ)
 texts_of texts = map (λ text. text.bytes.now) texts
 
+-- the texts spell these changesets, text by text
+abbrev pub SpellAll : List (List ℕ) → List (List Section) → Type 0
+SpellAll [] [] = Unit {0}
+SpellAll [] (changeset ∷ changesets) = ⊥
+SpellAll (text ∷ texts) [] = ⊥
+SpellAll (text ∷ texts) (changeset ∷ changesets) =
+    Spells text changeset × SpellAll texts changesets
+
+-- the canonical text of the group of these changesets
+abbrev pub combined_text : List (List Section) → List ℕ
+combined_text changesets = text_of (group_of (sections_in changesets))
+
 -- ---- each result
+
+-- The texts spell changesets of which no two clash. The text of their group has length n; the
+-- buffer holds it if there was room (*given*).
+pub record IsCombined (texts : List (List ℕ)) (n : ℕ) (before after : List ℕ) : Type 0 where
+  pub changesets : List (List Section)
+  pub spelled : SpellAll texts changesets
+  pub fits : first_refused [] changesets ≡ None
+  pub is_length : n ≡ length (combined_text changesets)
+  pub is_given : after ≡ given (combined_text changesets) before
 
 -- The text with this index is the first one that can't be added: those before it spell changesets
 -- of which no two clash.

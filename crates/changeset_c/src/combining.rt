@@ -1,10 +1,9 @@
 //! Combines several texts into one, as the export `changeset_combine` does.
 
-ghost use Rattle.std.specs.Prelude.{◌≡◌, ℕ, List, [], IfErr, IfOk, IfSome, None, OnErr, OnOk};
+ghost use Rattle.std.specs.Prelude.{◌≡◌, ℕ, List, [], IfErr, IfOk, None, OnErr, OnOk};
 ghost use Rattle.std.specs.Prelude.{length, pos};
 ghost use Rattle.cs_group.specs.Adding.{first_refused, sections_in};
 ghost use Rattle.cs_group.specs.Group.{group_of};
-ghost use Rattle.cs_group.specs.Texts.{texts_seen};
 ghost use Rattle.cs_write.specs.Buffer.{given};
 ghost use Rattle.cs_write.specs.Text.{text_of};
 ghost use Rattle.changeset_c.specs.Combining.{texts_of};
@@ -15,7 +14,7 @@ ghost use Rattle.changeset_c.specs.declared.combining.CombineError.TheVariants.{
 
 use crate::kinds::kind_number;
 use crate::results::{CLASH, NO_CHANGESET, NO_MEMORY};
-use cs_group::{Group, GroupError, combine_texts};
+use cs_group::{Group, GroupError};
 use cs_model::TextChangeset;
 use cs_parse::{ParseError, ParseFault, parse_in_place};
 use std::alloc::{AllocError, Global};
@@ -44,40 +43,6 @@ impl From<AllocError> for CombineError {
 
     fn from(_e: AllocError) -> CombineError {
         CombineError::Memory
-    }
-}
-
-// the texts, as slices
-fn slices_of<'a>(alloc: Global, texts: &[Text<'a>]) -> Result<Vec<&'a [u8]>, AllocError>
-    ensures { IfOk result (λ slices. texts_seen slices.items ≡ texts_of texts.now) }
-{
-    let mut slices = Vec::with_capacity(alloc, texts.len())?;
-    for text in texts {
-        slices.push(text.bytes)?;
-    }
-    Ok(slices)
-}
-
-// Combines the texts in one pass over each, and writes the text of the result if there is room for
-// it. Returns `None` for texts that this doesn't do for, and does nothing then.
-fn combined_at_once(
-    alloc: Global,
-    texts: &[Text],
-    out: &mut [u8],
-) -> Result<Option<i64>, AllocError>
-    ensures ok { IfOk result (λ done. IfSome done (λ n.
-        Writes n (texts_of texts.now) out.old out.new)) }
-    ensures none { IfOk result (λ done. done ≡ None → out.new ≡ out.old) }
-    ensures err { OnErr result (out.new ≡ out.old) }
-{
-    let slices = slices_of(alloc, texts)?;
-    let Some(len) = combine_texts(alloc, &slices, out)? else {
-        return Ok(None);
-    };
-    // no memory holds a longer text
-    match i64::try_from(len) {
-        Ok(len) => Ok(Some(len)),
-        Err(_) => Err(AllocError),
     }
 }
 
@@ -161,9 +126,6 @@ fn combined(alloc: Global, texts: &[Text], out: &mut [u8]) -> Result<i64, Combin
     ensures refused { IfErr result (λ e. Refuses e (texts_of texts.now)) }
     ensures err { OnErr result (out.new ≡ out.old) }
 {
-    if let Some(len) = combined_at_once(alloc, texts, out)? {
-        return Ok(len);
-    }
     let (changesets, fault) = read(alloc, texts)?;
     combine_read(alloc, &changesets, fault, out)
 }

@@ -9,9 +9,9 @@ ghost use Rattle.cs_parse.specs.Count.{changes_in};
 ghost use Rattle.cs_parse.specs.Fault.{IsFault};
 ghost use Rattle.cs_write.specs.Text.{text_of};
 ghost use Rattle.cs_group.specs.Adding.{first_refused};
-ghost use Rattle.cs_group.specs.Texts.{SpellAll, combined_text};
 ghost use Rattle.changeset_c.specs.Combining.{CombineSays, HasClash, HasTextFault, IsClash};
-ghost use Rattle.changeset_c.specs.Combining.{IsTextFault, KeptUnlessBad, texts_of};
+ghost use Rattle.changeset_c.specs.Combining.{IsTextFault, KeptUnlessBad, SpellAll};
+ghost use Rattle.changeset_c.specs.Combining.{combined_text, texts_of};
 ghost use Rattle.changeset_c.specs.Says.{CanonicalSays, CheckSays, InvertSays, IsFaultAt, IsNumber};
 ghost use Rattle.changeset_c.specs.Says.{KeptBut, inverse_text};
 

@@ -6,7 +6,6 @@ ghost use Rattle.std.specs.Prelude.{◌<◌};
 
 use crate::combining::Text;
 use crate::exports::{changeset_canonical, changeset_combine, changeset_invert};
-use cs_group::combine_texts;
 use std::alloc::Global;
 use std::process::Abort;
 use std::test::*;
@@ -121,18 +120,6 @@ fn texts_are_combined(rt: HostRuntime) -> Result<(), Fail> {
     combines(&rt, alloc, &INDIRECT, 26, (26, 7, 7, 7), &BOTH)?;
     combines(&rt, alloc, &UPDATED[..12], 59, (-1, 1, 12, 16), &[])?;
     combines(&rt, alloc, &OTHER, 59, (-3, 1, 1, 7), &[])
-}
-
-// canonical texts are combined in one pass, and others aren't
-#[test]
-fn one_pass_combines_canonical_texts(rt: HostRuntime) -> Result<(), Fail> {
-    let alloc = rt.alloc();
-    let mut buffer = [9u8; 60];
-    let other: [&[u8]; 2] = [&INSERTED, &INDIRECT];
-    assert_eq!(&rt; combine_texts(alloc, &other, &mut buffer)?, None);
-    let texts: [&[u8]; 2] = [&INSERTED, &UPDATED];
-    assert_eq!(&rt; combine_texts(alloc, &texts, &mut buffer)?, Some(26));
-    begins(&rt, alloc, &buffer, &BOTH)
 }
 
 // its inverse: the UPDATE of 6 to 5

@@ -110,10 +110,6 @@ turned_row (flag ∷ flags) (old ∷ before) (new ∷ after) (value ∷ row) (ta
     targets t.1 i
 
 -- a record that says nothing changes nothing
-quiet_column : (field : Field) (value : Value) → is_defined field ≡ false → updated_field field value ≡ value
-quiet_column Undefined value d = refl
-quiet_column (Is new) value d = absurd (false≢true (sym d))
-
 pub quiet_row : (fields : List Field) (row : Row) → length fields ≡ length row → list_any is_defined fields ≡ false
     → updated fields row ≡ row
 quiet_row [] row long d = refl

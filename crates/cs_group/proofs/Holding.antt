@@ -13,9 +13,7 @@ use Rattle.cs_model.specs.declared.value.Field.{Field}
 use Rattle.cs_model.specs.Schema.{same_bytes}
 use Rattle.cs_group.specs.Group.{changed_row, left_of, begun_by, combined}
 use Rattle.cs_group.specs.Merge.{only_change, two_changes}
-use Rattle.cs_group.specs.Keys.{key_place}
-use Rattle.cs_group.specs.Table.{Slots, slot_changes, put_at, there_at, met_at, met_by, HoldSlots, HoldRows}
-use Rattle.cs_group.proofs.LastLaws.{last_more}
+use Rattle.cs_group.specs.Table.{Slots, slot_changes, put_at, there_at, met_at, met_by, HoldSlots}
 use Rattle.cs_group.proofs.Merging.{IsValidChange, IsValidOfRow, key_in, alone_is, merged_is}
 use Rattle.cs_group.proofs.Slots.{Holding, held_more, held_same, held_put, slot_of, held_of, there_is, nothing_there}
 use Rattle.cs_group.proofs.Slots.{put_same, put_other, more_is, past_end}
@@ -257,44 +255,12 @@ module _ (flags : List ℕ) (at : List ℕ → Option ℕ) (slots : Slots) (chan
 
 -- ---- every step
 
--- the rows once a change of a row is merged with another
-pub rows_met : (flags : List ℕ) (keys : List (List ℕ)) (slots after : Slots) (changes : List Change)
+-- the slots once a change of a row is merged with another
+pub slots_met : (flags : List ℕ) (at : List ℕ → Option ℕ) (slots after : Slots) (changes : List Change)
     (new : Change) (place : ℕ) (there : Change) → AreValidChanges flags changes → IsValidChange flags new
-    → HoldRows flags keys slots changes → key_place keys (changed_row flags new) ≡ Some place
+    → HoldSlots flags at slots changes → at (changed_row flags new) ≡ Some place
     → there_at slots place ≡ Some there → after ≡ put_at place (two_changes flags there new) slots
-    → HoldRows flags keys after (changes ++ new ∷ [])
-rows_met flags keys slots after changes new place there valid fits rows is_at is turns =
-    subst (λ s. HoldRows flags keys s (changes ++ new ∷ [])) (sym turns) (record {
-      sized = rows.sized ∙ sym (length_put slots place (two_changes flags there new));
-      holds = met flags (key_place keys) slots changes new valid fits rows.holds place there
-          (there_is slots place there is) is_at;
-    })
-
--- the rows after a change that comes to nothing
-pub rows_idle : (flags : List ℕ) (keys : List (List ℕ)) (slots : Slots) (changes : List Change) (new : Change)
-    → AreValidChanges flags changes → IsValidChange flags new → HoldRows flags keys slots changes
-    → met_at slots (key_place keys (changed_row flags new)) ≡ None → only_change flags new ≡ None
-    → HoldRows flags keys slots (changes ++ new ∷ [])
-rows_idle flags keys slots changes new valid fits rows none nothing = record {
-  sized = rows.sized;
-  holds = idle flags (key_place keys) slots changes new valid fits rows.holds none nothing;
-}
-
--- the rows with one more
-pub rows_begun : (flags : List ℕ) (keys : List (List ℕ)) (slots : Slots) (changes : List Change)
-    (new first : Change) → AreValidChanges flags changes → IsValidChange flags new
-    → HoldRows flags keys slots changes → met_at slots (key_place keys (changed_row flags new)) ≡ None
-    → only_change flags new ≡ Some first
-    → HoldRows flags (keys ++ changed_row flags new ∷ []) (slots ++ Some first ∷ []) (changes ++ new ∷ [])
-rows_begun flags keys slots changes new first valid fits rows none only = record {
-  sized = omega (
-    arith,
-    rows.sized,
-    length-append keys (changed_row flags new ∷ []),
-    length-append slots (Some first ∷ []),
-  );
-  holds = begun flags (key_place keys) slots changes new valid fits rows.holds none first only
-      (key_place (keys ++ changed_row flags new ∷ []))
-      (λ other. last_more (λ key. same_bytes key other) keys (changed_row flags new)
-      ∙ ap (λ n. cond (same_bytes (changed_row flags new) other) (Some n) (key_place keys other)) rows.sized);
-}
+    → HoldSlots flags at after (changes ++ new ∷ [])
+slots_met flags at slots after changes new place there valid fits holds is_at is turns =
+    subst (λ s. HoldSlots flags at s (changes ++ new ∷ [])) (sym turns)
+    (met flags at slots changes new valid fits holds place there (there_is slots place there is) is_at)

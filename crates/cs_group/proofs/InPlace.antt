@@ -1,13 +1,12 @@
 -- Fields that are replaced where they stand, one column after another.
 use Rattle.std.proofs.Common.{◌≡◌, ◌∙◌, ℕ, ◌+◌, ◌≤◌, ◌<◌, List, [], ◌∷◌, ◌++◌, length, take}
-use Rattle.std.proofs.Common.{true, false, Some, slice_get, slice_set, refl, sym, ap, append_assoc, arith}
+use Rattle.std.proofs.Common.{Bool, true, false, if◌then◌else◌, Some, slice_get, slice_set, refl, sym, ap}
+use Rattle.std.proofs.Common.{append_assoc, arith}
 use Rattle.std.proofs.Common.{length-append}
 use Rattle.std.proofs.Math.Seq.{take-append_seam}
 use Rattle.std.proofs.lemmas.List.{append-nil, map-append}
 use Rattle.cs_model.specs.declared.value.Field.{Field}
-use Rattle.cs_model.specs.declared.value.Field.TheVariants.{Undefined, Is}
 use Rattle.cs_model.specs.declared.field_ref.FieldRef.{FieldRef}
-use Rattle.cs_model.specs.Rule.{is_defined}
 use Rattle.cs_model.specs.Seen.{field_seen, fields_seen}
 use Rattle.cs_group.specs.Merge.{field_or, record_or}
 
@@ -26,8 +25,8 @@ list_set_at (y ∷ front) first x others = ap (λ ys. y ∷ ys) (list_set_at fro
 -- ---- some columns are done
 
 -- The fields before a column are done. What becomes of those from the column on makes the whole.
-pub record ColumnsDone (items : List FieldRef) (column : ℕ) (rest : List Field → List Field) (whole : List Field) (most : ℕ)
-    : Type 0 where
+pub record ColumnsDone (items : List FieldRef) (column : ℕ) (rest : List Field → List Field) (whole : List Field)
+    (most : ℕ) : Type 0 where
   pub front : List FieldRef
   pub back : List FieldRef
   pub parts : items ≡ front ++ back
@@ -41,8 +40,8 @@ none_done items rest whole most is size =
     record { front = []; back = items; parts = refl; at = refl; size = size; made = is }
 
 -- the field of the column
-record ColumnFirst (items : List FieldRef) (column : ℕ) (rest : List Field → List Field) (whole : List Field) (most : ℕ)
-    : Type 0 where
+record ColumnFirst (items : List FieldRef) (column : ℕ) (rest : List Field → List Field) (whole : List Field)
+    (most : ℕ) : Type 0 where
   front : List FieldRef
   first : FieldRef
   others : List FieldRef
@@ -105,26 +104,6 @@ set_done items column rest later whole most x d some turns =
           (turns f.first (fields_seen f.others) there) f.made;
     }
 
--- the column's field stays
-pub keep_done : (items : List FieldRef) (column : ℕ) (rest later : List Field → List Field) (whole : List Field)
-    (most : ℕ) → ColumnsDone items column rest whole most → column < most
-    → ((first : FieldRef) (others : List Field) → slice_get items column ≡ Some first
-    → rest (field_seen first ∷ others) ≡ field_seen first ∷ later others)
-    → ColumnsDone items (column + 1) later whole most
-keep_done items column rest later whole most d some turns =
-    let f = column_first items column rest whole most d some in
-    let there : slice_get items column ≡ Some f.first =
-    (λ i. slice_get (f.parts i) (sym f.at i)) ∙ list_get_at f.front f.first f.others in
-    record {
-      front = f.front ++ f.first ∷ [];
-      back = f.others;
-      parts = f.parts ∙ sym (append_assoc f.front (f.first ∷ []) f.others);
-      at = omega (arith, length-append f.front (f.first ∷ []), f.at);
-      size = f.size;
-      made = one_done f.front f.first rest later (field_seen f.first) (fields_seen f.others) whole
-          (turns f.first (fields_seen f.others) there) f.made;
-    }
-
 -- nothing becomes of the columns that are left
 pub cut_done : (items : List FieldRef) (column : ℕ) (rest : List Field → List Field) (whole : List Field) (most : ℕ)
     → ColumnsDone items column rest whole most → ((back : List Field) → rest back ≡ [])
@@ -135,8 +114,8 @@ cut_done items column rest whole most d none =
     ∙ d.made
 
 -- no column is left
-pub columns_all_done : (items : List FieldRef) (column : ℕ) (rest : List Field → List Field) (whole : List Field) (most : ℕ)
-    → ColumnsDone items column rest whole most → most ≤ column → rest [] ≡ [] → fields_seen items ≡ whole
+pub columns_all_done : (items : List FieldRef) (column : ℕ) (rest : List Field → List Field) (whole : List Field)
+    (most : ℕ) → ColumnsDone items column rest whole most → most ≤ column → rest [] ≡ [] → fields_seen items ≡ whole
 columns_all_done items column rest whole most d over none = by d.back d.parts d.made
   where
     by : (back : List FieldRef) → items ≡ d.front ++ back → fields_seen d.front ++ rest (fields_seen back) ≡ whole
@@ -147,16 +126,27 @@ columns_all_done items column rest whole most d over none = by d.back d.parts d.
     by (first ∷ others) parts made =
         absurd (omega (arith, over, d.at, d.size, ap length parts, length-append d.front (first ∷ others)))
 
--- ---- a record, with another's fields where its own are undefined
+-- ---- a record's values in place of another's fields: of all, or of the undefined ones
 
-pub or_defined : (field other : Field) → is_defined field ≡ true → field_or field other ≡ field
-or_defined Undefined other e = absurd cc
-or_defined (Is value) other e = refl
+abbrev pub put_all : Bool → List Field → List Field → List Field
+put_all all values fields = if all then record_or values fields else record_or fields values
 
-pub or_undefined : (field other : Field) → is_defined field ≡ false → field_or field other ≡ other
-or_undefined Undefined other e = refl
-or_undefined (Is value) other e = absurd cc
+abbrev pub put_one : Bool → Field → Field → Field
+put_one all value field = if all then field_or value field else field_or field value
 
-pub record_or_none : (fields : List Field) → record_or fields [] ≡ []
+pub one_by : (all : Bool) (value field : Field) (values fields : List Field)
+    → put_all all (value ∷ values) (field ∷ fields) ≡ put_one all value field ∷ put_all all values fields
+one_by true value field values fields = refl
+one_by false value field values fields = refl
+
+record_or_none : (fields : List Field) → record_or fields [] ≡ []
 record_or_none [] = refl
 record_or_none (field ∷ fields) = refl
+
+pub by_no_value : (all : Bool) (fields : List Field) → put_all all [] fields ≡ []
+by_no_value true fields = refl
+by_no_value false fields = record_or_none fields
+
+pub to_no_field : (all : Bool) (values : List Field) → put_all all values [] ≡ []
+to_no_field true values = record_or_none values
+to_no_field false values = refl

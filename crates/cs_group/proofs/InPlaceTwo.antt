@@ -1,18 +1,58 @@
 -- The two records of an UPDATE, cut down where they stand to the columns that it changes.
-use Rattle.std.proofs.Common.{◌≡◌, ◌∙◌, ℕ, ◌+◌, List, [], ◌∷◌, ◌++◌, length, take, Some, None}
+use Rattle.std.proofs.Common.{◌≡◌, ◌∙◌, ℕ, zero, suc, ◌+◌, ◌≤◌, List, [], ◌∷◌, ◌++◌, length, take, min, Bool, false}
+use Rattle.std.proofs.Common.{Some, None}
 use Rattle.std.proofs.Common.{slice_get, slice_set, refl, sym, ap, append_assoc, length-append, arith}
-use Rattle.std.proofs.Math.Seq.{take-append_seam}
-use Rattle.std.proofs.lemmas.List.{append-nil, map-append}
+use Rattle.std.proofs.Math.Bool.{or-false}
+use Rattle.std.proofs.lemmas.List.{append-nil, length-set, length-take-le, map-append}
+use Rattle.std.proofs.lemmas.List.Folds.{list_any-append}
 use Rattle.std.proofs.lemmas.Option.{none-some}
+use Rattle.std.specs.List.{list_any}
+use Rattle.std.specs.Prelude.{◌||◌}
+use Rattle.cs_model.specs.Rule.{is_defined}
 use Rattle.cs_model.specs.declared.value.Field.{Field}
 use Rattle.cs_model.specs.declared.field_ref.FieldRef.{FieldRef}
 use Rattle.cs_model.specs.Seen.{field_seen, fields_seen}
 use Rattle.cs_group.specs.Merge.{new_if_changed, news_changed, old_if_changed, olds_changed}
-use Rattle.cs_group.proofs.Ending.{news_after, news_before, olds_after, olds_before}
 use Rattle.cs_group.proofs.InPlace.{list_get_at, list_set_at}
 
--- the columns before this one are done in both records
-pub record BothDone (before after : List FieldRef) (column : ℕ) (flags : List ℕ) (olds news : List Field) : Type 0 where
+-- ---- both records are cut where one of them or the flags end
+
+olds_cut : (n : ℕ) (flags : List ℕ) (before after : List FieldRef)
+    → n ≡ min (min (length flags) (length before)) (length after)
+    → olds_changed flags (fields_seen (take n before)) (fields_seen (take n after))
+    ≡ olds_changed flags (fields_seen before) (fields_seen after)
+olds_cut zero [] before after is = refl
+olds_cut zero (flag ∷ flags) [] after is = refl
+olds_cut zero (flag ∷ flags) (old ∷ before) [] is = refl
+olds_cut zero (flag ∷ flags) (old ∷ before) (new ∷ after) is = absurd (omega (arith, is))
+olds_cut (suc n) [] before after is = refl
+olds_cut (suc n) (flag ∷ flags) [] after is = refl
+olds_cut (suc n) (flag ∷ flags) (old ∷ before) [] is = refl
+olds_cut (suc n) (flag ∷ flags) (old ∷ before) (new ∷ after) is =
+    ap (λ fs. old_if_changed flag (field_seen old) (field_seen new) ∷ fs)
+    (olds_cut n flags before after (omega (arith, is)))
+
+news_cut : (n : ℕ) (flags : List ℕ) (before after : List FieldRef)
+    → n ≡ min (min (length flags) (length before)) (length after)
+    → news_changed flags (fields_seen (take n before)) (fields_seen (take n after))
+    ≡ news_changed flags (fields_seen before) (fields_seen after)
+news_cut zero [] before after is = refl
+news_cut zero (flag ∷ flags) [] after is = refl
+news_cut zero (flag ∷ flags) (old ∷ before) [] is = refl
+news_cut zero (flag ∷ flags) (old ∷ before) (new ∷ after) is = absurd (omega (arith, is))
+news_cut (suc n) [] before after is = refl
+news_cut (suc n) (flag ∷ flags) [] after is = refl
+news_cut (suc n) (flag ∷ flags) (old ∷ before) [] is = refl
+news_cut (suc n) (flag ∷ flags) (old ∷ before) (new ∷ after) is =
+    ap (λ fs. new_if_changed flag (field_seen old) (field_seen new) ∷ fs)
+    (news_cut n flags before after (omega (arith, is)))
+
+-- ---- some columns are done
+
+-- The columns before this one are done in both records, which have `columns` each. `any` says whether they have a new
+-- value.
+pub record BothDone (before after : List FieldRef) (column columns : ℕ) (flags : List ℕ) (olds news : List Field)
+    (any : Bool) : Type 0 where
   pub old_front : List FieldRef
   pub new_front : List FieldRef
   pub old_back : List FieldRef
@@ -21,23 +61,33 @@ pub record BothDone (before after : List FieldRef) (column : ℕ) (flags : List 
   pub new_parts : after ≡ new_front ++ new_back
   pub old_at : length old_front ≡ column
   pub new_at : length new_front ≡ column
+  pub old_size : length before ≡ columns
+  pub new_size : length after ≡ columns
   pub old_made : fields_seen old_front ++ olds_changed flags (fields_seen old_back) (fields_seen new_back) ≡ olds
   pub new_made : fields_seen new_front ++ news_changed flags (fields_seen old_back) (fields_seen new_back) ≡ news
+  pub any_made : list_any is_defined (fields_seen new_front) ≡ any
 
-pub none_both : (before after : List FieldRef) (flags : List ℕ)
-    → BothDone before after 0 flags (olds_changed flags (fields_seen before) (fields_seen after))
-    (news_changed flags (fields_seen before) (fields_seen after))
-none_both before after flags = record {
+pub none_both : (before after old_cut new_cut : List FieldRef) (columns : ℕ) (flags : List ℕ)
+    → columns ≡ min (min (length flags) (length before)) (length after) → old_cut ≡ take columns before
+    → new_cut ≡ take columns after
+    → BothDone old_cut new_cut 0 columns flags (olds_changed flags (fields_seen before) (fields_seen after))
+    (news_changed flags (fields_seen before) (fields_seen after)) false
+none_both before after old_cut new_cut columns flags is is_old is_new = record {
   old_front = [];
   new_front = [];
-  old_back = before;
-  new_back = after;
+  old_back = old_cut;
+  new_back = new_cut;
   old_parts = refl;
   new_parts = refl;
   old_at = refl;
   new_at = refl;
-  old_made = refl;
-  new_made = refl;
+  old_size = ap length is_old ∙ length-take-le columns before (omega (arith, is));
+  new_size = ap length is_new ∙ length-take-le columns after (omega (arith, is));
+  old_made = (λ i. olds_changed flags (fields_seen (is_old i)) (fields_seen (is_new i)))
+      ∙ olds_cut columns flags before after is;
+  new_made = (λ i. news_changed flags (fields_seen (is_old i)) (fields_seen (is_new i)))
+      ∙ news_cut columns flags before after is;
+  any_made = refl;
 }
 
 -- ---- the field of a column
@@ -57,13 +107,6 @@ here_is items front (first ∷ others) column x parts at is =
     let same : first ≡ x = cc in
     (others, ap (λ f. f ∷ others) same)
 
--- there is none
-none_here : {A : Type 0} (items front back : List A) (column : ℕ) → items ≡ front ++ back
-    → length front ≡ column → slice_get items column ≡ None → back ≡ []
-none_here items front [] column parts at is = refl
-none_here items front (first ∷ others) column parts at is =
-    absurd (none-some first (sym is ∙ (λ i. slice_get (parts i) (sym at i)) ∙ list_get_at front first others))
-
 -- ---- one column more
 
 column_more : (front : List FieldRef) (x : FieldRef) (first : Field) (rest whole : List Field) → first ≡ field_seen x
@@ -73,18 +116,20 @@ column_more front x first rest whole is made =
     ∙ append_assoc (fields_seen front) (field_seen x ∷ []) rest
     ∙ ap (λ f. fields_seen front ++ f ∷ rest) (sym is) ∙ made
 
-column_replaced : {A : Type 0} (items front others : List A) (column : ℕ) (first x : A) → items ≡ front ++ first ∷ others
-    → length front ≡ column → slice_set items column x ≡ (front ++ x ∷ []) ++ others
+column_replaced : {A : Type 0} (items front others : List A) (column : ℕ) (first x : A)
+    → items ≡ front ++ first ∷ others → length front ≡ column → slice_set items column x ≡ (front ++ x ∷ []) ++ others
 column_replaced items front others column first x parts at =
-    (λ i. slice_set (parts i) (sym at i) x) ∙ list_set_at front first x others ∙ sym (append_assoc front (x ∷ []) others)
+    (λ i. slice_set (parts i) (sym at i) x) ∙ list_set_at front first x others
+    ∙ sym (append_assoc front (x ∷ []) others)
 
-pub both_more : (before after : List FieldRef) (column flag : ℕ) (flags : List ℕ) (olds news : List Field)
-    (old new x y : FieldRef) → BothDone before after column (flag ∷ flags) olds news
+pub both_more : (before after : List FieldRef) (column columns flag : ℕ) (flags : List ℕ) (olds news : List Field)
+    (any : Bool) (old new x y : FieldRef) → BothDone before after column columns (flag ∷ flags) olds news any
     → slice_get before column ≡ Some old → slice_get after column ≡ Some new
     → field_seen x ≡ old_if_changed flag (field_seen old) (field_seen new)
     → field_seen y ≡ new_if_changed flag (field_seen old) (field_seen new)
-    → BothDone (slice_set before column x) (slice_set after column y) (column + 1) flags olds news
-both_more before after column flag flags olds news old new x y d is_old is_new is_x is_y =
+    → BothDone (slice_set before column x) (slice_set after column y) (column + 1) columns flags olds news
+    (any || is_defined (field_seen y))
+both_more before after column columns flag flags olds news any old new x y d is_old is_new is_x is_y =
     let o = here_is before d.old_front d.old_back column old d.old_parts d.old_at is_old in
     let n = here_is after d.new_front d.new_back column new d.new_parts d.new_at is_new in
     let old_parts : before ≡ d.old_front ++ old ∷ o.0 = d.old_parts ∙ ap (λ fs. d.old_front ++ fs) o.1 in
@@ -98,6 +143,8 @@ both_more before after column flag flags olds news old new x y d is_old is_new i
       new_parts = column_replaced after d.new_front n.0 column new y new_parts d.new_at;
       old_at = omega (arith, length-append d.old_front (x ∷ []), d.old_at);
       new_at = omega (arith, length-append d.new_front (y ∷ []), d.new_at);
+      old_size = length-set before column x ∙ d.old_size;
+      new_size = length-set after column y ∙ d.new_size;
       old_made = column_more d.old_front x (old_if_changed flag (field_seen old) (field_seen new))
           (olds_changed flags (fields_seen o.0) (fields_seen n.0)) olds (sym is_x)
           ((λ i. fields_seen d.old_front
@@ -106,55 +153,47 @@ both_more before after column flag flags olds news old new x y d is_old is_new i
           (news_changed flags (fields_seen o.0) (fields_seen n.0)) news (sym is_y)
           ((λ i. fields_seen d.new_front
           ++ news_changed (flag ∷ flags) (fields_seen (sym o.1 i)) (fields_seen (sym n.1 i))) ∙ d.new_made);
+      any_made = ap (list_any is_defined) (map-append field_seen d.new_front (y ∷ []))
+          ∙ list_any-append is_defined (fields_seen d.new_front) (field_seen y ∷ [])
+          ∙ (λ i. d.any_made i || or-false (is_defined (field_seen y)) i);
     }
 
 -- ---- the end
 
-cut_is : (items front back : List FieldRef) (column : ℕ) (rest whole : List Field) → items ≡ front ++ back
-    → length front ≡ column → rest ≡ [] → fields_seen front ++ rest ≡ whole → fields_seen (take column items) ≡ whole
-cut_is items front back column rest whole parts at none made =
-    ap fields_seen ((λ i. take (sym at i) (parts i)) ∙ take-append_seam front back)
-    ∙ sym (append-nil (fields_seen front)) ∙ ap (λ fs. fields_seen front ++ fs) (sym none) ∙ made
+olds_before : (flags : List ℕ) (after : List Field) → olds_changed flags [] after ≡ []
+olds_before [] after = refl
+olds_before (flag ∷ flags) after = refl
 
--- both records are cut where nothing becomes of the columns that are left
-pub record AreCutBoth (before after : List FieldRef) (column : ℕ) (olds news : List Field) : Type 0 where
-  pub old_is : fields_seen (take column before) ≡ olds
-  pub new_is : fields_seen (take column after) ≡ news
+news_before : (flags : List ℕ) (after : List Field) → news_changed flags [] after ≡ []
+news_before [] after = refl
+news_before (flag ∷ flags) after = refl
 
-pub cut_at_old : (before after : List FieldRef) (column : ℕ) (flags : List ℕ) (olds news : List Field)
-    → BothDone before after column flags olds news → slice_get before column ≡ None
-    → AreCutBoth before after column olds news
-cut_at_old before after column flags olds news d none =
-    let over = none_here before d.old_front d.old_back column d.old_parts d.old_at none in
-    let after_back = fields_seen d.new_back in
+-- all columns are done
+pub record IsBothDone (before after : List FieldRef) (olds news : List Field) (any : Bool) : Type 0 where
+  pub old_is : fields_seen before ≡ olds
+  pub new_is : fields_seen after ≡ news
+  pub any_is : any ≡ list_any is_defined news
+
+front_alone : (items front back : List FieldRef) → items ≡ front ++ back → length items ≤ length front
+    → (back ≡ []) × (items ≡ front)
+front_alone items front [] parts over = (refl, parts ∙ append-nil front)
+front_alone items front (first ∷ others) parts over =
+    absurd (omega (arith, over, ap length parts, length-append front (first ∷ others)))
+
+pub both_end : (before after : List FieldRef) (column columns : ℕ) (flags : List ℕ) (olds news : List Field)
+    (any : Bool) → BothDone before after column columns flags olds news any → columns ≤ column
+    → IsBothDone before after olds news any
+both_end before after column columns flags olds news any d over =
+    let o = front_alone before d.old_front d.old_back d.old_parts (omega (arith, over, d.old_at, d.old_size)) in
+    let n = front_alone after d.new_front d.new_back d.new_parts (omega (arith, over, d.new_at, d.new_size)) in
+    let fields = fields_seen d.new_back in
+    let new_is : fields_seen d.new_front ≡ news =
+    sym (append-nil (fields_seen d.new_front)) ∙ ap (λ fs. fields_seen d.new_front ++ fs)
+    (sym ((λ i. news_changed flags (fields_seen (o.0 i)) fields) ∙ news_before flags fields)) ∙ d.new_made in
     record {
-      old_is = cut_is before d.old_front d.old_back column _ olds d.old_parts d.old_at
-          (ap (λ b. olds_changed flags (fields_seen b) after_back) over ∙ olds_before flags after_back) d.old_made;
-      new_is = cut_is after d.new_front d.new_back column _ news d.new_parts d.new_at
-          (ap (λ b. news_changed flags (fields_seen b) after_back) over ∙ news_before flags after_back) d.new_made;
-    }
-
-pub cut_at_new : (before after : List FieldRef) (column : ℕ) (flags : List ℕ) (olds news : List Field)
-    → BothDone before after column flags olds news → slice_get after column ≡ None
-    → AreCutBoth before after column olds news
-cut_at_new before after column flags olds news d none =
-    let over = none_here after d.new_front d.new_back column d.new_parts d.new_at none in
-    let before_back = fields_seen d.old_back in
-    record {
-      old_is = cut_is before d.old_front d.old_back column _ olds d.old_parts d.old_at
-          (ap (λ a. olds_changed flags before_back (fields_seen a)) over ∙ olds_after flags before_back) d.old_made;
-      new_is = cut_is after d.new_front d.new_back column _ news d.new_parts d.new_at
-          (ap (λ a. news_changed flags before_back (fields_seen a)) over ∙ news_after flags before_back) d.new_made;
-    }
-
-pub both_cut_at_end : (before after : List FieldRef) (column : ℕ) (flags : List ℕ) (olds news : List Field)
-    → BothDone before after column flags olds news → flags ≡ [] → AreCutBoth before after column olds news
-both_cut_at_end before after column flags olds news d none =
-    let old_back = fields_seen d.old_back in
-    let new_back = fields_seen d.new_back in
-    record {
-      old_is = cut_is before d.old_front d.old_back column _ olds d.old_parts d.old_at
-          (ap (λ fs. olds_changed fs old_back new_back) none) d.old_made;
-      new_is = cut_is after d.new_front d.new_back column _ news d.new_parts d.new_at
-          (ap (λ fs. news_changed fs old_back new_back) none) d.new_made;
+      old_is = ap fields_seen o.1 ∙ sym (append-nil (fields_seen d.old_front))
+          ∙ ap (λ fs. fields_seen d.old_front ++ fs)
+          (sym ((λ i. olds_changed flags (fields_seen (o.0 i)) fields) ∙ olds_before flags fields)) ∙ d.old_made;
+      new_is = ap fields_seen n.1 ∙ new_is;
+      any_is = sym d.any_made ∙ ap (list_any is_defined) new_is;
     }

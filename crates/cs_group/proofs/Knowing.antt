@@ -12,10 +12,7 @@ use Rattle.std.specs.Prelude.{option_map, ◌&&◌}
 use Rattle.cs_model.specs.declared.shape.Shape.{Shape}
 use Rattle.cs_model.specs.Schema.{same_bytes, same_shape}
 use Rattle.cs_model.specs.Section.{Section}
-use Rattle.cs_group.specs.Adding.{Knows, ReportsClash, ReportsIfSchema, differs_by, known_as, refused_earliest}
-use Rattle.cs_group.specs.Adding.{first_refused}
-use Rattle.cs_group.specs.declared.error.GroupError.{GroupError}
-use Rattle.cs_group.specs.declared.error.GroupError.TheVariants.{Schema, Memory}
+use Rattle.cs_group.specs.Adding.{Knows, differs_by, known_as}
 use Rattle.cs_group.specs.Group.{clashes, differs_from, first_clash}
 use Rattle.cs_group.proofs.Tables.{same_is}
 
@@ -148,15 +145,6 @@ clash_next earlier done section rest i total fits e =
     moved None = refl
     moved (Some n) = ap Some (omega arith)
 
--- this section clashes
-pub clash_here : (earlier : List Section) (section : Section) (rest : List Section) (i : ℕ) (total : Option ℕ)
-    → clashes earlier section ≡ true
-    → total ≡ option_map (λ n. i + n) (first_clash earlier (section ∷ rest)) → total ≡ Some i
-clash_here earlier section rest i total clash e =
-    e ∙ ap (λ b. option_map (λ n. i + n) (cond b (Some 0)
-    (option_map suc (first_clash (earlier ++ section ∷ []) rest)))) clash
-    ∙ ap Some (omega arith)
-
 -- ---- the first clash among sections that come one by one
 
 behind_first : {A : Type 0} → List A → List A
@@ -181,17 +169,3 @@ clashes_with_none added between front section a b c =
     ∙ ap (λ r. r || clashes front section) (list_any-append (differs_from section) added between)
     ∙ or_from (clashes added section || clashes between section) (clashes front section)
     (or_from (clashes added section) (clashes between section) (sym a) (sym b)) (sym c)
-
--- ---- the first changeset that is refused
-
--- what is refused of one changeset is refused of all
-pub reports_all : (error : GroupError) (clash later total : Option ℕ) → total ≡ refused_earliest clash later
-    → ReportsClash error clash → ReportsIfSchema error total
-reports_all (Schema section) clash later total is reports = is ∙ ap (λ c. refused_earliest c later) reports
-reports_all Memory clash later total is reports = tt
-
-pub refused_next : (earlier changeset : List Section) (changesets : List (List Section)) (total : Option ℕ)
-    → first_clash earlier changeset ≡ None → total ≡ first_refused earlier (changeset ∷ changesets)
-    → total ≡ first_refused (earlier ++ changeset) changesets
-refused_next earlier changeset changesets total fits is =
-    is ∙ ap (λ clash. refused_earliest clash (first_refused (earlier ++ changeset) changesets)) fits

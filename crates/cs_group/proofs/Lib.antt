@@ -10,11 +10,9 @@ pub mod Keyed
 pub mod Together
 pub mod Tables
 pub mod Law
-pub mod Ending
 pub mod StepLaw
 pub mod Slots
 pub mod Holding
-pub mod Replacing
 pub mod Seen
 pub mod Lists
 pub mod Knowing
@@ -24,14 +22,4 @@ pub mod InPlace
 pub mod InPlaceTwo
 pub mod OwnForm
 pub mod SlotBytes
-pub mod LastLaws
-pub mod LinkLaws
-pub mod Searching
-pub mod Arriving
-pub mod Holdings
-pub mod Expecting
-pub mod Names
-pub mod Beginning
-pub mod KeyLaws
-pub mod FirstKey
 pub mod Admitting

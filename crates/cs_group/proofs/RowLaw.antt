@@ -21,9 +21,6 @@ abbrev pub IsLongRow : List ℕ → Option Row → Type 0
 IsLongRow flags None = Unit {0}
 IsLongRow flags (Some row) = IsLong flags row
 
-abbrev Next : Type 0
-Next = Option (Option Row)
-
 -- ---- one change
 
 alone_on : (op : Op) (flags : List ℕ) (indirect : Bool) (before after : List Field) (row next : Option Row)

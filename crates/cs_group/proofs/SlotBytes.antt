@@ -1,5 +1,5 @@
 -- The bytes of the changes that slots hold, slot by slot.
-use Rattle.std.proofs.Common.{◌≡◌, ◌∙◌, ◌<◌, ◌+◌, ℕ, List, ◌∷◌, ◌++◌, length, drop, get_or, Option, Some, None, sym, ap}
+use Rattle.std.proofs.Common.{◌≡◌, ◌∙◌, ◌<◌, ◌+◌, ℕ, List, ◌∷◌, ◌++◌, length, drop, get_or, Option, Some, sym, ap}
 use Rattle.std.proofs.lemmas.List.{drop_more}
 use Rattle.cs_model.specs.PackedChanges.{change_bytes, changes_bytes}
 use Rattle.cs_group.specs.declared.slot.Slot.{Slot}
@@ -19,7 +19,3 @@ from_slot slots read i item same lt is =
 pub slot_bytes_some : (slots rest : List (Option Slot)) (item : Option Slot) (slot : Slot) → slots ≡ item ∷ rest
     → item ≡ Some slot → slots_bytes slots ≡ change_bytes (slot_seen slot) ++ slots_bytes rest
 slot_bytes_some slots rest item slot is some = ap slots_bytes (is ∙ ap (λ x. x ∷ rest) some)
-
-pub slot_bytes_none : (slots rest : List (Option Slot)) (item : Option Slot) → slots ≡ item ∷ rest → item ≡ None
-    → slots_bytes slots ≡ slots_bytes rest
-slot_bytes_none slots rest item is none = ap slots_bytes (is ∙ ap (λ x. x ∷ rest) none)

@@ -134,16 +134,6 @@ put_other (slot ∷ slots) zero (suc place) x other = refl
 put_other (slot ∷ slots) (suc at) zero x other = refl
 put_other (slot ∷ slots) (suc at) (suc place) x other = put_other slots at place x (λ e. other (ap suc e))
 
-pub more_old : (slots : Slots) (place : ℕ) (new : Change) (change : Change) → Holding slots place change
-    → Holding (slots ++ Some new ∷ []) place change
-more_old [] place new change is = absurd (none-some _ is)
-more_old (slot ∷ slots) zero new change is = is
-more_old (slot ∷ slots) (suc place) new change is = more_old slots place new change is
-
-pub more_new : (slots : Slots) (new : Change) → Holding (slots ++ Some new ∷ []) (length slots) new
-more_new [] new = refl
-more_new (slot ∷ slots) new = more_new slots new
-
 -- a change in one more slot is the new one in the last, or an old one in its place
 pub more_is : (slots : Slots) (place : ℕ) (new change : Change) → Holding (slots ++ Some new ∷ []) place change
     → (Holding slots place change) ⊎ ((place ≡ length slots) × (new ≡ change))

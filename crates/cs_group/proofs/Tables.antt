@@ -48,12 +48,6 @@ has_such_shape P section = P section.shape
 abbrev pub all_with : (Shape → Bool) → List Section → List Change
 all_with P sections = all_changes (filter (has_such_shape P) sections)
 
-one_more_of : (P : Shape → Bool) (b : Bool) (section : Section) (sections : List Section)
-    → all_changes (cond b (section ∷ sections) sections)
-    ≡ cond b (section.changes ++ all_changes sections) (all_changes sections)
-one_more_of P true section sections = refl
-one_more_of P false section sections = refl
-
 -- ---- groups of sections
 
 abbrev grouped : List Group → List Section

@@ -1,14 +1,8 @@
 pub mod Merge
 pub mod Group
 pub mod Rows
-pub mod Replaced
 pub mod Slots
 pub mod Table
 pub mod Adding
 pub mod Key
 pub mod Text
-pub mod Last
-pub mod Chains
-pub mod Arrivals
-pub mod Texts
-pub mod Keys

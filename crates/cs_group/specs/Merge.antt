@@ -101,18 +101,6 @@ abbrev pub delete_insert : List ℕ → Change → Change → Option Change
 delete_insert flags there new =
     update_between flags (both_indirect there new) there.before new.after
 
--- whether the second of two changes of one row can't come after the first, so that it is ignored
-abbrev pub ignored : Op → Op → Bool
-ignored Insert Insert = true
-ignored Insert Update = false
-ignored Insert Delete = false
-ignored Update Insert = true
-ignored Update Update = false
-ignored Update Delete = false
-ignored Delete Insert = false
-ignored Delete Update = true
-ignored Delete Delete = true
-
 -- The change that two changes of one row come to, or none. INSERT, then DELETE is none. A second
 -- one that can't come after the first is ignored.
 abbrev pub two_changes_by : Op → Op → List ℕ → Change → Change → Option Change

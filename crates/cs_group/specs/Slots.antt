@@ -13,7 +13,6 @@ merged_seen m = change_of m.op m.indirect (fields_seen m.before.items) (fields_s
 
 abbrev pub slot_seen : Slot → Change
 slot_seen (slot.Alone change) = change
-slot_seen (slot.Replaced r) = r.value
 slot_seen (slot.Merged m) = merged_seen m.value
 
 -- a change that is left, or none

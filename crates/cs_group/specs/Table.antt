@@ -2,12 +2,13 @@
 use Rattle.std.specs.Prelude.{◌≡◌, ◌<◌, ℕ, zero, suc, List, [], ◌∷◌, length, map}
 use Rattle.std.specs.Prelude.{slice_get}
 use Rattle.std.specs.Prelude.{Option, Some, None, option_map}
+use Rattle.std.specs.Map.{lookup}
 use Rattle.cs_model.specs.declared.change.Change.{Change}
 use Rattle.cs_model.specs.Changeset.{AreRecords}
 use Rattle.cs_model.specs.PackedChanges.{Long}
+use Rattle.cs_model.specs.Schema.{same_bytes}
 use Rattle.cs_group.specs.declared.slot.Slot.{Slot}
 use Rattle.cs_group.specs.Group.{changed_row, combined}
-use Rattle.cs_group.specs.Keys.{key_place}
 use Rattle.cs_group.specs.Slots.{slot_seen}
 
 -- slots, each with a change or none
@@ -41,6 +42,10 @@ put_at place slot [] = []
 put_at zero slot (old ∷ slots) = slot ∷ slots
 put_at (suc place) slot (old ∷ slots) = old ∷ put_at place slot slots
 
+-- the place of a row
+abbrev pub row_place : List (List ℕ × ℕ) → List ℕ → Option ℕ
+row_place places row = lookup (same_bytes row) places
+
 -- a place whose slot has a change
 abbrev pub met_by : Option Change → ℕ → Option ℕ
 met_by None place = None
@@ -68,9 +73,3 @@ pub record HoldSlots (flags : List ℕ) (at : List ℕ → Option ℕ) (slots : 
   pub bound : (row : List ℕ) (place : ℕ) → at row ≡ Some place → place < length slots
   pub valid : (place : ℕ) (change : Change) → slice_get slots place ≡ Some (Some change)
       → IsOfTable flags change
-
--- The slots hold what these changes come to, and each key has its slot's place.
-pub record HoldRows (flags : List ℕ) (keys : List (List ℕ)) (slots : Slots)
-    (changes : List Change) : Type 0 where
-  pub sized : length keys ≡ length slots
-  pub holds : HoldSlots flags (key_place keys) slots changes

@@ -1,21 +1,20 @@
-//! Where the key of a row stands in a record, and its hash.
+//! Where the key of a row stands in a record, and the key as a map's key.
 
-ghost use Rattle.std.specs.Prelude.{◌≡◌, ◌==◌, ◌≤◌, ◌++◌, ◌∷◌, [], ℕ, IfOk, List, drop, length};
+ghost use Rattle.std.specs.Prelude.{◌≡◌, ◌≤◌, ◌++◌, ◌∷◌, [], ℕ, IfOk, List, drop, length};
 ghost use Rattle.std.specs.Prelude.{take};
 ghost use Rattle.std.specs.Cmp.{partial_equiv_from_equiv};
-ghost use Rattle.std.specs.Cmp.Lexicographic.{nat_list_eq_equiv};
+ghost use Rattle.std.specs.Cmp.Lexicographic.{nat_list_eq_equiv, same_text};
+ghost use Rattle.std.proofs.Common.{ap, sym};
 ghost use Rattle.cs_model.specs.declared.value.Field.{Field};
 ghost use Rattle.cs_model.specs.KeyBytes.{key_fields};
-ghost use Rattle.cs_model.specs.Packed.{packed};
 ghost use Rattle.cs_model.specs.Schema.{same_bytes};
 ghost use Rattle.cs_model.specs.Seen.{change_seen};
 ghost use Rattle.cs_group.specs.Group.{changed_row};
-ghost use Rattle.cs_group.specs.Key.{IsKeyAt, KeyStands, bytes_of_key, key_hash, key_number};
-ghost use Rattle.cs_group.specs.Key.{identifying};
+ghost use Rattle.cs_group.specs.Key.{IsKeyAt, KeyStands, bytes_of_key};
 
 use cs_model::{ChangeRef, Octets, Op, PackedChange, key_of_row};
 use std::alloc::{AllocError, Global};
-use std::hash::{FoldHasher, Hasher};
+use std::hash::{Hash, Hasher};
 use std::marker::Model;
 
 /// The key columns of a table that stand next to each other.
@@ -24,15 +23,6 @@ pub(crate) struct KeyColumns {
     // the index of the first one
     first: usize,
     count: usize,
-}
-
-impl KeyColumns {
-    /// Whether they come before all others.
-    pub(crate) fn come_first(&self) -> bool
-        ensures { result ≡ (self.now.first == 0) }
-    {
-        self.first == 0
-    }
 }
 
 /// The key columns of a table with these key flags, if they stand next to each other.
@@ -86,8 +76,8 @@ fn nonzeros(flags: &[u8]) -> usize
 pub(crate) enum KeyBytes<'a> {
     /// They stand in a record.
     InPlace(&'a [u8]),
-    /// They are copied from columns apart. Few tables have such keys, so they stand apart.
-    Copied(Box<Octets>),
+    /// They are copied from columns apart.
+    Copied(Octets),
 }
 
 /// The key of a row: its key columns' values in canonical form. Contracts see the bytes.
@@ -120,47 +110,9 @@ impl<'a> Key<'a> {
         let change = change.unpack();
         let bytes = match columns {
             Some(at) => KeyBytes::InPlace(bytes_at(at, &change)),
-            None => {
-                let copied = key_of_row(alloc, flags, &change)?;
-                KeyBytes::Copied(Box::new(alloc, copied)?)
-            }
+            None => KeyBytes::Copied(key_of_row(alloc, flags, &change)?),
         };
         Ok(Key { bytes })
-    }
-
-    /// The hash of the key.
-    #[tactic(auto, unfolding(crate::specs::Key::key_hash))]
-    pub(crate) fn hash(&self) -> u32
-        ensures { result ≡ key_hash self.now }
-    {
-        let mut hasher = FoldHasher::default();
-        hasher.write(self.as_slice());
-        (hasher.finish() >> 32) as u32
-    }
-
-    /// The number in the last eight bytes of the key, 0 if it has fewer. The key of an INTEGER ends
-    /// with its value.
-    #[tactic(auto, unfolding(crate::specs::Key::key_number))]
-    pub(crate) fn number(&self) -> u64
-        ensures { result ≡ key_number self.now }
-    {
-        let bytes = self.as_slice();
-        if bytes.len() < 8 {
-            return 0;
-        }
-        let (_, last) = bytes.split_at(bytes.len() - 8);
-        u64::from_be_bytes([
-            last[0], last[1], last[2], last[3], last[4], last[5], last[6], last[7],
-        ])
-    }
-
-    /// Whether bytes begin with the key.
-    pub(crate) fn begins(&self, bytes: &[u8]) -> bool
-        ensures { result ≡ same_bytes self.now (take (length self.now) bytes.now) }
-    {
-        let key = self.as_slice();
-        let (front, _) = bytes.split_at(bytes.len().min(key.len()));
-        key == front
     }
 
     // the bytes
@@ -171,16 +123,6 @@ impl<'a> Key<'a> {
             KeyBytes::InPlace(bytes) => return bytes,
             KeyBytes::Copied(bytes) => return bytes,
         }
-    }
-}
-
-/// The canonical bytes of the record that identifies a change's row.
-pub(crate) fn row_bytes<'a>(change: &ChangeRef<'a>) -> &'a [u8]
-    ensures { result.now ≡ packed (identifying (change_seen change.now)) }
-{
-    match change.op {
-        Op::Insert => change.after.bytes(),
-        Op::Update | Op::Delete => change.before.bytes(),
     }
 }
 
@@ -207,4 +149,15 @@ impl<'a> PartialEq for Key<'a> {
 
 impl<'a> Eq for Key<'a> {
     ghost laws = { nat_list_eq_equiv };
+}
+
+impl<'a> Hash for Key<'a> {
+    ghost hash_input = { λ k. k ∷ [] };
+
+    ghost respects_eq = { λ k l same. ap (λ bytes. bytes ∷ []) (same_text k l (sym same)) };
+
+    // all bytes at once: a slice feeds one after another
+    fn hash<H: Hasher>(&self, state: &mut H) {
+        state.write(self.as_slice());
+    }
 }

@@ -2,17 +2,17 @@
 
 ghost use Rattle.std.specs.Prelude.{◌≡◌, ◌+◌, ◌≤◌, ◌^◌, [], IfOk, OnErr, OnOk, filter, length, map};
 ghost use Rattle.std.specs.List.{AllByRecursion, flat_map};
-ghost use Rattle.cs_model.specs.Changeset.{IsChange, IsChangeset, IsSection, all_changes};
+ghost use Rattle.cs_model.specs.Changeset.{IsChangeset, IsSection};
 ghost use Rattle.cs_write.specs.Buffer.{given, laid};
 ghost use Rattle.cs_write.specs.Canon.{by_shape, has_changes, joined_section};
 ghost use Rattle.cs_write.specs.Lengths.{held};
 ghost use Rattle.cs_write.specs.Seen.{seen};
 ghost use Rattle.cs_write.specs.Text.{text_of};
-ghost use Rattle.cs_group.specs.Group.{combined, combined_section, group_of};
+ghost use Rattle.cs_group.specs.Group.{combined_section, group_of};
 ghost use Rattle.cs_group.specs.Text.{rows_seen, table_text};
 
 use crate::rows::Rows;
-use cs_model::{Changeset, CopyIn, Section, SectionRef, Seq, Shape};
+use cs_model::{Changeset, CopyIn, Section, SectionRef, Seq};
 use cs_write::{Groups, add_lengths, add_section};
 use indexmap::IndexMap;
 use std::alloc::{AllocError, Global};
@@ -28,20 +28,6 @@ fn by_table<'a>(alloc: Global, sections: &[SectionRef<'a>]) -> Result<Groups<'a>
     Ok(groups)
 }
 
-// one section for these sections of one table
-fn section_of(alloc: Global, shape: &Shape, sections: &[SectionRef]) -> Result<Section, AllocError>
-    requires { AllByRecursion (IsChange shape.now) (all_changes sections.now) }
-    ensures { IfOk result (λ made. made ≡ record {
-      shape = shape.now;
-      changes = combined shape.now.flags (all_changes sections.now);
-    }) }
-{
-    let rows = Rows::of(alloc, shape.copy_in(alloc)?, sections)?;
-    let changes = rows.changes(alloc)?;
-    let Rows { shape, .. } = rows;
-    Ok(Section::new(shape, changes))
-}
-
 // one section for each table of which something is left
 fn sections_of(alloc: Global, groups: &Groups) -> Result<Vec<Section>, AllocError>
     requires { AllByRecursion IsSection (map joined_section (seen groups.now.entries)) }
@@ -50,9 +36,9 @@ fn sections_of(alloc: Global, groups: &Groups) -> Result<Vec<Section>, AllocErro
 {
     let mut sections = Vec::new(alloc);
     for (shape, group) in groups.iter() {
-        let section = section_of(alloc, shape, group)?;
-        if !section.changes().is_empty() {
-            sections.push(section)?;
+        let changes = Rows::of(alloc, shape, group)?.changes(alloc)?;
+        if !changes.is_empty() {
+            sections.push(Section::new(shape.copy_in(alloc)?, changes))?;
         }
     }
     Ok(sections)
@@ -69,14 +55,14 @@ pub(crate) fn changeset_of(alloc: Global, sections: &[SectionRef]) -> Result<Cha
 }
 
 // what the changes of each table come to
-fn rows_of<'a>(alloc: Global, groups: &Groups<'a>) -> Result<Vec<Rows<'a>>, AllocError>
+fn rows_of<'s, 'a>(alloc: Global, groups: &'s Groups<'a>) -> Result<Vec<Rows<'s, 'a>>, AllocError>
     requires { AllByRecursion IsSection (map joined_section (seen groups.now.entries)) }
     ensures { IfOk result (λ tables. map rows_seen tables.items
         ≡ map (λ group. combined_section (joined_section group)) (seen groups.now.entries)) }
 {
     let mut tables = Vec::new(alloc);
     for (shape, group) in groups.iter() {
-        tables.push(Rows::of(alloc, shape.copy_in(alloc)?, group)?)?;
+        tables.push(Rows::of(alloc, shape, group)?)?;
     }
     Ok(tables)
 }
@@ -92,15 +78,6 @@ fn tables_len(tables: &[Rows]) -> Option<usize>
     len
 }
 
-// The number of bytes to write. No memory holds more than a `usize` counts.
-#[tactic(auto, using(cs_write::proofs::Held::holding))]
-fn needed(tables: &[Rows]) -> Result<usize, AllocError>
-    ensures ok { IfOk result (λ n. n
-        ≡ length (flat_map table_text (map rows_seen tables.now))) }
-{
-    tables_len(tables).ok_or(AllocError)
-}
-
 // Writes the text of these tables.
 fn put_tables(out: &mut [u8], at: usize, tables: &[Rows]) -> usize
     requires { at + length (flat_map table_text (map rows_seen tables.now)) ≤ length out.old }
@@ -114,16 +91,19 @@ fn put_tables(out: &mut [u8], at: usize, tables: &[Rows]) -> usize
     end
 }
 
-/// Writes the text of these tables if there is room for it, and returns its length.
-#[tactic(auto, using(cs_write::proofs::Laying::laid_first))]
-pub(crate) fn write_tables(tables: &[Rows], out: &mut [u8]) -> Result<usize, AllocError>
+// Writes the text of these tables if there is room for it, and returns its length. Does not
+// allocate; `AllocError` says that a `usize` can't hold the length.
+#[tactic(auto, using(cs_write::proofs::Held::holding, cs_write::proofs::Laying::laid_first))]
+fn write_tables(tables: &[Rows], out: &mut [u8]) -> Result<usize, AllocError>
     ensures length { IfOk result (λ n. n
         ≡ length (flat_map table_text (map rows_seen tables.now))) }
     ensures written { OnOk result (out.new
         ≡ given (flat_map table_text (map rows_seen tables.now)) out.old) }
     ensures err { OnErr result (out.new ≡ out.old) }
+    ensures limit { OnErr result
+        (2 ^ 64 ≤ length (flat_map table_text (map rows_seen tables.now))) }
 {
-    let len = needed(tables)?;
+    let len = tables_len(tables).ok_or(AllocError)?;
     let room = out.len();
     if room < len {
         return Ok(len);

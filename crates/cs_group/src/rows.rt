@@ -8,7 +8,7 @@ ghost use Rattle.cs_write.specs.Buffer.{laid};
 ghost use Rattle.cs_write.specs.Lengths.{held};
 ghost use Rattle.cs_group.specs.Group.{combined};
 ghost use Rattle.cs_group.specs.Table.{HasColumnsOf, slot_changes, slots_seen};
-ghost use Rattle.cs_group.specs.Text.{rows_seen, table_seen, table_text};
+ghost use Rattle.cs_group.specs.Text.{rows_seen, table_text};
 
 use crate::slot::Slot;
 use crate::table::Table;
@@ -19,66 +19,40 @@ use std::alloc::{AllocError, Global};
 
 /// The rows of a table, each with the change that its changes come to, or none.
 #[derive(Drop)]
-pub(crate) struct Rows<'a> {
-    pub(crate) shape: Shape,
+pub(crate) struct Rows<'s, 'a> {
+    shape: &'s Shape,
     // in the order in which the rows began
     slots: Vec<Option<Slot<'a>>>,
 }
 
-// what each row's change comes to by those of these sections of one table
-fn slots_of<'a>(
-    alloc: Global,
-    shape: &Shape,
-    sections: &[SectionRef<'a>],
-) -> Result<Vec<Option<Slot<'a>>>, AllocError>
-    requires { AllByRecursion (IsChange shape.now) (all_changes sections.now) }
-    ensures columns { IfOk result (λ slots. AllByRecursion
-        (HasColumnsOf (length shape.now.flags)) (slot_changes (slots_seen slots.items))) }
-    ensures combined { IfOk result (λ slots. slot_changes (slots_seen slots.items)
-        ≡ combined shape.now.flags (all_changes sections.now)) }
-{
-    changes_fit();
-    let mut table = Table::new(alloc, &shape.flags);
-    for section in sections {
-        table.add_all(alloc, section)?;
-    }
-    let Table { slots, .. } = table;
-    Ok(slots)
-}
-
-impl<'a> Rows<'a> {
+impl<'s, 'a> Rows<'s, 'a> {
     /// What the changes of these sections of one table come to.
     pub(crate) fn of(
         alloc: Global,
-        shape: Shape,
+        shape: &'s Shape,
         sections: &[SectionRef<'a>],
-    ) -> Result<Rows<'a>, AllocError>
-        requires { AllByRecursion (IsChange shape) (all_changes sections.now) }
-        ensures shape { IfOk result (λ rows. rows.shape ≡ shape) }
+    ) -> Result<Rows<'s, 'a>, AllocError>
+        requires { AllByRecursion (IsChange shape.now) (all_changes sections.now) }
+        ensures shape { IfOk result (λ rows. rows.shape.now ≡ shape.now) }
         ensures columns { IfOk result (λ rows. AllByRecursion
-            (HasColumnsOf (length shape.flags)) (slot_changes (slots_seen rows.slots.items))) }
+            (HasColumnsOf (length shape.now.flags)) (slot_changes (slots_seen rows.slots.items))) }
         ensures combined { IfOk result (λ rows. slot_changes (slots_seen rows.slots.items)
-            ≡ combined shape.flags (all_changes sections.now)) }
+            ≡ combined shape.now.flags (all_changes sections.now)) }
     {
-        let slots = slots_of(alloc, &shape, sections)?;
-        Ok(Rows { shape, slots })
-    }
-
-    /// What the changes that were added to a table come to.
-    pub(crate) fn of_table(shape: Shape, table: Table<'_, 'a>) -> Rows<'a>
-        ensures { rows_seen result ≡ table_seen (shape, table.entry) }
-    {
-        Rows {
-            shape,
-            slots: table.slots,
+        changes_fit();
+        let mut table = Table::new(alloc, &shape.flags);
+        for section in sections {
+            table.add_all(alloc, section)?;
         }
+        let Table { slots, .. } = table;
+        Ok(Rows { shape, slots })
     }
 
     /// The changes, in the order in which their rows began.
     pub(crate) fn changes(&self, alloc: Global) -> Result<Changes, AllocError>
-        requires { AllByRecursion (HasColumnsOf (length self.now.shape.flags))
+        requires { AllByRecursion (HasColumnsOf (length self.now.shape.now.flags))
             (slot_changes (slots_seen self.now.slots.items)) }
-        ensures columns { IfOk result (λ made. made.0 ≡ length self.now.shape.flags) }
+        ensures columns { IfOk result (λ made. made.0 ≡ length self.now.shape.now.flags) }
         ensures changes { IfOk result (λ made. made.1
             ≡ slot_changes (slots_seen self.now.slots.items)) }
     {
@@ -87,7 +61,7 @@ impl<'a> Rows<'a> {
             let Some(slot) = slot else {
                 continue;
             };
-            slot.push_to(alloc, &mut changes)?;
+            slot.push_to(&mut changes)?;
         }
         Ok(changes)
     }
@@ -126,7 +100,7 @@ impl<'a> Rows<'a> {
         if !self.any_change() {
             return Some(0);
         }
-        add_lengths(header_len(&self.shape), self.changes_len())
+        add_lengths(header_len(self.shape), self.changes_len())
     }
 
     // Writes the changes.
@@ -157,7 +131,7 @@ impl<'a> Rows<'a> {
         if !self.any_change() {
             return at;
         }
-        let end = put_header(out, at, &self.shape);
+        let end = put_header(out, at, self.shape);
         self.put_changes(out, end)
     }
 }

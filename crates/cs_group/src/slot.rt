@@ -8,8 +8,7 @@ ghost use Rattle.cs_write.specs.Lengths.{held};
 ghost use Rattle.cs_group.specs.Slots.{merged_seen, slot_seen};
 ghost use Rattle.cs_group.specs.Table.{HasColumnsOf, met_at, slots_seen};
 
-use crate::replaced::Replaced;
-use cs_model::{ChangeRef, Changes, FieldRef, Op, PackedChange, RecordRef};
+use cs_model::{Changes, FieldRef, Op, PackedChange, RecordRef};
 use cs_write::{add_lengths, fields_len, put_bytes, put_fields, put_operation};
 use std::alloc::{AllocError, Global};
 
@@ -27,32 +26,22 @@ pub(crate) struct Merged<'a> {
 pub(crate) enum Slot<'a> {
     /// A change that met no other, where it stands.
     Alone(PackedChange<'a>),
-    /// An INSERT, and UPDATEs of all its values.
-    Replaced(Box<Replaced<'a>>),
-    /// Any other change that comes from several. Few slots have one, so it stands apart.
+    /// A change that comes from several. Few slots have one, so it stands apart.
     Merged(Box<Merged<'a>>),
 }
 
 impl<'a> Slot<'a> {
-    /// The operation.
-    pub(crate) fn op(&self) -> Op
-        ensures { result ≡ (slot_seen self.now).op }
-    {
-        match self {
-            Slot::Alone(change) => change.op(),
-            Slot::Replaced(replaced) => replaced.marks().0,
-            Slot::Merged(merged) => merged.op,
-        }
-    }
-
     /// The length of the change in canonical form, in bytes.
+    #[tactic(auto, using(cs_write::proofs::Held::holding))]
     pub(crate) fn text_len(&self) -> Option<usize>
         ensures { result ≡ held (length (change_bytes (slot_seen self.now))) }
     {
         match self {
-            Slot::Alone(change) => alone_len(change),
-            Slot::Replaced(replaced) => replaced.text_len(),
-            Slot::Merged(merged) => merged_len(merged),
+            Slot::Alone(change) => Some(change.bytes().len()),
+            Slot::Merged(merged) => {
+                let records = add_lengths(fields_len(&merged.before), fields_len(&merged.after));
+                add_lengths(Some(2), records)
+            }
         }
     }
 
@@ -64,8 +53,11 @@ impl<'a> Slot<'a> {
     {
         match self {
             Slot::Alone(change) => put_bytes(out, at, change.bytes()),
-            Slot::Replaced(replaced) => replaced.put(out, at),
-            Slot::Merged(merged) => put_merged(out, at, merged),
+            Slot::Merged(merged) => {
+                let mut end = put_operation(out, at, merged.op, merged.indirect);
+                end = put_fields(out, end, &merged.before);
+                put_fields(out, end, &merged.after)
+            }
         }
     }
 
@@ -78,25 +70,31 @@ impl<'a> Slot<'a> {
         ensures { IfOk result (λ merged. merged_seen merged.value ≡ slot_seen self.entry) }
     {
         match self {
-            Slot::Alone(change) => merged_of(alloc, columns, &change.unpack()),
-            Slot::Replaced(replaced) => merged_insert(alloc, &replaced),
+            Slot::Alone(change) => {
+                let change = change.unpack();
+                let merged = Merged {
+                    op: change.op,
+                    indirect: change.indirect,
+                    before: fields_of(alloc, columns, &change.before)?,
+                    after: fields_of(alloc, columns, &change.after)?,
+                };
+                Ok(Box::new(alloc, merged)?)
+            }
             Slot::Merged(merged) => Ok(merged),
         }
     }
 
     /// Appends the change to a list, in one copy of the bytes that its fields have.
-    pub(crate) fn push_to(&self, alloc: Global, changes: &mut Changes) -> Result<(), AllocError>
+    pub(crate) fn push_to(&self, changes: &mut Changes) -> Result<(), AllocError>
         requires { HasColumnsOf changes.old.0 (slot_seen self.now) }
         ensures columns { changes.new.0 ≡ changes.old.0 }
         ensures ok { OnOk result (changes.new.1 ≡ changes.old.1 ++ slot_seen self.now ∷ []) }
     {
         match self {
             Slot::Alone(change) => changes.push_packed(change),
-            Slot::Replaced(replaced) => {
-                let merged = merged_insert(alloc, replaced)?;
-                push_merged(changes, &merged)
+            Slot::Merged(merged) => {
+                changes.push_fields(merged.op, merged.indirect, &merged.before, &merged.after)
             }
-            Slot::Merged(merged) => push_merged(changes, merged),
         }
     }
 }
@@ -110,49 +108,6 @@ pub(crate) fn met(slots: &[Option<Slot>], place: Option<usize>) -> Option<usize>
         Some(Some(_)) => Some(place),
         _ => None,
     }
-}
-
-/// A change as lists of fields, of which a record has `columns`.
-pub(crate) fn merged_of<'a>(
-    alloc: Global,
-    columns: usize,
-    change: &ChangeRef<'a>,
-) -> Result<Box<Merged<'a>>, AllocError>
-    ensures { IfOk result (λ merged. merged_seen merged.value ≡ change_seen change.now) }
-{
-    let before = fields_of(alloc, columns, &change.before)?;
-    let after = fields_of(alloc, columns, &change.after)?;
-    let merged = Merged {
-        op: change.op,
-        indirect: change.indirect,
-        before,
-        after,
-    };
-    Ok(Box::new(alloc, merged)?)
-}
-
-// an INSERT whose values were replaced, as lists of fields
-fn merged_insert<'a>(alloc: Global, replaced: &Replaced<'a>) -> Result<Box<Merged<'a>>, AllocError>
-    ensures { IfOk result (λ merged. merged_seen merged.value ≡ replaced.now) }
-{
-    let (op, indirect) = replaced.marks();
-    let after = replaced.fields(alloc)?;
-    let merged = Merged {
-        op,
-        indirect,
-        before: Vec::new(alloc),
-        after,
-    };
-    Ok(Box::new(alloc, merged)?)
-}
-
-// Appends a change that comes from several to a list.
-fn push_merged(changes: &mut Changes, merged: &Merged) -> Result<(), AllocError>
-    requires { HasColumnsOf changes.old.0 (merged_seen merged.now) }
-    ensures columns { changes.new.0 ≡ changes.old.0 }
-    ensures ok { OnOk result (changes.new.1 ≡ changes.old.1 ++ merged_seen merged.now ∷ []) }
-{
-    changes.push_fields(merged.op, merged.indirect, &merged.before, &merged.after)
 }
 
 /// The fields of a record, which are `columns` or none.
@@ -169,31 +124,4 @@ pub(crate) fn fields_of<'a>(
         fields.push(field)?;
     }
     Ok(fields)
-}
-
-// the length of a change where it stands, in bytes
-#[tactic(auto, using(cs_write::proofs::Held::holding))]
-fn alone_len(change: &PackedChange) -> Option<usize>
-    ensures { result ≡ held (length (change_bytes change.now)) }
-{
-    Some(change.bytes().len())
-}
-
-// the length of a change that comes from several, in bytes
-fn merged_len(merged: &Merged) -> Option<usize>
-    ensures { result ≡ held (length (change_bytes (merged_seen merged.now))) }
-{
-    let records = add_lengths(fields_len(&merged.before), fields_len(&merged.after));
-    add_lengths(Some(2), records)
-}
-
-// a change that comes from several
-fn put_merged(out: &mut [u8], at: usize, merged: &Merged) -> usize
-    requires { at + length (change_bytes (merged_seen merged.now)) ≤ length out.old }
-    ensures end { result ≡ at + length (change_bytes (merged_seen merged.now)) }
-    ensures bytes { out.new ≡ laid at (change_bytes (merged_seen merged.now)) out.old }
-{
-    let mut end = put_operation(out, at, merged.op, merged.indirect);
-    end = put_fields(out, end, &merged.before);
-    put_fields(out, end, &merged.after)
 }

@@ -1,6 +1,6 @@
 //! The canonical text of a changeset's inverse, without a changeset between them.
 
-ghost use Rattle.std.specs.Prelude.{◌≡◌, [], IfOk, OnErr, OnOk, length};
+ghost use Rattle.std.specs.Prelude.{◌≡◌, ◌≤◌, ◌^◌, [], IfOk, OnErr, OnOk, length};
 ghost use Rattle.cs_model.specs.Changeset.{IsChangeset};
 ghost use Rattle.cs_model.specs.PackedChanges.{changes_bytes};
 ghost use Rattle.cs_write.specs.Buffer.{given};
@@ -73,7 +73,8 @@ fn groups_len(groups: &Groups) -> Option<usize>
 // more than a `usize` counts.
 #[tactic(auto, using(cs_write::proofs::Held::holding))]
 fn needed(groups: &Groups) -> Result<usize, AllocError>
-    ensures { IfOk result (λ n. n ≡ length (groups_text (seen groups.now.entries))) }
+    ensures ok { IfOk result (λ n. n ≡ length (groups_text (seen groups.now.entries))) }
+    ensures err { OnErr result (2 ^ 64 ≤ length (groups_text (seen groups.now.entries))) }
 {
     groups_len(groups).ok_or(AllocError)
 }

@@ -10,6 +10,7 @@ pub mod FitLaws
 pub mod CountLaws
 pub mod SaidLaws
 pub mod CanonicalLaws
+pub mod CanonicalOnly
 pub mod Fronts
 pub mod PartLaws
 pub mod PackedOne

@@ -105,7 +105,7 @@ counted_two bytes high low n behind whole large small same =
 
 -- ---- what is written is read
 
-length_fits : (n : ℕ) → IsLength n → n < 2 ^ 64
+pub length_fits : (n : ℕ) → IsLength n → n < 2 ^ 64
 unfolding IsLength
 length_fits n h = h
 

@@ -1,7 +1,8 @@
 //! Checks whether the bytes of changes are canonical, and re-encodes those that aren't. A text may
 //! encode a length with leading zeros, and an indirect change with any nonzero byte.
 
-ghost use Rattle.std.specs.Prelude.{◌≡◌, IfOk, IfSome, OnErr, length, take, drop};
+ghost use Rattle.std.specs.Prelude.{◌≡◌, ◌≤◌, ℕ, List, IfOk, IfSome, IsSome, MatchOption, OnErr};
+ghost use Rattle.std.specs.Prelude.{length, take, drop};
 ghost use Rattle.cs_model.specs.Bytes.{AddsBytes};
 ghost use Rattle.cs_model.specs.Canonical.{StartsCounted, StartsField, StartsRecord, StartsChange};
 ghost use Rattle.cs_model.specs.Packed.{packed};
@@ -34,6 +35,7 @@ pub fn text_push(out: &mut Vec<u8>, columns: usize, bytes: &[u8]) -> Result<usiz
 pub(crate) fn canonical_count(columns: usize, bytes: &[u8]) -> Option<usize>
     ensures packs { IfSome result (λ n. AreCanonical columns bytes.now) }
     ensures count { IfSome result (λ n. n ≡ length (unpacked_changes columns bytes.now)) }
+    ensures only { AreCanonical columns bytes.now → IsSome result }
 {
     let mut count: usize = 0;
     let mut rest = bytes;
@@ -65,7 +67,9 @@ fn push_said(out: &mut Vec<u8>, columns: usize, bytes: &[u8]) -> Result<usize, A
 
 // the bytes after the first change, if it is canonical
 fn behind_change(columns: usize, bytes: &[u8]) -> Option<&[u8]>
-    ensures { IfSome result (λ rest. StartsChange columns bytes.now rest.now) }
+    ensures found { IfSome result (λ rest. StartsChange columns bytes.now rest.now) }
+    ensures only { (rest : List ℕ) → StartsChange columns bytes.now rest
+        → MatchOption result ⊥ (λ found. found.now ≡ rest) }
 {
     let (&op, behind) = bytes.split_first()?;
     let (&mark, fields) = behind.split_first()?;
@@ -81,7 +85,9 @@ fn behind_change(columns: usize, bytes: &[u8]) -> Option<&[u8]>
 
 // the bytes after `columns` fields, if these are canonical
 fn behind_record(columns: usize, bytes: &[u8]) -> Option<&[u8]>
-    ensures { IfSome result (λ rest. StartsRecord columns bytes.now rest.now) }
+    ensures found { IfSome result (λ rest. StartsRecord columns bytes.now rest.now) }
+    ensures only { (rest : List ℕ) → StartsRecord columns bytes.now rest
+        → MatchOption result ⊥ (λ found. found.now ≡ rest) }
 {
     let mut rest = bytes;
     for _ in 0..columns {
@@ -93,7 +99,9 @@ fn behind_record(columns: usize, bytes: &[u8]) -> Option<&[u8]>
 // the bytes after the first field, if it is canonical
 #[inline(always)]
 fn behind_field(bytes: &[u8]) -> Option<&[u8]>
-    ensures { IfSome result (λ rest. StartsField bytes.now rest.now) }
+    ensures found { IfSome result (λ rest. StartsField bytes.now rest.now) }
+    ensures only { (rest : List ℕ) → StartsField bytes.now rest
+        → MatchOption result ⊥ (λ found. found.now ≡ rest) }
 {
     let (&kind, rest) = bytes.split_first()?;
     match kind {
@@ -107,7 +115,9 @@ fn behind_field(bytes: &[u8]) -> Option<&[u8]>
 // the bytes after a length and that number of bytes, if the length is the shortest varint
 #[inline(always)]
 fn behind_counted(bytes: &[u8]) -> Option<&[u8]>
-    ensures { IfSome result (λ rest. StartsCounted bytes.now rest.now) }
+    ensures found { IfSome result (λ rest. StartsCounted bytes.now rest.now) }
+    ensures only { (rest : List ℕ) → StartsCounted bytes.now rest
+        → MatchOption result ⊥ (λ found. found.now ≡ rest) }
 {
     let (&len, behind) = bytes.split_first()?;
     // nearly all lengths take one byte
@@ -122,8 +132,9 @@ fn behind_counted(bytes: &[u8]) -> Option<&[u8]>
 // the bytes after the first `len`
 #[inline(always)]
 fn behind_so_many(len: u64, bytes: &[u8]) -> Option<&[u8]>
-    ensures { IfSome result (λ rest. (length (take len bytes.now) ≡ len)
+    ensures found { IfSome result (λ rest. (length (take len bytes.now) ≡ len)
         × (rest.now ≡ drop len bytes.now)) }
+    ensures only { len ≤ length bytes.now → IsSome result }
 {
     if (bytes.len() as u64) < len {
         return None;

@@ -1,6 +1,7 @@
 //! Varints: reads and writes counts and lengths of one to nine bytes.
 
-ghost use Rattle.std.specs.Prelude.{◌≡◌, ℕ, ◌≤◌, ◌++◌, length, take, drop, OnErr, IfSome, Some};
+ghost use Rattle.std.specs.Prelude.{◌≡◌, ℕ, List, ◌≤◌, ◌++◌, length, take, drop, OnErr, IfSome};
+ghost use Rattle.std.specs.Prelude.{MatchOption, Some};
 ghost use Rattle.cs_model.specs.Bytes.{AddsBytes};
 ghost use Rattle.cs_model.specs.Varint.{IsVarint, varint};
 ghost use Rattle.cs_model.specs.Packed.{read_from};
@@ -57,7 +58,9 @@ pub fn varint_push(out: &mut Vec<u8>, value: u64) -> Result<(), AllocError>
 /// Returns the bytes after the shortest encoding of `value`, or `None` if `bytes` doesn't begin
 /// with it.
 pub fn varint_strip(bytes: &[u8], value: u64) -> Option<&[u8]>
-    ensures { IfSome result (λ rest. bytes.now ≡ varint value ++ rest.now) }
+    ensures found { IfSome result (λ rest. bytes.now ≡ varint value ++ rest.now) }
+    ensures only { (rest : List ℕ) → bytes.now ≡ varint value ++ rest
+        → MatchOption result ⊥ (λ found. found.now ≡ rest) }
 {
     let (text, start) = varint_of(value);
     bytes.strip_prefix(&text[start..])

@@ -3,5 +3,4 @@ pub mod Skims
 pub mod Counts
 pub mod CanonicalLaws
 pub mod Fronts
-pub mod Beginnings
 pub mod CountLaws

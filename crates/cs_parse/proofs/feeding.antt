@@ -5,6 +5,7 @@ pub mod FrontParts
 pub mod FrontCounts
 pub mod SectionFronts
 pub mod Batches
+pub mod Unread
 pub mod GrowLaws
 pub mod GrowingLaws
 pub mod NameLaws

@@ -1,13 +1,10 @@
 -- Bytes that are the canonical encoding of what is read from them.
-use Rattle.std.specs.Prelude.{◌≡◌, ℕ, List, ◌∷◌, ◌++◌, length, Result, Ok}
-use Rattle.cs_model.specs.declared.change.Change.{Change}
+use Rattle.std.specs.Prelude.{◌≡◌, ℕ, List, ◌++◌, length, Result, Ok}
 use Rattle.cs_model.specs.Varint.{varint}
 use Rattle.cs_model.specs.declared.value.Value.TheVariants.{Integer, Text, Blob, Null}
 use Rattle.cs_model.specs.declared.value.Field.{Field}
 use Rattle.cs_model.specs.declared.value.Field.TheVariants.{Undefined, Is}
 use Rattle.cs_model.specs.Packed.{packed}
-use Rattle.cs_model.specs.PackedChanges.{mark}
-use Rattle.cs_model.specs.Text.{op_byte}
 use Rattle.cs_parse.specs.declared.stop.ParseRefusal.{ParseRefusal}
 
 -- a length as its shortest varint, and that number of bytes
@@ -28,20 +25,6 @@ abbrev pub IsCanonical : {A : Type 0} → (A → List ℕ) → List ℕ → Resu
     → Type 0
 IsCanonical own bytes read = (x : _ × List ℕ) → read ≡ Ok x → bytes ≡ own x.0 ++ x.1
 
--- If reading the bytes succeeds, they are the front of what is read, in canonical form, and then
--- these bytes.
-abbrev pub IsAfterFront : {A : Type 0} → (A → List ℕ) → List ℕ → List ℕ
-    → Result (A × List ℕ) ParseRefusal → Type 0
-IsAfterFront own bytes after read = (x : _ × List ℕ) → read ≡ Ok x → bytes ≡ own x.0 ++ after
-
 -- the canonical bytes of a change's two records
 abbrev pub both_packed : List Field × List Field → List ℕ
 both_packed records = packed records.0 ++ packed records.1
-
--- the canonical bytes of the first one
-abbrev pub old_packed : List Field × List Field → List ℕ
-old_packed records = packed records.0
-
--- the canonical bytes of a change before its new record
-abbrev pub front_bytes : Change → List ℕ
-front_bytes change = op_byte change.op ∷ mark change.indirect ∷ packed change.before

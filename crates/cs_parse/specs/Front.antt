@@ -108,6 +108,11 @@ Tails None bytes sections rest why = read_on [] bytes
 Tails (Some stopped) bytes sections rest why = (sections ≡ []) × (rest ≡ bytes)
     × (why ≡ Some stopped)
 
+-- why no more is read after these changes: a change wasn't read, or what follows says so
+abbrev pub stop_after : Option ParseRefusal → List ℕ → Option ParseRefusal
+stop_after None bytes = (read_on [] bytes).why
+stop_after (Some stopped) bytes = Some stopped
+
 -- the changes that a text encodes, for a table with these key flags
 abbrev pub said_by : Option (List ℕ) → List ℕ → List Change
 said_by None text = []
@@ -151,11 +156,12 @@ pub record Grown (taken : ℕ) (old new : List Section × List ℕ) : Type 0 whe
   pub no_fault : (n : ℕ) → arrived n taken (read_on old.0 old.1)
       ≡ so_far n taken (read_on old.0 old.1)
 
--- the fault of the bytes after sections
+-- the fault of the bytes after sections, or memory ran out and none of the bytes is wrong
 abbrev pub IsBroken : ParseError → ℕ → List Section → List ℕ → Type 0
 IsBroken (Fault fault) taken old bytes = (n : ℕ) → arrived n taken (read_on old bytes)
     ≡ broken fault
-IsBroken Memory taken old bytes = Unit {0}
+IsBroken Memory taken old bytes = (n : ℕ) → arrived n taken (read_on old bytes)
+    ≡ so_far n taken (read_on old bytes)
 
 -- Sections and bytes that grew, or the fault. An `Err` changes nothing.
 abbrev pub Grows : {A : Type 0} → Result A ParseError → ℕ → List Section × List ℕ → List Section
@@ -173,13 +179,16 @@ pub record TookIn (old : Progress) (bytes : List ℕ) (new : Progress) (reached 
     pub no_fault : (len : ℕ) → arrived len (old.offset + length bytes) reached
         ≡ so_far len (old.offset + length bytes) reached
 
--- the same, or the fault; `Memory` changes nothing
+-- The same, or the fault. `Memory` changes nothing. If no bytes are pending, none of these is wrong
+-- then.
 abbrev pub TakesIn : {A : Type 0} → Result A ParseError → Progress → List ℕ → Progress → Type 0
 TakesIn (Ok done) old bytes new = TookIn old bytes new (read_on old.sections (old.pending ++ bytes))
 TakesIn (Err (Fault fault)) old bytes new =
     (len : ℕ) → arrived len (old.offset + length bytes)
     (read_on old.sections (old.pending ++ bytes)) ≡ broken fault
-TakesIn (Err Memory) old bytes new = new ≡ old
+TakesIn (Err Memory) old bytes new = (new ≡ old)
+    × (old.pending ≡ []
+    → IsBroken Memory (old.offset + length bytes) old.sections (old.pending ++ bytes))
 
 -- The bytes after sections belong to a change or a header that was scanned to this spot. The last
 -- section's table has these key flags. If there is no section, only a header can begin.

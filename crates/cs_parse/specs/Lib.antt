@@ -6,7 +6,6 @@ pub mod FieldRules
 pub mod Reading
 pub mod Seen
 pub mod Count
-pub mod Beginning
 pub mod Canonical
 pub mod Pieces
 pub mod Progress

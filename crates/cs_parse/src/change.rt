@@ -1,14 +1,12 @@
-//! Reads the changes of a section: counts, checks or copies them, up to the next header or the end.
+//! Reads the changes of a section: counts or checks them, up to the next header or the end.
 
-ghost use Rattle.std.specs.Prelude.{◌≡◌, ◌==◌, ◌∷◌, ◌++◌, length, if◌then◌else◌, IfOk, OnOk};
+ghost use Rattle.std.specs.Prelude.{◌≡◌, ◌==◌, ◌∷◌, ◌++◌, length, if◌then◌else◌, IfOk};
 ghost use Rattle.std.specs.Prelude.{IsTrue};
-ghost use Rattle.std.specs.List.{AllByRecursion};
 ghost use Rattle.cs_model.specs.Text.{op_byte};
-ghost use Rattle.cs_model.specs.PackedChanges.{change_bytes, changes_bytes, Fit, unpacked_changes};
-ghost use Rattle.cs_model.specs.PackedChanges.{AreCanonical};
+ghost use Rattle.cs_model.specs.PackedChanges.{change_bytes, changes_bytes};
 ghost use Rattle.cs_parse.specs.declared.fault.FaultKind.TheVariants.{Patchset, BadOperation};
 ghost use Rattle.cs_parse.specs.declared.stop.ParseRefusal.TheVariants.{Bad};
-ghost use Rattle.cs_parse.specs.Canonical.{IsAfterFront, IsCanonical, front_bytes};
+ghost use Rattle.cs_parse.specs.Canonical.{IsCanonical};
 ghost use Rattle.cs_parse.specs.Count.{bytes_after, counted};
 ghost use Rattle.cs_parse.specs.Front.{changes_front};
 ghost use Rattle.cs_parse.specs.Reading.{Reads, op_of, marked_at, change_at, ends_section};
@@ -16,12 +14,9 @@ ghost use Rattle.cs_parse.specs.Reading.{changes_at};
 
 use crate::and::both;
 use crate::fault::FaultKind;
-use crate::last_length::LastLength;
 use crate::record::skip_records;
 use crate::stop::ParseRefusal;
-use cs_model::laws::{changes_fit, spelled_is_said};
-use cs_model::{Changes, Op};
-use std::alloc::{AllocError, Global};
+use cs_model::Op;
 
 // the operation that a byte encodes
 fn op_by_byte(byte: u8) -> Option<Op>
@@ -35,27 +30,20 @@ fn op_by_byte(byte: u8) -> Option<Op>
     }
 }
 
-// Returns the bytes after the old record of a change whose operation byte was read, those after the
-// change, and whether the change is in canonical form.
+// Returns the bytes after a change whose operation byte was read, and whether the change is in
+// canonical form.
 #[tactic(auto, unfolding(crate::specs::Reading::marked_at))]
 #[inline(always)]
-fn skip_marked<'a>(
-    flags: &[u8],
-    op: Op,
-    bytes: &'a [u8],
-    last: &mut LastLength,
-) -> Result<(&'a [u8], &'a [u8], bool), ParseRefusal>
-    ensures read { Reads (λ x. x.1.now) result (bytes_after (marked_at flags.now op bytes.now)) }
-    ensures new { IfOk result (λ x. IsTrue x.2 → IsAfterFront front_bytes
-        (op_byte op ∷ bytes.now) x.0.now (marked_at flags.now op bytes.now)) }
-    ensures canonical { IfOk result (λ x. IsTrue x.2
+fn skip_marked<'a>(flags: &[u8], op: Op, bytes: &'a [u8]) -> Result<(&'a [u8], bool), ParseRefusal>
+    ensures read { Reads (λ x. x.0.now) result (bytes_after (marked_at flags.now op bytes.now)) }
+    ensures canonical { IfOk result (λ x. IsTrue x.1
         → IsCanonical change_bytes (op_byte op ∷ bytes.now) (marked_at flags.now op bytes.now)) }
 {
     let Some((&mark, rest)) = bytes.split_first() else {
         return Err(ParseRefusal::Short);
     };
-    let (new, rest, canonical) = skip_records(flags, op, rest, last)?;
-    Ok((new, rest, both(mark <= 1, canonical)))
+    let (rest, canonical) = skip_records(flags, op, rest)?;
+    Ok((rest, both(mark <= 1, canonical)))
 }
 
 // why no change begins with this byte, the first of `left` bytes
@@ -70,26 +58,19 @@ fn no_change(byte: u8, left: usize) -> ParseRefusal
     ParseRefusal::Bad { left, kind }
 }
 
-/// The bytes after the old record of a change, those after the change, and whether the change is in
-/// canonical form.
+// Returns the bytes after a change, and whether the change is in canonical form.
 #[tactic(auto, unfolding(crate::specs::Reading::change_at))]
 #[inline(always)]
-pub fn skip_change<'a>(
-    flags: &[u8],
-    bytes: &'a [u8],
-    last: &mut LastLength,
-) -> Result<(&'a [u8], &'a [u8], bool), ParseRefusal>
-    ensures read { Reads (λ x. x.1.now) result (bytes_after (change_at flags.now bytes.now)) }
-    ensures new { IfOk result (λ x. IsTrue x.2
-        → IsAfterFront front_bytes bytes.now x.0.now (change_at flags.now bytes.now)) }
-    ensures canonical { IfOk result (λ x. IsTrue x.2
+fn skip_change<'a>(flags: &[u8], bytes: &'a [u8]) -> Result<(&'a [u8], bool), ParseRefusal>
+    ensures read { Reads (λ x. x.0.now) result (bytes_after (change_at flags.now bytes.now)) }
+    ensures canonical { IfOk result (λ x. IsTrue x.1
         → IsCanonical change_bytes bytes.now (change_at flags.now bytes.now)) }
 {
     let Some((&byte, rest)) = bytes.split_first() else {
         return Err(ParseRefusal::Short);
     };
     match op_by_byte(byte) {
-        Some(op) => skip_marked(flags, op, rest, last),
+        Some(op) => skip_marked(flags, op, rest),
         None => Err(no_change(byte, bytes.len())),
     }
 }
@@ -121,13 +102,12 @@ pub fn whole_changes<'a>(
     let mut count: usize = 0;
     let mut rest = bytes;
     let mut canonical = true;
-    let mut last = LastLength::new();
     // each turn takes at least one byte
     for _ in 0..bytes.len() {
         if is_over(rest) {
             break;
         }
-        let (_, after, one) = match skip_change(flags, rest, &mut last) {
+        let (after, one) = match skip_change(flags, rest) {
             Ok(skipped) => skipped,
             Err(why) => return (count, rest, canonical, Some(why)),
         };
@@ -147,47 +127,4 @@ pub fn changes_counted<'a>(flags: &[u8], bytes: &'a [u8]) -> Result<(usize, &'a 
         None => Ok((count, rest)),
         Some(why) => Err(why),
     }
-}
-
-// Adds the changes that `text` encodes. Copies `text` as one piece if it is known to be canonical,
-// and re-encodes it otherwise.
-fn copy_changes(
-    changes: &mut Changes,
-    text: &[u8],
-    count: usize,
-    canonical: bool,
-) -> Result<(), AllocError>
-    requires fit { AllByRecursion (Fit changes.old.0) (unpacked_changes changes.old.0 text.now) }
-    requires count { count ≡ length (unpacked_changes changes.old.0 text.now) }
-    requires canonical { IsTrue canonical → AreCanonical changes.old.0 text.now }
-    ensures columns { changes.new.0 ≡ changes.old.0 }
-    ensures ok { OnOk result (changes.new.1
-        ≡ changes.old.1 ++ unpacked_changes changes.old.0 text.now) }
-{
-    if canonical {
-        changes.append_canonical(text, count)
-    } else {
-        changes.append_text(text)
-    }
-}
-
-/// Copies the complete changes of a section. Returns them, the bytes after them, and why the next
-/// change isn't read. Scans their bytes first, so that one allocation and one copy suffice.
-pub fn changes_of<'a>(
-    alloc: Global,
-    flags: &[u8],
-    bytes: &'a [u8],
-) -> Result<(Changes, &'a [u8], Option<ParseRefusal>), AllocError>
-    ensures changes { IfOk result (λ x. x.0.1 ≡ (changes_front flags.now bytes.now).items) }
-    ensures columns { IfOk result (λ x. x.0.0 ≡ length flags.now) }
-    ensures rest { IfOk result (λ x. x.1.now ≡ (changes_front flags.now bytes.now).rest) }
-    ensures why { IfOk result (λ x. x.2 ≡ (changes_front flags.now bytes.now).why) }
-{
-    let (count, rest, canonical, why) = whole_changes(flags, bytes);
-    let (text, _) = bytes.split_at(bytes.len() - rest.len());
-    changes_fit();
-    spelled_is_said();
-    let mut changes = Changes::new(alloc, flags.len());
-    copy_changes(&mut changes, text, count, canonical)?;
-    Ok((changes, rest, why))
 }

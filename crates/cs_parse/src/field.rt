@@ -9,7 +9,6 @@ ghost use Rattle.cs_parse.specs.FieldRules.{rule_of};
 ghost use Rattle.cs_parse.specs.Reading.{Reads, counted_at, typed_at, field_at};
 
 use crate::and::both;
-use crate::last_length::LastLength;
 use crate::number::{integer_of, length_of};
 use crate::rule::{FieldRule, type_fault};
 use crate::stop::ParseRefusal;
@@ -22,13 +21,12 @@ use cs_model::FieldRef;
 fn counted_of<'a>(
     bytes: &'a [u8],
     canonical: bool,
-    last: &mut LastLength,
 ) -> Result<(&'a [u8], &'a [u8], bool), ParseRefusal>
     ensures read { Reads (λ x. (x.0.now, x.1.now)) result (counted_at bytes.now) }
     ensures canonical { IfOk result (λ x. IsTrue x.2
         → IsTrue canonical × (bytes.now ≡ counted_bytes x.0.now ++ x.1.now)) }
 {
-    let (len, rest, shortest) = length_of(bytes, last)?;
+    let (len, rest, shortest) = length_of(bytes)?;
     if rest.len() < len {
         return Err(ParseRefusal::Short);
     }
@@ -44,7 +42,6 @@ fn typed_of<'a>(
     byte: u8,
     rest: &'a [u8],
     canonical: bool,
-    last: &mut LastLength,
 ) -> Result<(FieldRef<'a>, &'a [u8], bool), ParseRefusal>
     ensures read { Reads (λ x. (field_seen x.0, x.1.now)) result (typed_at byte rest.now) }
     ensures canonical { IfOk result (λ x. IsTrue x.2
@@ -57,11 +54,11 @@ fn typed_of<'a>(
             Ok((FieldRef::Integer(number), rest, canonical))
         }
         3 => {
-            let (bytes, rest, canonical) = counted_of(rest, canonical, last)?;
+            let (bytes, rest, canonical) = counted_of(rest, canonical)?;
             Ok((FieldRef::Text(bytes), rest, canonical))
         }
         4 => {
-            let (bytes, rest, canonical) = counted_of(rest, canonical, last)?;
+            let (bytes, rest, canonical) = counted_of(rest, canonical)?;
             Ok((FieldRef::Blob(bytes), rest, canonical))
         }
         _ => Ok((FieldRef::Null, rest, canonical)),
@@ -76,7 +73,6 @@ pub fn field_in<'a>(
     rule: FieldRule,
     bytes: &'a [u8],
     canonical: bool,
-    last: &mut LastLength,
 ) -> Result<(FieldRef<'a>, &'a [u8], bool), ParseRefusal>
     ensures read { Reads (λ x. (field_seen x.0, x.1.now)) result
         (field_at (rule_of rule) bytes.now) }
@@ -92,5 +88,5 @@ pub fn field_in<'a>(
             kind,
         });
     }
-    typed_of(byte, rest, canonical, last)
+    typed_of(byte, rest, canonical)
 }

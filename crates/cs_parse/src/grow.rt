@@ -4,7 +4,7 @@
 ghost use Rattle.std.specs.Prelude.{◌≡◌, ◌<◌, IfOk, IfErr, Option, List, Some};
 ghost use Rattle.cs_model.specs.Section.{Section};
 ghost use Rattle.cs_parse.specs.Front.{fault_by, Brings, IsBroken, Grows, Heads, Tails, Waits};
-ghost use Rattle.cs_parse.specs.Front.{KeepsSpot};
+ghost use Rattle.cs_parse.specs.Front.{KeepsSpot, stop_after};
 ghost use Rattle.cs_parse.specs.Lack.{WaitsFor};
 ghost use Rattle.cs_parse.specs.Progress.{last_flags, read_on};
 ghost use Rattle.cs_parse.specs.declared.stop.ParseRefusal.TheVariants.{Short};
@@ -14,7 +14,7 @@ use crate::fault::{ParseError, ParseFault};
 use crate::growing::Growing;
 use crate::header_spot::header_short;
 use crate::respell::WholeChanges;
-use crate::section::whole_sections;
+use crate::section::{sections_counted, whole_sections};
 use crate::spot::{Spot, still_short};
 use crate::stop::ParseRefusal;
 use cs_model::Section;
@@ -48,6 +48,19 @@ fn tail_of(
     match stopped {
         None => whole_sections(alloc, bytes),
         Some(why) => Ok((Vec::new(alloc), bytes, Some(why))),
+    }
+}
+
+// Why no more is read after these changes. Finds it without memory.
+fn end_of(stopped: Option<ParseRefusal>, bytes: &[u8]) -> Option<ParseRefusal>
+    ensures { result ≡ stop_after stopped bytes.now }
+{
+    if stopped.is_some() {
+        return stopped;
+    }
+    match sections_counted(bytes) {
+        Ok(_) => None,
+        Err(why) => Some(why),
     }
 }
 
@@ -92,6 +105,22 @@ pub fn still_waits(sections: &[Section], bytes: &[u8], spot: &mut Spot) -> (usiz
     (still_short(&section.shape().flags, bytes, spot), false)
 }
 
+/// The error when memory runs out for bytes after these sections. It is the bytes' fault if one of
+/// them is wrong, because finding a fault does not allocate. `taken` is the number of bytes of the
+/// text up to their end. The result is the same after all sections whose last table is this one.
+pub fn unread(sections: &[Section], bytes: &[u8], taken: usize) -> ParseError
+    ensures { (others : List Section) → last_flags others ≡ last_flags sections.now
+        → IsBroken result taken others bytes.now }
+{
+    changes_fit();
+    spelled_is_said();
+    let (_, behind, _, stopped) = head_of(sections, bytes);
+    match wrong_in(taken, end_of(stopped, behind)) {
+        Some(fault) => ParseError::Fault(fault),
+        None => ParseError::Memory,
+    }
+}
+
 // Reads the pending bytes without changing the sections. Returns the last section's changes, the
 // sections after them, and the remaining bytes. The result is the same after all sections whose
 // last table is this one.
@@ -110,7 +139,9 @@ fn brought<'a>(
     changes_fit();
     spelled_is_said();
     let (count, behind, canonical, stopped) = head_of(sections, bytes);
-    let (more, rest, why) = tail_of(alloc, stopped, behind)?;
+    let Ok((more, rest, why)) = tail_of(alloc, stopped, behind) else {
+        return Err(unread(sections, bytes, taken));
+    };
     if let Some(fault) = wrong_in(taken, why) {
         return Err(ParseError::Fault(fault));
     }
@@ -124,7 +155,7 @@ fn brought<'a>(
 
 /// Reads the pending bytes as far as they are complete, and adds what they encode to the sections.
 /// `taken` is the number of bytes of the text up to the end of these; it places a fault. An `Err`
-/// changes nothing.
+/// changes nothing. `Memory` comes only if none of the bytes is wrong.
 pub fn grow(alloc: Global, text: &mut Growing, taken: usize) -> Result<(), ParseError>
     ensures { Grows result taken text.old text.new }
 {

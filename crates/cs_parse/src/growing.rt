@@ -221,20 +221,6 @@ impl Growing {
         if self.bytes.is_empty() {
             return self.begin(alloc, piece);
         }
-        self.append(piece)
-    }
-
-    /// Appends to the pending bytes, of which there is at least one. An `Err` changes nothing.
-    #[inline(always)]
-    pub fn append(&mut self, piece: &[u8]) -> Result<(), AllocError>
-        requires { 0 < length self.old.1 }
-        ensures ok { OnOk result (self.new ≡ (self.old.0, self.old.1 ++ piece.now)) }
-        ensures err { OnErr result (self.new ≡ self.old) }
-    {
-        if let [byte] = piece {
-            self.bytes.push(*byte)?;
-            return Ok(());
-        }
         self.bytes.extend_from_slice(piece)
     }
 

@@ -3,7 +3,6 @@
 ghost use Rattle.std.specs.Prelude.{◌≡◌, ◌+◌, ◌<◌, length, IfSome};
 ghost use Rattle.cs_parse.specs.Lack.{LacksValue, LacksIn};
 
-use crate::last_length::LastLength;
 use crate::number::length_of;
 
 // the number of bytes missing from `len`, if any are
@@ -24,7 +23,7 @@ fn value_lacks(byte: u8, bytes: &[u8]) -> Option<usize>
     match byte {
         1 => missing(8, bytes),
         3 | 4 => {
-            let Ok((len, value, _)) = length_of(bytes, &mut LastLength::new()) else {
+            let Ok((len, value, _)) = length_of(bytes) else {
                 return None;
             };
             missing(len, value)

@@ -7,7 +7,6 @@
 #![tactic(auto)]
 
 mod and;
-mod beginning;
 mod change;
 mod end;
 mod fault;
@@ -18,8 +17,8 @@ mod header;
 mod header_spot;
 mod in_place;
 mod lack;
-mod last_length;
 pub mod laws;
+mod made;
 mod number;
 mod pieces;
 mod record;
@@ -30,11 +29,8 @@ mod spot;
 mod stop;
 mod whole;
 
-pub use beginning::{first_change, first_shape};
 pub use end::EndError;
 pub use fault::{FaultKind, ParseError, ParseFault};
-pub use header::{ShapeRef, shape_of};
 pub use in_place::parse_in_place;
-pub use last_length::LastLength;
 pub use pieces::PieceParser;
 pub use whole::{count_changes, parse};

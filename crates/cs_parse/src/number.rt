@@ -7,7 +7,6 @@ ghost use Rattle.cs_parse.specs.Reading.{Reads, number_within, number_at, column
 ghost use Rattle.cs_parse.specs.Reading.{integer_at};
 
 use crate::fault::FaultKind;
-use crate::last_length::LastLength;
 use crate::stop::ParseRefusal;
 use cs_model::laws::varint_spelled;
 use cs_model::varint_strip;
@@ -80,10 +79,7 @@ pub fn columns_of(bytes: &[u8]) -> Result<(usize, &[u8]), ParseRefusal>
 /// Reads the length of a value in bytes, at most 16,777,216. The last result is whether its
 /// encoding is the shortest.
 #[inline(always)]
-pub fn length_of<'a>(
-    bytes: &'a [u8],
-    last: &mut LastLength,
-) -> Result<(usize, &'a [u8], bool), ParseRefusal>
+pub fn length_of(bytes: &[u8]) -> Result<(usize, &[u8], bool), ParseRefusal>
     ensures read { Reads (λ x. (x.0, x.1.now)) result (length_at bytes.now) }
     ensures canonical { IfOk result (λ x. IsTrue x.2 → bytes.now ≡ varint x.0 ++ x.1.now) }
 {
@@ -93,28 +89,13 @@ pub fn length_of<'a>(
             return Ok((usize::from(byte), rest, true));
         }
     }
-    long_length_of(bytes, last)
+    long_length_of(bytes)
 }
 
 // The same for a length of more than one byte. Not inlined, so that the scan of fields stays small.
-#[inline(never)]
-fn long_length_of<'a>(
-    bytes: &'a [u8],
-    last: &mut LastLength,
-) -> Result<(usize, &'a [u8], bool), ParseRefusal>
-    ensures read { Reads (λ x. (x.0, x.1.now)) result (length_at bytes.now) }
-    ensures canonical { IfOk result (λ x. IsTrue x.2 → bytes.now ≡ varint x.0 ++ x.1.now) }
-{
-    // most of them take two, up to 16,383
-    if let Some((len, rest)) = last.read(bytes) {
-        return Ok((len, rest, true));
-    }
-    any_length_of(bytes)
-}
-
-// the same for a length of any number of bytes
 #[tactic(auto, unfolding(crate::specs::Reading::length_at))]
-fn any_length_of(bytes: &[u8]) -> Result<(usize, &[u8], bool), ParseRefusal>
+#[inline(never)]
+fn long_length_of(bytes: &[u8]) -> Result<(usize, &[u8], bool), ParseRefusal>
     ensures read { Reads (λ x. (x.0, x.1.now)) result (length_at bytes.now) }
     ensures canonical { IfOk result (λ x. IsTrue x.2 → bytes.now ≡ varint x.0 ++ x.1.now) }
 {

@@ -17,7 +17,7 @@ ghost use Rattle.cs_parse.specs.declared.fault.FaultKind.TheVariants.{TooLong};
 ghost use Rattle.cs_parse.specs.declared.fault.ParseFault.{ParseFault};
 
 use crate::fault::{FaultKind, ParseError, ParseFault};
-use crate::grow::{grow, still_waits};
+use crate::grow::{grow, still_waits, unread};
 use crate::growing::Growing;
 use crate::header::first_zero;
 use crate::laws::progress_tells;
@@ -106,7 +106,7 @@ impl PieceParser {
     ///
     /// `Fault` comes with the piece that contains the fault's byte. Every later call returns the
     /// same fault and takes nothing. `Memory` does not change the parser, and never comes after a
-    /// fault.
+    /// fault. It comes in place of a fault only if an item is incomplete.
     pub fn feed(&mut self, alloc: Global, piece: &[u8]) -> Result<(), ParseError>
         // The call reads the piece after the text so far, unless the text has a permanent fault or
         // memory runs out.
@@ -132,6 +132,9 @@ impl PieceParser {
         // Nor does the fault of a piece that comes after the most bytes that a text may have.
         ensures full { self.old.offset ≡ most_bytes → self.old.fault ≡ None → 0 < length piece.now
             → result ≡ Err (ParseError.Fault (record { at = most_bytes; kind = TooLong })) }
+        // Where no item is incomplete, no fault needs memory.
+        ensures memory { result ≡ Err ParseError.Memory → self.old.pending ≡ []
+            → (advanced self.old piece.now).fault ≡ None }
     {
         self.fed(alloc, piece)
     }
@@ -146,12 +149,14 @@ impl PieceParser {
         ensures empty { piece.now ≡ [] → self.old.fault ≡ None → IsOk result }
         ensures full { self.old.offset ≡ most_bytes → self.old.fault ≡ None → 0 < length piece.now
             → result ≡ Err (ParseError.Fault (record { at = most_bytes; kind = TooLong })) }
+        ensures memory { result ≡ Err ParseError.Memory → self.old.pending ≡ []
+            → (advanced self.old piece.now).fault ≡ None }
     {
         if piece.is_empty() {
             return self.fed_nothing();
         }
         if piece.len() < self.lacking && no_end(self.header, piece) {
-            self.text.append(piece)?;
+            self.text.extend(alloc, piece)?;
             self.lacking -= piece.len();
             self.offset += piece.len();
             return Ok(());
@@ -181,6 +186,8 @@ impl PieceParser {
             → result ≡ Err (ParseError.Fault fault) }
         ensures full { self.old.offset ≡ most_bytes → self.old.fault ≡ None → 0 < length piece.now
             → result ≡ Err (ParseError.Fault (record { at = most_bytes; kind = TooLong })) }
+        ensures memory { result ≡ Err ParseError.Memory → self.old.pending ≡ []
+            → (advanced self.old piece.now).fault ≡ None }
     {
         if let Some(fault) = self.fault {
             return Err(ParseError::Fault(fault));
@@ -198,7 +205,12 @@ impl PieceParser {
             Ok(()) if piece.len() <= room => Ok(()),
             Ok(()) => Err(self.break_off(alloc, too_long)),
             Err(ParseError::Fault(fault)) => Err(self.break_off(alloc, fault)),
-            Err(ParseError::Memory) => Err(ParseError::Memory),
+            Err(ParseError::Memory) => {
+                if piece.len() > room && self.text.waiting().is_empty() {
+                    return Err(self.break_off(alloc, too_long));
+                }
+                Err(ParseError::Memory)
+            }
         }
     }
 
@@ -209,7 +221,9 @@ impl PieceParser {
         ensures { TakesIn result self.old bytes.now self.new }
     {
         let start = self.text.waiting().len();
-        self.text.extend(alloc, bytes)?;
+        if self.text.extend(alloc, bytes).is_err() {
+            return Err(self.without_room(bytes));
+        }
         let taken = self.offset + bytes.len();
         let (lacking, header) = still_waits(
             self.text.sections(),
@@ -235,6 +249,18 @@ impl PieceParser {
                 Err(error)
             }
         }
+    }
+
+    // The error when there is no memory for bytes within the limit. They can't be read where they
+    // stand if an item is incomplete, because it begins in other bytes.
+    fn without_room(&self, bytes: &[u8]) -> ParseError
+        requires within { self.now.offset + length bytes.now ≤ most_bytes }
+        ensures { TakesIn {A = Unit {0}} (Err result) self.now bytes.now self.now }
+    {
+        if !self.text.waiting().is_empty() {
+            return ParseError::Memory;
+        }
+        unread(self.text.sections(), bytes, self.offset + bytes.len())
     }
 
     // Drops everything but the fault.

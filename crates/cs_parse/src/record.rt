@@ -5,14 +5,13 @@ ghost use Rattle.std.specs.Prelude.{◌≡◌, ℕ, List, Ok, map, IfOk, IsTrue}
 ghost use Rattle.cs_model.specs.Packed.{packed};
 ghost use Rattle.cs_model.specs.declared.value.Field.{Field};
 ghost use Rattle.cs_model.specs.Rule.{old_rule, new_rules};
-ghost use Rattle.cs_parse.specs.Canonical.{IsAfterFront, IsCanonical, both_packed, old_packed};
+ghost use Rattle.cs_parse.specs.Canonical.{IsCanonical, both_packed};
 ghost use Rattle.cs_parse.specs.Count.{bytes_after};
 ghost use Rattle.cs_parse.specs.FieldRules.{rule_of, column_rule};
 ghost use Rattle.cs_parse.specs.Reading.{Reads, record_at, records_at};
 
 use crate::and::both;
 use crate::field::field_in;
-use crate::last_length::LastLength;
 use crate::rule::{FieldRule, rule_by_flag, rule_by_old};
 use crate::stop::ParseRefusal;
 use cs_model::Op;
@@ -24,7 +23,6 @@ fn skip_record<'a>(
     outside: FieldRule,
     flags: &[u8],
     bytes: &'a [u8],
-    last: &mut LastLength,
 ) -> Result<(&'a [u8], bool), ParseRefusal>
     ensures read { Reads (λ x. x.0.now) result
         (bytes_after (record_at (map (column_rule (rule_of outside)) flags.now) bytes.now)) }
@@ -34,7 +32,7 @@ fn skip_record<'a>(
     let mut rest = bytes;
     let mut canonical = true;
     for &flag in flags {
-        let (_, after, so_far) = field_in(rule_by_flag(flag, outside), rest, canonical, last)?;
+        let (_, after, so_far) = field_in(rule_by_flag(flag, outside), rest, canonical)?;
         canonical = so_far;
         rest = after;
     }
@@ -44,12 +42,7 @@ fn skip_record<'a>(
 // The same for an UPDATE's new record. The old record, which begins at `old`, gives its rules and
 // is read again beside it.
 #[inline(always)]
-fn skip_new<'a>(
-    flags: &[u8],
-    old: &[u8],
-    bytes: &'a [u8],
-    last: &mut LastLength,
-) -> Result<(&'a [u8], bool), ParseRefusal>
+fn skip_new<'a>(flags: &[u8], old: &[u8], bytes: &'a [u8]) -> Result<(&'a [u8], bool), ParseRefusal>
     ensures read { (before : List Field) (left : List ℕ)
         → record_at (map old_rule flags.now) old.now ≡ Ok (before, left)
         → Reads (λ x. x.0.now) result
@@ -63,18 +56,8 @@ fn skip_new<'a>(
     let mut rest = bytes;
     let mut canonical = true;
     for &flag in flags {
-        let (field, old_after, _) = field_in(
-            rule_by_flag(flag, FieldRule::Open),
-            old_rest,
-            true,
-            last,
-        )?;
-        let (_, after, so_far) = field_in(
-            rule_by_old(flag, field.has_value()),
-            rest,
-            canonical,
-            last,
-        )?;
+        let (field, old_after, _) = field_in(rule_by_flag(flag, FieldRule::Open), old_rest, true)?;
+        let (_, after, so_far) = field_in(rule_by_old(flag, field.has_value()), rest, canonical)?;
         canonical = so_far;
         old_rest = old_after;
         rest = after;
@@ -82,35 +65,24 @@ fn skip_new<'a>(
     Ok((rest, canonical))
 }
 
-/// Returns the bytes after a change's old record, those after its new one, and whether the records
-/// are canonical. An INSERT has no old record and a DELETE has no new one.
+/// Returns the bytes after a change's records, and whether these are canonical.
 #[tactic(auto, unfolding(crate::specs::Reading::records_at))]
 #[inline(always)]
 pub fn skip_records<'a>(
     flags: &[u8],
     op: Op,
     bytes: &'a [u8],
-    last: &mut LastLength,
-) -> Result<(&'a [u8], &'a [u8], bool), ParseRefusal>
-    ensures read { Reads (λ x. x.1.now) result (bytes_after (records_at flags.now op bytes.now)) }
-    ensures new { IfOk result (λ x. IsTrue x.2
-        → IsAfterFront old_packed bytes.now x.0.now (records_at flags.now op bytes.now)) }
-    ensures canonical { IfOk result (λ x. IsTrue x.2
+) -> Result<(&'a [u8], bool), ParseRefusal>
+    ensures read { Reads (λ x. x.0.now) result (bytes_after (records_at flags.now op bytes.now)) }
+    ensures canonical { IfOk result (λ x. IsTrue x.1
         → IsCanonical both_packed bytes.now (records_at flags.now op bytes.now)) }
 {
     match op {
-        Op::Insert => {
-            let (rest, canonical) = skip_record(FieldRule::Given, flags, bytes, last)?;
-            Ok((bytes, rest, canonical))
-        }
+        Op::Insert | Op::Delete => skip_record(FieldRule::Given, flags, bytes),
         Op::Update => {
-            let (new, old_canonical) = skip_record(FieldRule::Open, flags, bytes, last)?;
-            let (rest, new_canonical) = skip_new(flags, bytes, new, last)?;
-            Ok((new, rest, both(old_canonical, new_canonical)))
-        }
-        Op::Delete => {
-            let (after, canonical) = skip_record(FieldRule::Given, flags, bytes, last)?;
-            Ok((after, after, canonical))
+            let (new, old_canonical) = skip_record(FieldRule::Open, flags, bytes)?;
+            let (rest, new_canonical) = skip_new(flags, bytes, new)?;
+            Ok((rest, both(old_canonical, new_canonical)))
         }
     }
 }

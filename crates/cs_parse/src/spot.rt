@@ -16,7 +16,6 @@ ghost use Rattle.cs_parse.specs.declared.stop.ParseRefusal.TheVariants.{Short};
 
 use crate::field::field_in;
 use crate::lack::field_lacks;
-use crate::last_length::LastLength;
 use crate::rule::{FieldRule, rule_by_flag, rule_by_old};
 use crate::stop::ParseRefusal;
 
@@ -66,9 +65,8 @@ fn pass_fields<'a>(outside: FieldRule, flags: &[u8], bytes: &'a [u8]) -> Option<
         Halts (column_rule (rule_of outside)) flags.now bytes.now x.0 x.1.now) }
 {
     let mut rest = bytes;
-    let mut last = LastLength::new();
     for (passed, &flag) in flags.iter().enumerate() {
-        match field_in(rule_by_flag(flag, outside), rest, true, &mut last) {
+        match field_in(rule_by_flag(flag, outside), rest, true) {
             Ok((_, after, _)) => rest = after,
             Err(ParseRefusal::Short) => return Some((passed, rest)),
             Err(ParseRefusal::Bad { .. }) => return None,
@@ -88,13 +86,12 @@ fn pass_new<'a>(flags: &[u8], old: &'a [u8], bytes: &'a [u8]) -> Option<(usize, 
 {
     let mut old_rest = old;
     let mut rest = bytes;
-    let mut last = LastLength::new();
     for (passed, &flag) in flags.iter().enumerate() {
         let rule = rule_by_flag(flag, FieldRule::Open);
-        let Ok((field, old_after, _)) = field_in(rule, old_rest, true, &mut last) else {
+        let Ok((field, old_after, _)) = field_in(rule, old_rest, true) else {
             return None;
         };
-        match field_in(rule_by_old(flag, field.has_value()), rest, true, &mut last) {
+        match field_in(rule_by_old(flag, field.has_value()), rest, true) {
             Ok((_, after, _)) => rest = after,
             Err(ParseRefusal::Short) => return Some((passed, old_rest, rest)),
             Err(ParseRefusal::Bad { .. }) => return None,

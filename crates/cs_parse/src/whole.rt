@@ -1,7 +1,7 @@
 //! Parses a whole text (`parse`), or counts its changes without building a changeset
 //! (`count_changes`).
 
-ghost use Rattle.std.specs.Prelude.{◌≡◌, ◌≤◌, List, IfOk, IfErr, Ok, Err, length};
+ghost use Rattle.std.specs.Prelude.{◌≡◌, ◌≤◌, List, IfOk, IfErr, Ok, Err, length, map};
 ghost use Rattle.cs_parse.specs.declared.fault.ParseFault.{ParseFault};
 ghost use Rattle.cs_parse.specs.Fault.{IsFault};
 ghost use Rattle.cs_model.specs.Section.{Section};
@@ -13,6 +13,7 @@ ghost use Rattle.cs_parse.specs.Reading.{answer_of, fault_of, sections_at, whole
 ghost use Rattle.cs_parse.specs.Reading.{overlong_answer};
 
 use crate::fault::{FaultKind, ParseError, ParseFault};
+use crate::made::FromText;
 use crate::section::{sections_counted, whole_sections};
 use crate::stop::ParseRefusal;
 use cs_model::{Changeset, Section, Seq};
@@ -21,8 +22,8 @@ use std::alloc::Global;
 /// The maximum length of a text, in bytes.
 pub const MOST_BYTES: usize = 16_777_216;
 
-/// The fault of a text whose first `len` bytes are read. Its kind is `ended` if they end too early.
-pub fn fault_from(refusal: ParseRefusal, len: usize, ended: FaultKind) -> ParseFault
+// The fault of a text whose first `len` bytes are read. Its kind is `ended` if they end too early.
+fn fault_from(refusal: ParseRefusal, len: usize, ended: FaultKind) -> ParseFault
     ensures { result ≡ fault_of len ended refusal }
 {
     match refusal {
@@ -39,11 +40,14 @@ pub fn fault_from(refusal: ParseRefusal, len: usize, ended: FaultKind) -> ParseF
 }
 
 // the sections of a text within the limit
-fn whole_of(alloc: Global, text: &[u8]) -> Result<Seq<Section>, ParseError>
-    ensures { ParseAnswers result (whole_answer (length text.now) (sections_at text.now)) }
+fn whole_of<'a, S: FromText<'a>>(alloc: Global, text: &'a [u8]) -> Result<Vec<S>, ParseError>
+    ensures ok { IfOk result (λ x. whole_answer (length text.now) (sections_at text.now)
+        ≡ Ok (map S.made x.items)) }
+    ensures err { IfErr result (λ error. ParseAnswers (Err error)
+        (whole_answer (length text.now) (sections_at text.now))) }
 {
     match whole_sections(alloc, text) {
-        Ok((sections, _, None)) => Ok(Seq::from_vec(sections)),
+        Ok((sections, _, None)) => Ok(sections),
         Ok((_, _, Some(refusal))) => Err(ParseError::Fault(fault_from(
             refusal,
             text.len(),
@@ -53,9 +57,9 @@ fn whole_of(alloc: Global, text: &[u8]) -> Result<Seq<Section>, ParseError>
     }
 }
 
-/// The error when memory runs out. It is the text's fault if it has one, because finding a fault
-/// does not allocate.
-pub fn unbuilt(text: &[u8]) -> ParseError
+// The error when memory runs out. It is the text's fault if it has one, because finding a fault
+// does not allocate.
+fn unbuilt(text: &[u8]) -> ParseError
     ensures { ParseAnswers (Err result) (whole_answer (length text.now) (sections_at text.now)) }
 {
     match sections_counted(text) {
@@ -64,8 +68,8 @@ pub fn unbuilt(text: &[u8]) -> ParseError
     }
 }
 
-/// The fault of a text over the limit that begins with `front`.
-pub fn cut_of(front: &[u8]) -> ParseFault
+// the fault of a text over the limit that begins with `front`
+fn cut_of(front: &[u8]) -> ParseFault
     ensures { overlong_answer (length front.now) (sections_at front.now) ≡ Err result }
 {
     let refusal = match sections_counted(front) {
@@ -75,10 +79,11 @@ pub fn cut_of(front: &[u8]) -> ParseFault
     fault_from(refusal, front.len(), FaultKind::TooLong)
 }
 
-// the sections of a text
+/// The sections of a text, or the error of `parse`.
 #[tactic(auto, unfolding(crate::specs::Reading::answer_of))]
-fn read(alloc: Global, text: &[u8]) -> Result<Seq<Section>, ParseError>
-    ensures { ParseAnswers result (answer_of text.now) }
+pub fn sections_of<'a, S: FromText<'a>>(alloc: Global, text: &'a [u8]) -> Result<Vec<S>, ParseError>
+    ensures ok { IfOk result (λ x. answer_of text.now ≡ Ok (map S.made x.items)) }
+    ensures err { IfErr result (λ error. ParseAnswers (Err error) (answer_of text.now)) }
 {
     if text.len() > MOST_BYTES {
         return Err(ParseError::Fault(cut_of(&text[..MOST_BYTES])));
@@ -106,8 +111,8 @@ pub fn parse(alloc: Global, text: &[u8]) -> Result<Changeset, ParseError>
     // The text determines the result.
     ensures exact { ParseAnswers result (answer_of text.now) }
 {
-    let sections = read(alloc, text)?;
-    Ok(Changeset::from_seq(sections))
+    let sections = sections_of::<Section>(alloc, text)?;
+    Ok(Changeset::from_seq(Seq::from_vec(sections)))
 }
 
 // the number of changes in a text, from the result of reading it

@@ -77,13 +77,7 @@ fn row(rt: &impl Abort, alloc: Global, fields: &[FieldRef], bytes: &[u8]) -> Res
     Ok(())
 }
 
-#[test]
-fn fields(rt: HostRuntime) -> Result<(), Fail> {
-    let alloc = rt.alloc();
-    numbers(&rt, alloc)?;
-    for (op, byte) in [(Op::Insert, 18), (Op::Update, 23), (Op::Delete, 9)] {
-        assert_eq!(rt; op.byte(), byte);
-    }
+fn short_fields(rt: &impl Abort, alloc: Global) -> Result<(), Fail> {
     for (field, bytes) in [
         (Undefined, &b"\0"[..]),
         (Integer(1), b"\x01\0\0\0\0\0\0\0\x01"),
@@ -95,8 +89,12 @@ fn fields(rt: HostRuntime) -> Result<(), Fail> {
         (Blob(b"\0\xff"), b"\x04\x02\0\xff"),
         (Null, b"\x05"),
     ] {
-        pushes(&rt, alloc, field, bytes, b"")?;
+        pushes(rt, alloc, field, bytes, b"")?;
     }
+    Ok(())
+}
+
+fn long_fields(rt: &impl Abort, alloc: Global) -> Result<(), Fail> {
     for (len, text, blob) in [
         (127, &b"\x03\x7f"[..], &b"\x04\x7f"[..]),
         (128, b"\x03\x81\0", b"\x04\x81\0"),
@@ -105,14 +103,21 @@ fn fields(rt: HostRuntime) -> Result<(), Fail> {
         (16_384, b"\x03\x81\x80\0", b"\x04\x81\x80\0"),
     ] {
         let value = vec![in alloc; b'x'; len]?;
-        pushes(&rt, alloc, Text(&value), text, &value)?;
-        pushes(&rt, alloc, Blob(&value), blob, &value)?;
+        pushes(rt, alloc, Text(&value), text, &value)?;
+        pushes(rt, alloc, Blob(&value), blob, &value)?;
     }
-    // bytes that are no record's decode to something too, and are read to their end
-    gives(&rt, Fields::of(b""), &[]);
-    gives(&rt, Fields::of(b"\x03\x05ab"), &[Text(b"ab")]);
-    gives(&rt, Fields::of(b"\x04\x80"), &[Blob(b"\x80")]);
-    gives(&rt, Fields::of(b"\x01\0\x05"), &[Null, Undefined, Null]);
+    Ok(())
+}
+
+// Bytes that are no record's decode to something too, and are read to their end.
+fn other_bytes(rt: &impl Abort) {
+    gives(rt, Fields::of(b""), &[]);
+    gives(rt, Fields::of(b"\x03\x05ab"), &[Text(b"ab")]);
+    gives(rt, Fields::of(b"\x04\x80"), &[Blob(b"\x80")]);
+    gives(rt, Fields::of(b"\x01\0\x05"), &[Null, Undefined, Null]);
+}
+
+fn records(rt: &impl Abort, alloc: Global) -> Result<(), Fail> {
     let all = [
         Undefined,
         Integer(-2),
@@ -122,7 +127,20 @@ fn fields(rt: HostRuntime) -> Result<(), Fail> {
         Null,
     ];
     let bytes = b"\0\x01\xff\xff\xff\xff\xff\xff\xff\xfe\x03\x01x\0\x04\0\x05";
-    record(&rt, alloc, &all, bytes)?;
+    record(rt, alloc, &all, bytes)?;
     let values = b"\x01\xff\xff\xff\xff\xff\xff\xff\xfe\x03\x01x\x04\0\x05";
-    row(&rt, alloc, &all, values)
+    row(rt, alloc, &all, values)
+}
+
+#[test]
+fn fields(rt: HostRuntime) -> Result<(), Fail> {
+    let alloc = rt.alloc();
+    numbers(&rt, alloc)?;
+    for (op, byte) in [(Op::Insert, 18), (Op::Update, 23), (Op::Delete, 9)] {
+        assert_eq!(rt; op.byte(), byte);
+    }
+    short_fields(&rt, alloc)?;
+    long_fields(&rt, alloc)?;
+    other_bytes(&rt);
+    records(&rt, alloc)
 }

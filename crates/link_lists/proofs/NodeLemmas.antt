@@ -1,15 +1,16 @@
 -- Nodes in a slab: one node written, one removed, and which keys have a link.
-use Rattle.std.proofs.Common.{◌≡◌, ◌≢◌, ℕ, zero, suc, ◌+◌, ◌-◌, ◌<◌, List, [], ◌∷◌, length, map, get_or, set, Option}
-use Rattle.std.proofs.Common.{Some, None, is_some, cond, count_by, refl, sym, ap, ◌∙◌, arith}
+use Rattle.std.proofs.Common.{◌≡◌, ◌≢◌, ℕ, zero, suc, ◌+◌, ◌-◌, ◌<◌, ◌≤◌, List, [], ◌∷◌, length, map, get_or, set, Option}
+use Rattle.std.proofs.Common.{Some, None, is_some, cond, count_by, filter, refl, sym, ap, ◌∙◌, arith}
 use Rattle.std.specs.Option.{option_map}
 use Rattle.std.proofs.lemmas.List.{get_or_past, map-set, set-get_or}
-use Rattle.std.proofs.lemmas.List.Sums.{sum_by-set}
+use Rattle.std.proofs.lemmas.List.Sums.{length-filter, sum_by-set}
 use Rattle.slab.specs.Slab.{Slab, get, with_value, slab_len, HasRoomFor, Updates}
 use Rattle.link_lists.specs.declared.lane.Lane.TheVariants.{First, Second}
 use Rattle.link_lists.specs.declared.link.Link.{Link}
 use Rattle.link_lists.specs.declared.link.Ends.{Ends}
 use Rattle.link_lists.specs.declared.link.Node.{Node}
-use Rattle.link_lists.specs.Nodes.{nodes_seen, on_lane, link_set, with_slot, without_node, IsAlike, GainsValue}
+use Rattle.link_lists.specs.Nodes.{nodes_seen, no_ends, on_lane, link_set, with_slot, without_node, without_nodes}
+use Rattle.link_lists.specs.Nodes.{IsAlike, GainsValue}
 
 -- two views of the same slots have something at the same keys
 pub both_some : {A B C : Type 0} (f : A → B) (g : A → C) (xs : List (Option A)) (key : ℕ) →
@@ -49,6 +50,16 @@ count_kept {A} xs key old new found =
     in
     let one : cond {A = ℕ} (is_some (get_or xs key None)) 1 0 ≡ 1 = ap (λ (o : Option A). cond (is_some o) 1 0) found in
     omega (arith, sums, one)
+
+-- a view of slots has as many values
+node_count_seen : {A B : Type 0} (f : A → B) (xs : List (Option A)) →
+    count_by is_some (map (option_map f) xs) ≡ count_by is_some xs
+node_count_seen {A} f xs = sym (length-filter is_some (map (option_map f) xs)) ∙ kept xs ∙ length-filter is_some xs
+  where
+    kept : (xs : List (Option A)) → length (filter is_some (map (option_map f) xs)) ≡ length (filter is_some xs)
+    kept [] = refl
+    kept (None ∷ xs) = kept xs
+    kept (Some x ∷ xs) = ap suc (kept xs)
 
 module _ {T : Type 0} where
   pub alike : (slab : Slab (Node T)) (f s : List Ends) → IsAlike (nodes_seen slab f s)
@@ -146,3 +157,19 @@ module _ {T : Type 0} where
   pub value_seen : (slab : Slab (Node T)) (key : ℕ) (node : Node T) → get slab key ≡ Some node →
       get_or (map (option_map (λ n. n.value)) slab.slots) key None ≡ Some node.value
   value_seen slab key node found = seen_under (λ n. n.value) slab.slots key ∙ ap (option_map (λ n. n.value)) found
+
+  pub none_left : (old new : Slab (Node T)) (f s one two : List Ends) → new.slots ≡ [] → new.capacity ≡ old.capacity →
+      slab_len old ≤ old.capacity → one ≡ map (λ _. no_ends) f → two ≡ map (λ _. no_ends) s →
+      nodes_seen new one two ≡ without_nodes (nodes_seen old f s)
+  none_left old new f s one two slots capacity within first second =
+      let none = ap (count_by is_some) slots in
+      let seen = node_count_seen (λ n. n.value) old.slots in
+      let spare : new.capacity - slab_len new
+      ≡ old.capacity - slab_len old + count_by is_some (map (option_map (λ (n : Node T). n.value)) old.slots) =
+      omega (arith, none, seen) in
+      λ i. record {
+        slots = map (option_map (λ n. n.value)) (slots i);
+        first = record { links = map (option_map (λ n. n.first)) (slots i); ends = first i };
+        second = record { links = map (option_map (λ n. n.second)) (slots i); ends = second i };
+        spare = spare i;
+      }

@@ -1,5 +1,5 @@
 -- The calls, over the strand of one lane, and over both lanes.
-use Rattle.std.proofs.Common.{◌≡◌, ◌≢◌, ℕ, zero, suc, ◌+◌, ◌<◌, ◌⊎◌, List, [], ◌∷◌, ◌++◌, length, get_or, set, Option}
+use Rattle.std.proofs.Common.{◌≡◌, ◌≢◌, ℕ, zero, suc, ◌+◌, ◌<◌, ◌⊎◌, List, [], ◌∷◌, ◌++◌, length, map, get_or, set, Option}
 use Rattle.std.proofs.Common.{Some, None, IsSome, is_some, Result, Ok, Err, OnOk, OnErr, slice_get, slice_index_or}
 use Rattle.std.proofs.Common.{refl, sym, ap, subst, ◌∙◌, inl, inr, arith}
 use Rattle.std.specs.Option.{option_map}
@@ -12,9 +12,9 @@ use Rattle.link_lists.specs.declared.lane.Lane.TheVariants.{First, Second}
 use Rattle.link_lists.specs.declared.link.Link.{Link}
 use Rattle.link_lists.specs.declared.link.Ends.{Ends}
 use Rattle.link_lists.specs.Lanes.{Lanes, lane_of, with_lane, lane_keys, value_under, StandsIn, IsKeyAfter, first_key}
-use Rattle.link_lists.specs.Lanes.{pushed_back, put_after, without_key, IsLane, AreLanes}
+use Rattle.link_lists.specs.Lanes.{pushed_back, put_after, without_key, emptied, value_count, IsLane, AreLanes}
 use Rattle.link_lists.specs.Nodes.{Strand, Nodes, strand_of, on_lane, link_under, no_ends, with_list, without_link}
-use Rattle.link_lists.specs.Nodes.{without_node, KeepsLinks, GainsValue, IsAlike}
+use Rattle.link_lists.specs.Nodes.{without_node, without_links, without_nodes, KeepsLinks, GainsValue, IsAlike}
 use Rattle.link_lists.specs.Linking.{CanWrite, keys_tied, key_placed}
 use Rattle.link_lists.specs.Spelling.{walked, lanes_seen, next_of, first_or, last_or, ends_of, LinksSpell, SpellsLists}
 use Rattle.link_lists.specs.Spelling.{BothSpelled}
@@ -204,6 +204,24 @@ strand_freed strand lane key absent spelled = record {
       (absent_from key lane absent list keys here) (spelled.spelled list keys here);
 }
 
+-- a strand without a link spells empty lists
+strand_emptied : (strand : Strand) (lane : List (List ℕ)) → SpellsLists strand lane →
+    SpellsLists (without_links strand) (emptied lane)
+strand_emptied strand lane spelled = record {
+  ends = ap (map (λ _. no_ends)) spelled.ends ∙ all_empty lane;
+  spelled = λ list keys here. subst (λ ks. LinksSpell [] list None ks None) (sym (none_there lane list keys here)) tt;
+}
+  where
+    all_empty : (lists : List (List ℕ)) → map (λ _. no_ends) (map ends_of lists) ≡ map ends_of (emptied lists)
+    all_empty [] = refl
+    all_empty (keys ∷ lists) = ap (λ es. no_ends ∷ es) (all_empty lists)
+
+    none_there : (lists : List (List ℕ)) (list : ℕ) (keys : List ℕ) → slice_get (emptied lists) list ≡ Some keys →
+        keys ≡ []
+    none_there [] list keys here = absurd cc
+    none_there (ks ∷ lists) zero keys here = cc
+    none_there (ks ∷ lists) (suc list) keys here = none_there lists list keys here
+
 -- a key that stands has a link, so one without a link stands nowhere
 pub vacant_stands_nowhere : (strand : Strand) (lane : List (List ℕ)) (key : ℕ) → SpellsLists strand lane →
     link_under strand key ≡ None → StandsIn key lane → ⊥
@@ -353,6 +371,19 @@ module _ {T : Type 0} where
       (stand_for (without_node key old) _ _ (strand_freed old.first _ key a spelled.first)
       (strand_freed old.second _ key b spelled.second)))
       absent_first absent_second
+
+  pub cleared_lanes : (old new : Nodes T) (lanes : Lanes T) → lanes_seen old ≡ lanes → BothSpelled old →
+      new ≡ without_nodes old →
+      StandFor new (record {
+        slots = [];
+        first = emptied lanes.first;
+        second = emptied lanes.second;
+        spare = lanes.spare + value_count lanes;
+      })
+  cleared_lanes old new lanes seen spelled made =
+      rw (made, ← seen)
+      (stand_for (without_nodes old) _ _ (strand_emptied old.first _ spelled.first)
+      (strand_emptied old.second _ spelled.second))
 
   lane_valued : (strand : Strand) (slots : List (Option T)) (lane : List (List ℕ)) → SpellsLists strand lane →
       ((key : ℕ) → is_some (link_under strand key) ≡ is_some (slice_index_or slots key None)) → IsLane slots lane

@@ -1,7 +1,7 @@
 -- Lanes: values under keys, and two lanes of lists of these keys.
 use Rattle.std.specs.Prelude.{◌≡◌, ◌≢◌, ℕ, nat_eq, not, IsTrue, IsSome, List, [], ◌∷◌, ◌++◌, map}
 use Rattle.std.specs.Prelude.{filter, Option, Some, None, slice_get, slice_index_or, slice_set}
-use Rattle.std.specs.Prelude.{if◌then◌else◌, refl}
+use Rattle.std.specs.Prelude.{count_by, is_some, if◌then◌else◌, refl}
 use Rattle.std.specs.List.{flat_map, list_any, IsDistinct}
 use Rattle.std.specs.Coded.{Coded, code_by, coded×, coded_ℕ, coded_list, coded_option}
 use Rattle.link_lists.specs.declared.lane.Lane.{Lane}
@@ -56,7 +56,15 @@ put_after at key =
 abbrev pub without_key : ℕ → List (List ℕ) → List (List ℕ)
 without_key key = map (filter (λ other. not (nat_eq key other)))
 
+-- as many lists, each empty
+abbrev pub emptied : List (List ℕ) → List (List ℕ)
+emptied = map (λ keys. [])
+
 module _ {T : Type 0} where
+  -- how many keys have a value
+  abbrev pub value_count : Lanes T → ℕ
+  value_count lanes = count_by is_some lanes.slots
+
   -- the value at a key
   abbrev pub value_under : Lanes T → ℕ → Option T
   value_under lanes key = slice_index_or lanes.slots key None

@@ -1,6 +1,6 @@
 -- Nodes as their links say, and the steps that change links. No public clause cites this module.
 use Rattle.std.specs.Prelude.{◌≡◌, ◌≢◌, ℕ, ◌+◌, ◌-◌, map, List, [], ◌∷◌, ◌++◌, Option, Some, None}
-use Rattle.std.specs.Prelude.{is_some, option_map, slice_index_or, slice_set, refl}
+use Rattle.std.specs.Prelude.{count_by, is_some, option_map, slice_index_or, slice_set, refl}
 use Rattle.std.specs.Coded.{Coded, code_by, coded×, coded_ℕ, coded_list, coded_option}
 use Rattle.slab.specs.Slab.{Slab, slab_len}
 use Rattle.link_lists.specs.declared.lane.Lane.{Lane}
@@ -68,6 +68,10 @@ with_list strand = record strand { ends = strand.ends ++ no_ends ∷ [] }
 abbrev pub without_link : ℕ → Strand → Strand
 without_link key strand = record strand { links = slice_set strand.links key None }
 
+-- the strand with no link, and as many lists, each empty
+abbrev pub without_links : Strand → Strand
+without_links strand = record { links = []; ends = map (λ _. no_ends) strand.ends }
+
 -- each key but this one keeps its link, and the ends stay
 pub record KeepsLinks (key : ℕ) (old new : Strand) : Type 0 where
   pub ends : new.ends ≡ old.ends
@@ -120,4 +124,13 @@ module _ {T : Type 0} where
     first = without_link key nodes.first;
     second = without_link key nodes.second;
     spare = nodes.spare + 1;
+  }
+
+  -- the nodes without a value
+  abbrev pub without_nodes : Nodes T → Nodes T
+  without_nodes nodes = record {
+    slots = [];
+    first = without_links nodes.first;
+    second = without_links nodes.second;
+    spare = nodes.spare + count_by is_some nodes.slots;
   }

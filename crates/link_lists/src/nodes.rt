@@ -6,7 +6,7 @@ ghost use Rattle.std.specs.Prelude.{◌↔◌, option_copied, vec_len};
 ghost use Rattle.std.specs.Borrow.{sem};
 ghost use Rattle.link_lists.specs.Nodes.{no_strand, strand_of, link_under, link_set, with_ends};
 ghost use Rattle.link_lists.specs.Nodes.{on_lane, no_ends, with_list, without_node, IsAlike};
-ghost use Rattle.link_lists.specs.Nodes.{GainsValue};
+ghost use Rattle.link_lists.specs.Nodes.{GainsValue, without_nodes};
 
 use crate::lane::Lane;
 use crate::link::{Ends, Link, Node};
@@ -32,6 +32,11 @@ impl<T> Model for Nodes<T> {
     ghost view = { λ n. nodes_seen n.nodes n.first.items n.second.items };
 }
 
+const NO_ENDS: Ends = Ends {
+    first: None,
+    last: None,
+};
+
 // Adds the ends of an empty list, and returns its number.
 fn push_ends(lists: &mut Vec<Ends>) -> Result<usize, AllocError>
     ensures number { IfOk result (λ list. list ≡ vec_len lists.old) }
@@ -39,10 +44,7 @@ fn push_ends(lists: &mut Vec<Ends>) -> Result<usize, AllocError>
     ensures err { OnErr result (lists.new.items ≡ lists.old.items) }
 {
     let list = lists.len();
-    lists.push(Ends {
-        first: None,
-        last: None,
-    })?;
+    lists.push(NO_ENDS)?;
     Ok(list)
 }
 
@@ -182,5 +184,17 @@ impl<T> Nodes<T> {
             Lane::First => self.first[list] = ends,
             Lane::Second => self.second[list] = ends,
         }
+    }
+}
+
+impl<T: Drop> Nodes<T> {
+    /// Removes all values and all links. Each list is empty then. The room stays.
+    pub(crate) fn clear(&mut self)
+        ensures { self.new ≡ without_nodes self.old }
+    {
+        let _capacity = self.nodes.capacity();
+        self.nodes.clear();
+        self.first.fill(NO_ENDS);
+        self.second.fill(NO_ENDS);
     }
 }

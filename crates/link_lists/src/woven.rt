@@ -7,7 +7,7 @@ ghost use Rattle.std.specs.Borrow.{sem};
 ghost use Rattle.std.specs.Option.{option_copied_mut};
 ghost use Rattle.link_lists.specs.Lanes.{value_under, lane_of, with_lane, StandsIn, IsKeyAfter};
 ghost use Rattle.link_lists.specs.Lanes.{first_key, pushed_back, put_after, without_key, AreLanes};
-ghost use Rattle.link_lists.specs.Lanes.{ChangesSlot};
+ghost use Rattle.link_lists.specs.Lanes.{ChangesSlot, emptied, value_count};
 
 use crate::lane::Lane;
 use crate::link::Link;
@@ -15,8 +15,8 @@ use crate::nodes::Nodes;
 use std::alloc::{AllocError, Global};
 use std::marker::Model;
 
-/// Values under keys, and two lanes of lists of these keys. Each call but `new`, `add_list` and
-/// `reserve` takes constant time and does not allocate.
+/// Values under keys, and two lanes of lists of these keys. Each call but `add_list`, `reserve` and
+/// `clear` takes constant time. Only `add_list` and `reserve` allocate.
 #[derive(Debug, Drop)]
 pub struct Woven<T> {
     nodes: Nodes<T>,
@@ -69,11 +69,17 @@ impl<T> Woven<T> {
 
     /// How many values fit without allocation.
     pub fn spare(&self) -> usize
-        ensures value { result ≡ self.now.spare }
-        ensures valid { AreLanes self.now }
+        ensures { result ≡ self.now.spare }
+    {
+        self.nodes.spare()
+    }
+
+    /// Each key in a list has a value, and no key stands twice in a lane. Does nothing: its
+    /// contract is for proofs.
+    pub fn valid(&self)
+        ensures { AreLanes self.now }
     {
         self.nodes.alike();
-        self.nodes.spare()
     }
 
     /// Stores the value under a key that had none, and returns the key. It stands in no list yet.
@@ -141,6 +147,7 @@ impl<T> Woven<T> {
         requires free_first { ¬ StandsIn key self.old.first }
         requires free_second { ¬ StandsIn key self.old.second }
         ensures value { value_under self.old key ≡ Some result }
+        ensures slots { ChangesSlot self.old self.new key None }
         ensures rest { self.new ≡ record self.old {
           slots = slice_set self.old.slots key None;
           spare = self.old.spare + 1;
@@ -182,5 +189,20 @@ impl<T> Woven<T> {
         } else {
             None
         }
+    }
+}
+
+impl<T: Drop> Woven<T> {
+    /// Removes all values. Each list is empty then, and the room stays. Takes time for each list
+    /// and for each value that takes time to drop, and does not allocate.
+    pub fn clear(&mut self)
+        ensures { self.new ≡ record {
+          slots = [];
+          first = emptied self.old.first;
+          second = emptied self.old.second;
+          spare = self.old.spare + value_count self.old;
+        } }
+    {
+        self.nodes.clear();
     }
 }

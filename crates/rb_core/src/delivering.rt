@@ -2,7 +2,7 @@
 
 ghost use Rattle.std.specs.Prelude.{◌≡◌, ℕ, IfOk, IfSome, OnErr, Some};
 ghost use Rattle.std.specs.Option.{option_copied};
-ghost use Rattle.rb_core.specs.Outcome.{delivery_of, nacked_for, opened_for};
+ghost use Rattle.rb_core.specs.Outcome.{delivery_of, opened_for};
 ghost use Rattle.rb_core.specs.Memory.{MayRunOut};
 ghost use Rattle.rb_core.specs.Outcome as outcome;
 ghost use Rattle.rb_core.specs.declared.event.Event.TheVariants as event;
@@ -108,35 +108,20 @@ impl Parts {
         }
     }
 
-    /// Negatively acknowledges a delivery: its entries are ready again.
-    pub(crate) fn nack(&mut self, delivery: u64) -> Result<Reply, AllocError>
+    /// Negatively acknowledges a delivery: its entries are ready again. Does not allocate.
+    pub(crate) fn nack(&mut self, delivery: u64) -> Reply
         requires { IsWorld self.old }
-        ensures ok { IfOk result (λ reply. outcome.nacked self.old delivery ≡ (reply, self.new)) }
-        ensures err { OnErr result (self.new ≡ self.old) }
-        ensures memory { OnErr result (MayRunOut (event.Nack delivery)
-            (outcome.nacked self.old delivery).0) }
+        ensures { outcome.nacked self.old delivery ≡ (result, self.new) }
     {
         let Some(delivery) = self.known(delivery) else {
-            return refused(BrokerRefusal::NoDelivery);
+            return Reply::Refused(BrokerRefusal::NoDelivery);
         };
-        self.give_back(delivery)
-    }
-
-    // negatively acknowledges this delivery
-    fn give_back(&mut self, delivery: Delivery) -> Result<Reply, AllocError>
-        ensures ok { IfOk result (λ reply.
-            nacked_for self.old (Some delivery) ≡ (reply, self.new)) }
-        ensures err { OnErr result (self.new ≡ self.old) }
-        ensures memory { OnErr result ((d : ℕ) → MayRunOut (event.Nack d)
-            (nacked_for self.old (Some delivery)).0) }
-    {
         match self
             .desk
             .nack(delivery.sub(), delivery.link(), delivery.number())
         {
-            Ok(()) => Ok(Reply::Returned),
-            Err(DeskError::Refused(why)) => refused(BrokerRefusal::Desk(why)),
-            Err(DeskError::Memory) => Err(AllocError),
+            Ok(()) => Reply::Returned,
+            Err(why) => Reply::Refused(BrokerRefusal::Desk(why)),
         }
     }
 
@@ -173,17 +158,13 @@ impl Parts {
         }
     }
 
-    /// Expires every delivery that has been out for the timeout or longer.
-    pub(crate) fn expire(&mut self, now: u64) -> Result<Reply, AllocError>
-        ensures ok { IfOk result (λ reply. outcome.expired self.old now ≡ (reply, self.new)) }
-        ensures err { OnErr result (self.new ≡ self.old) }
-        ensures memory { OnErr result (MayRunOut (event.Expire now)
-            (outcome.expired self.old now).0) }
+    /// Expires every delivery that has been out for the timeout or longer. Does not allocate.
+    pub(crate) fn expire(&mut self, now: u64) -> Reply
+        ensures { outcome.expired self.old now ≡ (result, self.new) }
     {
         match self.desk.expire(now) {
-            Ok(count) => Ok(Reply::Expired(count)),
-            Err(DeskError::Refused(why)) => refused(BrokerRefusal::Desk(why)),
-            Err(DeskError::Memory) => Err(AllocError),
+            Ok(count) => Reply::Expired(count),
+            Err(why) => Reply::Refused(BrokerRefusal::Desk(why)),
         }
     }
 }

@@ -94,50 +94,41 @@ impl Parts {
         }
     }
 
-    /// Continues a subscription after `cursor`, under a new link.
-    pub(crate) fn reconnect(&mut self, subscription: u64, cursor: u64) -> Result<Reply, AllocError>
-        ensures ok { IfOk result (λ reply.
-            outcome.reconnected self.old subscription cursor ≡ (reply, self.new)) }
-        ensures err { OnErr result (self.new ≡ self.old) }
-        ensures memory { OnErr result (MayRunOut (event.Reconnect subscription cursor)
-            (outcome.reconnected self.old subscription cursor).0) }
+    /// Continues a subscription after `cursor`, under a new link. Does not allocate.
+    pub(crate) fn reconnect(&mut self, subscription: u64, cursor: u64) -> Reply
+        ensures { outcome.reconnected self.old subscription cursor ≡ (result, self.new) }
     {
         let s = subscription as usize;
         if s >= self.endpoints.len() {
-            return refused(BrokerRefusal::Desk(DeskRefusal::NoSuch));
+            return Reply::Refused(BrokerRefusal::Desk(DeskRefusal::NoSuch));
         }
         match self.desk.reconnect(subscription, cursor) {
             Ok(link) => {
                 self.endpoints[s].reconnect(link);
-                Ok(Reply::Link(link))
+                Reply::Link(link)
             }
-            Err(DeskError::Refused(why)) => refused(BrokerRefusal::Desk(why)),
-            Err(DeskError::Memory) => Err(AllocError),
+            Err(why) => Reply::Refused(BrokerRefusal::Desk(why)),
         }
     }
 
-    /// Continues a subscription that has fallen, after its own cursor and under a new link.
-    pub(crate) fn resume(&mut self, subscription: u64) -> Result<Reply, AllocError>
-        ensures ok { IfOk result (λ reply.
-            outcome.resumed self.old subscription ≡ (reply, self.new)) }
-        ensures err { OnErr result (self.new ≡ self.old) }
-        ensures memory { OnErr result (MayRunOut (event.Resume subscription)
-            (outcome.resumed self.old subscription).0) }
+    /// Continues a subscription that has fallen, after its own cursor and under a new link. Does
+    /// not allocate.
+    pub(crate) fn resume(&mut self, subscription: u64) -> Reply
+        ensures { outcome.resumed self.old subscription ≡ (result, self.new) }
     {
         let s = subscription as usize;
         let Some(end) = self.endpoints.get(s) else {
-            return refused(BrokerRefusal::Desk(DeskRefusal::NoSuch));
+            return Reply::Refused(BrokerRefusal::Desk(DeskRefusal::NoSuch));
         };
         if !end.is_fallen() {
-            return refused(BrokerRefusal::NotFallen);
+            return Reply::Refused(BrokerRefusal::NotFallen);
         }
         match self.desk.reconnect(subscription, end.cursor()) {
             Ok(link) => {
                 self.endpoints[s].resume(link);
-                Ok(Reply::Link(link))
+                Reply::Link(link)
             }
-            Err(DeskError::Refused(why)) => refused(BrokerRefusal::Desk(why)),
-            Err(DeskError::Memory) => Err(AllocError),
+            Err(why) => Reply::Refused(BrokerRefusal::Desk(why)),
         }
     }
 

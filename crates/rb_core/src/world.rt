@@ -14,6 +14,7 @@ use crate::event::Event;
 use crate::laws::events_keep_worlds;
 use crate::parts::Parts;
 use crate::reply::{BrokerRefusal, Reply};
+use cs_apply::Tables;
 use cs_model::{Row, RowKey, Schema};
 use rb_desk::Config;
 use rb_sequence::Entry;
@@ -113,6 +114,17 @@ impl World {
         Some(end.cursor())
     }
 
+    /// The tables of a subscription. Returns `None` if there is no such subscription.
+    pub fn tables(&self, subscription: u64) -> Option<&Tables>
+        ensures { option_copied result
+            ≡ option_map (λ end. end.tables) (slice_get self.now.endpoints subscription) }
+    {
+        match self.parts.endpoints.get(subscription as usize) {
+            None => None,
+            Some(end) => Some(end.tables()),
+        }
+    }
+
     /// The rows of a subscription with their keys, sorted by table, then by the key's bytes.
     /// Returns `None` if there is no such subscription. Returns `AllocError` if memory runs out.
     pub fn rows(
@@ -124,9 +136,9 @@ impl World {
             ≡ option_map (λ end. map.entries end.tables.rows)
             (slice_get self.now.endpoints subscription)) }
     {
-        match self.parts.endpoints.get(subscription as usize) {
+        match self.tables(subscription) {
             None => Ok(None),
-            Some(end) => Ok(Some(end.tables().rows_in_order(alloc)?)),
+            Some(tables) => Ok(Some(tables.rows_in_order(alloc)?)),
         }
     }
 
@@ -166,14 +178,14 @@ impl Parts {
             Event::Accept { delivery } => self.accept(alloc, *delivery),
             Event::Crash { delivery, kept } => self.crash(alloc, *delivery, *kept),
             Event::Ack { delivery } => Ok(self.ack(*delivery)),
-            Event::Nack { delivery } => self.nack(*delivery),
+            Event::Nack { delivery } => Ok(self.nack(*delivery)),
             Event::NackOpened { delivery } => self.nack_opened(*delivery),
-            Event::Expire { now } => self.expire(*now),
+            Event::Expire { now } => Ok(self.expire(*now)),
             Event::Reconnect {
                 subscription,
                 cursor,
-            } => self.reconnect(*subscription, *cursor),
-            Event::Resume { subscription } => self.resume(*subscription),
+            } => Ok(self.reconnect(*subscription, *cursor)),
+            Event::Resume { subscription } => Ok(self.resume(*subscription)),
             Event::Unsubscribe { subscription } => Ok(self.unsubscribe(*subscription)),
         }
     }

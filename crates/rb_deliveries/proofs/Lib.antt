@@ -6,3 +6,5 @@ pub mod orders
 pub mod subs
 -- The lists of keys in which the spans of a subscription stand.
 pub mod lists
+-- The picture after each call, computed from what is stored after it.
+pub mod pictures

@@ -2,6 +2,7 @@
 pub mod CutLaws
 pub mod JoinLaws
 pub mod LaneLaws
+pub mod RisingLaws
 pub mod ChangeLaws
 pub mod LaneChanges
 pub mod FirstLaws

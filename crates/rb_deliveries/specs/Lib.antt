@@ -8,3 +8,6 @@ pub mod Waiting
 pub mod Expiry
 pub mod KeptSubs
 pub mod Opening
+pub mod Picture
+pub mod Pictured
+pub mod Changes

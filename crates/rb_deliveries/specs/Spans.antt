@@ -1,7 +1,7 @@
 -- The spans of one subscription: how numbers are cut into spans, and how their statuses change. A
 -- number after the floor that is in no span is settled.
-use Rattle.std.specs.Prelude.{ℕ, zero, suc, ◌+◌, ◌-◌, min, Bool, true, false, not, ◌&&◌, List, []}
-use Rattle.std.specs.Prelude.{◌∷◌, ◌++◌, length, Option, ◌==◌, nat_lt, nat_le, if◌then◌else◌}
+use Rattle.std.specs.Prelude.{ℕ, zero, suc, ◌+◌, ◌-◌, ◌≤◌, min, Bool, true, false, not, ◌&&◌, List}
+use Rattle.std.specs.Prelude.{[], ◌∷◌, ◌++◌, length, Option, ◌==◌, nat_lt, nat_le, if◌then◌else◌}
 use Rattle.std.specs.List.{filter, find}
 use Rattle.rb_deliveries.specs.declared.span.Span.{Span}
 use Rattle.rb_deliveries.specs.declared.span.Status.{Status}
@@ -32,6 +32,13 @@ is_due timeout clock (InFlight number moment) = nat_le timeout (clock - moment)
 -- a ready span that was never taken
 abbrev pub fresh : ℕ → ℕ → Span
 fresh first last = record { first = first; last = last; status = Ready false }
+
+-- spans rise within the numbers from low to high: each has a number, and begins after the one
+-- before it ends
+abbrev pub SpansRise : ℕ → List Span → ℕ → Type 0
+SpansRise low [] high = low ≤ suc high
+SpansRise low (p ∷ rest) high = (low ≤ p.first) × (p.first ≤ p.last)
+    × SpansRise (suc p.last) rest high
 
 -- Cuts the numbers from a to b into spans: the first `batch` numbers, or as many as there are, then
 -- the rest. There are at most as many spans as numbers.

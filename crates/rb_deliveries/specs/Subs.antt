@@ -11,7 +11,7 @@ use Rattle.rb_deliveries.specs.declared.span.Status.{Status}
 use Rattle.rb_deliveries.specs.declared.span.Status.TheVariants.{Ready, InFlight}
 use Rattle.rb_deliveries.specs.declared.sub.Sub.{Sub}
 use Rattle.rb_deliveries.specs.Spans.{cut_spans, is_fresh, is_ready, how_many_out, out_as}
-use Rattle.rb_deliveries.specs.Lanes.{AreRising, earlier, least, cut_lane, delivered_lane}
+use Rattle.rb_deliveries.specs.Lanes.{earlier, least, cut_lane, delivered_lane}
 use Rattle.rb_deliveries.specs.Lanes.{returned_lane, settled_lane, Lane, lane_held, lane_floor}
 use Rattle.rb_deliveries.specs.Lanes.{spans_of}
 
@@ -110,10 +110,6 @@ first_to_deliver window batch front s [] = None
 first_to_deliver window batch front s (sub ∷ rest) =
     goes_first (option_map (λ h. (s, h)) (next_to_deliver window batch front sub))
     (first_to_deliver window batch front (suc s) rest)
-
--- the spans of the subscription with this number rise
-abbrev pub IsRisingAt : List Sub → ℕ → Type 0
-IsRisingAt subs s = (sub : Sub) × (slice_get subs s ≡ Some sub) × AreRising sub.lane
 
 -- a ticket comes after those of all stored spans of the subscription with this number
 abbrev pub ComesLast : Ticket → List Held → Type 0

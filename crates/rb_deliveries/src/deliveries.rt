@@ -1,362 +1,275 @@
-//! `Deliveries`: what is stored of all subscriptions' deliveries, and which of them comes first.
+//! `Deliveries`: what waits for each subscription and what is in flight to it, as a picture.
 
-ghost use Rattle.std.specs.Prelude.{◌≡◌, ◌≤◌, ◌<◌, ◌+◌, ◌++◌, ◌∷◌, [], length, map, slice_get};
-ghost use Rattle.std.specs.Prelude.{nat_lt, Some, IfOk, IfSome, OnOk, OnErr};
-ghost use Rattle.std.specs.List.{AllByRecursion};
-ghost use Rattle.std.specs.Option.{option_copied, option_map};
-ghost use Rattle.rb_deliveries.specs.declared.sub.Sub.{Sub};
-ghost use Rattle.rb_deliveries.specs.Expiry.{all_due, expired_sub, by_number, turns_from};
-ghost use Rattle.rb_deliveries.specs.KeptSubs.{with_sub};
-ghost use Rattle.rb_deliveries.specs.Lanes.{AreRising, AreLimited, HasNumbers, lane_floor};
-ghost use Rattle.rb_deliveries.specs.Lanes.{most_numbers, settled_lane};
-ghost use Rattle.rb_deliveries.specs.Opening.{IsLatestAt, opened_sub};
-ghost use Rattle.rb_deliveries.specs.Subs.{AreGiven, Belongs, ComesLastAt, IsDrawn, IsNewestAt};
-ghost use Rattle.rb_deliveries.specs.Subs.{IsRisingAt, new_sub, delivered_sub};
-ghost use Rattle.rb_deliveries.specs.Subs.{returned_sub, settled_sub, reconnected_sub, closed_sub};
-ghost use Rattle.rb_deliveries.specs.Subs.{first_to_deliver, span_to_deliver};
-ghost use Rattle.rb_deliveries.specs.Waiting.{AreWaiting, BelongAll, FirstPast, StandsAgain};
+ghost use Rattle.std.specs.Prelude.{◌≡◌, ◌≤◌, ◌<◌, ◌+◌, suc, length, slice_get, Some, OnOk, OnErr};
+ghost use Rattle.std.specs.Prelude.{IfOk, IfSome, true, false};
+ghost use Rattle.rb_deliveries.specs.Changes.{IsOutTo, MayContinue, MayDeliver, acked_to};
+ghost use Rattle.rb_deliveries.specs.Changes.{all_expired, delivered_to, first_of_all};
+ghost use Rattle.rb_deliveries.specs.Changes.{grown_picture, how_many_expire, nacked_to};
+ghost use Rattle.rb_deliveries.specs.Changes.{opened_to, reconnected_spans, subscribed_spans};
+ghost use Rattle.rb_deliveries.specs.Changes.{unsubscribed_from};
+ghost use Rattle.rb_deliveries.specs.Lanes.{most_numbers};
+ghost use Rattle.rb_deliveries.specs.Picture.{Subscription, no_deliveries};
+ghost use Rattle.rb_deliveries.specs.Spans.{SpansRise, cut_spans, floor_of, is_fresh};
+ghost use Rattle.rb_deliveries.specs.Spans.{span_length, without_first};
 
+use crate::kept::Subs;
 use crate::span::Span;
-use crate::sub::Sub;
+use crate::subscription::SubscriptionRef;
 use crate::ticket::Ticket;
-use crate::tournament::Tournament;
 use std::alloc::{AllocError, Global};
 use std::marker::Model;
 
-/// The subscriptions by their numbers, from 0, with what finds the one that is delivered to first,
-/// and the one whose delivery was taken first. Contracts see the window and the subscriptions.
+/// The deliveries of a sequence: which numbers wait for which subscription, and which are in flight
+/// to it. Contracts see the picture, and how many turns were drawn.
 #[derive(Debug, Drop)]
 pub struct Deliveries {
-    // how many deliveries may be in flight to a subscription
-    window: u64,
-    subs: Vec<Sub>,
-    // the tickets of the subscriptions, and their earliest moments: they follow from `subs`
-    line: Tournament,
-    moments: Tournament,
+    batch: u64,
+    front: u64,
+    next_delivery: u64,
+    // how many turns were drawn: a span's ticket has the front and the turn in which it got ready
+    turn: u64,
+    subs: Subs,
 }
 
 impl Model for Deliveries {
-    ghost use Rattle.rb_deliveries.specs.KeptSubs.{KeptSubs, kept_code};
-    ghost use Rattle.rb_deliveries.specs.Waiting.{AreWaiting};
+    ghost use Rattle.rb_deliveries.specs.Picture.{DeliveriesSeen, seen_code};
+    ghost use Rattle.rb_deliveries.specs.Pictured.{DeliveriesAgree, pictured};
 
-    ghost Value = { KeptSubs };
+    ghost Value = { DeliveriesSeen };
 
-    ghost coded = { kept_code };
+    ghost coded = { seen_code };
 
-    ghost view = { λ d. record { window = d.window; subs = d.subs.items } };
+    ghost view = { λ d. record {
+      picture = pictured d.batch d.subs.window d.front d.next_delivery d.subs.subs;
+      turns = d.turn;
+    } };
 
-    ghost invariant = { λ d. AreWaiting d.window d.subs.items d.line d.moments };
+    ghost invariant = { λ d. DeliveriesAgree d.batch d.front d.turn d.next_delivery d.subs.subs };
 }
 
 impl Deliveries {
-    /// No subscriptions. Up to `window` deliveries may be in flight to each. Does not allocate.
-    pub fn new(alloc: Global, window: u64) -> Deliveries
-        ensures { result ≡ record { window = window; subs = [] } }
+    /// No subscriptions. A delivery has up to `batch` numbers, and up to `window` deliveries may be
+    /// in flight to a subscription. Does not allocate.
+    pub fn new(alloc: Global, batch: u64, window: u64) -> Deliveries
+        requires { (1 ≤ batch) × (batch ≤ 256) }
+        ensures { result ≡ record { picture = no_deliveries batch window; turns = 0 } }
     {
         Deliveries {
-            window,
-            subs: Vec::new(alloc),
-            line: Tournament::new(alloc),
-            moments: Tournament::new(alloc),
+            batch,
+            front: 0,
+            next_delivery: 1,
+            turn: 0,
+            subs: Subs::new(alloc, window),
         }
     }
 
-    /// How many subscriptions there are.
+    /// How many subscriptions there are, closed ones included.
     pub fn len(&self) -> u64
-        ensures { result ≡ length self.now.subs }
+        ensures { result ≡ length self.now.picture.subscriptions }
     {
-        self.subs.len() as u64
+        self.subs.len()
     }
 
-    /// The subscription with this number.
-    pub fn get(&self, s: u64) -> Option<&Sub>
-        ensures value { option_copied result ≡ slice_get self.now.subs s }
-        ensures rising { IfSome (option_copied result) (λ sub. AreRising sub.lane) }
+    /// The last number placed, 0 before the first.
+    pub fn front(&self) -> u64
+        ensures { result ≡ self.now.picture.front }
     {
-        self.subs.get(s as usize)
+        self.front
     }
 
-    /// Adds a subscription to the numbers after `start`, under this link. They are cut with this
-    /// ticket.
-    pub fn add_subscriber(
-        &mut self,
-        alloc: Global,
-        start: u64,
-        link: u64,
-        ticket: Ticket,
-    ) -> Result<(), AllocError>
-        requires { start ≤ most_numbers }
+    /// The subscription with this number. If it is open, its spans rise from the floor to the
+    /// front.
+    pub fn get(&self, s: u64) -> Option<SubscriptionRef<'_>>
+        ensures found { result ≡ slice_get self.now.picture.subscriptions s }
+        ensures rising { IfSome result (λ q. q.closed ≡ false
+            → SpansRise (suc q.floor) q.spans self.now.picture.front) }
+    {
+        self.subs.rise();
+        let sub = self.subs.get(s)?;
+        Some(SubscriptionRef::of(sub, self.batch, self.front))
+    }
+
+    /// The first span in the ready order whose subscription has room in its window, with that
+    /// subscription's number.
+    pub fn first_of_all(&self) -> Option<(u64, Span)>
+        ensures { result ≡ first_of_all self.now.picture }
+    {
+        self.subs.rise();
+        self.subs.first_to_deliver(self.batch, self.front)
+    }
+}
+
+impl Deliveries {
+    /// Adds a subscription to the numbers after `start`, under this link. An `Err` changes nothing.
+    pub fn subscribe(&mut self, alloc: Global, start: u64, link: u64) -> Result<(), AllocError>
+        requires start { start ≤ self.old.picture.front }
+        requires few { length self.old.picture.subscriptions < 1024 }
+        requires turns { suc self.old.turns < 18446744073709551616 }
         ensures ok { OnOk result (self.new ≡ record {
-          window = self.old.window;
-          subs = self.old.subs ++ new_sub start link ticket ∷ [];
+          picture = subscribed_spans self.old.picture start
+              (cut_spans self.old.picture.batch (suc start) self.old.picture.front) link;
+          turns = suc self.old.turns;
         }) }
         ensures err { OnErr result (self.new ≡ self.old) }
     {
-        self.subs.reserve(1)?;
-        let made = Sub::behind(start, link, ticket);
-        let first = made.ticket(self.window);
-        let moment = made.moment();
-        push_both(alloc, &mut self.line, &mut self.moments, first, moment)?;
-        self.subs.push_reserved(made);
-        Ok(())
-    }
-}
-
-impl Deliveries {
-    /// Delivers a span of a subscription: it is in flight as this delivery, whose number is the
-    /// greatest, taken at this tick. Returns the subscription's link.
-    pub fn deliver(&mut self, s: u64, span: Span, number: u64, tick: u64) -> Result<u64, AllocError>
-        requires there { s < length self.old.subs }
-        requires span { HasNumbers span }
-        requires last { IsNewestAt self.old.subs s number }
-        ensures ok { OnOk result ((sub : Sub) → slice_get self.old.subs s ≡ Some sub
-            → self.new ≡ with_sub self.old s (delivered_sub sub span number tick)) }
-        ensures link { IfOk result (λ link. (sub : Sub) → slice_get self.old.subs s ≡ Some sub
-            → link ≡ sub.link) }
-        ensures err { OnErr result (self.new ≡ self.old) }
-    {
-        let s = s as usize;
-        let alloc = *self.subs.allocator();
-        let link = self.subs[s].link;
-        self.subs[s].deliver(alloc, span, number, tick)?;
-        stand(
-            &self.subs,
-            &mut self.line,
-            &mut self.moments,
-            self.window,
-            s,
-        );
-        Ok(link)
-    }
-
-    /// Makes a span of a subscription ready again, in line with this ticket, which comes after
-    /// those of its other spans.
-    pub fn give_back(&mut self, s: u64, first: u64, ticket: Ticket)
-        requires there { s < length self.old.subs }
-        requires last { ComesLastAt self.old.subs s ticket }
-        ensures { (sub : Sub) → slice_get self.old.subs s ≡ Some sub
-            → self.new ≡ with_sub self.old s (returned_sub sub first ticket) }
-    {
-        let s = s as usize;
-        self.subs[s].give_back(first, ticket);
-        stand(
-            &self.subs,
-            &mut self.line,
-            &mut self.moments,
-            self.window,
-            s,
-        );
-    }
-
-    /// Opens a span of a subscription: each of its numbers is a ready span of its own, in its
-    /// place. They are in line after all other spans, by rising number: their tickets come after
-    /// `latest`, which no ticket of that subscription comes after. An `Err` changes nothing.
-    pub fn open_up(&mut self, s: u64, first: u64, latest: Ticket) -> Result<(), AllocError>
-        requires there { s < length self.old.subs }
-        requires latest { IsLatestAt self.old.subs s latest }
-        ensures ok { OnOk result ((sub : Sub) → slice_get self.old.subs s ≡ Some sub
-            → self.new ≡ with_sub self.old s (opened_sub sub first latest)) }
-        ensures err { OnErr result (self.new ≡ self.old) }
-    {
-        let s = s as usize;
-        self.subs[s].open(first, latest)?;
-        stand(
-            &self.subs,
-            &mut self.line,
-            &mut self.moments,
-            self.window,
-            s,
-        );
+        let ticket = self.next_ticket();
+        self.subs.add_subscriber(alloc, start, link, ticket)?;
+        self.turn += 1;
         Ok(())
     }
 
-    /// Settles a span of a subscription. Returns the floor, up to which everything is settled now.
-    pub fn settle(&mut self, s: u64, first: u64) -> u64
-        requires { s < length self.old.subs }
-        ensures kept { (sub : Sub) → slice_get self.old.subs s ≡ Some sub
-            → self.new ≡ with_sub self.old s (settled_sub sub first) }
-        ensures floor { (sub : Sub) → slice_get self.old.subs s ≡ Some sub
-            → result ≡ lane_floor (settled_lane sub.lane first) }
+    /// Delivers a span that may be delivered: it is in flight as the next delivery, taken at this
+    /// tick. Returns the delivery's number. Allocates only for a span that was never delivered
+    /// before. An `Err` changes nothing.
+    pub fn deliver(&mut self, s: u64, span: Span, tick: u64) -> Result<u64, AllocError>
+        requires may { MayDeliver self.old.picture s span }
+        requires number { suc self.old.picture.next_delivery < 18446744073709551616 }
+        ensures ok { OnOk result ((q : Subscription)
+            → slice_get self.old.picture.subscriptions s ≡ Some q
+            → self.new ≡ record {
+              picture = delivered_to self.old.picture s q span tick;
+              turns = self.old.turns;
+            }) }
+        ensures number { IfOk result (λ number. number ≡ self.old.picture.next_delivery) }
+        ensures err { OnErr result (self.new ≡ self.old) }
+        ensures memory { OnErr result (is_fresh span.status ≡ true) }
     {
-        let s = s as usize;
-        let floor = self.subs[s].settle(first);
-        stand(
-            &self.subs,
-            &mut self.line,
-            &mut self.moments,
-            self.window,
-            s,
-        );
-        floor
+        self.subs.rise();
+        let number = self.next_delivery;
+        self.subs.deliver(s, span, number, tick)?;
+        self.next_delivery = number + 1;
+        Ok(number)
     }
 
-    /// Continues a subscription after `cursor`, under this link. The numbers after it are cut with
-    /// this ticket.
-    pub fn reconnect(&mut self, s: u64, cursor: u64, link: u64, ticket: Ticket)
-        requires there { s < length self.old.subs }
-        requires cursor { cursor ≤ most_numbers }
-        ensures { (sub : Sub) → slice_get self.old.subs s ≡ Some sub
-            → self.new ≡ with_sub self.old s (reconnected_sub sub cursor link ticket) }
+    /// Acknowledges a span in flight: its numbers are settled. Returns the floor.
+    pub fn ack(&mut self, s: u64, span: Span) -> u64
+        requires out { IsOutTo self.old.picture s span }
+        ensures new { (q : Subscription) → slice_get self.old.picture.subscriptions s ≡ Some q
+            → self.new ≡ record {
+              picture = acked_to self.old.picture s q span.first
+                  (without_first span.first q.spans);
+              turns = self.old.turns;
+            } }
+        ensures floor { (q : Subscription) → slice_get self.old.picture.subscriptions s ≡ Some q
+            → result ≡ floor_of (without_first span.first q.spans) self.old.picture.front }
     {
-        let s = s as usize;
-        self.subs[s].reconnect(cursor, link, ticket);
-        stand(
-            &self.subs,
-            &mut self.line,
-            &mut self.moments,
-            self.window,
-            s,
-        );
+        self.subs.rise();
+        self.subs.settle(s, span.first)
+    }
+
+    /// Negatively acknowledges a span in flight: it is ready again, after all that are ready.
+    pub fn nack(&mut self, s: u64, span: Span)
+        requires out { IsOutTo self.old.picture s span }
+        requires turns { suc self.old.turns < 18446744073709551616 }
+        ensures { (q : Subscription) → slice_get self.old.picture.subscriptions s ≡ Some q
+            → self.new ≡ record {
+              picture = nacked_to self.old.picture s q span;
+              turns = suc self.old.turns;
+            } }
+    {
+        self.subs.rise();
+        let ticket = self.next_ticket();
+        self.subs.give_back(s, span.first, ticket);
+        self.turn += 1;
+    }
+
+    /// Opens a span in flight: each of its numbers is a ready span of its own, after all that are
+    /// ready, by rising number. Returns how many there are. An `Err` changes nothing.
+    pub fn nack_opened(&mut self, s: u64, span: Span) -> Result<u64, AllocError>
+        requires out { IsOutTo self.old.picture s span }
+        requires turns { self.old.turns + self.old.picture.front < 18446744073709551616 }
+        ensures ok { OnOk result ((q : Subscription)
+            → slice_get self.old.picture.subscriptions s ≡ Some q
+            → self.new ≡ record {
+              picture = opened_to self.old.picture s q span;
+              turns = self.old.turns + self.old.picture.front;
+            }) }
+        ensures many { IfOk result (λ many. many ≡ span_length span) }
+        ensures err { OnErr result (self.new ≡ self.old) }
+    {
+        self.subs.rise();
+        let latest = self.latest_ticket();
+        self.subs.open_up(s, span.first, latest)?;
+        self.turn += self.front;
+        Ok(span.last - span.first + 1)
+    }
+
+    /// Makes each span in flight that was taken `timeout` ticks before `clock`, or earlier, ready
+    /// again, in the order they were taken. Returns how many there are.
+    pub fn expire(&mut self, timeout: u64, clock: u64) -> u64
+        requires turns { self.old.turns + self.old.picture.next_delivery < 18446744073709551616 }
+        ensures many { result ≡ how_many_expire self.old.picture timeout clock }
+        ensures picture { self.new.picture ≡ all_expired self.old.picture timeout clock }
+        ensures turns { self.new.turns ≤ self.old.turns + self.old.picture.next_delivery }
+    {
+        self.subs.rise();
+        let latest = self.latest_ticket();
+        let many = self.subs.expire(timeout, clock, latest, self.next_delivery);
+        self.turn += self.next_delivery;
+        many
+    }
+
+    /// Continues a subscription after `cursor`, under this link. Its spans are removed, and the
+    /// numbers after the cursor are cut anew.
+    pub fn reconnect(&mut self, s: u64, cursor: u64, link: u64)
+        requires may { MayContinue self.old.picture s cursor }
+        requires turns { suc self.old.turns < 18446744073709551616 }
+        ensures { (q : Subscription) → slice_get self.old.picture.subscriptions s ≡ Some q
+            → self.new ≡ record {
+              picture = reconnected_spans self.old.picture s q cursor
+                  (cut_spans self.old.picture.batch (suc cursor) self.old.picture.front) link;
+              turns = suc self.old.turns;
+            } }
+    {
+        let ticket = self.next_ticket();
+        self.subs.reconnect(s, cursor, link, ticket);
+        self.turn += 1;
     }
 
     /// Closes a subscription and removes all its spans.
-    pub fn close(&mut self, s: u64)
-        requires { s < length self.old.subs }
-        ensures { (sub : Sub) → slice_get self.old.subs s ≡ Some sub
-            → self.new ≡ with_sub self.old s (closed_sub sub) }
+    pub fn unsubscribe(&mut self, s: u64)
+        requires there { s < length self.old.picture.subscriptions }
+        ensures { (q : Subscription) → slice_get self.old.picture.subscriptions s ≡ Some q
+            → self.new ≡ record {
+              picture = unsubscribed_from self.old.picture s q;
+              turns = self.old.turns;
+            } }
     {
-        let s = s as usize;
-        self.subs[s].close();
-        stand(
-            &self.subs,
-            &mut self.line,
-            &mut self.moments,
-            self.window,
-            s,
-        );
+        self.subs.rise();
+        self.subs.close(s);
+    }
+
+    /// Places the next number. Every open subscription has it from now on.
+    pub fn place(&mut self)
+        requires room { suc self.old.picture.front ≤ most_numbers }
+        ensures { self.new ≡ record {
+          picture = grown_picture self.old.picture;
+          turns = self.old.turns;
+        } }
+    {
+        self.front += 1;
     }
 }
 
 impl Deliveries {
-    /// The span to deliver before all others, with its subscription's number: the first in line of
-    /// those whose subscription is open and has room in its window. `front` is the last number
-    /// placed, and a delivery has up to `batch` numbers.
-    pub fn first_to_deliver(&self, batch: u64, front: u64) -> Option<(u64, Span)>
-        requires limits { AreLimited batch front }
-        requires belong { BelongAll front self.now.subs }
-        ensures value { result ≡ option_map span_to_deliver
-            (first_to_deliver self.now.window batch front 0 self.now.subs) }
-        ensures rising { IfSome result (λ c. IsRisingAt self.now.subs c.0) }
+    // the ticket of the last turn drawn
+    fn latest_ticket(&self) -> Ticket
+        ensures { result ≡ record { front = self.now.picture.front; turn = self.now.turns } }
     {
-        let winner = self.line.winner()?;
-        // the ticket of numbers that aren't placed yet
-        if front < winner.ticket.front {
-            return None;
+        Ticket {
+            front: self.front,
+            turn: self.turn,
         }
-        let held = self.subs[winner.place].lane.first_in_line(batch, front)?;
-        Some((winner.place as u64, held.span))
     }
 
-    /// Whether a span of an open subscription is due.
-    pub fn any_due(&self, timeout: u64, clock: u64) -> bool
-        ensures value { result ≡ nat_lt 0 (all_due timeout clock self.now.subs) }
-        ensures rising { AllByRecursion (λ sub. AreRising sub.lane) self.now.subs }
+    // the ticket of the next turn
+    fn next_ticket(&self) -> Ticket
+        requires { suc self.now.turns < 18446744073709551616 }
+        ensures { result ≡ record { front = self.now.picture.front; turn = suc self.now.turns } }
     {
-        first_past(&self.moments, timeout, clock).is_some()
+        Ticket {
+            front: self.front,
+            turn: self.turn + 1,
+        }
     }
-
-    /// Makes the spans that are due ready again, and returns how many there are. Their tickets come
-    /// after `latest`, in the order of their deliveries' numbers, which are below `next`.
-    pub fn expire(&mut self, timeout: u64, clock: u64, latest: Ticket, next: u64) -> u64
-        requires belong { AllByRecursion (Belongs latest.front latest.turn next) self.old.subs }
-        requires few { (latest.front ≤ most_numbers) × (length self.old.subs ≤ 1024) }
-        requires turns { latest.turn + next < 18446744073709551616 }
-        ensures many { result ≡ all_due timeout clock self.old.subs }
-        ensures kept { self.new ≡ record {
-          window = self.old.window;
-          subs =
-              map (expired_sub timeout clock (by_number (turns_from latest.front latest.turn)))
-              self.old.subs;
-        } }
-        ensures rising { AllByRecursion (λ sub. AreRising sub.lane) self.old.subs }
-    {
-        expire_due(
-            &mut self.subs,
-            &mut self.line,
-            &mut self.moments,
-            self.window,
-            timeout,
-            clock,
-            latest,
-            next,
-        )
-    }
-}
-
-// gives a subscription that changed its ticket and its moment among the others
-fn stand(subs: &[Sub], line: &mut Tournament, moments: &mut Tournament, window: u64, s: usize)
-    requires here { s < length subs.now }
-    requires line { length line.old ≡ length subs.now }
-    requires moments { length moments.old ≡ length subs.now }
-    ensures { (sub : Sub) → slice_get subs.now s ≡ Some sub
-        → StandsAgain window s sub line.old moments.old line.new moments.new }
-{
-    line.set(s, subs[s].ticket(window));
-    moments.set(s, subs[s].moment());
-}
-
-// adds a place to both, or to none
-fn push_both(
-    alloc: Global,
-    line: &mut Tournament,
-    moments: &mut Tournament,
-    ticket: Option<Ticket>,
-    moment: Option<Ticket>,
-) -> Result<(), AllocError>
-    ensures ok { OnOk result ((line.new ≡ line.old ++ ticket ∷ [])
-        × (moments.new ≡ moments.old ++ moment ∷ [])) }
-    ensures err { OnErr result ((line.new ≡ line.old) × (moments.new ≡ moments.old)) }
-{
-    line.push(alloc, ticket)?;
-    if let Err(e) = moments.push(alloc, moment) {
-        line.pop();
-        return Err(e);
-    }
-    Ok(())
-}
-
-// Makes the spans that are due ready again, and returns how many there are. It goes to the
-// subscription whose delivery was taken first, as long as that one is due.
-fn expire_due(
-    subs: &mut Vec<Sub>,
-    line: &mut Tournament,
-    moments: &mut Tournament,
-    window: u64,
-    timeout: u64,
-    clock: u64,
-    latest: Ticket,
-    next: u64,
-) -> u64
-    requires waiting { AreWaiting window subs.old.items line.old moments.old }
-    requires given { AllByRecursion (λ sub. AreGiven next latest.turn sub.lane.held)
-        subs.old.items }
-    requires drawn { AllByRecursion (λ sub. AllByRecursion
-        (λ h. IsDrawn latest.front latest.turn h.ticket) sub.lane.held) subs.old.items }
-    requires few { all_due timeout clock subs.old.items < 18446744073709551616 }
-    ensures many { result ≡ all_due timeout clock subs.old.items }
-    ensures subs { subs.new.items
-        ≡ map (expired_sub timeout clock (by_number (turns_from latest.front latest.turn)))
-        subs.old.items }
-    ensures waiting { AreWaiting window subs.new.items line.new moments.new }
-{
-    let mut many = 0;
-    let mut past = first_past(moments, timeout, clock);
-    while let Some(s) = past {
-        many += subs[s].how_many_due(timeout, clock);
-        subs[s].expire(timeout, clock, latest, next);
-        stand(subs, line, moments, window, s);
-        past = first_past(moments, timeout, clock);
-    }
-    many
-}
-
-// the place whose moment is the earliest, if that is past
-fn first_past(moments: &Tournament, timeout: u64, clock: u64) -> Option<usize>
-    ensures { FirstPast timeout clock moments.now result }
-{
-    let winner = moments.winner()?;
-    if timeout <= clock.saturating_sub(winner.ticket.front) {
-        return Some(winner.place);
-    }
-    None
 }

@@ -61,8 +61,7 @@ impl Lane {
 
     /// The number up to which everything is settled.
     pub(crate) fn floor(&self) -> u64
-        ensures value { result ≡ lane_floor self.now }
-        ensures rising { AreRising self.now }
+        ensures { result ≡ lane_floor self.now }
     {
         match self.held.first() {
             Some(span) => span.first - 1,
@@ -87,8 +86,7 @@ impl Lane {
     /// The ready span with the lowest numbers.
     pub(crate) fn first_ready(&self, batch: u64, front: u64) -> Option<Span>
         requires { AreLimited batch front }
-        ensures value { result ≡ first_ready (lane_spans batch front self.now) }
-        ensures rising { AreRising self.now }
+        ensures { result ≡ first_ready (lane_spans batch front self.now) }
     {
         match self.held.first_ready() {
             Some(span) => Some(span),
@@ -114,8 +112,7 @@ impl Lane {
     /// The ready span that is first in line, with its ticket.
     pub(crate) fn first_in_line(&self, batch: u64, front: u64) -> Option<Held>
         requires { AreLimited batch front }
-        ensures value { result ≡ least (lane_held batch front self.now) }
-        ensures rising { AreRising self.now }
+        ensures { result ≡ least (lane_held batch front self.now) }
     {
         let fresh = self.cutting.given_to(self.first_fresh(batch, front));
         sooner(self.held.first_in_line(), fresh)
@@ -142,8 +139,7 @@ impl Lane {
 
     /// The span that is in flight as this delivery.
     pub(crate) fn out_as(&self, number: u64) -> Option<Span>
-        ensures value { result ≡ out_as number (spans_of self.now.held) }
-        ensures rising { AreRising self.now }
+        ensures { result ≡ out_as number (spans_of self.now.held) }
     {
         self.held.out_as(number)
     }
@@ -161,6 +157,7 @@ impl Lane {
         requires last { IsNewest number self.old.held }
         ensures ok { OnOk result (self.new ≡ delivered_lane self.old span (InFlight number tick)) }
         ensures err { OnErr result (self.new ≡ self.old) }
+        ensures memory { OnErr result (span.first ≡ self.old.next) }
     {
         if span.first == self.next {
             return self.push(alloc, span, number, tick);
@@ -217,8 +214,7 @@ impl Lane {
 
     /// How many spans are due.
     pub(crate) fn how_many_due(&self, timeout: u64, clock: u64) -> u64
-        ensures value { result ≡ due_held timeout clock self.now.held }
-        ensures rising { AreRising self.now }
+        ensures { result ≡ due_held timeout clock self.now.held }
     {
         self.held.how_many_due(timeout, clock)
     }
@@ -234,10 +230,20 @@ impl Lane {
         self.held.expire(timeout, clock, latest, next);
     }
 
+    /// Continues after this number: removes all spans. The numbers after it are cut with this
+    /// ticket.
+    pub(crate) fn restart(&mut self, cursor: u64, cutting: Ticket)
+        requires { cursor < 18446744073709551615 }
+        ensures { self.new ≡ cut_lane cursor cutting }
+    {
+        self.held.clear();
+        self.next = cursor + 1;
+        self.cutting = cutting;
+    }
+
     /// Removes all spans; the floor stays.
     pub(crate) fn clear(&mut self)
-        ensures lane { self.new ≡ cut_lane (lane_floor self.old) self.old.cutting }
-        ensures rising { AreRising self.old }
+        ensures { self.new ≡ cut_lane (lane_floor self.old) self.old.cutting }
     {
         let floor = self.floor();
         self.held.clear();

@@ -1,20 +1,22 @@
-//! What is stored of all subscriptions' deliveries, and which delivery is the next one. Theorem:
-//! each call of `Deliveries` changes the one subscription that it names, as `specs/Subs.antt` says,
-//! and finds the span that is first in line of all (*first_to_deliver*), and all that are due.
+//! What waits for each subscription of a sequence, what is in flight to it, and which span is
+//! delivered next. Theorem: each call of `Deliveries` leaves the picture that its definition in
+//! `specs/Changes.antt` makes of the one before; `first_of_all` finds the first in the ready order.
 #![tactic(auto)]
 
 mod deliveries;
+mod kept;
 mod lane;
 mod opening;
 mod records;
 mod span;
 mod steps;
 mod sub;
+mod subscription;
 mod taken;
 mod ticket;
 mod tournament;
 
 pub use deliveries::Deliveries;
 pub use span::{Span, Status};
-pub use sub::{MOST_NUMBERS, Sub};
-pub use ticket::Ticket;
+pub use sub::MOST_NUMBERS;
+pub use subscription::SubscriptionRef;

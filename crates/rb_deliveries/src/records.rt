@@ -3,7 +3,7 @@
 
 ghost use Rattle.std.specs.Prelude.{◌≡◌, [], slice_get, IfOk, IfSome, Some};
 ghost use Rattle.std.specs.Option.{option_map};
-ghost use Rattle.link_lists.specs.Lanes.{AreLanes, value_under};
+ghost use Rattle.link_lists.specs.Lanes.{value_under};
 ghost use Rattle.rb_deliveries.specs.Expiry.{due_held};
 ghost use Rattle.rb_deliveries.specs.Lanes.{spans_of, least};
 ghost use Rattle.rb_deliveries.specs.Spans as spans;
@@ -31,7 +31,7 @@ pub(crate) fn first(records: &Woven<Held>) -> Option<Span>
     requires { AreWoven records.now }
     ensures { result ≡ option_map (λ h. h.span) (slice_get (held_in records.now) 0) }
 {
-    are_lanes(records);
+    records.valid();
     let key = records.front(Lane::Second, 0)?;
     span_at(records, key)
 }
@@ -41,7 +41,7 @@ pub(crate) fn in_flight(records: &Woven<Held>, flying: u64) -> u64
     requires { AreKept (Some records.now) flying }
     ensures { result ≡ spans.how_many_out (spans_of (held_in records.now)) }
 {
-    are_lanes(records);
+    records.valid();
     flying
 }
 
@@ -50,7 +50,7 @@ pub(crate) fn first_ready(records: &Woven<Held>, flying: u64) -> Option<Span>
     requires { AreKept (Some records.now) flying }
     ensures { result ≡ spans.first_ready (spans_of (held_in records.now)) }
 {
-    are_lanes(records);
+    records.valid();
     // with none in line there is no need to look
     let _line = records.front(Lane::First, 0)?;
     let mut at = records.front(Lane::Second, 0);
@@ -79,7 +79,7 @@ pub(crate) fn out_as(records: &Woven<Held>, flying: u64, delivery: u64) -> Optio
     requires { AreKept (Some records.now) flying }
     ensures { result ≡ spans.out_as delivery (spans_of (held_in records.now)) }
 {
-    are_lanes(records);
+    records.valid();
     let mut at = records.front(Lane::First, 1);
     for _ in 0..flying {
         let key = at?;
@@ -96,7 +96,7 @@ pub(crate) fn earliest(records: &Woven<Held>, flying: u64) -> Option<Ticket>
     requires { AreKept (Some records.now) flying }
     ensures { result ≡ waiting.earliest (held_in records.now) }
 {
-    are_lanes(records);
+    records.valid();
     let mut first = None;
     let mut at = records.front(Lane::First, 1);
     for _ in 0..flying {
@@ -114,7 +114,7 @@ pub(crate) fn how_many_due(records: &Woven<Held>, flying: u64, timeout: u64, clo
     requires { AreKept (Some records.now) flying }
     ensures { result ≡ due_held timeout clock (held_in records.now) }
 {
-    are_lanes(records);
+    records.valid();
     let mut count = 0;
     let mut at = records.front(Lane::First, 1);
     for _ in 0..flying {
@@ -127,13 +127,6 @@ pub(crate) fn how_many_due(records: &Woven<Held>, flying: u64, timeout: u64, clo
         at = records.next(Lane::First, key);
     }
     count
-}
-
-/// Each key in a list has a record, and none stands twice.
-pub(crate) fn are_lanes(records: &Woven<Held>)
-    ensures { AreLanes records.now }
-{
-    let _spare = records.spare();
 }
 
 // the span under this key

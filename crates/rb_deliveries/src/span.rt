@@ -29,7 +29,7 @@ pub enum Status {
 
 impl Status {
     /// Whether they wait to be taken.
-    pub fn is_ready(self) -> bool
+    pub(crate) fn is_ready(self) -> bool
         ensures { result ≡ is_ready self }
     {
         match self {
@@ -42,7 +42,7 @@ impl Status {
     }
 
     /// Whether they are in flight.
-    pub fn is_out(self) -> bool
+    pub(crate) fn is_out(self) -> bool
         ensures { result ≡ is_out self }
     {
         match self {
@@ -55,7 +55,7 @@ impl Status {
     }
 
     /// Whether they are in flight as this delivery.
-    pub fn is_out_as(self, delivery: u64) -> bool
+    pub(crate) fn is_out_as(self, delivery: u64) -> bool
         ensures { result ≡ is_out_as delivery self }
     {
         match self {
@@ -78,7 +78,7 @@ impl Status {
     }
 
     /// Whether they are in flight and were taken `timeout` ticks or more before `clock`.
-    pub fn is_due(self, timeout: u64, clock: u64) -> bool
+    pub(crate) fn is_due(self, timeout: u64, clock: u64) -> bool
         ensures { result ≡ is_due timeout clock self }
     {
         match self {

@@ -12,7 +12,7 @@ ghost use Rattle.rb_deliveries.specs.Taken.{AreWoven, AreKept, GoesLast, IsKeyOf
 ghost use Rattle.rb_deliveries.specs.Taken.{StandsLast, expired_key, held_in, held_under};
 ghost use Rattle.rb_deliveries.specs.Taken.{lists_key, nth_list, with_state};
 
-use crate::records::{are_lanes, is_due_at, is_out_at};
+use crate::records::{is_due_at, is_out_at};
 use crate::span::{Span, Status};
 use crate::ticket::{Held, Ticket};
 use link_lists::{Lane, Woven};
@@ -80,6 +80,14 @@ pub(crate) fn remove(records: &mut Woven<Held>, flying: u64, first: u64) -> u64
     rest
 }
 
+/// Removes all. The room for them stays.
+pub(crate) fn clear(records: &mut Woven<Held>)
+    requires { AreWoven records.old }
+    ensures { AreKept (Some records.new) 0 × (held_in records.new ≡ []) }
+{
+    records.clear();
+}
+
 /// Makes those that are due ready again. Their tickets have turns after `latest`, in the order of
 /// their deliveries' numbers, which are below `next`. Returns how many are in flight then.
 pub(crate) fn expire(
@@ -98,7 +106,7 @@ pub(crate) fn expire(
     ensures spans { held_in records.new
         ≡ map (expired_by timeout clock latest) (held_in records.old) }
 {
-    are_lanes(records);
+    records.valid();
     let mut rest = flying;
     let mut at = records.front(Lane::First, 1);
     for _ in 0..flying {
@@ -151,7 +159,7 @@ fn key_in_order(records: &Woven<Held>, first: u64) -> Option<usize>
     ensures { MatchOption result (NoSpanBegins first (held_in records.now))
         (IsKeyOf records.now first) }
 {
-    are_lanes(records);
+    records.valid();
     let mut at = records.front(Lane::Second, 0);
     for _ in 0..u64::MAX {
         let key = at?;

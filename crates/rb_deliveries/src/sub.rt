@@ -1,6 +1,6 @@
 //! One subscription: its numbers, its link and its lane.
 
-ghost use Rattle.std.specs.Prelude.{◌≡◌, ◌≤◌, OnSome, OnOk, OnErr};
+ghost use Rattle.std.specs.Prelude.{◌≡◌, ◌≤◌, OnOk, OnErr};
 ghost use Rattle.std.specs.List.{AllByRecursion};
 ghost use Rattle.rb_deliveries.specs.Lanes.{AreRising, AreLimited, HasNumbers, is_none_left};
 ghost use Rattle.rb_deliveries.specs.Lanes.{lane_floor, lane_spans, most_numbers, settled_lane};
@@ -18,11 +18,11 @@ pub const MOST_NUMBERS: u64 = 16_777_216;
 /// A subscription: the number after which it began, the greatest number delivered, its current
 /// link, whether it is closed, and its spans.
 #[derive(Debug, Drop)]
-pub struct Sub {
-    pub start: u64,
-    pub offered: u64,
-    pub link: u64,
-    pub closed: bool,
+pub(crate) struct Sub {
+    pub(crate) start: u64,
+    pub(crate) offered: u64,
+    pub(crate) link: u64,
+    pub(crate) closed: bool,
     pub(crate) lane: Lane,
 }
 
@@ -63,6 +63,7 @@ impl Sub {
         requires last { IsNewest number self.old.lane.held }
         ensures ok { OnOk result (self.new ≡ delivered_sub self.old span number tick) }
         ensures err { OnErr result (self.new ≡ self.old) }
+        ensures memory { OnErr result (span.first ≡ self.old.lane.next) }
     {
         self.lane.deliver(alloc, span, number, tick)?;
         self.offered = self.offered.max(span.last);
@@ -97,9 +98,8 @@ impl Sub {
     }
 
     /// The span that is in flight as this delivery.
-    pub fn out_as(&self, delivery: u64) -> Option<Span>
-        ensures value { result ≡ sub_out_as delivery self.now }
-        ensures rising { OnSome result (AreRising self.now.lane) }
+    pub(crate) fn out_as(&self, delivery: u64) -> Option<Span>
+        ensures { result ≡ sub_out_as delivery self.now }
     {
         if self.closed {
             return None;
@@ -108,28 +108,28 @@ impl Sub {
     }
 
     /// The number up to which everything is settled.
-    pub fn floor(&self) -> u64
+    pub(crate) fn floor(&self) -> u64
         ensures { result ≡ lane_floor self.now.lane }
     {
         self.lane.floor()
     }
 
     /// How many spans are in flight.
-    pub fn out(&self) -> u64
+    pub(crate) fn out(&self) -> u64
         ensures { result ≡ how_many_out (spans_of self.now.lane.held) }
     {
         self.lane.out()
     }
 
     /// Whether all its numbers up to `front`, the last one placed, are settled.
-    pub fn is_empty(&self, front: u64) -> bool
+    pub(crate) fn is_empty(&self, front: u64) -> bool
         ensures { result ≡ is_none_left self.now.lane front }
     {
         self.lane.is_empty(front)
     }
 
     /// The ready span with the lowest numbers, up to `batch` of them.
-    pub fn first_ready(&self, batch: u64, front: u64) -> Option<Span>
+    pub(crate) fn first_ready(&self, batch: u64, front: u64) -> Option<Span>
         requires { AreLimited batch front }
         ensures { result ≡ first_ready (lane_spans batch front self.now.lane) }
     {
@@ -161,14 +161,12 @@ impl Sub {
 
     /// How many spans are due.
     pub(crate) fn how_many_due(&self, timeout: u64, clock: u64) -> u64
-        ensures value { result ≡ due_in timeout clock self.now }
-        ensures rising { AreRising self.now.lane }
+        ensures { result ≡ due_in timeout clock self.now }
     {
-        let many = self.lane.how_many_due(timeout, clock);
         if self.closed {
             return 0;
         }
-        many
+        self.lane.how_many_due(timeout, clock)
     }
 
     /// Makes the spans that are due ready again, if it is open. Their tickets come after `latest`,
@@ -191,13 +189,12 @@ impl Sub {
         ensures { self.new ≡ reconnected_sub self.old cursor link ticket }
     {
         self.link = link;
-        self.lane = Lane::behind(cursor, ticket);
+        self.lane.restart(cursor, ticket);
     }
 
     /// Closes it and removes all its spans.
     pub(crate) fn close(&mut self)
-        ensures sub { self.new ≡ closed_sub self.old }
-        ensures rising { AreRising self.old.lane }
+        ensures { self.new ≡ closed_sub self.old }
     {
         self.closed = true;
         self.lane.clear();

@@ -213,11 +213,13 @@ impl Taken {
         self.flying = steps::expire(records, self.flying, timeout, clock, latest, next);
     }
 
-    /// Removes all.
+    /// Removes all. The room for them stays.
     pub(crate) fn clear(&mut self)
         ensures { self.new ≡ [] }
     {
-        self.records = None;
+        if let Some(records) = &mut self.records {
+            steps::clear(records);
+        }
         self.flying = 0;
     }
 }

@@ -10,9 +10,9 @@ use crate::span::Span;
 /// A place in the ready order: the front and the turn in which it was drawn. A placement's tickets
 /// have turn 0.
 #[derive(Clone, Copy, Debug, PartialEq, Eq)]
-pub struct Ticket {
-    pub front: u64,
-    pub turn: u64,
+pub(crate) struct Ticket {
+    pub(crate) front: u64,
+    pub(crate) turn: u64,
 }
 
 /// A span that was taken before, with its ticket for the time that it is ready.

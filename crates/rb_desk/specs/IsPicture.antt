@@ -7,20 +7,14 @@ use Rattle.rb_deliveries.specs.declared.span.Status.{Status}
 use Rattle.rb_deliveries.specs.declared.span.Status.TheVariants.{Ready, InFlight}
 use Rattle.rb_desk.specs.Limits.{Limits, first_out_of_range}
 use Rattle.rb_deliveries.specs.Spans.{is_ready, is_fresh, is_out, is_out_as, beginning}
-use Rattle.rb_deliveries.specs.Spans.{how_many_out, floor_of}
-use Rattle.rb_desk.specs.Picture.{Picture, Subscription}
-use Rattle.rb_desk.specs.Calls.{is_span}
+use Rattle.rb_deliveries.specs.Spans.{how_many_out, floor_of, SpansRise}
+use Rattle.rb_desk.specs.Picture.{Picture}
+use Rattle.rb_deliveries.specs.Picture.{Subscription}
+use Rattle.rb_deliveries.specs.Changes.{is_span}
 
 -- the limits are in their ranges
 abbrev pub AreInRange : Limits → Type 0
 AreInRange c = first_out_of_range c.batch c.window c.timeout c.capacity c.intake c.appliers ≡ None
-
--- spans rise within the numbers from low to high: each has a number, and begins after the one
--- before it ends
-abbrev pub SpansRise : ℕ → List Span → ℕ → Type 0
-SpansRise low [] high = low ≤ suc high
-SpansRise low (p ∷ rest) high = (low ≤ p.first) × (p.first ≤ p.last)
-    × SpansRise (suc p.last) rest high
 
 -- a number is in a span
 abbrev pub IsInSpan : ℕ → List Span → Type 0

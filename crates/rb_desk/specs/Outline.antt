@@ -4,7 +4,8 @@
 use Rattle.std.specs.Prelude.{◌≡◌, ℕ, suc, ◌<◌, ◌≤◌, Bool, true, false, List, [], ◌∷◌, ◌++◌, length}
 use Rattle.std.specs.Prelude.{map, Option, Some, None, slice_get, slice_set}
 use Rattle.rb_desk.specs.declared.delivery.Delivery.{Delivery}
-use Rattle.rb_desk.specs.Picture.{Picture, Subscription}
+use Rattle.rb_desk.specs.Picture.{Picture}
+use Rattle.rb_deliveries.specs.Picture.{Subscription}
 
 -- a subscription without its floor, its greatest number delivered and its spans
 pub record Member : Type 0 where

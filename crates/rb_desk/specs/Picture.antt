@@ -1,20 +1,8 @@
 -- The desk's state as a value: a picture, with its subscriptions and orders.
-use Rattle.std.specs.Prelude.{ℕ, Bool, List, [], Option, None, refl}
-use Rattle.std.specs.Coded.{Coded, code_by, coded×, coded_list, coded_ℕ, coded_bool, coded_option}
-use Rattle.rb_deliveries.specs.contracts.span.Span as span
-use Rattle.rb_deliveries.specs.declared.span.Span.{Span}
+use Rattle.std.specs.Prelude.{ℕ, List, [], Option, None, refl}
+use Rattle.std.specs.Coded.{Coded, code_by, coded×, coded_list, coded_ℕ, coded_option}
+use Rattle.rb_deliveries.specs.Picture.{DeliveryPicture, Subscription, subscription_code}
 use Rattle.rb_desk.specs.Limits.{Limits, limits_code}
-
--- A subscription: the number after which it began, the floor, the greatest number delivered, the
--- current link, whether it is closed, its spans in order. Everything up to the floor is settled,
--- and so is a number after it that is in no span.
-pub record Subscription : Type 0 where
-  pub start : ℕ
-  pub floor : ℕ
-  pub offered : ℕ
-  pub link : ℕ
-  pub closed : Bool
-  pub spans : List Span
 
 -- A picture. It has the limits, the front (the last number placed; at first 0), the closing number
 -- if the sequence is closed, and the clock. It has the next link, the next delivery's number, the
@@ -45,24 +33,28 @@ empty_picture limits = record {
   in_flight = [];
 }
 
--- subscriptions and pictures are stored as their parts
-abbrev pub subscription_code : Coded Subscription
-subscription_code =
-    code_by (ℕ × (ℕ × (ℕ × (ℕ × (Bool × List Span)))))
-    (coded× coded_ℕ
-    (coded× coded_ℕ
-    (coded× coded_ℕ (coded× coded_ℕ (coded× coded_bool (coded_list span.the_row.coded))))))
-    (λ s. (s.start, (s.floor, (s.offered, (s.link, (s.closed, s.spans))))))
-    (λ p. record {
-      start = p.0;
-      floor = p.1.0;
-      offered = p.1.1.0;
-      link = p.1.1.1.0;
-      closed = p.1.1.1.1.0;
-      spans = p.1.1.1.1.1;
-    })
-    (λ _. refl)
+-- the deliveries of a picture, and a picture with other deliveries
+abbrev pub deliveries_of : Picture → DeliveryPicture
+deliveries_of p = record {
+  batch = p.limits.batch;
+  window = p.limits.window;
+  front = p.front;
+  next_delivery = p.next_delivery;
+  subscriptions = p.subscriptions;
+  ready = p.ready;
+  in_flight = p.in_flight;
+}
 
+abbrev pub with_deliveries : Picture → DeliveryPicture → Picture
+with_deliveries p d = record p {
+  front = d.front;
+  next_delivery = d.next_delivery;
+  subscriptions = d.subscriptions;
+  ready = d.ready;
+  in_flight = d.in_flight;
+}
+
+-- pictures are stored as their parts
 abbrev pub picture_code : Coded Picture
 picture_code =
     code_by (Limits

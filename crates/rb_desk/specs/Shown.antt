@@ -1,151 +1,127 @@
--- The picture that a desk shows, computed from what it stores, and what `take` finds and delivers.
-use Rattle.std.specs.Prelude.{◌≡◌, ℕ, suc, ◌<◌, ◌≤◌, max, Bool, false, ◌&&◌, ◌==◌, None, List, map}
-use Rattle.std.specs.Prelude.{Option, Some, Result, Ok, Err, slice_get, slice_set, if◌then◌else◌}
-use Rattle.std.specs.Prelude.{⊤}
+-- The picture that a desk shows, computed from what it stores, what its calls find, and how many
+-- numbers a call draws.
+use Rattle.std.specs.Prelude.{◌≡◌, ◌≤◌, ◌<◌, ◌+◌, ◌*◌, ℕ, suc, false, true, Option, None, Some}
+use Rattle.std.specs.Prelude.{Result, Ok, Err, slice_get, refl, ⊤}
+use Rattle.std.specs.Coded.{Coded, code_by, coded×, coded_ℕ}
 use Rattle.rb_deliveries.specs.declared.span.Span.{Span}
-use Rattle.rb_deliveries.specs.declared.sub.Sub.{Sub}
-use Rattle.rb_deliveries.specs.Spans.{first_ready, how_many_out}
-use Rattle.rb_deliveries.specs.Lanes.{AreRising, lane_floor, lane_spans, most_numbers, spans_of}
-use Rattle.rb_deliveries.specs.Orders.{order, ready_at, out_at}
-use Rattle.rb_deliveries.specs.Subs.{sub_held, sub_out_as, delivered_sub}
-use Rattle.rb_desk.specs.declared.delivery.Delivery.{Delivery}
+use Rattle.rb_deliveries.specs.Changes.{has_room}
+use Rattle.rb_deliveries.specs.Picture.{DeliveryPicture, Subscription}
+use Rattle.rb_deliveries.specs.Lanes.{most_numbers}
+use Rattle.rb_deliveries.specs.Spans.{first_ready, out_as}
 use Rattle.rb_desk.specs.declared.refusal.DeskRefusal.{DeskRefusal}
-use Rattle.rb_desk.specs.declared.refusal.DeskRefusal.TheVariants.{Empty, Drained}
-use Rattle.rb_desk.specs.declared.refusal.DeskError.{DeskError}
-use Rattle.rb_desk.specs.declared.refusal.DeskError.TheVariants.{Memory}
-use Rattle.rb_desk.specs.Calls.{take, ack, nack, nack_opened, reconnect, unsubscribe}
-use Rattle.rb_desk.specs.Calls.{refused_call}
+use Rattle.rb_desk.specs.Calls.{take, ack, nack, nack_opened, reconnect, refused_call, unsubscribe}
 use Rattle.rb_desk.specs.Limits.{Limits}
-use Rattle.rb_desk.specs.Picture.{Picture, Subscription}
+use Rattle.rb_desk.specs.Picture.{Picture, picture_code}
 
-abbrev pub shown_sub : ℕ → ℕ → Sub → Subscription
-shown_sub batch front sub = record {
-  start = sub.start;
-  floor = lane_floor sub.lane;
-  offered = sub.offered;
-  link = sub.link;
-  closed = sub.closed;
-  spans = spans_of (sub_held batch front sub);
-}
+-- a board: its picture, and how many turns its deliveries drew
+pub record BoardSeen : Type 0 where
+  pub picture : Picture
+  pub turns : ℕ
 
-abbrev pub shown : Limits → ℕ → Option ℕ → ℕ → ℕ → ℕ → List Sub → Picture
-shown limits front closing clock next_link next_delivery subs = record {
+abbrev pub board_code : Coded BoardSeen
+board_code = code_by (Picture × ℕ) (coded× picture_code coded_ℕ)
+    (λ b. (b.picture, b.turns)) (λ p. record { picture = p.0; turns = p.1 }) (λ _. refl)
+
+abbrev pub shown : Limits → Option ℕ → ℕ → ℕ → DeliveryPicture → Picture
+shown limits closing clock next_link deliveries = record {
   limits = limits;
-  front = front;
+  front = deliveries.front;
   closing = closing;
   clock = clock;
   next_link = next_link;
-  next_delivery = next_delivery;
-  subscriptions = map (shown_sub limits.batch front) subs;
-  ready = order ready_at (map (sub_held limits.batch front) subs);
-  in_flight = order out_at (map (sub_held limits.batch front) subs);
+  next_delivery = deliveries.next_delivery;
+  subscriptions = deliveries.subscriptions;
+  ready = deliveries.ready;
+  in_flight = deliveries.in_flight;
 }
 
--- the limits are in their ranges, and the front within the capacity
-abbrev pub IsWithin : Limits → ℕ → Type 0
-IsWithin limits front = (1 ≤ limits.batch) × (limits.batch ≤ 256) × (limits.capacity ≤ most_numbers)
-    × (front ≤ limits.capacity)
+-- the deliveries have these limits, and the front is within the capacity
+pub record IsWithin (limits : Limits) (deliveries : DeliveryPicture) : Type 0 where
+  pub batch : deliveries.batch ≡ limits.batch
+  pub window : deliveries.window ≡ limits.window
+  pub capacity : limits.capacity ≤ most_numbers
+  pub front : deliveries.front ≤ limits.capacity
 
--- The subscription `found`, with number s, is delivered a span, as delivery `number`, at tick
--- `taken`. The fields say what the delivery is, and what the subscriptions, the next delivery's
--- number and the clock are after it.
-pub record DeliveredTo (subs : List Sub) (s : ℕ) (found : Sub) (span : Span) (number taken : ℕ)
-    (delivery : Delivery) (new : List Sub) (next clock : ℕ) : Type 0 where
-  pub delivery_is : delivery
-      ≡ record { number = number; sub = s; link = found.link; first = span.first; last = span.last }
-  pub subs_are : new ≡ slice_set subs s (delivered_sub found span number taken)
-  pub next_is : next ≡ suc number
-  pub clock_is : clock ≡ taken
+-- ---- numbers
 
--- What `deliver` returns and leaves. If memory runs out, nothing changes.
-abbrev pub WhenDelivered : Result Delivery DeskError → List Sub → ℕ → Span → ℕ → ℕ → ℕ
-    → List Sub → ℕ → ℕ → Type 0
-WhenDelivered (Ok delivery) subs s span number clock now new next tick = (found : Sub)
-    → slice_get subs s ≡ Some found
-    → DeliveredTo subs s found span number (max clock now) delivery new next tick
-WhenDelivered (Err why) subs s span number clock now new next tick =
-    (why ≡ Memory) × (new ≡ subs) × (next ≡ number) × (tick ≡ clock)
+-- Another link, another delivery and this many turns are left below 2^64.
+pub record AreLeft (many : ℕ) (board : BoardSeen) : Type 0 where
+  pub turns : board.turns + many < 18446744073709551616
+  pub links : suc board.picture.next_link < 18446744073709551616
+  pub deliveries : suc board.picture.next_delivery < 18446744073709551616
 
--- why nothing is delivered, by whether a span is left
-abbrev pub why_none : ℕ → Bool → ℕ → Option ℕ → DeskRefusal
-why_none front none_left cursor None = Empty front
-why_none front none_left cursor (Some last) =
-    if none_left && (cursor == last) then Drained last else Empty front
+-- a call draws at most so many turns, one link and one delivery's number
+pub record Draws (many : ℕ) (old new : BoardSeen) : Type 0 where
+  pub turns : new.turns ≤ old.turns + many
+  pub links : new.picture.next_link ≤ suc old.picture.next_link
+  pub deliveries : new.picture.next_delivery ≤ suc old.picture.next_delivery
+  pub front : new.picture.front ≤ suc old.picture.front
 
--- ---- what `take` finds
+-- After so many steps, which a journal has room for, the counters have at most these values. One
+-- step is kept for the closing.
+pub record IsTallied (board : BoardSeen) (steps : ℕ) : Type 0 where
+  pub few : steps ≤ 268435456
+  pub kept : board.picture.closing ≡ None → steps ≤ 268435455
+  pub turns : board.turns ≤ steps * 268435456
+  pub links : board.picture.next_link ≤ suc steps
+  pub deliveries : board.picture.next_delivery ≤ suc steps
+  pub front : board.picture.front ≤ steps
+
+-- ---- what the calls find
 
 -- The span is the one that `take` delivers: the first ready span of this subscription, which is
 -- open, has this link, and has room in its window.
-pub record IsToTake (window batch front : ℕ) (subs : List Sub) (s link : ℕ) (span : Span) : Type 0
-  where
-    pub sub : Sub
-    pub found : slice_get subs s ≡ Some sub
-    pub linked : sub.link ≡ link
-    pub is_open : sub.closed ≡ false
-    pub room : how_many_out (spans_of sub.lane.held) < window
-    pub first : first_ready (lane_spans batch front sub.lane) ≡ Some span
-    pub rising : AreRising sub.lane
+pub record IsToTake (p : Picture) (s link : ℕ) (span : Span) : Type 0 where
+  pub sub : Subscription
+  pub found : slice_get p.subscriptions s ≡ Some sub
+  pub linked : sub.link ≡ link
+  pub is_open : sub.closed ≡ false
+  pub room : has_room p.limits.window sub ≡ true
+  pub first : first_ready sub.spans ≡ Some span
 
--- What `take` finds: the span that it delivers, or why it refuses, whatever the clock and the next
--- numbers are.
-abbrev pub FindsToTake : Result Span DeskRefusal → Limits → ℕ → Option ℕ → List Sub → ℕ → ℕ → ℕ
-    → Type 0
-FindsToTake (Ok span) limits front closing subs s link cursor =
-    IsToTake limits.window limits.batch front subs s link span
-FindsToTake (Err why) limits front closing subs s link cursor =
-    (clock next_link next_delivery now : ℕ)
-    → take (shown limits front closing clock next_link next_delivery subs) s link cursor now
-    ≡ refused_call (shown limits front closing clock next_link next_delivery subs) why
-
--- ---- what the other calls find
+abbrev pub FindsToTake : Result Span DeskRefusal → Picture → ℕ → ℕ → ℕ → Type 0
+FindsToTake (Ok span) p s link cursor = IsToTake p s link span
+FindsToTake (Err why) p s link cursor = (now : ℕ) → take p s link cursor now ≡ refused_call p why
 
 -- The span is in flight to this subscription, which has this link, as the delivery of this number.
-pub record IsInFlight (subs : List Sub) (s link number : ℕ) (span : Span) : Type 0 where
-  pub sub : Sub
-  pub found : slice_get subs s ≡ Some sub
+pub record IsInFlight (p : Picture) (s link number : ℕ) (span : Span) : Type 0 where
+  pub sub : Subscription
+  pub found : slice_get p.subscriptions s ≡ Some sub
   pub linked : sub.link ≡ link
-  pub out : sub_out_as number sub ≡ Some span
-  pub rising : AreRising sub.lane
+  pub out : out_as number sub.spans ≡ Some span
+
+abbrev pub FindsInFlight : Result Span DeskRefusal → Picture → ℕ → ℕ → ℕ → Type 0
+FindsInFlight (Ok span) p s link number = IsInFlight p s link number span
+FindsInFlight (Err why) p s link number =
+    ((cursor : ℕ) → ack p s link number cursor ≡ refused_call p why)
+    × (nack p s link number ≡ refused_call p why)
+    × (nack_opened p s link number ≡ refused_call p why)
+
+-- the span is accepted up to its last number
+abbrev pub FindsToAck : Result Span DeskRefusal → Picture → ℕ → ℕ → ℕ → ℕ → Type 0
+FindsToAck (Ok span) p s link number cursor = IsInFlight p s link number span
+    × (span.last ≤ cursor)
+FindsToAck (Err why) p s link number cursor = ack p s link number cursor ≡ refused_call p why
 
 -- the subscription is open, and may continue after this cursor
-pub record MayReconnect (subs : List Sub) (s cursor : ℕ) : Type 0 where
-  pub sub : Sub
-  pub found : slice_get subs s ≡ Some sub
+pub record MayReconnect (p : Picture) (s cursor : ℕ) : Type 0 where
+  pub sub : Subscription
+  pub found : slice_get p.subscriptions s ≡ Some sub
   pub is_open : sub.closed ≡ false
-  pub from : lane_floor sub.lane ≤ cursor
+  pub from : sub.floor ≤ cursor
   pub to : cursor ≤ sub.offered
 
+abbrev pub FindsToReconnect : Result ⊤ DeskRefusal → Picture → ℕ → ℕ → Type 0
+FindsToReconnect (Ok done) p s cursor = MayReconnect p s cursor
+FindsToReconnect (Err why) p s cursor = reconnect p s cursor ≡ refused_call p why
+
 -- the subscription is open, and has this link
-pub record MayClose (subs : List Sub) (s link : ℕ) : Type 0 where
-  pub sub : Sub
-  pub found : slice_get subs s ≡ Some sub
+pub record MayClose (p : Picture) (s link : ℕ) : Type 0 where
+  pub sub : Subscription
+  pub found : slice_get p.subscriptions s ≡ Some sub
   pub linked : sub.link ≡ link
   pub is_open : sub.closed ≡ false
-  pub rising : AreRising sub.lane
 
--- What these calls find, or why they refuse, whatever the limits, the front, the clock and the next
--- numbers are.
-abbrev pub FindsInFlight : Result Span DeskRefusal → List Sub → ℕ → ℕ → ℕ → Type 0
-FindsInFlight (Ok span) subs s link number = IsInFlight subs s link number span
-FindsInFlight (Err why) subs s link number =
-    (limits : Limits) (front : ℕ) (closing : Option ℕ) (clock next_link next_delivery cursor : ℕ)
-    → (ack (shown limits front closing clock next_link next_delivery subs) s link number cursor
-    ≡ refused_call (shown limits front closing clock next_link next_delivery subs) why)
-    × (nack (shown limits front closing clock next_link next_delivery subs) s link number
-    ≡ refused_call (shown limits front closing clock next_link next_delivery subs) why)
-    × (nack_opened (shown limits front closing clock next_link next_delivery subs) s link number
-    ≡ refused_call (shown limits front closing clock next_link next_delivery subs) why)
-
-abbrev pub FindsToReconnect : Result ⊤ DeskRefusal → List Sub → ℕ → ℕ → Type 0
-FindsToReconnect (Ok done) subs s cursor = MayReconnect subs s cursor
-FindsToReconnect (Err why) subs s cursor =
-    (limits : Limits) (front : ℕ) (closing : Option ℕ) (clock next_link next_delivery : ℕ)
-    → reconnect (shown limits front closing clock next_link next_delivery subs) s cursor
-    ≡ refused_call (shown limits front closing clock next_link next_delivery subs) why
-
-abbrev pub FindsToClose : Result ⊤ DeskRefusal → List Sub → ℕ → ℕ → Type 0
-FindsToClose (Ok done) subs s link = MayClose subs s link
-FindsToClose (Err why) subs s link =
-    (limits : Limits) (front : ℕ) (closing : Option ℕ) (clock next_link next_delivery : ℕ)
-    → unsubscribe (shown limits front closing clock next_link next_delivery subs) s link
-    ≡ refused_call (shown limits front closing clock next_link next_delivery subs) why
+abbrev pub FindsToClose : Result ⊤ DeskRefusal → Picture → ℕ → ℕ → Type 0
+FindsToClose (Ok done) p s link = MayClose p s link
+FindsToClose (Err why) p s link = unsubscribe p s link ≡ refused_call p why

@@ -9,7 +9,8 @@ use Rattle.rb_desk.specs.declared.step.Step.TheVariants.{Subscribe, Take, TakeAn
 use Rattle.rb_desk.specs.declared.step.Step.TheVariants.{Expire, Reconnect, Unsubscribe, Place}
 use Rattle.rb_desk.specs.declared.step.Step.TheVariants.{Close, NackOpened}
 use Rattle.rb_desk.specs.Limits.{Limits}
-use Rattle.rb_desk.specs.Picture.{Picture, Subscription, empty_picture}
+use Rattle.rb_desk.specs.Picture.{Picture, empty_picture}
+use Rattle.rb_deliveries.specs.Picture.{Subscription}
 use Rattle.rb_desk.specs.Calls.{subscribe, take, take_any, ack, nack, expire, reconnect}
 use Rattle.rb_desk.specs.Calls.{unsubscribe, prepare, place, close, nack_opened}
 

@@ -9,60 +9,48 @@ use std::alloc::Global;
 use std::marker::Model;
 
 /// What a desk keeps beside its journal: which numbers wait for which subscriptions, and which are
-/// in flight. Contracts see its picture.
+/// in flight. Contracts see its picture, and how many turns were drawn.
 #[derive(Debug, Drop)]
 pub(crate) struct Board {
     pub(crate) config: Config,
-    pub(crate) front: u64,
     pub(crate) closing: Option<u64>,
     pub(crate) clock: u64,
     pub(crate) next_link: u64,
-    pub(crate) next_delivery: u64,
-    // how many tickets were drawn, placements not counted
-    pub(crate) turn: u64,
     pub(crate) deliveries: Deliveries,
 }
 
 impl Model for Board {
-    ghost use Rattle.std.specs.Prelude.{◌≡◌, ◌≤◌, length};
-    ghost use Rattle.std.specs.List.{AllByRecursion};
-    ghost use Rattle.rb_desk.specs.Picture.{Picture, picture_code};
-    ghost use Rattle.rb_desk.specs.Shown.{shown, IsWithin};
-    ghost use Rattle.rb_deliveries.specs.Subs.{Belongs};
+    ghost use Rattle.rb_desk.specs.Shown.{BoardSeen, IsWithin, board_code, shown};
 
-    ghost Value = { Picture };
+    ghost Value = { BoardSeen };
 
-    ghost coded = { picture_code };
+    ghost coded = { board_code };
 
-    ghost view = { λ d. shown d.config d.front d.closing d.clock d.next_link d.next_delivery
-        d.deliveries.subs };
+    ghost view = { λ d. record {
+      picture = shown d.config d.closing d.clock d.next_link d.deliveries.picture;
+      turns = d.deliveries.turns;
+    } };
 
-    ghost invariant = { λ d. IsWithin d.config d.front
-        × AllByRecursion (Belongs d.front d.turn d.next_delivery) d.deliveries.subs
-        × (length d.deliveries.subs ≤ 1024)
-        × (d.deliveries.window ≡ d.config.window) };
+    ghost invariant = { λ d. IsWithin d.config d.deliveries.picture };
 }
 
 impl Board {
     /// A new board, before any call.
     pub(crate) fn new(alloc: Global, config: Config) -> Board
-        ensures { result ≡ empty_picture config }
+        ensures { result ≡ record { picture = empty_picture config; turns = 0 } }
     {
         Board {
             config,
-            front: 0,
             closing: None,
             clock: 0,
             next_link: 1,
-            next_delivery: 1,
-            turn: 0,
-            deliveries: Deliveries::new(alloc, config.window()),
+            deliveries: Deliveries::new(alloc, config.batch(), config.window()),
         }
     }
 
     /// Its limits.
     pub(crate) fn config(&self) -> Config
-        ensures { result ≡ self.now.limits }
+        ensures { result ≡ self.now.picture.limits }
     {
         self.config
     }

@@ -62,8 +62,7 @@ pub enum DeskError {
     /// The call is refused.
     #[error("{0}")]
     Refused(DeskRefusal),
-    /// Memory ran out, or there is no number left to issue. It comes only if the call isn't
-    /// refused.
+    /// Memory ran out. It comes only if the call isn't refused.
     #[error("out of memory")]
     Memory,
 }

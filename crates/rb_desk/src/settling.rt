@@ -1,15 +1,13 @@
 //! Calls that end a delivery: acknowledge, negatively acknowledge, open, expire.
 
-ghost use Rattle.std.specs.Prelude.{◌≡◌, ◌<◌, ◌+◌, IfOk, OnErr};
+ghost use Rattle.std.specs.Prelude.{◌≡◌, OnErr};
 ghost use Rattle.rb_desk.specs.Calls.{ack, nack, nack_opened, expire};
 ghost use Rattle.rb_desk.specs.Answers.{DeskAnswers, call_refusal};
-ghost use Rattle.rb_desk.specs.Shown.{FindsInFlight};
+ghost use Rattle.rb_desk.specs.Shown.{AreLeft, Draws, FindsInFlight, FindsToAck};
 
 use crate::board::Board;
 use crate::refusal::{DeskError, DeskRefusal};
-use crate::subscribing::after;
-use rb_deliveries::{Deliveries, Span, Ticket};
-use std::alloc::AllocError;
+use rb_deliveries::Span;
 
 impl Board {
     /// Settles a delivery's numbers. The subscriber must have accepted all of them; `cursor` is the
@@ -24,14 +22,13 @@ impl Board {
         delivery: u64,
         cursor: u64,
     ) -> Result<u64, DeskRefusal>
-        ensures answer { ack self.old sub link delivery cursor ≡ (result, self.new) }
+        ensures answer { ack self.old.picture sub link delivery cursor
+            ≡ (result, self.new.picture) }
         ensures err { OnErr result (self.new ≡ self.old) }
+        ensures draws { Draws 0 self.old self.new }
     {
-        let span = in_flight(&self.deliveries, sub, link, delivery)?;
-        if cursor < span.last {
-            return Err(DeskRefusal::NotAccepted { cursor });
-        }
-        Ok(self.deliveries.settle(sub, span.first))
+        let span = self.to_ack(sub, link, delivery, cursor)?;
+        Ok(self.deliveries.ack(sub, span))
     }
 
     /// Why `ack` would refuse these numbers, or `None` where it would not.
@@ -42,39 +39,32 @@ impl Board {
         delivery: u64,
         cursor: u64,
     ) -> Option<DeskRefusal>
-        ensures { result ≡ call_refusal (ack self.now sub link delivery cursor).0 }
+        ensures { result ≡ call_refusal (ack self.now.picture sub link delivery cursor).0 }
     {
-        let span = match in_flight(&self.deliveries, sub, link, delivery) {
-            Err(why) => return Some(why),
-            Ok(span) => span,
-        };
-        if cursor < span.last {
-            return Some(DeskRefusal::NotAccepted { cursor });
-        }
-        None
+        self.to_ack(sub, link, delivery, cursor).err()
     }
 
     /// Negatively acknowledges a delivery: its numbers are ready again, after all that are ready.
+    /// Does not allocate.
     ///
     /// Refuses `NoSuch`, `StaleLink`, `NotInFlight`.
     #[tactic(auto, unfolding(crate::specs::Calls::nack))]
-    pub(crate) fn nack(&mut self, sub: u64, link: u64, delivery: u64) -> Result<(), DeskError>
-        ensures { DeskAnswers result (nack self.old sub link delivery) self.old self.new }
+    pub(crate) fn nack(&mut self, sub: u64, link: u64, delivery: u64) -> Result<(), DeskRefusal>
+        requires { AreLeft 1 self.old }
+        ensures answer { nack self.old.picture sub link delivery ≡ (result, self.new.picture) }
+        ensures err { OnErr result (self.new ≡ self.old) }
+        ensures draws { Draws 1 self.old self.new }
     {
-        let span = in_flight(&self.deliveries, sub, link, delivery)?;
-        let front = self.front;
-        let turn = after(self.turn)?;
-        let ticket = Ticket { front, turn };
-        self.deliveries.give_back(sub, span.first, ticket);
-        self.turn = turn;
+        let span = self.in_flight(sub, link, delivery)?;
+        self.deliveries.nack(sub, span);
         Ok(())
     }
 
     /// Why `nack` would refuse these numbers, or `None` where it would not.
     pub(crate) fn refuses_nack(&self, sub: u64, link: u64, delivery: u64) -> Option<DeskRefusal>
-        ensures { result ≡ call_refusal (nack self.now sub link delivery).0 }
+        ensures { result ≡ call_refusal (nack self.now.picture sub link delivery).0 }
     {
-        in_flight(&self.deliveries, sub, link, delivery).err()
+        self.in_flight(sub, link, delivery).err()
     }
 
     /// Negatively acknowledges a delivery and opens it: each of its numbers is ready again, alone,
@@ -88,17 +78,14 @@ impl Board {
         link: u64,
         delivery: u64,
     ) -> Result<u64, DeskError>
-        ensures { DeskAnswers result (nack_opened self.old sub link delivery) self.old self.new }
+        requires { AreLeft self.old.picture.front self.old }
+        ensures answer { DeskAnswers result (nack_opened self.old.picture sub link delivery)
+            self.old.picture self.new.picture }
+        ensures err { OnErr result (self.new ≡ self.old) }
+        ensures draws { Draws self.old.picture.front self.old self.new }
     {
-        let span = in_flight(&self.deliveries, sub, link, delivery)?;
-        let turn = turn_behind(self.turn, self.front)?;
-        let latest = Ticket {
-            front: self.front,
-            turn: self.turn,
-        };
-        self.deliveries.open_up(sub, span.first, latest)?;
-        self.turn = turn;
-        Ok(span.last - span.first + 1)
+        let span = self.in_flight(sub, link, delivery)?;
+        Ok(self.deliveries.nack_opened(sub, span)?)
     }
 
     /// Why `nack_opened` would refuse these numbers, or `None` where it would not.
@@ -108,71 +95,55 @@ impl Board {
         link: u64,
         delivery: u64,
     ) -> Option<DeskRefusal>
-        ensures { result ≡ call_refusal (nack_opened self.now sub link delivery).0 }
+        ensures { result ≡ call_refusal (nack_opened self.now.picture sub link delivery).0 }
     {
-        in_flight(&self.deliveries, sub, link, delivery).err()
+        self.in_flight(sub, link, delivery).err()
     }
 
     /// Expires every delivery that has been out for `timeout` ticks or longer, in the order they
     /// were taken: its numbers are ready again. `now` is a tick of the caller's clock; the desk's
     /// clock is the greatest tick so far. Returns how many deliveries expired.
     ///
-    /// Does not allocate, and refuses nothing. Returns `AllocError` only where a delivery expires
-    /// and no more turns are left below 2^64 than deliveries were made so far. It does not change
-    /// the desk then.
+    /// Does not allocate, and refuses nothing.
     #[tactic(auto, unfolding(crate::specs::Calls::expire))]
-    pub(crate) fn expire(&mut self, now: u64) -> Result<u64, AllocError>
-        ensures ok { IfOk result (λ many. expire self.old now ≡ (many, self.new)) }
-        ensures err { OnErr result (self.new ≡ self.old) }
-        ensures memory { OnErr result (0 < (expire self.old now).0) }
+    pub(crate) fn expire(&mut self, now: u64) -> u64
+        requires { AreLeft self.old.picture.next_delivery self.old }
+        ensures answer { expire self.old.picture now ≡ (result, self.new.picture) }
+        ensures draws { Draws self.old.picture.next_delivery self.old self.new }
     {
         let clock = self.clock.max(now);
-        let timeout = self.config.timeout();
-        if !self.deliveries.any_due(timeout, clock) {
-            self.clock = clock;
-            return Ok(0);
-        }
-        let next = self.next_delivery;
-        let turn = turn_behind(self.turn, next)?;
-        let latest = Ticket {
-            front: self.front,
-            turn: self.turn,
-        };
-        let many = self.deliveries.expire(timeout, clock, latest, next);
         self.clock = clock;
-        self.turn = turn;
-        Ok(many)
+        self.deliveries.expire(self.config.timeout(), clock)
     }
 }
 
-// the span that is in flight to the subscription as this delivery, or why there is none
-#[tactic(auto, unfolding(crate::specs::Calls::ack, crate::specs::Calls::nack, crate::specs::Calls::nack_opened))]
-fn in_flight(
-    deliveries: &Deliveries,
-    sub: u64,
-    link: u64,
-    delivery: u64,
-) -> Result<Span, DeskRefusal>
-    ensures { FindsInFlight result deliveries.now.subs sub link delivery }
-{
-    let Some(found) = deliveries.get(sub) else {
-        return Err(DeskRefusal::NoSuch);
-    };
-    if found.link != link {
-        return Err(DeskRefusal::StaleLink);
+impl Board {
+    // the span that is in flight to the subscription as this delivery, or why there is none
+    #[tactic(auto, unfolding(crate::specs::Calls::ack, crate::specs::Calls::nack, crate::specs::Calls::nack_opened))]
+    fn in_flight(&self, sub: u64, link: u64, delivery: u64) -> Result<Span, DeskRefusal>
+        ensures { FindsInFlight result self.now.picture sub link delivery }
+    {
+        let Some(found) = self.deliveries.get(sub) else {
+            return Err(DeskRefusal::NoSuch);
+        };
+        if found.link() != link {
+            return Err(DeskRefusal::StaleLink);
+        }
+        match found.out_as(delivery) {
+            Some(span) => Ok(span),
+            None => Err(DeskRefusal::NotInFlight),
+        }
     }
-    match found.out_as(delivery) {
-        Some(span) => Ok(span),
-        None => Err(DeskRefusal::NotInFlight),
-    }
-}
 
-// the last turn that tickets with numbers up to `next` may take
-fn turn_behind(turn: u64, next: u64) -> Result<u64, AllocError>
-    ensures { IfOk result (λ t. t ≡ turn + next) }
-{
-    match turn.checked_add(next) {
-        Some(turn) => Ok(turn),
-        None => Err(AllocError),
+    // the span that `ack` settles, or why it refuses
+    #[tactic(auto, unfolding(crate::specs::Calls::ack))]
+    fn to_ack(&self, sub: u64, link: u64, delivery: u64, cursor: u64) -> Result<Span, DeskRefusal>
+        ensures { FindsToAck result self.now.picture sub link delivery cursor }
+    {
+        let span = self.in_flight(sub, link, delivery)?;
+        if cursor < span.last {
+            return Err(DeskRefusal::NotAccepted { cursor });
+        }
+        Ok(span)
     }
 }

@@ -1,18 +1,18 @@
 //! Calls that deliver numbers to subscriptions.
 
-ghost use Rattle.std.specs.Prelude.{◌≡◌, ◌<◌, ℕ, length};
-ghost use Rattle.rb_desk.specs.Calls.{take, take_any};
+ghost use Rattle.std.specs.Prelude.{◌≡◌, ℕ, max, OnErr, OnOk, Some, slice_get};
+ghost use Rattle.rb_deliveries.specs.Changes.{MayDeliver};
+ghost use Rattle.rb_deliveries.specs.Picture.{Subscription};
+ghost use Rattle.rb_desk.specs.Calls.{delivered_picture, delivery_from, take, take_any};
 ghost use Rattle.rb_desk.specs.Answers.{DeskAnswers, call_refusal};
-ghost use Rattle.rb_desk.specs.Shown.{why_none, WhenDelivered, FindsToTake};
-ghost use Rattle.rb_deliveries.specs.Lanes.{AreLimited, HasNumbers};
-ghost use Rattle.rb_deliveries.specs.Subs.{IsNewestAt};
+ghost use Rattle.rb_desk.specs.Picture.{deliveries_of};
+ghost use Rattle.rb_desk.specs.Shown.{AreLeft, Draws, FindsToTake};
 
 use crate::board::Board;
-use crate::config::Config;
 use crate::delivery::Delivery;
 use crate::refusal::{DeskError, DeskRefusal};
-use crate::subscribing::after;
-use rb_deliveries::{Deliveries, Span};
+use rb_deliveries::Span;
+use std::alloc::AllocError;
 
 impl Board {
     /// Delivers a subscription's ready span with the lowest numbers; it is in flight from now on.
@@ -29,42 +29,22 @@ impl Board {
         cursor: u64,
         now: u64,
     ) -> Result<Delivery, DeskError>
-        ensures { DeskAnswers result (take self.old sub link cursor now) self.old self.new }
+        requires { AreLeft 0 self.old }
+        ensures answer { DeskAnswers result (take self.old.picture sub link cursor now)
+            self.old.picture self.new.picture }
+        ensures err { OnErr result (self.new ≡ self.old) }
+        ensures draws { Draws 0 self.old self.new }
     {
-        let span = to_take(
-            self.config,
-            self.front,
-            self.closing,
-            &self.deliveries,
-            sub,
-            link,
-            cursor,
-        )?;
-        deliver(
-            &mut self.deliveries,
-            &mut self.next_delivery,
-            &mut self.clock,
-            sub,
-            span,
-            now,
-        )
+        let span = self.to_take(sub, link, cursor)?;
+        Ok(self.deliver(sub, link, span, now)?)
     }
 
     /// Why `take` would refuse these numbers, or `None` where it would not. Does not change the
     /// desk.
     pub(crate) fn refuses_take(&self, sub: u64, link: u64, cursor: u64) -> Option<DeskRefusal>
-        ensures { (now : ℕ) → result ≡ call_refusal (take self.now sub link cursor now).0 }
+        ensures { (now : ℕ) → result ≡ call_refusal (take self.now.picture sub link cursor now).0 }
     {
-        to_take(
-            self.config,
-            self.front,
-            self.closing,
-            &self.deliveries,
-            sub,
-            link,
-            cursor,
-        )
-        .err()
+        self.to_take(sub, link, cursor).err()
     }
 
     /// Delivers the first span in the ready order whose subscription has room in its window. `now`
@@ -73,101 +53,84 @@ impl Board {
     /// Refuses `Empty` if there is none.
     #[tactic(auto, unfolding(crate::specs::Calls::take_any))]
     pub(crate) fn take_any(&mut self, now: u64) -> Result<Delivery, DeskError>
-        ensures { DeskAnswers result (take_any self.old now) self.old self.new }
+        requires { AreLeft 0 self.old }
+        ensures answer { DeskAnswers result (take_any self.old.picture now)
+            self.old.picture self.new.picture }
+        ensures err { OnErr result (self.new ≡ self.old) }
+        ensures draws { Draws 0 self.old self.new }
     {
-        let front = self.front;
-        let batch = self.config.batch();
-        let Some((sub, span)) = self.deliveries.first_to_deliver(batch, front) else {
+        let Some((sub, span)) = self.deliveries.first_of_all() else {
+            let front = self.deliveries.front();
             return Err(DeskRefusal::Empty { front }.into());
         };
-        deliver(
-            &mut self.deliveries,
-            &mut self.next_delivery,
-            &mut self.clock,
-            sub,
-            span,
-            now,
-        )
+        let link = match self.deliveries.get(sub) {
+            Some(found) => found.link(),
+            None => unreachable!(),
+        };
+        Ok(self.deliver(sub, link, span, now)?)
     }
 
     /// Why `take_any` would refuse, or `None` where it would not. Does not change the desk.
     pub(crate) fn refuses_take_any(&self) -> Option<DeskRefusal>
-        ensures { (now : ℕ) → result ≡ call_refusal (take_any self.now now).0 }
+        ensures { (now : ℕ) → result ≡ call_refusal (take_any self.now.picture now).0 }
     {
-        let front = self.front;
-        let batch = self.config.batch();
-        match self.deliveries.first_to_deliver(batch, front) {
+        match self.deliveries.first_of_all() {
             Some(_) => None,
-            None => Some(DeskRefusal::Empty { front }),
+            None => Some(DeskRefusal::Empty {
+                front: self.deliveries.front(),
+            }),
         }
     }
 }
 
-// The span that `take` delivers, or why it refuses.
-#[tactic(auto, unfolding(crate::specs::Calls::take))]
-fn to_take(
-    config: Config,
-    front: u64,
-    closing: Option<u64>,
-    deliveries: &Deliveries,
-    sub: u64,
-    link: u64,
-    cursor: u64,
-) -> Result<Span, DeskRefusal>
-    requires { AreLimited config.batch front }
-    ensures { FindsToTake result config front closing deliveries.now.subs sub link
-        cursor }
-{
-    let Some(found) = deliveries.get(sub) else {
-        return Err(DeskRefusal::NoSuch);
-    };
-    if found.link != link {
-        return Err(DeskRefusal::StaleLink);
-    }
-    if found.closed {
-        return Err(DeskRefusal::Closed);
-    }
-    if found.out() >= config.window() {
-        return Err(DeskRefusal::WindowFull);
-    }
-    match found.first_ready(config.batch(), front) {
-        Some(span) => Ok(span),
-        None => Err(none_ready(closing, front, found.is_empty(front), cursor)),
-    }
-}
-
-// Delivers a span of the subscription with this number: it is in flight as the next delivery.
-fn deliver(
-    deliveries: &mut Deliveries,
-    next_delivery: &mut u64,
-    clock: &mut u64,
-    sub: u64,
-    span: Span,
-    now: u64,
-) -> Result<Delivery, DeskError>
-    requires span { (sub < length deliveries.old.subs) × HasNumbers span }
-    requires last { IsNewestAt deliveries.old.subs sub next_delivery.old }
-    ensures delivered { WhenDelivered result deliveries.old.subs sub span next_delivery.old
-        clock.old now deliveries.new.subs next_delivery.new clock.new }
-    ensures window { deliveries.new.window ≡ deliveries.old.window }
-{
-    let number = *next_delivery;
-    let next = after(number)?;
-    let taken = (*clock).max(now);
-    let link = deliveries.deliver(sub, span, number, taken)?;
-    *next_delivery = next;
-    *clock = taken;
-    Ok(Delivery::of(number, sub, link, span))
-}
-
-// why nothing is delivered
-fn none_ready(closing: Option<u64>, front: u64, is_empty: bool, cursor: u64) -> DeskRefusal
-    ensures { result ≡ why_none front is_empty cursor closing }
-{
-    if let Some(last) = closing {
-        if is_empty && cursor == last {
-            return DeskRefusal::Drained { last };
+impl Board {
+    // the span that `take` delivers, or why it refuses
+    #[tactic(auto, unfolding(crate::specs::Calls::take))]
+    fn to_take(&self, sub: u64, link: u64, cursor: u64) -> Result<Span, DeskRefusal>
+        ensures { FindsToTake result self.now.picture sub link cursor }
+    {
+        let Some(found) = self.deliveries.get(sub) else {
+            return Err(DeskRefusal::NoSuch);
+        };
+        if found.link() != link {
+            return Err(DeskRefusal::StaleLink);
         }
+        if found.closed() {
+            return Err(DeskRefusal::Closed);
+        }
+        if found.in_flight() >= self.config.window() {
+            return Err(DeskRefusal::WindowFull);
+        }
+        if let Some(span) = found.first_ready() {
+            return Ok(span);
+        }
+        if let Some(last) = self.closing {
+            if found.is_empty() && cursor == last {
+                return Err(DeskRefusal::Drained { last });
+            }
+        }
+        Err(DeskRefusal::Empty {
+            front: self.deliveries.front(),
+        })
     }
-    DeskRefusal::Empty { front }
+
+    // Delivers a span to the subscription with this number, which has this link.
+    fn deliver(&mut self, sub: u64, link: u64, span: Span, now: u64) -> Result<Delivery, AllocError>
+        requires left { AreLeft 0 self.old }
+        requires may { MayDeliver (deliveries_of self.old.picture) sub span }
+        requires linked { (q : Subscription) → slice_get self.old.picture.subscriptions sub ≡ Some q
+            → link ≡ q.link }
+        ensures ok { (delivery : Delivery) → result ≡ Ok delivery
+            → (q : Subscription) → slice_get self.old.picture.subscriptions sub ≡ Some q
+            → (delivery ≡ delivery_from self.old.picture sub q span)
+            × (self.new.picture ≡ delivered_picture self.old.picture sub q span
+            (max self.old.picture.clock now)) }
+        ensures err { OnErr result (self.new ≡ self.old) }
+        ensures draws { Draws 0 self.old self.new }
+    {
+        let tick = self.clock.max(now);
+        let number = self.deliveries.deliver(sub, span, tick)?;
+        self.clock = tick;
+        Ok(Delivery::of(number, sub, link, span))
+    }
 }

@@ -1,13 +1,12 @@
 //! `TalliedBoard`: a board that counts its steps, and makes no more than a journal holds.
 
-ghost use Rattle.std.specs.Prelude.{◌≡◌, ◌<◌, ◌≤◌, ◌+◌, ℕ, length, Ok, Err, IsOk, OnOk, OnErr};
+ghost use Rattle.std.specs.Prelude.{◌≡◌, ◌≤◌, ◌+◌, ℕ, length, Ok, IsOk, OnOk, OnErr};
 ghost use Rattle.rb_desk.specs.Answers.{call_refusal};
 ghost use Rattle.rb_desk.specs.Calls.{subscribe, take, take_any, ack, nack, expire, reconnect};
 ghost use Rattle.rb_desk.specs.Calls.{unsubscribe, prepare, place, close, nack_opened};
 ghost use Rattle.rb_desk.specs.Journaled.{TallyAnswers, answer_after, closing_steps, is_full};
 ghost use Rattle.rb_desk.specs.Journaled.{tallied};
 ghost use Rattle.rb_desk.specs.Picture.{empty_picture};
-ghost use Rattle.rb_desk.specs.declared.refusal.DeskError.TheVariants.{Memory};
 
 use crate::board::Board;
 use crate::config::Config;
@@ -29,17 +28,16 @@ pub struct TalliedBoard {
 }
 
 impl Model for TalliedBoard {
-    ghost use Rattle.std.specs.Prelude.{◌≡◌, ◌≤◌, None};
     ghost use Rattle.rb_desk.specs.Journaled.{TalliedPicture, tallied_code};
+    ghost use Rattle.rb_desk.specs.Shown.{IsTallied};
 
     ghost Value = { TalliedPicture };
 
     ghost coded = { tallied_code };
 
-    ghost view = { λ b. record { picture = b.board; steps = b.steps } };
+    ghost view = { λ b. record { picture = b.board.picture; steps = b.steps } };
 
-    ghost invariant = { λ b. (b.steps ≤ 268435456)
-        × (b.board.closing ≡ None → b.steps ≤ 268435455) };
+    ghost invariant = { λ b. IsTallied b.board b.steps };
 }
 
 impl TalliedBoard {
@@ -230,10 +228,13 @@ impl TalliedBoard {
         self.board.refuses_ack(sub, link, delivery, cursor)
     }
 
-    /// Negatively acknowledges a delivery.
-    pub fn nack(&mut self, sub: u64, link: u64, delivery: u64) -> Result<(), DeskError>
-        ensures { TallyAnswers result (nack self.old.picture sub link delivery)
-            self.old self.new }
+    /// Negatively acknowledges a delivery. Does not allocate.
+    pub fn nack(&mut self, sub: u64, link: u64, delivery: u64) -> Result<(), DeskRefusal>
+        ensures answer { result
+            ≡ answer_after self.old.steps (nack self.old.picture sub link delivery).0 }
+        ensures ok { OnOk result (self.new
+            ≡ tallied self.old (nack self.old.picture sub link delivery).1) }
+        ensures err { OnErr result (self.new ≡ self.old) }
     {
         self.begin()?;
         self.board.nack(sub, link, delivery)?;
@@ -274,22 +275,27 @@ impl TalliedBoard {
         self.board.refuses_nack_opened(sub, link, delivery)
     }
 
-    /// Expires every delivery that has been out for the timeout or longer.
-    pub fn expire(&mut self, now: u64) -> Result<u64, DeskError>
-        ensures answer { TallyAnswers result
-            (Ok (expire self.old.picture now).0, (expire self.old.picture now).1)
-            self.old self.new }
-        ensures memory { result ≡ Err Memory → 0 < (expire self.old.picture now).0 }
+    /// Expires every delivery that has been out for the timeout or longer. Does not allocate.
+    pub fn expire(&mut self, now: u64) -> Result<u64, DeskRefusal>
+        ensures answer { result
+            ≡ answer_after self.old.steps (Ok (expire self.old.picture now).0) }
+        ensures ok { OnOk result (self.new
+            ≡ tallied self.old (expire self.old.picture now).1) }
+        ensures err { OnErr result (self.new ≡ self.old) }
     {
         self.begin()?;
-        let many = self.board.expire(now)?;
+        let many = self.board.expire(now);
         self.steps += 1;
         Ok(many)
     }
 
-    /// Continues a subscription after `cursor`, under a new link.
-    pub fn reconnect(&mut self, sub: u64, cursor: u64) -> Result<u64, DeskError>
-        ensures { TallyAnswers result (reconnect self.old.picture sub cursor) self.old self.new }
+    /// Continues a subscription after `cursor`, under a new link. Does not allocate.
+    pub fn reconnect(&mut self, sub: u64, cursor: u64) -> Result<u64, DeskRefusal>
+        ensures answer { result
+            ≡ answer_after self.old.steps (reconnect self.old.picture sub cursor).0 }
+        ensures ok { OnOk result (self.new
+            ≡ tallied self.old (reconnect self.old.picture sub cursor).1) }
+        ensures err { OnErr result (self.new ≡ self.old) }
     {
         self.begin()?;
         let link = self.board.reconnect(sub, cursor)?;

@@ -29,13 +29,13 @@ Lines, each with its answer when it is done:
   close               closed LAST         nothing is sent or placed any more
   subscribe START     subscriber S link L a new subscription, after number START
   take S NOW          delivery D S N M    its next entries, N to M, at tick NOW
-  takeany NOW         delivery D S N M    the entries that wait longest, of any one
+  takeany NOW         delivery D S N M    the first ready entries of any subscription
   accept D            accepted CURSOR     the changes of a delivery are applied
   crash D 0|1         crashed CURSOR      a durable accept falls: undone (0) or kept (1)
   ack D               floor F             settled; so is everything up to F
-  nack D              ok                  it is returned
-  nackopen D          opened COUNT        it is returned, each of its entries alone
-  expire NOW          expired COUNT       what is out too long at tick NOW is returned
+  nack D              ok                  the delivery is given back
+  nackopen D          opened COUNT        it is given back, each of its entries alone
+  expire NOW          expired COUNT       deliveries out too long at tick NOW are given back
   reconnect S CURSOR  link L              a subscription goes on after CURSOR
   resume S            link L              one that has fallen goes on after its cursor
   unsubscribe S       ok                  a subscription ends

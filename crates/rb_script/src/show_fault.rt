@@ -19,7 +19,7 @@ pub enum ShowFault {
     #[error("write fault: {0}")]
     Write(io::Error),
     /// The line with this number, from 1, begins with `row` and has no row of a table.
-    #[error("line {0}: not a row of a table")]
+    #[error("line {0}: not a row of a table before it (the script's table lines go first)")]
     Row(u64),
     /// Memory ran out.
     #[error("out of memory")]

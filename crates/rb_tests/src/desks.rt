@@ -11,6 +11,108 @@ fn limits() -> Result<Config, ConfigFault> {
     Config::new(2, 2, 10, 4, 1, 1)
 }
 
+// Calls, each with its answer and how many steps the journal has after it.
+const EACH_CALL: &str = "\
+place = ok 1
+place = ok 2
+place = ok 3
+take 0 1 0 1 = NoSuch 3
+subscribe 4 = StartAhead { front: 3 } 3
+subscribe 0 = ok 4
+take 0 2 0 1 = StaleLink 4
+take 0 1 0 1 = ok 5
+take 0 1 0 1 = ok 6
+take 0 1 0 1 = WindowFull 6
+ack 0 1 3 2 = NotInFlight 6
+ack 0 1 1 1 = NotAccepted { cursor: 1 } 6
+ack 0 1 1 2 = ok 7
+nack 0 2 2 = StaleLink 7
+nack 0 1 2 = ok 8
+any 2 = ok 9
+any 2 = Empty { front: 3 } 9
+open 0 1 2 = NotInFlight 9
+open 0 1 3 = ok 10
+any 2 = ok 11
+expire 12 = ok 12
+reconnect 0 1 = BadCursor { floor: 2, offered: 3 } 12
+reconnect 0 3 = ok 13
+place = ok 14
+place = SequenceFull 14
+close = ok 15
+close = ok 15
+place = Closed 15
+unsubscribe 0 1 = StaleLink 15
+unsubscribe 0 2 = ok 16
+unsubscribe 0 2 = Closed 16";
+
+// Deliveries of another subscription, under another link, that were never given, that expired, and
+// that are settled.
+const FOREIGN: &str = "\
+place = ok 1
+subscribe 0 = ok 2
+subscribe 0 = ok 3
+take 1 2 0 1 = ok 4
+ack 0 1 1 0 = NotInFlight 4
+nack 0 1 1 = NotInFlight 4
+open 0 1 1 = NotInFlight 4
+ack 1 1 1 1 = StaleLink 4
+nack 1 1 1 = StaleLink 4
+open 1 1 1 = StaleLink 4
+ack 7 1 1 1 = NoSuch 4
+nack 7 1 1 = NoSuch 4
+open 7 1 1 = NoSuch 4
+ack 1 2 0 1 = NotInFlight 4
+ack 1 2 2 1 = NotInFlight 4
+nack 1 2 18446744073709551615 = NotInFlight 4
+open 1 2 65537 = NotInFlight 4
+expire 11 = ok 5
+ack 1 2 1 1 = NotInFlight 5
+nack 1 2 1 = NotInFlight 5
+open 1 2 1 = NotInFlight 5
+take 1 2 0 11 = ok 6
+ack 1 2 2 0 = NotAccepted { cursor: 0 } 6
+ack 1 2 2 1 = ok 7
+ack 1 2 2 1 = NotInFlight 7
+nack 1 2 2 = NotInFlight 7
+open 1 2 2 = NotInFlight 7
+reconnect 1 1 = ok 8
+ack 1 2 2 1 = StaleLink 8
+unsubscribe 1 3 = ok 9
+ack 1 3 2 1 = NotInFlight 9";
+
+// the call of a line: its name, then its numbers
+fn step_of(line: &str) -> Option<Step> {
+    let mut words = line.split_ascii_whitespace();
+    let name = words.next()?;
+    let mut numbers = [0_u64; 4];
+    for (number, word) in numbers.iter_mut().zip(words) {
+        *number = word.parse().ok()?;
+    }
+    let [first, link, third, fourth] = numbers;
+    Some(match name {
+        "subscribe" => Step::Subscribe { start: first },
+        "take" => Step::Take {
+            sub: first,
+            link,
+            cursor: third,
+            now: fourth,
+        },
+        "any" => Step::TakeAny { now: first },
+        "ack" => ack(first, link, third, fourth),
+        "nack" => nack(first, link, third),
+        "open" => nack_opened(first, link, third),
+        "expire" => Step::Expire { now: first },
+        "reconnect" => Step::Reconnect {
+            sub: first,
+            cursor: link,
+        },
+        "unsubscribe" => Step::Unsubscribe { sub: first, link },
+        "place" => Step::Place,
+        "close" => Step::Close,
+        _ => return None,
+    })
+}
+
 // Makes the call of this step.
 fn call(alloc: Global, desk: &mut Desk, step: Step) -> Result<(), DeskError> {
     match step {
@@ -92,116 +194,118 @@ fn made(
     Err(AllocError)
 }
 
-fn take(link: u64, cursor: u64) -> Step {
+fn take(sub: u64, link: u64, cursor: u64) -> Step {
     Step::Take {
-        sub: 0,
+        sub,
         link,
         cursor,
         now: 1,
     }
 }
 
-fn ack(delivery: u64, cursor: u64) -> Step {
+fn ack(sub: u64, link: u64, delivery: u64, cursor: u64) -> Step {
     Step::Ack {
-        sub: 0,
-        link: 1,
+        sub,
+        link,
         delivery,
         cursor,
     }
 }
 
-fn nack(link: u64) -> Step {
+fn nack(sub: u64, link: u64, delivery: u64) -> Step {
     Step::Nack {
-        sub: 0,
+        sub,
         link,
-        delivery: 2,
-    }
-}
-
-fn nack_opened(delivery: u64) -> Step {
-    Step::NackOpened {
-        sub: 0,
-        link: 1,
         delivery,
     }
 }
 
-#[test]
-fn each_call_is_a_step(rt: HostRuntime) -> Result<(), Fail> {
-    let alloc = rt.alloc();
+fn nack_opened(sub: u64, link: u64, delivery: u64) -> Step {
+    Step::NackOpened {
+        sub,
+        link,
+        delivery,
+    }
+}
+
+// A desk of these limits answers these calls so.
+fn answers(rt: &impl Abort, alloc: Global, lines: &str) -> Result<(), Fail> {
     let mut desk = Desk::new(alloc, limits()?)?;
-    // the step, why it is refused, and how many steps the journal has after it
-    let table = [
-        (Step::Place, None, 1),
-        (Step::Place, None, 2),
-        (Step::Place, None, 3),
-        (take(1, 0), Some(DeskRefusal::NoSuch), 3),
-        (
-            Step::Subscribe { start: 4 },
-            Some(DeskRefusal::StartAhead { front: 3 }),
-            3,
-        ),
-        (Step::Subscribe { start: 0 }, None, 4),
-        (take(2, 0), Some(DeskRefusal::StaleLink), 4),
-        (take(1, 0), None, 5),
-        (take(1, 0), None, 6),
-        (take(1, 0), Some(DeskRefusal::WindowFull), 6),
-        (ack(3, 2), Some(DeskRefusal::NotInFlight), 6),
-        (ack(1, 1), Some(DeskRefusal::NotAccepted { cursor: 1 }), 6),
-        (ack(1, 2), None, 7),
-        (nack(2), Some(DeskRefusal::StaleLink), 7),
-        (nack(1), None, 8),
-        (Step::TakeAny { now: 2 }, None, 9),
-        (
-            Step::TakeAny { now: 2 },
-            Some(DeskRefusal::Empty { front: 3 }),
-            9,
-        ),
-        (nack_opened(2), Some(DeskRefusal::NotInFlight), 9),
-        (nack_opened(3), None, 10),
-        (Step::TakeAny { now: 2 }, None, 11),
-        (Step::Expire { now: 12 }, None, 12),
-        (
-            Step::Reconnect { sub: 0, cursor: 1 },
-            Some(DeskRefusal::BadCursor {
-                floor: 2,
-                offered: 3,
-            }),
-            12,
-        ),
-        (Step::Reconnect { sub: 0, cursor: 3 }, None, 13),
-        (Step::Place, None, 14),
-        (Step::Place, Some(DeskRefusal::SequenceFull), 14),
-        (Step::Close, None, 15),
-        (Step::Close, None, 15),
-        (Step::Place, Some(DeskRefusal::Closed), 15),
-        (
-            Step::Unsubscribe { sub: 0, link: 1 },
-            Some(DeskRefusal::StaleLink),
-            15,
-        ),
-        (Step::Unsubscribe { sub: 0, link: 2 }, None, 16),
-        (
-            Step::Unsubscribe { sub: 0, link: 2 },
-            Some(DeskRefusal::Closed),
-            16,
-        ),
-    ];
-    for (step, why, steps) in table {
-        assert_eq!(rt; made(&rt, alloc, &mut desk, step)?, why);
-        assert_eq!(rt; desk.steps(), steps);
+    for line in lines.lines() {
+        let Some((call, answer)) = line.split_once(" = ") else {
+            return Err("a line without an answer")?;
+        };
+        let Some(step) = step_of(call) else {
+            return Err("a line without a call")?;
+        };
+        let said = match made(rt, alloc, &mut desk, step)? {
+            None => format!(in alloc; "ok {}", desk.steps())?,
+            Some(why) => format!(in alloc; "{why:?} {}", desk.steps())?,
+        };
+        assert_eq!(rt; said.as_str(), answer);
     }
     Ok(())
 }
 
 #[test]
+fn each_call_is_a_step(rt: HostRuntime) -> Result<(), Fail> {
+    answers(&rt, rt.alloc(), EACH_CALL)
+}
+
+#[test]
+fn foreign_deliveries_are_refused(rt: HostRuntime) -> Result<(), Fail> {
+    answers(&rt, rt.alloc(), FOREIGN)
+}
+
+// A desk with the numbers 1 to 9, of which 1 to 8 are in flight to subscription 0, as delivery 1.
+fn begun(rt: &impl Abort, alloc: Global) -> Result<Desk, Fail> {
+    let mut desk = Desk::new(alloc, Config::new(8, 2, 10, 16, 1, 1)?)?;
+    for _ in 0..9 {
+        assert_eq!(rt; made(rt, alloc, &mut desk, Step::Place)?, None);
+    }
+    for step in [Step::Subscribe { start: 0 }, take(0, 1, 0)] {
+        assert_eq!(rt; made(rt, alloc, &mut desk, step)?, None);
+    }
+    Ok(desk)
+}
+
+// calls that it doesn't refuse
+fn calls() -> [Step; 9] {
+    [
+        Step::Subscribe { start: 9 },
+        take(0, 1, 0),
+        Step::TakeAny { now: 1 },
+        ack(0, 1, 1, 8),
+        nack(0, 1, 1),
+        nack_opened(0, 1, 1),
+        Step::Expire { now: 11 },
+        Step::Reconnect { sub: 0, cursor: 1 },
+        Step::Unsubscribe { sub: 0, link: 1 },
+    ]
+}
+
+// Expires nothing, so many times.
+fn fills(rt: &impl Abort, alloc: Global, desk: &mut Desk, count: u64) -> Result<(), Fail> {
+    for _ in 0..count {
+        let steps = desk.steps();
+        let why = made(rt, alloc, desk, Step::Expire { now: 1 })?;
+        assert_eq!(rt; (why, desk.steps()), (None, steps.wrapping_add(1)));
+    }
+    Ok(())
+}
+
+// Each call is once the one whose step needs the second piece of the journal, which has 1,024 steps
+// besides placements. After another piece it is a step more.
+#[test]
 fn journals_grow_in_pieces(rt: HostRuntime) -> Result<(), Fail> {
     let alloc = rt.alloc();
-    let mut desk = Desk::new(alloc, limits()?)?;
-    for now in 1..=2_100 {
-        let step = Step::Expire { now };
+    for step in calls() {
+        let mut desk = begun(&rt, alloc)?;
+        fills(&rt, alloc, &mut desk, 1_021)?;
         assert_eq!(rt; made(&rt, alloc, &mut desk, step)?, None);
-        assert_eq!(rt; desk.steps(), now);
+        assert_eq!(rt; desk.steps(), 1_033);
+        fills(&rt, alloc, &mut desk, 1_100)?;
+        assert_eq!(rt; desk.steps(), 2_133);
     }
     Ok(())
 }

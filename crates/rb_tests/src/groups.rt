@@ -1,4 +1,4 @@
-//! Tests of groups: a changeset that clashes is refused, and what was added stays.
+//! Tests of groups: where a changeset clashes, or memory runs out, what was added stays.
 
 use cs_group::{Group, GroupError, combine};
 use cs_invert::withdrawal;
@@ -31,16 +31,35 @@ fn refused<T: Drop>(rt: &impl Abort, answer: Result<T, GroupError>) {
     }
 }
 
-fn is_grouped(rt: &impl Abort, alloc: Global, sent: &[Changeset; 2]) -> Result<(), Fail> {
-    let [insert, narrow] = sent;
-    let mut group = Group::new(alloc);
-    group.add(alloc, insert)?;
-    refused(rt, group.add(alloc, narrow));
-    let made = group.output(alloc)?;
-    has(rt, alloc, &made, INSERT)
+// Adds a changeset. If memory runs out, the group still has the earlier ones, and the second call
+// adds it.
+fn adds<'a>(
+    rt: &impl Abort,
+    alloc: Global,
+    group: &mut Group<'a>,
+    changeset: &'a Changeset,
+    earlier: &[u8],
+) -> Result<(), Fail> {
+    match group.add(alloc, changeset) {
+        Err(GroupError::Memory) => {
+            has(rt, alloc, &group.output(alloc)?, earlier)?;
+            Ok(group.add(alloc, changeset)?)
+        }
+        added => Ok(added?),
+    }
 }
 
-fn is_combined(rt: &impl Abort, alloc: Global, sent: &[Changeset; 2]) -> Result<(), Fail> {
+fn is_grouped(rt: &impl Abort, alloc: Global, sent: &[Changeset; 3]) -> Result<(), Fail> {
+    let [insert, narrow, delete] = sent;
+    let mut group = Group::new(alloc);
+    adds(rt, alloc, &mut group, insert, b"")?;
+    refused(rt, group.add(alloc, narrow));
+    has(rt, alloc, &group.output(alloc)?, INSERT)?;
+    adds(rt, alloc, &mut group, delete, INSERT)?;
+    has(rt, alloc, &group.output(alloc)?, b"")
+}
+
+fn is_combined(rt: &impl Abort, alloc: Global, sent: &[Changeset; 3]) -> Result<(), Fail> {
     refused(rt, combine(alloc, sent));
     let made = combine(alloc, &sent[..1])?;
     has(rt, alloc, &made, INSERT)
@@ -49,7 +68,11 @@ fn is_combined(rt: &impl Abort, alloc: Global, sent: &[Changeset; 2]) -> Result<
 #[test]
 fn another_shape_is_refused(rt: HostRuntime) -> Result<(), Fail> {
     let alloc = rt.alloc();
-    let sent = [parse(alloc, INSERT)?, parse(alloc, NARROW)?];
+    let sent = [
+        parse(alloc, INSERT)?,
+        parse(alloc, NARROW)?,
+        parse(alloc, DELETE)?,
+    ];
     is_grouped(&rt, alloc, &sent)?;
     is_combined(&rt, alloc, &sent)?;
     let made = withdrawal(alloc, &sent[0])?;

@@ -58,5 +58,10 @@ fn lists(rt: HostRuntime) -> Result<(), Fail> {
     assert_eq!(rt; woven.get(b).copied(), Some(21));
     assert_eq!(rt; woven.get(a).copied(), Some(10));
     assert_eq!(rt; woven.get(c).copied(), None);
+    woven.clear();
+    has(&rt, &woven, Lane::First, &[]);
+    has(&rt, &woven, Lane::Second, &[]);
+    assert_eq!(rt; woven.get(a).copied(), None);
+    assert!(rt; woven.spare() >= 3);
     Ok(())
 }

@@ -1,5 +1,5 @@
-//! Rows of calls of a broker on one thread, each with its answer. Where memory runs out the call is
-//! made once more, and must answer as if nothing had happened.
+//! Lines of calls of a broker on one thread, each with its answer. Where memory runs out all is as
+//! it was, and the call is made once more.
 
 use crate::bench::Bench;
 use crate::given::{delete, insert, schema};
@@ -25,15 +25,49 @@ pub enum Call {
     /// For this subscription, at this tick.
     Take(usize, u64),
     TakeAny(u64),
-    /// This delivery, by its subscription, as are those below.
-    Accept(usize),
-    Ack(usize),
-    Nack(usize),
-    Open(usize),
+    /// By this subscription, of this delivery, as are those below.
+    Accept(usize, usize),
+    Ack(usize, usize),
+    Nack(usize, usize),
+    Open(usize, usize),
     Expire(u64),
     Reconnect(usize),
     Unsubscribe(usize),
     Close,
+}
+
+impl Call {
+    // the call of a line: its name, then its numbers
+    fn of(line: &str) -> Option<Call> {
+        let mut words = line.split_ascii_whitespace();
+        let name = words.next()?;
+        let mut numbers = [0_u64; 2];
+        for (number, word) in numbers.iter_mut().zip(words) {
+            *number = word.parse().ok()?;
+        }
+        let [a, b] = numbers;
+        Call::named(name, a, b)
+    }
+
+    fn named(name: &str, a: u64, b: u64) -> Option<Call> {
+        let (sub, delivery) = (a as usize, b as usize);
+        Some(match name {
+            "put" => Call::Put(a),
+            "delete" => Call::Delete(a),
+            "subscribe" => Call::Subscribe(a),
+            "take" => Call::Take(sub, b),
+            "any" => Call::TakeAny(a),
+            "accept" => Call::Accept(sub, delivery),
+            "ack" => Call::Ack(sub, delivery),
+            "nack" => Call::Nack(sub, delivery),
+            "open" => Call::Open(sub, delivery),
+            "expire" => Call::Expire(a),
+            "reconnect" => Call::Reconnect(sub),
+            "unsubscribe" => Call::Unsubscribe(sub),
+            "close" => Call::Close,
+            _ => return None,
+        })
+    }
 }
 
 /// What a call answers.
@@ -61,12 +95,25 @@ pub enum Said {
     Memory,
 }
 
-/// A broker, and what a row has made so far.
+/// A broker, and what its calls have made so far.
 #[derive(Drop)]
 pub struct History<L: Hall> {
     pub bench: Bench<L>,
     pub subscriptions: Vec<Subscription<L>>,
     pub deliveries: Vec<Delivery>,
+}
+
+// What the objects of a history show: how many changesets were sent and placed, how many
+// subscriptions and deliveries were made, and the sums of what the subscriptions show.
+#[derive(Clone, Copy, Debug, PartialEq, Eq)]
+struct Shown {
+    sent: u64,
+    placed: u64,
+    made: usize,
+    delivered: usize,
+    links: u64,
+    cursors: u64,
+    steps: u64,
 }
 
 fn desk(error: DeskError) -> Said {
@@ -92,21 +139,44 @@ impl<L: Hall> History<L> {
         }
     }
 
-    /// Makes the calls one after another, and compares their answers.
-    pub fn run<R: Wait + Abort>(
-        &mut self,
-        rt: &R,
-        alloc: Global,
-        row: &[(Call, Said)],
-    ) -> Result<(), Fail> {
-        for (call, answer) in row {
-            let given = match self.call(rt, alloc, *call)? {
-                Said::Memory => self.call(rt, alloc, *call)?,
-                given => given,
-            };
-            assert_eq!(rt; given, *answer);
+    /// Makes the calls of these lines one after another, and compares their answers.
+    pub fn run<R: Wait + Abort>(&mut self, rt: &R, alloc: Global, lines: &str) -> Result<(), Fail> {
+        for line in lines.lines() {
+            let (call, answer) = made(line.split_once(" = "))?;
+            let said = self.answer(rt, alloc, made(Call::of(call))?)?;
+            let said = format!(in alloc; "{said:?}")?;
+            assert_eq!(rt; said.as_str(), answer);
         }
         Ok(())
+    }
+
+    // Makes a call. Out of memory changes nothing: the same call goes on from there.
+    fn answer<R: Wait + Abort>(&mut self, rt: &R, alloc: Global, call: Call) -> Result<Said, Fail> {
+        let before = self.shown();
+        let said = self.call(rt, alloc, call)?;
+        if said != Said::Memory {
+            return Ok(said);
+        }
+        assert_eq!(rt; self.shown(), before);
+        self.call(rt, alloc, call)
+    }
+
+    fn shown(&self) -> Shown {
+        let mut shown = Shown {
+            sent: self.bench.publisher.sent(),
+            placed: self.bench.sequencer.placed(),
+            made: self.subscriptions.len(),
+            delivered: self.deliveries.len(),
+            links: 0,
+            cursors: 0,
+            steps: 0,
+        };
+        for subscription in &self.subscriptions {
+            shown.links = shown.links.wrapping_add(subscription.link());
+            shown.cursors = shown.cursors.wrapping_add(subscription.cursor());
+            shown.steps = shown.steps.wrapping_add(subscription.steps());
+        }
+        shown
     }
 
     fn call<R: Wait + Abort>(&mut self, rt: &R, alloc: Global, call: Call) -> Result<Said, Fail> {
@@ -116,10 +186,10 @@ impl<L: Hall> History<L> {
             Call::Subscribe(start) => self.subscribe(rt, alloc, start),
             Call::Take(sub, now) => self.take(rt, alloc, sub, now),
             Call::TakeAny(now) => self.take_any(rt, alloc, now),
-            Call::Accept(delivery) => self.accept(alloc, delivery),
-            Call::Ack(delivery) => self.ack(rt, alloc, delivery),
-            Call::Nack(delivery) => self.nack(rt, alloc, delivery),
-            Call::Open(delivery) => self.nack_opened(rt, alloc, delivery),
+            Call::Accept(sub, delivery) => self.accept(alloc, sub, delivery),
+            Call::Ack(sub, delivery) => self.ack(rt, alloc, sub, delivery),
+            Call::Nack(sub, delivery) => self.nack(rt, alloc, sub, delivery),
+            Call::Open(sub, delivery) => self.nack_opened(rt, alloc, sub, delivery),
             Call::Expire(now) => Ok(match self.bench.broker.expire(rt, alloc, now) {
                 Ok(many) => Said::Expired(many),
                 Err(error) => desk(error),
@@ -184,9 +254,8 @@ impl<L: Hall> History<L> {
         ))
     }
 
-    fn accept(&mut self, alloc: Global, delivery: usize) -> Result<Said, Fail> {
+    fn accept(&mut self, alloc: Global, sub: usize, delivery: usize) -> Result<Said, Fail> {
         let delivery = *made(self.deliveries.get(delivery))?;
-        let sub = delivery.sub() as usize;
         let subscription = made(self.subscriptions.get_mut(sub))?;
         let sequence = self.bench.broker.sequence();
         match subscription.accept_alone(alloc, sequence, &delivery) {
@@ -197,9 +266,14 @@ impl<L: Hall> History<L> {
         }
     }
 
-    fn ack<R: Wait>(&mut self, rt: &R, alloc: Global, delivery: usize) -> Result<Said, Fail> {
+    fn ack<R: Wait>(
+        &mut self,
+        rt: &R,
+        alloc: Global,
+        sub: usize,
+        delivery: usize,
+    ) -> Result<Said, Fail> {
         let delivery = *made(self.deliveries.get(delivery))?;
-        let sub = delivery.sub() as usize;
         let subscription = made(self.subscriptions.get_mut(sub))?;
         match self.bench.broker.ack(rt, alloc, subscription, &delivery) {
             Ok(floor) => Ok(Said::Floor(floor)),
@@ -207,9 +281,14 @@ impl<L: Hall> History<L> {
         }
     }
 
-    fn nack<R: Wait>(&mut self, rt: &R, alloc: Global, delivery: usize) -> Result<Said, Fail> {
+    fn nack<R: Wait>(
+        &mut self,
+        rt: &R,
+        alloc: Global,
+        sub: usize,
+        delivery: usize,
+    ) -> Result<Said, Fail> {
         let delivery = *made(self.deliveries.get(delivery))?;
-        let sub = delivery.sub() as usize;
         let subscription = made(self.subscriptions.get_mut(sub))?;
         match self.bench.broker.nack(rt, alloc, subscription, &delivery) {
             Ok(()) => Ok(Said::Done),
@@ -221,10 +300,10 @@ impl<L: Hall> History<L> {
         &mut self,
         rt: &R,
         alloc: Global,
+        sub: usize,
         delivery: usize,
     ) -> Result<Said, Fail> {
         let delivery = *made(self.deliveries.get(delivery))?;
-        let sub = delivery.sub() as usize;
         let subscription = made(self.subscriptions.get_mut(sub))?;
         let broker = &self.bench.broker;
         match broker.nack_opened(rt, alloc, subscription, &delivery) {

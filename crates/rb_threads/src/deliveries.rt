@@ -1,26 +1,174 @@
-//! Histories of subscriptions on the broker, from one thread: each is a row of calls with their
-//! answers. At the end an audit gives the steps that the row's subscriptions made.
+//! Histories of subscriptions on the broker, from one thread: each is lines of calls with their
+//! answers. At the end an audit gives the steps that the subscriptions made.
 
 ghost use Rattle.std.specs.Prelude.{◌≡◌};
 
 use crate::bench::Bench;
-use crate::calls::{Call, History, Said};
+use crate::calls::History;
 use crate::given::schema;
-use Call::{
-    Accept, Ack, Close, Delete, Expire, Nack, Open, Put, Reconnect, Subscribe, Take, TakeAny,
-    Unsubscribe,
-};
-use Said::{Accepted, Closed, Desk, Done, Drained, Expired, Floor, Link, Made, Placed, Refused};
-use cs_apply::{Conflict, ConflictKind, Tables};
+use cs_apply::Tables;
 use cs_model::Schema;
 use rb_broker::{Hall, Opened, RefusedSubscription, SubscribeError};
-use rb_desk::{Config, DeskRefusal};
-use rb_subscriber::{AcceptRefusal, MOST_SUBSCRIPTIONS, Missing};
+use rb_desk::Config;
+use rb_subscriber::{MOST_SUBSCRIPTIONS, Missing};
 use std::alloc::Global;
 use std::marker::Brand;
 use std::process::Abort;
 use std::sync::{Arc, Wait};
 use std::test::Fail;
+
+const THE_WINDOW_AND_THE_FLOOR: &[u8] = b"\
+subscribe 0 = Made
+put 1 = Placed(Some(1))
+put 2 = Placed(Some(2))
+put 3 = Placed(Some(3))
+take 0 0 = Delivery(1, 0, 1, 1)
+take 0 0 = Delivery(2, 0, 2, 2)
+take 0 0 = Desk(WindowFull)
+ack 0 0 = Desk(NotAccepted { cursor: 0 })
+accept 0 0 = Accepted(1)
+accept 0 1 = Accepted(2)
+ack 0 1 = Floor(0)
+ack 0 0 = Floor(2)
+take 0 0 = Delivery(3, 0, 3, 3)";
+
+const WHAT_IS_GIVEN_BACK_GOES_TO_ANY: &[u8] = b"\
+subscribe 0 = Made
+put 1 = Placed(Some(1))
+put 2 = Placed(Some(2))
+put 3 = Placed(Some(3))
+take 0 0 = Delivery(1, 0, 1, 1)
+take 0 0 = Delivery(2, 0, 2, 2)
+take 0 0 = Desk(WindowFull)
+nack 0 1 = Done
+any 0 = Delivery(3, 0, 3, 3)
+any 0 = Desk(Empty { front: 3 })
+nack 0 2 = Done
+take 0 0 = Delivery(4, 0, 2, 2)
+unsubscribe 0 = Done
+take 0 0 = Desk(Closed)
+accept 0 0 = Refused(Closed)
+unsubscribe 0 = Desk(Closed)
+reconnect 0 = Desk(Closed)
+ack 0 3 = Desk(NotInFlight)
+any 0 = Desk(Empty { front: 3 })";
+
+const A_REFUSED_BATCH_IS_OPENED: &[u8] = b"\
+subscribe 0 = Made
+put 1 = Placed(Some(1))
+delete 5 = Placed(Some(2))
+put 2 = Placed(Some(3))
+take 0 0 = Delivery(1, 0, 1, 3)
+accept 0 0 = Refused(Conflict(Conflict { position: 1, kind: NotFound }))
+open 0 0 = Opened(3)
+put 3 = Placed(Some(4))
+take 0 0 = Delivery(2, 0, 1, 1)
+accept 0 1 = Accepted(1)
+ack 0 1 = Floor(1)
+take 0 0 = Delivery(3, 0, 2, 2)
+accept 0 2 = Refused(Conflict(Conflict { position: 0, kind: NotFound }))
+take 0 0 = Delivery(4, 0, 3, 3)
+accept 0 3 = Refused(Gap { expected: 2 })
+take 0 0 = Delivery(5, 0, 4, 4)
+open 0 0 = Desk(NotInFlight)
+reconnect 0 = Link(2)
+take 0 0 = Delivery(6, 0, 2, 4)";
+
+const A_NEW_LINK_CUTS_ANEW: &[u8] = b"\
+subscribe 0 = Made
+put 1 = Placed(Some(1))
+take 0 0 = Delivery(1, 0, 1, 1)
+accept 0 0 = Accepted(1)
+ack 0 0 = Floor(1)
+put 2 = Placed(Some(2))
+put 3 = Placed(Some(3))
+take 0 0 = Delivery(2, 0, 2, 3)
+accept 0 1 = Accepted(3)
+put 4 = Placed(Some(4))
+take 0 0 = Delivery(3, 0, 4, 4)
+put 5 = Placed(Some(5))
+put 6 = Placed(Some(6))
+reconnect 0 = Link(2)
+accept 0 2 = Refused(StaleLink)
+ack 0 2 = Desk(StaleLink)
+take 0 0 = Delivery(4, 0, 4, 6)";
+
+const A_NEW_LINK_AT_THE_FRONT: &[u8] = b"\
+subscribe 0 = Made
+put 1 = Placed(Some(1))
+put 2 = Placed(Some(2))
+take 0 0 = Delivery(1, 0, 1, 2)
+accept 0 0 = Accepted(2)
+reconnect 0 = Link(2)
+take 0 0 = Desk(Empty { front: 2 })
+subscribe 5 = Desk(StartAhead { front: 2 })
+close = Closed(2)
+take 0 0 = Drained(2)";
+
+const WHAT_EXPIRES_IS_DELIVERED_AGAIN: &[u8] = b"\
+subscribe 0 = Made
+put 1 = Placed(Some(1))
+take 0 5 = Delivery(1, 0, 1, 1)
+accept 0 0 = Accepted(1)
+expire 14 = Expired(0)
+expire 15 = Expired(1)
+take 0 15 = Delivery(2, 0, 1, 1)
+accept 0 1 = Refused(Seen)
+ack 0 0 = Desk(NotInFlight)
+ack 0 1 = Floor(1)";
+
+const A_LATE_CLOCK_IS_NO_EARLIER_ONE: &[u8] = b"\
+subscribe 0 = Made
+put 1 = Placed(Some(1))
+take 0 20 = Delivery(1, 0, 1, 1)
+expire 5 = Expired(0)
+expire 29 = Expired(0)
+expire 30 = Expired(1)
+take 0 3 = Delivery(2, 0, 1, 1)
+expire 39 = Expired(0)
+expire 40 = Expired(1)
+expire 18446744073709551615 = Expired(0)
+take 0 0 = Delivery(3, 0, 1, 1)
+expire 18446744073709551615 = Expired(0)
+accept 0 2 = Accepted(1)
+ack 0 2 = Floor(1)";
+
+const FOREIGN_DELIVERIES_ARE_REFUSED: &[u8] = b"\
+subscribe 0 = Made
+subscribe 0 = Made
+put 1 = Placed(Some(1))
+take 1 0 = Delivery(1, 1, 1, 1)
+accept 0 0 = Refused(StaleLink)
+ack 0 0 = Desk(StaleLink)
+nack 0 0 = Desk(StaleLink)
+open 0 0 = Desk(StaleLink)
+expire 10 = Expired(1)
+ack 1 0 = Desk(NotInFlight)
+nack 1 0 = Desk(NotInFlight)
+open 1 0 = Desk(NotInFlight)
+accept 1 0 = Accepted(1)
+take 1 10 = Delivery(2, 1, 1, 1)
+accept 1 1 = Refused(Seen)
+ack 1 1 = Floor(1)
+ack 1 1 = Desk(NotInFlight)
+nack 1 1 = Desk(NotInFlight)
+open 1 1 = Desk(NotInFlight)
+put 2 = Placed(Some(2))
+take 1 10 = Delivery(3, 1, 2, 2)
+reconnect 1 = Link(3)
+accept 1 2 = Refused(StaleLink)
+ack 1 2 = Desk(StaleLink)
+nack 1 2 = Desk(StaleLink)
+open 1 2 = Desk(StaleLink)
+take 0 10 = Delivery(4, 0, 1, 2)
+accept 0 3 = Accepted(2)
+ack 0 3 = Floor(2)";
+
+// after as many subscriptions as there may be
+const ONE_MORE_AND_THE_LAST: &[u8] = b"\
+subscribe 0 = Desk(TooMany)
+put 1 = Placed(Some(1))
+take 1023 0 = Delivery(1, 1023, 1, 1)";
 
 // an empty broker with batches of this size and this window
 fn opened(alloc: Global, batch: u64, window: u64) -> Result<Opened, Fail> {
@@ -28,187 +176,90 @@ fn opened(alloc: Global, batch: u64, window: u64) -> Result<Opened, Fail> {
     Ok(Opened::new(alloc, config, schema(alloc)?)?)
 }
 
-fn delivery(number: u64, first: u64, last: u64) -> Said {
-    Said::Delivery(number, 0, first, last)
-}
-
 #[test]
 fn the_window_and_the_floor(rt: HostRuntime) -> Result<(), Fail> {
-    let row = [
-        (Subscribe(0), Made),
-        (Put(1), Placed(Some(1))),
-        (Put(2), Placed(Some(2))),
-        (Put(3), Placed(Some(3))),
-        (Take(0, 0), delivery(1, 1, 1)),
-        (Take(0, 0), delivery(2, 2, 2)),
-        (Take(0, 0), Desk(DeskRefusal::WindowFull)),
-        (Ack(0), Desk(DeskRefusal::NotAccepted { cursor: 0 })),
-        (Accept(0), Accepted(1)),
-        (Accept(1), Accepted(2)),
-        (Ack(1), Floor(0)),
-        (Ack(0), Floor(2)),
-        (Take(0, 0), delivery(3, 3, 3)),
-    ];
     let opened = opened(rt.alloc(), 1, 2)?;
-    counts::<Brand, _>(&rt, rt.alloc(), opened, &row, 5)
+    counts::<Brand, _>(&rt, rt.alloc(), opened, THE_WINDOW_AND_THE_FLOOR, 5)
 }
 
 #[test]
 fn what_is_given_back_goes_to_any(rt: HostRuntime) -> Result<(), Fail> {
-    let row = [
-        (Subscribe(0), Made),
-        (Put(1), Placed(Some(1))),
-        (Put(2), Placed(Some(2))),
-        (Put(3), Placed(Some(3))),
-        (Take(0, 0), delivery(1, 1, 1)),
-        (Take(0, 0), delivery(2, 2, 2)),
-        (Take(0, 0), Desk(DeskRefusal::WindowFull)),
-        (Nack(1), Done),
-        (TakeAny(0), delivery(3, 3, 3)),
-        (TakeAny(0), Desk(DeskRefusal::Empty { front: 3 })),
-        (Nack(2), Done),
-        (Take(0, 0), delivery(4, 2, 2)),
-        (Unsubscribe(0), Done),
-        (Take(0, 0), Desk(DeskRefusal::Closed)),
-        (Accept(0), Refused(AcceptRefusal::Closed)),
-        (Unsubscribe(0), Desk(DeskRefusal::Closed)),
-        (Reconnect(0), Desk(DeskRefusal::Closed)),
-        (Ack(3), Desk(DeskRefusal::NotInFlight)),
-        (TakeAny(0), Desk(DeskRefusal::Empty { front: 3 })),
-    ];
     let opened = opened(rt.alloc(), 1, 2)?;
-    counts::<Brand, _>(&rt, rt.alloc(), opened, &row, 6)
+    counts::<Brand, _>(&rt, rt.alloc(), opened, WHAT_IS_GIVEN_BACK_GOES_TO_ANY, 6)
 }
 
 #[test]
 fn a_refused_batch_is_opened(rt: HostRuntime) -> Result<(), Fail> {
-    let row = [
-        (Subscribe(0), Made),
-        (Put(1), Placed(Some(1))),
-        (Delete(5), Placed(Some(2))),
-        (Put(2), Placed(Some(3))),
-        (Take(0, 0), delivery(1, 1, 3)),
-        (Accept(0), no_row_at(1)),
-        (Open(0), Said::Opened(3)),
-        (Put(3), Placed(Some(4))),
-        (Take(0, 0), delivery(2, 1, 1)),
-        (Accept(1), Accepted(1)),
-        (Ack(1), Floor(1)),
-        (Take(0, 0), delivery(3, 2, 2)),
-        (Accept(2), no_row_at(0)),
-        (Take(0, 0), delivery(4, 3, 3)),
-        (Accept(3), Refused(AcceptRefusal::Gap { expected: 2 })),
-        (Take(0, 0), delivery(5, 4, 4)),
-        (Open(0), Desk(DeskRefusal::NotInFlight)),
-        (Reconnect(0), Link(2)),
-        (Take(0, 0), delivery(6, 2, 4)),
-    ];
     let opened = opened(rt.alloc(), 16, 4)?;
-    counts::<Brand, _>(&rt, rt.alloc(), opened, &row, 9)
-}
-
-// the conflict of a DELETE of no row, the change at this place of a delivery
-fn no_row_at(position: usize) -> Said {
-    let kind = ConflictKind::NotFound;
-    Refused(AcceptRefusal::Conflict(Conflict { position, kind }))
+    counts::<Brand, _>(&rt, rt.alloc(), opened, A_REFUSED_BATCH_IS_OPENED, 9)
 }
 
 #[test]
 fn a_new_link_cuts_anew(rt: HostRuntime) -> Result<(), Fail> {
-    let row = [
-        (Subscribe(0), Made),
-        (Put(1), Placed(Some(1))),
-        (Take(0, 0), delivery(1, 1, 1)),
-        (Accept(0), Accepted(1)),
-        (Ack(0), Floor(1)),
-        (Put(2), Placed(Some(2))),
-        (Put(3), Placed(Some(3))),
-        (Take(0, 0), delivery(2, 2, 3)),
-        (Accept(1), Accepted(3)),
-        (Put(4), Placed(Some(4))),
-        (Take(0, 0), delivery(3, 4, 4)),
-        (Put(5), Placed(Some(5))),
-        (Put(6), Placed(Some(6))),
-        (Reconnect(0), Link(2)),
-        (Accept(2), Refused(AcceptRefusal::StaleLink)),
-        (Ack(2), Desk(DeskRefusal::StaleLink)),
-        (Take(0, 0), delivery(4, 4, 6)),
-    ];
     let opened = opened(rt.alloc(), 256, 4)?;
-    counts::<Brand, _>(&rt, rt.alloc(), opened, &row, 6)
+    counts::<Brand, _>(&rt, rt.alloc(), opened, A_NEW_LINK_CUTS_ANEW, 6)
 }
 
 #[test]
 fn a_new_link_at_the_front(rt: HostRuntime) -> Result<(), Fail> {
-    let row = [
-        (Subscribe(0), Made),
-        (Put(1), Placed(Some(1))),
-        (Put(2), Placed(Some(2))),
-        (Take(0, 0), delivery(1, 1, 2)),
-        (Accept(0), Accepted(2)),
-        (Reconnect(0), Link(2)),
-        (Take(0, 0), Desk(DeskRefusal::Empty { front: 2 })),
-        (Subscribe(5), Desk(DeskRefusal::StartAhead { front: 2 })),
-        (Close, Closed(2)),
-        (Take(0, 0), Drained(2)),
-    ];
     let opened = opened(rt.alloc(), 16, 4)?;
-    counts::<Brand, _>(&rt, rt.alloc(), opened, &row, 2)
+    counts::<Brand, _>(&rt, rt.alloc(), opened, A_NEW_LINK_AT_THE_FRONT, 2)
 }
 
 #[test]
 fn what_expires_is_delivered_again(rt: HostRuntime) -> Result<(), Fail> {
-    let row = [
-        (Subscribe(0), Made),
-        (Put(1), Placed(Some(1))),
-        (Take(0, 5), delivery(1, 1, 1)),
-        (Accept(0), Accepted(1)),
-        (Expire(14), Expired(0)),
-        (Expire(15), Expired(1)),
-        (Take(0, 15), delivery(2, 1, 1)),
-        (Accept(1), Refused(AcceptRefusal::Seen)),
-        (Ack(0), Desk(DeskRefusal::NotInFlight)),
-        (Ack(1), Floor(1)),
-    ];
     let opened = opened(rt.alloc(), 16, 4)?;
-    counts::<Brand, _>(&rt, rt.alloc(), opened, &row, 3)
+    counts::<Brand, _>(&rt, rt.alloc(), opened, WHAT_EXPIRES_IS_DELIVERED_AGAIN, 3)
 }
 
-// The row answers so, and its subscriptions made this many steps.
+#[test]
+fn a_late_clock_is_no_earlier_one(rt: HostRuntime) -> Result<(), Fail> {
+    let opened = opened(rt.alloc(), 16, 4)?;
+    counts::<Brand, _>(&rt, rt.alloc(), opened, A_LATE_CLOCK_IS_NO_EARLIER_ONE, 4)
+}
+
+#[test]
+fn foreign_deliveries_are_refused(rt: HostRuntime) -> Result<(), Fail> {
+    let opened = opened(rt.alloc(), 16, 4)?;
+    counts::<Brand, _>(&rt, rt.alloc(), opened, FOREIGN_DELIVERIES_ARE_REFUSED, 7)
+}
+
+// The calls answer so, and their subscriptions made this many steps.
 fn counts<L: Hall, R: Wait + Abort>(
     rt: &R,
     alloc: Global,
     opened: Opened,
-    row: &[(Call, Said)],
+    lines: &[u8],
     steps: u64,
 ) -> Result<(), Fail>
     requires cells { opened.cells ≡ L.cells }
     requires queue { opened.queue ≡ L.queue }
     requires ledger { (opened.ledger ≡ L.name) × (L.parts ≡ 1024) × (L.all ≡ 1024) }
 {
-    let mut rows = History::<L>::new(alloc, Bench::start(alloc, opened)?);
-    rows.run(rt, alloc, row)?;
-    audits(rt, alloc, rows, steps)
+    let mut history = History::<L>::new(alloc, Bench::start(alloc, opened)?);
+    history.run(rt, alloc, str::from_utf8(lines)?)?;
+    audits(rt, alloc, history, steps)
 }
 
 // an audit without subscriptions counts nothing
 fn audits<L: Hall, R: Wait + Abort>(
     rt: &R,
     alloc: Global,
-    rows: History<L>,
+    history: History<L>,
     steps: u64,
 ) -> Result<(), Fail> {
     let History {
         mut bench,
         subscriptions,
         ..
-    } = rows;
+    } = history;
     let (broker, auditor) = (&bench.broker, &mut bench.auditor);
     let Err(Missing { .. }) = broker.audit(rt, auditor, Vec::new(alloc)) else {
         return Err(Fail::new("a subscription is missing"));
     };
+    let made = subscriptions.len() as u64;
     assert_eq!(rt; broker.audit(rt, auditor, subscriptions).ok(), Some(steps));
-    assert_eq!(rt; (auditor.sum(), auditor.heard()), (steps, 1));
+    assert_eq!(rt; (auditor.sum(), auditor.heard()), (steps, made));
     Ok(())
 }
 
@@ -255,13 +306,9 @@ fn subscribes_often<L: Hall, R: Wait + Abort>(
     requires queue { opened.queue ≡ L.queue }
     requires ledger { (opened.ledger ≡ L.name) × (L.parts ≡ 1024) × (L.all ≡ 1024) }
 {
-    let mut rows = History::<L>::new(alloc, Bench::start(alloc, opened)?);
+    let mut history = History::<L>::new(alloc, Bench::start(alloc, opened)?);
     for _ in 0..MOST_SUBSCRIPTIONS {
-        rows.run(rt, alloc, &[(Subscribe(0), Made)])?;
+        history.run(rt, alloc, "subscribe 0 = Made")?;
     }
-    rows.run(rt, alloc, &[(Subscribe(0), Desk(DeskRefusal::TooMany))])?;
-    let last = MOST_SUBSCRIPTIONS - 1;
-    rows.run(rt, alloc, &[(Put(1), Placed(Some(1)))])?;
-    let taken = Said::Delivery(1, last, 1, 1);
-    rows.run(rt, alloc, &[(Take(last as usize, 0), taken)])
+    history.run(rt, alloc, str::from_utf8(ONE_MORE_AND_THE_LAST)?)
 }

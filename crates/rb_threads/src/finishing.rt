@@ -5,7 +5,7 @@ ghost use Rattle.std.specs.Prelude.{◌≡◌};
 
 use crate::bench::Bench;
 use crate::given::{insert, opened, publisher};
-use crate::rows::{put, stage};
+use crate::rows::{own_in_hand, put, stage};
 use rb_broker::{Broker, Hall, Opened, PlaceRefusal, Publisher};
 use rb_close::{FinishRefusal, Finished, Unfinished, finish};
 use rb_sequencer::Turn;
@@ -92,21 +92,34 @@ fn given<L: Hall>(alloc: Global, bench: Bench<L>) -> Result<Unfinished<L>, Alloc
     })
 }
 
-// finishes, and once more if memory runs out
-fn try_twice<L: Hall, R: Wait>(
+// Finishes, and once more if memory runs out. What comes back is as it was.
+fn try_twice<L: Hall, R: Wait + Abort>(
     rt: &R,
     alloc: Global,
     all: Unfinished<L>,
 ) -> Result<Finished, Unfinished<L>> {
+    let before = shown(&all);
     let back = match try_once(rt, alloc, all) {
         Ok(finished) => return Ok(finished),
         Err(back) => back,
     };
+    assert_eq!(rt; shown(&back), before);
     if back.why == FinishRefusal::Memory {
         try_once(rt, alloc, back)
     } else {
         Err(back)
     }
+}
+
+// What an unfinished broker shows: how many of its publishers it has, what was placed, and the own
+// number of the item in hand.
+fn shown<L: Hall>(all: &Unfinished<L>) -> (usize, u64, Option<u64>) {
+    let sequencer = &all.sequencer;
+    (
+        all.publishers.len(),
+        sequencer.placed(),
+        own_in_hand(sequencer),
+    )
 }
 
 fn try_once<L: Hall, R: Wait>(

@@ -6,6 +6,7 @@ ghost use Rattle.std.specs.Prelude.{◌≡◌, IfOk};
 use crate::bench::Bench;
 use crate::given::{insert, opened, publisher};
 use cs_model::Origin;
+use cs_parse::ParseError;
 use rb_broker::{
     AddRefusal, Broker, Hall, MOST_PUBLISHERS, Opened, PlaceRefusal, Publisher, SendRefusal,
     StagedSet, TakeError, WithdrawRefusal,
@@ -53,7 +54,7 @@ fn closed_sequence(rt: HostRuntime) -> Result<(), Fail> {
     sends_after_the_end::<Brand, _>(&rt, rt.alloc(), opened)
 }
 
-// stages what is fed
+// Stages what is fed. If memory runs out, the stream is as it was, and is fed once more.
 pub(crate) fn stage<L: Hall>(
     alloc: Global,
     publisher: &mut Publisher<L>,
@@ -61,7 +62,10 @@ pub(crate) fn stage<L: Hall>(
 ) -> Result<StagedSet<L>, Fail>
     ensures { IfOk result (λ set. set.publisher ≡ publisher.new.number) }
 {
-    publisher.feed(alloc, bytes)?;
+    match publisher.feed(alloc, bytes) {
+        Err(ParseError::Memory) => publisher.feed(alloc, bytes)?,
+        fed => fed?,
+    }
     Ok(publisher.end(alloc)?)
 }
 
@@ -176,7 +180,7 @@ fn fills_the_sequence<L: Hall, R: Wait + Abort>(
 }
 
 // the own number of the item in hand
-fn own_in_hand<L: Hall>(sequencer: &Sequencer<L>) -> Option<u64> {
+pub(crate) fn own_in_hand<L: Hall>(sequencer: &Sequencer<L>) -> Option<u64> {
     let item = sequencer.hand()?;
     Some(item.own)
 }
@@ -213,7 +217,7 @@ fn takes_back<L: Hall, R: Wait + Abort>(
     bench: &mut Bench<L>,
 ) -> Result<(), Fail> {
     assert_eq!(rt; put(rt, alloc, bench, &CHANGED)?, Some(1));
-    let set = bench.publisher.withdraw(alloc, bench.broker.sequence(), 1)?;
+    let set = withdraw(alloc, &mut bench.publisher, &bench.broker, 1)?;
     assert_eq!(rt; set.withdraws().map(Told::number), Some(1));
     assert_eq!(rt; bench.publisher.send(rt, &bench.broker, set).ok(), Some(2));
     assert_eq!(rt;
@@ -227,6 +231,21 @@ fn takes_back<L: Hall, R: Wait + Abort>(
     assert!(rt; text == TAKEN_BACK.as_slice());
     assert_eq!(rt; entry.origin(), Origin::Withdraws(1));
     Ok(())
+}
+
+// stages a withdrawal; if memory runs out, the entry isn't withdrawn, and is once more
+fn withdraw<L: Hall>(
+    alloc: Global,
+    publisher: &mut Publisher<L>,
+    broker: &Broker<L>,
+    number: u64,
+) -> Result<StagedSet<L>, WithdrawRefusal>
+    ensures { IfOk result (λ set. set.publisher ≡ publisher.new.number) }
+{
+    match publisher.withdraw(alloc, broker.sequence(), number) {
+        Err(WithdrawRefusal::Memory) => publisher.withdraw(alloc, broker.sequence(), number),
+        staged => staged,
+    }
 }
 
 fn is_refused<L: Hall, R: Abort>(

@@ -1,6 +1,6 @@
--- Bytes that are the canonical encoding of what is read from them, from a length up to all changes.
-use Rattle.std.proofs.Common.{◌≡◌, ℕ, ◌+◌, ◌-◌, ◌*◌, ◌^◌, ◌<◌, ◌≤◌, Bool, List, [], ◌∷◌, ◌++◌, Option, Some, None, Result, Ok}
-use Rattle.std.proofs.Common.{Err, refl, sym, ap, subst, ◌∙◌, append_assoc, arith}
+-- Bytes that are the canonical encoding of what is read from them, from a length up to a record.
+use Rattle.std.proofs.Common.{◌≡◌, ℕ, ◌+◌, ◌*◌, ◌^◌, ◌<◌, Bool, List, [], ◌∷◌, ◌++◌, Option, Some, None, Result, Ok, Err}
+use Rattle.std.proofs.Common.{refl, sym, ap, subst, ◌∙◌, append_assoc, arith}
 use Rattle.std.specs.Prelude.{IfSome, IfOk, IsTrue, is_some}
 use Rattle.cs_model.specs.Bytes.{AreBytes}
 use Rattle.cs_model.specs.Varint.{IsVarint, varint}
@@ -10,8 +10,7 @@ use Rattle.cs_model.specs.Rule.{Rule}
 use Rattle.cs_model.specs.declared.value.Value.TheVariants.{Integer, Text, Blob, Null}
 use Rattle.cs_model.specs.declared.value.Field.{Field}
 use Rattle.cs_model.specs.declared.value.Field.TheVariants.{Undefined, Is}
-use Rattle.cs_model.specs.declared.change.Change.{Change}
-use Rattle.cs_model.proofs.VarintLemmas.{varint_one, varint_two}
+use Rattle.cs_model.proofs.VarintLemmas.{varint_one}
 use Rattle.cs_parse.specs.declared.fault.FaultKind.{FaultKind}
 use Rattle.cs_parse.specs.declared.fault.FaultKind.TheVariants.{ValueTooLong}
 use Rattle.cs_parse.specs.declared.stop.ParseRefusal.{ParseRefusal}
@@ -19,7 +18,7 @@ use Rattle.cs_parse.specs.Canonical.{HasShortest, IsCanonical}
 use Rattle.cs_parse.specs.Place.{type_refusal}
 use Rattle.cs_parse.specs.Reading.{◌>>=◌, Reads, number_within, number_at, length_at, typed_at, field_at, record_at}
 use Rattle.cs_parse.proofs.reading.Steps.{back_fits, bind_ok, done, ok_is}
-use Rattle.cs_parse.proofs.reading.Numbers.{number_ends, numbers_turn_ends, turn_goes}
+use Rattle.cs_parse.proofs.reading.Numbers.{number_ends}
 use Rattle.cs_parse.proofs.reading.NumberLaws.{within_again, number_takes, number_again}
 use Rattle.cs_parse.proofs.reading.FieldLaws.{typed_takes}
 use Rattle.cs_parse.proofs.counting.Skims.{record_more, fields_of}
@@ -40,30 +39,6 @@ pub one_shortest : (bytes : List ℕ) (byte n : ℕ) (rest : List ℕ) → bytes
     ≡ varint n ++ rest
 one_shortest bytes byte n rest whole small same =
     whole ∙ ap (λ w. w ++ rest) (varint_one byte small ∙ ap varint (sym same))
-
--- a length of two bytes, with any limit that it can't be over
-two_within : (most : ℕ) (bytes : List ℕ) (high low n : ℕ) (rest : List ℕ) → 16384 ≤ most → bytes ≡ high ∷ low ∷ rest
-    → 128 ≤ high → high < 256 → low < 128 → n ≡ 128 * (high - 128) + low
-    → number_at 0 most ValueTooLong 8 0 bytes ≡ Ok (n, rest)
-two_within most bytes high low n rest room whole large small last is =
-    let first = turn_goes 0 most ValueTooLong 0 0 bytes high (high - 128) 128 (low ∷ rest)
-    (number_at 0 most ValueTooLong 8 0 bytes) (omega arith) whole large refl refl (omega (arith, room, small)) refl in
-    let ends = numbers_turn_ends 0 most ValueTooLong 1 (128 * 0 + (high - 128)) (low ∷ rest) low low rest
-    (number_at 0 most ValueTooLong 8 0 bytes) (omega arith) refl last refl first in
-    let value : 128 * (128 * 0 + (high - 128)) + low ≡ n = omega (arith, is) in
-    sym ends ∙ ap (λ k. number_within 0 most ValueTooLong k rest) value
-    ∙ within_again 0 most ValueTooLong n rest (omega arith) (omega (arith, is, room, small, last))
-
-pub two_reads : (bytes : List ℕ) (high low n : ℕ) (rest : List ℕ) → bytes ≡ high ∷ low ∷ rest → 128 ≤ high
-    → high < 256 → low < 128 → n ≡ 128 * (high - 128) + low → length_at bytes ≡ Ok (n, rest)
-unfolding length_at
-two_reads bytes high low n rest whole large small last is =
-    two_within 16777216 bytes high low n rest (omega arith) whole large small last is
-
-pub two_shortest : (bytes : List ℕ) (high low n : ℕ) (rest : List ℕ) → bytes ≡ high ∷ low ∷ rest → 128 < high
-    → high < 256 → low < 128 → n ≡ 128 * (high - 128) + low → bytes ≡ varint n ++ rest
-two_shortest bytes high low n rest whole above below small is =
-    whole ∙ ap (λ w. w ++ rest) (varint_two high low n above below small is)
 
 abbrev pub VarintSpelled : Type 0
 VarintSpelled = (n : ℕ) → n < 2 ^ 64 → IsVarint (varint n) n
@@ -141,8 +116,3 @@ more_canonical rule rules bytes f after read own others x e =
     let parts : bytes ≡ packed (f ∷ b.0.0) ++ b.0.1 = own ∙ ap (λ w. field_bytes f ++ w) (others b.0 b.1)
     ∙ sym (append_assoc (field_bytes f) (packed b.0.0) b.0.1) in
     subst (λ (y : List Field × List ℕ). bytes ≡ packed y.0 ++ y.1) (ok_is (f ∷ b.0.0, b.0.1) x b.2) parts
-
--- ---- changes, from the last to the first
-
-abbrev CanonicalChanges : Type 0
-CanonicalChanges = List Change × List ℕ

@@ -4,6 +4,7 @@ use Rattle.std.proofs.Common.{Result, Ok, Err, refl, sym, ap, ◌∙◌, arith}
 use Rattle.std.proofs.lemmas.List.{length-append}
 use Rattle.std.specs.List.{flat_map}
 use Rattle.cs_model.specs.declared.value.Field.{Field}
+use Rattle.cs_model.specs.declared.change.Op.{Op}
 use Rattle.cs_model.specs.declared.change.Op.TheVariants.{Update}
 use Rattle.cs_model.specs.Section.{Section}
 use Rattle.cs_model.specs.Rule.{Rule, old_rule, new_rules}
@@ -85,14 +86,18 @@ fields_passed bytes total so_far = sym so_far
 abbrev skims_new_behind : List ℕ → List Field × List ℕ → Result ((List Field × List Field) × List ℕ) ParseRefusal
 skims_new_behind flags old = record_at (new_rules flags old.0) old.1 >>= λ new. Ok ((old.0, new.0), new.1)
 
--- an UPDATE's records, once the old one is read
-pub update_behind : (flags bytes : List ℕ) (before : List Field) (rest : List ℕ) → record_at (map old_rule flags) bytes
-    ≡ Ok (before, rest)
-    → bytes_after (records_at flags Update bytes) ≡ bytes_after (record_at (new_rules flags before) rest)
+-- what is behind an UPDATE's records is what is behind the new one, once the old one is read
+pub update_behind : (flags : List ℕ) (op : Op) (bytes rest : List ℕ) (behind : Result (List ℕ) ParseRefusal)
+    → op ≡ Update → bytes_after (record_at (map old_rule flags) bytes) ≡ Ok rest
+    → ((before : List Field) (left : List ℕ) → record_at (map old_rule flags) bytes ≡ Ok (before, left)
+    → bytes_after (record_at (new_rules flags before) rest) ≡ behind)
+    → bytes_after (records_at flags op bytes) ≡ behind
 unfolding records_at
-update_behind flags bytes before rest h =
-    ap (λ r. bytes_after (r >>= skims_new_behind flags)) h
-    ∙ behind_made (record_at (new_rules flags before) rest) (λ fields. (before, fields))
+update_behind flags op bytes rest behind is read new =
+    let old = behind_value (record_at (map old_rule flags) bytes) rest read in
+    ap (λ o. bytes_after (records_at flags o bytes)) is
+    ∙ ap (λ r. bytes_after (r >>= skims_new_behind flags)) old.1
+    ∙ behind_made (record_at (new_rules flags old.0) rest) (λ fields. (old.0, fields)) ∙ new old.0 rest old.1
 
 -- ---- items, counted
 

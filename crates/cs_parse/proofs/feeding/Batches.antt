@@ -131,7 +131,7 @@ batch_valid sections bytes text more rest why valid fits brings =
     subst (λ (r : Reached). IsChangeset r.sections) brings (read_valid sections bytes valid fits).0
 
 -- where it isn't stopped by a byte that is wrong, none is
-arrived_so : (len taken : ℕ) (sections : List Section) (rest : List ℕ) (why : Option ParseRefusal) → fault_by taken why
+pub arrived_so : (len taken : ℕ) (sections : List Section) (rest : List ℕ) (why : Option ParseRefusal) → fault_by taken why
     ≡ None → arrived len taken (record { sections = sections; rest = rest; why = why })
     ≡ so_far len taken (record { sections = sections; rest = rest; why = why })
 arrived_so len taken sections rest None none = refl

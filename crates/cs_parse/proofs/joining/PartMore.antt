@@ -266,29 +266,6 @@ pub read_induction : (P : List Section → List ℕ → Reached → Type 0) → 
     → (sections : List Section) (bytes : List ℕ) → AreBytes bytes → P sections bytes (read_on sections bytes)
 read_induction P steps sections bytes fits = by_bound P steps (length bytes) sections bytes fits (omega arith)
 
--- where no part is refused nothing is left
-abbrev EndsAll : List Section → List ℕ → Reached → Type 0
-EndsAll sections bytes reached = reached.why ≡ None → reached.rest ≡ []
-
-some_not_none : (why : ParseRefusal) → Some why ≡ None → ⊥
-some_not_none why e = cc
-
-pub part_more_read_ends : (sections : List Section) (bytes : List ℕ) → AreBytes bytes → (read_on sections bytes).why
-    ≡ None → (read_on sections bytes).rest ≡ []
-part_more_read_ends = read_induction EndsAll (record {
-  none = λ sections e. refl;
-  refused = λ sections byte bytes why fits refused e. absurd (some_not_none why e);
-  goes = λ sections bytes part fits read rest. rest;
-})
-
--- what is left are bytes
-pub rest_fits : (sections : List Section) (bytes : List ℕ) → AreBytes bytes → AreBytes (read_on sections bytes).rest
-rest_fits sections bytes fits = read_induction (λ s b reached. AreBytes b → AreBytes reached.rest) (record {
-  none = λ s fits. fits;
-  refused = λ s byte b why fits refused same. same;
-  goes = λ s b part fits read rest same. rest (part_rest_fits s b part fits read);
-}) sections bytes fits fits
-
 pub front_are_bytes : (front back : List ℕ) → AreBytes (front ++ back) → AreBytes front
 front_are_bytes front back fits =
     let n = length front in

@@ -1,5 +1,5 @@
 -- The progress of a text does not depend on the pieces that it comes in.
-use Rattle.std.proofs.Common.{◌≡◌, ℕ, ◌+◌, ◌-◌, ◌<◌, ◌≤◌, ◌⊎◌, inl, inr, Bool, true, false, cond, ltb, List, [], ◌++◌}
+use Rattle.std.proofs.Common.{◌≡◌, ℕ, ◌+◌, ◌-◌, ◌<◌, ◌≤◌, ◌⊎◌, inl, inr, cond, ltb, List, [], ◌++◌}
 use Rattle.std.proofs.Common.{length, take, Option, Some, None, refl, sym, ap, subst, ◌∙◌, arith}
 use Rattle.std.proofs.lemmas.Bool.{cases_lt, lt-ltb, le-ltb}
 use Rattle.std.proofs.lemmas.List.{length-append, take-append-le, take_all}
@@ -186,9 +186,6 @@ UnbrokenBy most text progress why = (length text ≤ most) × (progress ≡ whol
 some_fault : (fault : ParseFault) → Some fault ≡ None → ⊥
 some_fault fault e = cc
 
-fault_is : (a b : ParseFault) → Some a ≡ Some b → a ≡ b
-fault_is a b e = cc
-
 abbrev progress_fault_of : Progress → Option ParseFault
 progress_fault_of progress = progress.fault
 
@@ -220,41 +217,6 @@ pub unbroken : (text : List ℕ) → (progress_of text).fault ≡ None → Unbro
 unbroken text e =
     let u = subst (Sound most_bytes text) (sym (progress_is_read text)) (unbroken_by most_bytes text) e in
     record { within_limit = u.0; is_read = u.1; why_is = u.2 }
-
-pub progress_offset_is : (text : List ℕ) → (progress_of text).fault ≡ None → (progress_of text).offset ≡ length text
-progress_offset_is text e = ap (λ (p : Progress). p.offset) (unbroken text e).is_read
-
--- Where there is a fault nothing else is kept.
-abbrev ProgressIsBroken : Progress → Type 0
-ProgressIsBroken progress = (fault : ParseFault) → progress.fault ≡ Some fault → progress ≡ broken fault
-
-so_far_broken : (b : Bool) (most taken : ℕ) (reached : Reached)
-    → ProgressIsBroken (cond b (broken (progress_too_long most)) (whole_so_far taken reached))
-so_far_broken true most taken reached fault e = ap broken (fault_is (progress_too_long most) fault e)
-so_far_broken false most taken reached fault e = absurd (some_fault fault (sym e))
-
-stopped_broken : (most len taken : ℕ) (reached : Reached) (why : Option ParseRefusal)
-    → ProgressIsBroken (stopped_by most len taken reached why)
-stopped_broken most len taken reached None fault e = so_far_broken (ltb most len) most taken reached fault e
-stopped_broken most len taken reached (Some Short) fault e = so_far_broken (ltb most len) most taken reached fault e
-stopped_broken most len taken reached (Some (Bad left kind)) fault e =
-    ap broken (fault_is (progress_bad_at taken left kind) fault e)
-
-progress_broken_by : (most : ℕ) (text : List ℕ) → ProgressIsBroken (progress_by most text)
-progress_broken_by most text = stopped_broken most (length text) (length (take most text)) (read_on [] (take most text))
-    (read_on [] (take most text)).why
-
-pub progress_broken : (text : List ℕ) (fault : ParseFault) → (progress_of text).fault ≡ Some fault → progress_of text
-    ≡ broken fault
-progress_broken text = subst (λ p. ProgressIsBroken p) (sym (progress_is_read text))
-    (progress_broken_by most_bytes text)
-
-progress_told_or_not : (o : Option ParseFault) → (o ≡ None) ⊎ ((fault : ParseFault) × (o ≡ Some fault))
-progress_told_or_not None = inl refl
-progress_told_or_not (Some fault) = inr (fault, refl)
-
-abbrev pending_of : Progress → List ℕ
-pending_of progress = progress.pending
 
 -- no bytes are read as far as nothing
 pub progress_begins : progress_of [] ≡ nothing

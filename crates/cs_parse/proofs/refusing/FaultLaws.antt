@@ -1,7 +1,7 @@
 -- The error of reading is the text's fault, and the text's fault is the error of reading.
 use Rattle.std.proofs.Common.{◌≡◌, ℕ, suc, ◌+◌, ◌-◌, ◌<◌, ◌≤◌, ◌⊎◌, inl, inr, cond, List, [], ◌∷◌, ◌++◌, length, take}
 use Rattle.std.proofs.Common.{drop, get_or, Some, Result, Ok, Err, IsOk, refl, sym, ap, subst, ◌∙◌, append_assoc, arith}
-use Rattle.std.specs.Prelude.{nat_lt, slice_get}
+use Rattle.std.specs.Prelude.{nat_lt, slice_get, IfOk, IfErr}
 use Rattle.std.specs.List.{list_all}
 use Rattle.std.proofs.lemmas.Bool.{le-ltb, lt-ltb, and_parts, cases_lt, false≢true}
 use Rattle.std.proofs.lemmas.List.{append-nil, take_at, take-append-le, take-append-drop, take-take, drop_more}
@@ -17,7 +17,7 @@ use Rattle.cs_parse.specs.declared.fault.FaultKind.TheVariants.{TooLong, Truncat
 use Rattle.cs_parse.specs.declared.fault.ParseFault.{ParseFault}
 use Rattle.cs_parse.specs.declared.fault.ParseError.{ParseError}
 use Rattle.cs_parse.specs.declared.fault.ParseError.TheVariants.{Fault, Memory}
-use Rattle.cs_parse.specs.Answer.{ParseAnswers, ReportsFault, IsSpelled, HasChangeset, HasFault}
+use Rattle.cs_parse.specs.Answer.{IsRead, ParseAnswers, ReportsFault, IsSpelled, HasChangeset, HasFault}
 use Rattle.cs_parse.specs.Place.{BytePlace, wrong}
 use Rattle.cs_parse.specs.Stands.{Stands}
 use Rattle.cs_parse.specs.Fault.{Viable, IsFirst, AtByte, IsTooLong, IsTruncated, IsFault}
@@ -27,7 +27,7 @@ use Rattle.cs_parse.specs.declared.stop.ParseRefusal.TheVariants.{Short, Bad}
 use Rattle.cs_parse.specs.Reading.{sections_at, fault_of, whole_answer, overlong_answer, answer_of}
 use Rattle.cs_model.specs.Bytes.{AreBytes}
 use Rattle.cs_parse.proofs.reading.NumberLaws.{number_front_fits}
-use Rattle.cs_parse.proofs.reading.TextLaws.{front_long, answer_takes, answer_again, only_one}
+use Rattle.cs_parse.proofs.reading.TextLaws.{front_long, answer_takes, answer_again, only_one, none_missed}
 use Rattle.cs_parse.proofs.refusing.Exact.{ExactStopped}
 use Rattle.cs_parse.proofs.refusing.ExactText.{ExactTextSectionsText, text_stops, text_completes, text_places}
 use Rattle.cs_parse.proofs.refusing.ExactText.{viable_by, viable_whole, viable_front, not_viable}
@@ -294,6 +294,28 @@ fault_told text (Err (Fault told)) fault fits given h =
 fault_told text (Err Memory) fault fits given h =
     absurd (not_ok fault (subst (λ (r : Result (List Section) ParseFault). IsOk r) (fault_is_refused text fault fits h)
     given))
+
+-- what the result of reading tells of a text
+pub record ByReading (text : List ℕ) (result : Result (List Section) ParseError) : Type 0 where
+  pub found : IfOk result (λ changeset. Spells text changeset)
+  pub only : (changeset : List Section) → Spells text changeset → IsRead result changeset
+  pub faulty : IfErr result (λ error. ReportsFault error text)
+  pub the_fault : (fault : ParseFault) → IsFault text fault → result ≡ Err (Fault fault)
+
+pub by_reading : (text : List ℕ) (result : Result (List Section) ParseError) → AreBytes text
+    → ParseAnswers result (answer_of text) → ByReading text result
+by_reading text (Ok found) fits given = record {
+  found = answer_takes text found fits given;
+  only = λ changeset h. only_one text found changeset given h;
+  faulty = tt;
+  the_fault = λ fault h. fault_told text (Ok found) fault fits given h;
+}
+by_reading text (Err error) fits given = record {
+  found = tt;
+  only = λ changeset h. none_missed text error changeset given h;
+  faulty = error_tells text error fits given;
+  the_fault = λ fault h. fault_told text (Err error) fault fits given h;
+}
 
 pub text_has : (text : List ℕ) → AreBytes text → HasChangeset text ⊎ HasFault text
 text_has text fits = elim (answer_ends (answer_of text)) as (λ w. HasChangeset text ⊎ HasFault text) [

@@ -3,7 +3,7 @@ use Rattle.std.proofs.Common.{◌≡◌, ℕ, suc, ◌+◌, Bool, true, false, c
 use Rattle.std.proofs.Common.{get_or, set, eqb, Option, Some, None, IsSome, refl, sym, ap, subst, ◌∙◌, arith}
 use Rattle.std.proofs.Common.{length-append}
 use Rattle.link_lists.specs.declared.lane.Lane.TheVariants.{First, Second}
-use Rattle.link_lists.specs.Lanes.{Lanes, StandsIn, with_lane, pushed_back, without_key}
+use Rattle.link_lists.specs.Lanes.{Lanes, ChangesSlot, StandsIn, with_lane, pushed_back, without_key}
 use Rattle.rb_deliveries.specs.declared.ticket.Held.{Held}
 use Rattle.rb_deliveries.specs.Spans.{is_ready, is_out}
 use Rattle.rb_deliveries.specs.Taken.{AreListed, AreWoven, lists_key, held_under, held_in, held_or, nth_list}
@@ -12,7 +12,7 @@ use Rattle.rb_deliveries.proofs.lists.RiseLaws.{SlotAhead, IsLess, rise_gone, ri
 use Rattle.rb_deliveries.proofs.lists.RiseLaws.{numbers_in_order, in_order_numbers}
 use Rattle.rb_deliveries.proofs.lists.ListedLaws.{still_listed}
 use Rattle.rb_deliveries.proofs.lists.StandLaws.{StandAs, standing, records_stand, held_stand, out_stand, step_unlinked}
-use Rattle.rb_deliveries.proofs.lists.StandLaws.{stands_nowhere, step_dropped, step_in_flight, step_in_line, step_slots}
+use Rattle.rb_deliveries.proofs.lists.StandLaws.{slot_changed, stands_nowhere, step_dropped, step_in_flight, step_in_line, step_slots}
 
 -- ---- the lists
 
@@ -161,31 +161,32 @@ module _ (old one two new : Lanes Held) (key : ℕ) (are : AreWoven old)
     (unlinked : one ≡ with_lane First (without_key key old.first) old)
     (dropped : two ≡ with_lane Second (without_key key one.second) one)
     (removed : new ≡ record two { slots = set two.slots key None; spare = two.spare + 1 })
-    (some : IsSome (get_or old.slots key None)) where
-  left_lists : StandAs new (set old.slots key None) (keys_but key (nth_list 0 old.first))
-      (keys_but key (nth_list 1 old.first)) (keys_but key (nth_list 0 old.second))
-  left_lists =
-      let both = step_dropped (step_unlinked (standing old are) key unlinked) key dropped in
-      subst (λ s. StandAs new (set s key None) (keys_but key (nth_list 0 old.first))
-      (keys_but key (nth_list 1 old.first)) (keys_but key (nth_list 0 old.second))) both.slots_are
-      (step_slots both (set two.slots key None) (two.spare + 1) removed)
+    (changes : ChangesSlot two new key None) where
+  both_left : StandAs two old.slots (keys_but key (nth_list 0 old.first)) (keys_but key (nth_list 1 old.first))
+      (keys_but key (nth_list 0 old.second))
+  both_left = step_dropped (step_unlinked (standing old are) key unlinked) key dropped
+
+  left_lists : StandAs new new.slots (keys_but key (nth_list 0 old.first)) (keys_but key (nth_list 1 old.first))
+      (keys_but key (nth_list 0 old.second))
+  left_lists = record {
+    slots_are = refl;
+    two_lists = ap (λ (l : Lanes Held). l.first) removed ∙ both_left.two_lists;
+    one_list = ap (λ (l : Lanes Held). l.second) removed ∙ both_left.one_list;
+  }
+
+  left_sets : SetsSlot key None old.slots new.slots
+  left_sets = subst (λ s. SetsSlot key None s new.slots) both_left.slots_are (slot_changed two new key None changes)
 
   pub left_records : AreWoven new
   left_records =
-      records_stand left_lists (left_listed old.slots (set old.slots key None) key (nth_list 0 old.first)
-      (nth_list 1 old.first) (nth_list 0 old.second)
-      (slot_set old.slots key None (slot_within old.slots key some)) are.listed)
+      records_stand left_lists (left_listed old.slots new.slots key (nth_list 0 old.first) (nth_list 1 old.first)
+      (nth_list 0 old.second) left_sets are.listed)
 
-  pub left_held : held_in new ≡ map (held_under (set old.slots key None)) (keys_but key (nth_list 0 old.second))
+  pub left_held : held_in new ≡ map (held_under new.slots) (keys_but key (nth_list 0 old.second))
   left_held = held_stand left_lists
 
-  pub left_out : nth_list 1 new.first ≡ keys_but key (nth_list 1 old.first)
-  left_out = out_stand left_lists
-
-  pub left_same : (k : ℕ) → eqb key k ≡ false → held_under (set old.slots key None) k ≡ held_under old.slots k
-  left_same k apart =
-      ap held_or (slot_set old.slots key None (slot_within old.slots key some) k
-      ∙ ap (λ b. cond b None (get_or old.slots k None)) apart)
+  pub left_same : (k : ℕ) → eqb key k ≡ false → held_under new.slots k ≡ held_under old.slots k
+  left_same k apart = ap held_or (left_sets k ∙ ap (λ b. cond b None (get_or old.slots k None)) apart)
 
 -- before the record is removed, its key stands nowhere
 module _ (old one two : Lanes Held) (key : ℕ) (unlinked : one ≡ with_lane First (without_key key old.first) old)

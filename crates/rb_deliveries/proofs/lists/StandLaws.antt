@@ -1,12 +1,13 @@
 -- How the lists stand after each step, and what that makes of the spans that they list.
-use Rattle.std.proofs.Common.{◌≡◌, ℕ, ◌||◌, Bool, true, false, cond, List, [], ◌∷◌, ◌++◌, map, get_or, slice_get}
+use Rattle.std.proofs.Common.{◌≡◌, ℕ, ◌||◌, Bool, true, false, cond, List, [], ◌∷◌, ◌++◌, map, length, get_or, slice_get}
 use Rattle.std.proofs.Common.{eqb, Option, Some, None, refl, sym, ap, subst, ◌∙◌, inl, inr, append-nil}
 use Rattle.std.proofs.lemmas.Bool.Decides.{eqb_tells}
 use Rattle.std.proofs.lemmas.List.Folds.{list_any-append}
 use Rattle.link_lists.specs.declared.lane.Lane.TheVariants.{First, Second}
-use Rattle.link_lists.specs.Lanes.{Lanes, ChangesSlot, StandsIn, with_lane, lane_keys, pushed_back, without_key}
+use Rattle.link_lists.specs.Lanes.{Lanes, ChangesSlot, StandsIn, emptied, with_lane, lane_keys, pushed_back}
+use Rattle.link_lists.specs.Lanes.{without_key}
 use Rattle.rb_deliveries.specs.declared.ticket.Held.{Held}
-use Rattle.rb_deliveries.specs.Taken.{AreListed, AreWoven, lists_key, held_under, held_in, nth_list}
+use Rattle.rb_deliveries.specs.Taken.{AreKept, AreListed, AreWoven, lists_key, held_under, held_in, nth_list}
 use Rattle.rb_deliveries.proofs.lists.KeyLaws.{SetsSlot, keys_but, has_not_but}
 
 -- the lists of these lanes are these
@@ -128,3 +129,20 @@ slot_changed old new key x changes other =
           changes.others other (λ e. differs.1 (sym e))
           ∙ ap (λ b. cond b x (get_or old.slots other None)) (sym differs.0)
     ]
+
+-- lanes without a value have no span
+pub none_kept : (old new : Lanes Held) (spare : ℕ) → AreWoven old →
+    new ≡ record { slots = []; first = emptied old.first; second = emptied old.second; spare = spare } →
+    AreKept (Some new) 0 × (held_in new ≡ [])
+none_kept old new spare are is =
+    let stand : StandAs new [] [] [] [] = record {
+      slots_are = ap (λ (l : Lanes Held). l.slots) is;
+      two_lists = ap (λ (l : Lanes Held). l.first) is ∙ ap emptied are.two;
+      one_list = ap (λ (l : Lanes Held). l.second) is ∙ ap emptied are.one;
+    } in
+    let listed : AreListed [] [] [] [] = record {
+      ready_keys = λ key. refl;
+      out_keys = λ key. refl;
+      in_line = tt;
+      by_number = tt;
+    } in ((records_stand stand listed, sym (ap length (out_stand stand))), held_stand stand)

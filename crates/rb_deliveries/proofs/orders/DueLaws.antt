@@ -2,9 +2,7 @@
 use Rattle.std.proofs.Common.{◌≡◌, ℕ, zero, suc, ◌+◌, ◌<◌, ◌≤◌, Bool, true, false, List, [], ◌∷◌, ◌*◌, length}
 use Rattle.std.proofs.Common.{map, filter}
 use Rattle.std.proofs.Common.{Option, Some, None, IfSome, slice_get, slice_set, refl, sym, ap, subst, ◌∙◌, arith, cond}
-use Rattle.std.proofs.Common.{if◌then◌else◌, nat_lt}
-use Rattle.std.specs.Option.{is_some}
-use Rattle.std.proofs.lemmas.Bool.{lt-ltb}
+use Rattle.std.proofs.Common.{if◌then◌else◌}
 use Rattle.std.specs.List.{AllByRecursion}
 use Rattle.std.proofs.lemmas.List.{map-set}
 use Rattle.rb_deliveries.specs.declared.span.Status.TheVariants.{Ready}
@@ -18,8 +16,7 @@ use Rattle.rb_deliveries.specs.Expiry.{due_held, due_in, all_due, expired_held, 
 use Rattle.rb_deliveries.specs.Subs.{Belongs, IsGiven}
 use Rattle.rb_deliveries.specs.Tournament.{winner_of_two, at_place, winner_from}
 use Rattle.rb_deliveries.specs.Waiting.{earliest, sub_moment, sub_ticket, is_past, FirstPast, AreWaiting, StandsAgain}
-use Rattle.rb_deliveries.proofs.orders.MomentLaws.{some_due, none_due, undue_held, undue_same}
-use Rattle.rb_deliveries.proofs.orders.MomentLaws.{held_undue, expired_undue}
+use Rattle.rb_deliveries.proofs.orders.MomentLaws.{expired_undue, none_due, some_due, undue_held, undue_same}
 use Rattle.rb_deliveries.proofs.orders.Line.{earlier_fronts, not_earlier}
 use Rattle.rb_deliveries.proofs.subs.KnownLaws.{all_set}
 use Rattle.rb_deliveries.proofs.spans.LaneLaws.{count_rising}
@@ -117,19 +114,6 @@ module _ (timeout clock : ℕ) (ticket : Held → Ticket) where
           let undue = none_due timeout clock sub.lane.held h in
           (undue_same timeout clock ticket sub.lane.held undue, undue_held timeout clock sub.lane.held undue)
 
-  -- where none is due, all stay as they are
-  pub none_expire : (subs : List Sub) → all_due timeout clock subs ≡ 0
-      → map (expired_sub timeout clock ticket) subs ≡ subs
-  none_expire [] h = refl
-  none_expire (sub ∷ subs) h =
-      (λ k. ap (λ held. record sub { lane = record sub.lane { held = held } }) (by sub.closed (omega (arith, h))) k
-      ∷ none_expire subs (omega (arith, h)) k)
-    where
-      by : (b : Bool) → (if b then 0 else due_held timeout clock sub.lane.held) ≡ 0
-          → (if b then sub.lane.held else map (expired_held timeout clock ticket) sub.lane.held) ≡ sub.lane.held
-      by true h = refl
-      by false h = undue_same timeout clock ticket sub.lane.held (held_undue timeout clock sub.lane.held h)
-
   given_expired : (next : ℕ) (held : List Held) → AllByRecursion (λ h. IsGiven next h.span.status) held
       → AllByRecursion (λ h. IsGiven next h.span.status) (map (expired_held timeout clock ticket) held)
   given_expired next [] h = tt
@@ -195,15 +179,6 @@ due_part timeout clock subs s sub is =
       due_after timeout clock subs s sub (expired_sub timeout clock (λ h. h.ticket) sub) is,
       none_left timeout clock (λ h. h.ticket) sub,
     )
-
--- so a moment is past exactly where a span is due
-pub any_past : (timeout clock : ℕ) (subs : List Sub) (o : Option ℕ) → FirstPast timeout clock (map sub_moment subs) o
-    → is_some o ≡ nat_lt 0 (all_due timeout clock subs)
-any_past timeout clock subs None past = sym (ap (nat_lt 0) (all_expired timeout clock (λ h. h.ticket) subs past).1)
-any_past timeout clock subs (Some s) past =
-    let f = past_at timeout clock subs s past in
-    sym (lt-ltb 0 (all_due timeout clock subs)
-    (omega (arith, f.2, due_part timeout clock subs s f.0 f.1)))
 
 -- ---- what stands after a change
 

@@ -21,7 +21,8 @@ use Rattle.rb_deliveries.proofs.spans.JoinLaws.{Other, joins_begin, joins_cut}
 -- the stored numbers are spans of their own
 singles_stored : (latest : Ticket) (n count : ℕ) → spans_of (singles_held latest n count) ≡ singles n count
 singles_stored latest n zero = refl
-singles_stored latest n (suc count) = ap (λ (spans : List Span). single_span n ∷ spans) (singles_stored latest (suc n) count)
+singles_stored latest n (suc count) =
+    ap (λ (spans : List Span). single_span n ∷ spans) (singles_stored latest (suc n) count)
 
 -- the spans are those with this one opened
 spans_opened : (first : ℕ) (latest : Ticket) (xs : List Held)

@@ -1,7 +1,7 @@
 -- What agrees with the front, the turns and the deliveries: its tickets are before the next one, and it still agrees
 -- after a call.
-use Rattle.std.proofs.Common.{◌≡◌, ℕ, zero, suc, max, ◌≤◌, Bool, true, false, not, ◌==◌, cond, List, [], ◌∷◌, ◌++◌}
-use Rattle.std.proofs.Common.{Some, None, IfSome, map, nat_le, slice_get, slice_set, refl, sym, ap, subst, arith}
+use Rattle.std.proofs.Common.{◌≡◌, ℕ, zero, suc, max, ◌≤◌, Bool, true, false, not, ◌==◌, cond, List, [], ◌∷◌}
+use Rattle.std.proofs.Common.{Some, None, map, nat_le, slice_get, slice_set, refl, ap, subst, arith}
 use Rattle.std.proofs.Common.{length}
 use Rattle.std.specs.List.{AllByRecursion}
 use Rattle.std.proofs.lemmas.List.{length-map, length-set}
@@ -11,16 +11,12 @@ use Rattle.rb_deliveries.specs.declared.span.Status.TheVariants.{Ready, InFlight
 use Rattle.rb_deliveries.specs.declared.ticket.Ticket.{Ticket}
 use Rattle.rb_deliveries.specs.declared.ticket.Held.{Held}
 use Rattle.rb_deliveries.specs.declared.sub.Sub.{Sub}
-use Rattle.rb_deliveries.specs.Spans.{cut_spans, is_fresh, is_ready}
-use Rattle.rb_deliveries.specs.Lanes.{Lane, earlier, birth, with_birth, ticketed, lane_held, restated}
+use Rattle.rb_deliveries.specs.Spans.{is_fresh}
+use Rattle.rb_deliveries.specs.Lanes.{earlier, birth, lane_held, restated}
 use Rattle.rb_deliveries.specs.Lanes.{restated_lane, pushed_lane}
-use Rattle.rb_deliveries.specs.Orders.{ready_at, out_at, out_at_status, all_at}
 use Rattle.rb_deliveries.specs.Subs.{sub_held, IsDrawn, IsGiven, IsKnown, Belongs, delivered_sub, returned_sub}
 use Rattle.rb_deliveries.specs.Subs.{settled_sub}
-use Rattle.rb_deliveries.proofs.spans.CutLaws.{CutIsFresh, cut_fresh}
 use Rattle.rb_deliveries.proofs.orders.Line.{all_both, all_filter, all_then}
-use Rattle.rb_deliveries.proofs.orders.OrderLaws.{At, all_earlier}
-use Rattle.rb_deliveries.proofs.spans.LaneLaws.{cutting_all}
 
 -- ---- lists
 
@@ -44,37 +40,12 @@ few_set xs i x few = omega (arith, few, length-set xs i x)
 pub few_map : {A B : Type 0} {most : ℕ} (xs : List A) (f : A → B) → length xs ≤ most → length (map f xs) ≤ most
 few_map xs f few = omega (arith, few, length-map xs f)
 
--- what holds of what each thing becomes holds of all that they become
-pub all_mapped : {A B : Type 0} (P : B → Type 0) (f : A → B) (xs : List A) → AllByRecursion (λ x. P (f x)) xs
-    → AllByRecursion P (map f xs)
-all_mapped P f [] h = tt
-all_mapped P f (x ∷ xs) h = (h.0, all_mapped P f xs h.1)
-
 -- ---- earlier tickets
-
--- a span stands in an order earlier than a ticket, if it stands there
-abbrev pub StandsBefore : At → Ticket → Held → Type 0
-StandsBefore at t h = (s : ℕ) → IfSome (at s h) (λ e. earlier e.0 t ≡ true)
-
--- the in-flight order stands by the deliveries' numbers, so a given one is earlier than the next
-out_before : (number s first : ℕ) (status : Status) → IsGiven number status
-    → IfSome (out_at_status s first status) (λ e. earlier e.0 (record { front = number; turn = 0 }) ≡ true)
-out_before number s first (Ready taken) given = tt
-out_before number s first (InFlight n moment) given = grind arith
 
 -- a drawn ticket is earlier than that of the next turn
 pub drawn_before : (front turn : ℕ) (t : Ticket) → IsDrawn front turn t
     → earlier t (record { front = front; turn = suc turn }) ≡ true
 drawn_before front turn t drawn = let f = drawn.0 in let n = drawn.1 in grind arith
-
-ready_before : (front turn s : ℕ) (h : Held) → IsDrawn front turn h.ticket
-    → IfSome (ready_at s h) (λ e. earlier e.0 (record { front = front; turn = suc turn }) ≡ true)
-ready_before front turn s h drawn = by (is_ready h.span.status)
-  where
-    by : (b : Bool) → IfSome {T = Ticket × (ℕ × ℕ)} (cond b (Some (h.ticket, (s, h.span.first))) None)
-        (λ e. earlier e.0 (record { front = front; turn = suc turn }) ≡ true)
-    by true = drawn_before front turn h.ticket drawn
-    by false = tt
 
 -- the ticket of a span never taken was drawn, where its first number is placed
 pub known_birth_drawn : (front turn first : ℕ) (cutting : Ticket) → IsDrawn front turn cutting → first ≤ front
@@ -85,84 +56,10 @@ known_birth_drawn front turn first cutting drawn le = by (nat_le first cutting.f
     by true = drawn
     by false = (le, omega arith)
 
--- no span of a cutting stands in the in-flight order
-fresh_before : (number : ℕ) (cutting : Ticket) (spans : List Span) → AllByRecursion CutIsFresh spans
-    → AllByRecursion (StandsBefore out_at (record { front = number; turn = 0 })) (ticketed cutting spans)
-fresh_before number cutting spans h =
-    let t : Ticket = record { front = number; turn = 0 } in
-    all_mapped (StandsBefore out_at t) (with_birth cutting) spans
-    (all_then CutIsFresh (λ p. StandsBefore out_at t (with_birth cutting p)) spans
-    (λ p is s. subst (λ (status : Status). IfSome (out_at_status s p.first status) (λ e. earlier e.0 t ≡ true))
-    (sym is) tt) h)
-
--- the tickets of a cutting were drawn
-births_drawn : (batch front turn a : ℕ) (cutting : Ticket) → 1 ≤ batch → IsDrawn front turn cutting
-    → AllByRecursion (λ h. IsDrawn front turn h.ticket) (ticketed cutting (cut_spans batch a front))
-births_drawn batch front turn a cutting one drawn =
-    cutting_all batch front cutting (λ h. IsDrawn front turn h.ticket) one a
-    (λ x end l m n. known_birth_drawn front turn x cutting drawn (omega arith))
-
 -- an open subscription has the spans of its lane
 pub held_open : (batch front : ℕ) (sub : Sub) → sub.closed ≡ false → sub_held batch front sub
     ≡ lane_held batch front sub.lane
 held_open batch front sub is = ap (λ b. cond b [] (lane_held batch front sub.lane)) is
-
-module _ (batch front turn number : ℕ) where
-  -- what holds of a lane's spans holds of a subscription's
-  all_of_sub : (P : Held → Type 0) (sub : Sub) → AllByRecursion P (lane_held batch front sub.lane)
-      → AllByRecursion P (sub_held batch front sub)
-  all_of_sub P sub h = by sub.closed
-    where
-      by : (b : Bool) → AllByRecursion P (cond b [] (lane_held batch front sub.lane))
-      by true = tt
-      by false = h
-
-  sub_out_before : (sub : Sub) → Belongs front turn number sub
-      → AllByRecursion (StandsBefore out_at (record { front = number; turn = 0 })) (sub_held batch front sub)
-  sub_out_before sub b =
-      let t : Ticket = record { front = number; turn = 0 } in
-      let kept : Lane = sub.lane in
-      all_of_sub (StandsBefore out_at t) sub
-      (all_both (StandsBefore out_at t) kept.held (ticketed kept.cutting (cut_spans batch kept.next front))
-      (all_then (IsKnown front turn number) (StandsBefore out_at t) kept.held
-      (λ h known s. out_before number s h.span.first h.span.status known.2) b.are_known)
-      (fresh_before number kept.cutting (cut_spans batch kept.next front) (cut_fresh batch kept.next front)))
-
-  sub_ready_before : 1 ≤ batch → (sub : Sub) → Belongs front turn number sub
-      → AllByRecursion (StandsBefore ready_at (record { front = front; turn = suc turn })) (sub_held batch front sub)
-  sub_ready_before one sub b =
-      let t : Ticket = record { front = front; turn = suc turn } in
-      let kept : Lane = sub.lane in
-      let cutting : List Held = ticketed kept.cutting (cut_spans batch kept.next front) in
-      all_of_sub (StandsBefore ready_at t) sub
-      (all_then (λ h. IsDrawn front turn h.ticket) (StandsBefore ready_at t) (kept.held ++ cutting)
-      (λ h drawn s. ready_before front turn s h drawn)
-      (all_both (λ h. IsDrawn front turn h.ticket) kept.held cutting
-      (all_then (IsKnown front turn number) (λ h. IsDrawn front turn h.ticket) kept.held (λ h known. known.1)
-      b.are_known)
-      (births_drawn batch front turn kept.next kept.cutting one b.is_drawn)))
-
-  -- all that is in flight stands earlier than the next delivery will, and all that is ready earlier than the next
-  -- turn's
-  pub out_earlier : (subs : List Sub) → AllByRecursion (Belongs front turn number) subs
-      → AllByRecursion (λ e. earlier e.0 (record { front = number; turn = 0 }) ≡ true)
-      (all_at out_at 0 (map (sub_held batch front) subs))
-  out_earlier subs h =
-      let t : Ticket = record { front = number; turn = 0 } in
-      all_earlier out_at t (map (sub_held batch front) subs)
-      (all_mapped (AllByRecursion (StandsBefore out_at t)) (sub_held batch front) subs
-      (all_then (Belongs front turn number)
-      (λ sub. AllByRecursion (StandsBefore out_at t) (sub_held batch front sub)) subs sub_out_before h))
-
-  pub ready_earlier : 1 ≤ batch → (subs : List Sub) → AllByRecursion (Belongs front turn number) subs
-      → AllByRecursion (λ e. earlier e.0 (record { front = front; turn = suc turn }) ≡ true)
-      (all_at ready_at 0 (map (sub_held batch front) subs))
-  ready_earlier one subs h =
-      let t : Ticket = record { front = front; turn = suc turn } in
-      all_earlier ready_at t (map (sub_held batch front) subs)
-      (all_mapped (AllByRecursion (StandsBefore ready_at t)) (sub_held batch front) subs
-      (all_then (Belongs front turn number)
-      (λ sub. AllByRecursion (StandsBefore ready_at t) (sub_held batch front sub)) subs (sub_ready_before one) h))
 
 -- ---- after a call
 

@@ -1,113 +1,119 @@
--- Take any: the span that the search finds is the one that the picture's order names.
-use Rattle.std.proofs.Common.{◌≡◌, ℕ, ◌≤◌, max, List, Option, Some, None, Ok, option_map, slice_get, refl, sym, ap}
-use Rattle.std.proofs.Common.{subst, ◌∙◌, arith}
-use Rattle.std.specs.List.{AllByRecursion}
+-- `take_any` delivers the first span of all, or refuses `Empty` where there is none.
+use Rattle.std.proofs.Common.{◌≡◌, ℕ, true, Option, Some, None, refl, sym, ap, ◌∙◌}
+use Rattle.std.proofs.Common.{inr, max, Ok, slice_get}
+use Rattle.std.specs.List.{find}
 use Rattle.rb_deliveries.specs.declared.span.Span.{Span}
-use Rattle.rb_deliveries.specs.declared.ticket.Held.{Held}
-use Rattle.rb_deliveries.specs.declared.sub.Sub.{Sub}
+use Rattle.rb_deliveries.specs.Changes.{first_of_all, has_room_at, has_room_of, MayDeliver, span_at, span_of}
+use Rattle.rb_deliveries.specs.Changes.{span_numbered}
+use Rattle.rb_deliveries.specs.Picture.{DeliveryPicture, Subscription}
+use Rattle.rb_deliveries.specs.Spans.{beginning}
+use Rattle.rb_desk.proofs.pictures.RiseLaws.{found_passes}
+use Rattle.rb_desk.specs.Answers.{call_refusal}
+use Rattle.rb_desk.specs.Calls.{delivered_any_from, delivered_any_of, delivered_any_span, delivered_picture}
+use Rattle.rb_desk.specs.Calls.{delivery_from, has_window_room, refused_call, take_any}
 use Rattle.rb_desk.specs.declared.refusal.DeskRefusal.TheVariants as refusal
-use Rattle.rb_desk.specs.Limits.{Limits}
-use Rattle.rb_deliveries.specs.Lanes.{AreRising, least, lane_held}
-use Rattle.rb_desk.specs.Calls.{take_any, refused_call, delivered_picture, delivery_from}
-use Rattle.rb_desk.specs.Shown.{shown, shown_sub}
-use Rattle.rb_deliveries.specs.Subs.{Belongs, IsDeliverable, IsRisingAt, first_to_deliver, span_to_deliver}
-use Rattle.rb_deliveries.proofs.subs.KnownLaws.{all_get}
-use Rattle.rb_deliveries.proofs.spans.FoundLaws.{may_go_least}
-use Rattle.rb_desk.proofs.calls.OpenLaws.{IsOpen}
-use Rattle.rb_desk.proofs.calls.SearchLaws.{take_any_none, take_any_some}
-use Rattle.rb_deliveries.proofs.spans.FirstLaws.{tagged_to_go, candidates_are, first_goes, goes_open, none_some}
+use Rattle.rb_desk.specs.Picture.{deliveries_of, Picture}
 
--- the span that goes first, with its subscription
-pub record AnyGoes (lim : Limits) (front turn number : ℕ) (subs : List Sub) (s : ℕ) (span : Span) : Type 0 where
-  pub sub : Sub
-  pub held : Held
-  pub opened : IsOpen lim.batch front turn number subs s sub
-  pub leads : least (lane_held lim.batch front sub.lane) ≡ Some held
-  pub same : held.span ≡ span
-  pub first : first_to_deliver lim.window lim.batch front 0 subs ≡ Some (s, held)
+none_is_not_some : {X : Type 0} {x : X} → None ≡ Some x → ⊥
+none_is_not_some {X} {x} h = cc
 
-one_pair : {c d : ℕ × Span} → Some c ≡ Some d → c ≡ d
-one_pair {c} {d} h = cc
+-- the parts of a span with its number
+same_pair : (s t : ℕ) (p q : Span) → ◌≡◌ {A = Option (ℕ × Span)} (Some (s, p)) (Some (t, q)) → (s ≡ t) × (p ≡ q)
+same_pair s t p q e = (
+  ap (λ (o : Option (ℕ × Span)). (option_or_pair o).0) e,
+  ap (λ (o : Option (ℕ × Span)). (option_or_pair o).1) e,
+)
+  where
+    option_or_pair : Option (ℕ × Span) → ℕ × Span
+    option_or_pair None = (s, p)
+    option_or_pair (Some x) = x
 
-pair_same : (c : ℕ × Span) (b : ℕ) (q : Span) → Some c ≡ Some (b, q) → (c.0 ≡ b) × (c.1 ≡ q)
-pair_same c b q h = (ap (λ (c : ℕ × Span). c.0) (one_pair h), ap (λ (c : ℕ × Span). c.1) (one_pair h))
+-- a subscription that has the first span of all
+pub record HoldsFirst (d : DeliveryPicture) (s : ℕ) (span : Span) : Type 0 where
+  pub at : ℕ × ℕ
+  pub sub : Subscription
+  pub first : find (has_room_of d.subscriptions d.window) d.ready ≡ Some at
+  pub found : slice_get d.subscriptions at.0 ≡ Some sub
+  pub begins : beginning at.1 sub.spans ≡ Some span
+  pub is : at.0 ≡ s
 
-same_sub : {a b : Sub} → Some a ≡ Some b → a ≡ b
-same_sub {a} {b} h = cc
+pub holds_first : (d : DeliveryPicture) (s : ℕ) (span : Span) → first_of_all d ≡ Some (s, span) → HoldsFirst d s span
+holds_first d s span e = by_at (find (has_room_of d.subscriptions d.window) d.ready) refl e
+  where
+    by_span : (at : ℕ × ℕ) (q : Subscription) (o : Option Span)
+        → find (has_room_of d.subscriptions d.window) d.ready ≡ Some at
+        → slice_get d.subscriptions at.0 ≡ Some q → beginning at.1 q.spans ≡ o
+        → span_numbered at.0 o ≡ Some (s, span) → HoldsFirst d s span
+    by_span at q None first found begins e = absurd (none_is_not_some e)
+    by_span at q (Some p) first found begins e =
+        let same = same_pair at.0 s p span e in
+        record { at = at; sub = q; first = first; found = found; begins = begins ∙ ap Some same.1; is = same.0 }
 
-goes_with : (lim : Limits) (front turn number : ℕ) (subs : List Sub) (s : ℕ) (span : Span) (o : Option (ℕ × Held)) → 1
-    ≤ lim.batch → AllByRecursion (Belongs front turn number) subs
-    → first_to_deliver lim.window lim.batch front 0 subs ≡ o → option_map span_to_deliver o ≡ Some (s, span)
-    → IsRisingAt subs s → AnyGoes lim front turn number subs s span
-goes_with lim front turn number subs s span None one h e is j = absurd (none_some is)
-goes_with lim front turn number subs s span (Some c) one h e is j =
-    let same = pair_same (span_to_deliver c) s span is in
-    let g = first_goes lim.window lim.batch front 0 subs c e in
-    let here : slice_get subs s ≡ Some g.1 =
-    subst (λ k. slice_get subs k ≡ Some g.1) (omega (arith, g.2, same.0)) g.3 in
-    let o = goes_open lim.window lim.batch front g.1 c.1 g.4 in
-    let one_sub : j.0 ≡ g.1 = same_sub (sym j.1 ∙ here) in
+    by_sub : (at : ℕ × ℕ) (o : Option Subscription)
+        → find (has_room_of d.subscriptions d.window) d.ready ≡ Some at
+        → slice_get d.subscriptions at.0 ≡ o → span_of at.0 at.1 o ≡ Some (s, span) → HoldsFirst d s span
+    by_sub at None first found e = absurd (none_is_not_some e)
+    by_sub at (Some q) first found e = by_span at q (beginning at.1 q.spans) first found refl e
+
+    by_at : (o : Option (ℕ × ℕ)) → find (has_room_of d.subscriptions d.window) d.ready ≡ o
+        → span_at d.subscriptions o ≡ Some (s, span) → HoldsFirst d s span
+    by_at None first e = absurd (none_is_not_some e)
+    by_at (Some at) first e = by_sub at (slice_get d.subscriptions at.0) first refl e
+
+-- the first span of all may be delivered
+pub first_may : (d : DeliveryPicture) (s : ℕ) (span : Span) → first_of_all d ≡ Some (s, span) → MayDeliver d s span
+first_may d s span e =
+    let h = holds_first d s span e in
+    let found : slice_get d.subscriptions s ≡ Some h.sub = ap (slice_get d.subscriptions) (sym h.is) ∙ h.found in
+    let passes : has_room_of d.subscriptions d.window h.at ≡ true = found_passes _ d.ready h.at h.first in
     record {
-      sub = g.1;
-      held = c.1;
-      opened = record {
-        one = one;
-        belong = h;
-        found = here;
-        is_open = o.0;
-        rises = subst (λ (sub : Sub). AreRising sub.lane) one_sub j.2;
-      };
-      leads = o.1;
-      same = same.1;
-      first = e ∙ ap (λ n. Some (n, c.1)) same.0;
+      sub = h.sub;
+      found = found;
+      room = ap (has_room_at d.window) (sym h.found) ∙ passes;
+      first = inr e;
     }
 
-pub any_goes_first : (lim : Limits) (front turn number : ℕ) (subs : List Sub) (s : ℕ) (span : Span) → 1 ≤ lim.batch
-    → AllByRecursion (Belongs front turn number) subs
-    → option_map span_to_deliver (first_to_deliver lim.window lim.batch front 0 subs) ≡ Some (s, span)
-    → IsRisingAt subs s → AnyGoes lim front turn number subs s span
-any_goes_first lim front turn number subs s span one h is j =
-    goes_with lim front turn number subs s span (first_to_deliver lim.window lim.batch front 0 subs) one h refl is j
+pub take_any_is : (p : Picture) (now s : ℕ) (span : Span) (q : Subscription)
+    → first_of_all (deliveries_of p) ≡ Some (s, span) → slice_get p.subscriptions s ≡ Some q
+    → take_any p now ≡ (Ok (delivery_from p s q span), delivered_picture p s q span (max p.clock now))
+unfolding take_any
+take_any_is p now s span q e here =
+    let h = holds_first (deliveries_of p) s span e in
+    let here' : slice_get p.subscriptions h.at.0 ≡ Some q = ap (slice_get p.subscriptions) h.is ∙ here in
+    let mine : Some h.sub ≡ Some q = sym h.found ∙ here' in
+    let same : h.sub ≡ q = cc in
+    ap (delivered_any_from p now) h.first
+    ∙ ap (delivered_any_of p h.at.0 h.at.1 now) here'
+    ∙ ap (delivered_any_span p h.at.0 q now) (ap (λ (x : Subscription). beginning h.at.1 x.spans) (sym same) ∙ h.begins)
+    ∙ ap (λ n. (Ok (delivery_from p n q span), delivered_picture p n q span (max p.clock now))) h.is
 
--- it may go
-pub goes_may : (lim : Limits) (front turn number : ℕ) (subs : List Sub) (s : ℕ) (span : Span)
-    (g : AnyGoes lim front turn number subs s span) → IsDeliverable lim.batch front g.sub.lane span
-goes_may lim front turn number subs s span g =
-    subst (λ (span : Span). IsDeliverable lim.batch front g.sub.lane span) g.same
-    (may_go_least lim.batch front g.sub.lane g.held g.opened.one g.leads)
+none_is_refused : (p : Picture) (now : ℕ) → first_of_all (deliveries_of p) ≡ None
+    → take_any p now ≡ refused_call p (refusal.Empty p.front)
+unfolding take_any
+none_is_refused p now e = by_at (find (has_window_room p) p.ready) e
+  where
+    by_span : (s : ℕ) (q : Subscription) (o : Option Span) → span_numbered s o ≡ None
+        → delivered_any_span p s q now o ≡ refused_call p (refusal.Empty p.front)
+    by_span s q None e = refl
+    by_span s q (Some span) e = absurd (none_is_not_some (sym e))
 
--- it is handed over
-pub any_taken : (lim : Limits) (front turn clock next_link number now : ℕ) (closing : Option ℕ) (subs : List Sub)
-    (s : ℕ) (span : Span) (g : AnyGoes lim front turn number subs s span)
-    → take_any (shown lim front closing clock next_link number subs) now
-    ≡ (
-      Ok (delivery_from (shown lim front closing clock next_link number subs) s (shown_sub lim.batch front g.sub)
-          span),
-      delivered_picture (shown lim front closing clock next_link number subs) s
-          (shown_sub lim.batch front g.sub) span (max clock now),
-    )
-any_taken lim front turn clock next_link number now closing subs s span g =
-    let own = all_get (Belongs front turn number) subs s g.sub g.opened.belong g.opened.found in
-    take_any_some lim front clock next_link number now s closing subs g.sub g.held g.opened.one
-    (candidates_are lim.window lim.batch front 0 subs ∙ ap (option_map tagged_to_go) g.first) g.opened.found own.is_next
-    g.opened.rises g.opened.is_open g.leads
-    ∙ ap (λ (span : Span). (
-      Ok (delivery_from (shown lim front closing clock next_link number subs) s (shown_sub lim.batch front g.sub)
-          span),
-      delivered_picture (shown lim front closing clock next_link number subs) s
-          (shown_sub lim.batch front g.sub) span (max clock now),
-    )) g.same
+    by_sub : (s first : ℕ) (o : Option Subscription) → span_of s first o ≡ None
+        → delivered_any_of p s first now o ≡ refused_call p (refusal.Empty p.front)
+    by_sub s first None e = refl
+    by_sub s first (Some q) e = by_span s q (beginning first q.spans) e
 
-no_candidate : (o : Option (ℕ × Held)) → option_map span_to_deliver o ≡ None → option_map tagged_to_go o ≡ None
-no_candidate None h = refl
-no_candidate (Some c) h = absurd (none_some (sym h))
+    by_at : (o : Option (ℕ × ℕ)) → span_at p.subscriptions o ≡ None
+        → delivered_any_from p now o ≡ refused_call p (refusal.Empty p.front)
+    by_at None e = refl
+    by_at (Some at) e = by_sub at.0 at.1 (slice_get p.subscriptions at.0) e
 
--- nothing goes where the search finds nothing
-pub none_taken : (lim : Limits) (front clock next_link number now : ℕ) (closing : Option ℕ) (subs : List Sub)
-    → option_map span_to_deliver (first_to_deliver lim.window lim.batch front 0 subs) ≡ None
-    → take_any (shown lim front closing clock next_link number subs) now
-    ≡ refused_call (shown lim front closing clock next_link number subs) (refusal.Empty front)
-none_taken lim front clock next_link number now closing subs h =
-    take_any_none lim front clock next_link number now closing subs
-    (candidates_are lim.window lim.batch front 0 subs ∙ no_candidate (first_to_deliver lim.window lim.batch front 0
-    subs) h)
+pub take_any_goes : (p : Picture) (now : ℕ) (found : ℕ × Span) → first_of_all (deliveries_of p) ≡ Some found
+    → None ≡ call_refusal (take_any p now).0
+take_any_goes p now found e =
+    let h = holds_first (deliveries_of p) found.0 found.1 e in
+    let here : slice_get p.subscriptions found.0 ≡ Some h.sub = ap (slice_get p.subscriptions) (sym h.is) ∙ h.found in
+    ap (λ c. call_refusal c.0) (sym (take_any_is p now found.0 found.1 h.sub e here))
+
+pub take_any_is_refused : (p : Picture) (now : ℕ) → first_of_all (deliveries_of p) ≡ None
+    → Some (refusal.Empty p.front) ≡ call_refusal (take_any p now).0
+take_any_is_refused p now e = ap (λ c. call_refusal c.0) (sym (none_is_refused p now e))

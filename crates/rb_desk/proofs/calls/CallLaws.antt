@@ -1,42 +1,25 @@
 -- What a call's definition says, once the searches in it have found their item.
-use Rattle.std.proofs.Common.{◌≡◌, ◌⊎◌, inl, inr, ℕ, max, Bool, true, false, not, cond, ◌==◌, ◌||◌, ◌&&◌, ◌<◌, ◌≤◌}
-use Rattle.std.proofs.Common.{nat_lt, nat_le, filter, length, List, [], ◌∷◌, ◌++◌, Option, Some, None, Result, Ok, Err}
-use Rattle.std.proofs.Common.{IsOk, map, suc, if◌then◌else◌, slice_get, append-nil, refl, sym, ap, subst, ◌∙◌, arith}
-use Rattle.std.proofs.lemmas.Option.{slice_get-map}
-use Rattle.std.specs.Option.{option_map, option_or}
+use Rattle.std.proofs.Common.{◌≡◌, ℕ, Bool, true, false, not, cond, ◌==◌, ◌||◌, ◌<◌, ◌≤◌}
+use Rattle.std.proofs.Common.{max, nat_lt, Option, Some, None, Result, Ok, Err}
+use Rattle.std.proofs.Common.{IsOk, suc, if◌then◌else◌, slice_get, refl, sym, ap, ◌∙◌, arith}
 use Rattle.std.specs.Result.{result_err}
-use Rattle.std.specs.List.{AllByRecursion}
-use Rattle.std.proofs.lemmas.List.Folds.{find-append}
-use Rattle.std.proofs.lemmas.List.Elements.{filter-append}
-use Rattle.std.proofs.lemmas.Bool.{ltb-true, ltb-false, leb-false, lt-ltb, le-ltb, lt-leb, false≢true}
+use Rattle.std.proofs.lemmas.Bool.{ltb-true, lt-ltb, le-ltb, false≢true}
 use Rattle.rb_deliveries.specs.declared.span.Span.{Span}
-use Rattle.rb_deliveries.specs.declared.sub.Sub.{Sub}
-use Rattle.rb_deliveries.specs.declared.ticket.Held.{Held}
+use Rattle.rb_deliveries.specs.Changes.{has_room}
+use Rattle.rb_deliveries.specs.Picture.{Subscription}
+use Rattle.rb_deliveries.specs.Spans.{cut_spans, first_ready, out_as, without_first}
 use Rattle.rb_desk.specs.declared.refusal.DeskRefusal.{DeskRefusal}
 use Rattle.rb_desk.specs.declared.refusal.DeskRefusal.TheVariants as refusal
-use Rattle.rb_desk.specs.declared.refusal.DeskError.{DeskError}
-use Rattle.rb_desk.specs.declared.refusal.DeskError.TheVariants.{Memory}
-use Rattle.rb_deliveries.specs.Spans.{cut_spans, first_ready, is_out, how_many_out, is_out_as, out_as}
-use Rattle.rb_deliveries.specs.Spans.{without_first}
-use Rattle.rb_desk.specs.Picture.{Picture, Subscription}
-use Rattle.rb_desk.specs.Calls.{subscribe, subscribed_picture, settled_span, prepare, next_place, delivery_from}
-use Rattle.rb_desk.specs.Calls.{delivered_picture, is_drained, none_ready, has_room, refused_call, reconnect}
+use Rattle.rb_desk.specs.Answers.{call_refusal}
+use Rattle.rb_desk.specs.Picture.{Picture}
+use Rattle.rb_desk.specs.Calls.{settled_span, prepare, next_place, delivery_from}
+use Rattle.rb_desk.specs.Calls.{delivered_picture, refused_call, reconnect, opened_by, opened_span, nack_opened}
 use Rattle.rb_desk.specs.Calls.{reconnected_by, reconnected_picture, unsubscribe, unsubscribed_by, unsubscribed_picture}
 use Rattle.rb_desk.specs.Calls.{take, delivered_from, delivered_span, ack, acked_by, acked_span, nack, nacked_by}
-use Rattle.rb_desk.specs.Calls.{nacked_span}
-use Rattle.rb_desk.specs.Shown.{shown, shown_sub, why_none, FindsToTake}
-use Rattle.rb_deliveries.specs.Subs.{sub_held, sub_out_as}
-use Rattle.rb_desk.specs.Limits.{Limits}
-use Rattle.rb_deliveries.specs.Lanes.{Lane, lane_floor, spans_of, lane_held, lane_spans, is_none_left}
-use Rattle.rb_deliveries.proofs.spans.CutLaws.{CutIsFresh, cut_fresh, cut_none, cut_some}
-use Rattle.rb_deliveries.proofs.spans.LaneLaws.{lane_spans_is}
-use Rattle.rb_desk.specs.Answers.{DeskAnswers, call_refusal}
-
--- a subscription that is kept is shown
-pub sub_shown : (batch front s : ℕ) (subs : List Sub) (sub : Sub) → slice_get subs s ≡ Some sub
-    → slice_get (map (shown_sub batch front) subs) s ≡ Some (shown_sub batch front sub)
-sub_shown batch front s subs sub h = slice_get-map (shown_sub batch front) subs s
-    ∙ ap (option_map (shown_sub batch front)) h
+use Rattle.rb_desk.specs.Calls.{nacked_picture, nacked_span, opened_picture}
+use Rattle.rb_desk.specs.Shown.{FindsInFlight, FindsToAck, FindsToClose, FindsToReconnect, FindsToTake, IsInFlight}
+use Rattle.rb_desk.specs.Shown.{IsToTake, MayClose, MayReconnect}
+use Rattle.rb_deliveries.specs.Spans.{span_length}
 
 -- ---- calls of a subscription that was found
 
@@ -86,319 +69,89 @@ reconnect_found p s cursor q h running =
     else (Ok p.next_link, reconnected_picture p s q cursor (cut_spans p.limits.batch (suc cursor) p.front))))
     running
 
--- ---- refusals
+pub opened_found : (p : Picture) (s link d : ℕ) (q : Subscription) → slice_get p.subscriptions s ≡ Some q
+    → (link == q.link) ≡ true → nack_opened p s link d ≡ opened_span p s q (out_as d q.spans)
+unfolding nack_opened
+opened_found p s link d q h same = ap (opened_by p s link d) h
+    ∙ ap (λ t. cond (not t) (refused_call p refusal.StaleLink) (opened_span p s q (out_as d q.spans))) same
 
--- a call that isn't refused passes the first test, and what comes behind it doesn't refuse it
-not_refused_by : {A : Type 0} (test : Bool) (p : Picture) (first : DeskRefusal) (rest : Result A DeskRefusal × Picture)
-    → call_refusal (cond test (refused_call p first) rest).0 ≡ None
-    → (test ≡ false) × (call_refusal rest.0 ≡ None)
-not_refused_by true p first rest e = absurd (some_why first e)
-  where
-    some_why : (why : DeskRefusal) → Some why ≡ None → ⊥
-    some_why why e = cc
-not_refused_by false p first rest e = (refl, e)
-
-pub subscribe_goes : (p : Picture) (start : ℕ) → call_refusal (subscribe p start).0 ≡ None
-    → (start ≤ p.front) × (length p.subscriptions < 1024)
-unfolding subscribe
-subscribe_goes p start e =
-    let first = not_refused_by (nat_lt p.front start) p (refusal.StartAhead p.front) _ e in
-    let second = not_refused_by (nat_le 1024 (length p.subscriptions)) p refusal.TooMany _ first.1 in
-    (ltb-false _ _ first.0, leb-false _ _ second.0)
-
--- the error of a result is why its call is refused
-pub error_is_why : {A : Type 0} (result : Result A DeskRefusal) → result_err result ≡ call_refusal result
-error_is_why (Ok answer) = refl
-error_is_why (Err why) = refl
-
--- what is known of a call's result is known of why it is refused
-pub why_of : {A : Type 0} (call : Result A DeskRefusal × Picture) (result : Result A DeskRefusal) (new : Picture)
-    → call ≡ (result, new) → call_refusal result ≡ call_refusal call.0
-why_of {A = A} call result new e = ap (λ (c : Result A DeskRefusal × Picture). call_refusal c.0) (sym e)
-
--- ---- want of memory
-
-pub memory_answers : {A : Type 0} (result : Result A DeskError) (call : Result A DeskRefusal × Picture)
-    (old new : Picture) → result ≡ Err Memory → IsOk call.0 → new ≡ old → DeskAnswers result call old new
-memory_answers result call old new e ok same = subst (λ r. DeskAnswers r call old new) (sym e) (ok, same)
-
-pub ok_call : {A : Type 0} (call : Result A DeskRefusal × Picture) (answer : A) (new : Picture) → call
-    ≡ (Ok answer, new) → IsOk call.0
-ok_call {A = A} call answer new e = subst (λ (c : Result A DeskRefusal × Picture). IsOk c.0) (sym e) refl
-
--- ---- what is shown of a subscription
-
-absurd_none : {p : Span} → None ≡ Some p → ⊥
-absurd_none {p} h = cc
-
-fresh_none_out : (d : ℕ) (spans : List Span) → AllByRecursion CutIsFresh spans → out_as d spans ≡ None
-fresh_none_out d [] h = refl
-fresh_none_out d (p ∷ rest) h = ap (λ status. cond (is_out_as d status) (Some p) (out_as d rest)) h.0
-    ∙ fresh_none_out d rest h.1
-
-call_or_none : {X : Type 0} (o : Option X) → option_or o None ≡ o
-call_or_none None = refl
-call_or_none (Some x) = refl
-
-out_shown_by : (batch front d : ℕ) (sub : Sub) (t : Bool)
-    → out_as d (spans_of (cond t [] (lane_held batch front sub.lane))) ≡ cond t None (out_as d (spans_of sub.lane.held))
-out_shown_by batch front d sub true = refl
-out_shown_by batch front d sub false =
-    ap (out_as d) (lane_spans_is batch front sub.lane)
-    ∙ find-append (λ (p : Span). is_out_as d p.status) (spans_of sub.lane.held)
-    (cut_spans batch sub.lane.next front)
-    ∙ ap (option_or (out_as d (spans_of sub.lane.held)))
-    (fresh_none_out d (cut_spans batch sub.lane.next front) (cut_fresh batch sub.lane.next front)) ∙ call_or_none _
-
--- the span that is out as a delivery is the one that is kept
-pub out_shown : (batch front d : ℕ) (sub : Sub) → out_as d (shown_sub batch front sub).spans ≡ sub_out_as d sub
-out_shown batch front d sub = out_shown_by batch front d sub sub.closed
-
-fresh_none_counted : (spans : List Span) → AllByRecursion CutIsFresh spans
-    → filter (λ (p : Span). is_out p.status) spans ≡ []
-fresh_none_counted [] h = refl
-fresh_none_counted (p ∷ rest) h =
-    ap (λ status. cond (is_out status) (p ∷ filter (λ (p : Span). is_out p.status) rest)
-    (filter (λ (p : Span). is_out p.status) rest)) h.0 ∙ fresh_none_counted rest h.1
-
--- those that are out are among those that are kept
-pub out_counted : (batch front : ℕ) (kept : Lane) → how_many_out (lane_spans batch front kept)
-    ≡ how_many_out (spans_of kept.held)
-out_counted batch front kept =
-    ap how_many_out (lane_spans_is batch front kept)
-    ∙ ap length (filter-append (λ (p : Span). is_out p.status) (spans_of kept.held) (cut_spans batch kept.next front)
-    ∙ ap (λ rest. filter (λ (p : Span). is_out p.status) (spans_of kept.held) ++ rest)
-    (fresh_none_counted _ (cut_fresh batch kept.next front)) ∙ append-nil _)
-
-out_running_by : (t : Bool) (o : Option Span) (span : Span) → (if t then None else o) ≡ Some span → (t ≡ false)
-    × (o ≡ Some span)
-out_running_by true o span h = absurd (absurd_none h)
-out_running_by false o span h = (refl, h)
-
--- what is out is out of a subscription that isn't closed
-pub out_running : (d : ℕ) (sub : Sub) (span : Span) → sub_out_as d sub ≡ Some span → (sub.closed ≡ false)
-    × (out_as d (spans_of sub.lane.held) ≡ Some span)
-out_running d sub span h = out_running_by sub.closed (out_as d (spans_of sub.lane.held)) span h
-
--- ---- calls by what is kept
-
-pub same_link : (a b : ℕ) → a ≡ b → (b == a) ≡ true
+same_link : (a b : ℕ) → a ≡ b → (b == a) ≡ true
 same_link a b h = grind (arith, h)
 
-module _ (lim : Limits) (front : ℕ) (closing : Option ℕ) (clock next_link next_delivery : ℕ) (subs : List Sub) (s : ℕ)
-    (sub : Sub) (here : slice_get subs s ≡ Some sub) where
-  abbrev old : Picture
-  old = shown lim front closing clock next_link next_delivery subs
+-- ---- calls that find what they look for
 
-  abbrev mine : Subscription
-  mine = shown_sub lim.batch front sub
+module _ (p : Picture) (s link : ℕ) (span : Span) where
+  pub take_is : (cursor now : ℕ) (t : IsToTake p s link span) → take p s link cursor now
+      ≡ (Ok (delivery_from p s t.sub span), delivered_picture p s t.sub span (max p.clock now))
+  take_is cursor now t =
+      take_found p s link cursor now t.sub t.found (same_link _ _ t.linked) t.is_open
+      ∙ ap (λ b. if not b then refused_call p refusal.WindowFull
+      else delivered_span p s t.sub cursor now (first_ready t.sub.spans)) t.room
+      ∙ ap (delivered_span p s t.sub cursor now) t.first
 
-  pub nack_kept : (link d : ℕ) → sub.link ≡ link → nack old s link d ≡ nacked_span old s mine (sub_out_as d sub)
-  nack_kept link d same = nack_found old s link d mine (sub_shown lim.batch front s subs sub here) (same_link _ _ same)
-      ∙ ap (nacked_span old s mine) (out_shown lim.batch front d sub)
+  pub nack_is : (d : ℕ) (t : IsInFlight p s link d span) → nack p s link d ≡ (Ok tt, nacked_picture p s t.sub span)
+  nack_is d t = nack_found p s link d t.sub t.found (same_link _ _ t.linked) ∙ ap (nacked_span p s t.sub) t.out
 
-  pub ack_kept : (link d cursor : ℕ) → sub.link ≡ link → ack old s link d cursor
-      ≡ acked_span old s mine cursor (sub_out_as d sub)
-  ack_kept link d cursor same =
-      ack_found old s link d cursor mine (sub_shown lim.batch front s subs sub here) (same_link _ _ same)
-      ∙ ap (acked_span old s mine cursor) (out_shown lim.batch front d sub)
+  pub opened_is : (d : ℕ) (t : IsInFlight p s link d span)
+      → nack_opened p s link d ≡ (Ok (span_length span), opened_picture p s t.sub span)
+  opened_is d t = opened_found p s link d t.sub t.found (same_link _ _ t.linked) ∙ ap (opened_span p s t.sub) t.out
 
-  pub ack_none : (link d cursor : ℕ) → sub.link ≡ link → sub_out_as d sub ≡ None → ack old s link d cursor
-      ≡ refused_call old refusal.NotInFlight
-  ack_none link d cursor same none = ack_kept link d cursor same ∙ ap (acked_span old s mine cursor) none
+  ack_in_flight : (d cursor : ℕ) (t : IsInFlight p s link d span)
+      → ack p s link d cursor ≡ acked_span p s t.sub cursor (Some span)
+  ack_in_flight d cursor t =
+      ack_found p s link d cursor t.sub t.found (same_link _ _ t.linked) ∙ ap (acked_span p s t.sub cursor) t.out
 
-  pub ack_behind : (link d cursor : ℕ) → sub.link ≡ link → (span : Span) → sub_out_as d sub ≡ Some span → cursor
-      < span.last → ack old s link d cursor ≡ refused_call old (refusal.NotAccepted cursor)
-  ack_behind link d cursor same span out behind =
-      ack_kept link d cursor same ∙ ap (acked_span old s mine cursor) out
-      ∙ ap (λ t. if t then refused_call old (refusal.NotAccepted cursor) else settled_span old s mine span.first
-      (without_first span.first (spans_of (sub_held lim.batch front sub))))
-      (lt-ltb _ _ behind)
+  pub ack_is : (d cursor : ℕ) (t : IsInFlight p s link d span) → span.last ≤ cursor
+      → ack p s link d cursor ≡ settled_span p s t.sub span.first (without_first span.first t.sub.spans)
+  ack_is d cursor t whole =
+      ack_in_flight d cursor t
+      ∙ ap (λ b. if b then refused_call p (refusal.NotAccepted cursor) else settled_span p s t.sub span.first
+      (without_first span.first t.sub.spans)) (le-ltb _ _ whole)
 
-  pub acked : (link d cursor : ℕ) → sub.link ≡ link → (span : Span) → sub_out_as d sub ≡ Some span → span.last ≤ cursor
-      → ack old s link d cursor
-      ≡ settled_span old s mine span.first
-      (without_first span.first (spans_of (sub_held lim.batch front sub)))
-  acked link d cursor same span out whole =
-      ack_kept link d cursor same ∙ ap (acked_span old s mine cursor) out
-      ∙ ap (λ t. if t then refused_call old (refusal.NotAccepted cursor) else settled_span old s mine span.first
-      (without_first span.first (spans_of (sub_held lim.batch front sub))))
-      (le-ltb _ _ whole)
+pub reconnect_is : (p : Picture) (s cursor : ℕ) (t : MayReconnect p s cursor) → reconnect p s cursor
+    ≡ (Ok p.next_link, reconnected_picture p s t.sub cursor (cut_spans p.limits.batch (suc cursor) p.front))
+reconnect_is p s cursor t =
+    reconnect_found p s cursor t.sub t.found t.is_open
+    ∙ (λ i. cond (le-ltb _ _ t.from i || le-ltb _ _ t.to i)
+    (refused_call p (refusal.BadCursor t.sub.floor t.sub.offered))
+    (Ok p.next_link, reconnected_picture p s t.sub cursor (cut_spans p.limits.batch (suc cursor) p.front)))
 
-  pub reconnect_kept : (cursor : ℕ) → sub.closed ≡ false
-      → reconnect old s cursor ≡ (if nat_lt cursor (lane_floor sub.lane)
-      || nat_lt sub.offered cursor then refused_call old (refusal.BadCursor (lane_floor sub.lane) sub.offered) else
-      (Ok next_link, reconnected_picture old s mine cursor (cut_spans lim.batch (suc cursor) front)))
-  reconnect_kept cursor running = reconnect_found old s cursor mine (sub_shown lim.batch front s subs sub here) running
+pub unsubscribe_is : (p : Picture) (s link : ℕ) (t : MayClose p s link) → unsubscribe p s link
+    ≡ (Ok tt, unsubscribed_picture p s t.sub)
+unsubscribe_is p s link t = unsubscribe_found p s link t.sub t.found (same_link _ _ t.linked) t.is_open
 
-  pub reconnect_ok : (cursor : ℕ) → sub.closed ≡ false → lane_floor sub.lane ≤ cursor → cursor ≤ sub.offered
-      → reconnect old s cursor
-      ≡ (Ok next_link, reconnected_picture old s mine cursor (cut_spans lim.batch (suc cursor) front))
-  reconnect_ok cursor running reached offered =
-      reconnect_kept cursor running
-      ∙ (λ i. cond (le-ltb _ _ reached i || le-ltb _ _ offered i)
-      (refused_call old (refusal.BadCursor (lane_floor sub.lane) sub.offered))
-      (Ok next_link, reconnected_picture old s mine cursor (cut_spans lim.batch (suc cursor) front)))
+-- ---- why a call is refused
 
-  pub reconnect_bad : (cursor : ℕ) → sub.closed ≡ false
-      → (cursor < lane_floor sub.lane) ⊎ ((lane_floor sub.lane ≤ cursor) × (sub.offered < cursor))
-      → reconnect old s cursor ≡ (Err (refusal.BadCursor (lane_floor sub.lane) sub.offered), old)
-  reconnect_bad cursor running (inl before) =
-      reconnect_kept cursor running
-      ∙ (λ i. cond (lt-ltb _ _ before i || nat_lt sub.offered cursor)
-      (refused_call old (refusal.BadCursor (lane_floor sub.lane) sub.offered))
-      (Ok next_link, reconnected_picture old s mine cursor (cut_spans lim.batch (suc cursor) front)))
-  reconnect_bad cursor running (inr past) =
-      reconnect_kept cursor running
-      ∙ (λ i. cond (le-ltb _ _ past.0 i || lt-ltb _ _ past.1 i)
-      (refused_call old (refusal.BadCursor (lane_floor sub.lane) sub.offered))
-      (Ok next_link, reconnected_picture old s mine cursor (cut_spans lim.batch (suc cursor) front)))
+pub take_why : (p : Picture) (s link cursor now : ℕ) (result : Result Span DeskRefusal)
+    → FindsToTake result p s link cursor → result_err result ≡ call_refusal (take p s link cursor now).0
+take_why p s link cursor now (Ok span) t = ap (λ c. call_refusal c.0) (sym (take_is p s link span cursor now t))
+take_why p s link cursor now (Err why) h = ap (λ c. call_refusal c.0) (sym (h now))
 
-  pub unsubscribe_kept : (link : ℕ) → sub.link ≡ link → sub.closed ≡ false → unsubscribe old s link
-      ≡ (Ok tt, unsubscribed_picture old s mine)
-  unsubscribe_kept link same running =
-      unsubscribe_found old s link mine (sub_shown lim.batch front s subs sub here) (same_link _ _ same) running
+pub ack_why : (p : Picture) (s link d cursor : ℕ) (result : Result Span DeskRefusal)
+    → FindsToAck result p s link d cursor → result_err result ≡ call_refusal (ack p s link d cursor).0
+ack_why p s link d cursor (Ok span) t =
+    ap (λ c. call_refusal c.0) (sym (ack_is p s link span d cursor t.0 t.1))
+ack_why p s link d cursor (Err why) h = ap (λ c. call_refusal c.0) (sym h)
 
-  pub take_kept : (link cursor now : ℕ) → sub.link ≡ link → sub.closed ≡ false
-      → take old s link cursor now
-      ≡ (if not (nat_lt (how_many_out (spans_of sub.lane.held)) lim.window) then refused_call old refusal.WindowFull
-      else delivered_span old s mine cursor now (first_ready (lane_spans lim.batch front sub.lane)))
-  take_kept link cursor now same running =
-      take_found old s link cursor now mine (sub_shown lim.batch front s subs sub here) (same_link _ _ same) running
-      ∙ (λ i. if not (nat_lt (counted i) lim.window) then refused_call old refusal.WindowFull else delivered_span old s
-      mine cursor now (first_ready (spans_of (held i))))
-    where
-      held : sub_held lim.batch front sub ≡ lane_held lim.batch front sub.lane
-      held = ap (λ t. cond t [] (lane_held lim.batch front sub.lane)) running
+pub nack_why : (p : Picture) (s link d : ℕ) (result : Result Span DeskRefusal)
+    → FindsInFlight result p s link d → result_err result ≡ call_refusal (nack p s link d).0
+nack_why p s link d (Ok span) t = ap (λ c. call_refusal c.0) (sym (nack_is p s link span d t))
+nack_why p s link d (Err why) h = ap (λ c. call_refusal c.0) (sym h.1)
 
-      counted : how_many_out (spans_of (sub_held lim.batch front sub)) ≡ how_many_out (spans_of sub.lane.held)
-      counted = ap (λ xs. how_many_out (spans_of xs)) held ∙ out_counted lim.batch front sub.lane
+pub opened_why : (p : Picture) (s link d : ℕ) (result : Result Span DeskRefusal)
+    → FindsInFlight result p s link d → result_err result ≡ call_refusal (nack_opened p s link d).0
+opened_why p s link d (Ok span) t = ap (λ c. call_refusal c.0) (sym (opened_is p s link span d t))
+opened_why p s link d (Err why) h = ap (λ c. call_refusal c.0) (sym h.2)
 
-  pub take_full : (link cursor now : ℕ) → sub.link ≡ link → sub.closed ≡ false → lim.window
-      ≤ how_many_out (spans_of sub.lane.held) → take old s link cursor now ≡ refused_call old refusal.WindowFull
-  take_full link cursor now same running full =
-      take_kept link cursor now same running
-      ∙ ap (λ t. if not t then refused_call old refusal.WindowFull else delivered_span old s mine cursor now
-      (first_ready (lane_spans lim.batch front sub.lane))) (le-ltb _ _ full)
+pub reconnect_why : (p : Picture) (s cursor : ℕ) (result : Result (Unit {0}) DeskRefusal)
+    → FindsToReconnect result p s cursor → result_err result ≡ call_refusal (reconnect p s cursor).0
+reconnect_why p s cursor (Ok done) t = ap (λ c. call_refusal c.0) (sym (reconnect_is p s cursor t))
+reconnect_why p s cursor (Err why) h = ap (λ c. call_refusal c.0) (sym h)
 
-  pub take_room : (link cursor now : ℕ) → sub.link ≡ link → sub.closed ≡ false → how_many_out (spans_of sub.lane.held)
-      < lim.window
-      → take old s link cursor now
-      ≡ delivered_span old s mine cursor now (first_ready (lane_spans lim.batch front sub.lane))
-  take_room link cursor now same running room =
-      take_kept link cursor now same running
-      ∙ ap (λ t. if not t then refused_call old refusal.WindowFull else delivered_span old s mine cursor now
-      (first_ready (lane_spans lim.batch front sub.lane))) (lt-ltb _ _ room)
-
--- ---- nothing to hand over
-
-drained_cut : (t : Bool) (cursor last front : ℕ) (spans : List Span) → (t ≡ true → spans ≡ [])
-    → (t ≡ false → slice_get spans 0 ≡ None → ⊥) → is_drained spans cursor last ≡ (t && (cursor == last))
-drained_cut true cursor last front spans none some = ap (λ xs. is_drained xs cursor last) (none refl)
-drained_cut false cursor last front [] none some = absurd (some refl refl)
-drained_cut false cursor last front (p ∷ rest) none some = refl
-
-drained_held : (batch front cursor last : ℕ) (held : List Held) (kept : Lane) → kept.held ≡ held → 1 ≤ batch
-    → is_drained (spans_of held ++ cut_spans batch kept.next front) cursor last
-    ≡ (is_none_left kept front && (cursor == last))
-drained_held batch front cursor last [] kept e one =
-    drained_cut (nat_lt front kept.next) cursor last front (cut_spans batch kept.next front)
-    (λ less. cut_none batch kept.next front (ltb-true _ _ less))
-    (λ more none. some_first (cut_some batch kept.next front one (ltb-false _ _ more)) none)
-    ∙ ap (λ xs. is_none_left (record kept { held = xs }) front && (cursor == last)) (sym e)
-  where
-    some_first : {p : Span} {rest : List Span} → cut_spans batch kept.next front ≡ p ∷ rest
-        → slice_get (cut_spans batch kept.next front) 0 ≡ None → ⊥
-    some_first {p} {rest} e none = absurd_none (sym none ∙ ap (λ xs. slice_get xs 0) e)
-drained_held batch front cursor last (h ∷ rest) kept e one =
-    ap (λ xs. is_none_left (record kept { held = xs }) front && (cursor == last)) (sym e)
-
-pub drained_is : (batch front cursor last : ℕ) (kept : Lane) → 1 ≤ batch
-    → is_drained (lane_spans batch front kept) cursor last ≡ (is_none_left kept front && (cursor == last))
-drained_is batch front cursor last kept one = ap (λ xs. is_drained xs cursor last) (lane_spans_is batch front kept)
-    ∙ drained_held batch front cursor last kept.held kept refl one
-
-why_by : (front cursor : ℕ) (none_left : Bool) (p : Picture) (q : Subscription) (closing : Option ℕ) → p.front ≡ front
-    → ((last : ℕ) → is_drained q.spans cursor last ≡ (none_left && (cursor == last)))
-    → none_ready p q cursor closing ≡ why_none front none_left cursor closing
-why_by front cursor none_left p q None e h = ap refusal.Empty e
-why_by front cursor none_left p q (Some last) e h =
-    (λ i. if h last i then refusal.Drained last else refusal.Empty (e i))
-
-module _ (lim : Limits) (front : ℕ) (closing : Option ℕ) (clock next_link next_delivery : ℕ) (subs : List Sub)
-    (sub : Sub) where
-  -- why nothing is handed over, by what is kept
-  pub none_ready_is : (cursor : ℕ) → 1 ≤ lim.batch → sub.closed ≡ false
-      → none_ready (shown lim front closing clock next_link next_delivery subs) (shown_sub lim.batch front sub) cursor
-      closing ≡ why_none front (is_none_left sub.lane front) cursor closing
-  none_ready_is cursor one running =
-      why_by front cursor (is_none_left sub.lane front) (shown lim front closing clock next_link next_delivery subs)
-      (shown_sub lim.batch front sub) closing refl
-      (λ last. ap (λ t. is_drained (spans_of (cond t [] (lane_held lim.batch front sub.lane))) cursor last) running
-      ∙ drained_is lim.batch front cursor last sub.lane one)
-
--- ---- take, whole
-
-module _ (lim : Limits) (front : ℕ) (closing : Option ℕ) (clock next_link next_delivery : ℕ) (subs : List Sub) (s : ℕ)
-    (sub : Sub) (here : slice_get subs s ≡ Some sub)
-    (link cursor now : ℕ) (same : sub.link ≡ link) (running : sub.closed ≡ false)
-    (room : how_many_out (spans_of sub.lane.held) < lim.window) where
-  abbrev before : Picture
-  before = shown lim front closing clock next_link next_delivery subs
-
-  pub nothing_taken : 1 ≤ lim.batch → first_ready (lane_spans lim.batch front sub.lane) ≡ None
-      → take before s link cursor now
-      ≡ refused_call before (why_none front (is_none_left sub.lane front) cursor closing)
-  nothing_taken one none =
-      take_room lim front closing clock next_link next_delivery subs s sub here link cursor now same running room
-      ∙ ap (delivered_span before s (shown_sub lim.batch front sub) cursor now) none
-      ∙ ap (refused_call before)
-      (none_ready_is lim front closing clock next_link next_delivery subs sub cursor one running)
-
-  pub taken : (span : Span) → first_ready (lane_spans lim.batch front sub.lane) ≡ Some span
-      → take before s link cursor now
-      ≡ (
-        Ok (delivery_from before s (shown_sub lim.batch front sub) span),
-        delivered_picture before s (shown_sub lim.batch front sub) span (max clock now),
-      )
-  taken span some =
-      take_room lim front closing clock next_link next_delivery subs s sub here link cursor now same running room
-      ∙ ap (delivered_span before s (shown_sub lim.batch front sub) cursor now) some
-
--- why nothing is taken follows from what is found
-pub finds_why : (lim : Limits) (front : ℕ) (closing : Option ℕ) (subs : List Sub) (s link cursor : ℕ)
-    (result : Result Span DeskRefusal) → FindsToTake result lim front closing subs s link cursor
-    → (clock next_link next_delivery now : ℕ)
-    → call_refusal result
-    ≡ call_refusal (take (shown lim front closing clock next_link next_delivery subs) s link cursor now).0
-finds_why lim front closing subs s link cursor (Ok span) t clock next_link next_delivery now =
-    why_of (take (shown lim front closing clock next_link next_delivery subs) s link cursor now)
-    (Ok (delivery_from (shown lim front closing clock next_link next_delivery subs) s
-    (shown_sub lim.batch front t.sub) span)) _
-    (taken lim front closing clock next_link next_delivery subs s t.sub t.found link cursor now t.linked t.is_open
-    t.room span t.first)
-finds_why lim front closing subs s link cursor (Err why) h clock next_link next_delivery now =
-    why_of (take (shown lim front closing clock next_link next_delivery subs) s link cursor now) (Err why) _
-    (h clock next_link next_delivery now)
-
--- ---- a subscription more
-
-pub subscribe_kept : (p : Picture) (start : ℕ) → start ≤ p.front → length p.subscriptions < 1024
-    → subscribe p start
-    ≡ (
-      Ok (length p.subscriptions, p.next_link),
-      subscribed_picture p start (cut_spans p.limits.batch (suc start) p.front),
-    )
-unfolding subscribe
-subscribe_kept p start behind few =
-    (λ i. cond (le-ltb _ _ behind i) (refused_call p (refusal.StartAhead p.front))
-    (cond (few_enough i) (refused_call p refusal.TooMany) (
-      Ok (length p.subscriptions, p.next_link),
-      subscribed_picture p start (cut_spans p.limits.batch (suc start) p.front),
-    )))
-  where
-    few_enough : nat_le 1024 (length p.subscriptions) ≡ false
-    few_enough = lt-leb 1024 (length p.subscriptions) few
+pub unsubscribe_why : (p : Picture) (s link : ℕ) (result : Result (Unit {0}) DeskRefusal)
+    → FindsToClose result p s link → result_err result ≡ call_refusal (unsubscribe p s link).0
+unsubscribe_why p s link (Ok done) t = ap (λ c. call_refusal c.0) (sym (unsubscribe_is p s link t))
+unsubscribe_why p s link (Err why) h = ap (λ c. call_refusal c.0) (sym h)
 
 -- ---- placing
 

@@ -5,12 +5,14 @@ use Rattle.std.proofs.Common.{inl, inr, List, [], ◌∷◌}
 use Rattle.std.specs.Prelude.{slice_get}
 use Rattle.std.proofs.lemmas.Bool.{false≢true}
 use Rattle.std.proofs.lemmas.Bool.Decides.{eqb_tells}
-use Rattle.rb_desk.specs.Calls.{take, delivered_from, delivered_span, delivery_from, has_room, is_drained, none_ready}
+use Rattle.rb_desk.specs.Calls.{take, delivered_from, delivered_span, delivery_from, is_drained, none_ready}
+use Rattle.rb_deliveries.specs.Changes.{has_room}
 use Rattle.rb_desk.specs.Calls.{refused_call}
 use Rattle.rb_desk.proofs.pictures.KeepCut.{either_way}
 use Rattle.rb_deliveries.specs.Spans.{first_ready}
 use Rattle.rb_deliveries.specs.declared.span.Span.{Span}
-use Rattle.rb_desk.specs.Picture.{Picture, Subscription}
+use Rattle.rb_desk.specs.Picture.{Picture}
+use Rattle.rb_deliveries.specs.Picture.{Subscription}
 use Rattle.rb_desk.specs.declared.delivery.Delivery.{Delivery}
 use Rattle.rb_desk.specs.declared.refusal.DeskRefusal.{DeskRefusal}
 use Rattle.rb_desk.specs.declared.refusal.DeskRefusal.TheVariants as refusal

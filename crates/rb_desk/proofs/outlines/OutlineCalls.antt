@@ -8,13 +8,17 @@ use Rattle.rb_desk.specs.declared.delivery.Delivery.{Delivery}
 use Rattle.rb_desk.specs.declared.refusal.DeskRefusal.{DeskRefusal}
 use Rattle.rb_deliveries.specs.declared.span.Span.{Span}
 use Rattle.rb_deliveries.specs.Spans.{cut_spans, is_ready, first_ready, out_as, beginning, grown_spans}
-use Rattle.rb_desk.specs.Picture.{Picture, Subscription}
-use Rattle.rb_desk.specs.Calls.{has_room, subscribe, subscribed_picture, take, delivered_from, delivered_span, take_any}
-use Rattle.rb_desk.specs.Calls.{delivered_any_from, delivered_any_of, delivered_any_span, may_deliver, ack, acked_by}
+use Rattle.rb_desk.specs.Picture.{Picture}
+use Rattle.rb_deliveries.specs.Picture.{Subscription}
+use Rattle.rb_desk.specs.Calls.{subscribe, subscribed_picture, take, delivered_from, delivered_span, take_any}
+use Rattle.rb_deliveries.specs.Changes.{has_room}
+use Rattle.rb_desk.specs.Calls.{delivered_any_from, delivered_any_of, delivered_any_span, has_window_room, ack, acked_by}
 use Rattle.rb_desk.specs.Calls.{acked_span, nack, nacked_by, nacked_span, nack_opened, opened_by, opened_span}
-use Rattle.rb_desk.specs.Calls.{expire, goes_back, reconnect}
+use Rattle.rb_desk.specs.Calls.{expire, reconnect}
+use Rattle.rb_deliveries.specs.Changes.{goes_back}
 use Rattle.rb_desk.specs.Calls.{reconnected_picture, reconnected_by, unsubscribe, unsubscribed_picture, unsubscribed_by}
-use Rattle.rb_desk.specs.Calls.{prepare, place, grown_subscription, close, last_number}
+use Rattle.rb_desk.specs.Calls.{prepare, place, close, last_number}
+use Rattle.rb_deliveries.specs.Changes.{grown_subscription}
 use Rattle.rb_desk.specs.IsPicture.{IsPicture}
 use Rattle.rb_desk.specs.Outline.{member_of, outline_of}
 use Rattle.rb_desk.specs.Outline as outline
@@ -87,7 +91,7 @@ outline_calls_take_tells p s link cursor now = by (slice_get p.subscriptions s) 
 
 pub outline_calls_take_any_tells : (p : Picture) (now : ℕ) → OutlinesTells p (OutlineCallsTook p) (take_any p now)
 unfolding take_any
-outline_calls_take_any_tells p now = by (find (may_deliver p) p.ready)
+outline_calls_take_any_tells p now = by (find (has_window_room p) p.ready)
   where
     by_span : (at : ℕ × ℕ) (q : Subscription) (o : Option Span) → slice_get p.subscriptions at.0 ≡ Some q
         → beginning at.1 q.spans ≡ o → OutlinesTells p (OutlineCallsTook p) (delivered_any_span p at.0 q now o)

@@ -4,7 +4,8 @@ use Rattle.std.proofs.Common.{Result, Ok, Err, find, slice_get, slice_set, refl,
 use Rattle.std.proofs.lemmas.Option.{slice_get-map}
 use Rattle.rb_desk.specs.declared.refusal.DeskRefusal.{DeskRefusal}
 use Rattle.rb_deliveries.specs.declared.span.Span.{Span}
-use Rattle.rb_desk.specs.Picture.{Picture, Subscription}
+use Rattle.rb_desk.specs.Picture.{Picture}
+use Rattle.rb_deliveries.specs.Picture.{Subscription}
 use Rattle.rb_desk.specs.Calls.{delivery_from, delivered_picture}
 use Rattle.rb_desk.specs.IsPicture.{IsPicture}
 use Rattle.rb_desk.specs.Outline.{Member, Outline, member_of, outline_of}

@@ -14,13 +14,17 @@ use Rattle.rb_deliveries.specs.declared.span.Span.{Span}
 use Rattle.rb_deliveries.specs.declared.span.Status.{Status}
 use Rattle.rb_desk.specs.Limits.{Limits}
 use Rattle.rb_deliveries.specs.Spans.{fresh, cut_spans, is_ready, is_out, is_out_as, beginning, how_many_out, floor_of}
-use Rattle.rb_desk.specs.Picture.{Picture, Subscription, empty_picture}
-use Rattle.rb_desk.specs.Calls.{named, with_subscription, without_subscription, subscribe, subscribed_picture}
+use Rattle.rb_deliveries.specs.Spans.{SpansRise}
+use Rattle.rb_desk.specs.Picture.{Picture, empty_picture}
+use Rattle.rb_deliveries.specs.Picture.{Subscription}
+use Rattle.rb_desk.specs.Calls.{subscribe, subscribed_picture}
+use Rattle.rb_deliveries.specs.Changes.{named, without_subscription}
 use Rattle.rb_desk.specs.Calls.{reconnect, reconnected_picture, reconnected_by, unsubscribe, unsubscribed_picture}
 use Rattle.rb_desk.specs.Calls.{unsubscribed_by, close, last_number}
-use Rattle.rb_desk.specs.IsPicture.{AreInRange, SpansRise, IsInSpan, IsGoodSpan, IsGoodSubscription, how_often}
+use Rattle.rb_desk.specs.IsPicture.{AreInRange, IsInSpan, IsGoodSpan, IsGoodSubscription, how_often}
 use Rattle.rb_desk.specs.IsPicture.{one_if, span_there, stands_there, links_of, IsPicture}
 use Rattle.rb_deliveries.proofs.spans.CutLaws.{CutIsFresh, cut_ends, cut_fresh, cut_induction}
+use Rattle.rb_deliveries.proofs.spans.RisingLaws.{cut_rise}
 use Rattle.rb_deliveries.proofs.orders.Line.{all_both, all_then, filter_none}
 use Rattle.rb_deliveries.proofs.subs.KnownLaws.{all_get}
 use Rattle.rb_desk.proofs.pictures.PictureLaws.{count_cons, often_append, often_without_all, often_named, links_none}
@@ -64,14 +68,7 @@ one_in_batch limits h = leb-true 1 limits.batch (by (nat_le 1 limits.batch) (nat
 
 -- ---- a cutting
 
--- its spans rise, the first one begins where the cutting does, and each number that is cut is in one
-pub cut_rise : (batch a b : ℕ) → 1 ≤ batch → a ≤ suc b → SpansRise a (cut_spans batch a b) b
-cut_rise batch a b one =
-    cut_induction batch b (λ a spans. a ≤ suc b → SpansRise a spans b) one
-    (λ a less h. omega arith)
-    (λ a le rest h. (omega arith, omega arith, rest (omega arith)))
-    (suc b - a) a (omega arith)
-
+-- the first span begins where the cutting does, and each number that is cut is in one
 pub cut_floor : (batch a b : ℕ) → 1 ≤ batch → a ≤ b → floor_of (cut_spans batch (suc a) b) b ≡ a
 cut_floor batch a b one le =
     cut_induction batch b (λ low spans. low ≡ suc a → floor_of spans b ≡ a) one
@@ -244,8 +241,12 @@ keep_cut_subscribe_keeps p start k =
 -- the picture then, with the next link as it is then
 abbrev pub replaced : Picture → ℕ → Subscription → ℕ → List (ℕ × ℕ) → Picture
 replaced p s q' link ready =
-    record (with_subscription p s q')
-    { next_link = link; ready = ready; in_flight = without_subscription s p.in_flight }
+    record p {
+      subscriptions = slice_set p.subscriptions s q';
+      next_link = link;
+      ready = ready;
+      in_flight = without_subscription s p.in_flight;
+    }
 
 -- it is a picture where the subscription is a good one with its former link or one not given yet
 pub replaced_keeps : (p : Picture) (s link low high : ℕ) (q q' : Subscription) → IsPicture p

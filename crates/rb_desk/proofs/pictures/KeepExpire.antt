@@ -10,14 +10,17 @@ use Rattle.rb_deliveries.specs.declared.span.Span.{Span}
 use Rattle.rb_deliveries.specs.declared.span.Status.{Status}
 use Rattle.rb_deliveries.specs.declared.span.Status.TheVariants.{Ready, InFlight}
 use Rattle.rb_deliveries.specs.Spans.{is_ready, is_fresh, is_out, is_out_as, is_due, beginning, gone_back}
+use Rattle.rb_deliveries.specs.Spans.{SpansRise}
 use Rattle.rb_deliveries.specs.Spans.{floor_of}
-use Rattle.rb_desk.specs.Picture.{Picture, Subscription}
-use Rattle.rb_desk.specs.Calls.{expire, expired_at, expires, goes_back, is_due_of, span_is_due}
-use Rattle.rb_desk.specs.IsPicture.{SpansRise, IsInSpan, IsGoodSpan, IsGoodSubscription, one_if, span_there}
+use Rattle.rb_desk.specs.Picture.{Picture}
+use Rattle.rb_deliveries.specs.Picture.{Subscription}
+use Rattle.rb_desk.specs.Calls.{expire, expired_at}
+use Rattle.rb_deliveries.specs.Changes.{expires_of}
+use Rattle.rb_deliveries.specs.Changes.{goes_back, is_due_of, span_is_due}
+use Rattle.rb_desk.specs.IsPicture.{IsInSpan, IsGoodSpan, IsGoodSubscription, one_if, span_there}
 use Rattle.rb_desk.specs.IsPicture.{stands_there, IsPicture}
 use Rattle.rb_deliveries.proofs.orders.Line.{all_then}
-use Rattle.rb_deliveries.proofs.subs.KnownLaws.{all_mapped}
-use Rattle.rb_desk.proofs.pictures.PictureLaws.{count_cons, often_append, often_filter}
+use Rattle.rb_desk.proofs.pictures.PictureLaws.{all_mapped, count_cons, often_append, often_filter}
 use Rattle.rb_desk.proofs.pictures.KeepCut.{either_way}
 use Rattle.rb_desk.proofs.pictures.KeepPlace.{links_mapped, out_mapped}
 
@@ -204,15 +207,15 @@ expired_keeps p clock k = record {
         k.deliveries d,
       );
   ready = λ s first.
-      often_append s first p.ready (filter (expires p clock) p.in_flight)
-      ∙ (λ i. k.ready s first i + often_filter (expires p clock) s first p.in_flight i)
-      ∙ ap (λ n. stands_there is_ready first (slice_get p.subscriptions s) + cond (expires p clock (s, first)) n 0)
+      often_append s first p.ready (filter (expires_of p.subscriptions p.limits.timeout clock) p.in_flight)
+      ∙ (λ i. k.ready s first i + often_filter (expires_of p.subscriptions p.limits.timeout clock) s first p.in_flight i)
+      ∙ ap (λ n. stands_there is_ready first (slice_get p.subscriptions s) + cond (expires_of p.subscriptions p.limits.timeout clock (s, first)) n 0)
       (k.out s first)
       ∙ sym (ap (stands_there is_ready first) (slice_get-map goes p.subscriptions s)
       ∙ ready_there p.limits.timeout clock first (slice_get p.subscriptions s));
   out = λ s first.
-      often_filter (λ at. not (expires p clock at)) s first p.in_flight
-      ∙ ap (λ n. cond (not (expires p clock (s, first))) n 0) (k.out s first)
+      often_filter (λ at. not (expires_of p.subscriptions p.limits.timeout clock at)) s first p.in_flight
+      ∙ ap (λ n. cond (not (expires_of p.subscriptions p.limits.timeout clock (s, first))) n 0) (k.out s first)
       ∙ sym (ap (stands_there is_out first) (slice_get-map goes p.subscriptions s)
       ∙ out_there p.limits.timeout clock first (slice_get p.subscriptions s));
 }

@@ -11,17 +11,20 @@ use Rattle.rb_deliveries.specs.declared.span.Status.TheVariants.{Ready, InFlight
 use Rattle.rb_desk.specs.declared.delivery.Delivery.{Delivery}
 use Rattle.rb_desk.specs.declared.refusal.DeskRefusal.TheVariants as refusal
 use Rattle.rb_deliveries.specs.Spans.{is_ready, is_out, is_out_as, beginning, first_ready, how_many_out, with_status}
-use Rattle.rb_desk.specs.Picture.{Picture, Subscription}
-use Rattle.rb_desk.specs.Calls.{has_room, delivered_picture, is_span, without_span, take, delivered_from}
+use Rattle.rb_deliveries.specs.Spans.{SpansRise}
+use Rattle.rb_desk.specs.Picture.{Picture}
+use Rattle.rb_deliveries.specs.Picture.{Subscription}
+use Rattle.rb_desk.specs.Calls.{delivered_picture, take, delivered_from}
+use Rattle.rb_deliveries.specs.Changes.{has_room, is_span, without_span}
 use Rattle.rb_desk.specs.Calls.{delivered_span, take_any, delivered_any_from, delivered_any_of, delivered_any_span}
-use Rattle.rb_desk.specs.Calls.{may_deliver, refused_call}
-use Rattle.rb_desk.specs.IsPicture.{IsPicture, IsGoodSubscription, IsGoodSpan, SpansRise, how_often, one_if, span_there}
+use Rattle.rb_desk.specs.Calls.{has_window_room, refused_call}
+use Rattle.rb_desk.specs.IsPicture.{IsPicture, IsGoodSubscription, IsGoodSpan, how_often, one_if, span_there}
 use Rattle.rb_desk.specs.IsPicture.{out_in}
 use Rattle.rb_desk.proofs.pictures.PictureLaws.{out_of, out_set, spans_later, floors_same, floors_set, changed_keeps}
 use Rattle.rb_desk.proofs.pictures.PictureLaws.{links_as_before, count_cons}
 use Rattle.rb_desk.proofs.pictures.StandLaws.{own_name, found_good, open_rise, order_here, goes_others, goes_mine}
 use Rattle.rb_desk.proofs.pictures.StandLaws.{comes_others, comes_mine}
-use Rattle.rb_desk.proofs.calls.OpenLaws.{ready_not_out}
+use Rattle.rb_deliveries.proofs.pictures.OpenLaws.{ready_not_out}
 use Rattle.rb_deliveries.proofs.orders.Line.{all_then, filter_none}
 use Rattle.rb_desk.proofs.pictures.RiseLaws.{rise_ends, all_spans_found, found_passes, found_begins, restated_rise}
 use Rattle.rb_desk.proofs.pictures.RiseLaws.{restated_count, restated_all, restated_floor, restated_in}
@@ -219,24 +222,24 @@ floors_rise_take p s link cursor now =
 
 -- what holds of the picture, and of it after each span of the ready order that may be handed over, holds after take any
 pub take_any_does : (P : Picture → Type 0) (p : Picture) (now : ℕ) → P p
-    → ((at : ℕ × ℕ) (q : Subscription) (span : Span) → find (may_deliver p) p.ready ≡ Some at
+    → ((at : ℕ × ℕ) (q : Subscription) (span : Span) → find (has_window_room p) p.ready ≡ Some at
     → slice_get p.subscriptions at.0 ≡ Some q → beginning at.1 q.spans ≡ Some span
     → P (delivered_picture p at.0 q span (max p.clock now)))
     → P (take_any p now).1
 unfolding take_any
-take_any_does P p now same goes = by (find (may_deliver p) p.ready) refl
+take_any_does P p now same goes = by (find (has_window_room p) p.ready) refl
   where
-    by_span : (at : ℕ × ℕ) (q : Subscription) (o : Option Span) → find (may_deliver p) p.ready ≡ Some at
+    by_span : (at : ℕ × ℕ) (q : Subscription) (o : Option Span) → find (has_window_room p) p.ready ≡ Some at
         → slice_get p.subscriptions at.0 ≡ Some q → beginning at.1 q.spans ≡ o → P (delivered_any_span p at.0 q now o).1
     by_span at q None first here is = same
     by_span at q (Some span) first here is = goes at q span first here is
 
-    by_sub : (at : ℕ × ℕ) (o : Option Subscription) → find (may_deliver p) p.ready ≡ Some at
+    by_sub : (at : ℕ × ℕ) (o : Option Subscription) → find (has_window_room p) p.ready ≡ Some at
         → slice_get p.subscriptions at.0 ≡ o → P (delivered_any_of p at.0 at.1 now o).1
     by_sub at None first is = same
     by_sub at (Some q) first is = by_span at q (beginning at.1 q.spans) first is refl
 
-    by : (o : Option (ℕ × ℕ)) → find (may_deliver p) p.ready ≡ o → P (delivered_any_from p now o).1
+    by : (o : Option (ℕ × ℕ)) → find (has_window_room p) p.ready ≡ o → P (delivered_any_from p now o).1
     by None is = same
     by (Some at) is = by_sub at (slice_get p.subscriptions at.0) is refl
 
@@ -256,7 +259,7 @@ order_found test (x ∷ xs) at found = by (test x) refl found (order_found test 
     by false is here next = let r = next here in (r.0, omega (arith, r.1, count_cons (is_span at.0 at.1) x xs))
 
 -- where its subscription may go there is room
-may_go_room : (p : Picture) (at : ℕ × ℕ) (q : Subscription) → slice_get p.subscriptions at.0 ≡ Some q → may_deliver p at
+may_go_room : (p : Picture) (at : ℕ × ℕ) (q : Subscription) → slice_get p.subscriptions at.0 ≡ Some q → has_window_room p at
     ≡ has_room p.limits.window q
 may_go_room p at q here = rw here refl
 
@@ -269,11 +272,11 @@ stands_ready (InFlight number moment) n le e = absurd (omega (arith, le, e))
 pub keep_hand_take_any_keeps : (p : Picture) (now : ℕ) → IsPicture p → IsPicture (take_any p now).1
 keep_hand_take_any_keeps p now good = take_any_does IsPicture p now good goes
   where
-    goes : (at : ℕ × ℕ) (q : Subscription) (span : Span) → find (may_deliver p) p.ready ≡ Some at
+    goes : (at : ℕ × ℕ) (q : Subscription) (span : Span) → find (has_window_room p) p.ready ≡ Some at
         → slice_get p.subscriptions at.0 ≡ Some q → beginning at.1 q.spans ≡ Some span
         → IsPicture (delivered_picture p at.0 q span (max p.clock now))
     goes at q span first here found =
-        let stands = order_found (may_deliver p) p.ready at first in
+        let stands = order_found (has_window_room p) p.ready at first in
         let its : span.first ≡ at.1 =
         eqb-true span.first at.1 (found_passes (λ x. x.first == at.1) q.spans span found) in
         let often : how_often at.0 at.1 p.ready ≡ one_if (is_ready span.status) =

@@ -4,11 +4,14 @@ use Rattle.std.proofs.Common.{Option, Some, None, slice_get, slice_set, eq-eqb, 
 use Rattle.rb_deliveries.specs.declared.span.Span.{Span}
 use Rattle.rb_desk.specs.declared.refusal.DeskRefusal.TheVariants as refusal
 use Rattle.rb_deliveries.specs.Spans.{is_ready, is_out, is_out_as, beginning, out_as, how_many_out, opened_spans}
+use Rattle.rb_deliveries.specs.Spans.{SpansRise}
 use Rattle.rb_deliveries.specs.Spans.{single_span, singles, span_length}
-use Rattle.rb_desk.specs.Picture.{Picture, Subscription}
-use Rattle.rb_desk.specs.Calls.{named, without_span, opened_picture, nack_opened, opened_by, opened_span, refused_call}
-use Rattle.rb_desk.specs.IsPicture.{IsPicture, IsGoodSubscription, IsGoodSpan, SpansRise, how_often, span_there, out_in}
-use Rattle.rb_desk.proofs.calls.OpenLaws.{out_not_ready}
+use Rattle.rb_desk.specs.Picture.{Picture}
+use Rattle.rb_deliveries.specs.Picture.{Subscription}
+use Rattle.rb_desk.specs.Calls.{opened_picture, nack_opened, opened_by, opened_span, refused_call}
+use Rattle.rb_deliveries.specs.Changes.{named, without_span}
+use Rattle.rb_desk.specs.IsPicture.{IsPicture, IsGoodSubscription, IsGoodSpan, how_often, span_there, out_in}
+use Rattle.rb_deliveries.proofs.pictures.OpenLaws.{out_not_ready}
 use Rattle.rb_desk.proofs.pictures.PictureLaws.{NoFloorFalls, often_append, often_named, out_set, floors_same}
 use Rattle.rb_desk.proofs.pictures.PictureLaws.{floors_set, changed_keeps, links_as_before}
 use Rattle.rb_desk.proofs.pictures.RiseLaws.{all_spans_found}

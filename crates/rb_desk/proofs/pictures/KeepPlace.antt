@@ -11,15 +11,18 @@ use Rattle.rb_deliveries.specs.declared.span.Span.{Span}
 use Rattle.rb_deliveries.specs.declared.span.Status.{Status}
 use Rattle.rb_deliveries.specs.declared.span.Status.TheVariants.{Ready}
 use Rattle.rb_deliveries.specs.Spans.{fresh, is_ready, is_fresh, is_out, is_out_as, beginning, last_takes, last_with}
+use Rattle.rb_deliveries.specs.Spans.{SpansRise}
 use Rattle.rb_deliveries.specs.Spans.{grown_spans, floor_of}
-use Rattle.rb_desk.specs.Picture.{Picture, Subscription}
-use Rattle.rb_desk.specs.Calls.{is_span, prepare, place, grown_subscription, begun_spans}
-use Rattle.rb_desk.specs.IsPicture.{SpansRise, IsInSpan, IsGoodSpan, IsGoodSubscription, how_often, one_if}
+use Rattle.rb_desk.specs.Picture.{Picture}
+use Rattle.rb_deliveries.specs.Picture.{Subscription}
+use Rattle.rb_desk.specs.Calls.{prepare, place}
+use Rattle.rb_deliveries.specs.Changes.{is_span, grown_subscription, begun_spans}
+use Rattle.rb_desk.specs.IsPicture.{IsInSpan, IsGoodSpan, IsGoodSubscription, how_often, one_if}
 use Rattle.rb_desk.specs.IsPicture.{span_there, stands_there, links_of, out_in, IsPicture}
 use Rattle.rb_desk.proofs.calls.CallLaws.{may_place}
 use Rattle.rb_deliveries.proofs.orders.Line.{all_both, all_then}
-use Rattle.rb_deliveries.proofs.subs.KnownLaws.{all_get, all_mapped}
-use Rattle.rb_desk.proofs.pictures.PictureLaws.{count_cons, count_append, often_append, out_of}
+use Rattle.rb_deliveries.proofs.subs.KnownLaws.{all_get}
+use Rattle.rb_desk.proofs.pictures.PictureLaws.{all_mapped, count_cons, count_append, often_append, out_of}
 use Rattle.rb_desk.proofs.pictures.KeepCut.{keep_cut_either, either_way, one_in_batch}
 use Rattle.rb_desk.proofs.pictures.RiseLaws.{rise_reach}
 

@@ -10,15 +10,18 @@ use Rattle.rb_deliveries.specs.declared.span.Status.{Status}
 use Rattle.rb_deliveries.specs.declared.span.Status.TheVariants.{Ready, InFlight}
 use Rattle.rb_desk.specs.declared.refusal.DeskRefusal.TheVariants as refusal
 use Rattle.rb_deliveries.specs.Spans.{is_ready, is_out, is_out_as, is_fresh, beginning, out_as, how_many_out}
+use Rattle.rb_deliveries.specs.Spans.{SpansRise}
 use Rattle.rb_deliveries.specs.Spans.{with_status, without_first, floor_of}
-use Rattle.rb_desk.specs.Picture.{Picture, Subscription}
-use Rattle.rb_desk.specs.Calls.{without_span, nacked_picture, settled_span, nack, nacked_by, nacked_span, ack, acked_by}
+use Rattle.rb_desk.specs.Picture.{Picture}
+use Rattle.rb_deliveries.specs.Picture.{Subscription}
+use Rattle.rb_desk.specs.Calls.{nacked_picture, settled_span, nack, nacked_by, nacked_span, ack, acked_by}
+use Rattle.rb_deliveries.specs.Changes.{without_span}
 use Rattle.rb_desk.specs.Calls.{acked_span, refused_call}
-use Rattle.rb_desk.specs.IsPicture.{IsPicture, IsGoodSubscription, IsGoodSpan, SpansRise, IsInSpan, span_there}
+use Rattle.rb_desk.specs.IsPicture.{IsPicture, IsGoodSubscription, IsGoodSpan, IsInSpan, span_there}
 use Rattle.rb_desk.specs.IsPicture.{out_in}
 use Rattle.rb_desk.proofs.pictures.PictureLaws.{out_of, out_set, floors_same, floors_set, changed_keeps}
 use Rattle.rb_desk.proofs.pictures.PictureLaws.{links_as_before}
-use Rattle.rb_desk.proofs.calls.OpenLaws.{out_not_ready}
+use Rattle.rb_deliveries.proofs.pictures.OpenLaws.{out_not_ready}
 use Rattle.rb_desk.proofs.pictures.StandLaws.{found_good, open_rise, order_here, goes_others, goes_away, goes_mine}
 use Rattle.rb_desk.proofs.pictures.StandLaws.{comes_others, comes_mine}
 use Rattle.rb_desk.proofs.pictures.RiseLaws.{all_spans_found, found_passes, found_begins, restated_rise, restated_floor}

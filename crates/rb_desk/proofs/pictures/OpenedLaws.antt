@@ -8,9 +8,11 @@ use Rattle.rb_deliveries.specs.declared.span.Span.{Span}
 use Rattle.rb_deliveries.specs.declared.span.Status.{Status}
 use Rattle.rb_deliveries.specs.declared.span.Status.TheVariants.{Ready}
 use Rattle.rb_deliveries.specs.Spans.{beginning, floor_of, opened_spans, single_span, singles, span_length}
-use Rattle.rb_desk.specs.IsPicture.{SpansRise, IsInSpan, one_if, span_there}
+use Rattle.rb_deliveries.specs.Spans.{SpansRise}
+use Rattle.rb_desk.specs.IsPicture.{IsInSpan, one_if, span_there}
 use Rattle.rb_desk.proofs.pictures.PictureLaws.{count_cons, count_append}
-use Rattle.rb_desk.proofs.pictures.RiseLaws.{rise_begins, rise_lower, none_begins, all_spans_found}
+use Rattle.rb_deliveries.proofs.spans.RisingLaws.{rise_lower}
+use Rattle.rb_desk.proofs.pictures.RiseLaws.{rise_begins, none_begins, all_spans_found}
 
 -- ---- numbers one after another, each a span
 

@@ -1,7 +1,7 @@
 -- What preserves the invariant of a picture, for all calls. Lists with one item replaced, how often a span is in an
 -- order, counts of links and deliveries, and subscriptions that stay good.
 use Rattle.std.proofs.Common.{◌≡◌, ℕ, zero, suc, ◌+◌, ◌≤◌, Bool, true, false, not, cond, ◌==◌, ◌&&◌, List, [], ◌∷◌}
-use Rattle.std.proofs.Common.{◌++◌, length, Some, None, filter, slice_get, slice_set, eqb-true, ne_eqb, refl, sym, ap}
+use Rattle.std.proofs.Common.{◌++◌, length, map, Some, None, filter, slice_get, slice_set, eqb-true, ne_eqb, refl, sym, ap}
 use Rattle.std.proofs.Common.{◌∙◌, ◌⊎◌, inl, inr, arith}
 use Rattle.std.specs.List.{AllByRecursion}
 use Rattle.std.proofs.lemmas.Bool.{false≢true, cases_eq}
@@ -10,14 +10,21 @@ use Rattle.rb_deliveries.specs.declared.span.Span.{Span}
 use Rattle.rb_deliveries.specs.declared.span.Status.{Status}
 use Rattle.rb_deliveries.specs.declared.span.Status.TheVariants.{Ready, InFlight}
 use Rattle.rb_deliveries.specs.Spans.{is_ready, is_out, is_out_as, beginning}
-use Rattle.rb_desk.specs.Picture.{Picture, Subscription}
-use Rattle.rb_desk.specs.Calls.{is_span, without_span, without_subscription, named}
+use Rattle.rb_desk.specs.Picture.{Picture}
+use Rattle.rb_deliveries.specs.Picture.{Subscription}
+use Rattle.rb_deliveries.specs.Changes.{is_span, without_span, without_subscription, named}
 use Rattle.rb_desk.specs.IsPicture.{IsPicture, IsGoodSubscription, IsGoodSpan, WasOffered, how_often, one_if}
 use Rattle.rb_desk.specs.IsPicture.{span_there, stands_there, links_of, out_in}
 use Rattle.rb_deliveries.proofs.orders.Line.{all_then}
 use Rattle.rb_deliveries.proofs.subs.KnownLaws.{all_set}
 
 -- ---- lists
+
+-- what holds of what each thing becomes holds of all that they become
+pub all_mapped : {A B : Type 0} (P : B → Type 0) (f : A → B) (xs : List A) → AllByRecursion (λ x. P (f x)) xs
+    → AllByRecursion P (map f xs)
+all_mapped P f [] h = tt
+all_mapped P f (x ∷ xs) h = (h.0, all_mapped P f xs h.1)
 
 module _ {A : Type 0} where
   -- what stands at a place once a thing is put there, and what stands at the other places

@@ -16,13 +16,17 @@ use Rattle.rb_desk.specs.declared.step.Step.TheVariants.{Subscribe, Take, TakeAn
 use Rattle.rb_desk.specs.declared.step.Step.TheVariants.{Unsubscribe, Place, Close, NackOpened}
 use Rattle.rb_desk.specs.Limits.{Limits}
 use Rattle.rb_deliveries.specs.Spans.{cut_spans, first_ready, out_as, beginning, grown_spans}
-use Rattle.rb_desk.specs.Picture.{Picture, Subscription, empty_picture}
-use Rattle.rb_desk.specs.Calls.{subscribe, subscribed_picture, take, delivered_from, delivered_span, has_room, take_any}
-use Rattle.rb_desk.specs.Calls.{delivered_any_from, delivered_any_of, delivered_any_span, may_deliver, ack, acked_by}
+use Rattle.rb_desk.specs.Picture.{Picture, empty_picture}
+use Rattle.rb_deliveries.specs.Picture.{Subscription}
+use Rattle.rb_desk.specs.Calls.{subscribe, subscribed_picture, take, delivered_from, delivered_span, take_any}
+use Rattle.rb_deliveries.specs.Changes.{has_room}
+use Rattle.rb_desk.specs.Calls.{delivered_any_from, delivered_any_of, delivered_any_span, has_window_room, ack, acked_by}
 use Rattle.rb_desk.specs.Calls.{acked_span, nack, nacked_by, nacked_span, nack_opened, opened_by, opened_span}
 use Rattle.rb_desk.specs.Calls.{expire, reconnect, reconnected_picture}
-use Rattle.rb_desk.specs.Calls.{reconnected_by, unsubscribe, unsubscribed_picture, unsubscribed_by, goes_back, prepare}
-use Rattle.rb_desk.specs.Calls.{place, grown_subscription, close}
+use Rattle.rb_desk.specs.Calls.{reconnected_by, unsubscribe, unsubscribed_picture, unsubscribed_by, prepare}
+use Rattle.rb_deliveries.specs.Changes.{goes_back}
+use Rattle.rb_desk.specs.Calls.{place, close}
+use Rattle.rb_deliveries.specs.Changes.{grown_subscription}
 use Rattle.rb_desk.specs.IsPicture.{AreInRange, IsPicture}
 use Rattle.rb_desk.specs.Steps.{links_given, numbers_given, RisesAbove, FloorsRise, placed_if, after_step, replayed}
 use Rattle.rb_desk.specs.Steps.{replay, second_of, link_of, delivery_number, link_given, number_given, made_of}
@@ -180,7 +184,7 @@ any_of_rises p s first now (Some q) = any_span_rises p s now q (beginning first 
 
 take_any_rises : (p : Picture) (now : ℕ) → TakeRises p (take_any p now)
 unfolding take_any
-take_any_rises p now = by (find (may_deliver p) p.ready)
+take_any_rises p now = by (find (has_window_room p) p.ready)
   where
     by : (o : Option (ℕ × ℕ)) → TakeRises p (delivered_any_from p now o)
     by None = rises_same p

@@ -6,9 +6,10 @@ use Rattle.std.specs.List.{AllByRecursion}
 use Rattle.std.proofs.lemmas.Bool.{cases_lt}
 use Rattle.rb_deliveries.specs.declared.span.Span.{Span}
 use Rattle.rb_deliveries.specs.declared.span.Status.{Status}
-use Rattle.rb_deliveries.specs.Spans.{beginning, with_status, without_first, floor_of}
-use Rattle.rb_desk.specs.IsPicture.{SpansRise, IsInSpan, one_if, span_there}
+use Rattle.rb_deliveries.specs.Spans.{beginning, with_status, without_first, floor_of, SpansRise}
+use Rattle.rb_desk.specs.IsPicture.{IsInSpan, one_if, span_there}
 use Rattle.rb_deliveries.proofs.orders.Line.{all_then}
+use Rattle.rb_deliveries.proofs.spans.RisingLaws.{rise_lower}
 use Rattle.rb_desk.proofs.pictures.PictureLaws.{count_cons}
 
 -- ---- where they begin and end
@@ -54,14 +55,13 @@ all_spans_found P test (p ∷ rest) span h found = by (test p) found (all_spans_
     by false here next = next here
 
 -- the one that is found passes, and is the one that begins with its first number
-pub found_passes : (test : Span → Bool) (spans : List Span) (span : Span) → find test spans ≡ Some span → test span
-    ≡ true
-found_passes test [] span found = absurd (let none : None ≡ Some span = found in cc)
-found_passes test (p ∷ rest) span found = by (test p) refl found (found_passes test rest span)
+pub found_passes : {X : Type 0} (test : X → Bool) (xs : List X) (x : X) → find test xs ≡ Some x → test x ≡ true
+found_passes {X} test [] x found = absurd (let none : None ≡ Some x = found in cc)
+found_passes {X} test (y ∷ rest) x found = by (test y) refl found (found_passes test rest x)
   where
-    by : (b : Bool) → test p ≡ b → cond b (Some p) (find test rest) ≡ Some span
-        → (find test rest ≡ Some span → test span ≡ true) → test span ≡ true
-    by true is here next = ap test (let e : span ≡ p = cc in e) ∙ is
+    by : (b : Bool) → test y ≡ b → cond b (Some y) (find test rest) ≡ Some x
+        → (find test rest ≡ Some x → test x ≡ true) → test x ≡ true
+    by true is here next = ap test (let e : y ≡ x = cc in sym e) ∙ is
     by false is here next = next here
 
 pub found_begins : (test : Span → Bool) (low high : ℕ) (spans : List Span) (span : Span) → SpansRise low spans high
@@ -207,12 +207,6 @@ restated_in n first status (p ∷ rest) i = by (p.first == first) i (restated_in
     by false (inr there) next = inr (next there)
 
 -- ---- the floor
-
--- spans that rise from a number rise from a lower one
-pub rise_lower : (low low' high : ℕ) (spans : List Span) → low ≤ low' → SpansRise low' spans high
-    → SpansRise low spans high
-rise_lower low low' high [] le h = omega (arith, le, h)
-rise_lower low low' high (p ∷ rest) le h = (omega (arith, le, h.0), h.1, h.2)
 
 -- no number below the first one is in a span
 none_begins_ahead : (n low high : ℕ) (spans : List Span) → SpansRise low spans high → n < low → IsInSpan n spans → ⊥

@@ -4,10 +4,11 @@ use Rattle.std.proofs.Common.{slice_get, eq-eqb, ne_eqb, refl, sym, ap, ◌∙�
 use Rattle.std.proofs.lemmas.Bool.{cases_eq}
 use Rattle.rb_deliveries.specs.declared.span.Span.{Span}
 use Rattle.rb_deliveries.specs.declared.span.Status.{Status}
-use Rattle.rb_deliveries.specs.Spans.{beginning, with_status}
-use Rattle.rb_desk.specs.Picture.{Picture, Subscription}
-use Rattle.rb_desk.specs.Calls.{is_span, without_span}
-use Rattle.rb_desk.specs.IsPicture.{IsPicture, IsGoodSubscription, SpansRise, how_often, one_if, span_there}
+use Rattle.rb_deliveries.specs.Spans.{beginning, with_status, SpansRise}
+use Rattle.rb_desk.specs.Picture.{Picture}
+use Rattle.rb_deliveries.specs.Picture.{Subscription}
+use Rattle.rb_deliveries.specs.Changes.{is_span, without_span}
+use Rattle.rb_desk.specs.IsPicture.{IsPicture, IsGoodSubscription, how_often, one_if, span_there}
 use Rattle.rb_desk.specs.IsPicture.{stands_there}
 use Rattle.rb_deliveries.proofs.subs.KnownLaws.{all_get}
 use Rattle.rb_desk.proofs.pictures.PictureLaws.{often_without, often_pushed}

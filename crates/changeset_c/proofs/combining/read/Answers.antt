@@ -1,8 +1,7 @@
 use Rattle.std.proofs.Common.{sym, subst, ◌+◌, take, get_or}
 use Rattle.std.proofs.lemmas.List.{take_more, drop_more}
 use Rattle.cs_parse.specs.Answer.{ReportsFault}
-use Rattle.cs_group.specs.Texts.{SpellAll}
-use Rattle.changeset_c.specs.Combining.{texts_of}
+use Rattle.changeset_c.specs.Combining.{SpellAll, texts_of}
 use Rattle.changeset_c.proofs.CombineLaws.{blank_text, read_cut, read_next}
 use Rattle.changeset_c.proofs.combining.read.Goals as goal
 

@@ -1,6 +1,5 @@
 use Rattle.std.proofs.Common.{take}
-use Rattle.cs_group.specs.Texts.{SpellAll}
-use Rattle.changeset_c.specs.Combining.{texts_of}
+use Rattle.changeset_c.specs.Combining.{SpellAll, texts_of}
 use Rattle.changeset_c.proofs.combining.read.Given as goal
 
 -- the texts so far spell the changesets

@@ -1,6 +1,5 @@
 use Rattle.std.proofs.Common.{◌≡◌, w64, to_z, of_z, to_z-of_z, length, sym, subst, arith}
-use Rattle.cs_group.specs.Texts.{combined_text}
-use Rattle.changeset_c.specs.Combining.{IsClash, IsTextFault, texts_of}
+use Rattle.changeset_c.specs.Combining.{IsClash, IsTextFault, combined_text, texts_of}
 use Rattle.changeset_c.specs.Says.{IsNumber}
 use Rattle.changeset_c.proofs.Outcomes.{combine_only, combine_fault, combine_clash}
 use Rattle.changeset_c.proofs.exports.changeset_combine.Goals as goal

@@ -5,6 +5,6 @@ use Rattle.cs_group.proofs.InPlaceTwo.{BothDone}
 use Rattle.cs_group.proofs.merge.keep_changed.Given as goal
 
 abbrev pub invariant-loop-i : goal.invariant-loop-i
-invariant-loop-i l = BothDone l.before.items l.after.items l.i (drop l.i l.flags)
+invariant-loop-i l = BothDone l.before.items l.after.items l.i l.columns (drop l.i l.flags)
     (olds_changed l.flags (fields_seen l.fn.before.items) (fields_seen l.fn.after.items))
-    (news_changed l.flags (fields_seen l.fn.before.items) (fields_seen l.fn.after.items))
+    (news_changed l.flags (fields_seen l.fn.before.items) (fields_seen l.fn.after.items)) l.any

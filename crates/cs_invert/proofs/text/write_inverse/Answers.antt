@@ -21,7 +21,7 @@ inverted_text c = ap (λ gs. groups_text (map inverse_group gs)) c.in_ok-groups.
 -- and as long as the text of the groups
 inverted_len : (c : In_ok-len) → c.in_ok-len.len ≡ length (text_of (inverse c.args.changeset.now))
 inverted_len c =
-    c.in_ok-len.ensures
+    c.in_ok-len.ensures.ok
     ∙ ap (λ gs. length (groups_text gs)) c.in_ok-groups.ensures.groups
     ∙ sym (inverse_text_len c.args.changeset.now c.in_ok-groups.ensures.valid)
     ∙ ap length (inverse_text_is c.args.changeset.now)

@@ -1,14 +1,30 @@
-use Rattle.std.proofs.Common.{length, sym, arith}
+use Rattle.std.proofs.Common.{[], length, refl, sym, arith}
 use Rattle.std.proofs.lemmas.Bool.{eqb-true}
 use Rattle.cs_model.proofs.CanonicalLaws.{one_more, none_left, all_said}
+use Rattle.cs_model.proofs.CanonicalOnly.{list_not_empty, first_change_left, change_goes}
 use Rattle.cs_model.proofs.canonical.canonical_count.Goals as goal
 
 pub loop-preserved : goal.loop-preserved
 loop-preserved c = record {
   turns = omega arith;
   starts = one_more c.args.columns c.loop.count c.args.bytes.now c.loop.rest.now c.in_ok-rest.rest.now
-      c.loop.invariant.starts c.in_ok-rest.ensures;
+      c.loop.invariant.starts c.in_ok-rest.ensures.found;
+  left = λ all. change_goes c.args.columns c.loop.rest.now c.in_ok-rest.rest
+      (list_not_empty c.loop.rest.now c.if-is_empty.ensures) c.in_ok-rest.ensures.only (c.loop.invariant.left all);
 }
+
+pub loop-init : goal.loop-init
+loop-init c = record {
+  turns = omega arith;
+  starts = record { changes = []; counted = omega arith; fit = tt; parts = refl };
+  left = λ all. record { changes = _; packs = all };
+}
+
+pub returns-in_err-rest-clause-only : goal.returns-in_err-rest-clause-only
+returns-in_err-rest-clause-only c = λ all.
+    let left = first_change_left c.args.columns c.loop.rest.now (list_not_empty c.loop.rest.now c.if-is_empty.ensures)
+    (c.loop.invariant.left all) in
+    absurd (c.in_err-rest.ensures.only left.behind left.first)
 
 pub returns-after-loop-clause-packs : goal.returns-after-loop-clause-packs
 returns-after-loop-clause-packs c =

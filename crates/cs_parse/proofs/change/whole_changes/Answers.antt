@@ -1,37 +1,24 @@
-use Rattle.std.proofs.Common.{Some, true, length, inl, inr, ◌≡◌, ◌-◌, ◌+◌, ◌⊎◌, sym, ap, ◌∙◌, arith}
+use Rattle.std.proofs.Common.{true, length, inl, inr, ◌≡◌, ◌-◌, ◌+◌, ◌⊎◌, sym, ap, ◌∙◌, arith}
 use Rattle.cs_parse.specs.Front.{changes_front}
 use Rattle.cs_parse.specs.Reading.{ends_section, change_at}
 use Rattle.cs_parse.proofs.counting.Skims.{behind_value, behind_refused}
-use Rattle.cs_parse.proofs.feeding.WholeLaws.{Found, whole_changes_end, whole_changes_stop, whole_changes_go}
-use Rattle.cs_parse.proofs.change.whole_changes.Goals.{In-Err}
+use Rattle.cs_parse.proofs.feeding.WholeLaws.{whole_changes_end, whole_changes_stop, whole_changes_go}
 use Rattle.cs_parse.proofs.change.whole_changes.Goals.{else-loop-test, then-loop-test+then-is_over}
 use Rattle.cs_parse.proofs.change.whole_changes.Goals as goal
 
--- what was found, where a change isn't read
-found_stopped : (c : In-Err) → Found c.loop.count c.loop.canonical c.args.bytes.now c.loop.rest.now (Some c.in-Err.why)
-    (changes_front c.args.flags.now c.args.bytes.now)
-found_stopped c =
+pub returns-in-Err : goal.returns-in-Err
+returns-in-Err c =
+    let f =
     whole_changes_stop c.args.flags.now c.args.bytes.now c.loop.rest.now c.loop.count (length c.args.bytes.now)
     c.loop.counter c.loop.canonical c.in-Err.why (changes_front c.args.flags.now c.args.bytes.now) c.loop-test.true
     (sym c.is_over.ensures ∙ c.if-is_over.false)
     (behind_refused (change_at c.args.flags.now c.loop.rest.now) c.in-Err.why c.in-Err.ensures.read)
-    c.loop.invariant.so_far
-
-pub returns-in-Err-clause-count : goal.returns-in-Err-clause-count
-returns-in-Err-clause-count c = (found_stopped (goal.at.returns-in-Err-clause-count c).In-Err).many
-
-pub returns-in-Err-clause-rest : goal.returns-in-Err-clause-rest
-returns-in-Err-clause-rest c = (found_stopped (goal.at.returns-in-Err-clause-rest c).In-Err).behind
-
-pub returns-in-Err-clause-canonical : goal.returns-in-Err-clause-canonical
-returns-in-Err-clause-canonical c = (found_stopped (goal.at.returns-in-Err-clause-canonical c).In-Err).packs
-
-pub returns-in-Err-clause-why : goal.returns-in-Err-clause-why
-returns-in-Err-clause-why c = (found_stopped (goal.at.returns-in-Err-clause-why c).In-Err).reason
+    c.loop.invariant.so_far in
+    record { count = f.many; rest = f.behind; canonical = f.packs; why = f.reason }
 
 pub loop-preserved : goal.loop-preserved
 loop-preserved c =
-    let after = c.in-Ok.skipped.1.now in
+    let after = c.in-Ok.skipped.0.now in
     let first = behind_value (change_at c.args.flags.now c.loop.rest.now) after c.in-Ok.ensures.read in
     let more = sym c.is_over.ensures ∙ c.if-is_over.false in
     record {
@@ -44,46 +31,14 @@ loop-preserved c =
           c.loop.invariant.so_far;
     }
 
-pub returns-clause-count : goal.returns-clause-count
-returns-clause-count c =
+pub returns : goal.returns
+returns c =
     let ended : (ends_section c.loop.rest.now ≡ true) ⊎ (length c.args.bytes.now - c.loop.counter ≡ 0) =
     elim c.loop-test.branch [
       | else-loop-test w ↦ inr (omega (arith, w.loop-test.false))
       | then-loop-test+then-is_over w ↦ inl (sym w.is_over.ensures ∙ w.if-is_over.true)
     ] in
-    (whole_changes_end c.args.flags.now c.args.bytes.now c.loop.rest.now c.loop.count (length c.args.bytes.now)
-    c.loop.counter c.loop.canonical (changes_front c.args.flags.now c.args.bytes.now) ended
-    c.loop.invariant.so_far).many
-
-pub returns-clause-rest : goal.returns-clause-rest
-returns-clause-rest c =
-    let ended : (ends_section c.loop.rest.now ≡ true) ⊎ (length c.args.bytes.now - c.loop.counter ≡ 0) =
-    elim c.loop-test.branch [
-      | else-loop-test w ↦ inr (omega (arith, w.loop-test.false))
-      | then-loop-test+then-is_over w ↦ inl (sym w.is_over.ensures ∙ w.if-is_over.true)
-    ] in
-    (whole_changes_end c.args.flags.now c.args.bytes.now c.loop.rest.now c.loop.count (length c.args.bytes.now)
-    c.loop.counter c.loop.canonical (changes_front c.args.flags.now c.args.bytes.now) ended
-    c.loop.invariant.so_far).behind
-
-pub returns-clause-canonical : goal.returns-clause-canonical
-returns-clause-canonical c =
-    let ended : (ends_section c.loop.rest.now ≡ true) ⊎ (length c.args.bytes.now - c.loop.counter ≡ 0) =
-    elim c.loop-test.branch [
-      | else-loop-test w ↦ inr (omega (arith, w.loop-test.false))
-      | then-loop-test+then-is_over w ↦ inl (sym w.is_over.ensures ∙ w.if-is_over.true)
-    ] in
-    (whole_changes_end c.args.flags.now c.args.bytes.now c.loop.rest.now c.loop.count (length c.args.bytes.now)
-    c.loop.counter c.loop.canonical (changes_front c.args.flags.now c.args.bytes.now) ended
-    c.loop.invariant.so_far).packs
-
-pub returns-clause-why : goal.returns-clause-why
-returns-clause-why c =
-    let ended : (ends_section c.loop.rest.now ≡ true) ⊎ (length c.args.bytes.now - c.loop.counter ≡ 0) =
-    elim c.loop-test.branch [
-      | else-loop-test w ↦ inr (omega (arith, w.loop-test.false))
-      | then-loop-test+then-is_over w ↦ inl (sym w.is_over.ensures ∙ w.if-is_over.true)
-    ] in
-    (whole_changes_end c.args.flags.now c.args.bytes.now c.loop.rest.now c.loop.count (length c.args.bytes.now)
-    c.loop.counter c.loop.canonical (changes_front c.args.flags.now c.args.bytes.now) ended
-    c.loop.invariant.so_far).reason
+    let f = whole_changes_end c.args.flags.now c.args.bytes.now c.loop.rest.now c.loop.count
+    (length c.args.bytes.now) c.loop.counter c.loop.canonical (changes_front c.args.flags.now c.args.bytes.now) ended
+    c.loop.invariant.so_far in
+    record { count = f.many; rest = f.behind; canonical = f.packs; why = f.reason }

@@ -18,9 +18,9 @@ returns-in-Some-clause-err c = λ others same.
     let text = take (length bytes - length w.result.1.now) bytes in
     let heads = subst (λ o. Heads o bytes w.result.0 w.result.1.now w.result.2 w.result.3) (sym same) w.ensures in
     let b = batch c.changes_fit.ensures c.spelled_is_said.ensures others bytes text w.result.0 w.result.1.now w.result.2
-    w.result.3 c.in_ok-more.more.items c.in_ok-more.rest.now c.in_ok-more.why fits refl heads
-    c.in_ok-more.ensures in
-    batch_bad others bytes text c.in_ok-more.more.items c.in_ok-more.rest.now c.in_ok-more.why c.args.taken
+    w.result.3 c.in-Ok.more.items c.in-Ok.rest.now c.in-Ok.why fits refl heads
+    c.in-Ok.ensures in
+    batch_bad others bytes text c.in-Ok.more.items c.in-Ok.rest.now c.in-Ok.why c.args.taken
     c.in-Some.fault (sym c.wrong_in.ensures ∙ c.in-Some.is) b.brings
 
 pub returns-clause-ok : goal.returns-clause-ok
@@ -29,6 +29,6 @@ returns-clause-ok c = λ others same.
     let bytes = c.args.bytes.now in
     let heads = subst (λ o. Heads o bytes w.result.0 w.result.1.now w.result.2 w.result.3) (sym same) w.ensures in
     batches_brings c.changes_fit.ensures c.spelled_is_said.ensures others bytes w.result.0 w.result.1.now w.result.2
-    w.result.3 c.in_ok-more.more.items c.in_ok-more.rest.now c.in_ok-more.why c.args.taken
-    (length bytes - length w.result.1.now) (λ i. omega (arith, c.type_inv.bytes i)) refl heads c.in_ok-more.ensures
-    (sym c.wrong_in.ensures ∙ c.in_default.is)
+    w.result.3 c.in-Ok.more.items c.in-Ok.rest.now c.in-Ok.why c.args.taken
+    (length bytes - length w.result.1.now) (λ i. omega (arith, c.type_inv.bytes i)) refl heads c.in-Ok.ensures
+    (sym c.wrong_in.ensures ∙ c.in_default-wrong_in.is)

@@ -30,4 +30,4 @@ returns c =
     let many : length out ≤ c.loop.counter = omega (arith, c.loop-test.false, c.requires.1) in
     walk_over (λ before. c.loop.first ≡ waiting.earliest (map (held_under lanes.slots) before)) out c.loop.counter
     c.loop.at c.loop.invariant many
-    ∙ earliest_is lanes c.are_lanes.ensures c.requires.0
+    ∙ earliest_is lanes c.valid.ensures c.requires.0

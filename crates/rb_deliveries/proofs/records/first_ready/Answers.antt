@@ -32,4 +32,4 @@ returns c =
     ready_here c.args.records.now c.requires.0 c.loop.counter c.loop.at c.in_ok-at.field-0 c.loop.invariant
     c.in_ok-at.was c.span_at-2.result c.span_at-2.ensures
     (ready_next c.args.records.now c.requires.0 c.loop.counter c.loop.at c.in_ok-at.field-0 c.loop.invariant
-    c.in_ok-at.was c.are_lanes.ensures many)
+    c.in_ok-at.was c.valid.ensures many)

@@ -38,4 +38,4 @@ returns c =
     let many : length (nth_list 1 lanes.first) ≤ c.loop.counter = omega (arith, c.loop-test.false, c.requires.1) in
     walk_over (λ before. c.loop.count ≡ length (filter (slot_passes test lanes.slots) before)) (nth_list 1 lanes.first)
     c.loop.counter c.loop.at c.loop.invariant many
-    ∙ many_pass lanes c.requires.0 test (due_is_out c.args.timeout c.args.clock) c.are_lanes.ensures
+    ∙ many_pass lanes c.requires.0 test (due_is_out c.args.timeout c.args.clock) c.valid.ensures

@@ -12,12 +12,12 @@ returns-in_err-key c =
     let lanes = c.args.records.now in
     let test = slot_passes (is_out_as c.args.delivery) lanes.slots in
     c.from_residual.ensures
-    ∙ sym (none_out lanes c.are_lanes.ensures c.requires.0 c.args.delivery
+    ∙ sym (none_out lanes c.valid.ensures c.requires.0 c.args.delivery
     (walk_ends (NonePass test) (nth_list 1 lanes.first) c.loop.counter c.loop.at c.loop.invariant c.in_err-key.was))
 
 pub returns-then-is_out_as_at : goal.returns-then-is_out_as_at
 returns-then-is_out_as_at c =
-    out_here c.args.records.now c.are_lanes.ensures c.requires.0 c.args.delivery c.loop.counter c.in_ok-key.key
+    out_here c.args.records.now c.valid.ensures c.requires.0 c.args.delivery c.loop.counter c.in_ok-key.key
     c.loop.at c.loop.invariant c.in_ok-key.was (sym c.is_out_as_at.ensures ∙ c.if-is_out_as_at.true)
     c.span_at.result c.span_at.ensures
 
@@ -34,5 +34,5 @@ returns c =
     let lanes = c.args.records.now in
     let test = slot_passes (is_out_as c.args.delivery) lanes.slots in
     let many : length (nth_list 1 lanes.first) ≤ c.loop.counter = omega (arith, c.loop-test.false, c.requires.1) in
-    sym (none_out lanes c.are_lanes.ensures c.requires.0 c.args.delivery
+    sym (none_out lanes c.valid.ensures c.requires.0 c.args.delivery
     (walk_over (NonePass test) (nth_list 1 lanes.first) c.loop.counter c.loop.at c.loop.invariant many))

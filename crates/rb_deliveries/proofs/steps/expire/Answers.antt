@@ -4,7 +4,7 @@ use Rattle.rb_deliveries.proofs.steps.expire.Goals as goal
 pub loop-init : goal.loop-init
 loop-init c = record {
   expiring = expiry_begins c.args.timeout c.args.clock c.args.latest c.args.next c.args.records.now c.args.flying
-      c.are_lanes.ensures c.requires.lists.0 c.requires.lists.1 c.requires.given.0 c.requires.drawn c.front-at.result
+      c.valid.ensures c.requires.lists.0 c.requires.lists.1 c.requires.given.0 c.requires.drawn c.front-at.result
       c.front-at.ensures;
   flying = c.requires.lists.1;
 }

@@ -22,7 +22,7 @@ loop-preserved c =
     let all = nth_list 0 lanes.second in
     let test = begins_key lanes.slots c.args.first in
     let key = c.in_ok-key.key in
-    let some = all_there lanes c.are_lanes.ensures c.requires.lists key
+    let some = all_there lanes c.valid.ensures c.requires.lists key
     (walk_has (NonePass test) all c.loop.counter c.loop.at key c.loop.invariant c.in_ok-key.was) in
     walk_goes (NonePass test) all c.loop.counter (NonePass test) lanes.second 0 c.loop.at c.next-at.result key
     (second_there lanes c.requires.lists) c.loop.invariant c.in_ok-key.was c.next-at.ensures

@@ -1,7 +1,8 @@
-use Rattle.std.proofs.Common.{None, set, ◌∙◌, ap, length, sym}
+use Rattle.std.proofs.Common.{◌∙◌, ap, length, sym}
+use Rattle.link_lists.specs.Lanes.{Lanes}
+use Rattle.rb_deliveries.specs.declared.ticket.Held.{Held}
 use Rattle.rb_deliveries.specs.Taken.{held_in, nth_list}
-use Rattle.rb_deliveries.proofs.lists.StandLaws.{out_stand, standing, step_unlinked}
-use Rattle.rb_deliveries.proofs.lists.MoveLaws.{free_first, free_second, left_held, left_out, left_records, left_same}
+use Rattle.rb_deliveries.proofs.lists.MoveLaws.{free_first, free_second, left_held, left_records, left_same}
 use Rattle.rb_deliveries.proofs.lists.RestateLaws.{begins_one, without_absent, without_keys}
 use Rattle.rb_deliveries.proofs.steps.remove.Goals as goal
 
@@ -21,25 +22,22 @@ remove-held-requires-clause-free_second c =
 
 pub returns-clause-lists : goal.returns-clause-lists
 returns-clause-lists c =
-    let lanes = c.args.records.now in (
-      left_records lanes c.without-rest.new.records c.unlink.new.self c.remove-held.new.self c.in-Some.key
-          c.requires.lists.0 c.without-rest.ensures.lane c.unlink.ensures c.remove-held.ensures.rest
-          c.in-Some.ensures.kept,
+    let left = c.remove-held.ensures in (
+      left_records c.args.records.now c.without-rest.new.records c.unlink.new.self c.remove-held.new.self c.in-Some.key
+          c.requires.lists.0 c.without-rest.ensures.lane c.unlink.ensures left.rest left.slots,
       c.without-rest.ensures.flying
-          ∙ ap length (out_stand (step_unlinked (standing lanes c.requires.lists.0) c.in-Some.key
-          c.without-rest.ensures.lane))
-          ∙ sym (ap length (left_out lanes c.without-rest.new.records c.unlink.new.self c.remove-held.new.self
-          c.in-Some.key c.requires.lists.0 c.without-rest.ensures.lane c.unlink.ensures c.remove-held.ensures.rest
-          c.in-Some.ensures.kept)),
+          ∙ sym (ap (λ (l : Lanes Held). length (nth_list 1 l.first)) left.rest
+          ∙ ap (λ (l : Lanes Held). length (nth_list 1 l.first)) c.unlink.ensures),
     )
 
 pub returns-clause-spans : goal.returns-clause-spans
 returns-clause-spans c =
     let lanes = c.args.records.now in
-    left_held lanes c.without-rest.new.records c.unlink.new.self c.remove-held.new.self c.in-Some.key
-    c.requires.lists.0 c.without-rest.ensures.lane c.unlink.ensures c.remove-held.ensures.rest c.in-Some.ensures.kept
-    ∙ without_keys lanes.slots (set lanes.slots c.in-Some.key None) c.args.first c.in-Some.key (nth_list 0 lanes.second)
+    let new = c.remove-held.new.self in
+    let left = c.remove-held.ensures in
+    left_held lanes c.without-rest.new.records c.unlink.new.self new c.in-Some.key c.requires.lists.0
+    c.without-rest.ensures.lane c.unlink.ensures left.rest left.slots
+    ∙ without_keys lanes.slots new.slots c.args.first c.in-Some.key (nth_list 0 lanes.second)
     (begins_one lanes c.args.first c.in-Some.key c.in-Some.ensures c.requires.rising)
-    (left_same lanes c.without-rest.new.records c.unlink.new.self c.remove-held.new.self c.in-Some.key
-    c.requires.lists.0 c.without-rest.ensures.lane c.unlink.ensures c.remove-held.ensures.rest
-    c.in-Some.ensures.kept)
+    (left_same lanes c.without-rest.new.records c.unlink.new.self new c.in-Some.key c.requires.lists.0
+    c.without-rest.ensures.lane c.unlink.ensures left.rest left.slots)

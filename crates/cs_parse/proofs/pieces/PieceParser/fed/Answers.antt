@@ -14,7 +14,7 @@ invariant_of-self-then-no_end c =
     let piece = c.args.piece.now in
     let fits : AreBytes piece = λ i. omega (arith, c.type_inv.piece i) in
     let none = c.no_end.ensures c.if-no_end.true in
-    let new_is = sym c.in_ok-append.ensures.ok in (
+    let new_is = sym c.in_ok-extend.ensures.ok in (
       omega (arith, c.self.invariant.0, c.if-piece-self.true),
       subst (λ (t : List Section × List ℕ). KeepsSpot (last_flags t.0) t.1 old.spot) new_is
           (keeps_more (last_flags old.text.0) old.text.1 piece old.spot fits c.self.invariant.1),
@@ -35,7 +35,7 @@ returns-then-no_end-clause-fed c =
     let put : List Section × List ℕ → Progress =
     λ t. record { sections = t.0; pending = t.1; offset = old.offset + length piece; fault = old.fault } in
     let none = c.no_end.ensures c.if-no_end.true in
-    let new = put c.append.new.self in
+    let new = put c.extend.new.self in
     subst (λ p. ((advanced p piece).fault ≡ None) × (new ≡ advanced p piece)) c.self.view_is
     (paused_fed seen new piece old.header old.lacking c.self.invariant.0 c.if-piece-self.true none c.self.invariant.2
-    (ap put c.in_ok-append.ensures.ok))
+    (ap put c.in_ok-extend.ensures.ok))

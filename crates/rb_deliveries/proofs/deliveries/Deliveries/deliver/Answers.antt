@@ -1,27 +1,39 @@
-use Rattle.std.proofs.Common.{◌≡◌, ◌∙◌, Some, ap, refl, slice_get}
-use Rattle.std.proofs.lemmas.Option.{get_or_from_slice_get}
-use Rattle.rb_deliveries.specs.declared.sub.Sub.{Sub}
-use Rattle.rb_deliveries.specs.Subs.{delivered_sub}
-use Rattle.rb_deliveries.proofs.orders.DueLaws.{waiting_as}
+use Rattle.std.proofs.Common.{subst, sym}
+use Rattle.rb_deliveries.specs.Pictured.{DeliveriesAgree}
+use Rattle.rb_deliveries.proofs.pictures.CallLaws.{delivers, goes_numbered, on_any_error, only_fresh, suc_is_more}
+use Rattle.rb_deliveries.proofs.pictures.OpenLaws.{next_is_newest}
 use Rattle.rb_deliveries.proofs.deliveries.Deliveries.deliver.Goals as goal
+
+pub deliver-requires-clause-span : goal.deliver-requires-clause-span
+deliver-requires-clause-span c =
+    let d = c.self.inside in
+    goes_numbered d.batch d.subs.window d.front d.turn d.next_delivery d.subs.subs c.self.invariant c.rise.ensures
+    c.args.s c.args.span (rw (← c.self.view_is) at c.requires.may)
+
+pub deliver-requires-clause-last : goal.deliver-requires-clause-last
+deliver-requires-clause-last c =
+    let d = c.self.inside in
+    next_is_newest d.front d.turn d.next_delivery c.args.s d.subs.subs c.self.invariant.belong
 
 pub invariant_of-self-2 : goal.invariant_of-self-2
 invariant_of-self-2 c =
-    waiting_as c.self.inside.window c.args.s c.self.inside.subs.items _ c.deliver.new.self c.self.inside.line
-    c.self.inside.moments _ _ c.self.invariant (rw (← c.self.view_is) at c.requires.there) c.deref.ensures.value
-    c.stand.ensures
+    let d = c.self.inside in
+    subst (λ n. DeliveriesAgree d.batch d.front d.turn n c.deliver.new.self.subs) (sym (suc_is_more d.next_delivery))
+    (delivers d.batch d.subs.window d.front d.turn d.next_delivery d.subs.subs c.self.invariant c.rise.ensures
+    c.args.s c.args.span c.args.tick c.deliver.new.self (rw (← c.self.view_is) at c.requires.may)
+    c.in_ok-deliver.ensures.ok).0
 
 pub returns-clause-ok : goal.returns-clause-ok
-returns-clause-ok c sub found =
-    let here : slice_get c.self.inside.subs.items c.args.s ≡ Some sub = rw (← c.self.view_is) at found in
-    let same : c.index_mut.result.now ≡ sub = c.index_mut.ensures.value
-    ∙ get_or_from_slice_get c.self.inside.subs.items c.args.s sub c.index_mut.result.now here in
-    let made : c.deliver.new.self ≡ delivered_sub sub c.args.span c.args.number c.args.tick =
-    c.in_ok-deliver.ensures.ok ∙ ap (λ sub. delivered_sub sub c.args.span c.args.number c.args.tick) same in
-    rw (← c.self.view_is, made) refl
+returns-clause-ok c =
+    let d = c.self.inside in
+    rw (← c.self.view_is, suc_is_more d.next_delivery)
+    (delivers d.batch d.subs.window d.front d.turn d.next_delivery d.subs.subs c.self.invariant c.rise.ensures
+    c.args.s c.args.span c.args.tick c.deliver.new.self (rw (← c.self.view_is) at c.requires.may)
+    c.in_ok-deliver.ensures.ok).1
 
-pub returns-clause-link : goal.returns-clause-link
-returns-clause-link c sub found =
-    let here : slice_get c.self.inside.subs.items c.args.s ≡ Some sub = rw (← c.self.view_is) at found in
-    ap (λ (sub : Sub). sub.link)
-    (c.index.ensures ∙ get_or_from_slice_get c.self.inside.subs.items c.args.s sub c.index.result.now here)
+pub returns-in_err-deliver-clause-memory : goal.returns-in_err-deliver-clause-memory
+returns-in_err-deliver-clause-memory c =
+    let d = c.self.inside in
+    on_any_error c.from_residual.result
+    (only_fresh d.batch d.subs.window d.front d.turn d.next_delivery d.subs.subs c.self.invariant c.rise.ensures
+    c.args.s c.args.span (rw (← c.self.view_is) at c.requires.may) c.in_err-deliver.ensures.memory)

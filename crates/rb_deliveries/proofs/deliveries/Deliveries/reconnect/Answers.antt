@@ -1,20 +1,34 @@
-use Rattle.std.proofs.Common.{◌≡◌, ◌∙◌, Some, ap, refl, slice_get}
-use Rattle.std.proofs.lemmas.Option.{get_or_from_slice_get}
+use Rattle.std.proofs.Common.{◌≡◌, subst, sym, suc}
+use Rattle.rb_deliveries.specs.Pictured.{DeliveriesAgree}
 use Rattle.rb_deliveries.specs.Subs.{reconnected_sub}
-use Rattle.rb_deliveries.proofs.orders.DueLaws.{waiting_as}
+use Rattle.rb_deliveries.specs.declared.ticket.Ticket.{Ticket}
+use Rattle.rb_deliveries.proofs.pictures.CallLaws.{LeavesChanged, continues_placed, suc_is_more, reconnects}
 use Rattle.rb_deliveries.proofs.deliveries.Deliveries.reconnect.Goals as goal
+
+pub reconnect-requires-clause-cursor : goal.reconnect-requires-clause-cursor
+reconnect-requires-clause-cursor c =
+    let d = c.self.inside in
+    continues_placed d.batch d.subs.window d.front d.turn d.next_delivery d.subs.subs c.self.invariant
+    c.args.s c.args.cursor (rw (← c.self.view_is) at c.requires.may)
 
 pub invariant_of-self : goal.invariant_of-self
 invariant_of-self c =
-    waiting_as c.self.inside.window c.args.s c.self.inside.subs.items _ c.reconnect.new.self c.self.inside.line
-    c.self.inside.moments _ _ c.self.invariant (rw (← c.self.view_is) at c.requires.there) c.deref.ensures.value
-    c.stand.ensures
+    let d = c.self.inside in
+    let ticket : c.next_ticket-ticket.result ≡ record { front = d.front; turn = suc d.turn } =
+    rw (← c.self.view_is) at c.next_ticket-ticket.ensures in
+    let left = subst (λ (t : Ticket). LeavesChanged d.subs.window d.subs.subs c.args.s
+    (λ sub. reconnected_sub sub c.args.cursor c.args.link t) c.reconnect.new.self) ticket c.reconnect.ensures in
+    subst (λ n. DeliveriesAgree d.batch d.front n d.next_delivery c.reconnect.new.self.subs) (sym (suc_is_more d.turn))
+    (reconnects d.batch d.subs.window d.front d.turn d.next_delivery d.subs.subs c.self.invariant
+    c.args.s c.args.cursor c.args.link c.reconnect.new.self (rw (← c.self.view_is) at c.requires.may) left).0
 
 pub returns : goal.returns
-returns c sub found =
-    let here : slice_get c.self.inside.subs.items c.args.s ≡ Some sub = rw (← c.self.view_is) at found in
-    let same : c.index_mut.result.now ≡ sub = c.index_mut.ensures.value
-    ∙ get_or_from_slice_get c.self.inside.subs.items c.args.s sub c.index_mut.result.now here in
-    let made : c.reconnect.new.self ≡ reconnected_sub sub c.args.cursor c.args.link c.args.ticket =
-    c.reconnect.ensures ∙ ap (λ sub. reconnected_sub sub c.args.cursor c.args.link c.args.ticket) same in
-    rw (← c.self.view_is, made) refl
+returns c =
+    let d = c.self.inside in
+    let ticket : c.next_ticket-ticket.result ≡ record { front = d.front; turn = suc d.turn } =
+    rw (← c.self.view_is) at c.next_ticket-ticket.ensures in
+    let left = subst (λ (t : Ticket). LeavesChanged d.subs.window d.subs.subs c.args.s
+    (λ sub. reconnected_sub sub c.args.cursor c.args.link t) c.reconnect.new.self) ticket c.reconnect.ensures in
+    rw (← c.self.view_is, suc_is_more d.turn)
+    (reconnects d.batch d.subs.window d.front d.turn d.next_delivery d.subs.subs c.self.invariant
+    c.args.s c.args.cursor c.args.link c.reconnect.new.self (rw (← c.self.view_is) at c.requires.may) left).1

@@ -7,7 +7,7 @@ pub overflow_add-self : goal.overflow_add-self
 overflow_add-self c =
     omega (
       arith,
-      c.floor-floor.ensures.value,
+      c.floor-floor.ensures,
       ap lane_floor c.self.view_is,
       floor_below _ _ c.self.invariant,
       c.self.ranges,

@@ -4,8 +4,8 @@ use Rattle.rb_deliveries.specs.Lanes.{better, least, with_birth}
 use Rattle.rb_deliveries.proofs.spans.LaneLaws.{first_in_line_is}
 use Rattle.rb_deliveries.proofs.lane.Lane.first_in_line.Goals as goal
 
-pub returns-clause-value : goal.returns-clause-value
-returns-clause-value c =
+pub returns : goal.returns
+returns c =
     let held : c.first_in_line.result ≡ least c.args.self.now.held = c.first_in_line.ensures
     ∙ ap (λ k. least k.held) c.self.view_is in
     let fresh : c.given_to-fresh.result

@@ -1,29 +1,43 @@
-use Rattle.std.proofs.Common.{◌≡◌, ◌∙◌, ◌+◌, suc, Ok, ap, sym, arith}
+use Rattle.std.proofs.Common.{IsOk, ap, arith, subst, sym}
+use Rattle.rb_desk.specs.Calls.{prepare}
+use Rattle.rb_desk.specs.Shown.{BoardSeen}
+use Rattle.rb_desk.proofs.calls.BoardLaws.{placed_is}
 use Rattle.rb_desk.proofs.calls.CallLaws.{may_place, prepared}
-use Rattle.rb_desk.proofs.calls.PlaceLaws.{placed_shown, belongs_placed}
 use Rattle.rb_desk.proofs.board.Board.place.Goals as goal
+
+pub place-requires : goal.place-requires
+place-requires c =
+    let ok = subst (λ (b : BoardSeen). IsOk (prepare b.picture)) (sym c.self.view_is) c.requires in
+    record { room = omega (arith, (may_place _ ok).1, c.self.invariant.capacity) }
 
 pub invariant_of-self : goal.invariant_of-self
 invariant_of-self c =
-    let next : c.self.inside.front + 1 ≡ suc c.self.inside.front = omega arith in
-    let room = rw (← c.self.view_is) at (may_place c.args.self.now c.requires).1 in
-    rw next (
-      omega (arith, c.self.invariant.0, room),
-      belongs_placed c.self.inside.front c.self.inside.turn
-          c.self.inside.next_delivery c.self.inside.deliveries.subs c.self.invariant.1,
-      c.self.invariant.2,
-      c.self.invariant.3,
-    )
+    let ok = subst (λ (b : BoardSeen). IsOk (prepare b.picture)) (sym c.self.view_is) c.requires in
+    let w = c.self.invariant in
+    rw c.place.ensures (record {
+      batch = w.batch;
+      window = w.window;
+      capacity = w.capacity;
+      front = omega (arith, (may_place _ ok).1);
+    })
 
 pub returns-clause-number : goal.returns-clause-number
 returns-clause-number c =
-    let next : suc c.self.inside.front ≡ c.self.inside.front + 1 = omega arith in
-    prepared c.args.self.now c.requires ∙ ap (λ p. Ok (suc p.front)) (sym c.self.view_is) ∙ ap Ok next
+    let ok = subst (λ (b : BoardSeen). IsOk (prepare b.picture)) (sym c.self.view_is) c.requires in
+    rw (c.front.ensures, c.place.ensures, ← c.self.view_is) (prepared _ ok)
 
 pub returns-clause-picture : goal.returns-clause-picture
 returns-clause-picture c =
-    let next : c.self.inside.front + 1 ≡ suc c.self.inside.front = omega arith in
-    rw (← c.self.view_is, next)
-    (placed_shown c.self.inside.config c.self.inside.front c.self.inside.turn c.self.inside.clock
-    c.self.inside.next_link c.self.inside.next_delivery c.self.inside.closing c.self.inside.deliveries.subs
-    c.self.invariant.0.0 c.self.invariant.1)
+    let d = c.self.inside in
+    rw (c.place.ensures, ← c.self.view_is)
+    (ap (λ p. record { picture = p; turns = d.deliveries.turns })
+    (sym (placed_is d.config d.closing d.clock d.next_link d.deliveries.picture c.self.invariant)))
+
+pub returns-clause-draws : goal.returns-clause-draws
+returns-clause-draws c =
+    rw (c.place.ensures, ← c.self.view_is) (record {
+      turns = omega arith;
+      links = omega arith;
+      deliveries = omega arith;
+      front = omega arith;
+    })

@@ -13,4 +13,4 @@ invariant_of-self-2 c =
     let room : 2 ≤ c.reserve.new.self.room = search rules in
     call_kept c.calls_keep_limits.ensures c.self.inside.board c.nack.new.self (nack p c.args.sub c.args.link c.args.delivery).1
     (step.Nack c.args.sub c.args.link c.args.delivery) c.self.inside.journal c.reserve.new.self c.push.new.self
-    c.self.invariant c.in_ok-nack.ensures.1 refl c.reserve.ensures.steps room c.push.ensures.steps c.push.ensures.room
+    c.self.invariant c.in_ok-nack.ensures.ok refl c.reserve.ensures.steps room c.push.ensures.steps c.push.ensures.room

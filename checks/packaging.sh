@@ -1,0 +1,173 @@
+#!/bin/sh
+# Checks packaging/install.sh: it installs both libraries into a clean folder, and there a C program is built by
+# pkg-config alone, with one library and with both, and runs. The shared object loads, and shows the calls of the
+# headers alone. It prints a line for each check, and ends with status 1 where one fails.
+#   sh checks/packaging.sh        needs gcc, nm, pkg-config, python3 and what `rt lib` leaves in crates/broker_c and
+#                                 crates/changeset_c. Debian's packages: gcc binutils pkg-config python3
+# RT names the prover's command where it isn't `rt`.
+# shellcheck disable=SC2046 # pkg-config's words are the compiler's
+cd "$(dirname "$0")/.." || exit 2
+fail() {
+    echo "packaging.sh: $1" >&2
+    exit "$2"
+}
+
+work=$(mktemp -d) || exit 2
+trap 'rm -rf "$work"' EXIT
+for command in gcc nm pkg-config python3; do
+    command -v $command >"$work/path" || fail "no command $command" 2
+done
+count=0 bad=0
+
+# says NAME COMMAND..: prints a check's line
+says() {
+    name=$1
+    shift
+    count=$((count + 1))
+    if "$@"; then echo "ok $name"; else echo "FAILED $name"; bad=$((bad + 1)); fi
+}
+
+# refuses WHY WORDS..: install.sh refuses these operands for this reason
+refuses() {
+    why=$1
+    shift
+    ! sh packaging/install.sh "$@" 2>"$work/err" && grep -q "$why" "$work/err"
+}
+
+says 'no operand is refused' refuses usage
+says 'a relative folder is refused' refuses 'absolute path' here
+sh packaging/install.sh "$work/prefix" || fail 'nothing is installed' 2
+prefix=$work/prefix top=$PWD
+export PKG_CONFIG_PATH="$prefix/lib/pkgconfig"
+
+# all that is installed
+listed() {
+    (cd "$prefix" && find . -type f | sort) >"$work/files" && cmp "$work/files" - <<END
+./include/gubzelk/broker.h
+./include/gubzelk/changeset.h
+./lib/libbroker_c.a
+./lib/libchangeset_c.a
+./lib/libgubzelk.so
+./lib/libgubzelk_heap.a
+./lib/pkgconfig/gubzelk-broker.pc
+./lib/pkgconfig/gubzelk-changeset.pc
+END
+}
+
+# builds NAME PACKAGES..: NAME.c is built in the clean folder with what pkg-config says of these packages alone
+builds() {
+    built=$1
+    shift
+    (cd "$work" && gcc -O2 -Wall -Wextra -pedantic -Werror "$built.c" $(pkg-config --cflags --libs "$@") -o "$built")
+}
+
+# prints WANTED PROGRAM..
+prints() {
+    wanted=$1
+    shift
+    "$@" >"$work/printed" && [ "$(cat "$work/printed")" = "$wanted" ]
+}
+
+# the same, and the status is 1
+prints_and_fails() {
+    wanted=$1
+    shift
+    "$@" >"$work/printed"
+    [ $? -eq 1 ] && [ "$(cat "$work/printed")" = "$wanted" ]
+}
+
+says 'what is installed' listed
+cp examples/broker/short.c "$work/short.c"
+says 'a broker, built by pkg-config' builds short gubzelk-broker
+says 'a broker runs' prints 'settled up to entry 1' "$work/short"
+
+# block WORD: the block of C in docs/C.md that has this word
+block() {
+    awk -v word="$1" '/^```/ { if (index(text, word)) printf "%s", text
+                               text = ""; inside = $0 == "```c"; next }
+                      inside { text = text $0 "\n" }' docs/C.md
+}
+
+# the same program stands in docs/C.md
+documented() {
+    block 'settled up to entry' >"$work/block" && sed '1,/^ \*.*\*\/$/d' examples/broker/short.c | cmp - "$work/block"
+}
+says 'docs/C.md has this program' documented
+
+block 'fread' >"$work/check.c"
+says 'changesets: the program of docs/C.md, built by pkg-config' builds check gubzelk-changeset
+printf 'T\002\001\000t\000\022\000\001\000\000\000\000\000\000\000\001\005' >"$work/some.changeset"
+printf 'T\002\001\000t\000\022\000\001' >"$work/cut.changeset"
+says 'a changeset is read' prints '1 changes' "$work/check" "$work/some.changeset"
+says 'a changeset that is cut is faulty' prints_and_fails 'fault 16 at byte 9' "$work/check" "$work/cut.changeset"
+
+cat >"$work/both.c" <<'END'
+#include <broker.h>
+#include <changeset.h>
+#include <stdio.h>
+/* inverts a changeset by one library, and feeds the inverse to the other */
+int main(void) {
+    static const unsigned char text[] = "T\2\1\0t\0\22\0\1\0\0\0\0\0\0\0\1\1\0\0\0\0\0\0\0\5", key[] = {1, 0};
+    unsigned char inverse[26], placed[26];
+    struct broker_limits limits = BROKER_LIMITS;
+    struct broker_table t = {(const unsigned char *)"t", 1, key, 2};
+    struct broker_numbers why;
+    uint64_t n;
+    broker *b;
+    if (changeset_invert(text, 26, inverse, 26) != 26 || broker_open(&b, &limits, &t, 1, &why)) return 1;
+    if (broker_publisher(b, &n) || broker_feed(b, 0, inverse, 26) || broker_end(b, 0)) return 1;
+    if (broker_send(b, 0, &n) || broker_turn(b, &n) || broker_text(b, n, placed, 26) != 26) return 1;
+    broker_free(b);
+    return printf("operation %d\n", placed[6]) < 0;
+}
+END
+for packages in 'gubzelk-broker gubzelk-changeset' 'gubzelk-changeset gubzelk-broker'; do
+    # two packages are two words
+    # shellcheck disable=SC2086
+    says "both libraries in one program, $packages" builds both $packages
+    says 'it runs' prints 'operation 9' "$work/both"
+done
+
+# every archive whole, so that two definitions of one name would show
+whole() {
+    (cd "$work" && gcc -O2 both.c $(pkg-config --cflags gubzelk-broker) -L"$prefix/lib" -Wl,--whole-archive -lbroker_c \
+        -lchangeset_c -Wl,--no-whole-archive -lgubzelk_heap -o whole) && prints 'operation 9' "$work/whole"
+}
+says 'all of both archives in one program' whole
+
+# the calls of both headers, and those that the shared object shows
+shows() {
+    sed -n 's/^[A-Z_]* *[a-z0-9_]* \(broker_[a-z_]*\|changeset_[a-z_]*\)(.*/\1/p' include/broker.h include/changeset.h |
+        sort >"$work/declared"
+    nm -D --defined-only "$prefix/lib/libgubzelk.so" | awk '{ print $3 }' | sort >"$work/shown"
+    [ "$(wc -l <"$work/declared")" -gt 30 ] && cmp "$work/declared" "$work/shown"
+}
+says 'the shared object shows the calls, and nothing else' shows
+
+# loads: a program of another language loads it
+loads() {
+    python3 - "$prefix/lib/libgubzelk.so" <<'END'
+import ctypes, sys
+library = ctypes.CDLL(sys.argv[1])
+at, kind = ctypes.c_size_t(), ctypes.c_uint32()
+library.changeset_check.restype = ctypes.c_int64
+text = b'T\2\1\0t\0\22\0\1' + bytes(7) + b'\1\1' + bytes(7) + b'\5'
+assert library.changeset_check(text, ctypes.c_size_t(26), ctypes.byref(at), ctypes.byref(kind)) == 1
+assert library.changeset_check(text, ctypes.c_size_t(25), ctypes.byref(at), ctypes.byref(kind)) == -1
+words = ctypes.create_string_buffer(64)
+assert 0 < library.broker_message(-16, words, ctypes.c_size_t(64)) <= 64 and words.value
+END
+}
+says 'the shared object loads' loads
+says 'a program over the shared object, built' gcc "$work/both.c" $(pkg-config --cflags gubzelk-broker) \
+    "$prefix/lib/libgubzelk.so" -Wl,-rpath,"$prefix/lib" -o "$work/shared"
+says 'it runs' prints 'operation 9' "$work/shared"
+
+# files under DESTDIR name PREFIX alone
+staged() {
+    files=$work/stage/opt/some/lib/pkgconfig
+    DESTDIR=$work/stage sh packaging/install.sh /opt/some && [ -e "$work/stage/opt/some/lib/libgubzelk.so" ] &&
+        grep -qx 'prefix=/opt/some' "$files/gubzelk-broker.pc" && ! grep -rq -e "$work" -e "$top" "$files"
+}
+says 'files under DESTDIR' staged
+[ $bad -eq 0 ] || fail "$bad of $count checks failed" 1

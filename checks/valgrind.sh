@@ -1,0 +1,54 @@
+#!/bin/sh
+# Runs ten scripts and five drives under valgrind: it must find no error and no lost block, and what is written must be what
+# it is without valgrind. One line for each.
+#   sh checks/valgrind.sh        needs valgrind and the program as `rt run` leaves it (README.md)
+cd "$(dirname "$0")/.." || exit 2
+program=crates/rb_run/out/rb_run
+[ -x "$program" ] || { echo "valgrind.sh: no program at $program: see README.md" >&2; exit 2; }
+command -v valgrind >/dev/null || { echo "valgrind.sh: no valgrind" >&2; exit 2; }
+work=$(mktemp -d) || exit 2
+trap 'rm -rf "$work"' EXIT
+count=0 bad=0
+
+# words FILE: the options in it; none if there is no such file
+words() { [ ! -f "$1" ] || cat "$1"; }
+
+# status FILE: the status in it; 0 if there is no such file
+status() { if [ -f "$1" ]; then cat "$1"; else echo 0; fi; }
+
+# watched NAME STATUS WANTED INPUT WORDS..: runs the program under valgrind, and compares
+watched() {
+    name=$1 wanted=$2 output=$3 input=$4
+    shift 4
+    timeout 600 valgrind --quiet --error-exitcode=99 --leak-check=full --errors-for-leak-kinds=definite,indirect \
+        --log-file="$work/log" "$program" "$@" <"$input" >"$work/out" 2>"$work/err"
+    found=$? why=
+    [ $found -eq "$wanted" ] || why="status $found"
+    cmp -s "$work/out" "$output" || why="${why:+$why, }another output"
+    [ ! -s "$work/log" ] || why="${why:+$why, }$(head -n 2 "$work/log" | tr '\n' ' ')"
+    count=$((count + 1))
+    if [ -z "$why" ]; then
+        echo "ok $name"
+    else
+        bad=$((bad + 1))
+        echo "FAILED $name: $why"
+    fi
+}
+
+for name in cut-everywhere.every-cut hostile-lines.lines line-bounds record-faults.faults recorded-all-types \
+    history-faults history-falls history-opened history-withdrawals grouped-recorded-many-updates; do
+    case=crates/rb_cases/data/$name
+    # each word of the options is one of the program's
+    watched "script $name" 0 $case.answers $case.script script $(words $case.args)
+done
+for drive in examples/drives/a-conflict examples/drives/faulty-lines examples/drives/nothing \
+    crates/rb_drive_cases/data/as-many-as-the-capacity-3; do
+    watched "drive ${drive##*/}" "$(status $drive.status)" $drive.report $drive.drive drive $(words $drive.args)
+done
+drive=examples/drives/a-conflict
+watched 'drive a-conflict, with a replica and appliers' "$(status $drive.status)" $drive.report $drive.drive \
+    drive $(words $drive.args) --appliers 4 --replica "$work/replica.db"
+if [ $bad -gt 0 ]; then
+    echo "valgrind.sh: $bad of $count runs failed" >&2
+    exit 1
+fi

@@ -1,0 +1,363 @@
+//! `Subs`: what is stored of all subscriptions' deliveries, and which of them comes first.
+
+ghost use Rattle.std.specs.Prelude.{◌≡◌, ◌≤◌, ◌<◌, ◌+◌, ◌++◌, ◌∷◌, [], length, map, slice_get};
+ghost use Rattle.std.specs.Prelude.{Some, OnOk, OnErr};
+ghost use Rattle.std.specs.List.{AllByRecursion};
+ghost use Rattle.std.specs.Option.{option_copied, option_map};
+ghost use Rattle.rb_deliveries.specs.declared.sub.Sub.{Sub};
+ghost use Rattle.rb_deliveries.specs.Expiry.{all_due, expired_sub, by_number, turns_from};
+ghost use Rattle.rb_deliveries.specs.KeptSubs.{with_sub};
+ghost use Rattle.rb_deliveries.specs.Lanes.{AreRising, AreLimited, HasNumbers, lane_floor};
+ghost use Rattle.rb_deliveries.specs.Lanes.{most_numbers, settled_lane};
+ghost use Rattle.rb_deliveries.specs.Opening.{IsLatestAt, opened_sub};
+ghost use Rattle.rb_deliveries.specs.Subs.{AreGiven, Belongs, ComesLastAt, IsDrawn, IsNewestAt};
+ghost use Rattle.rb_deliveries.specs.Subs.{new_sub, delivered_sub};
+ghost use Rattle.rb_deliveries.specs.Subs.{returned_sub, settled_sub, reconnected_sub, closed_sub};
+ghost use Rattle.rb_deliveries.specs.Subs.{first_to_deliver, span_to_deliver};
+ghost use Rattle.rb_deliveries.specs.Waiting.{AreWaiting, BelongAll, FirstPast, StandsAgain};
+
+use crate::span::Span;
+use crate::sub::Sub;
+use crate::ticket::Ticket;
+use crate::tournament::Tournament;
+use std::alloc::{AllocError, Global};
+use std::marker::Model;
+
+/// The subscriptions by their numbers, from 0, with what finds the one that is delivered to first,
+/// and the one whose delivery was taken first. Contracts see the window and the subscriptions.
+#[derive(Debug, Drop)]
+pub(crate) struct Subs {
+    // how many deliveries may be in flight to a subscription
+    window: u64,
+    subs: Vec<Sub>,
+    // the tickets of the subscriptions, and their earliest moments: they follow from `subs`
+    line: Tournament,
+    moments: Tournament,
+}
+
+impl Model for Subs {
+    ghost use Rattle.rb_deliveries.specs.KeptSubs.{KeptSubs, kept_code};
+    ghost use Rattle.rb_deliveries.specs.Waiting.{AreWaiting};
+
+    ghost Value = { KeptSubs };
+
+    ghost coded = { kept_code };
+
+    ghost view = { λ d. record { window = d.window; subs = d.subs.items } };
+
+    ghost invariant = { λ d. AreWaiting d.window d.subs.items d.line d.moments };
+}
+
+impl Subs {
+    /// No subscriptions. Up to `window` deliveries may be in flight to each. Does not allocate.
+    pub(crate) fn new(alloc: Global, window: u64) -> Subs
+        ensures { result ≡ record { window = window; subs = [] } }
+    {
+        Subs {
+            window,
+            subs: Vec::new(alloc),
+            line: Tournament::new(alloc),
+            moments: Tournament::new(alloc),
+        }
+    }
+
+    /// How many subscriptions there are.
+    pub(crate) fn len(&self) -> u64
+        ensures { result ≡ length self.now.subs }
+    {
+        self.subs.len() as u64
+    }
+
+    /// The subscription with this number.
+    pub(crate) fn get(&self, s: u64) -> Option<&Sub>
+        ensures { option_copied result ≡ slice_get self.now.subs s }
+    {
+        self.subs.get(s as usize)
+    }
+
+    /// The spans of each subscription rise. It does nothing: a caller has this fact by it.
+    pub(crate) fn rise(&self)
+        ensures { AllByRecursion (λ sub. AreRising sub.lane) self.now.subs }
+    {
+        let _window = self.window;
+    }
+
+    /// Adds a subscription to the numbers after `start`, under this link. They are cut with this
+    /// ticket.
+    pub(crate) fn add_subscriber(
+        &mut self,
+        alloc: Global,
+        start: u64,
+        link: u64,
+        ticket: Ticket,
+    ) -> Result<(), AllocError>
+        requires { start ≤ most_numbers }
+        ensures ok { OnOk result (self.new ≡ record {
+          window = self.old.window;
+          subs = self.old.subs ++ new_sub start link ticket ∷ [];
+        }) }
+        ensures err { OnErr result (self.new ≡ self.old) }
+    {
+        self.subs.reserve(1)?;
+        let made = Sub::behind(start, link, ticket);
+        let first = made.ticket(self.window);
+        let moment = made.moment();
+        push_both(alloc, &mut self.line, &mut self.moments, first, moment)?;
+        self.subs.push_reserved(made);
+        Ok(())
+    }
+}
+
+impl Subs {
+    /// Delivers a span of a subscription: it is in flight as this delivery, whose number is the
+    /// greatest, taken at this tick.
+    pub(crate) fn deliver(
+        &mut self,
+        s: u64,
+        span: Span,
+        number: u64,
+        tick: u64,
+    ) -> Result<(), AllocError>
+        requires there { s < length self.old.subs }
+        requires span { HasNumbers span }
+        requires last { IsNewestAt self.old.subs s number }
+        ensures ok { OnOk result ((sub : Sub) → slice_get self.old.subs s ≡ Some sub
+            → self.new ≡ with_sub self.old s (delivered_sub sub span number tick)) }
+        ensures err { OnErr result (self.new ≡ self.old) }
+        ensures memory { OnErr result ((sub : Sub) → slice_get self.old.subs s ≡ Some sub
+            → span.first ≡ sub.lane.next) }
+    {
+        let s = s as usize;
+        let alloc = *self.subs.allocator();
+        self.subs[s].deliver(alloc, span, number, tick)?;
+        stand(
+            &self.subs,
+            &mut self.line,
+            &mut self.moments,
+            self.window,
+            s,
+        );
+        Ok(())
+    }
+
+    /// Makes a span of a subscription ready again, in line with this ticket, which comes after
+    /// those of its other spans.
+    pub(crate) fn give_back(&mut self, s: u64, first: u64, ticket: Ticket)
+        requires there { s < length self.old.subs }
+        requires last { ComesLastAt self.old.subs s ticket }
+        ensures { (sub : Sub) → slice_get self.old.subs s ≡ Some sub
+            → self.new ≡ with_sub self.old s (returned_sub sub first ticket) }
+    {
+        let s = s as usize;
+        self.subs[s].give_back(first, ticket);
+        stand(
+            &self.subs,
+            &mut self.line,
+            &mut self.moments,
+            self.window,
+            s,
+        );
+    }
+
+    /// Opens a span of a subscription: each of its numbers is a ready span of its own, in its
+    /// place. They are in line after all other spans, by rising number: their tickets come after
+    /// `latest`, which no ticket of that subscription comes after. An `Err` changes nothing.
+    pub(crate) fn open_up(&mut self, s: u64, first: u64, latest: Ticket) -> Result<(), AllocError>
+        requires there { s < length self.old.subs }
+        requires latest { IsLatestAt self.old.subs s latest }
+        ensures ok { OnOk result ((sub : Sub) → slice_get self.old.subs s ≡ Some sub
+            → self.new ≡ with_sub self.old s (opened_sub sub first latest)) }
+        ensures err { OnErr result (self.new ≡ self.old) }
+    {
+        let s = s as usize;
+        self.subs[s].open(first, latest)?;
+        stand(
+            &self.subs,
+            &mut self.line,
+            &mut self.moments,
+            self.window,
+            s,
+        );
+        Ok(())
+    }
+
+    /// Settles a span of a subscription. Returns the floor, up to which everything is settled now.
+    pub(crate) fn settle(&mut self, s: u64, first: u64) -> u64
+        requires { s < length self.old.subs }
+        ensures kept { (sub : Sub) → slice_get self.old.subs s ≡ Some sub
+            → self.new ≡ with_sub self.old s (settled_sub sub first) }
+        ensures floor { (sub : Sub) → slice_get self.old.subs s ≡ Some sub
+            → result ≡ lane_floor (settled_lane sub.lane first) }
+    {
+        let s = s as usize;
+        let floor = self.subs[s].settle(first);
+        stand(
+            &self.subs,
+            &mut self.line,
+            &mut self.moments,
+            self.window,
+            s,
+        );
+        floor
+    }
+
+    /// Continues a subscription after `cursor`, under this link. The numbers after it are cut with
+    /// this ticket.
+    pub(crate) fn reconnect(&mut self, s: u64, cursor: u64, link: u64, ticket: Ticket)
+        requires there { s < length self.old.subs }
+        requires cursor { cursor ≤ most_numbers }
+        ensures { (sub : Sub) → slice_get self.old.subs s ≡ Some sub
+            → self.new ≡ with_sub self.old s (reconnected_sub sub cursor link ticket) }
+    {
+        let s = s as usize;
+        self.subs[s].reconnect(cursor, link, ticket);
+        stand(
+            &self.subs,
+            &mut self.line,
+            &mut self.moments,
+            self.window,
+            s,
+        );
+    }
+
+    /// Closes a subscription and removes all its spans.
+    pub(crate) fn close(&mut self, s: u64)
+        requires { s < length self.old.subs }
+        ensures { (sub : Sub) → slice_get self.old.subs s ≡ Some sub
+            → self.new ≡ with_sub self.old s (closed_sub sub) }
+    {
+        let s = s as usize;
+        self.subs[s].close();
+        stand(
+            &self.subs,
+            &mut self.line,
+            &mut self.moments,
+            self.window,
+            s,
+        );
+    }
+}
+
+impl Subs {
+    /// The span to deliver before all others, with its subscription's number: the first in line of
+    /// those whose subscription is open and has room in its window. `front` is the last number
+    /// placed, and a delivery has up to `batch` numbers.
+    pub(crate) fn first_to_deliver(&self, batch: u64, front: u64) -> Option<(u64, Span)>
+        requires limits { AreLimited batch front }
+        requires belong { BelongAll front self.now.subs }
+        ensures { result ≡ option_map span_to_deliver
+            (first_to_deliver self.now.window batch front 0 self.now.subs) }
+    {
+        let winner = self.line.winner()?;
+        // the ticket of numbers that aren't placed yet
+        if front < winner.ticket.front {
+            return None;
+        }
+        let held = self.subs[winner.place].lane.first_in_line(batch, front)?;
+        Some((winner.place as u64, held.span))
+    }
+
+    /// Makes the spans that are due ready again, and returns how many there are. Their tickets come
+    /// after `latest`, in the order of their deliveries' numbers, which are below `next`.
+    pub(crate) fn expire(&mut self, timeout: u64, clock: u64, latest: Ticket, next: u64) -> u64
+        requires belong { AllByRecursion (Belongs latest.front latest.turn next) self.old.subs }
+        requires few { (latest.front ≤ most_numbers) × (length self.old.subs ≤ 1024) }
+        requires turns { latest.turn + next < 18446744073709551616 }
+        ensures many { result ≡ all_due timeout clock self.old.subs }
+        ensures kept { self.new ≡ record {
+          window = self.old.window;
+          subs =
+              map (expired_sub timeout clock (by_number (turns_from latest.front latest.turn)))
+              self.old.subs;
+        } }
+    {
+        expire_due(
+            &mut self.subs,
+            &mut self.line,
+            &mut self.moments,
+            self.window,
+            timeout,
+            clock,
+            latest,
+            next,
+        )
+    }
+}
+
+// gives a subscription that changed its ticket and its moment among the others
+fn stand(subs: &[Sub], line: &mut Tournament, moments: &mut Tournament, window: u64, s: usize)
+    requires here { s < length subs.now }
+    requires line { length line.old ≡ length subs.now }
+    requires moments { length moments.old ≡ length subs.now }
+    ensures { (sub : Sub) → slice_get subs.now s ≡ Some sub
+        → StandsAgain window s sub line.old moments.old line.new moments.new }
+{
+    line.set(s, subs[s].ticket(window));
+    moments.set(s, subs[s].moment());
+}
+
+// adds a place to both, or to none
+fn push_both(
+    alloc: Global,
+    line: &mut Tournament,
+    moments: &mut Tournament,
+    ticket: Option<Ticket>,
+    moment: Option<Ticket>,
+) -> Result<(), AllocError>
+    ensures ok { OnOk result ((line.new ≡ line.old ++ ticket ∷ [])
+        × (moments.new ≡ moments.old ++ moment ∷ [])) }
+    ensures err { OnErr result ((line.new ≡ line.old) × (moments.new ≡ moments.old)) }
+{
+    line.push(alloc, ticket)?;
+    if let Err(e) = moments.push(alloc, moment) {
+        line.pop();
+        return Err(e);
+    }
+    Ok(())
+}
+
+// Makes the spans that are due ready again, and returns how many there are. It goes to the
+// subscription whose delivery was taken first, as long as that one is due.
+fn expire_due(
+    subs: &mut Vec<Sub>,
+    line: &mut Tournament,
+    moments: &mut Tournament,
+    window: u64,
+    timeout: u64,
+    clock: u64,
+    latest: Ticket,
+    next: u64,
+) -> u64
+    requires waiting { AreWaiting window subs.old.items line.old moments.old }
+    requires given { AllByRecursion (λ sub. AreGiven next latest.turn sub.lane.held)
+        subs.old.items }
+    requires drawn { AllByRecursion (λ sub. AllByRecursion
+        (λ h. IsDrawn latest.front latest.turn h.ticket) sub.lane.held) subs.old.items }
+    requires few { all_due timeout clock subs.old.items < 18446744073709551616 }
+    ensures many { result ≡ all_due timeout clock subs.old.items }
+    ensures subs { subs.new.items
+        ≡ map (expired_sub timeout clock (by_number (turns_from latest.front latest.turn)))
+        subs.old.items }
+    ensures waiting { AreWaiting window subs.new.items line.new moments.new }
+{
+    let mut many = 0;
+    let mut past = first_past(moments, timeout, clock);
+    while let Some(s) = past {
+        many += subs[s].how_many_due(timeout, clock);
+        subs[s].expire(timeout, clock, latest, next);
+        stand(subs, line, moments, window, s);
+        past = first_past(moments, timeout, clock);
+    }
+    many
+}
+
+// the place whose moment is the earliest, if that is past
+fn first_past(moments: &Tournament, timeout: u64, clock: u64) -> Option<usize>
+    ensures { FirstPast timeout clock moments.now result }
+{
+    let winner = moments.winner()?;
+    if timeout <= clock.saturating_sub(winner.ticket.front) {
+        return Some(winner.place);
+    }
+    None
+}

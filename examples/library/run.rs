@@ -1,0 +1,56 @@
+//! Feeds changesets to a broker, lets another thread take, accept and acknowledge them, and meets a refusal. With the
+//! libraries installed under PREFIX (docs/C.md):
+//!
+//!     rustc --edition 2021 -O run.rs -L native=PREFIX/lib -l static=broker_c -l static=gubzelk_heap
+mod broker;
+mod calls;
+use broker::{Broker, Error};
+use std::thread;
+
+/// An INSERT of (key, value) into t(a INTEGER PRIMARY KEY, b INTEGER), as SQLite's session extension records it.
+fn insert(key: i64, value: i64) -> Vec<u8> {
+    let mut text = b"T\x02\x01\x00t\x00\x12\x00".to_vec();
+    for number in [key, value] {
+        text.push(1);
+        text.extend(number.to_be_bytes());
+    }
+    text
+}
+
+/// Feeds a changeset in pieces of 5 bytes, and places it.
+fn publish(broker: &mut Broker, publisher: u64, text: &[u8]) -> Result<(), Error> {
+    for piece in text.chunks(5) {
+        broker.feed(publisher, piece)?;
+    }
+    broker.end(publisher)?;
+    broker.send(publisher)?;
+    broker.turn().map(drop)
+}
+
+/// Takes, accepts and acknowledges all that is placed.
+fn follow(broker: &mut Broker, subscription: u64) -> Result<(), Error> {
+    while let Some(delivery) = broker.take(subscription, 0)? {
+        broker.accept(delivery.number)?;
+        broker.ack(delivery.number)?;
+        println!("followed entries {} to {}", delivery.first, delivery.last);
+    }
+    Ok(())
+}
+
+fn main() -> Result<(), Error> {
+    let mut broker = Broker::open(&calls::LIMITS, &[("t", &[1, 0])])?;
+    let publisher = broker.publisher()?;
+    let (subscription, _link) = broker.subscribe(0)?;
+    for key in 1..=40 {
+        publish(&mut broker, publisher, &insert(key, 10 * key))?;
+    }
+    thread::scope(|scope| scope.spawn(|| follow(&mut broker, subscription)).join().unwrap())?;
+    println!("entries 1 and 2 as one changeset: {} bytes", broker.combined(1, 2)?.len());
+
+    publish(&mut broker, publisher, &insert(7, 0))?;
+    let refused = follow(&mut broker, subscription).unwrap_err();
+    println!("{:?} of change {}: {refused}", refused.code, refused.why[0]);
+    let cursor = broker.cursor(subscription)?;
+    println!("link {} begins after entry {cursor}", broker.reconnect(subscription, cursor)?);
+    Ok(())
+}
