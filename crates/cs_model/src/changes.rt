@@ -1,6 +1,6 @@
 //! The changes of a section, in canonical form in one buffer.
 
-ghost use Rattle.std.specs.Prelude.{◌≡◌, ◌==◌, [], ◌∷◌, ◌++◌, OnOk, OnErr, ◌↔◌, IsTrue, length};
+ghost use Rattle.std.specs.Prelude.{◌≡◌, ◌==◌, [], ◌∷◌, ◌++◌, OnOk, OnErr, length};
 ghost use Rattle.std.specs.Prelude.{take};
 ghost use Rattle.std.specs.Cmp.{on_per, on_equiv, partial_equiv_from_equiv};
 ghost use Rattle.std.specs.Cmp.Lexicographic.{pointwise, lists_per, lists_equiv, nat_list_eq_equiv};
@@ -15,13 +15,12 @@ ghost use Rattle.cs_model.specs.Schema.{same_bytes};
 ghost use Rattle.cs_model.specs.Seen.{change_seen, fields_seen};
 
 use crate::canonical::text_push;
-use crate::change::{Change, Op};
+use crate::change::Op;
 use crate::change_ref::{ChangeRef, ChangeRefs};
 use crate::copy::CopyIn;
 use crate::field::add_fields;
 use crate::field_ref::FieldRef;
 use crate::packed_change::PackedChange;
-use crate::record::Record;
 use std::alloc::{AllocError, Global};
 use std::marker::Model;
 use std::mem;
@@ -60,25 +59,6 @@ impl Changes {
             count: 0,
             bytes: Vec::new(alloc),
         }
-    }
-
-    /// Appends a change. An `Err` does not change the list.
-    pub fn push(
-        &mut self,
-        op: Op,
-        indirect: bool,
-        before: &Record,
-        after: &Record,
-    ) -> Result<(), AllocError>
-        requires { Long self.old.0 op before.now after.now }
-        ensures columns { self.new.0 ≡ self.old.0 }
-        ensures ok { OnOk result (self.new.1
-            ≡ self.old.1 ++ change_of op indirect before.now after.now ∷ []) }
-        ensures err { OnErr result (self.new.1 ≡ self.old.1) }
-    {
-        change_push(&mut self.bytes, op, indirect, before, after)?;
-        self.count += 1;
-        Ok(())
     }
 
     /// Appends a copy of a borrowed change, without reading its fields. An `Err` does not change
@@ -123,18 +103,6 @@ impl Changes {
         fields_push(&mut self.bytes, op, indirect, before, after)?;
         self.count += 1;
         Ok(())
-    }
-
-    /// The same for a `Change`.
-    pub fn push_change(&mut self, alloc: Global, change: &Change) -> Result<(), AllocError>
-        requires { Long self.old.0 change.now.op change.now.before change.now.after }
-        ensures columns { self.new.0 ≡ self.old.0 }
-        ensures ok { OnOk result (self.new.1 ≡ self.old.1 ++ change.now ∷ []) }
-        ensures err { OnErr result (self.new.1 ≡ self.old.1) }
-    {
-        let before = Record::of(alloc, &change.before)?;
-        let after = Record::of(alloc, &change.after)?;
-        self.push(change.op, change.indirect, &before, &after)
     }
 
     /// Appends the changes that `text` encodes, which are complete, as `laws::spelled_is_said`
@@ -263,37 +231,7 @@ impl Eq for Changes {
     ghost laws = { on_equiv changes_parts (lists_equiv nat_list_eq_equiv) };
 }
 
-/// Whether two lists have the same number of columns and the same changes. Returns what `==` does;
-/// the contract speaks of the changes.
-pub fn same_changes(first: &Changes, second: &Changes) -> bool
-    ensures { IsTrue result ↔ (first.now ≡ second.now) }
-{
-    first.columns == second.columns && first.bytes == second.bytes
-}
-
-/// Appends a change's bytes to `out`. An `Err` does not change `out`.
-pub fn change_push(
-    out: &mut Vec<u8>,
-    op: Op,
-    indirect: bool,
-    before: &Record,
-    after: &Record,
-) -> Result<(), AllocError>
-    ensures ok { AddsBytes result out.old out.new
-        (change_bytes (change_of op indirect before.now after.now)) }
-    ensures err { OnErr result (out.new.items ≡ out.old.items) }
-    ensures before { AllByRecursion Fits before.now }
-    ensures after { AllByRecursion Fits after.now }
-{
-    let start = out.len();
-    let pushed = add_change(out, op, indirect, before.bytes(), after.bytes());
-    if pushed.is_err() {
-        out.truncate(start);
-    }
-    pushed
-}
-
-// The same; an `Err` may have appended some.
+// Appends the bytes of a change with these records to `out`. An `Err` may have appended some.
 fn add_change(
     out: &mut Vec<u8>,
     op: Op,

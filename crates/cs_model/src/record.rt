@@ -1,6 +1,6 @@
 //! An owned record, in canonical form in one buffer.
 
-ghost use Rattle.std.specs.Prelude.{◌≡◌, ◌++◌, ◌∷◌, [], IfOk, OnOk, OnErr, ◌↔◌, IsTrue};
+ghost use Rattle.std.specs.Prelude.{◌≡◌, ◌++◌, ◌∷◌, [], IfOk, OnOk, OnErr};
 ghost use Rattle.std.specs.List.{AllByRecursion};
 ghost use Rattle.std.specs.Cmp;
 ghost use Rattle.std.specs.Cmp.{on_per, on_equiv};
@@ -14,7 +14,6 @@ use crate::copy::CopyIn;
 use crate::field::field_push;
 use crate::field_ref::FieldRef;
 use crate::fields::Fields;
-use crate::value::Field;
 use std::alloc::{AllocError, Global};
 use std::marker::Model;
 
@@ -53,17 +52,6 @@ impl Record {
         Ok(Record {
             bytes: Vec::from_slice(alloc, from.bytes())?,
         })
-    }
-
-    /// A record of these fields.
-    pub fn of(alloc: Global, fields: &[Field]) -> Result<Record, AllocError>
-        ensures { IfOk result (λ made. made ≡ fields.now) }
-    {
-        let mut record = Record::new(alloc);
-        for field in fields {
-            record.push(field.as_ref())?;
-        }
-        Ok(record)
     }
 
     /// Appends a field. An `Err` does not change the record.
@@ -113,12 +101,4 @@ impl PartialEq for Record {
 
 impl Eq for Record {
     ghost laws = { on_equiv packed nat_list_eq_equiv };
-}
-
-/// Whether two records have the same fields. Returns what `==` does; the contract speaks of the
-/// fields.
-pub fn same_fields(first: &Record, second: &Record) -> bool
-    ensures { IsTrue result ↔ (first.now ≡ second.now) }
-{
-    first.bytes == second.bytes
 }

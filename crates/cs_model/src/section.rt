@@ -1,12 +1,12 @@
 //! A section of a changeset: a table header and the changes of that table.
 
-ghost use Rattle.std.specs.Prelude.{◌≡◌, [], ◌↔◌, IsTrue, length};
+ghost use Rattle.std.specs.Prelude.{◌≡◌, [], length};
 ghost use Rattle.std.specs.Cmp.{on_per, on_equiv, partial_equiv_from_equiv};
 ghost use Rattle.std.specs.Cmp.Lexicographic.{pointwise, lists_per, lists_equiv, nat_list_eq_equiv};
 ghost use Rattle.cs_model.specs.Schema.{same_bytes};
 ghost use Rattle.cs_model.specs.PackedChanges.{AreCanonical, section_parts, unpacked_changes};
 
-use crate::changes::{Changes, same_changes};
+use crate::changes::Changes;
 use crate::copy::CopyIn;
 use crate::section_ref::SectionRef;
 use crate::shape::Shape;
@@ -122,12 +122,4 @@ impl PartialEq for Section {
 
 impl Eq for Section {
     ghost laws = { on_equiv section_parts (lists_equiv nat_list_eq_equiv) };
-}
-
-/// Whether two sections have the same table and the same changes. Returns what `==` does; the
-/// contract speaks of the changes.
-pub fn same_sections(first: &Section, second: &Section) -> bool
-    ensures { IsTrue result ↔ (first.now ≡ second.now) }
-{
-    first.shape == second.shape && same_changes(&first.changes, &second.changes)
 }

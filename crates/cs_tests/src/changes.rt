@@ -1,11 +1,9 @@
 //! Tests lists of changes, sections and changesets, and the keys of rows.
 
-ghost use Rattle.std.specs.Prelude.{◌≡◌, ◌∷◌, [], IfOk};
-ghost use Rattle.cs_model.specs.PackedChanges.{Long};
-ghost use Rattle.cs_model.specs.Seen.{field_seen};
+ghost use Rattle.std.specs.Prelude.{◌≡◌, IfOk};
 
 use crate::fixture::{HEADER, counts, joined, read, same, shape};
-use cs_model::FieldRef::{Null, Text};
+use cs_model::FieldRef::{Integer, Null, Text, Undefined};
 use cs_model::*;
 use cs_parse::parse_in_place;
 use std::alloc::{AllocError, Global};
@@ -21,50 +19,22 @@ const UPDATED: &[u8] = b"\x17\x01\x01\0\0\0\0\0\0\0\x07\x03\x01w\0\x03\x01x";
 
 const DELETED: &[u8] = b"\x09\0\x01\0\0\0\0\0\0\0\x07\x03\x01w";
 
-// a record of two fields
-fn pair(alloc: Global, first: FieldRef, second: FieldRef) -> Result<Record, AllocError>
-    ensures { IfOk result (λ made. made
-        ≡ field_seen first.entry ∷ (field_seen second.entry ∷ [])) }
-{
-    let mut record = Record::new(alloc);
-    record.push(first)?;
-    record.push(second)?;
-    Ok(record)
-}
-
 // `count` INSERTs of (NULL, 'w')
 fn inserts(alloc: Global, count: usize) -> Result<Changes, AllocError>
     ensures { IfOk result (λ changes. changes.0 ≡ 2) }
 {
-    let new = pair(alloc, Null, Text(b"w"))?;
-    let none = Record::new(alloc);
     let mut changes = Changes::new(alloc, 2);
     for _ in 0..count {
-        changes.push(Op::Insert, false, &none, &new)?;
+        changes.push_fields(Op::Insert, false, &[], &[Null, Text(b"w")])?;
     }
     Ok(changes)
-}
-
-// the UPDATE above, as an owned `Change`
-fn update(alloc: Global) -> Result<Change, AllocError>
-    ensures { IfOk result (λ c. Long 2 c.op c.before c.after) }
-{
-    let key = Field::Is(Value::Integer(7));
-    let old = Field::Is(Value::Text(Seq::from_slice(alloc, b"w")?));
-    let new = Field::Is(Value::Text(Seq::from_slice(alloc, b"x")?));
-    Ok(Change {
-        op: Op::Update,
-        indirect: true,
-        before: Seq::from_vec(vec![in alloc; key, old]?),
-        after: Seq::from_vec(vec![in alloc; Field::Undefined, new]?),
-    })
 }
 
 // an INSERT and the UPDATE above
 fn lists(alloc: Global) -> Result<Changes, AllocError> {
     let mut changes = inserts(alloc, 1)?;
-    let change = update(alloc)?;
-    changes.push_change(alloc, &change)?;
+    let old = [Integer(7), Text(b"w")];
+    changes.push_fields(Op::Update, true, &old, &[Undefined, Text(b"x")])?;
     Ok(changes)
 }
 
