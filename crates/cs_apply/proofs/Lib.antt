@@ -1,12 +1,6 @@
-pub mod Keys
-pub mod Columns
-pub mod Filled
-pub mod Log
-pub mod Orders
-pub mod Sections
-pub mod OneByOne
-pub mod Lengths
-pub mod Copied
-pub mod PlaceLaws
-pub mod RowEffect
-pub mod SameLaws
+-- Rows and records column by column, and rows by their keys.
+pub mod rows_by_key
+-- Places and the log: what a look-up finds, and what undoing restores.
+pub mod stored
+-- What changes and sections do to the rows.
+pub mod effects

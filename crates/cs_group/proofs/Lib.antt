@@ -1,25 +1,10 @@
-pub mod Valid
-pub mod Between
-pub mod Merging
-pub mod Effects
-pub mod Turning
-pub mod RowLaw
-pub mod Through
-pub mod OneRow
-pub mod Keyed
-pub mod Together
-pub mod Tables
-pub mod Law
-pub mod StepLaw
-pub mod Slots
-pub mod Holding
-pub mod Seen
-pub mod Lists
-pub mod Knowing
-pub mod Fitting
-pub mod KeyPlace
-pub mod InPlace
-pub mod InPlaceTwo
-pub mod OwnForm
-pub mod SlotBytes
-pub mod Admitting
+-- The law of one row: what changes come to has the effect that they have one after another.
+pub mod one_row
+-- The combining law: a group applies where its changesets do, and leaves the same tables.
+pub mod all_tables
+-- One change more: the slots hold what all changes come to.
+pub mod one_more
+-- An UPDATE cut down where it stands to the columns that it changes.
+pub mod cut_down
+-- Tables known by name, and sections that one schema admits.
+pub mod schemas

@@ -93,7 +93,7 @@ fn put_tables(out: &mut [u8], at: usize, tables: &[Rows]) -> usize
 
 // Writes the text of these tables if there is room for it, and returns its length. Does not
 // allocate; `AllocError` says that a `usize` can't hold the length.
-#[tactic(auto, using(cs_write::proofs::Held::holding, cs_write::proofs::Laying::laid_first))]
+#[tactic(auto, using(cs_write::proofs::buffers::Held::holding, cs_write::proofs::buffers::Laying::laid_first))]
 fn write_tables(tables: &[Rows], out: &mut [u8]) -> Result<usize, AllocError>
     ensures length { IfOk result (λ n. n
         ≡ length (flat_map table_text (map rows_seen tables.now))) }

@@ -32,7 +32,7 @@ pub(crate) enum Slot<'a> {
 
 impl<'a> Slot<'a> {
     /// The length of the change in canonical form, in bytes.
-    #[tactic(auto, using(cs_write::proofs::Held::holding))]
+    #[tactic(auto, using(cs_write::proofs::buffers::Held::holding))]
     pub(crate) fn text_len(&self) -> Option<usize>
         ensures { result ≡ held (length (change_bytes (slot_seen self.now))) }
     {

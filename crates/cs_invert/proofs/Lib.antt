@@ -1,11 +1,4 @@
-pub mod Inverting
-pub mod Twice
-pub mod Ending
-pub mod Long
-pub mod OneBack
-pub mod KeyBack
-pub mod Withdrawing
-pub mod SameLength
-pub mod ByShape
-pub mod KeyLeads
-pub mod Admitting
+-- The inverse of a changeset is a changeset of the same length, and its inverse is the changeset.
+pub mod inverses
+-- The law of withdrawals: a withdrawal takes back its changeset and leaves what others did.
+pub mod withdrawals

@@ -2,10 +2,10 @@
 //! bytes at `at` and returns the index after them. It does not change the other bytes and does not
 //! allocate.
 
-ghost use Rattle.std.specs.Prelude.{◌≡◌, ◌≤◌, ◌+◌, ◌++◌, length, map, nat_lt};
+ghost use Rattle.std.specs.Prelude.{◌≡◌, ◌≤◌, ◌+◌, ◌++◌, length, map};
 ghost use Rattle.std.specs.List.{AllByRecursion};
 ghost use Rattle.cs_model.specs.declared.change.Op.TheVariants.{Update};
-ghost use Rattle.cs_model.specs.Changeset.{AreRecords, IsSection, all_changes};
+ghost use Rattle.cs_model.specs.Changeset.{AreRecords, IsSection};
 ghost use Rattle.cs_model.specs.Packed.{packed};
 ghost use Rattle.cs_model.specs.PackedChanges.{change_bytes, changes_bytes};
 ghost use Rattle.cs_model.specs.Seen.{change_seen};
@@ -20,7 +20,7 @@ ghost use Rattle.cs_invert.specs.Text.{inverse_group, row_bytes};
 use crate::inverse::exchanged_fields;
 use crate::key_first::key_first;
 use cs_model::{ChangeRef, Op, RecordRef, SectionRef, Shape};
-use cs_write::{Groups, put_bytes, put_fields, put_header, put_operation};
+use cs_write::{Groups, any_change, put_bytes, put_fields, put_header, put_operation};
 
 // An UPDATE's old record, with the new values in place of the old ones outside the key.
 fn put_exchanged(
@@ -221,18 +221,6 @@ fn put_sections(out: &mut [u8], at: usize, sections: &[SectionRef]) -> usize
         end = put_section(out, end, section);
     }
     end
-}
-
-/// Whether these sections have a change.
-pub(crate) fn any_change(sections: &[SectionRef]) -> bool
-    ensures { result ≡ nat_lt 0 (length (all_changes (inverse sections.now))) }
-{
-    for section in sections {
-        if !section.is_empty() {
-            return true;
-        }
-    }
-    false
 }
 
 // A group's inverse, if it has a change.

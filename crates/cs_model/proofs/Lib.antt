@@ -1,17 +1,7 @@
 pub mod CallerLemmas
-pub mod Tables
-pub mod Keys
-pub mod VarintLemmas
-pub mod PackedLaws
-pub mod RowLaws
-pub mod CutLaws
-pub mod PackedChangeLaws
-pub mod FitLaws
-pub mod CountLaws
-pub mod SaidLaws
-pub mod CanonicalLaws
-pub mod CanonicalOnly
-pub mod Fronts
-pub mod PartLaws
-pub mod PackedOne
-pub mod FieldReads
+-- Records, rows and changes as bytes: the bytes of each decode to it.
+pub mod packing
+-- What bytes encode: varints, fields and changes, and the scan for canonical ones.
+pub mod spelling
+-- Lists of tables, keys and fronts.
+pub mod lists

@@ -1,10 +1,6 @@
-pub mod Shapes
-pub mod GroupLaws
-pub mod Lengths
-pub mod Held
-pub mod TextLaws
-pub mod FormLaws
-pub mod SpellLaws
-pub mod NoLonger
-pub mod Laying
-pub mod Cutting
+-- The canonical form is a changeset: sections grouped by their shapes.
+pub mod forms
+-- The canonical text encodes the canonical form, and is no longer than the text that was parsed.
+pub mod texts
+-- Lengths before a text is written, and texts written one after another.
+pub mod buffers

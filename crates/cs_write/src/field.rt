@@ -16,7 +16,7 @@ use crate::placing::{put_byte, put_bytes};
 use cs_model::{FieldRef, Op, varint_of};
 
 // the length of a type byte, a length and these bytes
-#[tactic(auto, using(crate::proofs::Held::holding))]
+#[tactic(auto, using(crate::proofs::buffers::Held::holding))]
 fn counted_len(kind: u8, bytes: &[u8]) -> Option<usize>
     ensures { result ≡ held (length (kind ∷ (varint (length bytes.now) ++ bytes.now))) }
 {
@@ -24,7 +24,7 @@ fn counted_len(kind: u8, bytes: &[u8]) -> Option<usize>
 }
 
 // the length of a field
-#[tactic(auto, using(crate::proofs::Held::holding))]
+#[tactic(auto, using(crate::proofs::buffers::Held::holding))]
 fn field_len(field: FieldRef) -> Option<usize>
     ensures { result ≡ held (length (field_bytes (field_seen field.entry))) }
 {

@@ -46,7 +46,7 @@ fn form_of(alloc: Global, groups: &Groups) -> Result<Vec<Section>, AllocError>
 pub fn canonical(alloc: Global, changeset: &Changeset) -> Result<Changeset, AllocError>
     ensures { IfOk result (λ form. form ≡ canon changeset.now) }
 {
-    let groups = groups_of(alloc, changeset.sections())?;
+    let groups = groups_of(alloc, changeset.iter())?;
     let form = form_of(alloc, &groups)?;
     Ok(Changeset::from_seq(Seq::from_vec(form)))
 }

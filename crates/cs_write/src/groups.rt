@@ -6,7 +6,7 @@ ghost use Rattle.cs_write.specs.Canon.{by_shape};
 ghost use Rattle.cs_write.specs.Groups.{added};
 ghost use Rattle.cs_write.specs.Seen.{seen};
 
-use cs_model::{CopyIn, Section, SectionRef, Shape};
+use cs_model::{CopyIn, SectionRef, SectionRefs, Shape};
 use indexmap::IndexMap;
 use std::alloc::{AllocError, Global};
 
@@ -36,18 +36,18 @@ pub fn add_section<'a>(
     Ok(())
 }
 
-/// Groups the sections of a changeset.
-pub fn groups_of<'a>(alloc: Global, sections: &'a [Section]) -> Result<Groups<'a>, AllocError>
-    ensures { IfOk result (λ groups. seen groups.entries ≡ by_shape [] sections.now) }
+/// Groups the sections of a changeset, owned or in place in its text. cs_invert uses it.
+pub fn groups_of<'a>(alloc: Global, sections: SectionRefs<'a>) -> Result<Groups<'a>, AllocError>
+    ensures { IfOk result (λ groups. seen groups.entries ≡ by_shape [] sections.entry) }
 {
     let mut groups = IndexMap::new(alloc);
     for section in sections {
-        add_section(alloc, &mut groups, section.as_ref())?;
+        add_section(alloc, &mut groups, section)?;
     }
     Ok(groups)
 }
 
-/// Whether these sections have a change.
+/// Whether these sections have a change. cs_invert uses it.
 pub fn any_change(sections: &[SectionRef]) -> bool
     ensures { result ≡ nat_lt 0 (length (all_changes sections.now)) }
 {

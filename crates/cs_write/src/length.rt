@@ -10,7 +10,7 @@ ghost use Rattle.cs_write.specs.Text.{header_text};
 use cs_model::{SectionRef, Shape};
 
 /// Adds two lengths. cs_group uses it.
-#[tactic(auto, using(crate::proofs::Held::holding))]
+#[tactic(auto, using(crate::proofs::buffers::Held::holding))]
 pub fn add_lengths(one: Option<usize>, other: Option<usize>) -> Option<usize>
     ensures { (m n : ℕ) → one ≡ held m → other ≡ held n → result ≡ held (m + n) }
 {
@@ -35,7 +35,7 @@ pub fn varint_len(n: u64) -> usize
 }
 
 /// The length of a section's changes, in bytes.
-#[tactic(auto, using(crate::proofs::Held::holding))]
+#[tactic(auto, using(crate::proofs::buffers::Held::holding))]
 pub fn changes_len(section: &SectionRef) -> Option<usize>
     ensures { result ≡ held (length (changes_bytes section.now.changes)) }
 {

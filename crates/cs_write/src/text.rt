@@ -2,7 +2,6 @@
 //! one.
 
 ghost use Rattle.std.specs.Prelude.{◌≡◌, ◌≤◌, ◌^◌, length, IfOk, OnErr, OnOk};
-ghost use Rattle.cs_model.specs.Bytes.{AddsBytes};
 ghost use Rattle.cs_write.specs.Buffer.{given};
 ghost use Rattle.cs_write.specs.Lengths.{held};
 ghost use Rattle.cs_write.specs.Text.{text_of};
@@ -12,7 +11,6 @@ ghost use Rattle.cs_write.specs.Seen.{bodies, seen};
 use crate::groups::{Groups, any_change, groups_of};
 use crate::length::{add_lengths, changes_len, header_len};
 use crate::placing::put_groups;
-use crate::pushing::{push_changes, push_header};
 use bytes::Bytes;
 use cs_model::{Changeset, SectionRef, Shape};
 use std::alloc::{AllocError, Global};
@@ -49,53 +47,21 @@ fn groups_len(groups: &Groups) -> Option<usize>
     len
 }
 
-// the changes of these sections
-fn push_sections(out: &mut Vec<u8>, sections: &[SectionRef]) -> Result<(), AllocError>
-    ensures ok { AddsBytes result out.old out.new (bodies sections.now) }
-{
-    for section in sections {
-        push_changes(out, section)?;
-    }
-    Ok(())
-}
-
-// a group, if it has a change
-fn push_group(out: &mut Vec<u8>, shape: &Shape, sections: &[SectionRef]) -> Result<(), AllocError>
-    ensures ok { AddsBytes result out.old out.new
-        (group_text (shape.now, sections.now)) }
-{
-    if !any_change(sections) {
-        return Ok(());
-    }
-    push_header(out, shape)?;
-    push_sections(out, sections)
-}
-
 // the groups of a changeset, which determine its canonical text
 fn groups_in<'a>(alloc: Global, changeset: &'a Changeset) -> Result<Groups<'a>, AllocError>
     ensures { IfOk result (λ groups. groups_text (seen groups.entries) ≡ text_of changeset.now) }
 {
-    groups_of(alloc, changeset.sections())
+    groups_of(alloc, changeset.iter())
 }
 
-// The number of bytes to write. No memory holds more than a `usize` counts.
-#[tactic(auto, using(crate::proofs::Held::holding))]
-fn needed(groups: &Groups) -> Result<usize, AllocError>
+/// The length of the text of these groups, in bytes. Returns `AllocError` if a `usize` can't hold
+/// it, which no changeset in memory reaches. cs_invert uses it.
+#[tactic(auto, using(crate::proofs::buffers::Held::holding))]
+pub fn text_len(groups: &Groups) -> Result<usize, AllocError>
     ensures ok { IfOk result (λ n. n ≡ length (groups_text (seen groups.now.entries))) }
     ensures err { OnErr result (2 ^ 64 ≤ length (groups_text (seen groups.now.entries))) }
 {
     groups_len(groups).ok_or(AllocError)
-}
-
-// all groups, in a buffer allocated at their length
-fn bytes_of(alloc: Global, groups: &Groups, len: usize) -> Result<Vec<u8>, AllocError>
-    ensures { IfOk result (λ text. text.items ≡ groups_text (seen groups.now.entries)) }
-{
-    let mut out = Vec::with_capacity(alloc, len)?;
-    for (shape, sections) in groups.iter() {
-        push_group(&mut out, shape, sections)?;
-    }
-    Ok(out)
 }
 
 /// Returns the canonical text of a changeset: that of `canonical`, with shortest varints and
@@ -105,22 +71,24 @@ pub fn write(alloc: Global, changeset: &Changeset) -> Result<Bytes, AllocError>
     ensures { IfOk result (λ text. text ≡ text_of changeset.now) }
 {
     let groups = groups_in(alloc, changeset)?;
-    let len = needed(&groups)?;
-    Ok(Bytes::from_vec(bytes_of(alloc, &groups, len)?)?)
+    let len = text_len(&groups)?;
+    let mut out = vec![in alloc; 0u8; len]?;
+    put_groups(&mut out, 0, &groups);
+    Ok(Bytes::from_vec(out)?)
 }
 
 /// Writes the canonical text of a changeset to the front of `out`, and returns its length in bytes.
 /// If `out` is shorter, writes nothing; so a call with an empty buffer returns the size needed.
 /// Builds the text in `out` itself. Returns `AllocError` if memory runs out, which does not change
 /// `out`.
-#[tactic(auto, using(crate::proofs::Laying::laid_first))]
+#[tactic(auto, using(crate::proofs::buffers::Laying::laid_first))]
 pub fn write_to(alloc: Global, changeset: &Changeset, out: &mut [u8]) -> Result<usize, AllocError>
     ensures length { IfOk result (λ n. n ≡ length (text_of changeset.now)) }
     ensures written { OnOk result (out.new ≡ given (text_of changeset.now) out.old) }
     ensures err { OnErr result (out.new ≡ out.old) }
 {
     let groups = groups_in(alloc, changeset)?;
-    let len = needed(&groups)?;
+    let len = text_len(&groups)?;
     let room = out.len();
     if room < len {
         return Ok(len);

@@ -1,12 +1,6 @@
-pub mod SplittingLaws
-pub mod GatheringLaws
-pub mod OwnRowLaws
-pub mod PartLaws
-pub mod SiftLaws
-pub mod AnswerLaws
-pub mod PlanLaws
-pub mod StageLaws
-pub mod CommitLaws
-pub mod ShardLaws
-pub mod KeySumLaws
-pub mod PositionLaws
+-- What the workers answer: the first error of all, or the changes of all.
+pub mod workers
+-- The splitting law: the shards' rows and changes are those of the whole.
+pub mod shards
+-- Rows given to keys one by one, and the places that staging makes.
+pub mod commits

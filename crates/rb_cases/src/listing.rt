@@ -1,7 +1,7 @@
 //! `Listing`: lines with the rows that they show, read from files and compared.
 
 use rb_case_files::{difference, lines, read_if_there};
-use rb_script::{RowForm, ShowFault, show};
+use rb_show::{RowForm, ShowFault, show};
 use std::alloc::{AllocError, Global};
 use std::{fs, io};
 

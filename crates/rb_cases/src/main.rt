@@ -12,7 +12,7 @@ mod pieces;
 use case::Case;
 use listing::Listing;
 use rb_case_files::names;
-use rb_script::RowForm;
+use rb_show::RowForm;
 use std::alloc::Global;
 use std::io;
 use std::process::ExitCode;

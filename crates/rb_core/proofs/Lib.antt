@@ -1,31 +1,8 @@
-pub mod Moving
-pub mod Gapless
-pub mod Closing
-pub mod Withdrawn
-pub mod Sendings
-pub mod Bodies
-pub mod Singly
-pub mod Written
-pub mod WrittenFalls
-pub mod Numbers
-pub mod Marks
-pub mod DeskLaws
-pub mod Worlds
-pub mod WorldDeliveries
-pub mod WorldEvents
-pub mod RunLaws
-pub mod Pairs
-pub mod Telling
-pub mod TellPublishers
-pub mod TellSequence
-pub mod TellWithdrawals
-pub mod TellSubscriptions
-pub mod TellDeliveries
-pub mod TellFalls
-pub mod TellRuns
-pub mod ToldLaws
-pub mod ByText
-pub mod RunCuts
-pub mod Counting
-pub mod AcceptedCursor
-pub mod ConflictRuns
+-- The headline: what a subscription accepted, and what publishers sent, move by move.
+pub mod headline
+-- Each event preserves the invariant of a world.
+pub mod invariants
+-- What an event and its reply report: a course of moves.
+pub mod reports
+-- Laws of whole runs, from the courses that they report.
+pub mod whole_runs

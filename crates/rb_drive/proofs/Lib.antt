@@ -1,16 +1,4 @@
-pub mod ListLaws
-pub mod EntryLaws
-pub mod InputLaws
-pub mod ReadLaws
-pub mod BoundLaws
-pub mod EndLaws
-pub mod LineListLaws
-pub mod PublishedLaws
-pub mod StagingLaws
-pub mod OwnerLaws
-pub mod KeptLaws
-pub mod DriveLaws
-pub mod ReportLaws
-pub mod StatusLaws
-pub mod RunLaws
-pub mod RestartLaws
+-- What an input spells, line by line, and where reading ends.
+pub mod inputs
+-- How a drive ends: what was published, accepted and kept, and the report.
+pub mod outcomes

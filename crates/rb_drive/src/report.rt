@@ -43,7 +43,7 @@ pub fn write_report<L: Hall, W: Write>(
 }
 
 // the text, then each subscriber and its rows
-#[tactic(auto, using(crate::proofs::ReportLaws::report_fronts))]
+#[tactic(auto, using(crate::proofs::outcomes::ReportLaws::report_fronts))]
 fn write_with_subscribers<L: Hall, W: Write>(
     alloc: Global,
     writer: &mut W,
@@ -147,7 +147,7 @@ fn write_subscriber<L: Hall, W: Write>(
 }
 
 // the text, then the rows of tables
-#[tactic(auto, using(crate::proofs::ReportLaws::report_fronts))]
+#[tactic(auto, using(crate::proofs::outcomes::ReportLaws::report_fronts))]
 fn write_with_tables<W: Write>(
     alloc: Global,
     writer: &mut W,
@@ -220,7 +220,7 @@ fn write_all_rows<W: Write>(
 }
 
 // the text, then each row
-#[tactic(auto, using(crate::proofs::ReportLaws::report_fronts))]
+#[tactic(auto, using(crate::proofs::outcomes::ReportLaws::report_fronts))]
 fn write_with_rows<W: Write>(
     alloc: Global,
     writer: &mut W,
@@ -258,7 +258,7 @@ fn write_each<W: Write>(alloc: Global, writer: &mut W, rows: &[(&RowKey, &Row)])
     Ok(())
 }
 
-#[tactic(auto, using(crate::proofs::ReportLaws::report_fronts))]
+#[tactic(auto, using(crate::proofs::outcomes::ReportLaws::report_fronts))]
 fn write_row<W: Write>(
     alloc: Global,
     writer: &mut W,

@@ -6,7 +6,7 @@ use Rattle.std.specs.declared.io.ErrorKind.TheVariants.{InvalidData}
 use Rattle.rb_drive.specs.declared.fault.DriveFault.{DriveFault}
 use Rattle.rb_script.specs.declared.fault.ScriptFault.{ScriptFault}
 use Rattle.rb_script.specs.declared.fault.ScriptFault.TheVariants as fault
-use Rattle.rb_script.specs.declared.show_fault.ShowFault.{ShowFault}
+use Rattle.rb_show.specs.declared.show_fault.ShowFault.{ShowFault}
 use Rattle.rb_run.specs.declared.ending.Ending.{Ending}
 use Rattle.rb_run.specs.declared.ending.Ending.TheVariants.{Done, Stopped, Refused, Unshown}
 use Rattle.rb_run.specs.declared.ending.Ending.TheVariants.{Conflicting, Undriven}

@@ -12,8 +12,8 @@ use Rattle.cs_model.specs.Schema.{same_bytes}
 use Rattle.rb_run.specs.declared.options.RangeFault.{RangeFault}
 use Rattle.rb_run.specs.declared.options.RangeFault.TheVariants.{Limit, Subscribers}
 use Rattle.rb_script.specs.declared.answering.Answering.{Answering}
-use Rattle.rb_script.specs.declared.row_form.RowForm.{RowForm}
-use Rattle.rb_script.specs.declared.row_form.RowForm.TheVariants.{Sql, Json}
+use Rattle.rb_show.specs.declared.row_form.RowForm.{RowForm}
+use Rattle.rb_show.specs.declared.row_form.RowForm.TheVariants.{Sql, Json}
 use Rattle.rb_script.specs.Words.{number_in_word}
 
 -- the number that an option's word spells, or 0, which is in no range

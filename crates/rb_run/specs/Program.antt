@@ -28,10 +28,10 @@ use Rattle.rb_run.specs.declared.options.RangeFault.TheVariants.{Limit}
 use Rattle.rb_script.specs.declared.answering.Answering.{Answering}
 use Rattle.rb_script.specs.declared.fault.ScriptFault.{ScriptFault}
 use Rattle.rb_script.specs.declared.fault.ScriptFault.TheVariants.{Memory, Write}
-use Rattle.rb_script.specs.declared.row_form.RowForm.{RowForm}
-use Rattle.rb_script.specs.declared.show_fault.ShowFault.{ShowFault}
+use Rattle.rb_show.specs.declared.row_form.RowForm.{RowForm}
+use Rattle.rb_show.specs.declared.show_fault.ShowFault.{ShowFault}
 use Rattle.rb_script.specs.Ends.{ScriptEnds}
-use Rattle.rb_script.specs.Showing.{ShowEnds}
+use Rattle.rb_show.specs.Showing.{ShowEnds}
 
 -- an option that takes a number, with its usual number
 abbrev pub limit_option : Text → Text → Rule

@@ -8,7 +8,8 @@ use crate::command::program;
 use crate::options::{RangeFault, answering, called, config, drive, form, replica};
 use clap::{ArgMatches, Error};
 use rb_core::Config;
-use rb_script::{Answering, RowForm};
+use rb_script::Answering;
+use rb_show::RowForm;
 use std::alloc::Global;
 
 /// What a command line asks for.

@@ -9,7 +9,8 @@ ghost use Rattle.rb_run.specs.Options.{range_text, replica_by, value_of, word_of
 
 use clap::ArgMatches;
 use rb_core::{Config, ConfigFault};
-use rb_script::{Answering, RowForm, number};
+use rb_script::{Answering, number};
+use rb_show::RowForm;
 
 /// The limits from the options of the subcommand, or the first option whose word isn't a number in
 /// its range.

@@ -1,16 +1,6 @@
-pub mod Numbers
-pub mod StreamLaws
-pub mod ScriptLaws
-pub mod OutputLaws
-pub mod FedLaws
-pub mod LineLaws
-pub mod WholeLaws
-pub mod EndLaws
-pub mod PlainLaws
-pub mod RefusalLaws
-pub mod RunLaws
-pub mod FeedLaws
-pub mod RowTexts
-pub mod HexTexts
-pub mod RowLines
-pub mod ShowLaws
+-- The answers to a script are those to its lines, and a script is a run.
+pub mod whole_scripts
+-- What is read and written by the end of a script.
+pub mod endings
+-- The bytes of numbers, hexadecimal texts and rows.
+pub mod spelled

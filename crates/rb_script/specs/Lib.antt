@@ -11,6 +11,3 @@ pub mod Refusing
 pub mod Answering
 pub mod Feeding
 pub mod Ends
-pub mod Shown
-pub mod ShownTexts
-pub mod Showing

@@ -22,7 +22,7 @@ pub fn refuses(answer: &[u8]) -> bool
 
 /// Writes the answer to the line with this number, after the number if there are numbers. An `Err`
 /// has written a prefix.
-#[tactic(auto, using(crate::proofs::StreamLaws::fronts))]
+#[tactic(auto, using(crate::proofs::endings::StreamLaws::fronts))]
 pub fn write_answer<W: Write>(
     alloc: Global,
     how: Answering,
@@ -44,7 +44,7 @@ pub fn write_answer<W: Write>(
 }
 
 // Writes the number, a space and the answer.
-#[tactic(auto, using(crate::proofs::StreamLaws::fronts))]
+#[tactic(auto, using(crate::proofs::endings::StreamLaws::fronts))]
 fn write_numbered<W: Write>(
     alloc: Global,
     number: u64,
@@ -61,7 +61,7 @@ fn write_numbered<W: Write>(
     write_both(writer, front.as_bytes(), answer)
 }
 
-#[tactic(auto, using(crate::proofs::StreamLaws::fronts))]
+#[tactic(auto, using(crate::proofs::endings::StreamLaws::fronts))]
 fn write_both<W: Write>(writer: &mut W, front: &[u8], text: &[u8]) -> Result<(), ScriptFault>
     ensures ok { OnOk result (Appends (W.contents writer.old) (W.contents writer.new)
         (front.now ++ text.now)) }

@@ -9,7 +9,7 @@ use std::io::{ErrorKind, Read, Write};
 
 /// Reads some bytes into the front of `buffer`, and returns how many: none at the end of the input.
 /// Retries if the reader is interrupted. An `Err` has read nothing.
-#[tactic(auto, using(crate::proofs::StreamLaws::known_bytes))]
+#[tactic(auto, using(crate::proofs::endings::StreamLaws::known_bytes))]
 pub fn read_some<R: Read>(reader: &mut R, buffer: &mut [u8]) -> io::Result<usize>
     requires { 0 < length buffer.old }
     ensures length { length buffer.new ≡ length buffer.old }
@@ -29,7 +29,7 @@ pub fn read_some<R: Read>(reader: &mut R, buffer: &mut [u8]) -> io::Result<usize
 }
 
 /// Writes all bytes. An `Err` has written a prefix of them.
-#[tactic(auto, using(crate::proofs::StreamLaws::known_bytes))]
+#[tactic(auto, using(crate::proofs::endings::StreamLaws::known_bytes))]
 pub fn write_whole<W: Write>(writer: &mut W, bytes: &[u8]) -> io::Result<()>
     ensures ok { OnOk result (Appends (W.contents writer.old) (W.contents writer.new) bytes.now) }
     ensures err { OnErr result (AppendsFront (W.contents writer.old) (W.contents writer.new)
@@ -46,7 +46,7 @@ pub fn write_whole<W: Write>(writer: &mut W, bytes: &[u8]) -> io::Result<()>
 }
 
 /// Flushes the writer. Retries if it is interrupted. An `Err` may have flushed a part.
-#[tactic(auto, using(crate::proofs::StreamLaws::known_bytes))]
+#[tactic(auto, using(crate::proofs::endings::StreamLaws::known_bytes))]
 pub fn flush<W: Write>(writer: &mut W) -> io::Result<()>
     ensures { Keeps (W.contents writer.old) (W.contents writer.new) }
 {
@@ -61,7 +61,7 @@ pub fn flush<W: Write>(writer: &mut W) -> io::Result<()>
 
 // Writes a prefix of the bytes, and returns its length. It is an error if the writer accepts no
 // byte.
-#[tactic(auto, using(crate::proofs::StreamLaws::known_bytes))]
+#[tactic(auto, using(crate::proofs::endings::StreamLaws::known_bytes))]
 fn write_some<W: Write>(writer: &mut W, bytes: &[u8]) -> io::Result<usize>
     requires { 0 < length bytes.now }
     ensures some { IfOk result (λ n. 0 < n) }

@@ -1,9 +1,4 @@
-pub mod AcceptLaws
-pub mod ApplyLaws
-pub mod RunLaws
-pub mod ConflictLaws
-pub mod TokenLaws
-pub mod ShownLaws
-pub mod KeptLaws
-pub mod FallLaws
-pub mod LostLaws
+-- Accepting is a step: what is accepted, kept, or lost when the store fails.
+pub mod accepting
+-- What is accepted is one contiguous run; where the group conflicts, so do the single bodies.
+pub mod runs

@@ -1,7 +1,8 @@
 //! Readers and writers that fail, are interrupted, or wait for answers.
 
 use rb_core::Config;
-use rb_script::{Answering, RowForm, ScriptFault, ShowFault, run_script, show};
+use rb_script::{Answering, ScriptFault, run_script};
+use rb_show::{RowForm, ShowFault, show};
 use std::alloc::Global;
 use std::cell::Cell;
 use std::io;

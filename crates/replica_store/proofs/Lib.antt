@@ -1,15 +1,4 @@
-pub mod Texts
-pub mod Parts
-pub mod CreateLaws
-pub mod DeletedRows
-pub mod Deletes
-pub mod Puts
-pub mod CursorLaws
-pub mod ChangeLaws
-pub mod ReadLaws
-pub mod OpenLaws
-pub mod BodyLaws
-pub mod LoadLaws
-pub mod ShownLaws
-pub mod FollowLaws
-pub mod DurableLaws
+-- What each statement means, and what it does to a replica's trees.
+pub mod statements
+-- What a database shows as a replica, and what a commit leaves.
+pub mod replicas

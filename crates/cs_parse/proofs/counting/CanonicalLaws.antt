@@ -10,7 +10,7 @@ use Rattle.cs_model.specs.Rule.{Rule}
 use Rattle.cs_model.specs.declared.value.Value.TheVariants.{Integer, Text, Blob, Null}
 use Rattle.cs_model.specs.declared.value.Field.{Field}
 use Rattle.cs_model.specs.declared.value.Field.TheVariants.{Undefined, Is}
-use Rattle.cs_model.proofs.VarintLemmas.{varint_one}
+use Rattle.cs_model.proofs.spelling.VarintLemmas.{varint_one}
 use Rattle.cs_parse.specs.declared.fault.FaultKind.{FaultKind}
 use Rattle.cs_parse.specs.declared.fault.FaultKind.TheVariants.{ValueTooLong}
 use Rattle.cs_parse.specs.declared.stop.ParseRefusal.{ParseRefusal}

@@ -9,8 +9,8 @@ use Rattle.cs_model.specs.PackedChanges.{changes_bytes, unpacked_changes}
 use Rattle.cs_model.specs.Section.{Section}
 use Rattle.cs_model.specs.Changeset.{IsSection, IsChangeset}
 use Rattle.cs_model.proofs.CallerLemmas.{all_append}
-use Rattle.cs_model.proofs.CountLaws.{no_more, appended}
-use Rattle.cs_model.proofs.PackedChangeLaws.{empty}
+use Rattle.cs_model.proofs.packing.CountLaws.{no_more, appended}
+use Rattle.cs_model.proofs.packing.PackedChangeLaws.{empty}
 use Rattle.cs_parse.specs.Front.{JoinsSection, said_by}
 use Rattle.cs_parse.specs.Growing.{with_text, last_changes, own_bytes, Keeps, IsGrowing, OpenedSection, SettledBytes}
 use Rattle.cs_parse.specs.Progress.{last_flags, with_changes}

@@ -1,7 +1,7 @@
 use Rattle.std.proofs.Common.{◌≡◌, ◌≤◌, ◌+◌, ◌++◌, length, [], ◌∷◌, ◌∙◌, drop, arith}
 use Rattle.std.proofs.lemmas.Grind.{common_steps}
 use Rattle.cs_write.specs.Buffer.{given}
-use Rattle.cs_write.proofs.Laying.{two, laid_first}
+use Rattle.cs_write.proofs.buffers.Laying.{two, laid_first}
 use Rattle.broker_c.proofs.messages.put_ended.Goals as goal
 
 pub returns : goal.returns

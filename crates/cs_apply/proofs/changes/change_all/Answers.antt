@@ -3,8 +3,8 @@ use Rattle.std.proofs.lemmas.Result.{err_from_is_err_and}
 use Rattle.cs_model.specs.Changeset.{IsChangeset}
 use Rattle.cs_apply.specs.State.{compatible}
 use Rattle.cs_apply.specs.Steps.{rows_of}
-use Rattle.cs_apply.proofs.Log.{Back-trans}
-use Rattle.cs_apply.proofs.Sections.{section_done, section_stops, section_passed, sections_done}
+use Rattle.cs_apply.proofs.stored.Log.{Back-trans}
+use Rattle.cs_apply.proofs.effects.Sections.{section_done, section_stops, section_passed, sections_done}
 use Rattle.cs_apply.proofs.changes.change_all.Goals as goal
 
 pub returns-in_err-change_section-clause-refused : goal.returns-in_err-change_section-clause-refused

@@ -1,7 +1,7 @@
 use Rattle.std.proofs.Common.{subst}
 use Rattle.cs_model.specs.declared.change.Op.{Op}
 use Rattle.cs_model.specs.Changeset.{AreRecords}
-use Rattle.cs_apply.proofs.Columns.{all_defined}
+use Rattle.cs_apply.proofs.rows_by_key.Columns.{all_defined}
 use Rattle.cs_apply.proofs.changes.change_row.Goals as goal
 
 pub insert-requires : goal.insert-requires

@@ -5,8 +5,8 @@ use Rattle.cs_model.specs.declared.shape.Shape.{Shape}
 use Rattle.cs_model.specs.Changeset.{IsChange}
 use Rattle.cs_model.specs.Seen.{change_seen}
 use Rattle.cs_apply.specs.Steps.{rows_of}
-use Rattle.cs_apply.proofs.Log.{Back-trans}
-use Rattle.cs_apply.proofs.Sections.{change_done, change_stops, changes_done}
+use Rattle.cs_apply.proofs.stored.Log.{Back-trans}
+use Rattle.cs_apply.proofs.effects.Sections.{change_done, change_stops, changes_done}
 use Rattle.cs_apply.proofs.changes.change_section.Goals as goal
 
 pub change_row-requires : goal.change_row-requires

@@ -1,4 +1,4 @@
-use Rattle.cs_apply.proofs.OneByOne.{one_by_one_applies_both, both_apply}
+use Rattle.cs_apply.proofs.effects.OneByOne.{one_by_one_applies_both, both_apply}
 use Rattle.cs_apply.proofs.laws.applying_goes_on.Goals as goal
 
 pub returns : goal.returns

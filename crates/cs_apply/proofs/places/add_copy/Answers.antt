@@ -1,7 +1,7 @@
 use Rattle.std.proofs.Common.{◌∙◌}
 use Rattle.std.specs.FinMap as map
 use Rattle.cs_apply.specs.Steps.{rows_of}
-use Rattle.cs_apply.proofs.Copied.{put_copied}
+use Rattle.cs_apply.proofs.stored.Copied.{put_copied}
 use Rattle.cs_apply.proofs.places.add_copy.Goals as goal
 
 pub returns : goal.returns

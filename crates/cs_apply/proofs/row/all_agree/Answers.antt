@@ -1,4 +1,4 @@
-use Rattle.cs_apply.proofs.Columns.{starts_agree}
+use Rattle.cs_apply.proofs.rows_by_key.Columns.{starts_agree}
 use Rattle.cs_apply.proofs.row.all_agree.Goals as goal
 
 pub returns : goal.returns

@@ -1,6 +1,6 @@
 use Rattle.std.proofs.Common.{◌∙◌}
 use Rattle.cs_apply.specs.Steps.{fields_agree}
-use Rattle.cs_apply.proofs.Columns.{rest_agrees_is, no_field, no_value}
+use Rattle.cs_apply.proofs.rows_by_key.Columns.{rest_agrees_is, no_field, no_value}
 use Rattle.cs_apply.proofs.row.rest_agrees.Goals as goal
 
 pub loop-flag-init : goal.loop-flag-init

@@ -2,8 +2,8 @@ use Rattle.std.proofs.Common.{sym, subst}
 use Rattle.std.specs.Option.{option_copied}
 use Rattle.cs_model.specs.declared.change.Op.{Op}
 use Rattle.cs_model.specs.Changeset.{AreRecords}
-use Rattle.cs_apply.proofs.Columns.{all_defined}
-use Rattle.cs_apply.proofs.RowEffect.{ok_by_op, refused_by_op}
+use Rattle.cs_apply.proofs.rows_by_key.Columns.{all_defined}
+use Rattle.cs_apply.proofs.effects.RowEffect.{ok_by_op, refused_by_op}
 use Rattle.cs_apply.proofs.row.row_after.Goals as goal
 
 pub inserted_row-requires : goal.inserted_row-requires

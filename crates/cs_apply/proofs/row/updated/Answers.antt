@@ -3,7 +3,7 @@ use Rattle.std.specs.Option.{option_map}
 use Rattle.cs_model.specs.Row.{values_of}
 use Rattle.cs_model.specs.Seen.{field_seen}
 use Rattle.cs_apply.specs.Steps.{merged}
-use Rattle.cs_apply.proofs.Columns.{updated_is, merged_next, seen_next}
+use Rattle.cs_apply.proofs.rows_by_key.Columns.{updated_is, merged_next, seen_next}
 use Rattle.cs_apply.proofs.row.updated.Goals as goal
 
 pub loop-value-init : goal.loop-value-init

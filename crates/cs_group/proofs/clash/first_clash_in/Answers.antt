@@ -2,7 +2,7 @@ use Rattle.std.proofs.Common.{◌≡◌, ◌∙◌, ◌++◌, ◌+◌, false, ta
 use Rattle.std.specs.Prelude.{option_map}
 use Rattle.cs_group.specs.Adding.{sections_in, sections_of}
 use Rattle.cs_group.specs.Group.{clashes, first_clash}
-use Rattle.cs_group.proofs.Knowing.{clash_next, clashes_with_none, next_is}
+use Rattle.cs_group.proofs.schemas.Knowing.{clash_next, clashes_with_none, next_is}
 use Rattle.cs_group.proofs.clash.first_clash_in.Goals as goal
 
 pub loop-section-preserved : goal.loop-section-preserved

@@ -1,6 +1,6 @@
 use Rattle.std.proofs.Common.{ap, ◌∙◌, ◌++◌, sym, drop, take}
 use Rattle.cs_model.specs.KeyBytes.{key_fields}
-use Rattle.cs_group.proofs.KeyPlace.{key_is_there}
+use Rattle.cs_group.proofs.cut_down.KeyPlace.{key_is_there}
 use Rattle.cs_group.proofs.key.key_columns.Goals as goal
 
 pub returns : goal.returns

@@ -1,6 +1,6 @@
 use Rattle.std.proofs.Common.{◌∙◌, slice_index_or, arith}
 use Rattle.std.proofs.lemmas.List.{drop_more}
-use Rattle.cs_group.proofs.KeyPlace.{column_outside}
+use Rattle.cs_group.proofs.cut_down.KeyPlace.{column_outside}
 use Rattle.cs_group.proofs.key.zeros.Goals as goal
 
 pub loop-flag-preserved : goal.loop-flag-preserved

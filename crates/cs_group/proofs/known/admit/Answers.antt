@@ -7,7 +7,7 @@ use Rattle.indexmap.specs.IndexMap.{IndexMap, insert_entry}
 use Rattle.cs_model.specs.declared.shape.Shape.{Shape}
 use Rattle.cs_model.specs.Schema.{same_bytes}
 use Rattle.cs_group.specs.Adding.{Knows, known_as}
-use Rattle.cs_group.proofs.Knowing.{knows_old, knows_new}
+use Rattle.cs_group.proofs.schemas.Knowing.{knows_old, knows_new}
 use Rattle.cs_group.proofs.known.admit.Goals as goal
 
 -- a new table goes last

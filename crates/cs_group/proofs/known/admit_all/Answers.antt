@@ -5,7 +5,7 @@ use Rattle.std.specs.Prelude.{option_map}
 use Rattle.cs_model.specs.Section.{Section}
 use Rattle.cs_group.specs.Adding.{Knows, differs_by, known_as}
 use Rattle.cs_group.specs.Group.{clashes, first_clash}
-use Rattle.cs_group.proofs.Knowing.{clash_next, kept_on}
+use Rattle.cs_group.proofs.schemas.Knowing.{clash_next, kept_on}
 use Rattle.cs_group.proofs.known.admit_all.Goals as goal
 
 not_is : (b : Bool) → true ≡ not b → b ≡ false

@@ -1,4 +1,4 @@
-use Rattle.cs_group.proofs.Admitting.{admitted_apart, both_admitted}
+use Rattle.cs_group.proofs.schemas.Admitting.{admitted_apart, both_admitted}
 use Rattle.cs_group.proofs.laws.admitted_never_clash.Goals as goal
 
 pub returns-clause-clash : goal.returns-clause-clash

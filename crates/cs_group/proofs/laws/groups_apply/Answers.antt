@@ -1,4 +1,4 @@
-use Rattle.cs_group.proofs.Law.{group_applies, group_conflicts}
+use Rattle.cs_group.proofs.all_tables.Law.{group_applies, group_conflicts}
 use Rattle.cs_group.proofs.laws.groups_apply.Goals as goal
 
 pub returns-clause-same : goal.returns-clause-same

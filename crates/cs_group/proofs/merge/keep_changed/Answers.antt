@@ -6,7 +6,7 @@ use Rattle.std.proofs.lemmas.Option.{slice_get_read}
 use Rattle.cs_model.specs.Rule.{is_defined}
 use Rattle.cs_model.specs.Seen.{field_seen, fields_seen}
 use Rattle.cs_group.specs.Merge.{news_changed, olds_changed}
-use Rattle.cs_group.proofs.InPlaceTwo.{BothDone, both_end, both_more, none_both}
+use Rattle.cs_group.proofs.cut_down.InPlaceTwo.{BothDone, both_end, both_more, none_both}
 use Rattle.cs_group.proofs.merge.keep_changed.Goals as goal
 use Rattle.cs_group.proofs.merge.keep_changed.Goals.{then-any, else-any}
 

@@ -1,7 +1,7 @@
 use Rattle.std.proofs.Common.{drop}
 use Rattle.cs_model.specs.Seen.{fields_seen}
 use Rattle.cs_group.specs.Merge.{news_changed, olds_changed}
-use Rattle.cs_group.proofs.InPlaceTwo.{BothDone}
+use Rattle.cs_group.proofs.cut_down.InPlaceTwo.{BothDone}
 use Rattle.cs_group.proofs.merge.keep_changed.Given as goal
 
 abbrev pub invariant-loop-i : goal.invariant-loop-i

@@ -4,7 +4,7 @@ use Rattle.std.specs.Prelude.{option_map}
 use Rattle.cs_model.specs.Seen.{change_seen}
 use Rattle.cs_group.specs.Merge.{two_changes}
 use Rattle.cs_group.specs.Slots.{kept_if, merged_seen, slot_seen}
-use Rattle.cs_group.proofs.Seen.{seen_put}
+use Rattle.cs_group.proofs.one_more.Seen.{seen_put}
 use Rattle.cs_group.proofs.merge.merge_at.Goals as goal
 use Rattle.cs_group.proofs.merge.merge_at.Goals.{In_ok-merge}
 

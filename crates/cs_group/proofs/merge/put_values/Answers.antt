@@ -3,8 +3,8 @@ use Rattle.std.proofs.lemmas.Option.{get_or_from_slice_get}
 use Rattle.cs_model.specs.declared.field_ref.FieldRef.{FieldRef}
 use Rattle.cs_model.specs.Seen.{field_seen, fields_seen}
 use Rattle.cs_group.specs.Merge.{field_or}
-use Rattle.cs_group.proofs.InPlace.{none_done, set_done, cut_done, columns_all_done}
-use Rattle.cs_group.proofs.InPlace.{by_no_value, put_one, one_by, put_all, to_no_field}
+use Rattle.cs_group.proofs.cut_down.InPlace.{none_done, set_done, cut_done, columns_all_done}
+use Rattle.cs_group.proofs.cut_down.InPlace.{by_no_value, put_one, one_by, put_all, to_no_field}
 use Rattle.cs_group.proofs.merge.put_values.Goals.{then-all, else-all}
 use Rattle.cs_group.proofs.merge.put_values.Goals as goal
 

@@ -1,6 +1,6 @@
 use Rattle.std.proofs.Common.{length}
 use Rattle.cs_model.specs.Seen.{fields_seen}
-use Rattle.cs_group.proofs.InPlace.{ColumnsDone, put_all}
+use Rattle.cs_group.proofs.cut_down.InPlace.{ColumnsDone, put_all}
 use Rattle.cs_group.proofs.merge.put_values.Given as goal
 
 abbrev pub invariant-loop-i : goal.invariant-loop-i

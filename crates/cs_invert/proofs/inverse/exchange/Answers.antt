@@ -1,5 +1,5 @@
-use Rattle.cs_invert.proofs.Ending.{inverse_news_end_after, inverse_news_end_before, inverse_olds_end_after}
-use Rattle.cs_invert.proofs.Ending.{inverse_olds_end_before}
+use Rattle.cs_invert.proofs.inverses.Ending.{inverse_news_end_after, inverse_news_end_before, inverse_olds_end_after}
+use Rattle.cs_invert.proofs.inverses.Ending.{inverse_olds_end_before}
 use Rattle.cs_invert.proofs.inverse.exchange.Goals as goal
 
 pub returns-in_default-clause-before : goal.returns-in_default-clause-before

@@ -1,5 +1,5 @@
 use Rattle.std.proofs.Common.{◌≡◌, ◌++◌, map, length}
-use Rattle.cs_group.proofs.Through.{AreValidChanges}
+use Rattle.cs_group.proofs.one_row.Through.{AreValidChanges}
 use Rattle.cs_invert.specs.Inverse.{inverse_change}
 use Rattle.cs_invert.proofs.inverse.inverse_changes.Given as goal
 

@@ -1,6 +1,6 @@
 use Rattle.std.proofs.Common.{◌∙◌, ap}
 use Rattle.cs_model.specs.Seen.{change_seen, fields_seen}
-use Rattle.cs_invert.proofs.Long.{inverse_delete_long, inverse_insert_long, inverse_update_long}
+use Rattle.cs_invert.proofs.inverses.Long.{inverse_delete_long, inverse_insert_long, inverse_update_long}
 use Rattle.cs_invert.proofs.inverse.push_inverse.Goals as goal
 
 pub push_ref-requires : goal.push_ref-requires

@@ -1,6 +1,6 @@
 use Rattle.std.proofs.Common.{◌≡◌, ◌<◌, ◌+◌, suc, drop, get_or, subst, arith}
 use Rattle.cs_invert.specs.Text.{KeyFirst}
-use Rattle.cs_invert.proofs.KeyLeads.{one_more_key}
+use Rattle.cs_invert.proofs.inverses.KeyLeads.{one_more_key}
 use Rattle.cs_invert.proofs.key_first.leading.Goals as goal
 
 pub loop-flag-preserved : goal.loop-flag-preserved

@@ -1,4 +1,4 @@
-use Rattle.cs_invert.proofs.Admitting.{withdrawal_admitted}
+use Rattle.cs_invert.proofs.withdrawals.Admitting.{withdrawal_admitted}
 use Rattle.cs_invert.proofs.laws.withdrawals_are_admitted.Goals as goal
 
 pub returns : goal.returns

@@ -1,4 +1,4 @@
-use Rattle.cs_invert.proofs.Withdrawing.{withdrawing_takes_back}
+use Rattle.cs_invert.proofs.withdrawals.Withdrawing.{withdrawing_takes_back}
 use Rattle.cs_invert.proofs.laws.withdrawing_undoes.Goals as goal
 
 pub returns : goal.returns

@@ -3,7 +3,7 @@ use Rattle.cs_model.specs.declared.change.Op.TheVariants.{Update}
 use Rattle.cs_model.specs.PackedChanges.{mark}
 use Rattle.cs_model.specs.Seen.{change_seen}
 use Rattle.cs_model.specs.Text.{op_byte}
-use Rattle.cs_invert.proofs.KeyLeads.{blank_within, exchanged_parts, key_within}
+use Rattle.cs_invert.proofs.inverses.KeyLeads.{blank_within, exchanged_parts, key_within}
 use Rattle.cs_invert.proofs.placing.halves_of.Goals as goal
 
 pub split_at-requires : goal.split_at-requires

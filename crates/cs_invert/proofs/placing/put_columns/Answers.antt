@@ -5,9 +5,9 @@ use Rattle.cs_model.specs.Packed.{packed}
 use Rattle.cs_model.specs.PackedChanges.{change_bytes}
 use Rattle.cs_model.specs.Seen.{change_seen}
 use Rattle.cs_write.specs.Buffer.{laid}
-use Rattle.cs_write.proofs.Laying.{LayingLaid, laying_goes_on, laying_ends}
+use Rattle.cs_write.proofs.buffers.Laying.{LayingLaid, laying_goes_on, laying_ends}
 use Rattle.cs_invert.specs.Inverse.{inverse_by}
-use Rattle.cs_invert.proofs.Ending.{exchanged_back}
+use Rattle.cs_invert.proofs.inverses.Ending.{exchanged_back}
 use Rattle.cs_invert.proofs.placing.put_columns.Goals as goal
 
 pub put_exchanged-requires : goal.put_exchanged-requires

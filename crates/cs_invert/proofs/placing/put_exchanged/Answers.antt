@@ -1,7 +1,7 @@
 use Rattle.std.proofs.Common.{length, ap, drop, arith}
 use Rattle.std.proofs.lemmas.Grind.{common_steps}
-use Rattle.cs_write.proofs.Laying.{laying_goes_on, laying_ends}
-use Rattle.cs_invert.proofs.Ending.{no_news, no_olds}
+use Rattle.cs_write.proofs.buffers.Laying.{laying_goes_on, laying_ends}
+use Rattle.cs_invert.proofs.inverses.Ending.{no_news, no_olds}
 use Rattle.cs_invert.proofs.placing.put_exchanged.Goals as goal
 
 pub returns-in_default-clause-end : goal.returns-in_default-clause-end

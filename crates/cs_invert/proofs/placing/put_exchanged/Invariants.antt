@@ -1,6 +1,6 @@
 use Rattle.std.proofs.Common.{drop}
 use Rattle.cs_model.specs.Packed.{packed}
-use Rattle.cs_write.proofs.Laying.{LayingLaid}
+use Rattle.cs_write.proofs.buffers.Laying.{LayingLaid}
 use Rattle.cs_invert.specs.Inverse.{inverse_old}
 use Rattle.cs_invert.proofs.placing.put_exchanged.Given as goal
 

@@ -2,7 +2,7 @@ use Rattle.std.proofs.Common.{subst, arith}
 use Rattle.std.specs.List.{AllByRecursion}
 use Rattle.std.proofs.lemmas.Grind.{common_steps}
 use Rattle.cs_write.specs.Seen.{seen}
-use Rattle.cs_write.proofs.Laying.{laying_goes_on, laying_ends}
+use Rattle.cs_write.proofs.buffers.Laying.{laying_goes_on, laying_ends}
 use Rattle.cs_invert.specs.Text.{AreValid}
 use Rattle.cs_invert.proofs.placing.put_groups.Goals as goal
 

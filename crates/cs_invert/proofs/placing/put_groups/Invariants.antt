@@ -2,7 +2,7 @@ use Rattle.std.proofs.Common.{map}
 use Rattle.std.specs.List.{AllByRecursion}
 use Rattle.cs_write.specs.Groups.{groups_text}
 use Rattle.cs_write.specs.Seen.{seen}
-use Rattle.cs_write.proofs.Laying.{LayingLaid}
+use Rattle.cs_write.proofs.buffers.Laying.{LayingLaid}
 use Rattle.cs_invert.specs.Text.{AreValid, inverse_group}
 use Rattle.cs_invert.proofs.placing.put_groups.Given as goal
 

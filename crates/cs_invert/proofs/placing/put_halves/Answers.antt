@@ -1,6 +1,6 @@
 use Rattle.std.proofs.Common.{◌++◌, [], refl, arith}
 use Rattle.std.proofs.lemmas.Grind.{common_steps}
-use Rattle.cs_write.proofs.Laying.{LayingLaid, laying_goes_on, laying_ends}
+use Rattle.cs_write.proofs.buffers.Laying.{LayingLaid, laying_goes_on, laying_ends}
 use Rattle.cs_invert.specs.Text.{exchanged_bytes}
 use Rattle.cs_invert.proofs.placing.put_halves.Goals as goal
 

@@ -1,7 +1,7 @@
 use Rattle.std.proofs.Common.{[], refl, arith}
 use Rattle.std.proofs.lemmas.Grind.{common_steps}
 use Rattle.cs_model.specs.Packed.{packed}
-use Rattle.cs_write.proofs.Laying.{LayingLaid, laying_goes_on, laying_ends}
+use Rattle.cs_write.proofs.buffers.Laying.{LayingLaid, laying_goes_on, laying_ends}
 use Rattle.cs_invert.specs.Text.{row_bytes}
 use Rattle.cs_invert.proofs.placing.put_row.Goals as goal
 

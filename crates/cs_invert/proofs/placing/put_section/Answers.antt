@@ -1,7 +1,7 @@
 use Rattle.std.proofs.Common.{subst, arith}
 use Rattle.std.proofs.lemmas.Grind.{common_steps}
-use Rattle.cs_group.proofs.Through.{AreValidChanges}
-use Rattle.cs_write.proofs.Laying.{laying_goes_on, laying_ends}
+use Rattle.cs_group.proofs.one_row.Through.{AreValidChanges}
+use Rattle.cs_write.proofs.buffers.Laying.{laying_goes_on, laying_ends}
 use Rattle.cs_invert.proofs.placing.put_section.Goals as goal
 
 pub loop-change-preserved : goal.loop-change-preserved

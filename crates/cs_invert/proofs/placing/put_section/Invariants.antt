@@ -1,7 +1,7 @@
 use Rattle.std.proofs.Common.{map}
-use Rattle.cs_group.proofs.Through.{AreValidChanges}
+use Rattle.cs_group.proofs.one_row.Through.{AreValidChanges}
 use Rattle.cs_model.specs.PackedChanges.{changes_bytes}
-use Rattle.cs_write.proofs.Laying.{LayingLaid}
+use Rattle.cs_write.proofs.buffers.Laying.{LayingLaid}
 use Rattle.cs_invert.specs.Inverse.{inverse_change, inverse_section}
 use Rattle.cs_invert.proofs.placing.put_section.Given as goal
 

@@ -1,6 +1,6 @@
 use Rattle.std.proofs.Common.{arith}
 use Rattle.std.proofs.lemmas.Grind.{common_steps}
-use Rattle.cs_write.proofs.Laying.{laying_goes_on, laying_ends}
+use Rattle.cs_write.proofs.buffers.Laying.{laying_goes_on, laying_ends}
 use Rattle.cs_invert.proofs.placing.put_sections.Goals as goal
 
 pub loop-section-preserved : goal.loop-section-preserved

@@ -1,5 +1,5 @@
 use Rattle.std.proofs.Common.{drop}
-use Rattle.cs_write.proofs.Laying.{LayingLaid}
+use Rattle.cs_write.proofs.buffers.Laying.{LayingLaid}
 use Rattle.cs_write.specs.Seen.{bodies}
 use Rattle.cs_invert.specs.Inverse.{inverse}
 use Rattle.cs_invert.proofs.placing.put_sections.Given as goal

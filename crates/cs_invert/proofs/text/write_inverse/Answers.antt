@@ -5,25 +5,25 @@ use Rattle.cs_write.specs.Buffer.{laid}
 use Rattle.cs_write.specs.Groups.{groups_text}
 use Rattle.cs_write.specs.Seen.{seen}
 use Rattle.cs_write.specs.Text.{text_of}
-use Rattle.cs_write.proofs.Laying.{laid_first}
+use Rattle.cs_write.proofs.buffers.Laying.{laid_first}
 use Rattle.cs_invert.specs.Inverse.{inverse}
 use Rattle.cs_invert.specs.Text.{AreValid, inverse_group}
-use Rattle.cs_invert.proofs.ByShape.{by_shape_valid, inverse_text_is, inverse_text_len}
+use Rattle.cs_invert.proofs.inverses.ByShape.{by_shape_valid, inverse_text_is, inverse_text_len}
 use Rattle.cs_invert.proofs.text.write_inverse.Goals as goal
 use Rattle.cs_invert.proofs.text.write_inverse.Goals.{In_ok-len}
 
 -- the text of the groups' inverses is that of the inverse
 inverted_text : (c : In_ok-len) → groups_text (map inverse_group (seen c.in_ok-groups.groups.entries))
     ≡ text_of (inverse c.args.changeset.now)
-inverted_text c = ap (λ gs. groups_text (map inverse_group gs)) c.in_ok-groups.ensures.groups
+inverted_text c = ap (λ gs. groups_text (map inverse_group gs)) c.in_ok-groups.ensures
     ∙ inverse_text_is c.args.changeset.now
 
 -- and as long as the text of the groups
 inverted_len : (c : In_ok-len) → c.in_ok-len.len ≡ length (text_of (inverse c.args.changeset.now))
 inverted_len c =
     c.in_ok-len.ensures.ok
-    ∙ ap (λ gs. length (groups_text gs)) c.in_ok-groups.ensures.groups
-    ∙ sym (inverse_text_len c.args.changeset.now c.in_ok-groups.ensures.valid)
+    ∙ ap (λ gs. length (groups_text gs)) c.in_ok-groups.ensures
+    ∙ sym (inverse_text_len c.args.changeset.now c.iter.ensures.valid)
     ∙ ap length (inverse_text_is c.args.changeset.now)
 
 pub returns-then-room-len-clause-length : goal.returns-then-room-len-clause-length
@@ -39,8 +39,8 @@ returns-then-room-len-clause-written c =
 
 pub put_groups-requires-clause-valid : goal.put_groups-requires-clause-valid
 put_groups-requires-clause-valid c =
-    subst (AllByRecursion AreValid) (sym c.in_ok-groups.ensures.groups)
-    (by_shape_valid [] c.args.changeset.now c.in_ok-groups.ensures.valid)
+    subst (AllByRecursion AreValid) (sym c.in_ok-groups.ensures)
+    (by_shape_valid [] c.args.changeset.now c.iter.ensures.valid)
 
 pub put_groups-requires-clause-room : goal.put_groups-requires-clause-room
 put_groups-requires-clause-room c =

@@ -1,4 +1,4 @@
-use Rattle.cs_model.proofs.SaidLaws.{now_front, still_front, front_of_front}
+use Rattle.cs_model.proofs.spelling.SaidLaws.{now_front, still_front, front_of_front}
 use Rattle.cs_model.proofs.canonical.add_change.Goals as goal
 
 pub returns-in-Update-clause-adds : goal.returns-in-Update-clause-adds

@@ -1,7 +1,7 @@
 use Rattle.std.proofs.Common.{◌-◌}
 use Rattle.cs_model.specs.Seen.{field_seen}
-use Rattle.cs_model.proofs.PackedChangeLaws.{skip_end, skip_done, skip_goes}
-use Rattle.cs_model.proofs.SaidLaws.{still_front, fields_go, fields_end, fields_done}
+use Rattle.cs_model.proofs.packing.PackedChangeLaws.{skip_end, skip_done, skip_goes}
+use Rattle.cs_model.proofs.spelling.SaidLaws.{still_front, fields_go, fields_end, fields_done}
 use Rattle.cs_model.proofs.canonical.add_fields.Goals.{else-loop-test, then-loop-test+in_default}
 use Rattle.cs_model.proofs.canonical.add_fields.Goals as goal
 

@@ -1,7 +1,7 @@
 use Rattle.std.proofs.Common.{◌≡◌, ℕ, length, List, ◌∷◌, ◌++◌, not, eqb, ap, ◌∙◌, arith}
 use Rattle.cs_model.specs.PackedChanges.{changes_bytes, records_by, unpacked_changes}
-use Rattle.cs_model.proofs.PackedChangeLaws.{changes_none, changes_short, changes_first, records_no_longer}
-use Rattle.cs_model.proofs.SaidLaws.{still_front, changes_go, changes_end, count_end}
+use Rattle.cs_model.proofs.packing.PackedChangeLaws.{changes_none, changes_short, changes_first, records_no_longer}
+use Rattle.cs_model.proofs.spelling.SaidLaws.{still_front, changes_go, changes_end, count_end}
 use Rattle.cs_model.proofs.canonical.add_said.Goals as goal
 
 pub loop-preserved : goal.loop-preserved

@@ -1,8 +1,8 @@
 use Rattle.std.proofs.Common.{List, ℕ, subst, sym}
 use Rattle.std.proofs.lemmas.Option.{IfSome_then}
 use Rattle.cs_model.specs.Canonical.{StartsRecord}
-use Rattle.cs_model.proofs.CanonicalLaws.{starts_single, starts_both}
-use Rattle.cs_model.proofs.CanonicalOnly.{change_parts, single_record, both_records}
+use Rattle.cs_model.proofs.spelling.CanonicalLaws.{starts_single, starts_both}
+use Rattle.cs_model.proofs.spelling.CanonicalOnly.{change_parts, single_record, both_records}
 use Rattle.cs_model.proofs.canonical.behind_change.Goals as goal
 
 pub returns-in-18-clause-found : goal.returns-in-18-clause-found

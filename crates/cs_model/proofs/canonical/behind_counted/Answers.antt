@@ -1,8 +1,8 @@
 use Rattle.std.proofs.Common.{◌++◌, refl, sym, arith}
 use Rattle.std.proofs.lemmas.Option.{IfSome_then}
-use Rattle.cs_model.proofs.CanonicalLaws.{counted_from, counted_from_byte}
-use Rattle.cs_model.proofs.CanonicalOnly.{counted_not_empty, counted_some, counted_front, counted_left, counted_byte}
-use Rattle.cs_model.proofs.CanonicalOnly.{so_many_left}
+use Rattle.cs_model.proofs.spelling.CanonicalLaws.{counted_from, counted_from_byte}
+use Rattle.cs_model.proofs.spelling.CanonicalOnly.{counted_not_empty, counted_some, counted_front, counted_left, counted_byte}
+use Rattle.cs_model.proofs.spelling.CanonicalOnly.{so_many_left}
 use Rattle.cs_model.proofs.canonical.behind_counted.Goals as goal
 
 pub returns-in_err-len-clause-only : goal.returns-in_err-len-clause-only

@@ -1,7 +1,7 @@
 use Rattle.std.proofs.Common.{refl, arith}
 use Rattle.std.proofs.lemmas.Option.{IfSome_then}
-use Rattle.cs_model.proofs.CanonicalLaws.{starts_plain, starts_integer, canonical_starts_counted}
-use Rattle.cs_model.proofs.CanonicalOnly.{plain_left, integer_left, counted_in_field}
+use Rattle.cs_model.proofs.spelling.CanonicalLaws.{starts_plain, starts_integer, canonical_starts_counted}
+use Rattle.cs_model.proofs.spelling.CanonicalOnly.{plain_left, integer_left, counted_in_field}
 use Rattle.cs_model.proofs.canonical.behind_field.Goals as goal
 
 pub returns-in-0-clause-found : goal.returns-in-0-clause-found

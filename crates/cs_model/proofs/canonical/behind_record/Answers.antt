@@ -1,7 +1,7 @@
 use Rattle.std.proofs.Common.{◌≡◌, ◌-◌, subst, arith, ℕ}
 use Rattle.cs_model.specs.Canonical.{StartsRecord}
-use Rattle.cs_model.proofs.CanonicalLaws.{starts_none, starts_more}
-use Rattle.cs_model.proofs.CanonicalOnly.{first_field, field_goes, fields_over}
+use Rattle.cs_model.proofs.spelling.CanonicalLaws.{starts_none, starts_more}
+use Rattle.cs_model.proofs.spelling.CanonicalOnly.{first_field, field_goes, fields_over}
 use Rattle.cs_model.proofs.canonical.behind_record.Goals as goal
 
 pub loop-init : goal.loop-init

@@ -1,7 +1,7 @@
 use Rattle.std.proofs.Common.{[], length, refl, sym, arith}
 use Rattle.std.proofs.lemmas.Bool.{eqb-true}
-use Rattle.cs_model.proofs.CanonicalLaws.{one_more, none_left, all_said}
-use Rattle.cs_model.proofs.CanonicalOnly.{list_not_empty, first_change_left, change_goes}
+use Rattle.cs_model.proofs.spelling.CanonicalLaws.{one_more, none_left, all_said}
+use Rattle.cs_model.proofs.spelling.CanonicalOnly.{list_not_empty, first_change_left, change_goes}
 use Rattle.cs_model.proofs.canonical.canonical_count.Goals as goal
 
 pub loop-preserved : goal.loop-preserved

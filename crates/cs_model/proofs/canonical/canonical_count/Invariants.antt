@@ -1,7 +1,7 @@
 use Rattle.std.proofs.Common.{◌≡◌}
 use Rattle.cs_model.specs.Canonical.{StartsChanges}
 use Rattle.cs_model.specs.PackedChanges.{AreCanonical}
-use Rattle.cs_model.proofs.CanonicalOnly.{HoldCanonical}
+use Rattle.cs_model.proofs.spelling.CanonicalOnly.{HoldCanonical}
 use Rattle.cs_model.proofs.canonical.canonical_count.Given as goal
 
 -- so many changes are behind us, and where all bytes are canonical, those left are

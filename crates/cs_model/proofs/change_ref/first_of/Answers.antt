@@ -1,5 +1,5 @@
-use Rattle.cs_model.proofs.PackedChangeLaws.{changes_none, changes_short, changes_first, packed_change_begins_change}
-use Rattle.cs_model.proofs.PackedChangeLaws.{rest_packs}
+use Rattle.cs_model.proofs.packing.PackedChangeLaws.{changes_none, changes_short, changes_first, packed_change_begins_change}
+use Rattle.cs_model.proofs.packing.PackedChangeLaws.{rest_packs}
 use Rattle.cs_model.proofs.change_ref.first_of.Goals as goal
 
 pub returns-in_default-clause-first : goal.returns-in_default-clause-first

@@ -1,6 +1,6 @@
 use Rattle.std.proofs.Common.{length, ◌-◌, ap, refl, arith}
-use Rattle.cs_model.proofs.PackedChangeLaws.{own_packs}
-use Rattle.cs_model.proofs.CutLaws.{own_front, some_no_longer}
+use Rattle.cs_model.proofs.packing.PackedChangeLaws.{own_packs}
+use Rattle.cs_model.proofs.packing.CutLaws.{own_front, some_no_longer}
 use Rattle.cs_model.proofs.change_ref.record_of.Goals as goal
 
 pub overflow_sub-bytes : goal.overflow_sub-bytes

@@ -1,4 +1,4 @@
-use Rattle.cs_model.proofs.PackedChangeLaws.{begins_after}
+use Rattle.cs_model.proofs.packing.PackedChangeLaws.{begins_after}
 use Rattle.cs_model.proofs.change_ref.records_of.Goals as goal
 
 pub record_of-after-requires-in-Update : goal.record_of-after-requires-in-Update

@@ -1,4 +1,4 @@
-use Rattle.cs_model.proofs.PackedChangeLaws.{skip_end, skip_done, skip_goes}
+use Rattle.cs_model.proofs.packing.PackedChangeLaws.{skip_end, skip_done, skip_goes}
 use Rattle.std.proofs.Common.{◌-◌}
 use Rattle.cs_model.proofs.change_ref.skip_any.Goals as goal
 

@@ -1,4 +1,4 @@
-use Rattle.cs_model.proofs.Fronts.{front_of_more}
+use Rattle.cs_model.proofs.lists.Fronts.{front_of_more}
 use Rattle.cs_model.proofs.changes.add_fields_of.Goals as goal
 
 pub returns-in_err-add_fields-clause-adds : goal.returns-in_err-add_fields-clause-adds

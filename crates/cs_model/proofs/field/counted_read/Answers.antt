@@ -1,6 +1,6 @@
 use Rattle.std.proofs.Common.{arith}
 use Rattle.std.proofs.lemmas.List.{take_rest}
-use Rattle.cs_model.proofs.FieldReads.{counted_none, field_counted_short, counted_found, counted_only}
+use Rattle.cs_model.proofs.spelling.FieldReads.{counted_none, field_counted_short, counted_found, counted_only}
 use Rattle.cs_model.proofs.field.counted_read.Goals as goal
 
 pub returns-in_err-count-clause-only : goal.returns-in_err-count-clause-only

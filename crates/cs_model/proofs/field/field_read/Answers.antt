@@ -1,9 +1,9 @@
 use Rattle.std.proofs.Common.{arith, rules}
 use Rattle.cs_model.specs.declared.value.Value.TheVariants.{Null}
 use Rattle.cs_model.specs.declared.value.Field.TheVariants.{Undefined, Is}
-use Rattle.cs_model.proofs.PackedLaws.{none_back, null_back}
-use Rattle.cs_model.proofs.FieldReads.{only_typed, text_typed, blob_typed, integer_typed, same_field_number, found_integer}
-use Rattle.cs_model.proofs.FieldReads.{no_field_read}
+use Rattle.cs_model.proofs.packing.PackedLaws.{none_back, null_back}
+use Rattle.cs_model.proofs.spelling.FieldReads.{only_typed, text_typed, blob_typed, integer_typed, same_field_number, found_integer}
+use Rattle.cs_model.proofs.spelling.FieldReads.{no_field_read}
 use Rattle.cs_model.proofs.field.field_read.Goals as goal
 
 pub returns-in_err-number-in-1-clause-only : goal.returns-in_err-number-in-1-clause-only

@@ -1,5 +1,5 @@
 use Rattle.std.proofs.Common.{ℕ, List, sym, ap, ◌∙◌}
-use Rattle.cs_model.proofs.PackedLaws.{counted_one}
+use Rattle.cs_model.proofs.packing.PackedLaws.{counted_one}
 use Rattle.cs_model.proofs.fields.counted_of.Goals as goal
 
 pub returns-then-len-lt128-clause-bytes : goal.returns-then-len-lt128-clause-bytes

@@ -1,4 +1,4 @@
-use Rattle.cs_model.proofs.PackedLaws.{unpacked_none, unpacked_first}
+use Rattle.cs_model.proofs.packing.PackedLaws.{unpacked_none, unpacked_first}
 use Rattle.cs_model.proofs.fields.first_of.Goals as goal
 
 pub returns-in_default : goal.returns-in_default

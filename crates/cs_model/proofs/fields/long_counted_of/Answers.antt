@@ -1,6 +1,6 @@
 use Rattle.std.proofs.Common.{List, ℕ, arith, sym, ap, ◌∙◌}
-use Rattle.cs_model.proofs.PackedLaws.{counted_two}
-use Rattle.cs_model.proofs.VarintLemmas.{two_first}
+use Rattle.cs_model.proofs.packing.PackedLaws.{counted_two}
+use Rattle.cs_model.proofs.spelling.VarintLemmas.{two_first}
 use Rattle.cs_model.proofs.fields.long_counted_of.Goals as goal
 
 pub returns-then-low-lt128-clause-bytes : goal.returns-then-low-lt128-clause-bytes

@@ -1,4 +1,4 @@
-use Rattle.cs_model.proofs.FitLaws.{change_fits}
+use Rattle.cs_model.proofs.packing.FitLaws.{change_fits}
 use Rattle.cs_model.proofs.laws.changes_fit.Goals as goal
 
 pub returns : goal.returns

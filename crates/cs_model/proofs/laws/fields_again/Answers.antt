@@ -1,4 +1,4 @@
-use Rattle.cs_model.proofs.PackedLaws.{packed_unpacked}
+use Rattle.cs_model.proofs.packing.PackedLaws.{packed_unpacked}
 use Rattle.cs_model.proofs.laws.fields_again.Goals as goal
 
 pub returns : goal.returns

@@ -1,4 +1,4 @@
-use Rattle.cs_model.proofs.PackedChangeLaws.{spelled_said}
+use Rattle.cs_model.proofs.packing.PackedChangeLaws.{spelled_said}
 use Rattle.cs_model.proofs.laws.spelled_is_said.Goals as goal
 
 pub returns : goal.returns

@@ -1,4 +1,4 @@
-use Rattle.cs_model.proofs.VarintLemmas.{shortest}
+use Rattle.cs_model.proofs.spelling.VarintLemmas.{shortest}
 use Rattle.cs_model.proofs.laws.varint_shortest.Goals as goal
 
 pub returns : goal.returns

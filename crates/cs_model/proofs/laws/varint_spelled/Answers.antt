@@ -1,4 +1,4 @@
-use Rattle.cs_model.proofs.VarintLemmas.{spelled}
+use Rattle.cs_model.proofs.spelling.VarintLemmas.{spelled}
 use Rattle.cs_model.proofs.laws.varint_spelled.Goals as goal
 
 pub returns : goal.returns

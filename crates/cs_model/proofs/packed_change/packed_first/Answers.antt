@@ -2,7 +2,7 @@ use Rattle.std.proofs.Common.{◌∙◌, ◌∷◌, ◌+◌, length, sym, ap, su
 use Rattle.cs_model.specs.declared.change.Change.{Change}
 use Rattle.cs_model.specs.PackedChanges.{unpacked_changes}
 use Rattle.cs_model.specs.PackedOne.{IsPacked}
-use Rattle.cs_model.proofs.PackedOne.{front_packed, packed_change_back}
+use Rattle.cs_model.proofs.packing.PackedOne.{front_packed, packed_change_back}
 use Rattle.cs_model.proofs.packed_change.packed_first.Goals as goal
 
 pub invariant_of-packed : goal.invariant_of-packed

@@ -1,4 +1,4 @@
-use Rattle.cs_model.proofs.RowLaws.{same_rows}
+use Rattle.cs_model.proofs.packing.RowLaws.{same_rows}
 use Rattle.cs_model.proofs.row.same_values.Goals as goal
 
 pub returns : goal.returns

@@ -1,5 +1,5 @@
 use Rattle.std.proofs.Common.{◌∙◌}
-use Rattle.cs_model.proofs.Keys.{no_field_left, no_column_left}
+use Rattle.cs_model.proofs.lists.Keys.{no_field_left, no_column_left}
 use Rattle.cs_model.proofs.row_key.key_bytes_of.Goals.{else-loop-flag-test, then-loop-flag-test+in_default}
 use Rattle.cs_model.proofs.row_key.key_bytes_of.Goals as goal
 

@@ -1,6 +1,6 @@
 use Rattle.std.proofs.Common.{◌≡◌, ◌<◌, get_or, length, drop, [], arith}
 use Rattle.std.proofs.lemmas.List.{drop_all}
-use Rattle.cs_model.proofs.VarintLemmas.{turn_last, turn_ends, value_below}
+use Rattle.cs_model.proofs.spelling.VarintLemmas.{turn_last, turn_ends, value_below}
 use Rattle.cs_model.proofs.varint.varint_first.Goals as goal
 
 pub returns-then-read-eq8-clause-reads : goal.returns-then-read-eq8-clause-reads

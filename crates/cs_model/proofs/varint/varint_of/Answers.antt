@@ -1,5 +1,5 @@
 use Rattle.std.proofs.Common.{inl, inr, ap, refl, arith}
-use Rattle.cs_model.proofs.VarintLemmas.{unfilled_all, unfilled_end}
+use Rattle.cs_model.proofs.spelling.VarintLemmas.{unfilled_all, unfilled_end}
 use Rattle.cs_model.proofs.varint.varint_of.Goals.{then-whole, else-whole}
 use Rattle.cs_model.proofs.varint.varint_of.Goals as goal
 

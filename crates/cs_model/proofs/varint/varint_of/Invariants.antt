@@ -1,6 +1,6 @@
 use Rattle.std.proofs.Common.{◌≡◌, ◌≤◌, ◌++◌, length, drop}
 use Rattle.cs_model.specs.Varint.{varint}
-use Rattle.cs_model.proofs.VarintLemmas.{unfilled}
+use Rattle.cs_model.proofs.spelling.VarintLemmas.{unfilled}
 use Rattle.cs_model.proofs.varint.varint_of.Given as goal
 
 abbrev pub invariant-loop-start : goal.invariant-loop-start

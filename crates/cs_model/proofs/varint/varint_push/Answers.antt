@@ -1,5 +1,5 @@
 use Rattle.std.proofs.Common.{rules}
-use Rattle.cs_model.proofs.VarintLemmas.{varint_one}
+use Rattle.cs_model.proofs.spelling.VarintLemmas.{varint_one}
 use Rattle.cs_model.proofs.varint.varint_push.Goals as goal
 
 pub returns-then-value-lt128-clause-ok : goal.returns-then-value-lt128-clause-ok

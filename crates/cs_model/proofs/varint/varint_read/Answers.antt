@@ -1,4 +1,4 @@
-use Rattle.cs_model.proofs.VarintLemmas.{found_all, only_of}
+use Rattle.cs_model.proofs.spelling.VarintLemmas.{found_all, only_of}
 use Rattle.cs_model.proofs.varint.varint_read.Goals as goal
 
 pub returns-clause-found : goal.returns-clause-found

@@ -1,6 +1,6 @@
 use Rattle.std.proofs.Common.{◌+◌, length, arith, length-append}
 use Rattle.cs_model.specs.Varint.{varint}
-use Rattle.cs_write.proofs.Held.{checked}
+use Rattle.cs_write.proofs.buffers.Held.{checked}
 use Rattle.cs_write.proofs.field.counted_len.Goals as goal
 
 pub returns : goal.returns

@@ -1,7 +1,7 @@
 use Rattle.std.proofs.Common.{drop}
 use Rattle.cs_model.specs.Packed.{packed}
 use Rattle.cs_model.specs.Seen.{fields_seen}
-use Rattle.cs_write.proofs.Laying.{LayingLaid}
+use Rattle.cs_write.proofs.buffers.Laying.{LayingLaid}
 use Rattle.cs_write.proofs.field.put_fields.Given as goal
 
 abbrev pub invariant-loop-field : goal.invariant-loop-field

@@ -1,5 +1,5 @@
 use Rattle.std.proofs.Common.{arith}
-use Rattle.cs_write.proofs.Laying.{two}
+use Rattle.cs_write.proofs.buffers.Laying.{two}
 use Rattle.cs_write.proofs.field.put_typed.Goals as goal
 
 pub returns-clause-bytes : goal.returns-clause-bytes

@@ -7,7 +7,7 @@ use Rattle.indexmap.proofs.CallerLemmas.{insert_entry-new}
 use Rattle.indexmap.specs.IndexMap.{keys, get}
 use Rattle.cs_model.specs.Schema.{same_shape}
 use Rattle.cs_write.specs.Seen.{seen}
-use Rattle.cs_write.proofs.GroupLaws.{added_at, added_new, unfound}
+use Rattle.cs_write.proofs.forms.GroupLaws.{added_at, added_new, unfound}
 use Rattle.cs_write.proofs.groups.add_section.Goals as goal
 
 pub returns-in_ok-push : goal.returns-in_ok-push

@@ -1,23 +1,12 @@
-use Rattle.std.proofs.Common.{◌≡◌, [], ◌∷◌, ◌++◌, take, refl, sym, ap, ◌∙◌}
-use Rattle.std.proofs.lemmas.List.{take_more}
-use Rattle.cs_write.specs.Canon.{by_shape}
-use Rattle.cs_write.specs.Groups.{added}
+use Rattle.std.proofs.Common.{ap}
 use Rattle.cs_write.specs.Seen.{seen}
-use Rattle.cs_write.proofs.GroupLaws.{by_shape-more, none_grouped}
+use Rattle.cs_write.proofs.forms.GroupLaws.{grouping_begins, grouping_goes_on}
 use Rattle.cs_write.proofs.groups.groups_of.Goals as goal
 
 pub loop-section-init : goal.loop-section-init
-loop-section-init c = ap seen c.new-groups.ensures.empty ∙ none_grouped
+loop-section-init c = grouping_begins _ _ _ (ap seen c.new-groups.ensures.empty)
+    c.into_iter-section-iterator.ensures.into_iter_gives
 
 pub loop-section-preserved : goal.loop-section-preserved
-loop-section-preserved c =
-    let all = c.args.sections.now in
-    let i = c.loop-section.section-index in
-    let s = c.section-item.result in
-    let now : seen c.add_section.new.groups.entries ≡ added (by_shape []
-    (take i all)) s = c.in_ok-add_section.ensures.ok
-    ∙ ap (λ x. added (seen c.loop-section.groups.entries) x) c.as_ref.ensures
-    ∙ ap (λ g. added g s) c.loop-section.invariant in
-    now ∙ sym (by_shape-more [] (take i all) s refl)
-    ∙ ap (by_shape []) (ap (λ x. take i all ++ x ∷ []) c.section-item.is
-    ∙ sym (take_more all i s c.loop-section-test.true))
+loop-section-preserved c = grouping_goes_on _ _ c.in-Some.section _ _ _ c.in_ok-add_section.ensures.ok
+    c.in-Some.ensures.steps c.loop-section.invariant

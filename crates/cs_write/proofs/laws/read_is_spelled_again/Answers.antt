@@ -1,4 +1,4 @@
-use Rattle.cs_write.proofs.NoLonger.{spelled_again}
+use Rattle.cs_write.proofs.texts.NoLonger.{spelled_again}
 use Rattle.cs_write.proofs.laws.read_is_spelled_again.Goals as goal
 
 pub returns : goal.returns

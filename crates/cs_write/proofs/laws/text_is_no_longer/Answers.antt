@@ -1,4 +1,4 @@
-use Rattle.cs_write.proofs.NoLonger.{no_longer}
+use Rattle.cs_write.proofs.texts.NoLonger.{no_longer}
 use Rattle.cs_write.proofs.laws.text_is_no_longer.Goals as goal
 
 pub returns : goal.returns

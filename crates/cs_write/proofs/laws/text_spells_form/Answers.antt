@@ -1,4 +1,4 @@
-use Rattle.cs_write.proofs.SpellLaws.{text_spelled}
+use Rattle.cs_write.proofs.texts.SpellLaws.{text_spelled}
 use Rattle.cs_write.proofs.laws.text_spells_form.Goals as goal
 
 pub returns : goal.returns

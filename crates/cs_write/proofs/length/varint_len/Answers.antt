@@ -1,6 +1,6 @@
 use Rattle.std.proofs.Common.{◌≡◌, ◌+◌, ◌-◌, ◌/◌, length, ap, ◌∙◌, arith}
 use Rattle.cs_model.specs.Varint.{short_groups}
-use Rattle.cs_write.proofs.Lengths.{nine, shorter, lengths_one_more, lengths_no_more, one_left, turns_left, less_left}
+use Rattle.cs_write.proofs.buffers.Lengths.{nine, shorter, lengths_one_more, lengths_no_more, one_left, turns_left, less_left}
 use Rattle.cs_write.proofs.length.varint_len.Goals as goal
 
 pub returns-then-n-clause-same : goal.returns-then-n-clause-same

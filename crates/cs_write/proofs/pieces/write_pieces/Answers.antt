@@ -2,7 +2,7 @@ use Rattle.std.proofs.Common.{◌∙◌, ap, rules}
 use Rattle.std.proofs.lemmas.List.{nil_from_length}
 use Rattle.std.proofs.lemmas.Result.{err_from_is_err_and}
 use Rattle.std.specs.Slice.Iter.{chunks_rest, chunks_size}
-use Rattle.cs_write.proofs.Cutting.{begins, cut_off, ends, cutting_goes_on, stops}
+use Rattle.cs_write.proofs.texts.Cutting.{begins, cut_off, ends, cutting_goes_on, stops}
 use Rattle.cs_write.proofs.pieces.write_pieces.Goals as goal
 
 pub loop-piece-init : goal.loop-piece-init

@@ -1,7 +1,7 @@
 use Rattle.std.proofs.Common.{◌≡◌}
 use Rattle.std.specs.Slice.Iter.{chunks_rest, chunks_size}
 use Rattle.cs_write.specs.Text.{text_of}
-use Rattle.cs_write.proofs.Cutting.{CuttingProgress}
+use Rattle.cs_write.proofs.texts.Cutting.{CuttingProgress}
 use Rattle.cs_write.proofs.pieces.write_pieces.Given as goal
 
 abbrev pub invariant-loop-piece : goal.invariant-loop-piece

@@ -1,4 +1,4 @@
-use Rattle.cs_write.proofs.Laying.{laid_one}
+use Rattle.cs_write.proofs.buffers.Laying.{laid_one}
 use Rattle.cs_write.proofs.placing.put_byte.Goals as goal
 
 pub returns-clause-bytes : goal.returns-clause-bytes

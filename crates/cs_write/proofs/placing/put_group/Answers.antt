@@ -5,7 +5,7 @@ use Rattle.cs_write.specs.Buffer.{laid}
 use Rattle.cs_write.specs.Canon.{Group, joined_section}
 use Rattle.cs_write.specs.Groups.{group_text}
 use Rattle.cs_write.specs.Text.{header_text, section_text}
-use Rattle.cs_write.proofs.Laying.{laid_none, two}
+use Rattle.cs_write.proofs.buffers.Laying.{laid_none, two}
 use Rattle.cs_write.proofs.placing.put_group.Goals as goal
 
 pub returns-then-not-any_change-clause-bytes : goal.returns-then-not-any_change-clause-bytes

@@ -1,6 +1,6 @@
 use Rattle.cs_write.specs.Groups.{groups_text}
 use Rattle.cs_write.specs.Seen.{seen}
-use Rattle.cs_write.proofs.Laying.{LayingLaid}
+use Rattle.cs_write.proofs.buffers.Laying.{LayingLaid}
 use Rattle.cs_write.proofs.placing.put_groups.Given as goal
 
 abbrev pub invariant-loop-shape : goal.invariant-loop-shape

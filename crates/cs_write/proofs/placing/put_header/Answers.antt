@@ -2,7 +2,7 @@ use Rattle.std.proofs.Common.{◌∷◌, ◌++◌, [], length, refl, arith}
 use Rattle.std.proofs.lemmas.Grind.{common_steps}
 use Rattle.cs_model.specs.Varint.{varint}
 use Rattle.cs_write.specs.Text.{header_text}
-use Rattle.cs_write.proofs.Laying.{LayingLaid, laying_goes_on, laying_ends}
+use Rattle.cs_write.proofs.buffers.Laying.{LayingLaid, laying_goes_on, laying_ends}
 use Rattle.cs_write.proofs.placing.put_header.Goals as goal
 
 pub returns-clause-bytes : goal.returns-clause-bytes

@@ -1,7 +1,7 @@
 use Rattle.std.proofs.Common.{drop}
 use Rattle.cs_model.specs.Changeset.{all_changes}
 use Rattle.cs_model.specs.PackedChanges.{changes_bytes}
-use Rattle.cs_write.proofs.Laying.{LayingLaid}
+use Rattle.cs_write.proofs.buffers.Laying.{LayingLaid}
 use Rattle.cs_write.proofs.placing.put_sections.Given as goal
 
 abbrev pub invariant-loop-section : goal.invariant-loop-section

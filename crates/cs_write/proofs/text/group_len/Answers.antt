@@ -4,7 +4,7 @@ use Rattle.cs_write.specs.Canon.{joined_section}
 use Rattle.cs_write.specs.Lengths.{held}
 use Rattle.cs_model.specs.PackedChanges.{changes_bytes}
 use Rattle.cs_write.specs.Text.{header_text, section_text}
-use Rattle.cs_write.proofs.Held.{held-small}
+use Rattle.cs_write.proofs.buffers.Held.{held-small}
 use Rattle.cs_write.proofs.text.group_len.Goals as goal
 
 pub returns-then-not-any_change : goal.returns-then-not-any_change

@@ -1,7 +1,7 @@
 use Rattle.std.proofs.Common.{length}
 use Rattle.cs_write.specs.Groups.{groups_text}
 use Rattle.cs_write.specs.Seen.{seen}
-use Rattle.cs_write.proofs.Held.{HeldCounted}
+use Rattle.cs_write.proofs.buffers.Held.{HeldCounted}
 use Rattle.cs_write.proofs.text.groups_len.Given as goal
 
 abbrev pub invariant-loop-shape : goal.invariant-loop-shape

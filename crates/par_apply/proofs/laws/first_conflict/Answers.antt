@@ -2,8 +2,8 @@ use Rattle.std.proofs.Common.{refl, ap}
 use Rattle.cs_apply.specs.Single.{changes_of, single_from, with_rows}
 use Rattle.par_apply.specs.Parts.{applied_part}
 use Rattle.par_apply.specs.Shards.{of_shard}
-use Rattle.par_apply.proofs.GatheringLaws.{first_of_shards}
-use Rattle.par_apply.proofs.SplittingLaws.{splits}
+use Rattle.par_apply.proofs.shards.GatheringLaws.{first_of_shards}
+use Rattle.par_apply.proofs.shards.SplittingLaws.{splits}
 use Rattle.par_apply.proofs.laws.first_conflict.Goals as goal
 
 pub returns : goal.returns

@@ -1,4 +1,4 @@
-use Rattle.par_apply.proofs.PlanLaws.{plan_leaves}
+use Rattle.par_apply.proofs.workers.PlanLaws.{plan_leaves}
 use Rattle.par_apply.proofs.laws.plans_apply.Goals as goal
 
 pub returns : goal.returns

@@ -1,6 +1,6 @@
 use Rattle.std.proofs.Common.{refl}
 use Rattle.cs_apply.specs.Single.{changes_of}
-use Rattle.par_apply.proofs.SplittingLaws.{splits}
+use Rattle.par_apply.proofs.shards.SplittingLaws.{splits}
 use Rattle.par_apply.proofs.laws.splitting.Goals as goal
 
 pub returns : goal.returns

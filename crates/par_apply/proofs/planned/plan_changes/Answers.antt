@@ -1,5 +1,5 @@
 use Rattle.std.proofs.Common.{sym, ◌∙◌}
-use Rattle.par_apply.proofs.PlanLaws.{plan_ok, plan_refused}
+use Rattle.par_apply.proofs.workers.PlanLaws.{plan_ok, plan_refused}
 use Rattle.par_apply.proofs.planned.plan_changes.Goals as goal
 
 pub returns-clause-refused : goal.returns-clause-refused

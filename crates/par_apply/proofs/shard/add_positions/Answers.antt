@@ -2,7 +2,7 @@ use Rattle.std.proofs.Common.{◌≡◌, ◌+◌, List, length, ap, ◌∙◌, a
 use Rattle.cs_model.specs.declared.change.Change.{Change}
 use Rattle.cs_model.specs.Seen.{change_seen}
 use Rattle.par_apply.specs.Shards.{of_shard, shard_number}
-use Rattle.par_apply.proofs.PositionLaws.{position_next, positions_end}
+use Rattle.par_apply.proofs.workers.PositionLaws.{position_next, positions_end}
 use Rattle.par_apply.proofs.shard.add_positions.Goals as goal
 
 pub loop-change-preserved : goal.loop-change-preserved

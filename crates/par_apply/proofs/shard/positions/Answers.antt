@@ -1,7 +1,7 @@
 use Rattle.std.proofs.Common.{sym, ap, ◌∙◌}
 use Rattle.cs_model.specs.Schema.{table_index}
 use Rattle.par_apply.specs.Shards.{of_shard, shard_number}
-use Rattle.par_apply.proofs.PositionLaws.{all_noted, section_left_out, section_noted}
+use Rattle.par_apply.proofs.workers.PositionLaws.{all_noted, section_left_out, section_noted}
 use Rattle.par_apply.proofs.shard.positions.Goals as goal
 
 pub loop-section-preserved-in_ok-add_positions : goal.loop-section-preserved-in_ok-add_positions

@@ -1,7 +1,7 @@
 use Rattle.std.proofs.Common.{◌≡◌, ◌<◌, length, ◌+◌, ◌%◌, drop, ap, ◌∙◌, arith}
 use Rattle.std.proofs.lemmas.List.Sums.{sum_by-drop_more}
 use Rattle.std.specs.Prelude.{sum, get_or}
-use Rattle.par_apply.proofs.ShardLaws.{same_remainder}
+use Rattle.par_apply.proofs.shards.ShardLaws.{same_remainder}
 use Rattle.par_apply.proofs.shard.with_bytes.Goals as goal
 
 pub loop-byte-init : goal.loop-byte-init

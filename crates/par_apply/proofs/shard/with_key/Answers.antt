@@ -2,7 +2,7 @@ use Rattle.std.proofs.Common.{◌∙◌, ◌+◌, ◌%◌, drop, ap, arith}
 use Rattle.std.specs.Prelude.{sum}
 use Rattle.cs_model.specs.KeyBytes.{key_bytes}
 use Rattle.cs_model.specs.Packed.{packed}
-use Rattle.par_apply.proofs.KeySumLaws.{sum_added, sum_passed}
+use Rattle.par_apply.proofs.shards.KeySumLaws.{sum_added, sum_passed}
 use Rattle.par_apply.proofs.shard.with_key.Goals.{then-flag-gt0, else-flag-gt0}
 use Rattle.par_apply.proofs.shard.with_key.Goals as goal
 

@@ -1,5 +1,5 @@
 use Rattle.std.proofs.Common.{◌∷◌, ◌++◌, [], ap, ◌∙◌}
-use Rattle.par_apply.proofs.StageLaws.{held_noted, held_placed, held_stays, held_unnoted}
+use Rattle.par_apply.proofs.commits.StageLaws.{held_noted, held_placed, held_stays, held_unnoted}
 use Rattle.par_apply.proofs.staged.hold.Goals as goal
 
 pub returns-then-branch-clause-placed : goal.returns-then-branch-clause-placed

@@ -1,6 +1,6 @@
 use Rattle.std.proofs.Common.{◌≡◌}
 use Rattle.par_apply.specs.Staged.{without_places}
-use Rattle.par_apply.proofs.StageLaws.{CanHoldFirst}
+use Rattle.par_apply.proofs.commits.StageLaws.{CanHoldFirst}
 use Rattle.par_apply.proofs.staged.hold_all.Given as goal
 
 -- the changes so far can be made, and the places that were made for them can be taken away

@@ -1,6 +1,6 @@
 use Rattle.std.proofs.Common.{sym, ap, ◌∙◌}
 use Rattle.par_apply.specs.Staged.{without_places}
-use Rattle.par_apply.proofs.StageLaws.{last_without}
+use Rattle.par_apply.proofs.commits.StageLaws.{last_without}
 use Rattle.par_apply.proofs.staged.take_back.Goals as goal
 
 pub loop-index-preserved : goal.loop-index-preserved

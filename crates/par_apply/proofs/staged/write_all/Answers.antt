@@ -1,4 +1,4 @@
-use Rattle.par_apply.proofs.CommitLaws.{commit_step}
+use Rattle.par_apply.proofs.commits.CommitLaws.{commit_step}
 use Rattle.par_apply.proofs.staged.write_all.Goals as goal
 
 pub loop-key-preserved : goal.loop-key-preserved

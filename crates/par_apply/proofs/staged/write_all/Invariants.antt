@@ -1,5 +1,5 @@
 use Rattle.std.proofs.Common.{vec_len}
-use Rattle.par_apply.proofs.CommitLaws.{CommitsSo}
+use Rattle.par_apply.proofs.commits.CommitLaws.{CommitsSo}
 use Rattle.par_apply.proofs.staged.write_all.Given as goal
 
 abbrev pub invariant-loop-key : goal.invariant-loop-key

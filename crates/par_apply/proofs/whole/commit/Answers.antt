@@ -1,7 +1,7 @@
 use Rattle.std.proofs.Common.{◌∙◌}
 use Rattle.par_apply.specs.Planned.{planned_changes}
 use Rattle.par_apply.specs.Staged.{changes_staged}
-use Rattle.par_apply.proofs.PlanLaws.{plan_done}
+use Rattle.par_apply.proofs.workers.PlanLaws.{plan_done}
 use Rattle.par_apply.proofs.whole.commit.Goals as goal
 
 pub returns-in-Ok-clause-ok : goal.returns-in-Ok-clause-ok

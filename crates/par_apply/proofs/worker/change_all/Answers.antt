@@ -4,7 +4,7 @@ use Rattle.cs_apply.specs.State.{compatible}
 use Rattle.cs_model.specs.Changeset.{IsChangeset}
 use Rattle.par_apply.specs.RowChanges.{overlaid}
 use Rattle.par_apply.specs.Shards.{of_shard, shard_number}
-use Rattle.par_apply.proofs.PartLaws.{part_ends, part_goes, part_passed, part_stops}
+use Rattle.par_apply.proofs.workers.PartLaws.{part_ends, part_goes, part_passed, part_stops}
 use Rattle.par_apply.proofs.worker.change_all.Goals as goal
 
 pub returns-in_err-change_section-clause-refused : goal.returns-in_err-change_section-clause-refused

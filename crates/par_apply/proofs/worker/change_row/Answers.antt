@@ -1,6 +1,6 @@
 use Rattle.std.specs.Option.{option_copied}
 use Rattle.cs_model.specs.Seen.{change_seen}
-use Rattle.par_apply.proofs.OwnRowLaws.{own_keys_edit, own_row_changed}
+use Rattle.par_apply.proofs.workers.OwnRowLaws.{own_keys_edit, own_row_changed}
 use Rattle.par_apply.proofs.worker.change_row.Goals as goal
 
 pub returns-clause-ok : goal.returns-clause-ok

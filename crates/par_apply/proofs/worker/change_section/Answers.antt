@@ -5,7 +5,7 @@ use Rattle.cs_model.specs.Changeset.{IsChange}
 use Rattle.cs_model.specs.Seen.{change_seen}
 use Rattle.par_apply.specs.RowChanges.{overlaid}
 use Rattle.par_apply.specs.Shards.{of_shard, shard_number}
-use Rattle.par_apply.proofs.PartLaws.{own_ends, own_goes, own_stops}
+use Rattle.par_apply.proofs.workers.PartLaws.{own_ends, own_goes, own_stops}
 use Rattle.par_apply.proofs.worker.change_section.Goals as goal
 
 pub loop-change-preserved : goal.loop-change-preserved

@@ -5,7 +5,7 @@ use Rattle.par_apply.specs.Parts.{applied_part, part_from}
 use Rattle.par_apply.specs.RowChanges.{RowChanges, overlaid}
 use Rattle.par_apply.specs.Shards.{of_shard, shard_number}
 use Rattle.par_apply.specs.Splitting.{AreOfShard}
-use Rattle.par_apply.proofs.SiftLaws.{sifted_part}
+use Rattle.par_apply.proofs.shards.SiftLaws.{sifted_part}
 use Rattle.par_apply.proofs.worker.plan_shard.Goals as goal
 
 pub returns : goal.returns

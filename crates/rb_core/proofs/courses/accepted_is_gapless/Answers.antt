@@ -1,4 +1,4 @@
-use Rattle.rb_core.proofs.Gapless.{gapless}
+use Rattle.rb_core.proofs.headline.Gapless.{gapless}
 use Rattle.rb_core.proofs.courses.accepted_is_gapless.Goals as goal
 
 pub returns : goal.returns

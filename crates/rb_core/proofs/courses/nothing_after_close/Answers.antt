@@ -1,4 +1,4 @@
-use Rattle.rb_core.proofs.Closing.{nothing_placed, nothing_accepted}
+use Rattle.rb_core.proofs.headline.Closing.{nothing_placed, nothing_accepted}
 use Rattle.rb_core.proofs.courses.nothing_after_close.Goals as goal
 
 pub returns-clause-sequence : goal.returns-clause-sequence

@@ -1,4 +1,4 @@
-use Rattle.rb_core.proofs.Sendings.{in_order, once, sending_of_entry}
+use Rattle.rb_core.proofs.headline.Sendings.{in_order, once, sending_of_entry}
 use Rattle.rb_core.proofs.courses.sendings_come_once_in_order.Goals as goal
 
 pub returns-clause-order : goal.returns-clause-order

@@ -1,4 +1,4 @@
-use Rattle.rb_core.proofs.Singly.{tables_are_single}
+use Rattle.rb_core.proofs.headline.Singly.{tables_are_single}
 use Rattle.rb_subscriber.specs.Accept.{brought}
 use Rattle.rb_core.proofs.courses.tables_apply_singly.Goals as goal
 

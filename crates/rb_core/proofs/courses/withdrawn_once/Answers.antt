@@ -1,4 +1,4 @@
-use Rattle.rb_core.proofs.Withdrawn.{withdrawn_at_one_place, withdrawn_is_placed}
+use Rattle.rb_core.proofs.headline.Withdrawn.{withdrawn_at_one_place, withdrawn_is_placed}
 use Rattle.rb_core.proofs.courses.withdrawn_once.Goals as goal
 
 pub returns-clause-once : goal.returns-clause-once

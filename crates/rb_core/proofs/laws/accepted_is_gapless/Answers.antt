@@ -1,5 +1,5 @@
 use Rattle.rb_core.specs.Told.{world_told}
-use Rattle.rb_core.proofs.ToldLaws.{gapless_run}
+use Rattle.rb_core.proofs.whole_runs.ToldLaws.{gapless_run}
 use Rattle.rb_core.proofs.laws.accepted_is_gapless.Goals as goal
 
 pub returns-clause-run : goal.returns-clause-run

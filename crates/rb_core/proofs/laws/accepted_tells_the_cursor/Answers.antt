@@ -1,4 +1,4 @@
-use Rattle.rb_core.proofs.AcceptedCursor.{accepted_says_cursor}
+use Rattle.rb_core.proofs.whole_runs.AcceptedCursor.{accepted_says_cursor}
 use Rattle.rb_subscriber.specs.Accept.{brought}
 use Rattle.rb_core.proofs.laws.accepted_tells_the_cursor.Goals as goal
 

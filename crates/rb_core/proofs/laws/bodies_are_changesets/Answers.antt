@@ -1,4 +1,4 @@
-use Rattle.rb_core.proofs.Bodies.{told_are_changesets}
+use Rattle.rb_core.proofs.headline.Bodies.{told_are_changesets}
 use Rattle.rb_core.proofs.laws.bodies_are_changesets.Goals as goal
 
 pub returns : goal.returns

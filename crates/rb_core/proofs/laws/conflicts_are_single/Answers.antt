@@ -1,5 +1,5 @@
 use Rattle.rb_core.specs.Told.{world_told}
-use Rattle.rb_core.proofs.ConflictRuns.{refuses_conflict, conflict_in_run}
+use Rattle.rb_core.proofs.whole_runs.ConflictRuns.{refuses_conflict, conflict_in_run}
 use Rattle.rb_subscriber.specs.Accept.{brought}
 use Rattle.rb_core.proofs.laws.conflicts_are_single.Goals as goal
 

@@ -1,8 +1,8 @@
 use Rattle.std.proofs.Common.{subst}
 use Rattle.rb_core.specs.declared.reply.Reply.{Reply}
 use Rattle.rb_core.specs.State.{State, IsWorld}
-use Rattle.rb_core.proofs.DeskLaws.{DeskShows, KeepsPictures}
-use Rattle.rb_core.proofs.WorldEvents.{event_keeps}
+use Rattle.rb_core.proofs.invariants.DeskLaws.{DeskShows, KeepsPictures}
+use Rattle.rb_core.proofs.invariants.WorldEvents.{event_keeps}
 use Rattle.rb_subscriber.specs.Accept.{brought}
 use Rattle.rb_core.proofs.laws.events_keep_worlds.Goals as goal
 

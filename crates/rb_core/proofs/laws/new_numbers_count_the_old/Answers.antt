@@ -1,5 +1,5 @@
 use Rattle.rb_core.specs.Told.{world_told}
-use Rattle.rb_core.proofs.Counting.{publisher_counts, subscriber_counts}
+use Rattle.rb_core.proofs.reports.Counting.{publisher_counts, subscriber_counts}
 use Rattle.rb_core.proofs.laws.new_numbers_count_the_old.Goals as goal
 
 pub returns-clause-publisher : goal.returns-clause-publisher

@@ -1,6 +1,6 @@
 use Rattle.std.specs.Prelude.{◌++◌}
 use Rattle.rb_core.specs.Told.{world_told}
-use Rattle.rb_core.proofs.ToldLaws.{closed_run, left_run}
+use Rattle.rb_core.proofs.whole_runs.ToldLaws.{closed_run, left_run}
 use Rattle.rb_core.proofs.laws.nothing_after_close.Goals as goal
 
 pub returns-clause-sequence : goal.returns-clause-sequence

@@ -1,5 +1,5 @@
 use Rattle.std.specs.Prelude.{[]}
-use Rattle.rb_core.proofs.TellRuns.{TellRunsLaws, tell_runs_are_told, tell_runs_go_on, run_is_world}
+use Rattle.rb_core.proofs.whole_runs.TellRuns.{TellRunsLaws, tell_runs_are_told, tell_runs_go_on, run_is_world}
 use Rattle.rb_subscriber.specs.Accept.{brought}
 use Rattle.rb_core.proofs.laws.runs_are_told.Goals as goal
 

@@ -1,4 +1,4 @@
-use Rattle.rb_core.proofs.RunCuts.{closed_by_then, left_by_then}
+use Rattle.rb_core.proofs.whole_runs.RunCuts.{closed_by_then, left_by_then}
 use Rattle.rb_core.proofs.laws.runs_keep_the_headline.Goals as goal
 
 pub returns : goal.returns

@@ -1,4 +1,4 @@
-use Rattle.rb_core.proofs.ByText.{feed_by_text, end_by_text}
+use Rattle.rb_core.proofs.whole_runs.ByText.{feed_by_text, end_by_text}
 use Rattle.rb_core.proofs.laws.streams_answer_by_text.Goals as goal
 
 pub returns-clause-feed : goal.returns-clause-feed

@@ -1,5 +1,5 @@
 use Rattle.rb_core.specs.Told.{IsSender, world_told}
-use Rattle.rb_core.proofs.Pairs.{paired_get, paired_as}
+use Rattle.rb_core.proofs.whole_runs.Pairs.{paired_get, paired_as}
 use Rattle.rb_core.specs.Headline.{HasTakenFed}
 use Rattle.rb_core.proofs.laws.streams_take_what_is_fed.Goals as goal
 

@@ -1,5 +1,5 @@
 use Rattle.rb_core.specs.Told.{world_told}
-use Rattle.rb_core.proofs.ToldLaws.{singly_run}
+use Rattle.rb_core.proofs.whole_runs.ToldLaws.{singly_run}
 use Rattle.rb_core.proofs.laws.tables_apply_singly.Goals as goal
 
 pub returns : goal.returns

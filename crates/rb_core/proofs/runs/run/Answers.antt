@@ -6,8 +6,8 @@ use Rattle.rb_core.specs.Headline.{KeepsHeadline}
 use Rattle.rb_core.specs.Run.{Answer, Run, FeedsBytes}
 use Rattle.rb_core.specs.State.{State, empty_world}
 use Rattle.rb_core.specs.World.{endpoint_of}
-use Rattle.rb_core.proofs.RunCuts.{on_ok}
-use Rattle.rb_core.proofs.ToldLaws.{mapped_in}
+use Rattle.rb_core.proofs.whole_runs.RunCuts.{on_ok}
+use Rattle.rb_core.proofs.whole_runs.ToldLaws.{mapped_in}
 use Rattle.rb_core.proofs.runs.run.Goals as goal
 
 -- as the type of the limits says

@@ -4,7 +4,7 @@ use Rattle.rb_core.specs.declared.event.Event.{Event}
 use Rattle.rb_core.specs.Run.{FeedsBytes}
 use Rattle.rb_core.specs.State.{empty_world}
 use Rattle.cs_model.proofs.CallerLemmas.{all_push}
-use Rattle.rb_core.proofs.RunLaws.{Run-push, Stepped-from}
+use Rattle.rb_core.proofs.whole_runs.RunLaws.{Run-push, Stepped-from}
 use Rattle.rb_core.proofs.runs.served.Goals as goal
 
 pub loop-event-preserved : goal.loop-event-preserved

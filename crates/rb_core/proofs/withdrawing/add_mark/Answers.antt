@@ -1,6 +1,6 @@
 use Rattle.std.proofs.Common.{ℕ, sym, ap, ◌∙◌}
 use Rattle.rb_core.specs.State.{with_mark}
-use Rattle.rb_core.proofs.Marks.{mark_end}
+use Rattle.rb_core.proofs.invariants.Marks.{mark_end}
 use Rattle.rb_core.proofs.withdrawing.add_mark.Goals as goal
 
 pub returns-clause-ok : goal.returns-clause-ok

@@ -1,7 +1,7 @@
 use Rattle.std.proofs.Common.{◌<◌, ◌∷◌, [], Bool, false, List, length, ap, ◌∙◌, arith}
 use Rattle.std.proofs.lemmas.List.{length-append}
 use Rattle.rb_core.specs.State.{with_mark}
-use Rattle.rb_core.proofs.Marks.{mark_push}
+use Rattle.rb_core.proofs.invariants.Marks.{mark_push}
 use Rattle.rb_core.proofs.withdrawing.fill.Goals as goal
 
 pub loop-marks-preserved : goal.loop-marks-preserved

@@ -1,5 +1,5 @@
 use Rattle.std.proofs.Common.{sym, arith}
-use Rattle.rb_core.proofs.Marks.{mark_set}
+use Rattle.rb_core.proofs.invariants.Marks.{mark_set}
 use Rattle.rb_core.proofs.withdrawing.set_mark.Goals as goal
 
 pub returns-then-place-len-clause-ok : goal.returns-then-place-len-clause-ok

@@ -1,6 +1,6 @@
 use Rattle.std.proofs.Common.{map, ◌∙◌}
 use Rattle.std.specs.Arc.{arc_value}
-use Rattle.rb_drive.proofs.RunLaws.{ok_then}
+use Rattle.rb_drive.proofs.outcomes.RunLaws.{ok_then}
 use Rattle.rb_drive.proofs.drive.drive_owners.Goals as goal
 
 -- the owners come back with what they went with

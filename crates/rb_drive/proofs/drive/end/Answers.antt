@@ -1,8 +1,8 @@
 use Rattle.std.proofs.Common.{◌≤◌, ap, map, rules, subst, sym, ◌∙◌}
 use Rattle.rb_drive.specs.Published.{AreByNumber, HaveSentLines, unsent_lines}
-use Rattle.rb_drive.proofs.DriveLaws.{HaveEnded, all_begin_empty, all_have_ended, all_keep_headline, many_are_back}
-use Rattle.rb_drive.proofs.DriveLaws.{placed_fit}
-use Rattle.rb_drive.proofs.OwnerLaws.{lines_come_to}
+use Rattle.rb_drive.proofs.outcomes.DriveLaws.{HaveEnded, all_begin_empty, all_have_ended, all_keep_headline, many_are_back}
+use Rattle.rb_drive.proofs.outcomes.DriveLaws.{placed_fit}
+use Rattle.rb_drive.proofs.outcomes.OwnerLaws.{lines_come_to}
 use Rattle.rb_drive.proofs.drive.end.Goals as goal
 
 -- each publisher has sent its lines, each subscription has met the sequencer, and the broker is finished

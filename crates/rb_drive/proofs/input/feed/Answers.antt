@@ -1,5 +1,5 @@
 use Rattle.std.proofs.lemmas.Result.{err_from_is_err_and}
-use Rattle.rb_drive.proofs.ReadLaws.{byte_ends_reading}
+use Rattle.rb_drive.proofs.inputs.ReadLaws.{byte_ends_reading}
 use Rattle.rb_drive.proofs.input.feed.Goals as goal
 
 pub returns-in_err-take_byte : goal.returns-in_err-take_byte

@@ -1,6 +1,6 @@
 use Rattle.std.proofs.Common.{sym, ◌∙◌}
 use Rattle.std.proofs.lemmas.Result.{err_from_is_err_and}
-use Rattle.rb_drive.proofs.EndLaws.{last_line, last_line_stops, no_line, no_line_left, some_line}
+use Rattle.rb_drive.proofs.inputs.EndLaws.{last_line, last_line_stops, no_line, no_line_left, some_line}
 use Rattle.rb_drive.proofs.input.finish.Goals as goal
 use Rattle.rb_drive.proofs.input.finish.Goals.{then-not-is_empty+in_ok-add_line, else-not-is_empty}
 

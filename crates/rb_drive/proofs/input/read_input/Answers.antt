@@ -1,6 +1,6 @@
 use Rattle.std.proofs.Common.{arith, ◌∙◌}
 use Rattle.std.proofs.lemmas.Result.{err_from_is_err_and}
-use Rattle.rb_drive.proofs.EndLaws.{read_ends_by_reader, ends_in_piece, input_is_ended, input_goes_on, input_stops}
+use Rattle.rb_drive.proofs.inputs.EndLaws.{read_ends_by_reader, ends_in_piece, input_is_ended, input_goes_on, input_stops}
 use Rattle.rb_drive.proofs.input.read_input.Goals as goal
 
 pub returns-in_err-read : goal.returns-in_err-read

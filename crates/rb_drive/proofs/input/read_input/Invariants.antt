@@ -1,5 +1,5 @@
 use Rattle.std.proofs.Common.{◌≡◌, length}
-use Rattle.rb_drive.proofs.EndLaws.{ReadingProgress}
+use Rattle.rb_drive.proofs.inputs.EndLaws.{ReadingProgress}
 use Rattle.rb_drive.proofs.input.read_input.Given as goal
 
 -- each turn has read a byte at least

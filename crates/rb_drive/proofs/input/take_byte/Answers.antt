@@ -1,6 +1,6 @@
 use Rattle.std.proofs.Common.{arith}
 use Rattle.std.proofs.lemmas.Result.{err_from_is_err_and}
-use Rattle.rb_drive.proofs.ReadLaws.{adding_stops, line_ends, long_line_stops}
+use Rattle.rb_drive.proofs.inputs.ReadLaws.{adding_stops, line_ends, long_line_stops}
 use Rattle.rb_drive.proofs.input.take_byte.Goals as goal
 
 pub returns-in_err-add_line : goal.returns-in_err-add_line

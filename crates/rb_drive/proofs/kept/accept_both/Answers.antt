@@ -1,7 +1,7 @@
 use Rattle.sqlite.specs.Held.{state}
 use Rattle.replica_store.specs.Durable.{KeepsRows}
 use Rattle.rb_subscriber.specs.Subscription.{cursor_of}
-use Rattle.rb_drive.proofs.KeptLaws.{still_kept}
+use Rattle.rb_drive.proofs.outcomes.KeptLaws.{still_kept}
 use Rattle.rb_drive.proofs.kept.accept_both.Goals as goal
 
 -- the replica has what the subscription accepted, or both are as before, or it has fallen

@@ -2,7 +2,7 @@ use Rattle.std.proofs.Common.{◌≡◌}
 use Rattle.sqlite.specs.Held.{state}
 use Rattle.replica_store.specs.Durable.{KeepsRows}
 use Rattle.rb_subscriber.specs.Subscription.{cursor_of}
-use Rattle.rb_drive.proofs.RestartLaws.{if_opened, IsShownRun, restart_holds, unasked_keeps}
+use Rattle.rb_drive.proofs.outcomes.RestartLaws.{if_opened, IsShownRun, restart_holds, unasked_keeps}
 use Rattle.rb_drive.proofs.laws.accept_and_crash.Goals as goal
 
 pub returns : goal.returns

@@ -1,5 +1,5 @@
 use Rattle.std.proofs.Common.{arith}
-use Rattle.rb_drive.proofs.LineListLaws.{line_put}
+use Rattle.rb_drive.proofs.inputs.LineListLaws.{line_put}
 use Rattle.rb_drive.proofs.lines.add.Goals as goal
 
 -- the line stands at the end of its publisher's list

@@ -2,7 +2,7 @@ use Rattle.std.proofs.Common.{◌≡◌, [], sym, ◌∙◌}
 use Rattle.std.proofs.lemmas.List.{nil_from_length}
 use Rattle.std.specs.Vec.Iter.{into_iter_items}
 use Rattle.rb_drive.specs.Owners.{beginning_of}
-use Rattle.rb_drive.proofs.ListLaws.{all_moved}
+use Rattle.rb_drive.proofs.inputs.ListLaws.{all_moved}
 use Rattle.rb_drive.proofs.owners.join_subscribers.Goals as goal
 
 pub returns : goal.returns

@@ -1,6 +1,6 @@
 use Rattle.std.proofs.Common.{rules}
 use Rattle.std.proofs.lemmas.Result.{err_from_is_err_and}
-use Rattle.rb_drive.proofs.StagingLaws.{feeding_stops, feeds_next}
+use Rattle.rb_drive.proofs.inputs.StagingLaws.{feeding_stops, feeds_next}
 use Rattle.rb_drive.proofs.publishing.feed.Goals as goal
 
 -- one more piece is fed

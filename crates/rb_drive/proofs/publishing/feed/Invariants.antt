@@ -1,6 +1,6 @@
 use Rattle.std.proofs.Common.{◌≡◌}
 use Rattle.std.specs.Slice.Iter.{chunks_rest}
-use Rattle.rb_drive.proofs.StagingLaws.{IsFedUpTo}
+use Rattle.rb_drive.proofs.inputs.StagingLaws.{IsFedUpTo}
 use Rattle.rb_drive.proofs.publishing.feed.Given as goal
 
 -- the pieces so far are fed

@@ -4,7 +4,7 @@ use Rattle.std.specs.List.{flat_map}
 use Rattle.cs_apply.specs.Seen.{listed}
 use Rattle.rb_script.specs.Texts.{row_text}
 use Rattle.rb_drive.specs.Report.{row_count_text}
-use Rattle.rb_drive.proofs.ReportLaws.{fault_in_same}
+use Rattle.rb_drive.proofs.outcomes.ReportLaws.{fault_in_same}
 use Rattle.rb_drive.proofs.report.write_all_rows.Goals as goal
 
 pub returns-clause-err : goal.returns-clause-err

@@ -1,5 +1,5 @@
-use Rattle.rb_script.proofs.StreamLaws.{on_err}
-use Rattle.rb_drive.proofs.ReportLaws.{rows_next, stops_next, writes_next}
+use Rattle.rb_script.proofs.endings.StreamLaws.{on_err}
+use Rattle.rb_drive.proofs.outcomes.ReportLaws.{rows_next, stops_next, writes_next}
 use Rattle.rb_drive.proofs.report.write_each.Goals as goal
 
 pub returns-in_err-write_row-clause-err : goal.returns-in_err-write_row-clause-err

@@ -2,7 +2,7 @@ use Rattle.std.proofs.Common.{drop}
 use Rattle.std.specs.List.{flat_map}
 use Rattle.cs_apply.specs.Seen.{listed}
 use Rattle.rb_script.specs.Texts.{row_text}
-use Rattle.rb_drive.proofs.ReportLaws.{IsWrittenBut}
+use Rattle.rb_drive.proofs.outcomes.ReportLaws.{IsWrittenBut}
 use Rattle.rb_drive.proofs.report.write_each.Given as goal
 
 -- the rows so far are written

@@ -1,5 +1,5 @@
 use Rattle.std.proofs.Common.{rules}
-use Rattle.rb_drive.proofs.ReportLaws.{fault_in_same}
+use Rattle.rb_drive.proofs.outcomes.ReportLaws.{fault_in_same}
 use Rattle.rb_drive.proofs.report.write_report.Goals as goal
 
 pub returns-clause-err : goal.returns-clause-err

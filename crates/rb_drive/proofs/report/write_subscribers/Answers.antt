@@ -1,6 +1,6 @@
 use Rattle.std.proofs.Common.{rules}
-use Rattle.rb_script.proofs.StreamLaws.{on_err}
-use Rattle.rb_drive.proofs.ReportLaws.{stops_next, subscribers_next, writes_next}
+use Rattle.rb_script.proofs.endings.StreamLaws.{on_err}
+use Rattle.rb_drive.proofs.outcomes.ReportLaws.{stops_next, subscribers_next, writes_next}
 use Rattle.rb_drive.proofs.report.write_subscribers.Goals as goal
 
 pub returns-in_err-write_subscriber-clause-err : goal.returns-in_err-write_subscriber-clause-err

@@ -1,7 +1,7 @@
 use Rattle.std.proofs.Common.{◌≡◌, drop, map}
 use Rattle.rb_drive.specs.Outcome.{subscriber_of}
 use Rattle.rb_drive.specs.Report.{subscribers_text}
-use Rattle.rb_drive.proofs.ReportLaws.{IsWrittenBut}
+use Rattle.rb_drive.proofs.outcomes.ReportLaws.{IsWrittenBut}
 use Rattle.rb_drive.proofs.report.write_subscribers.Given as goal
 
 -- those so far are written

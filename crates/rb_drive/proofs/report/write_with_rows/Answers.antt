@@ -1,4 +1,4 @@
-use Rattle.rb_script.proofs.StreamLaws.{err_later}
+use Rattle.rb_script.proofs.endings.StreamLaws.{err_later}
 use Rattle.rb_drive.proofs.report.write_with_rows.Goals as goal
 
 pub returns-clause-err : goal.returns-clause-err

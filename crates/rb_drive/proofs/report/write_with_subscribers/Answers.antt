@@ -1,4 +1,4 @@
-use Rattle.rb_script.proofs.StreamLaws.{Appends-Keeps, Appends-trans, front_later, on_err, stream_appends_front}
+use Rattle.rb_script.proofs.endings.StreamLaws.{Appends-Keeps, Appends-trans, front_later, on_err, stream_appends_front}
 use Rattle.rb_drive.proofs.report.write_with_subscribers.Goals as goal
 
 pub returns-in_err-write_subscribers-clause-err : goal.returns-in_err-write_subscribers-clause-err

@@ -2,7 +2,7 @@ use Rattle.std.proofs.Common.{rules, subst, sym, ◌∙◌}
 use Rattle.std.proofs.lemmas.List.{length-map}
 use Rattle.rb_drive.specs.Outcome.{reported, subscriber_of}
 use Rattle.rb_drive.specs.Run.{IsStatus}
-use Rattle.rb_drive.proofs.RunLaws.{endings_same}
+use Rattle.rb_drive.proofs.outcomes.RunLaws.{endings_same}
 use Rattle.rb_drive.proofs.run.report.Goals as goal
 
 -- the report is written, and the status is that of the endings

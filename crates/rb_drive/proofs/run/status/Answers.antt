@@ -1,5 +1,5 @@
 use Rattle.std.proofs.Common.{ap, sym, inl, refl, ◌∙◌}
-use Rattle.rb_drive.proofs.StatusLaws.{conflict_among}
+use Rattle.rb_drive.proofs.outcomes.StatusLaws.{conflict_among}
 use Rattle.rb_drive.proofs.run.status.Goals as goal
 
 -- this one ended by a conflict

@@ -4,7 +4,7 @@ use Rattle.rb_script.specs.Answering.{lines_reached, script_output}
 use Rattle.rb_script.specs.ScriptSchema.{schema_of_script}
 use Rattle.rb_script.specs.Lines.{world_of}
 use Rattle.rb_script.specs.Script.{lines_events, lines_replies, stage_after}
-use Rattle.rb_script.proofs.PlainLaws.{reached_output}
+use Rattle.rb_script.proofs.endings.PlainLaws.{reached_output}
 use Rattle.rb_script.proofs.laws.answerings_keep_the_headline.Goals as goal
 
 pub returns : goal.returns

@@ -1,4 +1,4 @@
-use Rattle.rb_script.proofs.LineLaws.{by_all_lines}
+use Rattle.rb_script.proofs.whole_scripts.LineLaws.{by_all_lines}
 use Rattle.rb_script.proofs.laws.lines_are_answered.Goals as goal
 
 pub returns : goal.returns

@@ -1,4 +1,4 @@
-use Rattle.rb_script.proofs.PlainLaws.{lines_again}
+use Rattle.rb_script.proofs.endings.PlainLaws.{lines_again}
 use Rattle.rb_script.proofs.laws.lines_are_found.Goals as goal
 
 pub returns : goal.returns

@@ -1,4 +1,4 @@
-use Rattle.rb_script.proofs.PlainLaws.{plain_all, plain_whole, plain_stops}
+use Rattle.rb_script.proofs.endings.PlainLaws.{plain_all, plain_whole, plain_stops}
 use Rattle.rb_script.proofs.laws.plain_output_is_the_answers.Goals as goal
 
 pub returns-clause-all : goal.returns-clause-all

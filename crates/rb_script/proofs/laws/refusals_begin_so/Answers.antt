@@ -1,4 +1,4 @@
-use Rattle.rb_script.proofs.RefusalLaws.{line_refuses}
+use Rattle.rb_script.proofs.endings.RefusalLaws.{line_refuses}
 use Rattle.rb_script.proofs.laws.refusals_begin_so.Goals as goal
 
 pub returns : goal.returns

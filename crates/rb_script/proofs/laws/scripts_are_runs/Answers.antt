@@ -1,5 +1,5 @@
 use Rattle.std.proofs.Common.{[]}
-use Rattle.rb_script.proofs.RunLaws.{runs_behind}
+use Rattle.rb_script.proofs.whole_scripts.RunLaws.{runs_behind}
 use Rattle.rb_script.proofs.laws.scripts_are_runs.Goals as goal
 
 pub returns : goal.returns

@@ -1,9 +1,9 @@
 use Rattle.std.proofs.Common.{◌-◌, arith, ◌∙◌}
 use Rattle.std.proofs.lemmas.Result.{err_from_is_err_and}
 use Rattle.rb_script.specs.Output.{place_at}
-use Rattle.rb_script.proofs.EndLaws.{end_begins, goes_on_by, goes_on_handed, ends_by_reader, ends_by_answers}
-use Rattle.rb_script.proofs.EndLaws.{cut_between, number_small, stop_within, stop_at_limit, stop_at_end, read_in_part}
-use Rattle.rb_script.proofs.EndLaws.{all_answered, overruns, cut_piece, length-front, length-back}
+use Rattle.rb_script.proofs.endings.EndLaws.{end_begins, goes_on_by, goes_on_handed, ends_by_reader, ends_by_answers}
+use Rattle.rb_script.proofs.endings.EndLaws.{cut_between, number_small, stop_within, stop_at_limit, stop_at_end, read_in_part}
+use Rattle.rb_script.proofs.endings.EndLaws.{all_answered, overruns, cut_piece, length-front, length-back}
 use Rattle.rb_script.proofs.script.answer_all.Goals as goal
 
 pub loop-init : goal.loop-init

@@ -1,6 +1,6 @@
 use Rattle.std.proofs.Common.{◌≡◌, ◌≤◌, length}
 use Rattle.rb_script.specs.Output.{place_at}
-use Rattle.rb_script.proofs.EndLaws.{EndProgress}
+use Rattle.rb_script.proofs.endings.EndLaws.{EndProgress}
 use Rattle.rb_script.proofs.script.answer_all.Given as goal
 
 -- each turn has read a byte at least, and no more than the limit

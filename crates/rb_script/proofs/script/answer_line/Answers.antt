@@ -5,7 +5,7 @@ use Rattle.rb_script.specs.Answering.{numbered_answer}
 use Rattle.rb_script.specs.Feeding.{line_at}
 use Rattle.rb_script.specs.Output.{place_at}
 use Rattle.rb_script.specs.Streams.{AppendsFront}
-use Rattle.rb_script.proofs.OutputLaws.{stops_writing_line}
+use Rattle.rb_script.proofs.endings.OutputLaws.{stops_writing_line}
 use Rattle.rb_script.proofs.script.answer_line.Goals as goal
 
 pub returns-in_err-write_answer-clause-err : goal.returns-in_err-write_answer-clause-err

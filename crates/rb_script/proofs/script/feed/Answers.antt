@@ -1,7 +1,7 @@
 use Rattle.std.proofs.Common.{arith}
 use Rattle.std.proofs.lemmas.Result.{err_from_is_err_and}
 use Rattle.rb_script.specs.Output.{place_at}
-use Rattle.rb_script.proofs.FedLaws.{fed_none, line_taken, byte_taken, line_stops, byte_stops, number_bounded}
+use Rattle.rb_script.proofs.whole_scripts.FedLaws.{fed_none, line_taken, byte_taken, line_stops, byte_stops, number_bounded}
 use Rattle.rb_script.proofs.script.feed.Goals as goal
 use Rattle.rb_script.proofs.script.feed.Goals.{then-byte-eq10+in_ok-place, else-byte-eq10+in_ok-lengthen}
 

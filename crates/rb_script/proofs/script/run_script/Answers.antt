@@ -1,5 +1,5 @@
 use Rattle.rb_script.specs.declared.fault.ScriptFault.TheVariants.{Refused}
-use Rattle.rb_script.proofs.EndLaws.{fault_kept, answered_kept, refused_unflushed}
+use Rattle.rb_script.proofs.endings.EndLaws.{fault_kept, answered_kept, refused_unflushed}
 use Rattle.rb_script.proofs.script.run_script.Goals as goal
 
 pub returns-in-Ok : goal.returns-in-Ok

@@ -1,5 +1,5 @@
 use Rattle.std.proofs.Common.{arith}
-use Rattle.rb_script.proofs.StreamLaws.{length-rest, writes_more, stops_writing, on_err}
+use Rattle.rb_script.proofs.endings.StreamLaws.{length-rest, writes_more, stops_writing, on_err}
 use Rattle.rb_script.proofs.streams.write_whole.Goals as goal
 
 pub returns-in_err-at-clause-err : goal.returns-in_err-at-clause-err

@@ -2,7 +2,7 @@ use Rattle.std.proofs.Common.{◌++◌, ◌∙◌, ap}
 use Rattle.std.proofs.lemmas.List.{nil_from_length}
 use Rattle.std.specs.Slice.Iter.{chunks_rest}
 use Rattle.hex.specs.Hex.{encode_lower}
-use Rattle.rb_script.proofs.HexTexts.{hex_ends, hex_goes_on}
+use Rattle.rb_script.proofs.spelled.HexTexts.{hex_ends, hex_goes_on}
 use Rattle.rb_script.proofs.texts.add_hex.Goals as goal
 
 pub loop-piece-init : goal.loop-piece-init

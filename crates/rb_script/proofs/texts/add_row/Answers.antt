@@ -1,7 +1,7 @@
 use Rattle.std.proofs.Common.{ap, ◌∙◌, ◌++◌}
 use Rattle.std.specs.List.{flat_map}
 use Rattle.rb_script.specs.Texts.{field_text}
-use Rattle.rb_script.proofs.RowTexts.{row_texts}
+use Rattle.rb_script.proofs.spelled.RowTexts.{row_texts}
 use Rattle.rb_script.proofs.texts.add_row.Goals as goal
 
 pub loop-value-init : goal.loop-value-init

@@ -1,5 +1,5 @@
 use Rattle.std.proofs.Common.{arith, sym, ◌∙◌}
-use Rattle.rb_script.proofs.Numbers.{too_large, numbers_fits}
+use Rattle.rb_script.proofs.spelled.Numbers.{too_large, numbers_fits}
 use Rattle.rb_script.proofs.words.value_of.Goals as goal
 
 pub returns-in_err-checked_mul : goal.returns-in_err-checked_mul

@@ -1,10 +1,10 @@
 use Rattle.std.proofs.Common.{◌≡◌, ◌≤◌, ◌<◌, IfOk, ◌∙◌, ◌∷◌, ◌++◌, [], take, sym, ap, subst, length, take_all}
 use Rattle.std.proofs.lemmas.List.{take_more, append-nil}
-use Rattle.cs_group.proofs.StepLaw.{flat_map_both}
+use Rattle.cs_group.proofs.one_more.StepLaw.{flat_map_both}
 use Rattle.cs_group.specs.Group.{group_of}
 use Rattle.cs_model.specs.Schema.{refusal_of}
 use Rattle.rb_subscriber.specs.Accept.{joined_bodies}
-use Rattle.rb_subscriber.proofs.ApplyLaws.{admitted_at}
+use Rattle.rb_subscriber.proofs.runs.ApplyLaws.{admitted_at}
 use Rattle.rb_subscriber.proofs.apply.combined.Goals as goal
 
 pub loop-index-init : goal.loop-index-init

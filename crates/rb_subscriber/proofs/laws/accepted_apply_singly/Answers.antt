@@ -1,4 +1,4 @@
-use Rattle.rb_subscriber.proofs.RunLaws.{tables_singly}
+use Rattle.rb_subscriber.proofs.runs.RunLaws.{tables_singly}
 use Rattle.rb_subscriber.proofs.laws.accepted_apply_singly.Goals as goal
 
 pub returns : goal.returns

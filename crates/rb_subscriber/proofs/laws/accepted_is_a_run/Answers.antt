@@ -1,4 +1,4 @@
-use Rattle.rb_subscriber.proofs.RunLaws.{brought_after, run_goes_on, run_stays}
+use Rattle.rb_subscriber.proofs.runs.RunLaws.{brought_after, run_goes_on, run_stays}
 use Rattle.rb_subscriber.proofs.laws.accepted_is_a_run.Goals as goal
 
 pub returns-clause-goes_on : goal.returns-clause-goes_on

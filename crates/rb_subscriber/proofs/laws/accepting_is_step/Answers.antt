@@ -1,4 +1,4 @@
-use Rattle.rb_subscriber.proofs.AcceptLaws.{accepted_steps, steps_accepted}
+use Rattle.rb_subscriber.proofs.accepting.AcceptLaws.{accepted_steps, steps_accepted}
 use Rattle.rb_subscriber.proofs.laws.accepting_is_step.Goals as goal
 
 pub returns : goal.returns

@@ -1,4 +1,4 @@
-use Rattle.rb_subscriber.proofs.ConflictLaws.{conflict_singly}
+use Rattle.rb_subscriber.proofs.runs.ConflictLaws.{conflict_singly}
 use Rattle.rb_subscriber.proofs.laws.conflicts_are_single.Goals as goal
 
 pub returns : goal.returns

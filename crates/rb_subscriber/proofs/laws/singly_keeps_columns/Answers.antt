@@ -1,4 +1,4 @@
-use Rattle.rb_subscriber.proofs.RunLaws.{singly_columns}
+use Rattle.rb_subscriber.proofs.runs.RunLaws.{singly_columns}
 use Rattle.rb_subscriber.proofs.laws.singly_keeps_columns.Goals as goal
 
 pub returns : goal.returns

@@ -4,7 +4,7 @@ use Rattle.std.proofs.lemmas.List.{length-append}
 use Rattle.cs_model.specs.Schema.{refusal_of}
 use Rattle.rb_sequence.specs.Entry.{Entry}
 use Rattle.rb_subscriber.specs.AcceptShown.{IsFirstOutside, outside_after}
-use Rattle.rb_subscriber.proofs.TokenLaws.{one_more_shown, outside_one}
+use Rattle.rb_subscriber.proofs.accepting.TokenLaws.{one_more_shown, outside_one}
 use Rattle.rb_subscriber.proofs.look.look.Goals as goal
 
 pub loop-past-preserved : goal.loop-past-preserved

@@ -1,7 +1,7 @@
 use Rattle.std.proofs.Common.{◌≡◌, ◌≤◌, ◌-◌, ◌+◌, suc, ◌∷◌, [], length, sym, ap, ◌∙◌, subst, arith, ℕ}
 use Rattle.std.proofs.lemmas.List.{length-append}
 use Rattle.rb_sequence.specs.Cells.{AreInCells}
-use Rattle.rb_subscriber.proofs.TokenLaws.{one_more_shown}
+use Rattle.rb_subscriber.proofs.accepting.TokenLaws.{one_more_shown}
 use Rattle.rb_subscriber.proofs.shown.fetch.Goals as goal
 
 pub loop-past-preserved : goal.loop-past-preserved

@@ -5,7 +5,7 @@ use Rattle.sqlite.specs.Held.{state}
 use Rattle.sqlite.proofs.StateLemmas.{survives_then}
 use Rattle.replica_store.specs.Changes.{AfterChanges}
 use Rattle.replica_store.specs.Inside.{ChangesRows}
-use Rattle.replica_store.proofs.ChangeLaws.{changed_by_one_more}
+use Rattle.replica_store.proofs.replicas.ChangeLaws.{changed_by_one_more}
 use Rattle.replica_store.proofs.commit.change_all.Goals as goal
 
 pub loop-change-preserved : goal.loop-change-preserved

@@ -1,7 +1,7 @@
 use Rattle.std.proofs.Common.{arith, rules}
 use Rattle.sqlite.specs.State.{HasCleanDisk}
 use Rattle.sqlite.specs.Held.{state}
-use Rattle.replica_store.proofs.ChangeLaws.{changed_to_none, changed_to_row}
+use Rattle.replica_store.proofs.replicas.ChangeLaws.{changed_to_none, changed_to_row}
 use Rattle.replica_store.proofs.commit.change_one.Goals as goal
 
 pub returns-in_ok-put_in-clause-changes : goal.returns-in_ok-put_in-clause-changes

@@ -1,7 +1,7 @@
 use Rattle.std.proofs.Common.{◌≡◌, pos, w64, to_z, of_z, to_z-of_z, arith, rules}
 use Rattle.sqlite.specs.State.{HasCleanDisk}
 use Rattle.sqlite.specs.Held.{state}
-use Rattle.replica_store.proofs.Puts.{puts_in_row}
+use Rattle.replica_store.proofs.statements.Puts.{puts_in_row}
 use Rattle.replica_store.proofs.commit.put_in.Goals as goal
 
 pub returns-clause-changes : goal.returns-clause-changes

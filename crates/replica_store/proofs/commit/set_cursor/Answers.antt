@@ -2,7 +2,7 @@ use Rattle.std.proofs.Common.{◌≡◌, pos, w64, to_z, arith}
 use Rattle.std.proofs.Math.Facts.{to_z_pos}
 use Rattle.sqlite.specs.State.{HasCleanDisk}
 use Rattle.sqlite.specs.Held.{state}
-use Rattle.replica_store.proofs.CursorLaws.{sets_the_cursor}
+use Rattle.replica_store.proofs.statements.CursorLaws.{sets_the_cursor}
 use Rattle.replica_store.proofs.commit.set_cursor.Goals as goal
 
 pub returns-clause-sets : goal.returns-clause-sets

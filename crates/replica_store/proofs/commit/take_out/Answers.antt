@@ -1,7 +1,7 @@
 use Rattle.std.proofs.Common.{◌≡◌, pos, w64, to_z, of_z, to_z-of_z, arith, rules}
 use Rattle.sqlite.specs.State.{HasCleanDisk}
 use Rattle.sqlite.specs.Held.{state}
-use Rattle.replica_store.proofs.Deletes.{takes_out_key}
+use Rattle.replica_store.proofs.statements.Deletes.{takes_out_key}
 use Rattle.replica_store.proofs.commit.take_out.Goals as goal
 
 pub returns-clause-changes : goal.returns-clause-changes

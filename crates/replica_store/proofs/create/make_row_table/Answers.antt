@@ -1,7 +1,7 @@
 use Rattle.std.proofs.Common.{arith}
 use Rattle.sqlite.specs.State.{HasCleanDisk}
 use Rattle.sqlite.specs.Held.{state}
-use Rattle.replica_store.proofs.CreateLaws.{row_table_made}
+use Rattle.replica_store.proofs.replicas.CreateLaws.{row_table_made}
 use Rattle.replica_store.proofs.create.make_row_table.Goals as goal
 
 pub returns-clause-made : goal.returns-clause-made

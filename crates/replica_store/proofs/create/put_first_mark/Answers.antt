@@ -1,7 +1,7 @@
 use Rattle.std.proofs.Common.{arith}
 use Rattle.sqlite.specs.State.{HasCleanDisk}
 use Rattle.sqlite.specs.Held.{state}
-use Rattle.replica_store.proofs.CreateLaws.{first_mark_put}
+use Rattle.replica_store.proofs.replicas.CreateLaws.{first_mark_put}
 use Rattle.replica_store.proofs.create.put_first_mark.Goals as goal
 
 pub returns-clause-made : goal.returns-clause-made

@@ -1,4 +1,4 @@
-use Rattle.par_apply.proofs.StageLaws.{held_placed}
+use Rattle.par_apply.proofs.commits.StageLaws.{held_placed}
 use Rattle.replica_store.proofs.load.place_row.Goals as goal
 
 pub set-requires-clause-there : goal.set-requires-clause-there

@@ -2,7 +2,7 @@ use Rattle.std.proofs.Common.{◌≡◌, ◌∙◌, sym, ap, Some, None, option_
 use Rattle.std.specs.FinMap as map
 use Rattle.std.proofs.lemmas.Bool.{true≢false}
 use Rattle.replica_store.specs.Changes.{row_body}
-use Rattle.replica_store.proofs.LoadLaws.{puts_new_row}
+use Rattle.replica_store.proofs.replicas.LoadLaws.{puts_new_row}
 use Rattle.replica_store.proofs.load.put_row.Goals as goal
 
 pub returns-then-not-are_same-clause-unusable : goal.returns-then-not-are_same-clause-unusable

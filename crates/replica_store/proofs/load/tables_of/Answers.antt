@@ -6,7 +6,7 @@ use Rattle.std.proofs.lemmas.List.{take_more, take-append-drop}
 use Rattle.sqlite_rules.proofs.ListLemmas.{has_front, has_last}
 use Rattle.replica_store.specs.Loading.{LoadsRows, ShownBodies, AddsShown}
 use Rattle.replica_store.specs.declared.error.ReplicaError.TheVariants.{Unusable}
-use Rattle.replica_store.proofs.LoadLaws.{loads_none, loads_one_more, never_rows}
+use Rattle.replica_store.proofs.replicas.LoadLaws.{loads_none, loads_one_more, never_rows}
 use Rattle.replica_store.proofs.load.tables_of.Goals as goal
 
 pub loop-shown-init : goal.loop-shown-init

@@ -2,7 +2,7 @@ use Rattle.std.proofs.Common.{arith, rules}
 use Rattle.sqlite.specs.State.{HasCleanDisk, IsUnchanged}
 use Rattle.sqlite.specs.Held.{state}
 use Rattle.replica_store.specs.Reading.{ListsRows, shown_row}
-use Rattle.replica_store.proofs.OpenLaws.{rows_are_records}
+use Rattle.replica_store.proofs.replicas.OpenLaws.{rows_are_records}
 use Rattle.replica_store.proofs.open.has_records.Goals as goal
 
 pub returns-in-Ok-clause-fits : goal.returns-in-Ok-clause-fits

@@ -1,7 +1,7 @@
 use Rattle.std.proofs.Common.{subst}
 use Rattle.sqlite_schema.specs.declared.schema.Schema.{Schema}
 use Rattle.sqlite_catalog.specs.Listing.{IsSound}
-use Rattle.replica_store.proofs.OpenLaws.{columns_are_there}
+use Rattle.replica_store.proofs.replicas.OpenLaws.{columns_are_there}
 use Rattle.replica_store.proofs.open.with_columns.Goals as goal
 
 pub returns-clause-columns : goal.returns-clause-columns

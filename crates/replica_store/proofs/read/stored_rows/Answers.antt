@@ -2,8 +2,8 @@ use Rattle.std.proofs.Common.{arith}
 use Rattle.std.proofs.lemmas.Result.{IfOk-weaker}
 use Rattle.sqlite.specs.State.{HasCleanDisk}
 use Rattle.sqlite.specs.Held.{state}
-use Rattle.replica_store.proofs.ReadLaws.{rows_listed, rows_plain, rows_query_text, shown_changes_nothing}
-use Rattle.replica_store.proofs.ReadLaws.{query_commits_nothing, on_ok_if}
+use Rattle.replica_store.proofs.replicas.ReadLaws.{rows_listed, rows_plain, rows_query_text, shown_changes_nothing}
+use Rattle.replica_store.proofs.replicas.ReadLaws.{query_commits_nothing, on_ok_if}
 use Rattle.replica_store.proofs.read.stored_rows.Goals as goal
 
 pub returns-clause-shows : goal.returns-clause-shows

@@ -1,4 +1,4 @@
-use Rattle.cs_model.proofs.Keys.{no_field_left, no_column_left}
+use Rattle.cs_model.proofs.lists.Keys.{no_field_left, no_column_left}
 use Rattle.replica_store.proofs.stored_row.key_of_values.Goals.{else-loop-flag-test, then-loop-flag-test+in_default}
 use Rattle.replica_store.proofs.stored_row.key_of_values.Goals as goal
 

@@ -5,7 +5,7 @@ use Rattle.cs_model.specs.KeyBytes.{key_bytes}
 use Rattle.cs_model.specs.Packed.{Fits}
 use Rattle.cs_model.specs.Row.{row_fields}
 use Rattle.replica_store.specs.Changes.{row_body}
-use Rattle.replica_store.proofs.BodyLaws.{one_row_of_body}
+use Rattle.replica_store.proofs.statements.BodyLaws.{one_row_of_body}
 use Rattle.replica_store.proofs.stored_row.keyed_row.Goals as goal
 
 pub returns-then-not-has_columns : goal.returns-then-not-has_columns

@@ -3,7 +3,7 @@ use Rattle.std.proofs.lemmas.Bool.{true≢false}
 use Rattle.cs_model.specs.Packed.{unpacked}
 use Rattle.cs_model.specs.Row.{values_of}
 use Rattle.replica_store.specs.Changes.{row_body}
-use Rattle.replica_store.proofs.BodyLaws.{body_says}
+use Rattle.replica_store.proofs.statements.BodyLaws.{body_says}
 use Rattle.replica_store.proofs.stored_row.row_of_body.Goals as goal
 
 pub returns-then-not-are_same : goal.returns-then-not-are_same

@@ -2,7 +2,7 @@ use Rattle.std.proofs.Common.{sym, subst, ◌∙◌}
 use Rattle.std.specs.Arc.{arc_value}
 use Rattle.cs_apply.specs.Columns.{RowsHaveColumns}
 use Rattle.cs_apply.specs.Steps.{rows_in, rows_of}
-use Rattle.cs_apply.proofs.Lengths.{apply_keeps, all_taken_back}
+use Rattle.cs_apply.proofs.rows_by_key.Lengths.{apply_keeps, all_taken_back}
 use Rattle.cs_apply.proofs.held.HeldTables.apply.Goals as goal
 
 pub invariant_of-self : goal.invariant_of-self

@@ -2,7 +2,7 @@ use Rattle.std.proofs.Common.{None, Some, is_some, not, sym, ap, subst, ◌∙�
 use Rattle.std.specs.Arc.{arc_value}
 use Rattle.cs_apply.specs.Columns.{RowsHaveColumns}
 use Rattle.cs_apply.specs.Held.{held_also, is_key_placed}
-use Rattle.cs_apply.proofs.PlaceLaws.{put_keeps_columns, hold_shown, hold_kept, placed_found, rows_differ}
+use Rattle.cs_apply.proofs.stored.PlaceLaws.{put_keeps_columns, hold_shown, hold_kept, placed_found, rows_differ}
 use Rattle.cs_apply.proofs.held.HeldTables.hold.Goals as goal
 
 pub returns-in-Some-clause-ok : goal.returns-in-Some-clause-ok

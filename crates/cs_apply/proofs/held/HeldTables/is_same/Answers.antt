@@ -5,7 +5,7 @@ use Rattle.std.specs.Cmp.Lexicographic.{pointwise}
 use Rattle.cs_model.specs.Schema.{same_shape}
 use Rattle.cs_apply.specs.State.{AreIn}
 use Rattle.cs_apply.specs.Steps.{rows_in}
-use Rattle.cs_apply.proofs.SameLaws.{decided_off, decided_on, kept_decided, schemas_decided, tables_decided}
+use Rattle.cs_apply.proofs.stored.SameLaws.{decided_off, decided_on, kept_decided, schemas_decided, tables_decided}
 use Rattle.cs_apply.proofs.held.HeldTables.is_same.Goals as goal
 use Rattle.cs_apply.proofs.held.HeldTables.is_same.Goals.{then-eq, else-eq, then-eq-2, else-eq-2}
 

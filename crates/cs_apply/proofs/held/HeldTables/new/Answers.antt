@@ -1,5 +1,5 @@
 use Rattle.std.specs.Arc.{arc_value}
-use Rattle.cs_apply.proofs.Lengths.{none_have}
+use Rattle.cs_apply.proofs.rows_by_key.Lengths.{none_have}
 use Rattle.cs_apply.proofs.held.HeldTables.new.Goals as goal
 
 pub invariant_of-result : goal.invariant_of-result

@@ -3,7 +3,7 @@ use Rattle.std.proofs.lemmas.Bool.{false≢true}
 use Rattle.std.specs.Arc.{arc_value}
 use Rattle.cs_apply.specs.Columns.{RowsHaveColumns}
 use Rattle.cs_apply.specs.Held.{with_row, KeyHasPlace, FitsKey}
-use Rattle.cs_apply.proofs.PlaceLaws.{put_keeps_columns, edit_shown, rows_differ, placed_found}
+use Rattle.cs_apply.proofs.stored.PlaceLaws.{put_keeps_columns, edit_shown, rows_differ, placed_found}
 use Rattle.cs_apply.proofs.held.HeldTables.set.Goals as goal
 
 pub returns-in_default : goal.returns-in_default

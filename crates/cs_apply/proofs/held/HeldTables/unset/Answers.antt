@@ -2,7 +2,7 @@ use Rattle.std.proofs.Common.{None, refl, sym, ap, subst, ◌∙◌}
 use Rattle.std.specs.Arc.{arc_value}
 use Rattle.cs_apply.specs.Columns.{RowsHaveColumns}
 use Rattle.cs_apply.specs.Held.{with_row}
-use Rattle.cs_apply.proofs.PlaceLaws.{put_keeps_columns, edit_shown, rows_differ}
+use Rattle.cs_apply.proofs.stored.PlaceLaws.{put_keeps_columns, edit_shown, rows_differ}
 use Rattle.cs_apply.proofs.held.HeldTables.unset.Goals as goal
 
 pub returns : goal.returns

@@ -2,8 +2,8 @@ use Rattle.std.proofs.Common.{◌≡◌, true, Some, is_some, refl, sym, ap, sub
 use Rattle.std.specs.Arc.{arc_value}
 use Rattle.cs_apply.specs.Columns.{RowsHaveColumns}
 use Rattle.cs_apply.specs.Held.{with_row, CanHoldRow, KeyHasPlace}
-use Rattle.cs_apply.proofs.PlaceLaws.{put_keeps_columns, ready_fits, rows_differ, shown_by}
-use Rattle.cs_apply.proofs.PlaceLaws.{write_nowhere, write_shown, write_there}
+use Rattle.cs_apply.proofs.stored.PlaceLaws.{put_keeps_columns, ready_fits, rows_differ, shown_by}
+use Rattle.cs_apply.proofs.stored.PlaceLaws.{write_nowhere, write_shown, write_there}
 use Rattle.cs_apply.proofs.held.HeldTables.write.Goals as goal
 
 pub returns-in_default-clause-state : goal.returns-in_default-clause-state

@@ -1,6 +1,6 @@
 use Rattle.std.proofs.Common.{rules}
 use Rattle.cs_apply.specs.Steps.{rows_in}
-use Rattle.cs_apply.proofs.SameLaws.{all_in, not_all_in, place_found, place_passed}
+use Rattle.cs_apply.proofs.stored.SameLaws.{all_in, not_all_in, place_found, place_passed}
 use Rattle.cs_apply.proofs.places.Places.are_in.Goals as goal
 use Rattle.cs_apply.proofs.places.Places.are_in.Goals.{in_default-via-in-None-1, in_default-via-in-Some-place+else-not-has}
 

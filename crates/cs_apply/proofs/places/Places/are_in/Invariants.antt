@@ -1,5 +1,5 @@
 use Rattle.cs_apply.specs.Steps.{rows_in}
-use Rattle.cs_apply.proofs.SameLaws.{IsLeft}
+use Rattle.cs_apply.proofs.stored.SameLaws.{IsLeft}
 use Rattle.cs_apply.proofs.places.Places.are_in.Given as goal
 
 -- the places that are left decide

@@ -7,9 +7,9 @@ use Rattle.cs_model.specs.declared.row_key.RowKey.{RowKey}
 use Rattle.cs_model.specs.declared.value.Value.{Value}
 use Rattle.cs_apply.specs.Seen.{listed}
 use Rattle.cs_apply.specs.Steps.{FilledPlaces, rows_of}
-use Rattle.cs_apply.proofs.Keys.{same_key}
-use Rattle.cs_apply.proofs.Filled.{filled_distinct}
-use Rattle.cs_apply.proofs.Copied.{copied_more, all_copied, listed_at, listed_long}
+use Rattle.cs_apply.proofs.rows_by_key.Keys.{same_key}
+use Rattle.cs_apply.proofs.stored.Filled.{filled_distinct}
+use Rattle.cs_apply.proofs.stored.Copied.{copied_more, all_copied, listed_at, listed_long}
 use Rattle.cs_apply.proofs.places.Places.copied.Goals as goal
 
 pub loop-pair-init : goal.loop-pair-init

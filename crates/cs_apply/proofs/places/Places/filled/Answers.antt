@@ -1,5 +1,5 @@
 use Rattle.std.specs.Map.Iter.{deref_pair}
-use Rattle.cs_apply.proofs.Filled.{filled_more, filled_same}
+use Rattle.cs_apply.proofs.stored.Filled.{filled_more, filled_same}
 use Rattle.cs_apply.proofs.places.Places.filled.Goals as goal
 
 pub loop-key-preserved : goal.loop-key-preserved

@@ -1,5 +1,5 @@
 use Rattle.std.proofs.Common.{Some, sym, ap, ◌∙◌}
-use Rattle.cs_apply.proofs.Filled.{row_in, get_row, found_place, no_place}
+use Rattle.cs_apply.proofs.stored.Filled.{row_in, get_row, found_place, no_place}
 use Rattle.cs_apply.proofs.places.Places.find.Goals as goal
 
 pub returns-in_err-place-clause-row : goal.returns-in_err-place-clause-row

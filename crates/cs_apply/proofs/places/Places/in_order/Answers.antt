@@ -3,9 +3,9 @@ use Rattle.std.proofs.Common.{rules}
 use Rattle.std.proofs.lemmas.List.Sorted.{ranks_by, answers_always}
 use Rattle.cs_model.specs.Key.{row_key_cmp}
 use Rattle.cs_apply.specs.Steps.{filled}
-use Rattle.cs_apply.proofs.Keys.{keys_total}
-use Rattle.cs_apply.proofs.Filled.{filled_distinct}
-use Rattle.cs_apply.proofs.Orders.{sorted_pairs}
+use Rattle.cs_apply.proofs.rows_by_key.Keys.{keys_total}
+use Rattle.cs_apply.proofs.stored.Filled.{filled_distinct}
+use Rattle.cs_apply.proofs.rows_by_key.Orders.{sorted_pairs}
 use Rattle.cs_apply.proofs.places.Places.in_order.Goals as goal
 
 pub returns : goal.returns

@@ -2,10 +2,10 @@ use Rattle.std.proofs.Common.{◌≡◌, ◌∷◌, ◌++◌, [], Some, None, sl
 use Rattle.std.specs.List.{position_or_len}
 use Rattle.std.specs.Map.{lookup, keys_of}
 use Rattle.indexmap.proofs.CallerLemmas.{insert_entry-new}
-use Rattle.cs_apply.proofs.Keys.{same_key}
-use Rattle.cs_apply.proofs.Filled.{put_new, put_again, put_taken, at_position, is_none}
+use Rattle.cs_apply.proofs.rows_by_key.Keys.{same_key}
+use Rattle.cs_apply.proofs.stored.Filled.{put_new, put_again, put_taken, at_position, is_none}
 use Rattle.cs_apply.specs.Steps.{rows_of, put}
-use Rattle.cs_apply.proofs.Log.{Back-push}
+use Rattle.cs_apply.proofs.stored.Log.{Back-push}
 use Rattle.cs_apply.proofs.places.Places.insert.Goals as goal
 
 pub returns-in-Vacant-clause-ok : goal.returns-in-Vacant-clause-ok

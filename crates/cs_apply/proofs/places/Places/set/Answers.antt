@@ -2,8 +2,8 @@ use Rattle.std.proofs.Common.{◌∷◌, ◌++◌, [], List, Option, refl, ap, s
 use Rattle.indexmap.specs.Layout.{set_value_at}
 use Rattle.cs_model.specs.declared.value.Value.{Value}
 use Rattle.cs_apply.specs.Steps.{rows_of}
-use Rattle.cs_apply.proofs.Filled.{value_at, set_rows}
-use Rattle.cs_apply.proofs.Log.{Back-write}
+use Rattle.cs_apply.proofs.stored.Filled.{value_at, set_rows}
+use Rattle.cs_apply.proofs.stored.Log.{Back-write}
 use Rattle.cs_apply.proofs.places.Places.set.Goals as goal
 
 pub returns-in-Some-clause-ok : goal.returns-in-Some-clause-ok

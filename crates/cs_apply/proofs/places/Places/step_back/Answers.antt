@@ -1,5 +1,5 @@
 use Rattle.std.proofs.Common.{sym}
-use Rattle.cs_apply.proofs.Log.{set_value, set_nothing}
+use Rattle.cs_apply.proofs.stored.Log.{set_value, set_nothing}
 use Rattle.cs_apply.proofs.places.Places.step_back.Goals as goal
 
 pub returns-in-Some-clause-rows : goal.returns-in-Some-clause-rows

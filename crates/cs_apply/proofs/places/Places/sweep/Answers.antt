@@ -2,7 +2,7 @@ use Rattle.std.proofs.Common.{rules, ap, ◌∙◌, is_some}
 use Rattle.std.specs.FinMap as map
 use Rattle.std.proofs.lemmas.Map.Made.{filter_same_pairs}
 use Rattle.cs_apply.specs.Steps.{filled}
-use Rattle.cs_apply.proofs.Filled.{filled-swept}
+use Rattle.cs_apply.proofs.stored.Filled.{filled-swept}
 use Rattle.cs_apply.proofs.places.Places.sweep.Goals as goal
 
 pub returns-then-self-len-clause-rows : goal.returns-then-self-len-clause-rows

@@ -1,6 +1,6 @@
 use Rattle.std.proofs.Common.{sym, ap, ◌∙◌}
 use Rattle.cs_apply.specs.Steps.{undone}
-use Rattle.cs_apply.proofs.Log.{undone-push}
+use Rattle.cs_apply.proofs.stored.Log.{undone-push}
 use Rattle.cs_apply.proofs.places.Places.take_back.Goals as goal
 
 pub loop-step-preserved : goal.loop-step-preserved

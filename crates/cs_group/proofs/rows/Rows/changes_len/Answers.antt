@@ -1,8 +1,8 @@
 use Rattle.std.proofs.Common.{◌∙◌, ◌+◌, ap, drop, refl, length, length-append}
 use Rattle.cs_model.specs.PackedChanges.{change_bytes}
-use Rattle.cs_write.proofs.Held.{held_begins, held_goes_on}
+use Rattle.cs_write.proofs.buffers.Held.{held_begins, held_goes_on}
 use Rattle.cs_group.specs.Slots.{slot_seen}
-use Rattle.cs_group.proofs.SlotBytes.{from_slot, slots_bytes, slot_bytes_some}
+use Rattle.cs_group.proofs.one_more.SlotBytes.{from_slot, slots_bytes, slot_bytes_some}
 use Rattle.cs_group.proofs.rows.Rows.changes_len.Goals as goal
 
 pub loop-slot-init : goal.loop-slot-init

@@ -1,6 +1,6 @@
 use Rattle.std.proofs.Common.{drop, length}
 use Rattle.cs_model.specs.PackedChanges.{changes_bytes}
-use Rattle.cs_write.proofs.Held.{HeldCounted}
+use Rattle.cs_write.proofs.buffers.Held.{HeldCounted}
 use Rattle.cs_group.specs.Table.{slot_changes, slots_seen}
 use Rattle.cs_group.proofs.rows.Rows.changes_len.Given as goal
 

@@ -4,8 +4,8 @@ use Rattle.std.specs.List.{AllByRecursion}
 use Rattle.cs_model.specs.declared.change.Change.{Change}
 use Rattle.cs_model.specs.Changeset.{all_changes}
 use Rattle.cs_group.specs.Table.{HoldSlots, HasColumnsOf, IsOfTable, row_place, slots_seen}
-use Rattle.cs_group.proofs.Lists.{all_of_front, all_of_back, all_held}
-use Rattle.cs_group.proofs.StepLaw.{flat_map_both}
+use Rattle.cs_group.proofs.all_tables.Lists.{all_of_front, all_of_back, all_held}
+use Rattle.cs_group.proofs.one_more.StepLaw.{flat_map_both}
 use Rattle.cs_group.proofs.rows.Rows.of.Goals as goal
 
 pub loop-section-preserved : goal.loop-section-preserved

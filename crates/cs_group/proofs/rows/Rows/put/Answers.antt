@@ -2,7 +2,7 @@ use Rattle.std.proofs.Common.{◌≡◌, ◌+◌, ◌≤◌, cond, [], length, a
 use Rattle.cs_model.specs.PackedChanges.{changes_bytes}
 use Rattle.cs_write.specs.Buffer.{laid}
 use Rattle.cs_write.specs.Text.{header_text, section_text}
-use Rattle.cs_write.proofs.Laying.{laid_none, two}
+use Rattle.cs_write.proofs.buffers.Laying.{laid_none, two}
 use Rattle.cs_group.specs.Text.{rows_seen, table_text}
 use Rattle.cs_group.proofs.rows.Rows.put.Goals as goal
 

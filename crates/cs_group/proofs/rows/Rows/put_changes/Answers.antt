@@ -1,7 +1,7 @@
 use Rattle.std.proofs.Common.{◌+◌, drop, arith}
 use Rattle.std.proofs.lemmas.Grind.{common_steps}
-use Rattle.cs_write.proofs.Laying.{laying_goes_on, laying_ends}
-use Rattle.cs_group.proofs.SlotBytes.{from_slot, slot_bytes_some}
+use Rattle.cs_write.proofs.buffers.Laying.{laying_goes_on, laying_ends}
+use Rattle.cs_group.proofs.one_more.SlotBytes.{from_slot, slot_bytes_some}
 use Rattle.cs_group.proofs.rows.Rows.put_changes.Goals as goal
 
 pub loop-slot-preserved : goal.loop-slot-preserved

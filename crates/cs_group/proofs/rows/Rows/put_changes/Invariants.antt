@@ -1,6 +1,6 @@
 use Rattle.std.proofs.Common.{drop}
 use Rattle.cs_model.specs.PackedChanges.{changes_bytes}
-use Rattle.cs_write.proofs.Laying.{LayingLaid}
+use Rattle.cs_write.proofs.buffers.Laying.{LayingLaid}
 use Rattle.cs_group.specs.Table.{slot_changes, slots_seen}
 use Rattle.cs_group.proofs.rows.Rows.put_changes.Given as goal
 

@@ -2,7 +2,7 @@ use Rattle.std.proofs.Common.{cond, [], length, sym, ap, ◌∙◌, arith, lengt
 use Rattle.cs_model.specs.PackedChanges.{changes_bytes}
 use Rattle.cs_write.specs.Lengths.{held}
 use Rattle.cs_write.specs.Text.{header_text, section_text}
-use Rattle.cs_write.proofs.Held.{held-small}
+use Rattle.cs_write.proofs.buffers.Held.{held-small}
 use Rattle.cs_group.specs.Text.{rows_seen}
 use Rattle.cs_group.proofs.rows.Rows.text_len.Goals as goal
 

@@ -3,7 +3,7 @@ use Rattle.std.proofs.lemmas.Grind.{common_steps}
 use Rattle.cs_model.specs.Packed.{packed}
 use Rattle.cs_model.specs.PackedChanges.{change_bytes}
 use Rattle.cs_group.specs.Slots.{slot_seen}
-use Rattle.cs_write.proofs.Laying.{LayingLaid, laying_goes_on, laying_ends}
+use Rattle.cs_write.proofs.buffers.Laying.{LayingLaid, laying_goes_on, laying_ends}
 use Rattle.cs_group.proofs.slot.Slot.put.Goals as goal
 
 pub returns-in-Merged-clause-bytes : goal.returns-in-Merged-clause-bytes

@@ -4,7 +4,7 @@ use Rattle.cs_model.specs.Seen.{fields_seen}
 use Rattle.cs_model.specs.PackedChanges.{change_bytes}
 use Rattle.cs_group.specs.Slots.{slot_seen}
 use Rattle.cs_write.specs.Lengths.{held}
-use Rattle.cs_write.proofs.Held.{held-small}
+use Rattle.cs_write.proofs.buffers.Held.{held-small}
 use Rattle.cs_group.proofs.slot.Slot.text_len.Goals as goal
 
 pub returns-in-Merged : goal.returns-in-Merged

@@ -3,7 +3,7 @@ use Rattle.std.proofs.lemmas.Result.{on_ok_weaker}
 use Rattle.cs_group.specs.Group.{changed_row}
 use Rattle.cs_group.specs.Merge.{two_changes}
 use Rattle.cs_group.specs.Table.{met_at, put_at, row_place, slots_seen}
-use Rattle.cs_group.proofs.Holding.{met_is, slots_met}
+use Rattle.cs_group.proofs.one_more.Holding.{met_is, slots_met}
 use Rattle.cs_group.proofs.table.Table.add.Goals as goal
 
 pub returns-in-Some-clause-ok : goal.returns-in-Some-clause-ok

@@ -3,7 +3,7 @@ use Rattle.std.specs.List.{AllByRecursion}
 use Rattle.cs_model.proofs.CallerLemmas.{all_append}
 use Rattle.cs_model.specs.declared.change.Change.{Change}
 use Rattle.cs_group.specs.Table.{HoldSlots, IsOfTable, row_place, slots_seen}
-use Rattle.cs_group.proofs.Lists.{all_of_front, all_of_back}
+use Rattle.cs_group.proofs.all_tables.Lists.{all_of_front, all_of_back}
 use Rattle.cs_group.proofs.table.Table.add_all.Goals as goal
 
 pub loop-change-preserved : goal.loop-change-preserved

@@ -6,7 +6,7 @@ use Rattle.cs_group.specs.Group.{changed_row}
 use Rattle.cs_group.specs.Merge.{only_change}
 use Rattle.cs_group.specs.Slots.{slot_seen}
 use Rattle.cs_group.specs.Table.{HoldSlots, met_at, row_place, slots_seen}
-use Rattle.cs_group.proofs.Holding.{begun, idle}
+use Rattle.cs_group.proofs.one_more.Holding.{begun, idle}
 use Rattle.cs_group.proofs.table.Table.begin.Goals as goal
 
 pub returns-in_default-clause-ok : goal.returns-in_default-clause-ok

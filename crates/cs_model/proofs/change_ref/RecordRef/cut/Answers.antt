@@ -1,5 +1,5 @@
 use Rattle.std.proofs.Common.{◌-◌, length, refl}
-use Rattle.cs_model.proofs.PartLaws.{cut_no_longer, is_cut_in_two}
+use Rattle.cs_model.proofs.packing.PartLaws.{cut_no_longer, is_cut_in_two}
 use Rattle.cs_model.proofs.change_ref.RecordRef.cut.Goals as goal
 
 pub overflow_sub-self-inside : goal.overflow_sub-self-inside

@@ -1,5 +1,5 @@
 use Rattle.std.proofs.Common.{length, ◌-◌, refl}
-use Rattle.cs_model.proofs.PartLaws.{part_between, part_front, part_no_longer}
+use Rattle.cs_model.proofs.packing.PartLaws.{part_between, part_front, part_no_longer}
 use Rattle.cs_model.proofs.change_ref.RecordRef.part.Goals as goal
 
 pub overflow_sub-rest : goal.overflow_sub-rest

@@ -1,7 +1,7 @@
 use Rattle.std.proofs.Common.{ℕ, List, ◌++◌, length, refl, ap, ◌∙◌, arith, length-append}
 use Rattle.cs_model.specs.declared.change.Change.{Change}
 use Rattle.cs_model.specs.PackedChanges.{unpacked_changes}
-use Rattle.cs_model.proofs.CountLaws.{no_more, list_appended}
+use Rattle.cs_model.proofs.packing.CountLaws.{no_more, list_appended}
 use Rattle.cs_model.proofs.changes.Changes.append_canonical.Goals as goal
 
 pub overflow_add-self : goal.overflow_add-self

@@ -1,5 +1,5 @@
 use Rattle.std.proofs.Common.{length, sym, ap}
-use Rattle.cs_model.proofs.PackedChangeLaws.{empty}
+use Rattle.cs_model.proofs.packing.PackedChangeLaws.{empty}
 use Rattle.cs_model.proofs.changes.Changes.new.Goals as goal
 
 pub invariant_of-result : goal.invariant_of-result

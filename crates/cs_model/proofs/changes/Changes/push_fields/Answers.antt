@@ -2,7 +2,7 @@ use Rattle.std.proofs.Common.{ℕ, List, ◌∷◌, ◌++◌, [], length, ap, �
 use Rattle.cs_model.specs.declared.change.Change.{Change}
 use Rattle.cs_model.specs.PackedChanges.{change_bytes, change_of}
 use Rattle.cs_model.specs.Seen.{fields_seen}
-use Rattle.cs_model.proofs.CountLaws.{no_more, list_pushed}
+use Rattle.cs_model.proofs.packing.CountLaws.{no_more, list_pushed}
 use Rattle.cs_model.proofs.changes.Changes.push_fields.Goals as goal
 
 pub overflow_add-self : goal.overflow_add-self

@@ -1,7 +1,7 @@
 use Rattle.std.proofs.Common.{subst, sym}
 use Rattle.cs_model.specs.declared.change.Change.{Change}
 use Rattle.cs_model.specs.PackedOne.{IsPacked}
-use Rattle.cs_model.proofs.PackedOne.{packed_change_back}
+use Rattle.cs_model.proofs.packing.PackedOne.{packed_change_back}
 use Rattle.cs_model.proofs.packed_change.PackedChange.of.Goals as goal
 
 pub invariant_of-result : goal.invariant_of-result

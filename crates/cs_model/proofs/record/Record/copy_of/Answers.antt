@@ -1,5 +1,5 @@
 use Rattle.std.proofs.Common.{◌∙◌}
-use Rattle.cs_model.proofs.PackedLaws.{packed_made}
+use Rattle.cs_model.proofs.packing.PackedLaws.{packed_made}
 use Rattle.cs_model.proofs.record.Record.copy_of.Goals as goal
 
 pub invariant_of-result : goal.invariant_of-result

@@ -1,4 +1,4 @@
-use Rattle.cs_model.proofs.PackedLaws.{packed_empty}
+use Rattle.cs_model.proofs.packing.PackedLaws.{packed_empty}
 use Rattle.cs_model.proofs.record.Record.new.Goals as goal
 
 pub invariant_of-result : goal.invariant_of-result

@@ -1,7 +1,7 @@
 use Rattle.std.proofs.Common.{List, ◌∷◌, ◌++◌, [], ap, ◌∙◌}
 use Rattle.cs_model.specs.declared.value.Field.{Field}
 use Rattle.cs_model.specs.Seen.{field_seen}
-use Rattle.cs_model.proofs.PackedLaws.{pushed}
+use Rattle.cs_model.proofs.packing.PackedLaws.{pushed}
 use Rattle.cs_model.proofs.record.Record.push.Goals as goal
 
 pub invariant_of-self-2 : goal.invariant_of-self-2

@@ -1,6 +1,6 @@
 use Rattle.std.proofs.Common.{ap, ◌∙◌}
 use Rattle.cs_model.specs.Packed.{unpacked}
-use Rattle.cs_model.proofs.RowLaws.{row_seen}
+use Rattle.cs_model.proofs.packing.RowLaws.{row_seen}
 use Rattle.cs_model.proofs.row.Row.fields.Goals as goal
 
 pub returns : goal.returns

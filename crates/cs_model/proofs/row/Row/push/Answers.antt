@@ -2,7 +2,7 @@ use Rattle.std.proofs.Common.{List, ◌∷◌, ◌++◌, [], sym, ap, ◌∙◌}
 use Rattle.cs_model.specs.declared.value.Value.{Value}
 use Rattle.cs_model.specs.Row.{values_of}
 use Rattle.cs_model.specs.Seen.{field_seen}
-use Rattle.cs_model.proofs.RowLaws.{row_pushed}
+use Rattle.cs_model.proofs.packing.RowLaws.{row_pushed}
 use Rattle.cs_model.proofs.row.Row.push.Goals as goal
 
 pub invariant_of-self-2 : goal.invariant_of-self-2

@@ -1,5 +1,5 @@
 use Rattle.std.proofs.Common.{[]}
-use Rattle.cs_model.proofs.RowLaws.{row_made}
+use Rattle.cs_model.proofs.packing.RowLaws.{row_made}
 use Rattle.cs_model.proofs.row.Row.with_capacity.Goals as goal
 
 pub invariant_of-result : goal.invariant_of-result

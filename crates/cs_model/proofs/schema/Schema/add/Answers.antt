@@ -1,5 +1,5 @@
 use Rattle.std.proofs.Common.{sym, ◌∙◌}
-use Rattle.cs_model.proofs.Tables.{IsSchema-push}
+use Rattle.cs_model.proofs.lists.Tables.{IsSchema-push}
 use Rattle.cs_model.proofs.schema.Schema.add.Goals as goal
 
 pub invariant_of-self-in-None : goal.invariant_of-self-in-None

@@ -1,6 +1,6 @@
 use Rattle.std.proofs.Common.{◌∙◌}
 use Rattle.std.proofs.lemmas.Bool.{false≢true}
-use Rattle.par_apply.proofs.SiftLaws.{sifts_changed, sifts_end}
+use Rattle.par_apply.proofs.shards.SiftLaws.{sifts_changed, sifts_end}
 use Rattle.par_apply.proofs.shard_rows.ShardRows.changes.Goals as goal
 
 pub loop-key-preserved : goal.loop-key-preserved

@@ -1,4 +1,4 @@
-use Rattle.par_apply.proofs.SiftLaws.{SiftsOn}
+use Rattle.par_apply.proofs.shards.SiftLaws.{SiftsOn}
 use Rattle.par_apply.proofs.shard_rows.ShardRows.changes.Given as goal
 
 -- what is left so far, and what the rest leaves, is what all leave

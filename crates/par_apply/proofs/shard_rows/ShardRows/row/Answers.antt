@@ -1,6 +1,6 @@
 use Rattle.std.proofs.Common.{sym, ap, ◌∙◌}
 use Rattle.std.specs.FinMap as map
-use Rattle.par_apply.proofs.GatheringLaws.{get_overlaid, row_over}
+use Rattle.par_apply.proofs.shards.GatheringLaws.{get_overlaid, row_over}
 use Rattle.par_apply.proofs.shard_rows.ShardRows.row.Goals as goal
 
 pub returns-in-Some : goal.returns-in-Some

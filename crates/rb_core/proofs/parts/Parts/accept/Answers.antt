@@ -4,7 +4,7 @@ use Rattle.std.proofs.lemmas.Option.{slice_get_read}
 use Rattle.rb_core.specs.contracts.parts.Parts.{the_view}
 use Rattle.rb_core.specs.Outcome.{delivery_of}
 use Rattle.rb_core.specs.State.{State, IsOf}
-use Rattle.rb_core.proofs.Written.{refused_as, done_as}
+use Rattle.rb_core.proofs.invariants.Written.{refused_as, done_as}
 use Rattle.rb_core.proofs.parts.Parts.accept.Goals as goal
 
 pub returns-in-Err-Refused-clause-ok : goal.returns-in-Err-Refused-clause-ok

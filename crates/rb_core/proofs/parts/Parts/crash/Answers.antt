@@ -4,7 +4,7 @@ use Rattle.std.proofs.lemmas.Option.{slice_get_read}
 use Rattle.rb_core.specs.contracts.parts.Parts.{the_view}
 use Rattle.rb_core.specs.Outcome.{delivery_of}
 use Rattle.rb_core.specs.State.{State, IsOf}
-use Rattle.rb_core.proofs.WrittenFalls.{crash_refused_as, crash_done_as}
+use Rattle.rb_core.proofs.invariants.WrittenFalls.{crash_refused_as, crash_done_as}
 use Rattle.rb_core.proofs.parts.Parts.crash.Goals as goal
 
 pub returns-in-Err-Refused-clause-ok : goal.returns-in-Err-Refused-clause-ok

@@ -2,7 +2,7 @@ use Rattle.std.proofs.Common.{◌≡◌, ◌∙◌, ◌==◌, find, ap, sym, ari
 use Rattle.rb_desk.specs.declared.delivery.Delivery.{Delivery}
 use Rattle.rb_core.specs.State.{State}
 use Rattle.rb_sequence.specs.Items.{AreNumbered}
-use Rattle.rb_core.proofs.Numbers.{none_below, found_by_place}
+use Rattle.rb_core.proofs.invariants.Numbers.{none_below, found_by_place}
 use Rattle.rb_core.proofs.parts.Parts.delivery.Goals as goal
 
 pub returns-in_err-place : goal.returns-in_err-place

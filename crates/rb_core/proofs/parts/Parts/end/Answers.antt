@@ -7,7 +7,7 @@ use Rattle.cs_parse.specs.End.{admitted_answer, left_by}
 use Rattle.cs_parse.specs.Progress.{answer_at_end}
 use Rattle.rb_core.specs.contracts.parts.Parts.{the_view}
 use Rattle.rb_core.specs.declared.publisher.Staged.{Staged}
-use Rattle.rb_core.proofs.Written.{none_staged, end_refused, end_staged}
+use Rattle.rb_core.proofs.invariants.Written.{none_staged, end_refused, end_staged}
 use Rattle.rb_core.proofs.parts.Parts.end.Goals as goal
 
 -- what was fed, as it is staged

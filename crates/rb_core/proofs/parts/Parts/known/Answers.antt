@@ -1,7 +1,7 @@
 use Rattle.std.proofs.Common.{◌==◌, sym, subst, ◌∙◌}
 use Rattle.std.specs.Prelude.{IfSome}
 use Rattle.rb_core.specs.State.{IsOf}
-use Rattle.rb_core.proofs.Written.{find_all}
+use Rattle.rb_core.proofs.invariants.Written.{find_all}
 use Rattle.rb_core.proofs.parts.Parts.known.Goals as goal
 
 pub returns-clause-of : goal.returns-clause-of

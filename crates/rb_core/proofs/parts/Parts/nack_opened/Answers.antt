@@ -2,7 +2,7 @@ use Rattle.std.proofs.Common.{◌∙◌, sym, subst}
 use Rattle.rb_core.specs.Memory.{MayRunOut}
 use Rattle.rb_core.specs.Outcome.{opened_for}
 use Rattle.rb_core.specs.declared.event.Event.TheVariants as event
-use Rattle.rb_core.proofs.RunCuts.{on_error}
+use Rattle.rb_core.proofs.whole_runs.RunCuts.{on_error}
 use Rattle.rb_core.proofs.parts.Parts.nack_opened.Goals as goal
 
 pub returns-clause-memory : goal.returns-clause-memory

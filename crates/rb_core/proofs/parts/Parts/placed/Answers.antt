@@ -2,8 +2,8 @@ use Rattle.std.proofs.Common.{◌≡◌, ◌∙◌, ◌==◌, find, ap, sym, ari
 use Rattle.rb_sequence.specs.Entry.{Entry}
 use Rattle.rb_core.specs.State.{State}
 use Rattle.rb_sequence.specs.Items.{AreNumbered}
-use Rattle.rb_core.proofs.Numbers.{none_below, found_by_place}
-use Rattle.rb_core.proofs.Worlds.{found_admitted}
+use Rattle.rb_core.proofs.invariants.Numbers.{none_below, found_by_place}
+use Rattle.rb_core.proofs.invariants.Worlds.{found_admitted}
 use Rattle.rb_core.proofs.parts.Parts.placed.Goals as goal
 
 pub returns-in_err-place-clause-entry : goal.returns-in_err-place-clause-entry

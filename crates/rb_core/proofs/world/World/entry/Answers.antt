@@ -3,7 +3,7 @@ use Rattle.rb_sequence.specs.Entry.{Entry}
 use Rattle.rb_core.specs.State.{State}
 use Rattle.rb_sequence.specs.Items.{AreNumbered}
 use Rattle.rb_core.specs.declared.world.World.TheInside.{Inside}
-use Rattle.rb_core.proofs.Numbers.{none_below, found_by_place}
+use Rattle.rb_core.proofs.invariants.Numbers.{none_below, found_by_place}
 use Rattle.rb_core.proofs.world.World.entry.Goals as goal
 
 pub returns-in_err-place : goal.returns-in_err-place

@@ -1,4 +1,4 @@
-use Rattle.rb_core.proofs.RunLaws.{Stepped-from, stepped_keeps}
+use Rattle.rb_core.proofs.whole_runs.RunLaws.{Stepped-from, stepped_keeps}
 use Rattle.rb_core.proofs.world.World.serve.Goals as goal
 
 pub invariant_of-self : goal.invariant_of-self

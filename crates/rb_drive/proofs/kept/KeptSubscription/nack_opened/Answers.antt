@@ -1,7 +1,7 @@
 use Rattle.std.proofs.Common.{IfSome}
 use Rattle.sqlite.specs.Held.{state}
 use Rattle.rb_drive.specs.Kept.{KeepsSubscription}
-use Rattle.rb_drive.proofs.KeptLaws.{kept_by_call}
+use Rattle.rb_drive.proofs.outcomes.KeptLaws.{kept_by_call}
 use Rattle.rb_drive.proofs.kept.KeptSubscription.nack_opened.Goals as goal
 
 -- only the steps are counted

@@ -1,5 +1,5 @@
 use Rattle.std.proofs.Common.{◌<◌, ap, arith, length, rules, ◌∙◌}
-use Rattle.rb_drive.proofs.PublishedLaws.{HasDoneLines, line_is_faulty, line_is_sent}
+use Rattle.rb_drive.proofs.outcomes.PublishedLaws.{HasDoneLines, line_is_faulty, line_is_sent}
 use Rattle.rb_drive.proofs.publishing.Publishing.publish_next.Goals.{in-Ok+else-not-send, in-Err+in_ok-push-in-Err}
 use Rattle.rb_drive.proofs.publishing.Publishing.publish_next.Goals as goal
 

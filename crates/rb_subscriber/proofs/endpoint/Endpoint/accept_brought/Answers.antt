@@ -1,5 +1,5 @@
-use Rattle.rb_subscriber.proofs.ConflictLaws.{conflict_answers}
-use Rattle.rb_subscriber.proofs.RunLaws.{singly_answers}
+use Rattle.rb_subscriber.proofs.runs.ConflictLaws.{conflict_answers}
+use Rattle.rb_subscriber.proofs.runs.RunLaws.{singly_answers}
 use Rattle.rb_subscriber.proofs.endpoint.Endpoint.accept_brought.Goals as goal
 
 pub returns-clause-singly : goal.returns-clause-singly

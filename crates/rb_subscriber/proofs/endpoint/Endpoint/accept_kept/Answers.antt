@@ -1,4 +1,4 @@
-use Rattle.rb_subscriber.proofs.KeptLaws.{kept_conflicts, kept_singly, pending_singly}
+use Rattle.rb_subscriber.proofs.accepting.KeptLaws.{kept_conflicts, kept_singly, pending_singly}
 use Rattle.rb_subscriber.proofs.endpoint.Endpoint.accept_kept.Goals as goal
 
 pub returns-clause-singly : goal.returns-clause-singly

@@ -6,8 +6,8 @@ use Rattle.par_apply.specs.Durable.{changed_tables}
 use Rattle.par_apply.specs.Planned.{planned_changes}
 use Rattle.rb_subscriber.specs.Accept.{first_outside_entry, joined_bodies}
 use Rattle.rb_subscriber.specs.Endpoint.{Endpoint}
-use Rattle.rb_subscriber.proofs.AcceptLaws.{none_is_due}
-use Rattle.rb_subscriber.proofs.KeptLaws.{asked, committed_answers}
+use Rattle.rb_subscriber.proofs.accepting.AcceptLaws.{none_is_due}
+use Rattle.rb_subscriber.proofs.accepting.KeptLaws.{asked, committed_answers}
 use Rattle.rb_subscriber.proofs.endpoint.Endpoint.keep_next.Goals as goal
 
 pub commit_kept-requires-clause-kept : goal.commit_kept-requires-clause-kept

@@ -7,9 +7,9 @@ use Rattle.rb_subscriber.specs.Endpoint.{Endpoint}
 use Rattle.rb_subscriber.specs.Shown.{AreTokens, ShowDelivery, entries_told}
 use Rattle.rb_subscriber.specs.Subscription.{SubscriptionState}
 use Rattle.rb_subscriber.specs.declared.refusal.SubscriptionError.{SubscriptionError}
-use Rattle.rb_subscriber.proofs.FallLaws.{if_none}
-use Rattle.rb_subscriber.proofs.ShownLaws.{due_ok, looked_result, state_of, was_accepted}
-use Rattle.rb_subscriber.proofs.TokenLaws.{tokens_by_place}
+use Rattle.rb_subscriber.proofs.accepting.FallLaws.{if_none}
+use Rattle.rb_subscriber.proofs.accepting.ShownLaws.{due_ok, looked_result, state_of, was_accepted}
+use Rattle.rb_subscriber.proofs.accepting.TokenLaws.{tokens_by_place}
 use Rattle.rb_subscriber.proofs.subscription.Subscription.accept_due.Goals as goal
 
 pub returns-in_err-shown-clause-answers : goal.returns-in_err-shown-clause-answers

@@ -1,7 +1,7 @@
 use Rattle.std.proofs.Common.{ap, ◌∙◌}
 use Rattle.rb_subscriber.specs.Lost.{pending_tokens, gone_on}
 use Rattle.rb_subscriber.specs.Subscription.{SubscriptionState}
-use Rattle.rb_subscriber.proofs.LostLaws.{goes_on_holds, goes_on_with, resumed_is}
+use Rattle.rb_subscriber.proofs.accepting.LostLaws.{goes_on_holds, goes_on_with, resumed_is}
 use Rattle.rb_subscriber.proofs.subscription.Subscription.goes_on.Goals as goal
 
 pub invariant_of-result : goal.invariant_of-result

@@ -11,9 +11,9 @@ use Rattle.rb_subscriber.specs.Shown.{AreTokens, ShowDelivery, entries_told}
 use Rattle.rb_subscriber.specs.Subscription.{SubscriptionState, cursor_of}
 use Rattle.rb_subscriber.specs.declared.keeping.KeepError.{KeepError}
 use Rattle.rb_subscriber.specs.declared.refusal.SubscriptionError.{SubscriptionError}
-use Rattle.rb_subscriber.proofs.FallLaws.{due_kept, fell_holds, if_none, it_falls, last_shown, pending_over, refused_kept}
-use Rattle.rb_subscriber.proofs.ShownLaws.{due_ok, looked_result, state_of, was_accepted}
-use Rattle.rb_subscriber.proofs.TokenLaws.{tokens_by_place}
+use Rattle.rb_subscriber.proofs.accepting.FallLaws.{due_kept, fell_holds, if_none, it_falls, last_shown, pending_over, refused_kept}
+use Rattle.rb_subscriber.proofs.accepting.ShownLaws.{due_ok, looked_result, state_of, was_accepted}
+use Rattle.rb_subscriber.proofs.accepting.TokenLaws.{tokens_by_place}
 use Rattle.rb_subscriber.proofs.subscription.Subscription.keep_due.Goals as goal
 
 pub returns-in_err-shown-clause-answers : goal.returns-in_err-shown-clause-answers

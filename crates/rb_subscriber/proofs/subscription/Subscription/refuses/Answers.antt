@@ -1,7 +1,7 @@
 use Rattle.std.proofs.Common.{◌≡◌, Option, None, ap, subst}
 use Rattle.std.specs.Prelude.{IfNone}
 use Rattle.rb_subscriber.specs.Subscription.{PendingAccept, SubscriptionState}
-use Rattle.rb_subscriber.proofs.FallLaws.{refuses_none}
+use Rattle.rb_subscriber.proofs.accepting.FallLaws.{refuses_none}
 use Rattle.rb_subscriber.proofs.subscription.Subscription.refuses.Goals as goal
 
 pub returns-clause-none : goal.returns-clause-none

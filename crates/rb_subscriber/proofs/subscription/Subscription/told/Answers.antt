@@ -1,6 +1,6 @@
 use Rattle.std.proofs.Common.{suc, List, subst, sym, arith}
 use Rattle.rb_sequence.specs.Cells.{AreInCells, CellToken}
-use Rattle.rb_subscriber.proofs.TokenLaws.{lent_token}
+use Rattle.rb_subscriber.proofs.accepting.TokenLaws.{lent_token}
 use Rattle.rb_subscriber.proofs.subscription.Subscription.told.Goals as goal
 
 pub returns-clause-shown : goal.returns-clause-shown

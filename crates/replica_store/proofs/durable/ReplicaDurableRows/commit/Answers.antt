@@ -2,7 +2,7 @@ use Rattle.std.proofs.Common.{arith}
 use Rattle.sqlite.specs.State.{HasCleanDisk}
 use Rattle.sqlite.specs.Held.{state}
 use Rattle.par_apply.specs.RowChanges.{overlaid}
-use Rattle.replica_store.proofs.DurableLaws.{if_clean, committed_rows_stand, commit_has_rows, crash_has_rows}
+use Rattle.replica_store.proofs.replicas.DurableLaws.{if_clean, committed_rows_stand, commit_has_rows, crash_has_rows}
 use Rattle.replica_store.proofs.durable.ReplicaDurableRows.commit.Goals as goal
 
 pub returns-clause-ok : goal.returns-clause-ok

@@ -3,7 +3,7 @@ use Rattle.std.specs.FinMap as map
 use Rattle.sqlite.specs.Held.{state}
 use Rattle.sqlite.specs.Tree.{Trees}
 use Rattle.replica_store.specs.Picture.{HoldsReplica, IsNewReplica}
-use Rattle.replica_store.proofs.DurableLaws.{committed_rows_stand, new_has_no_rows}
+use Rattle.replica_store.proofs.replicas.DurableLaws.{committed_rows_stand, new_has_no_rows}
 use Rattle.replica_store.proofs.replica.Replica.create.Goals as goal
 
 pub returns-in-Ok-clause-keeps : goal.returns-in-Ok-clause-keeps

@@ -3,7 +3,7 @@ use Rattle.sqlite.specs.Effect.{Database}
 use Rattle.sqlite.specs.State.{HasCleanDisk}
 use Rattle.sqlite.specs.Held.{state}
 use Rattle.replica_store.specs.Reading.{ListsRows, shown_mark}
-use Rattle.replica_store.proofs.OpenLaws.{mark_shown, cursor_read}
+use Rattle.replica_store.proofs.replicas.OpenLaws.{mark_shown, cursor_read}
 use Rattle.replica_store.proofs.replica.Replica.cursor.Goals as goal
 
 pub returns-in-Some-clause-stored : goal.returns-in-Some-clause-stored

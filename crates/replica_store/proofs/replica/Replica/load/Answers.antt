@@ -2,7 +2,7 @@ use Rattle.std.proofs.Common.{arith}
 use Rattle.sqlite.specs.State.{HasCleanDisk}
 use Rattle.sqlite.specs.Held.{state}
 use Rattle.replica_store.specs.Picture.{HoldsReplica}
-use Rattle.replica_store.proofs.DurableLaws.{committed_rows_stand, read_has_rows}
+use Rattle.replica_store.proofs.replicas.DurableLaws.{committed_rows_stand, read_has_rows}
 use Rattle.replica_store.proofs.replica.Replica.load.Goals as goal
 
 pub returns-clause-keeps : goal.returns-clause-keeps

@@ -7,7 +7,7 @@ use Rattle.sqlite.specs.Held.{state}
 use Rattle.replica_store.specs.Loading.{AllShow, ShownBodies}
 use Rattle.replica_store.specs.Picture.{Stores}
 use Rattle.replica_store.specs.Reading.{ListsRows, shown_row}
-use Rattle.replica_store.proofs.ShownLaws.{all_show, shown_is_stored, loads_same_rows, same_schema_rows}
+use Rattle.replica_store.proofs.replicas.ShownLaws.{all_show, shown_is_stored, loads_same_rows, same_schema_rows}
 use Rattle.replica_store.proofs.replica.Replica.tables.Goals as goal
 
 pub returns-in-Ok-clause-rows : goal.returns-in-Ok-clause-rows

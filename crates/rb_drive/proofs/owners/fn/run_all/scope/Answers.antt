@@ -2,7 +2,7 @@ use Rattle.std.proofs.Common.{◌≡◌, [], ap, map, not, rules, sym, ◌∙◌
 use Rattle.std.proofs.lemmas.List.{nil_from_length}
 use Rattle.std.specs.Vec.Iter.{into_iter_items}
 use Rattle.rb_drive.specs.Owners.{beginning_of, publisher_lines}
-use Rattle.rb_drive.proofs.ListLaws.{all_moved, moved_on, pushed_one}
+use Rattle.rb_drive.proofs.inputs.ListLaws.{all_moved, moved_on, pushed_one}
 use Rattle.rb_drive.proofs.owners.fn.run_all.scope.Goals as goal
 
 pub loop-sender-preserved : goal.loop-sender-preserved

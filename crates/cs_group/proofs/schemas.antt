@@ -1,0 +1,3 @@
+-- Tables known by name, and sections that one schema admits.
+pub mod Knowing
+pub mod Admitting

@@ -1,6 +1,0 @@
-use Rattle.cs_write.specs.Seen.{seen}
-use Rattle.cs_invert.proofs.ByShape.{GroupsSoFar}
-use Rattle.cs_invert.proofs.text.groups_of.Given as goal
-
-abbrev pub invariant-loop-section : goal.invariant-loop-section
-invariant-loop-section l = GroupsSoFar (seen l.groups.entries) l.section-iterator l.fn.changeset

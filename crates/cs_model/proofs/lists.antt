@@ -1,0 +1,4 @@
+-- Lists of tables, keys and fronts.
+pub mod Tables
+pub mod Keys
+pub mod Fronts

@@ -1,0 +1,4 @@
+-- The canonical form is a changeset: sections grouped by their shapes.
+pub mod Shapes
+pub mod GroupLaws
+pub mod FormLaws

@@ -1,8 +1,0 @@
-use Rattle.std.proofs.Common.{◌≡◌, ◌++◌, drop}
-use Rattle.cs_model.specs.Changeset.{all_changes}
-use Rattle.cs_model.specs.PackedChanges.{changes_bytes}
-use Rattle.cs_write.proofs.text.push_sections.Given as goal
-
-abbrev pub invariant-loop-section : goal.invariant-loop-section
-invariant-loop-section l = l.out.items ++ changes_bytes (all_changes (drop l.section-index l.sections))
-    ≡ l.initial.out.items ++ changes_bytes (all_changes l.sections)

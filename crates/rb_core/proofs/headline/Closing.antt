@@ -1,0 +1,138 @@
+-- Nothing is placed once the sequence is closed, and a closed subscription accepts nothing more.
+use Rattle.std.proofs.Common.{◌≡◌, ℕ, true, inl, inr, List, Option, Some, None, refl, sym}
+use Rattle.std.proofs.Common.{subst, ◌∙◌}
+use Rattle.std.specs.Prelude.{slice_get, slice_set}
+use Rattle.std.proofs.lemmas.Bool.Decides.{eqb_tells}
+use Rattle.cs_apply.specs.State as tables
+use Rattle.rb_desk.proofs.pictures.PictureLaws.{get_set, get_set_other}
+use Rattle.rb_sequence.specs.Entry.{Entry}
+use Rattle.rb_core.specs.World.{Subscriber, World}
+use Rattle.rb_core.specs.Moves.{Leads, StaysClosed}
+use Rattle.rb_core.proofs.headline.Moving.{get_push, MovingKeeps, crash_leaves, kept_through}
+
+-- ---- the sequence
+
+record IsClosed (last : ℕ) (sequence : List Entry) (world : World) : Type 0 where
+  closed : world.closing ≡ Some last
+  same : world.sequence ≡ sequence
+
+not_open : (last : ℕ) (o : Option ℕ) → o ≡ Some last → o ≡ None → ⊥
+not_open last o some none = absurd (cc (sym some ∙ none))
+
+closed_kept : (last : ℕ) (sequence : List Entry) → MovingKeeps (IsClosed last sequence)
+closed_kept last sequence = record {
+  adds_publisher = λ old new move h. subst (IsClosed last sequence) (sym move)
+      (record { closed = h.closed; same = h.same });
+  streams = λ old new move h. subst (IsClosed last sequence) (sym move.kept)
+      (record { closed = h.closed; same = h.same });
+  sends = λ old new move h. subst (IsClosed last sequence) (sym move.kept)
+      (record { closed = h.closed; same = h.same });
+  pulls = λ old new move h. subst (IsClosed last sequence) (sym move.kept)
+      (record { closed = h.closed; same = h.same });
+  places = λ old new move h. absurd (not_open last old.closing h.closed move.not_closed);
+  closes = λ old new move h. absurd (not_open last old.closing h.closed move.not_closed);
+  subscribes = λ old new move h. subst (IsClosed last sequence) (sym move.kept)
+      (record { closed = h.closed; same = h.same });
+  delivers = λ old new move h. subst (IsClosed last sequence) (sym move.kept)
+      (record { closed = h.closed; same = h.same });
+  accepts = λ old new move h. subst (IsClosed last sequence) (sym move.kept)
+      (record { closed = h.closed; same = h.same });
+  reconnects = λ old new move h. subst (IsClosed last sequence) (sym move.kept)
+      (record { closed = h.closed; same = h.same });
+  unsubscribes = λ old new move h. subst (IsClosed last sequence) (sym move.kept)
+      (record { closed = h.closed; same = h.same });
+  withdraws = λ old new move h. subst (IsClosed last sequence) (sym move.kept)
+      (record { closed = h.closed; same = h.same });
+  crashes = λ old new move h. crash_leaves (IsClosed last sequence) old new move
+      (record { closed = h.closed; same = h.same }) (record { closed = h.closed; same = h.same });
+  resumes = λ old new move h. subst (IsClosed last sequence) (sym move.kept)
+      (record { closed = h.closed; same = h.same });
+}
+
+pub nothing_placed : (old : World) (mids : List World) (new : World) (last : ℕ) → old.closing ≡ Some last
+    → Leads old mids new → (new.closing ≡ Some last) × (new.sequence ≡ old.sequence)
+nothing_placed old mids new last closed leads =
+    let h = kept_through (IsClosed last old.sequence) (closed_kept last old.sequence) old mids new leads
+    (record { closed = closed; same = refl }) in
+    (h.closed, h.same)
+
+-- ---- a subscription
+
+-- one that is closed, and has these entries and tables
+record HasLeft (accepted : List Entry) (rows : tables.TableState) (q : Subscriber) : Type 0 where
+  closed : q.closed ≡ true
+  accepted_same : q.accepted ≡ accepted
+  tables_same : q.tables ≡ rows
+
+abbrev Left : ℕ → List Entry → tables.TableState → World → Type 0
+Left s accepted rows world = (q : Subscriber) × (slice_get world.subscribers s ≡ Some q) × HasLeft accepted rows q
+
+-- one subscription becomes another, and stays closed where it is closed
+becomes : (s : ℕ) (accepted : List Entry) (rows : tables.TableState) (subs : List Subscriber) (at : ℕ)
+    (q r : Subscriber) → slice_get subs at ≡ Some q → (HasLeft accepted rows q → HasLeft accepted rows r)
+    → (x : Subscriber) → slice_get subs s ≡ Some x → HasLeft accepted rows x → (y : Subscriber)
+    × (slice_get (slice_set subs at r) s ≡ Some y) × HasLeft accepted rows y
+becomes s accepted rows subs at q r found stays x here left =
+    elim (eqb_tells at s) as (λ w. (y : Subscriber) × (slice_get (slice_set subs at r) s ≡ Some y)
+    × HasLeft accepted rows y) [
+      | inl is ↦
+          let found_here : slice_get subs s ≡ Some q = subst (λ n. slice_get subs n ≡ Some q) is.1 found in
+          let same : x ≡ q = cc (sym here ∙ found_here) in (
+            r,
+            subst (λ n. slice_get (slice_set subs at r) n ≡ Some r) is.1 (get_set subs at q r found),
+            stays (subst (HasLeft accepted rows) same left),
+          )
+      | inr other ↦ (x, get_set_other subs at s r (λ e. other.1 (sym e)) ∙ here, left)
+    ]
+
+left_kept : (s : ℕ) (accepted : List Entry) (rows : tables.TableState) → MovingKeeps (Left s accepted rows)
+left_kept s accepted rows = record {
+  adds_publisher = λ old new move h. subst (Left s accepted rows) (sym move) (h.0, h.1, h.2);
+  streams = λ old new move h. subst (Left s accepted rows) (sym move.kept) (h.0, h.1, h.2);
+  sends = λ old new move h. subst (Left s accepted rows) (sym move.kept) (h.0, h.1, h.2);
+  pulls = λ old new move h. subst (Left s accepted rows) (sym move.kept) (h.0, h.1, h.2);
+  places = λ old new move h. subst (Left s accepted rows) (sym move.kept) (h.0, h.1, h.2);
+  closes = λ old new move h. subst (Left s accepted rows) (sym move.kept) (h.0, h.1, h.2);
+  subscribes = λ old new move h. subst (Left s accepted rows) (sym move.kept)
+      (h.0, get_push old.subscribers _ h.0 s h.1, h.2);
+  delivers = λ old new move h.
+      subst (Left s accepted rows) (sym move.kept)
+      (becomes s accepted rows old.subscribers move.s move.subscriber _ move.found
+      (λ left. record { closed = left.closed; accepted_same = left.accepted_same; tables_same = left.tables_same })
+      h.0 h.1 h.2);
+  accepts = λ old new move h.
+      subst (Left s accepted rows) (sym move.kept)
+      (becomes s accepted rows old.subscribers move.s move.subscriber _ move.found
+      (λ left. absurd (cc (sym left.closed ∙ move.accepts.not_closed))) h.0 h.1 h.2);
+  reconnects = λ old new move h.
+      subst (Left s accepted rows) (sym move.kept)
+      (becomes s accepted rows old.subscribers move.s move.subscriber _ move.found
+      (λ left. record { closed = left.closed; accepted_same = left.accepted_same; tables_same = left.tables_same })
+      h.0 h.1 h.2);
+  unsubscribes = λ old new move h.
+      subst (Left s accepted rows) (sym move.kept)
+      (becomes s accepted rows old.subscribers move.s move.subscriber _ move.found
+      (λ left. record { closed = refl; accepted_same = left.accepted_same; tables_same = left.tables_same }) h.0 h.1
+      h.2);
+  withdraws = λ old new move h. subst (Left s accepted rows) (sym move.kept) (h.0, h.1, h.2);
+  crashes = λ old new move h.
+      crash_leaves (Left s accepted rows) old new move
+      (becomes s accepted rows old.subscribers move.s move.subscriber _ move.found
+      (λ left. record { closed = left.closed; accepted_same = left.accepted_same; tables_same = left.tables_same })
+      h.0 h.1 h.2)
+      (becomes s accepted rows old.subscribers move.s move.subscriber _ move.found
+      (λ left. absurd (cc (sym left.closed ∙ move.would_accept.not_closed))) h.0 h.1 h.2);
+  resumes = λ old new move h.
+      subst (Left s accepted rows) (sym move.kept)
+      (becomes s accepted rows old.subscribers move.s move.subscriber _ move.found
+      (λ left. record { closed = left.closed; accepted_same = left.accepted_same; tables_same = left.tables_same })
+      h.0 h.1 h.2);
+}
+
+pub nothing_accepted : (old : World) (mids : List World) (new : World) (s : ℕ) (q : Subscriber)
+    → slice_get old.subscribers s ≡ Some q → q.closed ≡ true → Leads old mids new
+    → (r : Subscriber) × (slice_get new.subscribers s ≡ Some r) × StaysClosed q r
+nothing_accepted old mids new s q found closed leads =
+    let h = kept_through (Left s q.accepted q.tables) (left_kept s q.accepted q.tables) old mids new leads
+    (q, found, record { closed = closed; accepted_same = refl; tables_same = refl }) in
+    (h.0, h.1, record { closed = h.2.closed; accepted = h.2.accepted_same; tables = h.2.tables_same })

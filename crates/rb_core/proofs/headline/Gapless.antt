@@ -1,0 +1,186 @@
+-- A subscription has accepted one contiguous run of the sequence after its start.
+use Rattle.std.proofs.Common.{◌≡◌, ℕ, suc, ◌+◌, ◌-◌, ◌≤◌, true, false, List, [], ◌∷◌, ◌++◌, length}
+use Rattle.std.proofs.Common.{drop, Some, refl, sym, ap, subst, ◌∙◌, arith}
+use Rattle.std.specs.Prelude.{slice_get}
+use Rattle.std.specs.List.{AllByRecursion}
+use Rattle.std.proofs.lemmas.List.{length-take, length-drop, length-append}
+use Rattle.cs_model.proofs.CallerLemmas.{all_push}
+use Rattle.rb_desk.specs.declared.delivery.Delivery.{Delivery}
+use Rattle.rb_sequence.specs.Entry.{Entry}
+use Rattle.rb_subscriber.proofs.runs.RunLaws.{brought_after}
+use Rattle.rb_subscriber.specs.Accept.{brought}
+use Rattle.rb_subscriber.specs.Accept.{part}
+use Rattle.rb_subscriber.proofs.runs.RunLaws.{parts, part_stays}
+use Rattle.rb_core.specs.World.{Subscriber, World, world_begun, cursor}
+use Rattle.rb_core.specs.Moves.{with_subscriber}
+use Rattle.rb_core.specs.Moves.{Leads}
+use Rattle.rb_core.proofs.headline.Moving.{all_set, all_get, all_moved_in, all_map, MovingKeeps, crash_leaves, kept_through}
+
+-- a delivery's numbers are placed
+abbrev GaplessIsPlaced : List Entry → Delivery → Type 0
+GaplessIsPlaced sequence delivery = delivery.last ≤ length sequence
+
+record IsRun (sequence : List Entry) (q : Subscriber) : Type 0 where
+  run : q.accepted ≡ part sequence q.start (length q.accepted)
+  placed : cursor q ≤ length sequence
+  deliveries : AllByRecursion (GaplessIsPlaced sequence) q.deliveries
+
+abbrev AreRuns : World → Type 0
+AreRuns world = AllByRecursion (IsRun world.sequence) world.subscribers
+
+-- ---- the sequence grows
+
+gapless_longer : (sequence : List Entry) (entry : Entry) → length (sequence ++ entry ∷ []) ≡ length sequence + 1
+gapless_longer sequence entry = length-append sequence (entry ∷ [])
+
+still_run : (sequence : List Entry) (entry : Entry) (q : Subscriber) → IsRun sequence q
+    → IsRun (sequence ++ entry ∷ []) q
+still_run sequence entry q h = record {
+  run = h.run ∙ sym (part_stays sequence (entry ∷ []) q.start (length q.accepted) h.placed);
+  placed = omega (arith, gapless_longer sequence entry, h.placed);
+  deliveries = all_map (GaplessIsPlaced sequence) (GaplessIsPlaced (sequence ++ entry ∷ [])) q.deliveries
+      (λ d placed. omega (arith, gapless_longer sequence entry, placed)) h.deliveries;
+}
+
+-- ---- what is accepted goes on
+
+pub part_length : (sequence : List Entry) (after last : ℕ) → last ≤ length sequence → after ≤ last
+    → length (part sequence after (last - after)) ≡ last - after
+part_length sequence after last placed order =
+    omega (arith, placed, order, length-take (last - after) (drop after sequence), length-drop after sequence)
+
+gapless_goes_on : (sequence : List Entry) (start last : ℕ) (accepted : List Entry) → accepted
+    ≡ part sequence start (length accepted) → start + length accepted ≤ last → last ≤ length sequence
+    → accepted ++ part sequence (start + length accepted) (last - (start + length accepted))
+    ≡ part sequence start
+    (length (accepted ++ part sequence (start + length accepted) (last - (start + length accepted))))
+gapless_goes_on sequence start last accepted run order placed =
+    let mid = start + length accepted in
+    let more = part sequence mid (last - mid) in
+    let so_far : length accepted ≡ mid - start = omega arith in
+    let all : length (accepted ++ more) ≡ last - start =
+    omega (arith, order, length-append accepted more, part_length sequence mid last placed order) in
+    ap (λ xs. xs ++ more) (run ∙ ap (part sequence start) so_far)
+    ∙ sym (parts sequence start mid last (omega arith) order)
+    ∙ ap (part sequence start) (sym all)
+
+accepts_run : (sequence : List Entry) (q : Subscriber) (delivery : Delivery) (new : Subscriber) → IsRun sequence q
+    → suc (cursor q) ≤ delivery.last → delivery.last ≤ length sequence → new.start ≡ q.start
+    → new.deliveries ≡ q.deliveries
+    → new.accepted ≡ q.accepted ++ part sequence (cursor q) (delivery.last - cursor q) → IsRun sequence new
+accepts_run sequence q delivery new h some placed start deliveries accepted =
+    let more = part sequence (cursor q) (delivery.last - cursor q) in
+    let run = gapless_goes_on sequence q.start delivery.last q.accepted h.run (omega (arith, some)) placed in
+    let long : length (q.accepted ++ more) ≡ length q.accepted + (delivery.last - cursor q) =
+    omega (
+      arith,
+      length-append q.accepted more,
+      part_length sequence (cursor q) delivery.last placed
+          (omega (arith, some)),
+    ) in
+    record {
+      run = accepted ∙ run ∙ ap (λ n. part sequence n (length (q.accepted ++ more))) (sym start)
+          ∙ ap (λ xs. part sequence new.start (length xs)) (sym accepted);
+      placed = omega (arith, some, placed, start, long, ap length accepted);
+      deliveries = subst (AllByRecursion (GaplessIsPlaced sequence)) (sym deliveries) h.deliveries;
+    }
+
+-- ---- moves
+
+-- one subscription becomes another
+gapless_becomes : (old new : World) (s : ℕ) (q r : Subscriber) → AreRuns old → slice_get old.subscribers s ≡ Some q
+    → (IsRun old.sequence q → IsRun old.sequence r) → new ≡ with_subscriber old s r → AreRuns new
+gapless_becomes old new s q r runs found same kept =
+    subst AreRuns (sym kept) (all_set (IsRun old.sequence) old.subscribers s r runs
+    (same (all_get (IsRun old.sequence) old.subscribers s q runs found)))
+
+runs_kept : MovingKeeps AreRuns
+runs_kept = record {
+  adds_publisher = λ old new move runs. subst AreRuns (sym move) runs;
+  streams = λ old new move runs. subst AreRuns (sym move.kept) runs;
+  sends = λ old new move runs. subst AreRuns (sym move.kept) runs;
+  pulls = λ old new move runs. subst AreRuns (sym move.kept) runs;
+  places = λ old new move runs.
+      let entry : Entry = record { number = suc (length old.sequence); item = move.item } in
+      subst AreRuns (sym move.kept)
+      (all_map (IsRun old.sequence) (IsRun (old.sequence ++ entry ∷ [])) old.subscribers
+      (still_run old.sequence entry) runs);
+  closes = λ old new move runs. subst AreRuns (sym move.kept) runs;
+  subscribes = λ old new move runs.
+      let q : Subscriber = record {
+        start = move.start;
+        base = move.base;
+        accepted = [];
+        tables = move.base;
+        link = move.link;
+        closed = false;
+        fallen = false;
+        deliveries = [];
+      } in
+      subst AreRuns (sym move.kept)
+      (all_push (IsRun old.sequence) old.subscribers q runs
+      (record { run = refl; placed = omega (arith, move.placed); deliveries = tt }));
+  delivers = λ old new move runs.
+      gapless_becomes old new move.s move.subscriber
+      (record move.subscriber { deliveries = move.subscriber.deliveries ++ move.delivery ∷ [] }) runs move.found
+      (λ h. record {
+        run = h.run;
+        placed = h.placed;
+        deliveries = all_push (GaplessIsPlaced old.sequence)
+            move.subscriber.deliveries move.delivery h.deliveries move.placed;
+      }) move.kept;
+  accepts = λ old new move runs.
+      let q = move.subscriber in
+      gapless_becomes old new move.s q
+      (record q {
+        accepted = q.accepted ++ brought old.sequence move.delivery;
+        tables = move.end.tables;
+      }) runs move.found
+      (λ h. accepts_run old.sequence q move.delivery
+      (record q {
+        accepted = q.accepted ++ brought old.sequence move.delivery;
+        tables = move.end.tables;
+      }) h move.accepts.some
+      (all_moved_in (GaplessIsPlaced old.sequence) q.deliveries move.delivery h.deliveries move.offered) refl refl
+      (ap (λ es. q.accepted ++ es) (brought_after old.sequence move.delivery (cursor q) move.accepts.next)))
+      move.kept;
+  reconnects = λ old new move runs.
+      let q = move.subscriber in
+      let r : Subscriber = record q { link = move.link } in
+      subst AreRuns (sym move.kept)
+      (all_set (IsRun old.sequence) old.subscribers move.s r runs
+      (let h = all_get (IsRun old.sequence) old.subscribers move.s q runs move.found in
+      record { run = h.run; placed = h.placed; deliveries = h.deliveries }));
+  unsubscribes = λ old new move runs.
+      gapless_becomes old new move.s move.subscriber (record move.subscriber { closed = true }) runs move.found
+      (λ h. record { run = h.run; placed = h.placed; deliveries = h.deliveries }) move.kept;
+  withdraws = λ old new move runs. subst AreRuns (sym move.kept) runs;
+  crashes = λ old new move runs.
+      let q = move.subscriber in
+      let mark : Subscriber = record q { fallen = true } in
+      let both : Subscriber = record q {
+        accepted = q.accepted ++ brought old.sequence move.delivery;
+        tables = move.end.tables;
+        fallen = true;
+      } in
+      crash_leaves AreRuns old new move
+      (gapless_becomes old (with_subscriber old move.s mark) move.s q mark runs move.found
+      (λ h. record { run = h.run; placed = h.placed; deliveries = h.deliveries }) refl)
+      (gapless_becomes old (with_subscriber old move.s both) move.s q both runs move.found
+      (λ h. accepts_run old.sequence q move.delivery both h move.would_accept.some
+      (all_moved_in (GaplessIsPlaced old.sequence) q.deliveries move.delivery h.deliveries move.offered) refl refl
+      (ap (λ es. q.accepted ++ es) (brought_after old.sequence move.delivery (cursor q) move.would_accept.next))) refl);
+  resumes = λ old new move runs.
+      let q = move.subscriber in
+      let r : Subscriber = record q { link = move.link; fallen = false } in
+      subst AreRuns (sym move.kept)
+      (all_set (IsRun old.sequence) old.subscribers move.s r runs
+      (let h = all_get (IsRun old.sequence) old.subscribers move.s q runs move.found in
+      record { run = h.run; placed = h.placed; deliveries = h.deliveries }));
+}
+
+pub gapless : (mids : List World) (new : World) (s : ℕ) (q : Subscriber) → Leads world_begun mids new
+    → slice_get new.subscribers s ≡ Some q → q.accepted ≡ part new.sequence q.start (length q.accepted)
+gapless mids new s q leads found =
+    (all_get (IsRun new.sequence) new.subscribers s q (kept_through AreRuns runs_kept world_begun mids new leads tt)
+    found).run

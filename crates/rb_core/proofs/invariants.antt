@@ -1,0 +1,9 @@
+-- Each event preserves the invariant of a world.
+pub mod Numbers
+pub mod Marks
+pub mod Written
+pub mod WrittenFalls
+pub mod DeskLaws
+pub mod Worlds
+pub mod WorldDeliveries
+pub mod WorldEvents

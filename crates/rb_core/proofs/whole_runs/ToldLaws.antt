@@ -1,0 +1,74 @@
+-- Laws of runs, from the laws of the courses that they report.
+use Rattle.std.proofs.Common.{◌≡◌, ℕ, zero, suc, true, List, [], ◌∷◌, Some, sym, ap, subst, ◌∙◌}
+use Rattle.std.specs.Prelude.{slice_get, map as list_map}
+use Rattle.std.specs.FinMap as map
+use Rattle.cs_model.specs.declared.shape.Shape.{Shape}
+use Rattle.cs_model.specs.Key.{row_key_cmp}
+use Rattle.cs_apply.specs.Columns.{HaveColumns}
+use Rattle.rb_subscriber.specs.Accept.{AreChangesets, HasSingleTables}
+use Rattle.rb_subscriber.specs.Endpoint.{Endpoint}
+use Rattle.rb_core.specs.Moves.{Leads, HasRun, StaysClosed}
+use Rattle.rb_core.specs.State.{State, empty_tables}
+use Rattle.rb_core.specs.Told.{IsToldBy}
+use Rattle.rb_core.specs.World.{Subscriber, World, world_begun, endpoint_of}
+use Rattle.rb_core.proofs.headline.Closing.{nothing_placed, nothing_accepted}
+use Rattle.rb_core.proofs.headline.Moving.{all_get}
+use Rattle.rb_core.proofs.reports.Telling.{BeginsEmpty, IsTold}
+
+-- the thing at a place of a list, and what is made of it
+mapped_at : {A B : Type 0} (f : A → B) (xs : List A) (i : ℕ) (x : A) → slice_get xs i ≡ Some x
+    → slice_get (list_map f xs) i ≡ Some (f x)
+mapped_at f [] i x e = absurd (cc e)
+mapped_at f (y ∷ xs) zero x e = let same : y ≡ x = cc e in ap (λ z. Some (f z)) same
+mapped_at f (y ∷ xs) (suc i) x e = mapped_at f xs i x e
+
+-- the same, in a list that is what is made of the other
+pub mapped_in : {A B : Type 0} (f : A → B) (xs : List A) (ys : List B) → list_map f xs ≡ ys → (i : ℕ) (x : A)
+    → slice_get xs i ≡ Some x → slice_get ys i ≡ Some (f x)
+mapped_in f xs ys is i x e = ap (λ zs. slice_get zs i) (sym is) ∙ mapped_at f xs i x e
+
+-- a subscription of which the course says that it has its run, in a broker that was told so
+pub gapless_run : ((mids : List World) (new : World) (s : ℕ) (subscriber : Subscriber) → Leads world_begun mids new
+    → slice_get new.subscribers s ≡ Some subscriber → HasRun new.sequence subscriber)
+    → (schema : List Shape) (new : State) (world : World) (s : ℕ) (subscriber : Subscriber)
+    → IsTold schema world_begun new world → slice_get world.subscribers s ≡ Some subscriber
+    → HasRun new.sequence subscriber × (slice_get new.endpoints s ≡ Some (endpoint_of subscriber))
+gapless_run law schema new world s subscriber told found = (
+  subst (λ sequence. HasRun sequence subscriber) told.1.sequence (law told.0.0 world s subscriber told.0.1 found),
+  mapped_in endpoint_of world.subscribers new.endpoints told.1.ends s subscriber found,
+)
+
+-- nothing is placed behind a close, nor accepted behind one
+pub closed_run : (schema : List Shape) (mid new : State) (old world : World) (last : ℕ) → IsToldBy schema mid old
+    → IsTold schema old new world → mid.desk.closing ≡ Some last
+    → (new.desk.closing ≡ Some last) × (new.sequence ≡ mid.sequence)
+closed_run schema mid new old world last before told closing =
+    let stays = nothing_placed old told.0.0 world last (before.closing ∙ closing) told.0.1 in
+    (sym told.1.closing ∙ stays.0, sym told.1.sequence ∙ stays.1 ∙ before.sequence)
+
+pub left_run : (schema : List Shape) (new : State) (old world : World) (s : ℕ) (subscriber : Subscriber)
+    → IsTold schema old new world → slice_get old.subscribers s ≡ Some subscriber → subscriber.closed ≡ true
+    → (after : Subscriber) × (slice_get world.subscribers s ≡ Some after) × StaysClosed subscriber after
+left_run schema new old world s subscriber told found closed =
+    nothing_accepted old told.0.0 world s subscriber found closed told.0.1
+
+-- a subscription of which the course says that its tables are those of single application
+pub empty_have_columns : (schema : List Shape) → HaveColumns (empty_tables schema)
+empty_have_columns schema key row found = absurd (let no = sym (map.get-empty row_key_cmp key) ∙ found in cc)
+
+pub singly_run : ((mids : List World) (new : World) (s : ℕ) (subscriber : Subscriber) → Leads world_begun mids new
+    → slice_get new.subscribers s ≡ Some subscriber → AreChangesets new.sequence → HaveColumns subscriber.base
+    → HasSingleTables subscriber.base subscriber.accepted subscriber.tables)
+    → (schema : List Shape) (new : State) (world : World) (s : ℕ) (subscriber : Subscriber)
+    → IsTold schema world_begun new world → slice_get world.subscribers s ≡ Some subscriber
+    → AreChangesets world.sequence → slice_get new.endpoints s ≡ Some (endpoint_of subscriber)
+    → (end : Endpoint) × (slice_get new.endpoints s ≡ Some end)
+    × HasSingleTables (empty_tables schema) subscriber.accepted end.tables
+singly_run law schema new world s subscriber told found valid at =
+    let base = all_get (BeginsEmpty schema) world.subscribers s subscriber told.1.bases found in (
+      endpoint_of subscriber,
+      at,
+      subst (λ t. HasSingleTables t subscriber.accepted subscriber.tables) base
+          (law told.0.0 world s subscriber told.0.1 found valid
+          (subst HaveColumns (sym base) (empty_have_columns schema))),
+    )

@@ -1,0 +1,3 @@
+-- Lines that are shown one after another, and the lines of rows.
+pub mod ShowLaws
+pub mod RowLines

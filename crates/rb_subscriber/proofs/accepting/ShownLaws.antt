@@ -1,0 +1,235 @@
+-- What a subscription is after it accepted.
+use Rattle.std.proofs.Common.{◌≡◌, ℕ, suc, ◌+◌, List, [], ◌∷◌, ◌++◌, length, sym, ap, ◌∙◌, refl}
+use Rattle.std.proofs.Common.{subst, arith, Bool, Option, Some, None, Result, Ok, Err}
+use Rattle.std.specs.Option.{is_some}
+use Rattle.std.proofs.lemmas.List.{map-append, length-append}
+use Rattle.cs_apply.specs.Single.{single}
+use Rattle.cs_apply.specs.State as tables
+use Rattle.rb_desk.specs.declared.delivery.Delivery.{Delivery}
+use Rattle.rb_sequence.specs.Cells.{Cells, CellToken}
+use Rattle.rb_sequence.specs.Entry.{Entry}
+use Rattle.cs_apply.specs.declared.conflict.Conflict.{Conflict}
+use Rattle.cs_group.specs.Group.{group_of}
+use Rattle.cs_model.specs.declared.shape.Shape.{Shape}
+use Rattle.rb_subscriber.specs.Accept.{accept_brought, AcceptsBrought, AppliesSingly, AsksTables, HasSingleTables, applied}
+use Rattle.rb_subscriber.specs.Accept.{applied_if_admitted, first_outside_entry, joined_bodies, refusal_before}
+use Rattle.rb_subscriber.specs.Accept.{taken_unless_refused}
+use Rattle.rb_subscriber.specs.declared.refusal.AcceptRefusal.TheVariants as refusal
+use Rattle.rb_subscriber.specs.Endpoint.{Endpoint}
+use Rattle.rb_subscriber.specs.declared.refusal.SubscriptionError.{SubscriptionError}
+use Rattle.rb_subscriber.specs.declared.refusal.SubscriptionError.TheVariants.{Refused, Unseen, Memory}
+use Rattle.rb_subscriber.specs.AcceptShown.{DueAnswers, LookAnswers}
+use Rattle.rb_sequence.specs.Cells.{AreInCells}
+use Rattle.rb_subscriber.specs.Shown.{ShowDelivery, entries_told}
+use Rattle.rb_subscriber.specs.Subscription.{PendingAccept, SubscriptionState, own_endpoint}
+use Rattle.rb_subscriber.proofs.accepting.AcceptLaws.{accepted_steps}
+use Rattle.rb_subscriber.proofs.accepting.TokenLaws.{in_cells_append}
+
+-- what applies singly applies in two parts
+record AppliesInParts (base : tables.TableState) (some more : List Entry) (new : tables.TableState) : Type 0 where
+  mid : tables.TableState
+  first : AppliesSingly base some mid
+  rest : AppliesSingly mid more new
+
+in_parts : (base : tables.TableState) (some more : List Entry) (new : tables.TableState)
+    → AppliesSingly base (some ++ more) new → AppliesInParts base some more new
+in_parts base [] more new all = record { mid = base; first = refl; rest = all }
+in_parts base (entry ∷ some) more new all =
+    let later = in_parts all.0 some more new all.2 in
+    record { mid = later.mid; first = (all.0, all.1, later.first); rest = later.rest }
+
+-- what leaves what one thread gets, and then does so again, does so at once
+pub singly_on : (base : tables.TableState) (told shown : List CellToken) (mid new : tables.TableState)
+    → HasSingleTables base (entries_told told) mid → HasSingleTables mid (entries_told shown) new
+    → HasSingleTables base (entries_told (told ++ shown)) new
+singly_on base told shown mid new singly goes = λ t applied.
+    let parts = in_parts base (entries_told told) (entries_told shown) t
+    (subst (λ es. AppliesSingly base es t) (map-append (λ (c : CellToken). c.entry) told shown) applied) in
+    goes t (subst (λ u. AppliesSingly u (entries_told shown) t) (sym (singly parts.mid parts.first)) parts.rest)
+
+-- the tokens and the tables after an accepted delivery
+pub record ShownKept (cells : Cells) (base : tables.TableState) (told shown : List CellToken) (new : Endpoint)
+    : Type 0 where
+  pub cursor : new.cursor ≡ new.start + length (told ++ shown)
+  pub tokens : AreInCells cells (suc new.start) (told ++ shown)
+  pub singly : HasSingleTables base (entries_told (told ++ shown)) new.tables
+
+pub shown_kept : (cells : Cells) (base : tables.TableState) (told shown : List CellToken) (delivery : Delivery)
+    (old new : Endpoint) → old.cursor ≡ old.start + length told
+    → AreInCells cells (suc old.start) told
+    → HasSingleTables base (entries_told told) old.tables
+    → ShowDelivery cells delivery shown
+    → AcceptsBrought old (entries_told shown) delivery new
+    → ((t : tables.TableState) → AppliesSingly old.tables (entries_told shown) t → new.tables ≡ t)
+    → ShownKept cells base told shown new
+shown_kept cells base told shown delivery old new cursor tokens singly are accepts goes =
+    let start : new.start ≡ old.start = ap (λ (e : Endpoint). e.start) accepts.kept in
+    let last : new.cursor ≡ delivery.last = ap (λ (e : Endpoint). e.cursor) accepts.kept in
+    let long = length-append told shown in
+    record {
+      cursor = omega (arith, start, last, long, are.1, cursor, accepts.next, accepts.some);
+      tokens = subst (λ n. AreInCells cells (suc n) (told ++ shown)) (sym start)
+          (in_cells_append cells (suc old.start) delivery.first told shown tokens are.0
+          (omega (arith, accepts.next, cursor)));
+      singly = singly_on base told shown old.tables new.tables singly goes;
+    }
+
+-- all of it, where the entries stand elsewhere
+pub record WasAccepted (cells : Cells) (d : Delivery) (base : tables.TableState) (told shown grown : List CellToken)
+    (e new : Endpoint) : Type 0 where
+  pub ok : accept_brought e (entries_told shown) d ≡ Ok new
+  pub accepts : AcceptsBrought e (entries_told shown) d new
+  pub kept : ShownKept cells base told shown new
+  pub far : new.cursor ≡ new.start + length grown
+
+pub was_accepted : (cells : Cells) (d : Delivery) (base : tables.TableState) (told shown grown : List CellToken)
+    (entries : List Entry) (e new : Endpoint) → entries ≡ entries_told shown → grown ≡ told ++ shown
+    → e.cursor ≡ e.start + length told → AreInCells cells (suc e.start) told
+    → HasSingleTables base (entries_told told) e.tables → ShowDelivery cells d shown
+    → accept_brought e entries d ≡ Ok new → HasSingleTables e.tables entries new.tables
+    → WasAccepted cells d base told shown grown e new
+was_accepted cells d base told shown grown entries e new back more at tokens singly are ok goes =
+    let here : accept_brought e (entries_told shown) d ≡ Ok new =
+    subst (λ es. accept_brought e es d ≡ Ok new) back ok in
+    let accepts = accepted_steps e (entries_told shown) d new here in
+    let kept = shown_kept cells base told shown d e new at tokens singly are accepts
+    (subst (λ es. HasSingleTables e.tables es new.tables) back goes) in
+    record {
+      ok = here;
+      accepts = accepts;
+      kept = kept;
+      far = kept.cursor ∙ ap (λ (xs : List CellToken). new.start + length xs) (sym more);
+    }
+
+-- ---- the answers
+
+-- an endpoint with its own cursor and mark
+end_as : (e : Endpoint) (n : ℕ) (b : Bool) → e.cursor ≡ n → e.fallen ≡ b
+    → record {
+      start = e.start;
+      cursor = n;
+      link = e.link;
+      closed = e.closed;
+      fallen = b;
+      tables = e.tables;
+    } ≡ e
+end_as e n b is fell = ap (λ (k : ℕ). the_end e k b) (sym is) ∙ ap (λ (f : Bool). the_end e e.cursor f) (sym fell)
+  where
+    the_end : Endpoint → ℕ → Bool → Endpoint
+    the_end e k f = record {
+      start = e.start;
+      cursor = k;
+      link = e.link;
+      closed = e.closed;
+      fallen = f;
+      tables = e.tables;
+    }
+
+-- the state of a subscription with this endpoint and these tokens
+abbrev pub state_of : ℕ → ℕ → tables.TableState → Option PendingAccept → Endpoint → List CellToken → SubscriptionState
+state_of sub steps base pending e told = record {
+  sub = sub;
+  start = e.start;
+  link = e.link;
+  closed = e.closed;
+  base = base;
+  tables = e.tables;
+  told = told;
+  pending = pending;
+  steps = steps;
+}
+
+pub own_as : (sub steps : ℕ) (base : tables.TableState) (pending : Option PendingAccept) (e : Endpoint)
+    (told : List CellToken) → e.cursor ≡ e.start + length told → e.fallen ≡ is_some pending
+    → own_endpoint (state_of sub steps base pending e told) ≡ e
+own_as sub steps base pending e told at fell = end_as e (e.start + length told) (is_some pending) at fell
+
+pub due_ok : (cells : Cells) (d : Delivery) (sub steps cursor : ℕ) (base : tables.TableState)
+    (pending : Option PendingAccept)
+    (told grown shown : List CellToken) (e new : Endpoint) → grown ≡ told ++ shown
+    → e.cursor ≡ e.start + length told
+    → e.fallen ≡ is_some pending
+    → ShowDelivery cells d shown
+    → accept_brought e (entries_told shown) d ≡ Ok new
+    → cursor ≡ new.cursor
+    → AcceptsBrought e (entries_told shown) d new
+    → ShownKept cells base told shown new
+    → DueAnswers cells d (Ok cursor) (state_of sub steps base pending e told) (state_of sub steps base pending new grown)
+due_ok cells d sub steps cursor base pending told grown shown e new more at fell are ok says accepts kept =
+    let far : new.cursor ≡ new.start + length grown =
+    kept.cursor ∙ ap (λ xs. new.start + length xs) (sym more) in
+    let same : new.fallen ≡ is_some pending = ap (λ (x : Endpoint). x.fallen) accepts.kept ∙ fell in
+    let from = own_as sub steps base pending e told at fell in
+    let to = own_as sub steps base pending new grown far same in (
+      shown,
+      are,
+      ap (λ (x : Endpoint). accept_brought x (entries_told shown) d) from ∙ ok ∙ ap (λ x. Ok x) (sym to),
+      says ∙ far,
+      ap (λ (x : Endpoint). as_state x grown) accepts.kept
+          ∙ ap (λ xs. as_state e xs) more,
+    )
+  where
+    as_state : Endpoint → List CellToken → SubscriptionState
+    as_state x xs = record {
+      sub = sub;
+      start = x.start;
+      link = x.link;
+      closed = x.closed;
+      base = base;
+      tables = new.tables;
+      told = xs;
+      pending = pending;
+      steps = steps;
+    }
+
+applied_asks : (old : Endpoint) (last : ℕ) (r : Result tables.TableState Conflict) → AsksTables (applied old last r)
+applied_asks old last (Ok rows) = tt
+applied_asks old last (Err conflict) = tt
+
+reaches_tables : (old : Endpoint) (entries : List Entry) (d : Delivery) → refusal_before old d ≡ None
+    → first_outside_entry old.tables.schema entries ≡ None → AsksTables (accept_brought old entries d)
+unfolding accept_brought
+reaches_tables old entries d free none =
+    let taken = ap (λ o. taken_unless_refused o (applied_if_admitted old d.last entries
+    (first_outside_entry old.tables.schema entries))) free
+    ∙ ap (applied_if_admitted old d.last entries) none in
+    subst AsksTables (sym taken) (applied_asks old d.last (single old.tables (group_of (joined_bodies entries))))
+
+outside_refused : (old : Endpoint) (entries : List Entry) (d : Delivery) (entry : Entry) → refusal_before old d ≡ None
+    → first_outside_entry old.tables.schema entries ≡ Some entry
+    → accept_brought old entries d ≡ Err (refusal.Shape entry.number)
+unfolding accept_brought
+outside_refused old entries d entry free some =
+    ap (λ o. taken_unless_refused o (applied_if_admitted old d.last entries
+    (first_outside_entry old.tables.schema entries))) free
+    ∙ ap (applied_if_admitted old d.last entries) some
+
+looked_answers : (cells : Cells) (d : Delivery) (old new : SubscriptionState) (e : SubscriptionError)
+    → refusal_before (own_endpoint old) d ≡ None → new ≡ old → LookAnswers cells d old.tables.schema e
+    → DueAnswers cells d (Err e) old new
+looked_answers cells d old new (Unseen number) free same look = (same, look)
+looked_answers cells d old new Memory free same look =
+    (same, look.0, look.1, reaches_tables (own_endpoint old) (entries_told look.0) d free look.2)
+looked_answers cells d old new (Refused (refusal.Shape number)) free same look = (
+  same,
+  look.0,
+  look.1,
+  outside_refused (own_endpoint old) (entries_told look.0) d look.2.0 free look.2.1
+      ∙ ap (λ n. Err (refusal.Shape n)) look.2.2,
+)
+looked_answers cells d old new (Refused refusal.Store) free same look = absurd look
+looked_answers cells d old new (Refused refusal.Closed) free same look = absurd look
+looked_answers cells d old new (Refused refusal.StaleLink) free same look = absurd look
+looked_answers cells d old new (Refused refusal.Seen) free same look = absurd look
+looked_answers cells d old new (Refused (refusal.Gap expected)) free same look = absurd look
+looked_answers cells d old new (Refused (refusal.Conflict conflict)) free same look = absurd look
+
+-- the same of a result, and of a sequence and a schema that are these
+pub looked_result : (cells sequence : Cells) (d : Delivery) (schema : List Shape) (old new : SubscriptionState)
+    (r : Result ℕ SubscriptionError) (e : SubscriptionError) → r ≡ Err e → sequence ≡ cells
+    → schema ≡ old.tables.schema → refusal_before (own_endpoint old) d ≡ None → new ≡ old
+    → LookAnswers sequence d schema e → DueAnswers cells d r old new
+looked_result cells sequence d schema old new r e is same known free unmoved look =
+    subst (λ (x : Result ℕ SubscriptionError). DueAnswers cells d x old new) (sym is)
+    (looked_answers cells d old new e free unmoved (subst (λ (cs : Cells). LookAnswers cs d old.tables.schema e) same
+    (subst (λ (sch : List Shape). LookAnswers sequence d sch e) known look)))

@@ -1,0 +1,8 @@
+-- What each statement means, and what it does to a replica's trees.
+pub mod Parts
+pub mod Texts
+pub mod DeletedRows
+pub mod Deletes
+pub mod Puts
+pub mod CursorLaws
+pub mod BodyLaws

@@ -1,0 +1,126 @@
+-- What the insertion of a row does to a replica's trees.
+use Rattle.std.proofs.Common.{◌≡◌, inl, inr, ℕ, ℤ, pos, List, [], ◌∷◌, true, None, Ok, Err, Result, OnOk, refl, sym, ap}
+use Rattle.std.proofs.Common.{subst, ◌∙◌}
+use Rattle.sqlite_value.specs.declared.value.Value.TheVariants.{Int, Blob}
+use Rattle.sqlite.specs.Order.{Row}
+use Rattle.sqlite.specs.Tree.{Trees, IsTable}
+use Rattle.sqlite_trees.proofs.TreeLemmas.{IsTable-put_row}
+use Rattle.sqlite.specs.Source.TheVariants.{Values}
+use Rattle.sqlite.specs.Command.TheVariants.{Insert}
+use Rattle.sqlite.specs.Edit.{edit_of, put_all, next_rowid, are_fresh}
+use Rattle.sqlite.specs.Rowids.TheVariants.{Chosen}
+use Rattle.sqlite_rules.specs.Lists.{Has}
+use Rattle.sqlite_rules.proofs.TableLemmas.{put_all_has, put_all_keeps, put_all_adds}
+use Rattle.sqlite.specs.Does.{Tally, Does}
+use Rattle.sqlite.specs.Rows.{Written}
+use Rattle.sqlite.specs.Effect.{Database}
+use Rattle.sqlite.specs.Listing.{understood}
+use Rattle.sqlite.specs.declared.error.Error.{Error}
+use Rattle.sqlite.specs.State.{State, mode_of, Executes, ExecutesInside}
+use Rattle.sqlite.proofs.Callers.{statement_of, runs_as, one_step}
+use Rattle.cs_model.specs.declared.row_key.RowKey.{RowKey}
+use Rattle.replica_store.specs.Layout.{replica_schema, rb_row}
+use Rattle.replica_store.specs.Picture.{row_record, Stores, AreSameRows}
+use Rattle.replica_store.specs.Inside.{WithBody, IsInside, ChangesRows}
+use Rattle.replica_store.proofs.statements.Parts.{not_stopped, value_given, two_not_zero, cast_null, cast_int}
+use Rattle.replica_store.proofs.statements.Texts.{insert_text, insert_terms, insert_command, insert_plain}
+use Rattle.replica_store.proofs.statements.DeletedRows.{key_of_parts}
+
+-- the parameters of an insertion
+abbrev pub row_params : RowKey → List ℕ → Row
+row_params key body = Int (pos key.table) ∷ Blob key.bytes ∷ Blob body ∷ []
+
+-- what an insertion adds
+record PutsRow (old new : State) (key : RowKey) (body : List ℕ) : Type 0 where
+  pub schema : new.now.schema ≡ replica_schema
+  pub id : ℤ
+  pub fresh : are_fresh (old.now.trees 0) (row_record id key body ∷ []) ≡ true
+  pub rows : new.now.trees 0 ≡ put_all (old.now.trees 0) (row_record id key body ∷ [])
+  pub mark : new.now.trees 2 ≡ old.now.trees 2
+
+puts_row : (old new : State) (key : RowKey) (body : List ℕ) (count : ℕ) → old.now.schema ≡ replica_schema
+    → Executes insert_text (row_params key body) old new (Ok count) → PutsRow old new key body
+puts_row old new key body count has h =
+    let params = row_params key body in
+    let db = old.now.trees in
+    let command = Insert 0 (Values insert_terms 4) in
+    let w = runs_as insert_text params old new replica_schema has command insert_command insert_plain count h in
+    let text = statement_of insert_text (understood replica_schema insert_text) in
+    let done = not_stopped (subst (λ s. Does old.step_limit (mode_of old) params
+    (record old.now { schema = s }) text None command (Ok (w.tally, new.now))) has w.changed) in
+    let now = ap (λ (p : Tally × Database). p.1) (value_given (not_stopped (not_stopped done.2).2).2) in
+    let rows = not_stopped done.1 in
+    let written = not_stopped (not_stopped rows.2).2 in
+    let counted = not_stopped written.2 in
+    let trees : done.0.trees ≡ written.0 = ap (λ (it : Written). it.trees) (value_given counted.2)
+    ∙ value_given counted.1 in
+    let edit = edit_of db rb_row [] Chosen 0 rows.0 in
+    let applied = one_step replica_schema _ db written.0 edit refl written.1 in
+    let all : new.now.trees ≡ written.0 = ap (λ (d : Database). d.trees) now ∙ trees in
+    let id = next_rowid (db 0) in
+    let news : edit.news ≡ row_record id key body ∷ [] =
+    ap (λ sources. (edit_of db rb_row [] Chosen 0 sources).news) rows.1.1
+    ∙ rw (cast_null, cast_int (pos key.table)) in
+    record {
+      schema = ap (λ (d : Database). d.schema) now;
+      id = id;
+      fresh = subst (λ new. are_fresh (db 0) new ≡ true) news applied.fresh;
+      rows = ap (λ (t : Trees). t 0) all ∙ applied.rows ∙ ap (put_all (db 0)) news;
+      mark = ap (λ (t : Trees). t 2) all ∙ applied.tables.1.0 two_not_zero;
+    }
+
+same_record : (id i : ℤ) (key k : RowKey) (body b : List ℕ) → row_record i k b ≡ row_record id key body
+    → (k ≡ key) × (b ≡ body)
+same_record id i key k body b e =
+    let table : k.table ≡ key.table = cc in
+    let bytes : k.bytes ≡ key.bytes = cc in
+    (key_of_parts k key table bytes, cc)
+
+row_put : (old new : State) (key : RowKey) (body : List ℕ) → PutsRow old new key body
+    → AreSameRows (Stores new.now.trees) (WithBody key body (Stores old.now.trees))
+row_put old new key body p k b =
+    let rows = old.now.trees 0 in
+    let news = row_record p.id key body ∷ [] in (
+      λ s. elim (put_all_has news rows (row_record s.0 k b) (subst (λ l. Has l (row_record s.0 k b)) p.rows s.1)) [
+        | inl new ↦ elim new [ inl is ↦ inl (same_record p.id s.0 key k body b is) | inr none ↦ absurd none ]
+        | inr there ↦ inr (s.0, there)
+      ],
+      λ q. elim q [
+        | inl new ↦ (
+          p.id,
+          subst (λ l. Has l (row_record p.id k b)) (sym p.rows)
+              (put_all_adds news rows (row_record p.id k b) p.fresh (inl (rw (new.0, new.1) refl))),
+        )
+        | inr there ↦ (
+          there.0,
+          subst (λ l. Has l (row_record there.0 k b)) (sym p.rows)
+              (put_all_keeps news rows (row_record there.0 k b) p.fresh there.1),
+        )
+      ],
+    )
+
+pub puts_in_row : (old new : State) (key : RowKey) (body : List ℕ) (r : Result ℕ Error) → IsInside old
+    → ExecutesInside 0 insert_text (row_params key body) old new r
+    → OnOk r (ChangesRows (WithBody key body) old new)
+puts_in_row old new key body (Err e) i h = tt
+puts_in_row old new key body (Ok count) i h =
+    let p = puts_row old new key body count i.schema h.0 in
+    let rep = i.replica in
+    let rows = old.now.trees 0 in
+    let news = row_record p.id key body ∷ [] in
+    record {
+      inside = record {
+        inside = h.1.mode;
+        schema = p.schema;
+        replica = record {
+          rising = subst IsTable (sym p.rows) (IsTable-put_row (row_record p.id key body) rows rep.rising);
+          rows = λ r there. elim (put_all_has news rows r (subst (λ l. Has l r) p.rows there)) [
+            | inl new ↦ elim new [ inl is ↦ (p.id, key, body, is) | inr none ↦ absurd none ]
+            | inr old ↦ rep.rows r old
+          ];
+          mark = (rep.mark.0, p.mark ∙ rep.mark.1);
+        };
+      };
+      rows = row_put old new key body p;
+      mark = p.mark;
+    }
