@@ -16,6 +16,7 @@ use Rattle.rb_desk.specs.Limits.{Limits}
 use Rattle.rb_desk.specs.Picture.{Picture}
 use Rattle.rb_desk.specs.Steps.{KeepsFrame}
 use Rattle.rb_sequence.specs.Cells.{Cells, IsLastToken, LastToken}
+use Rattle.rb_subscriber.specs.Register.{RegisterState}
 use Rattle.rb_broker.specs.Holding.{IsAtEnd}
 use Rattle.rb_broker.specs.Placing.{ShowsClosing}
 
@@ -57,13 +58,45 @@ call_keeps (Err (Refused why)) call step old new counts keeps answers = same_des
 call_keeps (Err Memory) call step old new counts keeps answers = same_desk old new answers.1
 
 -- the token of the closing cell goes on showing the closing number
-pub shows_on : (cells : Cells) (old new : JournaledPicture) (more : ℕ) (closing : Option LastToken) → LockKeeps old new more
+shows_on : (cells : Cells) (old new : JournaledPicture) (more : ℕ) (closing : Option LastToken) → LockKeeps old new more
     → ShowsClosing cells old.picture.closing closing → ShowsClosing cells new.picture.closing closing
 shows_on cells old new more closing keeps shows = (shows.0 ∙ sym keeps.frame.closing, shows.1)
 
-pub capacity_on : (cells : Cells) (old new : JournaledPicture) (more : ℕ) → LockKeeps old new more
+capacity_on : (cells : Cells) (old new : JournaledPicture) (more : ℕ) → LockKeeps old new more
     → old.picture.limits.capacity ≡ cells.capacity → new.picture.limits.capacity ≡ cells.capacity
 capacity_on cells old new more keeps fits = ap (λ (l : Limits). l.capacity) keeps.frame.limits ∙ fits
+
+-- what the lock says of the desk, the closing token and the register
+pub record HoldsSo (cells : Cells) (desk : JournaledPicture) (closing : Option LastToken) (register : RegisterState)
+    : Type 0 where
+  pub fits : desk.picture.limits.capacity ≡ cells.capacity
+  pub closes : ShowsClosing cells desk.picture.closing closing
+  pub total : register.total ≡ counted_steps is_own desk.steps
+  pub made : register.made ≡ length desk.picture.subscriptions
+
+-- it goes on, where the register counts what the desk adds
+pub holds_on : (cells : Cells) (old new : JournaledPicture) (more : ℕ) (closing : Option LastToken)
+    (before after : RegisterState) → LockKeeps old new more → after ≡ record before { total = before.total + more }
+    → HoldsSo cells old closing before → HoldsSo cells new closing after
+holds_on cells old new more closing before after keeps counted h =
+    record {
+      fits = capacity_on cells old new more keeps h.fits;
+      closes = shows_on cells old new more closing keeps h.closes;
+      total = omega (arith, ap (λ (r : RegisterState). r.total) counted, h.total, keeps.own);
+      made = ap (λ (r : RegisterState). r.made) counted ∙ h.made ∙ sym keeps.frame.count;
+    }
+
+-- so it does where the desk adds none
+pub holds_still : (cells : Cells) (old new : JournaledPicture) (more : ℕ) (closing : Option LastToken)
+    (register : RegisterState) → LockKeeps old new more → more ≡ 0
+    → HoldsSo cells old closing register → HoldsSo cells new closing register
+holds_still cells old new more closing register keeps none h =
+    record {
+      fits = capacity_on cells old new more keeps h.fits;
+      closes = shows_on cells old new more closing keeps h.closes;
+      total = omega (arith, h.total, keeps.own, none);
+      made = h.made ∙ sym keeps.frame.count;
+    }
 
 -- a call that isn't a subscription's own adds none
 pub none_more : {A : Type 0} (result : Result A DeskError) (step : Step) → is_own step ≡ false → own_steps result step ≡ 0

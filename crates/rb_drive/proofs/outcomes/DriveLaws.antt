@@ -19,7 +19,7 @@ use Rattle.rb_close.specs.Meeting.{HasMet}
 use Rattle.rb_drive.specs.declared.accepting.EndedSubscriber.{EndedSubscriber}
 use Rattle.rb_drive.specs.Outcome.{HasMetAndEnded, IsEndAt, IsEnded, StartsEmpty, subscriber_of}
 use Rattle.rb_drive.specs.Owners.{beginning_of}
-use Rattle.rb_drive.proofs.ListLaws.{same_head, nothing_is_first, same_tail}
+use Rattle.rb_drive.proofs.inputs.ListLaws.{same_head, nothing_is_first, same_tail}
 
 -- all from a place on, if the one at that place and all after it
 pub all_from_place : {A : Type 0} (P : A → Type 0) (xs : List A) (i : ℕ) (d : A) → i < length xs

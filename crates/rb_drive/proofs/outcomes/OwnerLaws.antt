@@ -8,8 +8,8 @@ use Rattle.rb_drive.specs.declared.input.Given.{Given}
 use Rattle.rb_drive.specs.declared.publishing.FaultyLine.{FaultyLine}
 use Rattle.rb_drive.specs.Owners.{numbered_lines, publisher_lines}
 use Rattle.rb_drive.specs.Published.{HaveSentLines, faulty_done, faulty_lines, given_bodies, sent_bodies}
-use Rattle.rb_drive.proofs.ListLaws.{same_head, nothing_is_first, same_tail}
-use Rattle.rb_drive.proofs.PublishedLaws.{HasDoneLines}
+use Rattle.rb_drive.proofs.inputs.ListLaws.{same_head, nothing_is_first, same_tail}
+use Rattle.rb_drive.proofs.outcomes.PublishedLaws.{HasDoneLines}
 
 -- what each owner has: its publisher, its lines, how many are done, and the faulty ones
 pub record SendsLines {A : Type 0} (publisher : A → PublisherView) (lines : A → List Given) (done : A → ℕ)

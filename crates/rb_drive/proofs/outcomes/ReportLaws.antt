@@ -6,8 +6,8 @@ use Rattle.std.specs.Borrow.{Bor}
 use Rattle.cs_apply.specs.Seen.{listed}
 use Rattle.std.specs.Io.KnownBytes.{Appends}
 use Rattle.std.specs.List.{flat_map}
-use Rattle.rb_script.proofs.StreamLaws.{Appends-Keeps, Appends-none, Appends-trans, front_later, front_longer}
-use Rattle.rb_script.proofs.StreamLaws.{front_none, stream_appends_front}
+use Rattle.rb_script.proofs.endings.StreamLaws.{Appends-Keeps, Appends-none, Appends-trans, front_later, front_longer}
+use Rattle.rb_script.proofs.endings.StreamLaws.{front_none, stream_appends_front}
 use Rattle.rb_script.specs.Streams.{AppendsFront}
 use Rattle.rb_script.specs.Texts.{row_text}
 use Rattle.cs_model.specs.declared.row_key.RowKey.{RowKey}

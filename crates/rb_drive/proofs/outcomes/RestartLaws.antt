@@ -19,8 +19,8 @@ use Rattle.rb_subscriber.specs.declared.refusal.AcceptRefusal.{AcceptRefusal}
 use Rattle.rb_subscriber.specs.declared.refusal.AcceptRefusal.TheVariants as refusal
 use Rattle.rb_subscriber.specs.declared.refusal.SubscriptionError.{SubscriptionError}
 use Rattle.rb_subscriber.specs.declared.refusal.SubscriptionError.TheVariants.{Memory, Refused, Unseen}
-use Rattle.rb_subscriber.proofs.AcceptLaws.{accepted_steps}
-use Rattle.rb_subscriber.proofs.TokenLaws.{in_cells_append}
+use Rattle.rb_subscriber.proofs.accepting.AcceptLaws.{accepted_steps}
+use Rattle.rb_subscriber.proofs.accepting.TokenLaws.{in_cells_append}
 use Rattle.rb_drive.specs.Restart.{HoldsRun}
 
 -- ---- how an accept ends

@@ -3,7 +3,7 @@ use Rattle.std.proofs.lemmas.List.{take_more}
 use Rattle.cs_write.specs.Canon.{by_shape}
 use Rattle.cs_write.specs.Groups.{added}
 use Rattle.cs_write.specs.Seen.{seen}
-use Rattle.cs_write.proofs.GroupLaws.{by_shape-more, none_grouped}
+use Rattle.cs_write.proofs.forms.GroupLaws.{by_shape-more, none_grouped}
 use Rattle.cs_group.proofs.output.by_table.Goals as goal
 
 pub loop-section-init : goal.loop-section-init

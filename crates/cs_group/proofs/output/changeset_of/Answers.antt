@@ -3,7 +3,7 @@ use Rattle.std.specs.List.{AllByRecursion}
 use Rattle.cs_model.specs.Changeset.{IsChangeset, IsSection}
 use Rattle.cs_write.specs.Canon.{has_changes, joined_section}
 use Rattle.cs_group.specs.Group.{combined_section, group_of}
-use Rattle.cs_group.proofs.Fitting.{groups_fit, group_fits}
+use Rattle.cs_group.proofs.all_tables.Fitting.{groups_fit, group_fits}
 use Rattle.cs_group.proofs.output.changeset_of.Goals as goal
 
 pub sections_of-requires : goal.sections_of-requires

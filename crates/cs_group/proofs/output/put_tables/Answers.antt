@@ -1,6 +1,6 @@
 use Rattle.std.proofs.Common.{arith}
 use Rattle.std.proofs.lemmas.Grind.{common_steps}
-use Rattle.cs_write.proofs.Laying.{laying_goes_on, laying_ends}
+use Rattle.cs_write.proofs.buffers.Laying.{laying_goes_on, laying_ends}
 use Rattle.cs_group.proofs.output.put_tables.Goals as goal
 
 pub loop-table-preserved : goal.loop-table-preserved

@@ -1,6 +1,6 @@
 use Rattle.std.proofs.Common.{drop, map}
 use Rattle.std.specs.List.{flat_map}
-use Rattle.cs_write.proofs.Laying.{LayingLaid}
+use Rattle.cs_write.proofs.buffers.Laying.{LayingLaid}
 use Rattle.cs_group.specs.Text.{rows_seen, table_text}
 use Rattle.cs_group.proofs.output.put_tables.Given as goal
 

@@ -1,6 +1,6 @@
 use Rattle.std.proofs.Common.{arith}
 use Rattle.std.proofs.lemmas.Grind.{common_steps}
-use Rattle.cs_write.proofs.Held.{held_begins, held_ends, held_goes_on}
+use Rattle.cs_write.proofs.buffers.Held.{held_begins, held_ends, held_goes_on}
 use Rattle.cs_group.proofs.output.tables_len.Goals as goal
 
 pub loop-table-init : goal.loop-table-init

@@ -1,6 +1,6 @@
 use Rattle.std.proofs.Common.{drop, length, map}
 use Rattle.std.specs.List.{flat_map}
-use Rattle.cs_write.proofs.Held.{HeldCounted}
+use Rattle.cs_write.proofs.buffers.Held.{HeldCounted}
 use Rattle.cs_group.specs.Text.{rows_seen, table_text}
 use Rattle.cs_group.proofs.output.tables_len.Given as goal
 

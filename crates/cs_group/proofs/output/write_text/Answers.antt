@@ -7,8 +7,8 @@ use Rattle.cs_write.specs.Canon.{joined_section}
 use Rattle.cs_write.specs.Text.{text_of}
 use Rattle.cs_group.specs.Group.{combined_section, group_of}
 use Rattle.cs_group.specs.Text.{rows_seen, table_text}
-use Rattle.cs_group.proofs.Fitting.{groups_fit}
-use Rattle.cs_group.proofs.OwnForm.{group_text_is}
+use Rattle.cs_group.proofs.all_tables.Fitting.{groups_fit}
+use Rattle.cs_group.proofs.all_tables.OwnForm.{group_text_is}
 use Rattle.cs_group.proofs.output.write_text.Goals as goal
 use Rattle.cs_group.proofs.output.write_text.Goals.{In_ok-tables}
 

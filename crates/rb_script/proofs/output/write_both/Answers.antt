@@ -1,4 +1,4 @@
-use Rattle.rb_script.proofs.StreamLaws.{err_later}
+use Rattle.rb_script.proofs.endings.StreamLaws.{err_later}
 use Rattle.rb_script.proofs.output.write_both.Goals as goal
 
 pub returns-clause-err : goal.returns-clause-err

@@ -2,8 +2,8 @@ use Rattle.std.proofs.Common.{◌≡◌, ◌<◌, ◌≤◌, length, refl, sym, 
 use Rattle.std.specs.Prelude.{OnOk, IfErr}
 use Rattle.cs_model.specs.Changeset.{IsChangeset}
 use Rattle.cs_model.specs.Schema.{refusal_of}
-use Rattle.rb_subscriber.proofs.AcceptLaws.{all_admitted}
-use Rattle.rb_subscriber.proofs.ApplyLaws.{at_front, found_outside, goes_past, none_found, valid_more, bodies_valid}
+use Rattle.rb_subscriber.proofs.accepting.AcceptLaws.{all_admitted}
+use Rattle.rb_subscriber.proofs.runs.ApplyLaws.{at_front, found_outside, goes_past, none_found, valid_more, bodies_valid}
 use Rattle.rb_subscriber.proofs.apply.outside.Goals as goal
 
 pub loop-index-init : goal.loop-index-init

@@ -1,6 +1,6 @@
-use Rattle.std.proofs.Common.{◌∙◌, subst, sym, arith}
+use Rattle.std.proofs.Common.{◌∙◌, refl, subst, sym}
 use Rattle.rb_sequence.specs.Cells.{Cells, IsReadyFor}
-use Rattle.rb_broker.proofs.HoldLaws.{step_keeps, shows_on, capacity_on}
+use Rattle.rb_broker.proofs.HoldLaws.{holds_still, step_keeps}
 use Rattle.rb_broker.proofs.locked.Locked.place.Goals as goal
 
 -- the entry is ready for a cell of the filler
@@ -10,16 +10,16 @@ fill-requires g c = subst (λ (s : Cells). IsReadyFor s c.args.ready) (sym c.arg
 -- what the lock says of the desk goes on, and the filler is of the same cells
 pub invariant_of-self : goal.invariant_of-self
 invariant_of-self g c =
-    let cells = g.L.StepLedger.cells in
     let old = c.args.self.now in
-    let new = c.place.new.self in
-    let keeps = step_keeps old.desk new _ _ (λ desk x p. c.steps_are_counted.ensures.own desk x p)
+    let keeps = step_keeps old.desk c.place.new.self _ _ (λ desk x p. c.steps_are_counted.ensures.own desk x p)
     (c.only_subscribe_and_close.ensures.place old.desk.picture) c.place.ensures.new in
+    let k = holds_still g.L.StepLedger.cells _ _ _ old.closing old.register keeps refl
+    (record { fits = old.fits; closes = old.closes; total = old.total; made = old.made }) in
     record {
-      fits = capacity_on cells old.desk new _ keeps old.fits;
+      fits = k.fits;
       fills = c.fill.ensures.same ∙ old.fills;
-      closes = shows_on cells old.desk new _ old.closing keeps old.closes;
+      closes = k.closes;
       all = old.all;
-      total = omega (arith, old.total, keeps.own);
-      made = old.made ∙ sym keeps.frame.count;
+      total = k.total;
+      made = k.made;
     }
