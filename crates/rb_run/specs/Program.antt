@@ -1,11 +1,12 @@
 -- The command line: which words the program takes, what they ask for, and how the program ends that
 -- does this.
-use Rattle.std.specs.Prelude.{◌≡◌, ◌⊎◌, ℕ, Bool, true, false, List, [], ◌∷◌, Option, Some, Result}
+use Rattle.std.specs.Prelude.{◌≡◌, ◌⊎◌, ◌++◌, ℕ, Bool, true, false, List, [], ◌∷◌, Option, Some}
+use Rattle.std.specs.Prelude.{Result}
 use Rattle.std.specs.Prelude.{Ok, Err, codes, option_map}
 use Rattle.std.specs.Io.KnownBytes.{Keeps}
 use Rattle.clap.specs.Faults.{fault_of}
 use Rattle.clap.specs.Kinds.{Kinds, HasKind}
-use Rattle.clap.specs.Simple.{App, Shape, new_rule, new_shape, subcommand_of}
+use Rattle.clap.specs.Simple.{App, Shape, new_rule, new_shape, subcommand_of, with_rule}
 use Rattle.clap.specs.Walk.{Rule, Text}
 use Rattle.clap.specs.declared.builder.action.ArgAction.TheVariants.{Set, SetTrue}
 use Rattle.clap.specs.Values.{kind_of}
@@ -51,26 +52,30 @@ path_option name =
 abbrev pub flag_option : Text → Rule
 flag_option name = record (new_rule name) { long = Some name; action = Some SetTrue }
 
+-- the limits of a broker, each with its usual number
+abbrev pub limit_options : List Rule
+limit_options =
+    limit_option (codes "batch") (codes "16") ∷ limit_option (codes "window") (codes "4")
+    ∷ limit_option (codes "timeout") (codes "10") ∷ limit_option (codes "capacity") (codes "65536")
+    ∷ limit_option (codes "intake") (codes "64") ∷ []
+
+-- a command with these options after its own, one after another
+abbrev pub with_rules : App → List Rule → App
+with_rules app [] = app
+with_rules app (rule ∷ rules) = with_rules (with_rule app rule) rules
+
 -- `script`, with its options
 abbrev pub script_command : Shape
 script_command = record (new_shape (codes "script")) {
   has_version = true;
-  rules = limit_option (codes "batch") (codes "16") ∷ limit_option (codes "window") (codes "4")
-      ∷ limit_option (codes "timeout") (codes "10") ∷ limit_option (codes "capacity")
-      (codes "65536")
-      ∷ limit_option (codes "intake") (codes "64") ∷ flag_option (codes "numbers")
-      ∷ flag_option (codes "strict") ∷ [];
+  rules = limit_options ++ flag_option (codes "numbers") ∷ flag_option (codes "strict") ∷ [];
 }
 
 -- `drive`, with its options
 abbrev pub drive_command : Shape
 drive_command = record (new_shape (codes "drive")) {
   has_version = true;
-  rules = limit_option (codes "batch") (codes "16") ∷ limit_option (codes "window") (codes "4")
-      ∷ limit_option (codes "timeout") (codes "10") ∷ limit_option (codes "capacity")
-      (codes "65536")
-      ∷ limit_option (codes "intake") (codes "64") ∷ limit_option (codes "subscribers")
-      (codes "1")
+  rules = limit_options ++ limit_option (codes "subscribers") (codes "1")
       ∷ limit_option (codes "appliers") (codes "1") ∷ path_option (codes "replica") ∷ [];
 }
 

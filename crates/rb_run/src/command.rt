@@ -3,8 +3,9 @@
 ghost use Rattle.std.specs.Prelude.{◌≡◌, false, IfOk};
 ghost use Rattle.clap.specs.Words.{app_of, rule_of};
 ghost use Rattle.clap.specs.declared.builder.command.Command.TheViews.{out-Command};
-ghost use Rattle.rb_run.specs.Program.{drive_command, flag_option, limit_option, path_option};
-ghost use Rattle.rb_run.specs.Program.{program, script_command, show_command};
+ghost use Rattle.rb_run.specs.Program.{drive_command, flag_option, limit_option, limit_options};
+ghost use Rattle.rb_run.specs.Program.{path_option, program, script_command, show_command};
+ghost use Rattle.rb_run.specs.Program.{with_rules};
 
 use clap::{Arg, ArgAction, Command};
 use std::alloc::{AllocError, Global};
@@ -127,36 +128,6 @@ fn script<'a>(alloc: Global) -> Result<Command<'a>, AllocError>
     ensures app { IfOk result (λ command. (app_of command).top ≡ script_command) }
     ensures local { IfOk result (λ command. (out-Command command).has_globals ≡ false) }
 {
-    let batch = limit(
-        alloc,
-        "batch",
-        "16",
-        "The most entries in a delivery, 1 to 256",
-    );
-    let window = limit(
-        alloc,
-        "window",
-        "4",
-        "The most deliveries in flight to a subscription, 1 to 64",
-    );
-    let timeout = limit(
-        alloc,
-        "timeout",
-        "10",
-        "After how many ticks a delivery can be expired, 1 to 1000000000",
-    );
-    let capacity = limit(
-        alloc,
-        "capacity",
-        "65536",
-        "The most entries of the sequence, 1 to 16777216",
-    );
-    let intake = limit(
-        alloc,
-        "intake",
-        "64",
-        "The most changesets that wait to be placed, 1 to 4096",
-    );
     let numbers = flag(
         alloc,
         "numbers",
@@ -167,23 +138,46 @@ fn script<'a>(alloc: Global) -> Result<Command<'a>, AllocError>
         "strict",
         "Stop after the first line that is refused or faulty",
     );
-    Command::new(alloc, "script")
+    let command = Command::new(alloc, "script")
         .version(VERSION)
         .about("Answers the lines of a script on standard input, one after another")
-        .after_help(LINES)
-        .arg(batch)?
-        .arg(window)?
-        .arg(timeout)?
-        .arg(capacity)?
-        .arg(intake)?
-        .arg(numbers)?
-        .arg(strict)
+        .after_help(LINES);
+    limited(alloc, command)?.arg(numbers)?.arg(strict)
 }
 
 // the subcommand `drive`
 fn drive<'a>(alloc: Global) -> Result<Command<'a>, AllocError>
     ensures app { IfOk result (λ command. (app_of command).top ≡ drive_command) }
     ensures local { IfOk result (λ command. (out-Command command).has_globals ≡ false) }
+{
+    let subscribers = limit(alloc, "subscribers", "1", "How many subscribers, 1 to 16");
+    let appliers = limit(
+        alloc,
+        "appliers",
+        "1",
+        "How many threads apply a delivery, 1 to 16: more than one pays for rows of some kilobytes",
+    );
+    let replica = path(
+        alloc,
+        "replica",
+        "Keep the rows of subscriber 0 in an SQLite database at FILE, which must be new or empty",
+    );
+    let command = Command::new(alloc, "drive")
+        .version(VERSION)
+        .about("Drives a broker with the changesets on standard input, in threads")
+        .after_help(DRIVEN);
+    limited(alloc, command)?
+        .arg(subscribers)?
+        .arg(appliers)?
+        .arg(replica)
+}
+
+// a subcommand with the five limits of a broker as its next options
+fn limited<'a>(alloc: Global, command: Command<'a>) -> Result<Command<'a>, AllocError>
+    requires { (out-Command command).has_globals ≡ false }
+    ensures app { IfOk result (λ made. app_of made
+        ≡ with_rules (app_of command.entry) limit_options) }
+    ensures local { IfOk result (λ made. (out-Command made).has_globals ≡ false) }
 {
     let batch = limit(
         alloc,
@@ -215,30 +209,12 @@ fn drive<'a>(alloc: Global) -> Result<Command<'a>, AllocError>
         "64",
         "The most changesets that wait to be placed, 1 to 4096",
     );
-    let subscribers = limit(alloc, "subscribers", "1", "How many subscribers, 1 to 16");
-    let appliers = limit(
-        alloc,
-        "appliers",
-        "1",
-        "How many threads apply a delivery, 1 to 16: more than one pays for rows of some kilobytes",
-    );
-    let replica = path(
-        alloc,
-        "replica",
-        "Keep the rows of subscriber 0 in an SQLite database at FILE, which must be new or empty",
-    );
-    Command::new(alloc, "drive")
-        .version(VERSION)
-        .about("Drives a broker with the changesets on standard input, in threads")
-        .after_help(DRIVEN)
+    command
         .arg(batch)?
         .arg(window)?
         .arg(timeout)?
         .arg(capacity)?
-        .arg(intake)?
-        .arg(subscribers)?
-        .arg(appliers)?
-        .arg(replica)
+        .arg(intake)
 }
 
 // the subcommand `show`

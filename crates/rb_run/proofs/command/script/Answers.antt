@@ -1,38 +1,30 @@
 use Rattle.std.proofs.Common.{◌∙◌, ◌||◌, ap, ap₂}
 use Rattle.std.proofs.lemmas.Result.{IfOk-weaker}
 use Rattle.clap.specs.Simple.{App, app_of_fields, with_rule}
+use Rattle.rb_run.specs.Program.{limit_options, with_rules}
 use Rattle.rb_run.proofs.Given.{versioned}
 use Rattle.rb_run.proofs.command.script.Goals as goal
+
+-- the command has no options yet
+pub limited-requires : goal.limited-requires
+limited-requires c =
+    ap (λ f. f.has_globals) c.after_help.ensures ∙ ap (λ f. f.has_globals) c.about.ensures
+    ∙ ap (λ f. f.has_globals) c.version.ensures ∙ c.new.ensures.local
 
 -- the options are added one after another
 pub returns-clause-app : goal.returns-clause-app
 returns-clause-app c =
     let made = ap app_of_fields c.after_help.ensures ∙ ap app_of_fields c.about.ensures
     ∙ ap app_of_fields c.version.ensures ∙ ap versioned c.new.ensures.app in
-    let batch = c.in_ok-arg.ensures.shape c.limit-batch.ensures.local ∙ ap₂ with_rule made c.limit-batch.ensures.rule in
-    let window = c.in_ok-arg-2.ensures.shape c.limit-window.ensures.local
-    ∙ ap₂ with_rule batch c.limit-window.ensures.rule in
-    let timeout = c.in_ok-arg-3.ensures.shape c.limit-timeout.ensures.local
-    ∙ ap₂ with_rule window c.limit-timeout.ensures.rule in
-    let capacity = c.in_ok-arg-4.ensures.shape c.limit-capacity.ensures.local
-    ∙ ap₂ with_rule timeout c.limit-capacity.ensures.rule in
-    let intake = c.in_ok-arg-5.ensures.shape c.limit-intake.ensures.local
-    ∙ ap₂ with_rule capacity c.limit-intake.ensures.rule in
-    let numbers = c.in_ok-arg-6.ensures.shape c.flag-numbers.ensures.local
-    ∙ ap₂ with_rule intake c.flag-numbers.ensures.rule in
-    IfOk-weaker c.arg-7.result _ _ (λ command h. ap (λ (a : App). a.top)
-    (h.shape c.flag-strict.ensures.local ∙ ap₂ with_rule numbers c.flag-strict.ensures.rule)) c.arg-7.ensures
+    let limits = c.in_ok-limited.ensures.app ∙ ap (λ app. with_rules app limit_options) made in
+    let numbers = c.in_ok-arg.ensures.shape c.flag-numbers.ensures.local
+    ∙ ap₂ with_rule limits c.flag-numbers.ensures.rule in
+    IfOk-weaker c.arg-2.result _ _ (λ command h. ap (λ (a : App). a.top)
+    (h.shape c.flag-strict.ensures.local ∙ ap₂ with_rule numbers c.flag-strict.ensures.rule)) c.arg-2.ensures
 
 -- none of them is global
 pub returns-clause-local : goal.returns-clause-local
-returns-clause-local c = IfOk-weaker c.arg-7.result _ _
-    (λ command h. h.globals ∙ ap₂ (λ a b. a || b) (c.in_ok-arg-6.ensures.globals
-    ∙ ap₂ (λ a b. a || b) (c.in_ok-arg-5.ensures.globals
-    ∙ ap₂ (λ a b. a || b) (c.in_ok-arg-4.ensures.globals
-    ∙ ap₂ (λ a b. a || b) (c.in_ok-arg-3.ensures.globals ∙ ap₂ (λ a b. a || b) (c.in_ok-arg-2.ensures.globals
-    ∙ ap₂ (λ a b. a || b) (c.in_ok-arg.ensures.globals
-    ∙ ap₂ (λ a b. a || b) (ap (λ f. f.has_globals) c.after_help.ensures ∙ ap (λ f. f.has_globals) c.about.ensures
-    ∙ ap (λ f. f.has_globals) c.version.ensures ∙ c.new.ensures.local) c.limit-batch.ensures.local)
-    c.limit-window.ensures.local) c.limit-timeout.ensures.local) c.limit-capacity.ensures.local)
-    c.limit-intake.ensures.local) c.flag-numbers.ensures.local)
-    c.flag-strict.ensures.local) c.arg-7.ensures
+returns-clause-local c = IfOk-weaker c.arg-2.result _ _
+    (λ command h. h.globals ∙ ap₂ (λ a b. a || b) (c.in_ok-arg.ensures.globals
+    ∙ ap₂ (λ a b. a || b) c.in_ok-limited.ensures.local c.flag-numbers.ensures.local) c.flag-strict.ensures.local)
+    c.arg-2.ensures
