@@ -2,10 +2,10 @@
 //! bytes at `at` and returns the index after them. It does not change the other bytes and does not
 //! allocate.
 
-ghost use Rattle.std.specs.Prelude.{◌≡◌, ◌≤◌, ◌+◌, ◌++◌, length, map};
+ghost use Rattle.std.specs.Prelude.{◌≡◌, ◌≤◌, ◌+◌, ◌++◌, length, map, nat_lt};
 ghost use Rattle.std.specs.List.{AllByRecursion};
 ghost use Rattle.cs_model.specs.declared.change.Op.TheVariants.{Update};
-ghost use Rattle.cs_model.specs.Changeset.{AreRecords, IsSection};
+ghost use Rattle.cs_model.specs.Changeset.{AreRecords, IsSection, all_changes};
 ghost use Rattle.cs_model.specs.Packed.{packed};
 ghost use Rattle.cs_model.specs.PackedChanges.{change_bytes, changes_bytes};
 ghost use Rattle.cs_model.specs.Seen.{change_seen};
@@ -223,6 +223,13 @@ fn put_sections(out: &mut [u8], at: usize, sections: &[SectionRef]) -> usize
     end
 }
 
+// whether the inverses of these sections have a change
+fn any_inverse(sections: &[SectionRef]) -> bool
+    ensures { result ≡ nat_lt 0 (length (all_changes (inverse sections.now))) }
+{
+    any_change(sections)
+}
+
 // A group's inverse, if it has a change.
 fn put_group(out: &mut [u8], at: usize, shape: &Shape, sections: &[SectionRef]) -> usize
     requires valid { AllByRecursion IsSection sections.now }
@@ -232,7 +239,7 @@ fn put_group(out: &mut [u8], at: usize, shape: &Shape, sections: &[SectionRef]) 
     ensures bytes { out.new ≡ laid at (group_text (inverse_group (shape.now, sections.now)))
         out.old }
 {
-    if !any_change(sections) {
+    if !any_inverse(sections) {
         return at;
     }
     let end = put_header(out, at, shape);
