@@ -14,19 +14,19 @@ use Rattle.cs_invert.proofs.text.write_inverse.Goals as goal
 use Rattle.cs_invert.proofs.text.write_inverse.Goals.{In_ok-len}
 
 -- the groups are those of the changeset's sections
-grouped : (c : In_ok-len) → seen c.in_ok-groups.groups.entries ≡ by_shape [] c.args.changeset.now
-grouped c = c.in_ok-groups.ensures ∙ ap (by_shape []) c.iter.ensures.same
+groups_are_its : (c : In_ok-len) → seen c.in_ok-groups.groups.entries ≡ by_shape [] c.args.changeset.now
+groups_are_its c = c.in_ok-groups.ensures ∙ ap (by_shape []) c.iter.ensures.same
 
 -- the text of the groups' inverses is that of the inverse
 inverted_text : (c : In_ok-len) → groups_text (map inverse_group (seen c.in_ok-groups.groups.entries))
     ≡ text_of (inverse c.args.changeset.now)
-inverted_text c = ap (λ gs. groups_text (map inverse_group gs)) (grouped c) ∙ inverse_text_is c.args.changeset.now
+inverted_text c = ap (λ gs. groups_text (map inverse_group gs)) (groups_are_its c) ∙ inverse_text_is c.args.changeset.now
 
 -- and as long as the text of the groups
 inverted_len : (c : In_ok-len) → c.in_ok-len.len ≡ length (text_of (inverse c.args.changeset.now))
 inverted_len c =
     c.in_ok-len.ensures.ok
-    ∙ ap (λ gs. length (groups_text gs)) (grouped c)
+    ∙ ap (λ gs. length (groups_text gs)) (groups_are_its c)
     ∙ sym (inverse_text_len c.args.changeset.now c.iter.ensures.valid)
     ∙ ap length (inverse_text_is c.args.changeset.now)
 
@@ -43,7 +43,7 @@ returns-then-room-len-clause-written c =
 
 pub put_groups-requires-clause-valid : goal.put_groups-requires-clause-valid
 put_groups-requires-clause-valid c =
-    subst (AllByRecursion AreValid) (sym (grouped (goal.at.put_groups-requires-clause-valid c).In_ok-len))
+    subst (AllByRecursion AreValid) (sym (groups_are_its (goal.at.put_groups-requires-clause-valid c).In_ok-len))
     (by_shape_valid [] c.args.changeset.now c.iter.ensures.valid)
 
 pub put_groups-requires-clause-room : goal.put_groups-requires-clause-room
