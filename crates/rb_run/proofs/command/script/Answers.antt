@@ -8,13 +8,13 @@ use Rattle.rb_run.proofs.command.script.Goals as goal
 -- the command has no options yet
 pub limited-requires : goal.limited-requires
 limited-requires c =
-    ap (λ f. f.has_globals) c.after_help.ensures ∙ ap (λ f. f.has_globals) c.about.ensures
+    ap (λ f. f.has_globals) c.after_help-command.ensures ∙ ap (λ f. f.has_globals) c.about.ensures
     ∙ ap (λ f. f.has_globals) c.version.ensures ∙ c.new.ensures.local
 
 -- the options are added one after another
 pub returns-clause-app : goal.returns-clause-app
 returns-clause-app c =
-    let made = ap app_of_fields c.after_help.ensures ∙ ap app_of_fields c.about.ensures
+    let made = ap app_of_fields c.after_help-command.ensures ∙ ap app_of_fields c.about.ensures
     ∙ ap app_of_fields c.version.ensures ∙ ap versioned c.new.ensures.app in
     let limits = c.in_ok-limited.ensures.app ∙ ap (λ app. with_rules app limit_options) made in
     let numbers = c.in_ok-arg.ensures.shape c.flag-numbers.ensures.local
