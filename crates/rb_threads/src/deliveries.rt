@@ -176,41 +176,52 @@ fn opened(alloc: Global, batch: u64, window: u64) -> Result<Opened, Fail> {
     Ok(Opened::new(alloc, config, schema(alloc)?)?)
 }
 
-// the largest batch and the window of a broker, the steps that its subscriptions make, and the calls
-const HISTORIES: [(u64, u64, u64, &[u8]); 8] = [
-    (1, 2, 5, THE_WINDOW_AND_THE_FLOOR),
-    (1, 2, 6, WHAT_IS_GIVEN_BACK_GOES_TO_ANY),
-    (16, 4, 9, A_REFUSED_BATCH_IS_OPENED),
-    (256, 4, 6, A_NEW_LINK_CUTS_ANEW),
-    (16, 4, 2, A_NEW_LINK_AT_THE_FRONT),
-    (16, 4, 3, WHAT_EXPIRES_IS_DELIVERED_AGAIN),
-    (16, 4, 4, A_LATE_CLOCK_IS_NO_EARLIER_ONE),
-    (16, 4, 7, FOREIGN_DELIVERIES_ARE_REFUSED),
-];
-
 #[test]
-fn histories(rt: HostRuntime) -> Result<(), Fail> {
-    for (batch, window, steps, lines) in HISTORIES {
-        history(
-            &rt,
-            rt.alloc(),
-            opened(rt.alloc(), batch, window)?,
-            lines,
-            steps,
-        )?;
-    }
-    Ok(())
+fn the_window_and_the_floor(rt: HostRuntime) -> Result<(), Fail> {
+    let opened = opened(rt.alloc(), 1, 2)?;
+    counts::<Brand, _>(&rt, rt.alloc(), opened, THE_WINDOW_AND_THE_FLOOR, 5)
 }
 
-// one of them, on a broker of its own
-fn history<R: Wait + Abort>(
-    rt: &R,
-    alloc: Global,
-    opened: Opened,
-    lines: &[u8],
-    steps: u64,
-) -> Result<(), Fail> {
-    counts::<Brand, _>(rt, alloc, opened, lines, steps)
+#[test]
+fn what_is_given_back_goes_to_any(rt: HostRuntime) -> Result<(), Fail> {
+    let opened = opened(rt.alloc(), 1, 2)?;
+    counts::<Brand, _>(&rt, rt.alloc(), opened, WHAT_IS_GIVEN_BACK_GOES_TO_ANY, 6)
+}
+
+#[test]
+fn a_refused_batch_is_opened(rt: HostRuntime) -> Result<(), Fail> {
+    let opened = opened(rt.alloc(), 16, 4)?;
+    counts::<Brand, _>(&rt, rt.alloc(), opened, A_REFUSED_BATCH_IS_OPENED, 9)
+}
+
+#[test]
+fn a_new_link_cuts_anew(rt: HostRuntime) -> Result<(), Fail> {
+    let opened = opened(rt.alloc(), 256, 4)?;
+    counts::<Brand, _>(&rt, rt.alloc(), opened, A_NEW_LINK_CUTS_ANEW, 6)
+}
+
+#[test]
+fn a_new_link_at_the_front(rt: HostRuntime) -> Result<(), Fail> {
+    let opened = opened(rt.alloc(), 16, 4)?;
+    counts::<Brand, _>(&rt, rt.alloc(), opened, A_NEW_LINK_AT_THE_FRONT, 2)
+}
+
+#[test]
+fn what_expires_is_delivered_again(rt: HostRuntime) -> Result<(), Fail> {
+    let opened = opened(rt.alloc(), 16, 4)?;
+    counts::<Brand, _>(&rt, rt.alloc(), opened, WHAT_EXPIRES_IS_DELIVERED_AGAIN, 3)
+}
+
+#[test]
+fn a_late_clock_is_no_earlier_one(rt: HostRuntime) -> Result<(), Fail> {
+    let opened = opened(rt.alloc(), 16, 4)?;
+    counts::<Brand, _>(&rt, rt.alloc(), opened, A_LATE_CLOCK_IS_NO_EARLIER_ONE, 4)
+}
+
+#[test]
+fn foreign_deliveries_are_refused(rt: HostRuntime) -> Result<(), Fail> {
+    let opened = opened(rt.alloc(), 16, 4)?;
+    counts::<Brand, _>(&rt, rt.alloc(), opened, FOREIGN_DELIVERIES_ARE_REFUSED, 7)
 }
 
 // The calls answer so, and their subscriptions made this many steps.
