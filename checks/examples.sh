@@ -52,7 +52,8 @@ says "C's replica" rows
 says 'C over AddressSanitizer, built' gcc $strict -g -fsanitize=address,undefined -fno-sanitize-recover=all \
     "$top/examples/library/replicate.c" $(pkg-config --cflags --libs gubzelk-broker sqlite3) -o replicate-a
 says 'C over AddressSanitizer' prints replicate.c ./replicate-a
-says 'Python' prints replicate.py python3 "$top/examples/library/replicate.py" "$work/prefix/lib/libgubzelk.so"
+says 'Python' prints replicate.py python3 -B "$top/examples/library/replicate.py" "$work/prefix/lib/libgubzelk.so"
+says 'Python, each call' python3 -B "$top/checks/binding.py" "$work/prefix/lib/libgubzelk.so"
 says 'Rust, built' rustc --edition 2021 -O -D warnings "$top/examples/library/run.rs" -L "native=$work/prefix/lib" \
     -l static=broker_c -l static=gubzelk_heap -o run
 says 'Rust' prints run.rs ./run

@@ -41,23 +41,7 @@ pub fn code(reply: &Reply) -> i32
         Reply::Idle => 1,
         Reply::Fault(_) => -3,
         Reply::Refused(why) => refusal_code(*why),
-        Reply::Publisher(_)
-        | Reply::Fed
-        | Reply::Reset
-        | Reply::Staged
-        | Reply::Sent(_)
-        | Reply::Placed(_)
-        | Reply::Closed(_)
-        | Reply::Subscriber { .. }
-        | Reply::Delivery(_)
-        | Reply::Accepted { .. }
-        | Reply::Crashed { .. }
-        | Reply::Floor(_)
-        | Reply::Returned
-        | Reply::Opened(_)
-        | Reply::Expired(_)
-        | Reply::Link(_)
-        | Reply::Unsubscribed => 0,
+        _ => 0,
     }
 }
 
@@ -125,24 +109,7 @@ pub fn why_after(reply: &Reply, before: Why) -> Why
     match reply {
         Reply::Fault(fault) => fault_why(*fault),
         Reply::Refused(why) => refusal_why(*why),
-        Reply::Publisher(_)
-        | Reply::Fed
-        | Reply::Reset
-        | Reply::Staged
-        | Reply::Sent(_)
-        | Reply::Placed(_)
-        | Reply::Idle
-        | Reply::Closed(_)
-        | Reply::Subscriber { .. }
-        | Reply::Delivery(_)
-        | Reply::Accepted { .. }
-        | Reply::Crashed { .. }
-        | Reply::Floor(_)
-        | Reply::Returned
-        | Reply::Opened(_)
-        | Reply::Expired(_)
-        | Reply::Link(_)
-        | Reply::Unsubscribed => before,
+        _ => before,
     }
 }
 
@@ -192,17 +159,7 @@ fn refusal_why(why: BrokerRefusal) -> Why
         }
         BrokerRefusal::Desk(why) => desk_why(why),
         BrokerRefusal::Accept(why) => accept_why(why),
-        BrokerRefusal::NoPublisher
-        | BrokerRefusal::NoDelivery
-        | BrokerRefusal::TooMany
-        | BrokerRefusal::Holding
-        | BrokerRefusal::NothingStaged
-        | BrokerRefusal::Closed
-        | BrokerRefusal::Full
-        | BrokerRefusal::NotPlaced
-        | BrokerRefusal::NotYours
-        | BrokerRefusal::AlreadyWithdrawn
-        | BrokerRefusal::NotFallen => numbers(0, 0),
+        _ => numbers(0, 0),
     }
 }
 
@@ -214,14 +171,7 @@ fn desk_why(why: DeskRefusal) -> Why
         DeskRefusal::Empty { front } | DeskRefusal::StartAhead { front } => numbers(front, 0),
         DeskRefusal::NotAccepted { cursor } => numbers(cursor, 0),
         DeskRefusal::BadCursor { floor, offered } => numbers(floor, offered),
-        DeskRefusal::JournalFull
-        | DeskRefusal::NoSuch
-        | DeskRefusal::StaleLink
-        | DeskRefusal::Closed
-        | DeskRefusal::WindowFull
-        | DeskRefusal::NotInFlight
-        | DeskRefusal::TooMany
-        | DeskRefusal::SequenceFull => numbers(0, 0),
+        _ => numbers(0, 0),
     }
 }
 
@@ -234,9 +184,6 @@ fn accept_why(why: AcceptRefusal) -> Why
         AcceptRefusal::Conflict(conflict) => {
             numbers(conflict.position as u64, u64::from(conflict.kind.code()))
         }
-        AcceptRefusal::Store
-        | AcceptRefusal::Closed
-        | AcceptRefusal::StaleLink
-        | AcceptRefusal::Seen => numbers(0, 0),
+        _ => numbers(0, 0),
     }
 }

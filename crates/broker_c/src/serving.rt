@@ -103,15 +103,7 @@ fn number_after(reply: &Reply, before: u64) -> u64
             subscription: _,
             cursor,
         } => *cursor,
-        Reply::Fed
-        | Reply::Reset
-        | Reply::Staged
-        | Reply::Idle
-        | Reply::Delivery(_)
-        | Reply::Returned
-        | Reply::Unsubscribed
-        | Reply::Fault(_)
-        | Reply::Refused(_) => before,
+        _ => before,
     }
 }
 
@@ -123,25 +115,7 @@ fn link_after(reply: &Reply, before: u64) -> u64
             subscription: _,
             link,
         } => *link,
-        Reply::Publisher(_)
-        | Reply::Fed
-        | Reply::Reset
-        | Reply::Staged
-        | Reply::Sent(_)
-        | Reply::Placed(_)
-        | Reply::Idle
-        | Reply::Closed(_)
-        | Reply::Delivery(_)
-        | Reply::Accepted { .. }
-        | Reply::Crashed { .. }
-        | Reply::Floor(_)
-        | Reply::Returned
-        | Reply::Opened(_)
-        | Reply::Expired(_)
-        | Reply::Link(_)
-        | Reply::Unsubscribed
-        | Reply::Fault(_)
-        | Reply::Refused(_) => before,
+        _ => before,
     }
 }
 
@@ -155,24 +129,6 @@ fn taken_after(reply: &Reply, before: Taken) -> Taken
             first: delivery.first(),
             last: delivery.last(),
         },
-        Reply::Publisher(_)
-        | Reply::Fed
-        | Reply::Reset
-        | Reply::Staged
-        | Reply::Sent(_)
-        | Reply::Placed(_)
-        | Reply::Idle
-        | Reply::Closed(_)
-        | Reply::Subscriber { .. }
-        | Reply::Accepted { .. }
-        | Reply::Crashed { .. }
-        | Reply::Floor(_)
-        | Reply::Returned
-        | Reply::Opened(_)
-        | Reply::Expired(_)
-        | Reply::Link(_)
-        | Reply::Unsubscribed
-        | Reply::Fault(_)
-        | Reply::Refused(_) => before,
+        _ => before,
     }
 }

@@ -1,0 +1,74 @@
+"""A broker in this process, by the calls of broker.h through ctypes. A program can copy this file (docs/C.md).
+
+A call is a method of a Broker: take(0, 7) makes broker_take. It gets numbers, and bytes without their length, and returns
+what the call writes: nothing, one number, a tuple of numbers, or a text as bytes. broker.h says what each means."""
+import ctypes
+from ctypes import byref, c_int64, c_size_t, c_uint64
+
+EMPTY, IDLE = -37, 1
+# of each call that writes numbers, how many go to each of its pointers
+NUMBERS = dict(publisher=[1], send=[1], turn=[1], close=[1], left=[1], front=[1], entry=[3], subscribe=[1, 1], take=[4],
+               take_any=[4], accept=[1], crash=[1], cursor=[1], ack=[1], nack_opened=[1], expire=[1], reconnect=[1],
+               resume=[1])
+TEXTS = 'text', 'combined', 'rows', 'row'
+
+
+class Refused(Exception):
+    """A call is refused, and changed nothing: its code, what that means, and the two numbers that go with it."""
+
+
+class Table(ctypes.Structure):
+    _fields_ = [('name', ctypes.c_char_p), ('name_len', c_size_t), ('key', ctypes.c_char_p), ('columns', c_size_t)]
+
+
+class Broker:
+    handle = None
+
+    def __init__(self, library, tables, limits=(16, 4, 10, 65536, 64, 1)):
+        """Opens a broker of libgubzelk.so for tables (name, key): a byte for each column, its place in the key, or 0."""
+        self.lib, self.handle, why = ctypes.CDLL(library), ctypes.c_void_p(), (c_uint64 * 2)()
+        for name in (*TEXTS, 'message'):
+            getattr(self.lib, 'broker_' + name).restype = c_int64
+        rows = (Table * len(tables))(*(Table(name, len(name), key, len(key)) for name, key in tables))
+        code = self.lib.broker_open(byref(self.handle), (c_uint64 * 6)(*limits), rows, c_size_t(len(rows)), why)
+        if code < 0:
+            raise Refused(code, self.message(code), *why)
+
+    def __del__(self):
+        if self.handle:
+            self.lib.broker_free(self.handle)
+
+    def shut(self):
+        """Frees what is behind the handle: each later call is refused."""
+        self.lib.broker_shut(self.handle)
+
+    def __getattr__(self, name):
+        return lambda *operands: self.call(name, *operands)
+
+    def call(self, name, *operands):
+        words = []
+        for it in operands:
+            words += [it, c_size_t(len(it))] if isinstance(it, bytes) else [c_uint64(it)]
+        if name in TEXTS:
+            text = ctypes.create_string_buffer(self.ask(name, *words, b'', c_size_t(0)))
+            self.ask(name, *words, text, c_size_t(len(text)))
+            return text.raw
+        outs = [(c_uint64 * count)() for count in NUMBERS.get(name, [])]
+        code = self.ask(name, *words, *outs)
+        if code in (EMPTY, IDLE):
+            return None
+        numbers = [number for out in outs for number in out]
+        return numbers[0] if len(numbers) == 1 else tuple(numbers) or None
+
+    def ask(self, name, *words):
+        code = getattr(self.lib, 'broker_' + name)(self.handle, *words)
+        if code < 0 and code != EMPTY:
+            why = (c_uint64 * 2)()
+            self.lib.broker_why(self.handle, why)
+            raise Refused(code, self.message(code), *why)
+        return code
+
+    def message(self, code):
+        words = ctypes.create_string_buffer(64)
+        self.lib.broker_message(code, words, c_size_t(64))
+        return words.value.decode()
