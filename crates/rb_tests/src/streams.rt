@@ -2,9 +2,10 @@
 
 use rb_core::Config;
 use rb_script::{Answering, ScriptFault, run_script};
-use rb_show::{RowForm, ShowFault, show};
+use rb_show::{RowForm, show};
 use std::alloc::Global;
 use std::cell::Cell;
+use std::fmt::Display;
 use std::io;
 use std::io::{ErrorKind, Read, Write};
 use std::process::Abort;
@@ -190,20 +191,21 @@ impl Read for Turning {
 
 // The run stopped with this text. If memory ran out before, for the run or for the list of its
 // answers, that is an error.
-fn stopped(
+fn stopped<F: Display + Drop>(
     rt: &impl Abort,
     alloc: Global,
-    run: Result<(), ScriptFault>,
+    run: Result<(), F>,
     want: &str,
 ) -> Result<(), Fail> {
     let Err(fault) = run else {
-        return Err("the script ended")?;
+        return Err("the run ended")?;
     };
     let text = format!(in alloc; "{fault}")?;
-    if text.as_str() != want && matches!(&fault, ScriptFault::Memory | ScriptFault::Write(_)) {
+    let text = text.as_str();
+    if text != want && (text == "out of memory" || text.starts_with("write fault")) {
         return Err("out of memory")?;
     }
-    assert_eq!(rt; text.as_str(), want);
+    assert_eq!(rt; text, want);
     Ok(())
 }
 
@@ -345,24 +347,6 @@ fn answers_are_handed_on_behind_a_fault(rt: HostRuntime) -> Result<(), Fail> {
     Ok(())
 }
 
-// The showing stopped with this text. If memory ran out before, that is an error.
-fn unshown(
-    rt: &impl Abort,
-    alloc: Global,
-    run: Result<(), ShowFault>,
-    want: &str,
-) -> Result<(), Fail> {
-    let Err(fault) = run else {
-        return Err("all rows were shown")?;
-    };
-    let text = format!(in alloc; "{fault}")?;
-    if text.as_str() != want && matches!(&fault, ShowFault::Memory | ShowFault::Write(_)) {
-        return Err("out of memory")?;
-    }
-    assert_eq!(rt; text.as_str(), want);
-    Ok(())
-}
-
 #[test]
 fn showing_stops(rt: HostRuntime) -> Result<(), Fail> {
     let alloc = rt.alloc();
@@ -370,19 +354,19 @@ fn showing_stops(rt: HostRuntime) -> Result<(), Fail> {
     let mut written = Vec::new(alloc);
     let mut failing = Failing { rest: rows };
     let read = show(alloc, &mut failing, &mut written, RowForm::Sql);
-    unshown(&rt, alloc, read, "read fault: timed out")?;
+    stopped(&rt, alloc, read, "read fault: timed out")?;
     // nothing is written before the whole input is read
     assert!(rt; written.is_empty());
     let mut input: &[u8] = rows;
     let full = show(alloc, &mut input, &mut Full, RowForm::Json);
-    unshown(&rt, alloc, full, "write fault: write zero")?;
+    stopped(&rt, alloc, full, "write fault: write zero")?;
     let mut broken = Broken {
         writes: false,
         flushes: 0,
     };
     let mut input: &[u8] = rows;
     let unflushed = show(alloc, &mut input, &mut broken, RowForm::Sql);
-    unshown(&rt, alloc, unflushed, "write fault: timed out")?;
+    stopped(&rt, alloc, unflushed, "write fault: timed out")?;
     let input: &[u8] = rows;
     let mut reader = Hasty::new(input);
     let mut writer = Hasty::new(Vec::new(alloc));

@@ -6,7 +6,7 @@ ghost use Rattle.std.specs.Prelude.{◌≡◌, IfOk};
 use cs_apply::Tables;
 use cs_model::{Octets, Origin, Schema, Seq, Shape};
 use cs_parse::{ParseError, parse};
-use rb_broker::{AddRefusal, Broker, Hall, Opened, Publisher, PublisherMaker};
+use rb_broker::{AddRefusal, Broker, Hall, Publisher, PublisherMaker};
 use rb_desk::Config;
 use rb_sequence::{Entry, Item};
 use std::alloc::{AllocError, Global};
@@ -62,10 +62,9 @@ pub fn tables_after(alloc: Global, changesets: &[&str], count: u64) -> Result<Ta
     Ok(tables)
 }
 
-/// A broker of the table, for this many entries and waiting items.
-pub fn opened(alloc: Global, capacity: u64, intake: u64) -> Result<Opened, Fail> {
-    let config = Config::new(16, 4, 10, capacity, intake, 1)?;
-    Ok(Opened::new(alloc, config, schema(alloc)?)?)
+/// The limits of a broker of this many entries and waiting items.
+pub fn limits(capacity: u64, intake: u64) -> Result<Config, Fail> {
+    Ok(Config::new(16, 4, 10, capacity, intake, 1)?)
 }
 
 /// The entry with this number, whose key is its number.

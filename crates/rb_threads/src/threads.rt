@@ -1,17 +1,16 @@
 //! Publishers in threads of their own, and the sequencer in another.
 
-ghost use Rattle.std.specs.Prelude.{◌≡◌, ◌<◌, ◌*◌, IfOk};
+ghost use Rattle.std.specs.Prelude.{◌≡◌, IfOk};
 
-use crate::given::{insert, opened, publisher};
-use rb_broker::{Broker, Hall, Opened, Publisher, SendRefusal, StagedSet, Started};
+use crate::bench::{Bench, Host, Scenario, play};
+use crate::given::{insert, limits, publisher};
+use rb_broker::{Broker, Hall, Publisher, SendRefusal, StagedSet};
 use rb_sequencer::{Sequencer, Turn};
 use std::alloc::Global;
-use std::marker::Brand;
 use std::process::Abort;
 use std::sync::Wait;
 use std::test::Fail;
 use std::thread;
-use std::thread::Threads;
 
 // after this many turns a loop that waits fails
 const MOST_TURNS: u64 = 10_000_000;
@@ -26,58 +25,76 @@ enum Job<L: Hall> {
 
 #[test]
 fn two_publishers_send_a_hundred_each(rt: HostRuntime) -> Result<(), Fail> {
-    let opened = opened(rt.alloc(), 200, 64)?;
-    all_arrive::<Brand, _>(&rt, rt.alloc(), opened, 2, 100)
+    let (publishers, sends) = (2, 100);
+    play(
+        &rt,
+        rt.alloc(),
+        limits(200, 64)?,
+        AllArrive { publishers, sends },
+    )
 }
 
 #[test]
 fn eight_publishers_through_an_intake_of_one(rt: HostRuntime) -> Result<(), Fail> {
-    let opened = opened(rt.alloc(), 16_000, 1)?;
-    all_arrive::<Brand, _>(&rt, rt.alloc(), opened, 8, 2_000)
+    let (publishers, sends) = (8, 2_000);
+    play(
+        &rt,
+        rt.alloc(),
+        limits(16_000, 1)?,
+        AllArrive { publishers, sends },
+    )
 }
 
 #[test]
 fn eight_publishers_through_an_intake_of_64(rt: HostRuntime) -> Result<(), Fail> {
     // a reader crosses the border of two segments while it is filled
-    let opened = opened(rt.alloc(), 68_000, 64)?;
-    all_arrive::<Brand, _>(&rt, rt.alloc(), opened, 8, 8_500)
+    let (publishers, sends) = (8, 8_500);
+    play(
+        &rt,
+        rt.alloc(),
+        limits(68_000, 64)?,
+        AllArrive { publishers, sends },
+    )
 }
 
 // Each of `publishers` threads sends this often; all arrive, each publisher's in sending order.
-fn all_arrive<L: Hall + Send + Sync, R: Threads + Wait + Abort + Sync>(
-    rt: &R,
-    alloc: Global,
-    opened: Opened,
+#[derive(Drop)]
+struct AllArrive {
     publishers: u64,
     sends: u64,
-) -> Result<(), Fail>
-    requires cells { opened.cells ≡ L.cells }
-    requires queue { opened.queue ≡ L.queue }
-    requires ledger { (opened.ledger ≡ L.name) × (L.parts ≡ 1024) × (L.all ≡ 1024) }
-    requires few { publishers * sends < 18446744073709551615 }
-{
-    let all = publishers * sends;
-    let Started {
-        broker,
-        sequencer,
-        publishers: mut maker,
-        ..
-    } = Broker::<L>::start(opened);
-    let mut jobs = Vec::new(alloc);
-    jobs.push(Job::Place(Sequencer::new(alloc, sequencer), all))?;
-    jobs.push(Job::Read(all))?;
-    for _ in 0..publishers {
-        let publisher = publisher(alloc, &mut maker, &broker)?;
-        jobs.push(Job::Publish(publisher, sends))?;
-    }
-    let broker = &broker;
-    let done = thread::map_vec(rt, jobs, &|job| work(rt, alloc, broker, job))?;
-    for one in &done {
-        if let Err(why) = one {
-            return Err(Fail::new(*why));
+}
+
+impl Scenario for AllArrive {
+    type Output = ();
+
+    fn run<L: Hall + Send + Sync, R: Host>(self, rt: &R, bench: Bench<L>) -> Result<(), Fail> {
+        let alloc = bench.alloc;
+        let AllArrive { publishers, sends } = self;
+        let all = publishers.wrapping_mul(sends);
+        let Bench {
+            broker,
+            publisher: first,
+            sequencer,
+            publishers: mut maker,
+            ..
+        } = bench;
+        let mut jobs = Vec::new(alloc);
+        jobs.push(Job::Place(sequencer, all))?;
+        jobs.push(Job::Read(all))?;
+        jobs.push(Job::Publish(first, sends))?;
+        for _ in 1..publishers {
+            let publisher = publisher(alloc, &mut maker, &broker)?;
+            jobs.push(Job::Publish(publisher, sends))?;
         }
+        let broker = &broker;
+        let done = thread::map_vec(rt, jobs, &|job| work(rt, alloc, broker, job))?;
+        for one in &done {
+            if let Err(why) = one {
+                return Err(Fail::new(*why));
+            }
+        }
+        in_sending_order(rt, alloc, broker, publishers, all)
     }
-    in_sending_order(rt, alloc, broker, publishers, all)
 }
 
 fn work<L: Hall, R: Wait>(
