@@ -12,7 +12,6 @@ use std::marker::Brand;
 use std::process::Abort;
 use std::sync::Wait;
 use std::test::Fail;
-use std::thread::Threads;
 
 /// A broker, its owners and a publisher.
 #[derive(Drop)]
@@ -26,8 +25,8 @@ pub struct Bench<L: Hall> {
 }
 
 impl<L: Hall> Bench<L> {
-    // the broker that was opened, started
-    fn start(alloc: Global, opened: Opened) -> Result<Bench<L>, Fail>
+    /// The broker that was opened, started.
+    pub fn start(alloc: Global, opened: Opened) -> Result<Bench<L>, Fail>
         requires cells { opened.cells ≡ L.cells }
         requires queue { opened.queue ≡ L.queue }
         requires ledger { (opened.ledger ≡ L.name) × (L.parts ≡ 1024) × (L.all ≡ 1024) }
@@ -50,39 +49,28 @@ impl<L: Hall> Bench<L> {
     }
 }
 
-/// What a scenario asks of the host: threads that wait, and a way to stop a test.
-pub trait Host: Threads + Wait + Abort + Sync {}
-
-impl<R: Threads + Wait + Abort + Sync> Host for R {}
-
-/// What happens to a broker that has just started.
+/// What happens to a broker that has just started, on one thread.
 pub trait Scenario: Drop {
-    type Output;
-
-    fn run<L: Hall + Send + Sync, R: Host>(
-        self,
-        rt: &R,
-        bench: Bench<L>,
-    ) -> Result<Self::Output, Fail>;
+    fn run<L: Hall, R: Wait + Abort>(self, rt: &R, bench: Bench<L>) -> Result<(), Fail>;
 }
 
 /// Starts a broker of the table with these limits, and lets the scenario happen to it.
-pub fn play<S: Scenario, R: Host>(
+pub fn play<S: Scenario, R: Wait + Abort>(
     rt: &R,
     alloc: Global,
     limits: Config,
     scenario: S,
-) -> Result<S::Output, Fail> {
+) -> Result<(), Fail> {
     let opened = Opened::new(alloc, limits, schema(alloc)?)?;
     on_bench::<Brand, S, R>(rt, alloc, opened, scenario)
 }
 
-fn on_bench<L: Hall + Send + Sync, S: Scenario, R: Host>(
+fn on_bench<L: Hall, S: Scenario, R: Wait + Abort>(
     rt: &R,
     alloc: Global,
     opened: Opened,
     scenario: S,
-) -> Result<S::Output, Fail>
+) -> Result<(), Fail>
     requires cells { opened.cells ≡ L.cells }
     requires queue { opened.queue ≡ L.queue }
     requires ledger { (opened.ledger ≡ L.name) × (L.parts ≡ 1024) × (L.all ≡ 1024) }

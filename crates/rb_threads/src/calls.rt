@@ -1,7 +1,7 @@
 //! Lines of calls of a broker on one thread, each with its answer. Where memory runs out all is as
 //! it was, and the call is made once more.
 
-use crate::bench::{Bench, Host};
+use crate::bench::Bench;
 use crate::given::{delete, insert, schema};
 use crate::rows::put;
 use cs_apply::Tables;
@@ -13,6 +13,7 @@ use std::alloc::{AllocError, Global};
 use std::process::Abort;
 use std::sync::{Arc, Wait};
 use std::test::Fail;
+use std::thread::Threads;
 
 /// A call. Subscriptions and deliveries are named by how many were made before them.
 #[derive(Clone, Copy)]
@@ -141,7 +142,12 @@ impl<L: Hall> History<L> {
     }
 
     /// Makes the calls of these lines one after another, and compares their answers.
-    pub fn run<R: Host>(&mut self, rt: &R, alloc: Global, lines: &str) -> Result<(), Fail> {
+    pub fn run<R: Threads + Wait + Abort + Sync>(
+        &mut self,
+        rt: &R,
+        alloc: Global,
+        lines: &str,
+    ) -> Result<(), Fail> {
         for line in lines.lines() {
             let (call, answer) = made(line.split_once(" = "))?;
             let said = self.answer(rt, alloc, made(Call::of(call))?)?;
@@ -152,7 +158,12 @@ impl<L: Hall> History<L> {
     }
 
     // Makes a call. Out of memory changes nothing: the same call goes on from there.
-    fn answer<R: Host>(&mut self, rt: &R, alloc: Global, call: Call) -> Result<Said, Fail> {
+    fn answer<R: Threads + Wait + Abort + Sync>(
+        &mut self,
+        rt: &R,
+        alloc: Global,
+        call: Call,
+    ) -> Result<Said, Fail> {
         let before = self.shown();
         let said = self.call(rt, alloc, call)?;
         if said != Said::Memory {
@@ -180,7 +191,12 @@ impl<L: Hall> History<L> {
         shown
     }
 
-    fn call<R: Host>(&mut self, rt: &R, alloc: Global, call: Call) -> Result<Said, Fail> {
+    fn call<R: Threads + Wait + Abort + Sync>(
+        &mut self,
+        rt: &R,
+        alloc: Global,
+        call: Call,
+    ) -> Result<Said, Fail> {
         match call {
             Call::Put(key) => self.put(rt, alloc, &insert(key)),
             Call::Delete(key) => self.put(rt, alloc, &delete(key)),
@@ -256,7 +272,7 @@ impl<L: Hall> History<L> {
     }
 
     // Every second delivery that was made is applied by two appliers.
-    fn accept<R: Host>(
+    fn accept<R: Threads + Wait + Abort + Sync>(
         &mut self,
         rt: &R,
         alloc: Global,

@@ -1,17 +1,22 @@
 //! Histories of subscriptions on the broker, from one thread: each is lines of calls with their
 //! answers. At the end an audit gives the steps that the subscriptions made.
 
-use crate::bench::{Bench, Host, Scenario, play};
+ghost use Rattle.std.specs.Prelude.{◌≡◌};
+
+use crate::bench::{Bench, Scenario, play};
 use crate::calls::History;
+use crate::given::schema;
 use cs_apply::Tables;
 use cs_model::Schema;
-use rb_broker::{Hall, RefusedSubscription, SubscribeError};
+use rb_broker::{Hall, Opened, RefusedSubscription, SubscribeError};
 use rb_desk::Config;
 use rb_subscriber::{MOST_SUBSCRIPTIONS, Missing};
 use std::alloc::Global;
+use std::marker::Brand;
 use std::process::Abort;
 use std::sync::{Arc, Wait};
 use std::test::Fail;
+use std::thread::Threads;
 
 const THE_WINDOW_AND_THE_FLOOR: &[u8] = b"\
 subscribe 0 = Made
@@ -168,42 +173,42 @@ take 1023 0 = Delivery(1, 1023, 1, 1)";
 
 #[test]
 fn the_window_and_the_floor(rt: HostRuntime) -> Result<(), Fail> {
-    counts(&rt, rt.alloc(), (1, 2), THE_WINDOW_AND_THE_FLOOR, 5)
+    history(&rt, rt.alloc(), (1, 2), THE_WINDOW_AND_THE_FLOOR, 5)
 }
 
 #[test]
 fn what_is_given_back_goes_to_any(rt: HostRuntime) -> Result<(), Fail> {
-    counts(&rt, rt.alloc(), (1, 2), WHAT_IS_GIVEN_BACK_GOES_TO_ANY, 6)
+    history(&rt, rt.alloc(), (1, 2), WHAT_IS_GIVEN_BACK_GOES_TO_ANY, 6)
 }
 
 #[test]
 fn a_refused_batch_is_opened(rt: HostRuntime) -> Result<(), Fail> {
-    counts(&rt, rt.alloc(), (16, 4), A_REFUSED_BATCH_IS_OPENED, 9)
+    history(&rt, rt.alloc(), (16, 4), A_REFUSED_BATCH_IS_OPENED, 9)
 }
 
 #[test]
 fn a_new_link_cuts_anew(rt: HostRuntime) -> Result<(), Fail> {
-    counts(&rt, rt.alloc(), (256, 4), A_NEW_LINK_CUTS_ANEW, 6)
+    history(&rt, rt.alloc(), (256, 4), A_NEW_LINK_CUTS_ANEW, 6)
 }
 
 #[test]
 fn a_new_link_at_the_front(rt: HostRuntime) -> Result<(), Fail> {
-    counts(&rt, rt.alloc(), (16, 4), A_NEW_LINK_AT_THE_FRONT, 2)
+    history(&rt, rt.alloc(), (16, 4), A_NEW_LINK_AT_THE_FRONT, 2)
 }
 
 #[test]
 fn what_expires_is_delivered_again(rt: HostRuntime) -> Result<(), Fail> {
-    counts(&rt, rt.alloc(), (16, 4), WHAT_EXPIRES_IS_DELIVERED_AGAIN, 3)
+    history(&rt, rt.alloc(), (16, 4), WHAT_EXPIRES_IS_DELIVERED_AGAIN, 3)
 }
 
 #[test]
 fn a_late_clock_is_no_earlier_one(rt: HostRuntime) -> Result<(), Fail> {
-    counts(&rt, rt.alloc(), (16, 4), A_LATE_CLOCK_IS_NO_EARLIER_ONE, 4)
+    history(&rt, rt.alloc(), (16, 4), A_LATE_CLOCK_IS_NO_EARLIER_ONE, 4)
 }
 
 #[test]
 fn foreign_deliveries_are_refused(rt: HostRuntime) -> Result<(), Fail> {
-    counts(&rt, rt.alloc(), (16, 4), FOREIGN_DELIVERIES_ARE_REFUSED, 7)
+    history(&rt, rt.alloc(), (16, 4), FOREIGN_DELIVERIES_ARE_REFUSED, 7)
 }
 
 // limits with batches of this size and this window
@@ -211,32 +216,33 @@ fn limits(batch: u64, window: u64) -> Result<Config, Fail> {
     Ok(Config::new(batch, window, 10, 16, 4, 1)?)
 }
 
-// The calls of the lines answer so, and their subscriptions make this many steps.
-fn counts<R: Host>(
+// over a broker with batches of this size and this window
+fn history<R: Threads + Wait + Abort + Sync>(
     rt: &R,
     alloc: Global,
     (batch, window): (u64, u64),
-    lines: &'static [u8],
+    lines: &[u8],
     steps: u64,
 ) -> Result<(), Fail> {
-    play(rt, alloc, limits(batch, window)?, Lines { lines, steps })
+    let opened = Opened::new(alloc, limits(batch, window)?, schema(alloc)?)?;
+    counts::<Brand, R>(rt, alloc, opened, lines, steps)
 }
 
-#[derive(Drop)]
-struct Lines {
-    lines: &'static [u8],
+// The calls of the lines answer so, and their subscriptions make this many steps.
+fn counts<L: Hall, R: Threads + Wait + Abort + Sync>(
+    rt: &R,
+    alloc: Global,
+    opened: Opened,
+    lines: &[u8],
     steps: u64,
-}
-
-impl Scenario for Lines {
-    type Output = ();
-
-    fn run<L: Hall + Send + Sync, R: Host>(self, rt: &R, bench: Bench<L>) -> Result<(), Fail> {
-        let alloc = bench.alloc;
-        let mut history = History::new(alloc, bench);
-        history.run(rt, alloc, str::from_utf8(self.lines)?)?;
-        audits(rt, alloc, history, self.steps)
-    }
+) -> Result<(), Fail>
+    requires cells { opened.cells ≡ L.cells }
+    requires queue { opened.queue ≡ L.queue }
+    requires ledger { (opened.ledger ≡ L.name) × (L.parts ≡ 1024) × (L.all ≡ 1024) }
+{
+    let mut history = History::<L>::new(alloc, Bench::start(alloc, opened)?);
+    history.run(rt, alloc, str::from_utf8(lines)?)?;
+    audits(rt, alloc, history, steps)
 }
 
 // an audit without subscriptions counts nothing
@@ -271,9 +277,7 @@ fn tables_of_another_schema(rt: HostRuntime) -> Result<(), Fail> {
 struct OtherTables;
 
 impl Scenario for OtherTables {
-    type Output = ();
-
-    fn run<L: Hall + Send + Sync, R: Host>(self, rt: &R, bench: Bench<L>) -> Result<(), Fail> {
+    fn run<L: Hall, R: Wait + Abort>(self, rt: &R, bench: Bench<L>) -> Result<(), Fail> {
         let alloc = bench.alloc;
         let schema = Arc::new(alloc, Schema::empty(alloc))?;
         let tables = Tables::new(alloc, schema, Vec::new(alloc));
@@ -289,21 +293,22 @@ impl Scenario for OtherTables {
 
 #[test]
 fn a_thousand_and_twenty_four_subscriptions(rt: HostRuntime) -> Result<(), Fail> {
-    play(&rt, rt.alloc(), limits(1, 1)?, AllSubscriptions)
+    let opened = Opened::new(rt.alloc(), limits(1, 1)?, schema(rt.alloc())?)?;
+    subscribes_often::<Brand, _>(&rt, rt.alloc(), opened)
 }
 
-#[derive(Drop)]
-struct AllSubscriptions;
-
-impl Scenario for AllSubscriptions {
-    type Output = ();
-
-    fn run<L: Hall + Send + Sync, R: Host>(self, rt: &R, bench: Bench<L>) -> Result<(), Fail> {
-        let alloc = bench.alloc;
-        let mut history = History::new(alloc, bench);
-        for _ in 0..MOST_SUBSCRIPTIONS {
-            history.run(rt, alloc, "subscribe 0 = Made")?;
-        }
-        history.run(rt, alloc, str::from_utf8(ONE_MORE_AND_THE_LAST)?)
+fn subscribes_often<L: Hall, R: Threads + Wait + Abort + Sync>(
+    rt: &R,
+    alloc: Global,
+    opened: Opened,
+) -> Result<(), Fail>
+    requires cells { opened.cells ≡ L.cells }
+    requires queue { opened.queue ≡ L.queue }
+    requires ledger { (opened.ledger ≡ L.name) × (L.parts ≡ 1024) × (L.all ≡ 1024) }
+{
+    let mut history = History::<L>::new(alloc, Bench::start(alloc, opened)?);
+    for _ in 0..MOST_SUBSCRIPTIONS {
+        history.run(rt, alloc, "subscribe 0 = Made")?;
     }
+    history.run(rt, alloc, str::from_utf8(ONE_MORE_AND_THE_LAST)?)
 }

@@ -1,9 +1,9 @@
 //! Drives, each an input with what it comes to.
 
-use crate::bench::Host;
 use rb_desk::Config;
 use rb_drive::{DriveFault, run_drive};
 use std::alloc::{AllocError, Global};
+use std::process::Abort;
 use std::sync::Wait;
 use std::test::Fail;
 use std::thread::Threads;
@@ -123,7 +123,12 @@ fn drives_end_as_they_should(rt: HostRuntime) -> Result<(), Fail> {
     Ok(())
 }
 
-fn ends<R: Host>(rt: &R, alloc: Global, row: Row, appliers: u64) -> Result<(), Fail> {
+fn ends<R: Threads + Wait + Abort + Sync>(
+    rt: &R,
+    alloc: Global,
+    row: Row,
+    appliers: u64,
+) -> Result<(), Fail> {
     let (input, batch, subscribers, status, report) = row;
     let config = Config::new(batch, 4, 10, 65_536, 64, appliers)?;
     let mut written = Vec::new(alloc);
@@ -138,7 +143,12 @@ fn ends<R: Host>(rt: &R, alloc: Global, row: Row, appliers: u64) -> Result<(), F
     }
 }
 
-fn is_refused<R: Host>(rt: &R, alloc: Global, input: &str, line: u64) -> Result<(), Fail> {
+fn is_refused<R: Threads + Wait + Abort + Sync>(
+    rt: &R,
+    alloc: Global,
+    input: &str,
+    line: u64,
+) -> Result<(), Fail> {
     let mut written = Vec::new(alloc);
     match driven(rt, alloc, input, Config::standard(), 1, &mut written) {
         Err(DriveFault::Line(found)) => {

@@ -1,19 +1,23 @@
 //! A subscription whose durable store fails while it accepts, until it is resumed. The store of the
 //! tests keeps nothing: what it would have then is made anew.
 
-use crate::bench::{Bench, Host, Scenario, play};
+ghost use Rattle.std.specs.Prelude.{◌≡◌};
+
+use crate::bench::Bench;
 use crate::given::{schema, tables_after};
 use crate::rows::put_all;
 use cs_apply::Tables;
 use cs_model::CopyIn;
 use par_apply::{DurableRows, Open, RowChange};
-use rb_broker::{Broker, Hall, RefusedResume, ResumeError};
+use rb_broker::{Broker, Hall, Opened, RefusedResume, ResumeError};
 use rb_desk::{Config, Delivery, DeskError};
 use rb_subscriber::{AcceptRefusal, Auditor, Lost, Subscription, SubscriptionError, Workers};
 use std::alloc::Global;
+use std::marker::Brand;
 use std::process::Abort;
 use std::sync::Wait;
 use std::test::Fail;
+use std::thread::Threads;
 
 // the INSERT of (9, 'x'), after which the subscription begins, and what it accepts two by two:
 // INSERTs of (1, 'x') and (2, 'x'); (1, 'x') becomes (1, 'y'), and (2, 'x') is deleted; the INSERT
@@ -70,44 +74,49 @@ impl DurableRows for FailingStore {
     }
 }
 
-// batches of 2, a window of 4
-fn limits() -> Result<Config, Fail> {
-    Ok(Config::new(2, 4, 10, 16, 4, 1)?)
-}
-
 #[test]
 fn resumed_from_before(rt: HostRuntime) -> Result<(), Fail> {
-    let (cursor, steps) = (BEFORE, 8);
-    play(&rt, rt.alloc(), limits()?, Resumes { cursor, steps })
+    resumed_at(&rt, rt.alloc(), BEFORE, 8)
 }
 
 #[test]
 fn resumed_from_after(rt: HostRuntime) -> Result<(), Fail> {
-    let (cursor, steps) = (AFTER, 6);
-    play(&rt, rt.alloc(), limits()?, Resumes { cursor, steps })
+    resumed_at(&rt, rt.alloc(), AFTER, 6)
+}
+
+// over a broker with batches of 2 and a window of 4
+fn resumed_at<R: Threads + Wait + Abort + Sync>(
+    rt: &R,
+    alloc: Global,
+    cursor: u64,
+    steps: u64,
+) -> Result<(), Fail> {
+    let config = Config::new(2, 4, 10, 16, 4, 1)?;
+    let opened = Opened::new(alloc, config, schema(alloc)?)?;
+    resumes::<Brand, R>(rt, alloc, opened, cursor, steps)
 }
 
 // A subscription falls, is resumed at this cursor, and makes this many steps in all.
-#[derive(Drop)]
-struct Resumes {
+fn resumes<L: Hall, R: Threads + Wait + Abort + Sync>(
+    rt: &R,
+    alloc: Global,
+    opened: Opened,
     cursor: u64,
     steps: u64,
-}
-
-impl Scenario for Resumes {
-    type Output = ();
-
-    fn run<L: Hall + Send + Sync, R: Host>(self, rt: &R, mut bench: Bench<L>) -> Result<(), Fail> {
-        let alloc = bench.alloc;
-        put_all(rt, alloc, &mut bench, &SENT)?;
-        let (broker, auditor) = (&bench.broker, &mut bench.auditor);
-        let subscription = goes_on_from(rt, alloc, broker, self.cursor)?;
-        counts(rt, alloc, broker, auditor, subscription, self.steps)
-    }
+) -> Result<(), Fail>
+    requires cells { opened.cells ≡ L.cells }
+    requires queue { opened.queue ≡ L.queue }
+    requires ledger { (opened.ledger ≡ L.name) × (L.parts ≡ 1024) × (L.all ≡ 1024) }
+{
+    let mut bench = Bench::<L>::start(alloc, opened)?;
+    put_all(rt, alloc, &mut bench, &SENT)?;
+    let (broker, auditor) = (&bench.broker, &mut bench.auditor);
+    let subscription = goes_on_from(rt, alloc, broker, cursor)?;
+    counts(rt, alloc, broker, auditor, subscription, steps)
 }
 
 // the subscription, once it has accepted all
-fn goes_on_from<L: Hall, R: Host>(
+fn goes_on_from<L: Hall, R: Threads + Wait + Abort + Sync>(
     rt: &R,
     alloc: Global,
     broker: &Broker<L>,
@@ -122,7 +131,7 @@ fn goes_on_from<L: Hall, R: Host>(
 }
 
 // a subscription that fell, and a delivery that it had taken
-fn fallen<L: Hall, R: Host>(
+fn fallen<L: Hall, R: Threads + Wait + Abort + Sync>(
     rt: &R,
     alloc: Global,
     broker: &Broker<L>,
@@ -151,7 +160,7 @@ fn subscribed<L: Hall, R: Wait>(
 }
 
 // Takes all, and accepts until the store fails. Returns the delivery after the one that failed.
-fn falls<L: Hall, R: Host>(
+fn falls<L: Hall, R: Threads + Wait + Abort + Sync>(
     rt: &R,
     alloc: Global,
     broker: &Broker<L>,
@@ -184,7 +193,7 @@ fn take<L: Hall, R: Wait + Abort>(
 }
 
 // Accepts a delivery into a store. If memory runs out, it tries once more.
-fn accept<L: Hall, R: Host>(
+fn accept<L: Hall, R: Threads + Wait + Abort + Sync>(
     rt: &R,
     alloc: Global,
     broker: &Broker<L>,
@@ -201,7 +210,7 @@ fn accept<L: Hall, R: Host>(
 }
 
 // If memory runs out, the subscription and the store are as before.
-fn accept_once<L: Hall, R: Host>(
+fn accept_once<L: Hall, R: Threads + Wait + Abort + Sync>(
     rt: &R,
     alloc: Global,
     broker: &Broker<L>,
@@ -225,7 +234,7 @@ fn accept_once<L: Hall, R: Host>(
 }
 
 // The store fails, or has failed. It is asked once, and the cursor stays.
-fn store_fails<L: Hall, R: Host>(
+fn store_fails<L: Hall, R: Threads + Wait + Abort + Sync>(
     rt: &R,
     alloc: Global,
     broker: &Broker<L>,
@@ -319,7 +328,7 @@ fn resumed<L: Hall, R: Wait>(
 }
 
 // It stands at this cursor, and a delivery from before its fall is stale.
-fn is_resumed<L: Hall, R: Host>(
+fn is_resumed<L: Hall, R: Threads + Wait + Abort + Sync>(
     rt: &R,
     alloc: Global,
     broker: &Broker<L>,
@@ -360,7 +369,7 @@ fn has_rows<L: Hall, R: Abort>(
 }
 
 // takes, accepts and acknowledges what comes after its cursor
-fn accepts_the_rest<L: Hall, R: Host>(
+fn accepts_the_rest<L: Hall, R: Threads + Wait + Abort + Sync>(
     rt: &R,
     alloc: Global,
     broker: &Broker<L>,
@@ -377,7 +386,7 @@ fn accepts_the_rest<L: Hall, R: Host>(
     has_rows(rt, alloc, subscription)
 }
 
-fn settles<L: Hall, R: Host>(
+fn settles<L: Hall, R: Threads + Wait + Abort + Sync>(
     rt: &R,
     alloc: Global,
     broker: &Broker<L>,

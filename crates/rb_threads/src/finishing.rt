@@ -1,7 +1,7 @@
 //! The end of a broker: each refusal hands all back, and what is left is the item in hand, then
 //! what waits in the intake.
 
-use crate::bench::{Bench, Host, Scenario, play};
+use crate::bench::{Bench, Scenario, play};
 use crate::given::{insert, limits, publisher};
 use crate::rows::{own_in_hand, put, stage};
 use rb_broker::{Broker, Hall, PlaceRefusal, Publisher};
@@ -24,9 +24,7 @@ fn brokers_finish(rt: HostRuntime) -> Result<(), Fail> {
 struct Finish;
 
 impl Scenario for Finish {
-    type Output = ();
-
-    fn run<L: Hall + Send + Sync, R: Host>(self, rt: &R, mut bench: Bench<L>) -> Result<(), Fail> {
+    fn run<L: Hall, R: Wait + Abort>(self, rt: &R, mut bench: Bench<L>) -> Result<(), Fail> {
         let alloc = bench.alloc;
         let mut other = publisher(alloc, &mut bench.publishers, &bench.broker)?;
         fill(rt, alloc, &mut bench, &mut other)?;

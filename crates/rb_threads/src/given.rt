@@ -6,7 +6,7 @@ ghost use Rattle.std.specs.Prelude.{◌≡◌, IfOk};
 use cs_apply::Tables;
 use cs_model::{Octets, Origin, Schema, Seq, Shape};
 use cs_parse::{ParseError, parse};
-use rb_broker::{AddRefusal, Broker, Hall, Publisher, PublisherMaker};
+use rb_broker::{AddRefusal, Broker, Hall, Opened, Publisher, PublisherMaker};
 use rb_desk::Config;
 use rb_sequence::{Entry, Item};
 use std::alloc::{AllocError, Global};
@@ -65,6 +65,11 @@ pub fn tables_after(alloc: Global, changesets: &[&str], count: u64) -> Result<Ta
 /// The limits of a broker of this many entries and waiting items.
 pub fn limits(capacity: u64, intake: u64) -> Result<Config, Fail> {
     Ok(Config::new(16, 4, 10, capacity, intake, 1)?)
+}
+
+/// A broker with these limits.
+pub fn opened(alloc: Global, capacity: u64, intake: u64) -> Result<Opened, Fail> {
+    Ok(Opened::new(alloc, limits(capacity, intake)?, schema(alloc)?)?)
 }
 
 /// The entry with this number, whose key is its number.

@@ -5,20 +5,22 @@ ghost use Rattle.std.specs.Prelude.{◌≡◌, IfOk};
 ghost use Rattle.sqlite.specs.Held.{state};
 ghost use Rattle.replica_store.specs.Durable.{KeepsRows};
 
-use crate::bench::{Bench, Host, Scenario, play};
+use crate::bench::Bench;
 use crate::given::{schema, tables_after};
 use crate::rows::put_all;
 use cs_apply::Tables;
 use par_apply::Open;
-use rb_broker::{Broker, Hall};
+use rb_broker::{Broker, Hall, Opened};
 use rb_desk::{Config, Delivery};
 use rb_subscriber::{AcceptRefusal, Subscription, SubscriptionError, Workers};
 use replica_store::Replica;
 use sqlite::{Alter, Connection};
 use std::alloc::{AllocError, Global};
+use std::marker::Brand;
 use std::process::Abort;
-use std::sync::Arc;
+use std::sync::{Arc, Wait};
 use std::test::Fail;
+use std::thread::Threads;
 
 // Each change needs the one before it of its row, and none applies twice: INSERTs of (1, 'x') and
 // (2, 'x'); (1, 'x') becomes (1, 'y'), and (2, 'x') is deleted; the INSERT of (2, 'y'), and
@@ -71,17 +73,23 @@ fn a_process_falls_twice(rt: HostRuntime) -> Result<(), Fail> {
 }
 
 // each life, over the database that the one before it left
-fn all_lives<S: Alter + Drop, R: Host>(
+fn all_lives<S: Alter + Drop, R: Threads + Wait + Abort + Sync>(
     rt: &R,
     alloc: Global,
     conn: Connection<S>,
 ) -> Result<(), Fail> {
     let mut conn = created(alloc, conn)?;
     for life in &LIVES {
-        let limits = Config::new(2, 4, 10, 16, 4, 1)?;
-        conn = play(rt, alloc, limits, NextLife { conn, life })?;
+        let opened = opened(alloc)?;
+        conn = lives::<Brand, S, R>(rt, alloc, opened, conn, life)?;
     }
     Ok(())
+}
+
+// batches of 2, a window of 4
+fn opened(alloc: Global) -> Result<Opened, Fail> {
+    let config = Config::new(2, 4, 10, 16, 4, 1)?;
+    Ok(Opened::new(alloc, config, schema(alloc)?)?)
 }
 
 // a replica without rows
@@ -92,27 +100,23 @@ fn created<S: Alter + Drop>(alloc: Global, conn: Connection<S>) -> Result<Connec
 
 // A broker gets all changesets, and its subscription goes on with what the replica has. Then both
 // are given up.
-#[derive(Drop)]
-struct NextLife<'a, S: Alter> {
+fn lives<L: Hall, S: Alter + Drop, R: Threads + Wait + Abort + Sync>(
+    rt: &R,
+    alloc: Global,
+    opened: Opened,
     conn: Connection<S>,
-    life: &'a Life,
+    life: &Life,
+) -> Result<Connection<S>, Fail>
+    requires cells { opened.cells ≡ L.cells }
+    requires queue { opened.queue ≡ L.queue }
+    requires ledger { (opened.ledger ≡ L.name) × (L.parts ≡ 1024) × (L.all ≡ 1024) }
+{
+    let mut bench = Bench::<L>::start(alloc, opened)?;
+    put_all(rt, alloc, &mut bench, &SENT)?;
+    subscribes(rt, alloc, &bench.broker, conn, life)
 }
 
-impl<S: Alter + Drop> Scenario for NextLife<'_, S> {
-    type Output = Connection<S>;
-
-    fn run<L: Hall + Send + Sync, R: Host>(
-        self,
-        rt: &R,
-        mut bench: Bench<L>,
-    ) -> Result<Connection<S>, Fail> {
-        let alloc = bench.alloc;
-        put_all(rt, alloc, &mut bench, &SENT)?;
-        subscribes(rt, alloc, &bench.broker, self.conn, self.life)
-    }
-}
-
-fn subscribes<L: Hall, S: Alter + Drop, R: Host>(
+fn subscribes<L: Hall, S: Alter + Drop, R: Threads + Wait + Abort + Sync>(
     rt: &R,
     alloc: Global,
     broker: &Broker<L>,
@@ -172,7 +176,7 @@ fn has_rows<R: Abort>(
 }
 
 // takes, accepts and acknowledges as many deliveries as the life says
-fn works<L: Hall, S: Alter + Drop, R: Host>(
+fn works<L: Hall, S: Alter + Drop, R: Threads + Wait + Abort + Sync>(
     rt: &R,
     alloc: Global,
     broker: &Broker<L>,
@@ -198,7 +202,7 @@ fn works<L: Hall, S: Alter + Drop, R: Host>(
 
 // Accepts a delivery into the replica. If memory runs out, the subscription and the replica are as
 // before, unless the replica itself lacked it: it may have accepted the delivery then.
-fn accepts<L: Hall, S: Alter + Drop, R: Host>(
+fn accepts<L: Hall, S: Alter + Drop, R: Threads + Wait + Abort + Sync>(
     rt: &R,
     alloc: Global,
     broker: &Broker<L>,
@@ -231,7 +235,7 @@ fn accepts<L: Hall, S: Alter + Drop, R: Host>(
 }
 
 // accepts into the replica, opened again, which has the subscription's rows and its cursor
-fn accept_once<L: Hall, S: Alter + Drop, R: Host>(
+fn accept_once<L: Hall, S: Alter + Drop, R: Threads + Wait + Abort + Sync>(
     rt: &R,
     alloc: Global,
     broker: &Broker<L>,

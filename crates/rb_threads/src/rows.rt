@@ -3,7 +3,7 @@
 
 ghost use Rattle.std.specs.Prelude.{◌≡◌, IfOk};
 
-use crate::bench::{Bench, Host, Scenario, play};
+use crate::bench::{Bench, Scenario, play};
 use crate::given::{insert, limits, publisher};
 use cs_model::Origin;
 use cs_parse::ParseError;
@@ -119,9 +119,7 @@ pub(crate) fn put_all<L: Hall, R: Wait + Abort>(
 struct FullIntake;
 
 impl Scenario for FullIntake {
-    type Output = ();
-
-    fn run<L: Hall + Send + Sync, R: Host>(self, rt: &R, mut bench: Bench<L>) -> Result<(), Fail> {
+    fn run<L: Hall, R: Wait + Abort>(self, rt: &R, mut bench: Bench<L>) -> Result<(), Fail> {
         let alloc = bench.alloc;
         fills(rt, alloc, &mut bench)?;
         fills_the_sequence(rt, alloc, &mut bench)
@@ -197,9 +195,7 @@ fn has_two<L: Hall, R: Abort>(rt: &R, sequencer: &Sequencer<L>) {
 struct Withdraws;
 
 impl Scenario for Withdraws {
-    type Output = ();
-
-    fn run<L: Hall + Send + Sync, R: Host>(self, rt: &R, mut bench: Bench<L>) -> Result<(), Fail> {
+    fn run<L: Hall, R: Wait + Abort>(self, rt: &R, mut bench: Bench<L>) -> Result<(), Fail> {
         let alloc = bench.alloc;
         takes_back(rt, alloc, &mut bench)?;
         let mut other = publisher(alloc, &mut bench.publishers, &bench.broker)?;
@@ -266,9 +262,7 @@ fn is_refused<L: Hall, R: Abort>(
 struct AllPublishers;
 
 impl Scenario for AllPublishers {
-    type Output = ();
-
-    fn run<L: Hall + Send + Sync, R: Host>(self, rt: &R, mut bench: Bench<L>) -> Result<(), Fail> {
+    fn run<L: Hall, R: Wait + Abort>(self, rt: &R, mut bench: Bench<L>) -> Result<(), Fail> {
         let alloc = bench.alloc;
         makes(rt, alloc, &mut bench)
     }
@@ -294,9 +288,7 @@ fn next_number<L: Hall>(alloc: Global, bench: &mut Bench<L>) -> Result<u64, AddR
 struct ClosedSequence;
 
 impl Scenario for ClosedSequence {
-    type Output = ();
-
-    fn run<L: Hall + Send + Sync, R: Host>(self, rt: &R, mut bench: Bench<L>) -> Result<(), Fail> {
+    fn run<L: Hall, R: Wait + Abort>(self, rt: &R, mut bench: Bench<L>) -> Result<(), Fail> {
         let alloc = bench.alloc;
         is_closed(rt, alloc, &mut bench)?;
         stays_in_hand(rt, alloc, &mut bench)

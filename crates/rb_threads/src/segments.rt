@@ -1,6 +1,6 @@
 //! The sequence on the broker, past the end of its first segment.
 
-use crate::bench::{Bench, Host, Scenario, play};
+use crate::bench::{Bench, Scenario, play};
 use crate::given::limits;
 use crate::rows::put;
 use rb_broker::Hall;
@@ -21,9 +21,7 @@ fn the_next_segment(rt: HostRuntime) -> Result<(), Fail> {
 struct NextSegment;
 
 impl Scenario for NextSegment {
-    type Output = ();
-
-    fn run<L: Hall + Send + Sync, R: Host>(self, rt: &R, mut bench: Bench<L>) -> Result<(), Fail> {
+    fn run<L: Hall, R: Wait + Abort>(self, rt: &R, mut bench: Bench<L>) -> Result<(), Fail> {
         let alloc = bench.alloc;
         fills_both(rt, alloc, &mut bench)
     }

@@ -3,22 +3,23 @@
 
 ghost use Rattle.std.specs.Prelude.{◌≡◌, IfOk};
 
-use crate::bench::{Bench, Host, Scenario, play};
 use crate::courses::{Course, accept_all};
-use crate::given::empty_tables;
+use crate::given::{empty_tables, publisher, schema};
 use crate::threads::{place, send, stage};
 use cs_apply::Tables;
-use rb_broker::{Broker, Hall, Publisher, StagedSet, WithdrawRefusal};
+use rb_broker::{Broker, Hall, Opened, Publisher, StagedSet, Started, WithdrawRefusal};
 use rb_close::{meet, meet_sequencer};
 use rb_desk::Config;
 use rb_sequence::Sequence;
 use rb_sequencer::Sequencer;
 use rb_subscriber::{Auditor, Missing, Subscription};
 use std::alloc::{AllocError, Global};
+use std::marker::Brand;
 use std::process::Abort;
 use std::sync::Wait;
 use std::test::Fail;
 use std::thread;
+use std::thread::Threads;
 
 // after this many turns a loop that waits fails
 const MOST_TURNS: u64 = 10_000_000;
@@ -48,38 +49,33 @@ struct Ended<L: Hall> {
 }
 
 // batches of 4, a window of 4, a timeout of 10 ticks
-fn limits() -> Result<Config, Fail> {
-    Ok(Config::new(4, 4, 10, ALL, 8, 1)?)
+fn opened(alloc: Global) -> Result<Opened, Fail> {
+    let config = Config::new(4, 4, 10, ALL, 8, 1)?;
+    Ok(Opened::new(alloc, config, schema(alloc)?)?)
 }
 
 #[test]
 fn two_subscribers_meet(rt: HostRuntime) -> Result<(), Fail> {
-    play(&rt, rt.alloc(), limits()?, TwoMeet)
+    let opened = opened(rt.alloc())?;
+    two_meet::<Brand, _>(&rt, rt.alloc(), opened)
 }
 
 #[test]
 fn sixteen_subscribers_lag(rt: HostRuntime) -> Result<(), Fail> {
-    play(&rt, rt.alloc(), limits()?, SixteenLag)
+    let opened = opened(rt.alloc())?;
+    sixteen_lag::<Brand, _>(&rt, rt.alloc(), opened)
 }
 
-#[derive(Drop)]
-struct TwoMeet;
-
-impl Scenario for TwoMeet {
-    type Output = ();
-
-    fn run<L: Hall + Send + Sync, R: Host>(self, rt: &R, bench: Bench<L>) -> Result<(), Fail> {
-        let alloc = bench.alloc;
-        let ended = all_end(rt, alloc, bench, 2, false)?;
-        two_end(rt, alloc, ended)
-    }
-}
-
-fn two_end<L: Hall, R: Wait + Abort>(
+fn two_meet<L: Hall + Send + Sync, R: Threads + Wait + Abort + Sync>(
     rt: &R,
     alloc: Global,
-    mut ended: Ended<L>,
-) -> Result<(), Fail> {
+    opened: Opened,
+) -> Result<(), Fail>
+    requires cells { opened.cells ≡ L.cells }
+    requires queue { opened.queue ≡ L.queue }
+    requires ledger { (opened.ledger ≡ L.name) × (L.parts ≡ 1024) × (L.all ≡ 1024) }
+{
+    let mut ended = all_end::<L, R>(rt, alloc, opened, 2, false)?;
     let (Some(one), Some(other)) = (ended.subscriptions.pop(), ended.subscriptions.pop()) else {
         return Err(Fail::new("there are two subscribers"));
     };
@@ -111,23 +107,23 @@ fn they_meet<L: Hall, R: Abort>(
     Ok(())
 }
 
-#[derive(Drop)]
-struct SixteenLag;
-
-impl Scenario for SixteenLag {
-    type Output = ();
-
-    fn run<L: Hall + Send + Sync, R: Host>(self, rt: &R, bench: Bench<L>) -> Result<(), Fail> {
-        let alloc = bench.alloc;
-        let ended = all_end(rt, alloc, bench, 16, true)?;
-        let sequence = ended.broker.sequence();
-        let singly = applied_singly(alloc, sequence)?;
-        assert_eq!(rt; ended.subscriptions.len(), 16);
-        for subscription in &ended.subscriptions {
-            has_all(rt, alloc, sequence, &singly, subscription)?;
-        }
-        Ok(())
+fn sixteen_lag<L: Hall + Send + Sync, R: Threads + Wait + Abort + Sync>(
+    rt: &R,
+    alloc: Global,
+    opened: Opened,
+) -> Result<(), Fail>
+    requires cells { opened.cells ≡ L.cells }
+    requires queue { opened.queue ≡ L.queue }
+    requires ledger { (opened.ledger ≡ L.name) × (L.parts ≡ 1024) × (L.all ≡ 1024) }
+{
+    let ended = all_end::<L, R>(rt, alloc, opened, 16, true)?;
+    let sequence = ended.broker.sequence();
+    let singly = applied_singly(alloc, sequence)?;
+    assert_eq!(rt; ended.subscriptions.len(), 16);
+    for subscription in &ended.subscriptions {
+        has_all(rt, alloc, sequence, &singly, subscription)?;
     }
+    Ok(())
 }
 
 // the tables that all changesets leave, applied one after another
@@ -166,23 +162,26 @@ fn has_all<L: Hall, R: Abort>(
 }
 
 // Runs the publisher, the sequencer and so many subscribers to the end.
-fn all_end<L: Hall + Send + Sync, R: Host>(
+fn all_end<L: Hall + Send + Sync, R: Threads + Wait + Abort + Sync>(
     rt: &R,
     alloc: Global,
-    bench: Bench<L>,
+    opened: Opened,
     subscribers: u64,
     detours: bool,
-) -> Result<Ended<L>, Fail> {
-    let Bench {
+) -> Result<Ended<L>, Fail>
+    requires cells { opened.cells ≡ L.cells }
+    requires queue { opened.queue ≡ L.queue }
+    requires ledger { (opened.ledger ≡ L.name) × (L.parts ≡ 1024) × (L.all ≡ 1024) }
+{
+    let Started {
         broker,
-        publisher,
         sequencer,
+        mut publishers,
         auditor,
-        ..
-    } = bench;
+    } = Broker::<L>::start(opened);
     let mut owners = Vec::new(alloc);
-    owners.push(Owner::Publishes(publisher))?;
-    owners.push(Owner::Places(sequencer))?;
+    owners.push(Owner::Publishes(publisher(alloc, &mut publishers, &broker)?))?;
+    owners.push(Owner::Places(Sequencer::new(alloc, sequencer)))?;
     for state in 0..subscribers {
         let course = Course { state, detours };
         owners.push(subscriber(rt, alloc, &broker, course)?)?;
@@ -209,7 +208,7 @@ fn subscriber<L: Hall, R: Wait>(
 }
 
 // Each owner works in a thread of its own. Those that are needed afterwards come back.
-fn run<L: Hall + Send + Sync, R: Host>(
+fn run<L: Hall + Send + Sync, R: Threads + Wait + Abort + Sync>(
     rt: &R,
     alloc: Global,
     broker: &Broker<L>,
@@ -235,7 +234,12 @@ fn sorted_out<L: Hall>(
     Ok((sequencers, subscriptions))
 }
 
-fn work<L: Hall, R: Host>(rt: &R, alloc: Global, broker: &Broker<L>, owner: Owner<L>) -> Owner<L> {
+fn work<L: Hall, R: Threads + Wait + Abort + Sync>(
+    rt: &R,
+    alloc: Global,
+    broker: &Broker<L>,
+    owner: Owner<L>,
+) -> Owner<L> {
     match owner {
         Owner::Publishes(mut publisher) => {
             ends(rt, publish(rt, alloc, broker, &mut publisher));

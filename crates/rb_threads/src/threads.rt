@@ -1,16 +1,17 @@
 //! Publishers in threads of their own, and the sequencer in another.
 
-ghost use Rattle.std.specs.Prelude.{◌≡◌, IfOk};
+ghost use Rattle.std.specs.Prelude.{◌≡◌, ◌<◌, ◌*◌, IfOk};
 
-use crate::bench::{Bench, Host, Scenario, play};
-use crate::given::{insert, limits, publisher};
-use rb_broker::{Broker, Hall, Publisher, SendRefusal, StagedSet};
+use crate::given::{insert, opened, publisher};
+use rb_broker::{Broker, Hall, Opened, Publisher, SendRefusal, StagedSet, Started};
 use rb_sequencer::{Sequencer, Turn};
 use std::alloc::Global;
+use std::marker::Brand;
 use std::process::Abort;
 use std::sync::Wait;
 use std::test::Fail;
 use std::thread;
+use std::thread::Threads;
 
 // after this many turns a loop that waits fails
 const MOST_TURNS: u64 = 10_000_000;
@@ -25,76 +26,70 @@ enum Job<L: Hall> {
 
 #[test]
 fn two_publishers_send_a_hundred_each(rt: HostRuntime) -> Result<(), Fail> {
-    let (publishers, sends) = (2, 100);
-    play(
-        &rt,
-        rt.alloc(),
-        limits(200, 64)?,
-        AllArrive { publishers, sends },
-    )
+    arrive(&rt, rt.alloc(), 200, 64, 2, 100)
 }
 
 #[test]
 fn eight_publishers_through_an_intake_of_one(rt: HostRuntime) -> Result<(), Fail> {
-    let (publishers, sends) = (8, 2_000);
-    play(
-        &rt,
-        rt.alloc(),
-        limits(16_000, 1)?,
-        AllArrive { publishers, sends },
-    )
+    arrive(&rt, rt.alloc(), 16_000, 1, 8, 2_000)
 }
 
 #[test]
 fn eight_publishers_through_an_intake_of_64(rt: HostRuntime) -> Result<(), Fail> {
     // a reader crosses the border of two segments while it is filled
-    let (publishers, sends) = (8, 8_500);
-    play(
-        &rt,
-        rt.alloc(),
-        limits(68_000, 64)?,
-        AllArrive { publishers, sends },
-    )
+    arrive(&rt, rt.alloc(), 68_000, 64, 8, 8_500)
+}
+
+// over a broker of this capacity and this intake
+fn arrive<R: Threads + Wait + Abort + Sync>(
+    rt: &R,
+    alloc: Global,
+    capacity: u64,
+    intake: u64,
+    publishers: u64,
+    sends: u64,
+) -> Result<(), Fail>
+    requires few { publishers * sends < 18446744073709551615 }
+{
+    let opened = opened(alloc, capacity, intake)?;
+    all_arrive::<Brand, R>(rt, alloc, opened, publishers, sends)
 }
 
 // Each of `publishers` threads sends this often; all arrive, each publisher's in sending order.
-#[derive(Drop)]
-struct AllArrive {
+fn all_arrive<L: Hall + Send + Sync, R: Threads + Wait + Abort + Sync>(
+    rt: &R,
+    alloc: Global,
+    opened: Opened,
     publishers: u64,
     sends: u64,
-}
-
-impl Scenario for AllArrive {
-    type Output = ();
-
-    fn run<L: Hall + Send + Sync, R: Host>(self, rt: &R, bench: Bench<L>) -> Result<(), Fail> {
-        let alloc = bench.alloc;
-        let AllArrive { publishers, sends } = self;
-        let all = publishers.wrapping_mul(sends);
-        let Bench {
-            broker,
-            publisher: first,
-            sequencer,
-            publishers: mut maker,
-            ..
-        } = bench;
-        let mut jobs = Vec::new(alloc);
-        jobs.push(Job::Place(sequencer, all))?;
-        jobs.push(Job::Read(all))?;
-        jobs.push(Job::Publish(first, sends))?;
-        for _ in 1..publishers {
-            let publisher = publisher(alloc, &mut maker, &broker)?;
-            jobs.push(Job::Publish(publisher, sends))?;
-        }
-        let broker = &broker;
-        let done = thread::map_vec(rt, jobs, &|job| work(rt, alloc, broker, job))?;
-        for one in &done {
-            if let Err(why) = one {
-                return Err(Fail::new(*why));
-            }
-        }
-        in_sending_order(rt, alloc, broker, publishers, all)
+) -> Result<(), Fail>
+    requires cells { opened.cells ≡ L.cells }
+    requires queue { opened.queue ≡ L.queue }
+    requires ledger { (opened.ledger ≡ L.name) × (L.parts ≡ 1024) × (L.all ≡ 1024) }
+    requires few { publishers * sends < 18446744073709551615 }
+{
+    let all = publishers * sends;
+    let Started {
+        broker,
+        sequencer,
+        publishers: mut maker,
+        ..
+    } = Broker::<L>::start(opened);
+    let mut jobs = Vec::new(alloc);
+    jobs.push(Job::Place(Sequencer::new(alloc, sequencer), all))?;
+    jobs.push(Job::Read(all))?;
+    for _ in 0..publishers {
+        let publisher = publisher(alloc, &mut maker, &broker)?;
+        jobs.push(Job::Publish(publisher, sends))?;
     }
+    let broker = &broker;
+    let done = thread::map_vec(rt, jobs, &|job| work(rt, alloc, broker, job))?;
+    for one in &done {
+        if let Err(why) = one {
+            return Err(Fail::new(*why));
+        }
+    }
+    in_sending_order(rt, alloc, broker, publishers, all)
 }
 
 fn work<L: Hall, R: Wait>(

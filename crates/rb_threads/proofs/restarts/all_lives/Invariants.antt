@@ -1,0 +1,11 @@
+use Rattle.rb_threads.proofs.restarts.all_lives.Given as goal
+
+-- the hall of the broker that was just opened
+abbrev pub ghosts-lives-L-Ledger : goal.ghosts-lives-L-Ledger
+ghosts-lives-L-Ledger g a = record { name = a.opened.ledger; parts = 1024 }
+
+abbrev pub ghosts-lives-L-StepLedger : goal.ghosts-lives-L-StepLedger
+ghosts-lives-L-StepLedger g a = record { all = 1024; cells = a.opened.cells }
+
+abbrev pub ghosts-lives-L-Hall : goal.ghosts-lives-L-Hall
+ghosts-lives-L-Hall g a = record { queue = a.opened.queue }
