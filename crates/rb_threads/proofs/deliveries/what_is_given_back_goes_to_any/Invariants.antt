@@ -1,0 +1,11 @@
+use Rattle.rb_threads.proofs.deliveries.what_is_given_back_goes_to_any.Given as goal
+
+-- the hall of the broker that was just opened
+abbrev pub ghosts-counts-L-Ledger : goal.ghosts-counts-L-Ledger
+ghosts-counts-L-Ledger g a = record { name = a.opened.ledger; parts = 1024 }
+
+abbrev pub ghosts-counts-L-StepLedger : goal.ghosts-counts-L-StepLedger
+ghosts-counts-L-StepLedger g a = record { all = 1024; cells = a.opened.cells }
+
+abbrev pub ghosts-counts-L-Hall : goal.ghosts-counts-L-Hall
+ghosts-counts-L-Hall g a = record { queue = a.opened.queue }
