@@ -4,9 +4,10 @@
 # a test can't hand it up, as in a sink that it lends to the library, it stops with "the test's own memory". Then it
 # prints how many refusals the calls met that calls.txt wants of the crate, and fails where one met too few.
 #   sh refused/tests.sh CRATE..        needs gcc, and the test programs as `rt test` leaves them in crates/CRATE/out
-# ONLY is a pattern that the tests' names match, where not all are wanted: those of rb_threads with threads allocate more
-# often than anybody waits for, so it is
-# ONLY='^(appliers|cells|rows|tokens|deliveries|subscriptions|finishing|driving|falling|restarts)' there. With
+# ONLY is a pattern that the tests' names match, where not all are wanted. Some allocate more often than anybody waits for,
+# and one of rb_tests asks for nothing, so it is
+# ONLY='^(desks|groups|lists|runs::runs|streams::(lines|showing|what|write)|texts)' for rb_tests, and
+# ONLY='^(appliers|cells|rows|tokens|deliveries|subscriptions|finishing|driving|falling|restarts)' for rb_threads. With
 # REFUSE_LEAST only allocations of so many bytes are refused: REFUSE_LEAST=500000 ONLY='^(cells|segments)' refuses each
 # segment of the sequence.
 if [ $# -eq 0 ]; then
