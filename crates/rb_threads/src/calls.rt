@@ -5,13 +5,15 @@ use crate::bench::Bench;
 use crate::given::{delete, insert, schema};
 use crate::rows::put;
 use cs_apply::Tables;
+use par_apply::Open;
 use rb_broker::{Hall, RefusedSubscription, SubscribeError, TakeError};
 use rb_desk::{Delivery, DeskError, DeskRefusal};
-use rb_subscriber::{AcceptRefusal, Subscription, SubscriptionError};
+use rb_subscriber::{AcceptRefusal, Subscription, SubscriptionError, Workers};
 use std::alloc::{AllocError, Global};
 use std::process::Abort;
 use std::sync::{Arc, Wait};
 use std::test::Fail;
+use std::thread::Threads;
 
 /// A call. Subscriptions and deliveries are named by how many were made before them.
 #[derive(Clone, Copy)]
@@ -140,7 +142,12 @@ impl<L: Hall> History<L> {
     }
 
     /// Makes the calls of these lines one after another, and compares their answers.
-    pub fn run<R: Wait + Abort>(&mut self, rt: &R, alloc: Global, lines: &str) -> Result<(), Fail> {
+    pub fn run<R: Threads + Wait + Abort + Sync>(
+        &mut self,
+        rt: &R,
+        alloc: Global,
+        lines: &str,
+    ) -> Result<(), Fail> {
         for line in lines.lines() {
             let (call, answer) = made(line.split_once(" = "))?;
             let said = self.answer(rt, alloc, made(Call::of(call))?)?;
@@ -151,7 +158,12 @@ impl<L: Hall> History<L> {
     }
 
     // Makes a call. Out of memory changes nothing: the same call goes on from there.
-    fn answer<R: Wait + Abort>(&mut self, rt: &R, alloc: Global, call: Call) -> Result<Said, Fail> {
+    fn answer<R: Threads + Wait + Abort + Sync>(
+        &mut self,
+        rt: &R,
+        alloc: Global,
+        call: Call,
+    ) -> Result<Said, Fail> {
         let before = self.shown();
         let said = self.call(rt, alloc, call)?;
         if said != Said::Memory {
@@ -179,14 +191,19 @@ impl<L: Hall> History<L> {
         shown
     }
 
-    fn call<R: Wait + Abort>(&mut self, rt: &R, alloc: Global, call: Call) -> Result<Said, Fail> {
+    fn call<R: Threads + Wait + Abort + Sync>(
+        &mut self,
+        rt: &R,
+        alloc: Global,
+        call: Call,
+    ) -> Result<Said, Fail> {
         match call {
             Call::Put(key) => self.put(rt, alloc, &insert(key)),
             Call::Delete(key) => self.put(rt, alloc, &delete(key)),
             Call::Subscribe(start) => self.subscribe(rt, alloc, start),
             Call::Take(sub, now) => self.take(rt, alloc, sub, now),
             Call::TakeAny(now) => self.take_any(rt, alloc, now),
-            Call::Accept(sub, delivery) => self.accept(alloc, sub, delivery),
+            Call::Accept(sub, delivery) => self.accept(rt, alloc, sub, delivery),
             Call::Ack(sub, delivery) => self.ack(rt, alloc, sub, delivery),
             Call::Nack(sub, delivery) => self.nack(rt, alloc, sub, delivery),
             Call::Open(sub, delivery) => self.nack_opened(rt, alloc, sub, delivery),
@@ -254,11 +271,28 @@ impl<L: Hall> History<L> {
         ))
     }
 
-    fn accept(&mut self, alloc: Global, sub: usize, delivery: usize) -> Result<Said, Fail> {
-        let delivery = *made(self.deliveries.get(delivery))?;
+    // Every second delivery that was made is applied by two appliers.
+    fn accept<R: Threads + Wait + Abort + Sync>(
+        &mut self,
+        rt: &R,
+        alloc: Global,
+        sub: usize,
+        delivery: usize,
+    ) -> Result<Said, Fail> {
+        let taken = *made(self.deliveries.get(delivery))?;
         let subscription = made(self.subscriptions.get_mut(sub))?;
         let sequence = self.bench.broker.sequence();
-        match subscription.accept_alone(alloc, sequence, &delivery) {
+        let accepted = if delivery % 2 == 0 {
+            subscription.accept_alone(alloc, sequence, &taken)
+        } else {
+            let workers = Workers {
+                rt,
+                n: 2,
+                gate: &Open,
+            };
+            subscription.accept(&workers, alloc, sequence, &taken)
+        };
+        match accepted {
             Ok(cursor) => Ok(Said::Accepted(cursor)),
             Err(SubscriptionError::Refused(why)) => Ok(Said::Refused(why)),
             Err(SubscriptionError::Memory) => Ok(Said::Memory),

@@ -48,8 +48,9 @@ pub(crate) fn accept_all<L: Hall, R: Threads + Wait + Sync>(
         held = match (detour, held) {
             (0, _) => reconnect(rt, alloc, broker, subscription)?,
             (1, held) => expire(rt, alloc, broker, now, held)?,
-            (2, Some(delivery)) => give_back(rt, alloc, broker, subscription, &delivery)?,
-            (3, Some(delivery)) => give_opened(rt, alloc, broker, subscription, &delivery)?,
+            (2 | 3, Some(delivery)) => {
+                give_back(rt, alloc, broker, subscription, &delivery, detour == 3)?
+            }
             (_, None) => take(rt, alloc, broker, subscription, now)?,
             (_, Some(delivery)) => accept(rt, alloc, broker, subscription, delivery)?,
         };
@@ -84,30 +85,23 @@ fn expire<L: Hall, R: Wait>(
     }
 }
 
+// gives back what it held; each of its numbers is delivered alone then, if it is opened
 fn give_back<L: Hall, R: Wait>(
     rt: &R,
     alloc: Global,
     broker: &Broker<L>,
     subscription: &mut Subscription<L>,
     delivery: &Delivery,
+    opened: bool,
 ) -> Result<Option<Delivery>, &'static str> {
-    match broker.nack(rt, alloc, subscription, delivery) {
-        Ok(()) | Err(DeskError::Refused(DeskRefusal::NotInFlight)) => Ok(None),
-        Err(_) => Err("what is given back is refused"),
-    }
-}
-
-// each number of what it held is delivered alone then
-fn give_opened<L: Hall, R: Wait>(
-    rt: &R,
-    alloc: Global,
-    broker: &Broker<L>,
-    subscription: &mut Subscription<L>,
-    delivery: &Delivery,
-) -> Result<Option<Delivery>, &'static str> {
-    match broker.nack_opened(rt, alloc, subscription, delivery) {
-        Ok(_) | Err(DeskError::Refused(DeskRefusal::NotInFlight)) => Ok(None),
-        Err(_) => Err("what is opened is refused"),
+    let returned = if opened {
+        broker.nack_opened(rt, alloc, subscription, delivery).err()
+    } else {
+        broker.nack(rt, alloc, subscription, delivery).err()
+    };
+    match returned {
+        None | Some(DeskError::Refused(DeskRefusal::NotInFlight)) => Ok(None),
+        Some(_) => Err("what is given back is refused"),
     }
 }
 

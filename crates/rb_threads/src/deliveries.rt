@@ -3,7 +3,7 @@
 
 ghost use Rattle.std.specs.Prelude.{◌≡◌};
 
-use crate::bench::Bench;
+use crate::bench::{Bench, Scenario, play};
 use crate::calls::History;
 use crate::given::schema;
 use cs_apply::Tables;
@@ -16,6 +16,7 @@ use std::marker::Brand;
 use std::process::Abort;
 use std::sync::{Arc, Wait};
 use std::test::Fail;
+use std::thread::Threads;
 
 const THE_WINDOW_AND_THE_FLOOR: &[u8] = b"\
 subscribe 0 = Made
@@ -170,62 +171,65 @@ subscribe 0 = Desk(TooMany)
 put 1 = Placed(Some(1))
 take 1023 0 = Delivery(1, 1023, 1, 1)";
 
-// an empty broker with batches of this size and this window
-fn opened(alloc: Global, batch: u64, window: u64) -> Result<Opened, Fail> {
-    let config = Config::new(batch, window, 10, 16, 4, 1)?;
-    Ok(Opened::new(alloc, config, schema(alloc)?)?)
-}
-
 #[test]
 fn the_window_and_the_floor(rt: HostRuntime) -> Result<(), Fail> {
-    let opened = opened(rt.alloc(), 1, 2)?;
-    counts::<Brand, _>(&rt, rt.alloc(), opened, THE_WINDOW_AND_THE_FLOOR, 5)
+    history(&rt, rt.alloc(), (1, 2), THE_WINDOW_AND_THE_FLOOR, 5)
 }
 
 #[test]
 fn what_is_given_back_goes_to_any(rt: HostRuntime) -> Result<(), Fail> {
-    let opened = opened(rt.alloc(), 1, 2)?;
-    counts::<Brand, _>(&rt, rt.alloc(), opened, WHAT_IS_GIVEN_BACK_GOES_TO_ANY, 6)
+    history(&rt, rt.alloc(), (1, 2), WHAT_IS_GIVEN_BACK_GOES_TO_ANY, 6)
 }
 
 #[test]
 fn a_refused_batch_is_opened(rt: HostRuntime) -> Result<(), Fail> {
-    let opened = opened(rt.alloc(), 16, 4)?;
-    counts::<Brand, _>(&rt, rt.alloc(), opened, A_REFUSED_BATCH_IS_OPENED, 9)
+    history(&rt, rt.alloc(), (16, 4), A_REFUSED_BATCH_IS_OPENED, 9)
 }
 
 #[test]
 fn a_new_link_cuts_anew(rt: HostRuntime) -> Result<(), Fail> {
-    let opened = opened(rt.alloc(), 256, 4)?;
-    counts::<Brand, _>(&rt, rt.alloc(), opened, A_NEW_LINK_CUTS_ANEW, 6)
+    history(&rt, rt.alloc(), (256, 4), A_NEW_LINK_CUTS_ANEW, 6)
 }
 
 #[test]
 fn a_new_link_at_the_front(rt: HostRuntime) -> Result<(), Fail> {
-    let opened = opened(rt.alloc(), 16, 4)?;
-    counts::<Brand, _>(&rt, rt.alloc(), opened, A_NEW_LINK_AT_THE_FRONT, 2)
+    history(&rt, rt.alloc(), (16, 4), A_NEW_LINK_AT_THE_FRONT, 2)
 }
 
 #[test]
 fn what_expires_is_delivered_again(rt: HostRuntime) -> Result<(), Fail> {
-    let opened = opened(rt.alloc(), 16, 4)?;
-    counts::<Brand, _>(&rt, rt.alloc(), opened, WHAT_EXPIRES_IS_DELIVERED_AGAIN, 3)
+    history(&rt, rt.alloc(), (16, 4), WHAT_EXPIRES_IS_DELIVERED_AGAIN, 3)
 }
 
 #[test]
 fn a_late_clock_is_no_earlier_one(rt: HostRuntime) -> Result<(), Fail> {
-    let opened = opened(rt.alloc(), 16, 4)?;
-    counts::<Brand, _>(&rt, rt.alloc(), opened, A_LATE_CLOCK_IS_NO_EARLIER_ONE, 4)
+    history(&rt, rt.alloc(), (16, 4), A_LATE_CLOCK_IS_NO_EARLIER_ONE, 4)
 }
 
 #[test]
 fn foreign_deliveries_are_refused(rt: HostRuntime) -> Result<(), Fail> {
-    let opened = opened(rt.alloc(), 16, 4)?;
-    counts::<Brand, _>(&rt, rt.alloc(), opened, FOREIGN_DELIVERIES_ARE_REFUSED, 7)
+    history(&rt, rt.alloc(), (16, 4), FOREIGN_DELIVERIES_ARE_REFUSED, 7)
 }
 
-// The calls answer so, and their subscriptions made this many steps.
-fn counts<L: Hall, R: Wait + Abort>(
+// limits with batches of this size and this window
+fn limits(batch: u64, window: u64) -> Result<Config, Fail> {
+    Ok(Config::new(batch, window, 10, 16, 4, 1)?)
+}
+
+// over a broker with batches of this size and this window
+fn history<R: Threads + Wait + Abort + Sync>(
+    rt: &R,
+    alloc: Global,
+    (batch, window): (u64, u64),
+    lines: &[u8],
+    steps: u64,
+) -> Result<(), Fail> {
+    let opened = Opened::new(alloc, limits(batch, window)?, schema(alloc)?)?;
+    counts::<Brand, R>(rt, alloc, opened, lines, steps)
+}
+
+// The calls of the lines answer so, and their subscriptions make this many steps.
+fn counts<L: Hall, R: Threads + Wait + Abort + Sync>(
     rt: &R,
     alloc: Global,
     opened: Opened,
@@ -265,39 +269,35 @@ fn audits<L: Hall, R: Wait + Abort>(
 
 #[test]
 fn tables_of_another_schema(rt: HostRuntime) -> Result<(), Fail> {
-    let opened = opened(rt.alloc(), 1, 1)?;
-    refuses_tables::<Brand, _>(&rt, rt.alloc(), opened)
+    play(&rt, rt.alloc(), limits(1, 1)?, OtherTables)
 }
 
 // Tables of another schema are refused first of all, and come back.
-fn refuses_tables<L: Hall, R: Wait + Abort>(
-    rt: &R,
-    alloc: Global,
-    opened: Opened,
-) -> Result<(), Fail>
-    requires cells { opened.cells ≡ L.cells }
-    requires queue { opened.queue ≡ L.queue }
-    requires ledger { (opened.ledger ≡ L.name) × (L.parts ≡ 1024) × (L.all ≡ 1024) }
-{
-    let bench = Bench::<L>::start(alloc, opened)?;
-    let schema = Arc::new(alloc, Schema::empty(alloc))?;
-    let tables = Tables::new(alloc, schema, Vec::new(alloc));
-    let Err(RefusedSubscription { why, tables }) = bench.broker.subscribe(rt, alloc, tables, 5)
-    else {
-        return Err(Fail::new("the tables are of no table"));
-    };
-    assert_eq!(rt; why, SubscribeError::OtherSchema);
-    assert!(rt; tables.schema().tables().is_empty());
-    Ok(())
+#[derive(Drop)]
+struct OtherTables;
+
+impl Scenario for OtherTables {
+    fn run<L: Hall, R: Wait + Abort>(self, rt: &R, bench: Bench<L>) -> Result<(), Fail> {
+        let alloc = bench.alloc;
+        let schema = Arc::new(alloc, Schema::empty(alloc))?;
+        let tables = Tables::new(alloc, schema, Vec::new(alloc));
+        let Err(RefusedSubscription { why, tables }) = bench.broker.subscribe(rt, alloc, tables, 5)
+        else {
+            return Err(Fail::new("the tables are of no table"));
+        };
+        assert_eq!(rt; why, SubscribeError::OtherSchema);
+        assert!(rt; tables.schema().tables().is_empty());
+        Ok(())
+    }
 }
 
 #[test]
 fn a_thousand_and_twenty_four_subscriptions(rt: HostRuntime) -> Result<(), Fail> {
-    let opened = opened(rt.alloc(), 1, 1)?;
+    let opened = Opened::new(rt.alloc(), limits(1, 1)?, schema(rt.alloc())?)?;
     subscribes_often::<Brand, _>(&rt, rt.alloc(), opened)
 }
 
-fn subscribes_often<L: Hall, R: Wait + Abort>(
+fn subscribes_often<L: Hall, R: Threads + Wait + Abort + Sync>(
     rt: &R,
     alloc: Global,
     opened: Opened,

@@ -74,22 +74,26 @@ impl DurableRows for FailingStore {
     }
 }
 
-// batches of 2, a window of 4
-fn opened(alloc: Global) -> Result<Opened, Fail> {
-    let config = Config::new(2, 4, 10, 16, 4, 1)?;
-    Ok(Opened::new(alloc, config, schema(alloc)?)?)
-}
-
 #[test]
 fn resumed_from_before(rt: HostRuntime) -> Result<(), Fail> {
-    let opened = opened(rt.alloc())?;
-    resumes::<Brand, _>(&rt, rt.alloc(), opened, BEFORE, 8)
+    resumed_at(&rt, rt.alloc(), BEFORE, 8)
 }
 
 #[test]
 fn resumed_from_after(rt: HostRuntime) -> Result<(), Fail> {
-    let opened = opened(rt.alloc())?;
-    resumes::<Brand, _>(&rt, rt.alloc(), opened, AFTER, 6)
+    resumed_at(&rt, rt.alloc(), AFTER, 6)
+}
+
+// over a broker with batches of 2 and a window of 4
+fn resumed_at<R: Threads + Wait + Abort + Sync>(
+    rt: &R,
+    alloc: Global,
+    cursor: u64,
+    steps: u64,
+) -> Result<(), Fail> {
+    let config = Config::new(2, 4, 10, 16, 4, 1)?;
+    let opened = Opened::new(alloc, config, schema(alloc)?)?;
+    resumes::<Brand, R>(rt, alloc, opened, cursor, steps)
 }
 
 // A subscription falls, is resumed at this cursor, and makes this many steps in all.

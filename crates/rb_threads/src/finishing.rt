@@ -1,16 +1,13 @@
 //! The end of a broker: each refusal hands all back, and what is left is the item in hand, then
 //! what waits in the intake.
 
-ghost use Rattle.std.specs.Prelude.{◌≡◌};
-
-use crate::bench::Bench;
-use crate::given::{insert, opened, publisher};
+use crate::bench::{Bench, Scenario, play};
+use crate::given::{insert, limits, publisher};
 use crate::rows::{own_in_hand, put, stage};
-use rb_broker::{Broker, Hall, Opened, PlaceRefusal, Publisher};
+use rb_broker::{Broker, Hall, PlaceRefusal, Publisher};
 use rb_close::{FinishRefusal, Finished, Unfinished, finish};
 use rb_sequencer::Turn;
 use std::alloc::{AllocError, Global};
-use std::marker::Brand;
 use std::process::Abort;
 use std::sync::Wait;
 use std::test::Fail;
@@ -20,20 +17,20 @@ const LEFT: [(u64, u64); 3] = [(1, 1), (0, 2), (0, 3)];
 
 #[test]
 fn brokers_finish(rt: HostRuntime) -> Result<(), Fail> {
-    let opened = opened(rt.alloc(), 1, 4)?;
-    ends::<Brand, _>(&rt, rt.alloc(), opened)
+    play(&rt, rt.alloc(), limits(1, 4)?, Finish)
 }
 
-fn ends<L: Hall, R: Wait + Abort>(rt: &R, alloc: Global, opened: Opened) -> Result<(), Fail>
-    requires cells { opened.cells ≡ L.cells }
-    requires queue { opened.queue ≡ L.queue }
-    requires ledger { (opened.ledger ≡ L.name) × (L.parts ≡ 1024) × (L.all ≡ 1024) }
-{
-    let mut bench = Bench::<L>::start(alloc, opened)?;
-    let mut other = publisher(alloc, &mut bench.publishers, &bench.broker)?;
-    fill(rt, alloc, &mut bench, &mut other)?;
-    let one_given = given(alloc, bench)?;
-    refuses(rt, alloc, one_given, other)
+#[derive(Drop)]
+struct Finish;
+
+impl Scenario for Finish {
+    fn run<L: Hall, R: Wait + Abort>(self, rt: &R, mut bench: Bench<L>) -> Result<(), Fail> {
+        let alloc = bench.alloc;
+        let mut other = publisher(alloc, &mut bench.publishers, &bench.broker)?;
+        fill(rt, alloc, &mut bench, &mut other)?;
+        let one_given = given(alloc, bench)?;
+        refuses(rt, alloc, one_given, other)
+    }
 }
 
 // one is placed, one in hand, and two wait
@@ -80,7 +77,7 @@ fn given<L: Hall>(alloc: Global, bench: Bench<L>) -> Result<Unfinished<L>, Alloc
         publisher,
         sequencer,
         publishers: maker,
-        auditor: _auditor,
+        ..
     } = bench;
     publishers.push_reserved(publisher);
     Ok(Unfinished {

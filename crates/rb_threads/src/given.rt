@@ -62,10 +62,14 @@ pub fn tables_after(alloc: Global, changesets: &[&str], count: u64) -> Result<Ta
     Ok(tables)
 }
 
-/// A broker of the table, for this many entries and waiting items.
+/// The limits of a broker of this many entries and waiting items.
+pub fn limits(capacity: u64, intake: u64) -> Result<Config, Fail> {
+    Ok(Config::new(16, 4, 10, capacity, intake, 1)?)
+}
+
+/// A broker with these limits.
 pub fn opened(alloc: Global, capacity: u64, intake: u64) -> Result<Opened, Fail> {
-    let config = Config::new(16, 4, 10, capacity, intake, 1)?;
-    Ok(Opened::new(alloc, config, schema(alloc)?)?)
+    Ok(Opened::new(alloc, limits(capacity, intake)?, schema(alloc)?)?)
 }
 
 /// The entry with this number, whose key is its number.

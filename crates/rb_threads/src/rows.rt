@@ -3,18 +3,17 @@
 
 ghost use Rattle.std.specs.Prelude.{◌≡◌, IfOk};
 
-use crate::bench::Bench;
-use crate::given::{insert, opened, publisher};
+use crate::bench::{Bench, Scenario, play};
+use crate::given::{insert, limits, publisher};
 use cs_model::Origin;
 use cs_parse::ParseError;
 use rb_broker::{
-    AddRefusal, Broker, Hall, MOST_PUBLISHERS, Opened, PlaceRefusal, Publisher, SendRefusal,
-    StagedSet, TakeError, WithdrawRefusal,
+    AddRefusal, Broker, Hall, MOST_PUBLISHERS, PlaceRefusal, Publisher, SendRefusal, StagedSet,
+    TakeError, WithdrawRefusal,
 };
 use rb_sequence::Told;
 use rb_sequencer::{Sequencer, Turn};
 use std::alloc::Global;
-use std::marker::Brand;
 use std::process::Abort;
 use std::sync::Wait;
 use std::test::Fail;
@@ -32,26 +31,22 @@ const TAKEN_BACK: [u8; 20] = [
 
 #[test]
 fn full_intake(rt: HostRuntime) -> Result<(), Fail> {
-    let opened = opened(rt.alloc(), 2, 1)?;
-    fills_the_intake::<Brand, _>(&rt, rt.alloc(), opened)
+    play(&rt, rt.alloc(), limits(2, 1)?, FullIntake)
 }
 
 #[test]
 fn withdrawal(rt: HostRuntime) -> Result<(), Fail> {
-    let opened = opened(rt.alloc(), 2, 4)?;
-    withdraws::<Brand, _>(&rt, rt.alloc(), opened)
+    play(&rt, rt.alloc(), limits(2, 4)?, Withdraws)
 }
 
 #[test]
 fn sixty_four_publishers(rt: HostRuntime) -> Result<(), Fail> {
-    let opened = opened(rt.alloc(), 1, 1)?;
-    makes_publishers::<Brand, _>(&rt, rt.alloc(), opened)
+    play(&rt, rt.alloc(), limits(1, 1)?, AllPublishers)
 }
 
 #[test]
 fn closed_sequence(rt: HostRuntime) -> Result<(), Fail> {
-    let opened = opened(rt.alloc(), 1, 1)?;
-    sends_after_the_end::<Brand, _>(&rt, rt.alloc(), opened)
+    play(&rt, rt.alloc(), limits(1, 1)?, ClosedSequence)
 }
 
 // Stages what is fed. If memory runs out, the stream is as it was, and is fed once more.
@@ -120,18 +115,15 @@ pub(crate) fn put_all<L: Hall, R: Wait + Abort>(
     Ok(())
 }
 
-fn fills_the_intake<L: Hall, R: Wait + Abort>(
-    rt: &R,
-    alloc: Global,
-    opened: Opened,
-) -> Result<(), Fail>
-    requires cells { opened.cells ≡ L.cells }
-    requires queue { opened.queue ≡ L.queue }
-    requires ledger { (opened.ledger ≡ L.name) × (L.parts ≡ 1024) × (L.all ≡ 1024) }
-{
-    let mut bench = Bench::<L>::start(alloc, opened)?;
-    fills(rt, alloc, &mut bench)?;
-    fills_the_sequence(rt, alloc, &mut bench)
+#[derive(Drop)]
+struct FullIntake;
+
+impl Scenario for FullIntake {
+    fn run<L: Hall, R: Wait + Abort>(self, rt: &R, mut bench: Bench<L>) -> Result<(), Fail> {
+        let alloc = bench.alloc;
+        fills(rt, alloc, &mut bench)?;
+        fills_the_sequence(rt, alloc, &mut bench)
+    }
 }
 
 fn fills<L: Hall, R: Wait + Abort>(
@@ -199,15 +191,16 @@ fn has_two<L: Hall, R: Abort>(rt: &R, sequencer: &Sequencer<L>) {
     assert_eq!(rt; told_number(sequencer, 3), None);
 }
 
-fn withdraws<L: Hall, R: Wait + Abort>(rt: &R, alloc: Global, opened: Opened) -> Result<(), Fail>
-    requires cells { opened.cells ≡ L.cells }
-    requires queue { opened.queue ≡ L.queue }
-    requires ledger { (opened.ledger ≡ L.name) × (L.parts ≡ 1024) × (L.all ≡ 1024) }
-{
-    let mut bench = Bench::<L>::start(alloc, opened)?;
-    takes_back(rt, alloc, &mut bench)?;
-    let mut other = publisher(alloc, &mut bench.publishers, &bench.broker)?;
-    is_refused(rt, alloc, &mut bench, &mut other)
+#[derive(Drop)]
+struct Withdraws;
+
+impl Scenario for Withdraws {
+    fn run<L: Hall, R: Wait + Abort>(self, rt: &R, mut bench: Bench<L>) -> Result<(), Fail> {
+        let alloc = bench.alloc;
+        takes_back(rt, alloc, &mut bench)?;
+        let mut other = publisher(alloc, &mut bench.publishers, &bench.broker)?;
+        is_refused(rt, alloc, &mut bench, &mut other)
+    }
 }
 
 // the withdrawal of entry 1 is entry 2, the last that the sequence has room for
@@ -265,13 +258,14 @@ fn is_refused<L: Hall, R: Abort>(
     Ok(())
 }
 
-fn makes_publishers<L: Hall, R: Abort>(rt: &R, alloc: Global, opened: Opened) -> Result<(), Fail>
-    requires cells { opened.cells ≡ L.cells }
-    requires queue { opened.queue ≡ L.queue }
-    requires ledger { (opened.ledger ≡ L.name) × (L.parts ≡ 1024) × (L.all ≡ 1024) }
-{
-    let mut bench = Bench::<L>::start(alloc, opened)?;
-    makes(rt, alloc, &mut bench)
+#[derive(Drop)]
+struct AllPublishers;
+
+impl Scenario for AllPublishers {
+    fn run<L: Hall, R: Wait + Abort>(self, rt: &R, mut bench: Bench<L>) -> Result<(), Fail> {
+        let alloc = bench.alloc;
+        makes(rt, alloc, &mut bench)
+    }
 }
 
 // each publisher has the next number, and there is no 65th
@@ -290,18 +284,15 @@ fn next_number<L: Hall>(alloc: Global, bench: &mut Bench<L>) -> Result<u64, AddR
     Ok(publisher.number())
 }
 
-fn sends_after_the_end<L: Hall, R: Wait + Abort>(
-    rt: &R,
-    alloc: Global,
-    opened: Opened,
-) -> Result<(), Fail>
-    requires cells { opened.cells ≡ L.cells }
-    requires queue { opened.queue ≡ L.queue }
-    requires ledger { (opened.ledger ≡ L.name) × (L.parts ≡ 1024) × (L.all ≡ 1024) }
-{
-    let mut bench = Bench::<L>::start(alloc, opened)?;
-    is_closed(rt, alloc, &mut bench)?;
-    stays_in_hand(rt, alloc, &mut bench)
+#[derive(Drop)]
+struct ClosedSequence;
+
+impl Scenario for ClosedSequence {
+    fn run<L: Hall, R: Wait + Abort>(self, rt: &R, mut bench: Bench<L>) -> Result<(), Fail> {
+        let alloc = bench.alloc;
+        is_closed(rt, alloc, &mut bench)?;
+        stays_in_hand(rt, alloc, &mut bench)
+    }
 }
 
 // the sequence is closed at 0: the set comes back with that number

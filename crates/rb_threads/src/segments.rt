@@ -1,13 +1,10 @@
 //! The sequence on the broker, past the end of its first segment.
 
-ghost use Rattle.std.specs.Prelude.{◌≡◌};
-
-use crate::bench::Bench;
-use crate::given::opened;
+use crate::bench::{Bench, Scenario, play};
+use crate::given::limits;
 use crate::rows::put;
-use rb_broker::{Hall, Opened};
+use rb_broker::Hall;
 use std::alloc::Global;
-use std::marker::Brand;
 use std::process::Abort;
 use std::sync::Wait;
 use std::test::Fail;
@@ -17,21 +14,17 @@ const SEGMENT: u64 = 65_536;
 
 #[test]
 fn the_next_segment(rt: HostRuntime) -> Result<(), Fail> {
-    let opened = opened(rt.alloc(), SEGMENT + 1, 1)?;
-    crosses_the_border::<Brand, _>(&rt, rt.alloc(), opened)
+    play(&rt, rt.alloc(), limits(SEGMENT + 1, 1)?, NextSegment)
 }
 
-fn crosses_the_border<L: Hall, R: Wait + Abort>(
-    rt: &R,
-    alloc: Global,
-    opened: Opened,
-) -> Result<(), Fail>
-    requires cells { opened.cells ≡ L.cells }
-    requires queue { opened.queue ≡ L.queue }
-    requires ledger { (opened.ledger ≡ L.name) × (L.parts ≡ 1024) × (L.all ≡ 1024) }
-{
-    let mut bench = Bench::<L>::start(alloc, opened)?;
-    fills_both(rt, alloc, &mut bench)
+#[derive(Drop)]
+struct NextSegment;
+
+impl Scenario for NextSegment {
+    fn run<L: Hall, R: Wait + Abort>(self, rt: &R, mut bench: Bench<L>) -> Result<(), Fail> {
+        let alloc = bench.alloc;
+        fills_both(rt, alloc, &mut bench)
+    }
 }
 
 // Empty changesets fill the first segment and the one cell of the second. Then the sequence is full.

@@ -20,6 +20,12 @@ const OTHER_TABLE: [u8; 20] = [
     0x54, 2, 1, 0, 0x75, 0, 0x12, 0, 1, 0, 0, 0, 0, 0, 0, 0, 6, 3, 1, 0x78,
 ];
 
+// of the second delivery: the insert of a row that is there
+const SECOND: Conflict = Conflict {
+    position: 1,
+    kind: ConflictKind::Conflict,
+};
+
 #[test]
 fn subscriptions_accept_what_cells_show(rt: HostRuntime) -> Result<(), Fail> {
     let alloc = rt.alloc();
@@ -128,13 +134,13 @@ fn from_the_start<L: StepLedger, R: Abort>(
     let first = stand.desks.take(alloc, &stand.one)?;
     let second = stand.desks.take(alloc, &stand.one)?;
     accepts_the_first(rt, alloc, &stand.reads, &mut stand.one, &first, &second)?;
-    refuses_the_second(rt, alloc, &stand.reads, &mut stand.one, &second)?;
+    refuses(rt, alloc, stand, &second, AcceptRefusal::Conflict(SECOND))?;
     let link = stand.one.link();
     stand.desks.register.relink(&mut stand.one, 9);
-    refuses_a_link(rt, alloc, &stand.reads, &mut stand.one, &second)?;
+    refuses(rt, alloc, stand, &second, AcceptRefusal::StaleLink)?;
     stand.desks.register.relink(&mut stand.one, link);
     stand.one.close();
-    refuses_the_closed(rt, alloc, &stand.reads, &mut stand.one, &second)
+    refuses(rt, alloc, stand, &second, AcceptRefusal::Closed)
 }
 
 fn accepts_the_first<L: StepLedger, R: Abort>(
@@ -155,42 +161,16 @@ fn accepts_the_first<L: StepLedger, R: Abort>(
     Ok(())
 }
 
-fn refuses_the_second<L: StepLedger, R: Abort>(
+// the first subscription refuses this delivery
+fn refuses<L: StepLedger, R: Abort>(
     rt: &R,
     alloc: Global,
-    reads: &Reads<L>,
-    one: &mut Subscription<L>,
-    second: &Delivery,
+    stand: &mut Stand<L>,
+    delivery: &Delivery,
+    why: AcceptRefusal,
 ) -> Result<(), Fail> {
-    let conflict = no(AcceptRefusal::Conflict(Conflict {
-        position: 1,
-        kind: ConflictKind::Conflict,
-    }));
-    assert_eq!(rt; refused(rt, alloc, reads, one, second)?, conflict);
-    Ok(())
-}
-
-fn refuses_a_link<L: StepLedger, R: Abort>(
-    rt: &R,
-    alloc: Global,
-    reads: &Reads<L>,
-    one: &mut Subscription<L>,
-    second: &Delivery,
-) -> Result<(), Fail> {
-    let stale = no(AcceptRefusal::StaleLink);
-    assert_eq!(rt; refused(rt, alloc, reads, one, second)?, stale);
-    Ok(())
-}
-
-fn refuses_the_closed<L: StepLedger, R: Abort>(
-    rt: &R,
-    alloc: Global,
-    reads: &Reads<L>,
-    one: &mut Subscription<L>,
-    second: &Delivery,
-) -> Result<(), Fail> {
-    let closed = no(AcceptRefusal::Closed);
-    assert_eq!(rt; refused(rt, alloc, reads, one, second)?, closed);
+    let found = refused(rt, alloc, &stand.reads, &mut stand.one, delivery)?;
+    assert_eq!(rt; found, no(why));
     Ok(())
 }
 

@@ -26,21 +26,33 @@ enum Job<L: Hall> {
 
 #[test]
 fn two_publishers_send_a_hundred_each(rt: HostRuntime) -> Result<(), Fail> {
-    let opened = opened(rt.alloc(), 200, 64)?;
-    all_arrive::<Brand, _>(&rt, rt.alloc(), opened, 2, 100)
+    arrive(&rt, rt.alloc(), 200, 64, 2, 100)
 }
 
 #[test]
 fn eight_publishers_through_an_intake_of_one(rt: HostRuntime) -> Result<(), Fail> {
-    let opened = opened(rt.alloc(), 16_000, 1)?;
-    all_arrive::<Brand, _>(&rt, rt.alloc(), opened, 8, 2_000)
+    arrive(&rt, rt.alloc(), 16_000, 1, 8, 2_000)
 }
 
 #[test]
 fn eight_publishers_through_an_intake_of_64(rt: HostRuntime) -> Result<(), Fail> {
     // a reader crosses the border of two segments while it is filled
-    let opened = opened(rt.alloc(), 68_000, 64)?;
-    all_arrive::<Brand, _>(&rt, rt.alloc(), opened, 8, 8_500)
+    arrive(&rt, rt.alloc(), 68_000, 64, 8, 8_500)
+}
+
+// over a broker of this capacity and this intake
+fn arrive<R: Threads + Wait + Abort + Sync>(
+    rt: &R,
+    alloc: Global,
+    capacity: u64,
+    intake: u64,
+    publishers: u64,
+    sends: u64,
+) -> Result<(), Fail>
+    requires few { publishers * sends < 18446744073709551615 }
+{
+    let opened = opened(alloc, capacity, intake)?;
+    all_arrive::<Brand, R>(rt, alloc, opened, publishers, sends)
 }
 
 // Each of `publishers` threads sends this often; all arrive, each publisher's in sending order.

@@ -1,4 +1,4 @@
-use Rattle.rb_threads.proofs.threads.eight_publishers_through_an_intake_of_one.Given as goal
+use Rattle.rb_threads.proofs.threads.arrive.Given as goal
 
 -- the hall of the broker that was just opened
 abbrev pub ghosts-all_arrive-L-Ledger : goal.ghosts-all_arrive-L-Ledger

@@ -1,4 +1,4 @@
-use Rattle.rb_threads.proofs.deliveries.a_new_link_cuts_anew.Given as goal
+use Rattle.rb_threads.proofs.deliveries.history.Given as goal
 
 -- the hall of the broker that was just opened
 abbrev pub ghosts-counts-L-Ledger : goal.ghosts-counts-L-Ledger

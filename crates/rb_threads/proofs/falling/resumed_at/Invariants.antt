@@ -1,4 +1,4 @@
-use Rattle.rb_threads.proofs.falling.resumed_from_after.Given as goal
+use Rattle.rb_threads.proofs.falling.resumed_at.Given as goal
 
 -- the hall of the broker that was just opened
 abbrev pub ghosts-resumes-L-Ledger : goal.ghosts-resumes-L-Ledger
