@@ -1,8 +1,7 @@
 -- The numbers of replies and refusals. -1 is `negsuc 0`.
 use Rattle.std.specs.Prelude.{ℕ, ℤ, pos, negsuc}
 use Rattle.cs_apply.specs.Conflict.{code_of}
-use Rattle.cs_parse.specs.declared.fault.FaultKind.{FaultKind}
-use Rattle.cs_parse.specs.declared.fault.FaultKind.TheVariants as kind
+use Rattle.cs_parse.specs.FaultNumber.{kind_number}
 use Rattle.cs_parse.specs.declared.fault.ParseFault.{ParseFault}
 use Rattle.rb_core.specs.declared.reply.BrokerRefusal.{BrokerRefusal}
 use Rattle.rb_core.specs.declared.reply.BrokerRefusal.TheVariants as refusal
@@ -70,28 +69,9 @@ code other = pos 0
 abbrev pub numbers : ℕ → ℕ → Why
 numbers first second = record { first = first; second = second }
 
--- the number of a fault's kind
-abbrev pub fault_number : FaultKind → ℕ
-fault_number kind.BadMarker = 1
-fault_number kind.Patchset = 2
-fault_number kind.Columns = 3
-fault_number kind.NoKey = 4
-fault_number kind.EmptyName = 5
-fault_number kind.NameTooLong = 6
-fault_number kind.BadOperation = 7
-fault_number kind.BadType = 8
-fault_number kind.Real = 9
-fault_number kind.UndefinedField = 10
-fault_number kind.KeyMissing = 11
-fault_number kind.KeyChanged = 12
-fault_number kind.OneSided = 13
-fault_number kind.ValueTooLong = 14
-fault_number kind.TooLong = 15
-fault_number kind.Truncated = 16
-
 -- of a fault: its place, and the number of its kind
 abbrev pub fault_why : ParseFault → Why
-fault_why fault = numbers fault.at (fault_number fault.kind)
+fault_why fault = numbers fault.at (kind_number fault.kind)
 
 abbrev pub desk_why : DeskRefusal → Why
 desk_why (desk.Drained last) = numbers last 0

@@ -3,7 +3,7 @@
 ghost use Rattle.std.specs.Prelude.{◌≡◌};
 ghost use Rattle.broker_c.specs.Codes as codes;
 
-use cs_parse::{FaultKind, ParseFault};
+use cs_parse::ParseFault;
 use rb_core::{BrokerRefusal, Reply};
 use rb_desk::DeskRefusal;
 use rb_subscriber::AcceptRefusal;
@@ -123,31 +123,7 @@ fn numbers(first: u64, second: u64) -> Why
 fn fault_why(fault: ParseFault) -> Why
     ensures { result ≡ codes.fault_why fault }
 {
-    numbers(fault.at as u64, kind_number(fault.kind))
-}
-
-// the number of a fault's kind, 1 to 16, as in `changeset.h`
-fn kind_number(kind: FaultKind) -> u64
-    ensures { result ≡ codes.fault_number kind }
-{
-    match kind {
-        FaultKind::BadMarker => 1,
-        FaultKind::Patchset => 2,
-        FaultKind::Columns => 3,
-        FaultKind::NoKey => 4,
-        FaultKind::EmptyName => 5,
-        FaultKind::NameTooLong => 6,
-        FaultKind::BadOperation => 7,
-        FaultKind::BadType => 8,
-        FaultKind::Real => 9,
-        FaultKind::UndefinedField => 10,
-        FaultKind::KeyMissing => 11,
-        FaultKind::KeyChanged => 12,
-        FaultKind::OneSided => 13,
-        FaultKind::ValueTooLong => 14,
-        FaultKind::TooLong => 15,
-        FaultKind::Truncated => 16,
-    }
+    numbers(fault.at as u64, u64::from(fault.kind.number()))
 }
 
 fn refusal_why(why: BrokerRefusal) -> Why

@@ -14,7 +14,7 @@ use Rattle.changeset_c.specs.declared.combining.CombineError.{CombineError}
 use Rattle.changeset_c.specs.declared.combining.CombineError.TheVariants.{Fault, Clash, Memory}
 use Rattle.changeset_c.specs.Combining.{AreReadSo, IsReadSo}
 use Rattle.changeset_c.specs.Combining.{IsCutBy, ReadUntil, IsFirstClash, Refuses, ReportsFirstClash}
-use Rattle.changeset_c.specs.Kinds.{kind_number}
+use Rattle.cs_parse.specs.FaultNumber.{kind_number}
 
 -- ---- texts that spell changesets
 

@@ -6,7 +6,7 @@ use Rattle.cs_parse.specs.declared.fault.ParseFault.{ParseFault}
 use Rattle.cs_parse.specs.Answer.{HasChangeset, HasFault}
 use Rattle.cs_parse.specs.Fault.{IsFault}
 use Rattle.cs_parse.specs.Count.{changes_in}
-use Rattle.changeset_c.specs.Kinds.{kind_number}
+use Rattle.cs_parse.specs.FaultNumber.{kind_number}
 use Rattle.changeset_c.specs.Says.{CheckSays, WriteSays, IsNumber, IsFaultAt}
 
 abbrev pub EitherOf : List ℕ → Type 0

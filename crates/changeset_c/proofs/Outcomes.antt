@@ -11,7 +11,7 @@ use Rattle.cs_group.specs.Adding.{first_refused, sections_in}
 use Rattle.cs_group.specs.Group.{first_clash, group_of}
 use Rattle.changeset_c.specs.Combining.{IsFirstBad, HasTextFault, HasClash, CombineSays}
 use Rattle.changeset_c.specs.Combining.{IsTextFault, IsClash, IsReadSo, AreReadSo, SpellAll, combined_text}
-use Rattle.changeset_c.specs.Kinds.{kind_number}
+use Rattle.cs_parse.specs.FaultNumber.{kind_number}
 use Rattle.changeset_c.specs.Says.{IsNumber}
 use Rattle.changeset_c.proofs.CombineLaws.{both_none}
 

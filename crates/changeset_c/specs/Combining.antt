@@ -13,7 +13,7 @@ use Rattle.cs_write.specs.Text.{text_of}
 use Rattle.changeset_c.specs.declared.combining.CombineError.{CombineError}
 use Rattle.changeset_c.specs.declared.combining.CombineError.TheVariants.{Fault, Clash, Memory}
 use Rattle.changeset_c.specs.declared.combining.Text.{Text}
-use Rattle.changeset_c.specs.Kinds.{kind_number}
+use Rattle.cs_parse.specs.FaultNumber.{kind_number}
 use Rattle.changeset_c.specs.Says.{HasFaultAt}
 
 -- ---- the texts, and what they spell

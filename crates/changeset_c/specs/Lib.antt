@@ -1,3 +1,2 @@
 pub mod Combining
-pub mod Kinds
 pub mod Says

@@ -10,7 +10,7 @@ use Rattle.cs_parse.specs.Answer.{IsSpelled}
 use Rattle.cs_parse.specs.Count.{HasChangeCount}
 use Rattle.cs_write.specs.Buffer.{given}
 use Rattle.cs_invert.specs.Inverse.{inverse}
-use Rattle.changeset_c.specs.Kinds.{kind_number}
+use Rattle.cs_parse.specs.FaultNumber.{kind_number}
 
 -- the text has a fault at this place, of the kind with this number
 pub record HasFaultAt (text : List ℕ) (at kind : ℕ) : Type 0 where

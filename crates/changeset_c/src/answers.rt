@@ -2,7 +2,6 @@
 
 ghost use Rattle.changeset_c.specs.Says.{CheckSays, CanonicalSays, KeptBut};
 
-use crate::kinds::kind_number;
 use crate::results::{NO_CHANGESET, NO_MEMORY};
 use cs_parse::{ParseError, count_changes, parse};
 use cs_write::laws::text_is_no_longer;
@@ -19,7 +18,7 @@ pub fn check(text: &[u8], fault_at: &mut usize, fault_kind: &mut u32) -> i64
         Ok(changes) => changes as i64,
         Err(fault) => {
             *fault_at = fault.at;
-            *fault_kind = kind_number(fault.kind);
+            *fault_kind = fault.kind.number();
             NO_CHANGESET
         }
     }

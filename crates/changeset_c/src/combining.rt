@@ -12,7 +12,6 @@ ghost use Rattle.changeset_c.specs.Combining.{ReportsFirstClash, Writes};
 ghost use Rattle.changeset_c.specs.Says.{KeptBut};
 ghost use Rattle.changeset_c.specs.declared.combining.CombineError.TheVariants.{Memory};
 
-use crate::kinds::kind_number;
 use crate::results::{CLASH, NO_CHANGESET, NO_MEMORY};
 use cs_group::{Group, GroupError};
 use cs_model::TextChangeset;
@@ -152,7 +151,7 @@ pub fn combine(
         Err(CombineError::Fault { text, fault }) => {
             *fault_text = text;
             *fault_at = fault.at;
-            *fault_kind = kind_number(fault.kind);
+            *fault_kind = fault.kind.number();
             NO_CHANGESET
         }
         Err(CombineError::Clash { text, section }) => {

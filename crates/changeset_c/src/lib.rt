@@ -7,7 +7,6 @@ mod answers;
 mod combining;
 mod exports;
 mod inverting;
-mod kinds;
 mod reading;
 mod results;
 #[cfg(test)]

@@ -18,7 +18,7 @@ use crate::change_error::ChangeError;
 use crate::conflict::{ApplyError, ConflictKind};
 use crate::places::Places;
 use crate::row::{all_agree, rest_agrees, updated};
-use cs_model::{ChangeRef, Changeset, Op, RecordRef, Row, RowKey, Schema, SectionRef, Shape};
+use cs_model::{ChangeRef, Changeset, Op, RecordRef, Row, RowKey, Schema, SectionRef, ShapeRef};
 use std::alloc::Global;
 
 // INSERT: the key must have no row, and gets the row in the new record. An `Err` of this and of the
@@ -91,7 +91,7 @@ fn change_row(
     places: &mut Places,
     alloc: Global,
     table: usize,
-    shape: &Shape,
+    shape: &ShapeRef,
     change: &ChangeRef,
 ) -> Result<(), ChangeError>
     requires { IsChange shape.now (change_seen change.now) }
@@ -109,7 +109,7 @@ fn change_row(
             places,
             alloc,
             &key,
-            &shape.flags,
+            shape.flags,
             &change.before,
             &change.after,
         ),
@@ -137,7 +137,7 @@ fn change_section(
     let shape = section.shape();
     let mut position = start;
     for change in section.changes() {
-        if let Err(error) = change_row(places, alloc, table, shape, &change) {
+        if let Err(error) = change_row(places, alloc, table, &shape, &change) {
             return Err(error.at(position));
         }
         position += 1;
@@ -146,7 +146,7 @@ fn change_section(
 }
 
 /// The index of the table with this name and these key flags, if it is kept.
-pub(crate) fn kept_table(schema: &Schema, kept: &[bool], shape: &Shape) -> Option<usize>
+pub(crate) fn kept_table(schema: &Schema, kept: &[bool], shape: &ShapeRef) -> Option<usize>
     ensures { result ≡ compatible schema.now kept.now shape.now }
 {
     let table = schema.table(shape)?;
@@ -179,7 +179,7 @@ pub(crate) fn change_all(
         let Some(end) = start.checked_add(section.len()) else {
             return Err(ApplyError::Memory);
         };
-        if let Some(table) = kept_table(schema, kept, section.shape()) {
+        if let Some(table) = kept_table(schema, kept, &section.shape()) {
             change_section(places, alloc, table, &section, start)?;
         }
         start = end;

@@ -19,7 +19,7 @@ ghost use Rattle.cs_apply.specs.State.{compatible};
 use crate::changes::{change_all, kept_table};
 use crate::conflict::ApplyError;
 use crate::places::Places;
-use cs_model::{Changeset, Row, RowKey, Schema, Shape};
+use cs_model::{Changeset, Row, RowKey, Schema, ShapeRef};
 use std::alloc::{AllocError, Global};
 use std::marker::Model;
 use std::sync::Arc;
@@ -88,7 +88,7 @@ impl HeldTables {
     }
 
     /// The index of the table with this shape's name and key flags, if it is kept.
-    pub fn kept_table(&self, shape: &Shape) -> Option<usize>
+    pub fn kept_table(&self, shape: &ShapeRef) -> Option<usize>
         ensures { result ≡ compatible self.now.state.schema self.now.state.kept shape.now }
     {
         kept_table(&self.schema, &self.kept, shape)

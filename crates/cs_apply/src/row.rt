@@ -17,7 +17,7 @@ ghost use Rattle.cs_apply.specs.Steps.{chosen, field_agrees};
 use crate::change_error::ChangeError;
 use crate::conflict::ConflictKind;
 use cs_model::laws::fields_first;
-use cs_model::{ChangeRef, FieldRef, Op, RecordRef, Row, Shape};
+use cs_model::{ChangeRef, FieldRef, Op, RecordRef, Row, ShapeRef};
 use std::alloc::{AllocError, Global};
 
 /// Whether each field of a record, all of which have a value, equals the row's. Then the row's
@@ -86,7 +86,7 @@ pub(crate) fn updated(alloc: Global, from: &RecordRef, row: &Row) -> Result<Row,
 /// without changing the tables. `shape` is that of the change's table.
 pub fn row_after(
     alloc: Global,
-    shape: &Shape,
+    shape: &ShapeRef,
     change: &ChangeRef,
     row: Option<&Row>,
 ) -> Result<Option<Row>, ChangeError>
@@ -98,7 +98,7 @@ pub fn row_after(
 {
     match change.op {
         Op::Insert => inserted_row(alloc, &change.after, row),
-        Op::Update => updated_row(alloc, &shape.flags, &change.before, &change.after, row),
+        Op::Update => updated_row(alloc, shape.flags, &change.before, &change.after, row),
         Op::Delete => deleted_row(&change.before, row),
     }
 }

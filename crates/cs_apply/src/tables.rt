@@ -16,7 +16,7 @@ ghost use Rattle.cs_apply.specs.Lending.{LendsPlaces};
 
 use crate::conflict::ApplyError;
 use crate::held::HeldTables;
-use cs_model::{Changeset, CopyIn, Row, RowKey, Schema, Shape};
+use cs_model::{Changeset, CopyIn, Row, RowKey, Schema, ShapeRef};
 use std::alloc::{AllocError, Global};
 use std::marker::Model;
 use std::sync::Arc;
@@ -63,7 +63,7 @@ impl Tables {
     }
 
     /// The index of the table with this shape's name and key flags, if it is kept.
-    pub fn kept_table(&self, shape: &Shape) -> Option<usize>
+    pub fn kept_table(&self, shape: &ShapeRef) -> Option<usize>
         ensures { result ≡ compatible self.now.schema self.now.kept shape.now }
     {
         self.held.kept_table(shape)

@@ -1,7 +1,5 @@
 -- Changesets that are added to a group, and those that it refuses.
 use Rattle.std.specs.Prelude.{◌≡◌, ℕ, Bool, false, not, List, [], ◌∷◌, ◌++◌, Option, Some, None}
-use Rattle.std.specs.Prelude.{option_map}
-use Rattle.std.specs.Borrow.{Bor}
 use Rattle.std.specs.List.{flat_map}
 use Rattle.std.specs.Map.{lookup}
 use Rattle.cs_model.specs.declared.shape.Shape.{Shape}
@@ -51,10 +49,10 @@ differs_by None shape = false
 differs_by (Some known) shape = not (same_shape known shape)
 
 -- the table that is known by this name
-abbrev pub known_as : List (List ℕ × Bor Shape) → List ℕ → Option Shape
-known_as tables name = option_map (λ shape. shape.now) (lookup (same_bytes name) tables)
+abbrev pub known_as : List (List ℕ × Shape) → List ℕ → Option Shape
+known_as tables name = lookup (same_bytes name) tables
 
 -- the tables by name tell of each section whether it clashes with these
-abbrev pub Knows : List Section → List (List ℕ × Bor Shape) → Type 0
+abbrev pub Knows : List Section → List (List ℕ × Shape) → Type 0
 Knows earlier tables = (section : Section)
     → clashes earlier section ≡ differs_by (known_as tables section.shape.name) section.shape

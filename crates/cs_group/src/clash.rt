@@ -2,7 +2,7 @@
 //! each section is compared with each one before it. That takes time quadratic in the number of
 //! sections.
 
-ghost use Rattle.std.specs.Prelude.{◌≡◌, ◌++◌, [], take};
+ghost use Rattle.std.specs.Prelude.{◌≡◌, ◌++◌, [], length, take};
 ghost use Rattle.cs_model.specs.Changeset.{IsChangeset};
 ghost use Rattle.cs_group.specs.Adding.{ReportsClash, ReportsIfSchema, first_refused};
 ghost use Rattle.cs_group.specs.Adding.{sections_in, sections_of};
@@ -29,6 +29,16 @@ impl<'a> AnyChangeset<'a> {
         match *self {
             AnyChangeset::Owned(changeset) => changeset.iter(),
             AnyChangeset::InText(changeset) => changeset.iter(),
+        }
+    }
+
+    // the number of sections
+    fn len(&self) -> usize
+        ensures { result ≡ length (sections_of self.now) }
+    {
+        match *self {
+            AnyChangeset::Owned(changeset) => changeset.len(),
+            AnyChangeset::InText(changeset) => changeset.len(),
         }
     }
 }
@@ -86,6 +96,8 @@ fn first_clash_in(
     ensures { result
         ≡ first_clash (added.now ++ sections_in earlier.now) (sections_of changeset.now) }
 {
+    // says that each index fits
+    let _len = changeset.len();
     let mut index = 0;
     for section in changeset.iter() {
         if clashes_with(added, &section)

@@ -57,19 +57,19 @@ impl<'a> Group<'a> {
     /// Returns `Schema` with the first section whose table has the name of an earlier section's and
     /// another shape, or `Memory` if there is none and memory runs out. An `Err` does not change
     /// the group.
-    pub fn add(&mut self, alloc: Global, changeset: &'a Changeset) -> Result<(), GroupError>
+    pub fn add(&mut self, _alloc: Global, changeset: &'a Changeset) -> Result<(), GroupError>
         ensures ok { OnOk result (self.new ≡ self.old ++ changeset.now) }
         ensures fits { OnOk result (first_clash self.old changeset.now ≡ None) }
         ensures refused { IfErr result (λ e. ReportsClash e (first_clash self.old changeset.now)) }
         ensures err { OnErr result (self.new ≡ self.old) }
     {
-        self.add_any(alloc, AnyChangeset::Owned(changeset))
+        self.add_any(AnyChangeset::Owned(changeset))
     }
 
     /// The same for a changeset that stands in its text.
     pub fn add_text(
         &mut self,
-        alloc: Global,
+        _alloc: Global,
         changeset: &'a TextChangeset<'a>,
     ) -> Result<(), GroupError>
         ensures ok { OnOk result (self.new ≡ self.old ++ changeset.now) }
@@ -77,11 +77,11 @@ impl<'a> Group<'a> {
         ensures refused { IfErr result (λ e. ReportsClash e (first_clash self.old changeset.now)) }
         ensures err { OnErr result (self.new ≡ self.old) }
     {
-        self.add_any(alloc, AnyChangeset::InText(changeset))
+        self.add_any(AnyChangeset::InText(changeset))
     }
 
     // adds a changeset in either form
-    fn add_any(&mut self, alloc: Global, changeset: AnyChangeset<'a>) -> Result<(), GroupError>
+    fn add_any(&mut self, changeset: AnyChangeset<'a>) -> Result<(), GroupError>
         ensures ok { OnOk result (self.new ≡ self.old ++ sections_of changeset.entry) }
         ensures fits { OnOk result (first_clash self.old (sections_of changeset.entry) ≡ None) }
         ensures refused { IfErr result (λ e.
@@ -90,7 +90,7 @@ impl<'a> Group<'a> {
     {
         let known = self.tables.len();
         let held = self.added.len();
-        if let Err(error) = take_in(alloc, &mut self.tables, &mut self.added, changeset.iter()) {
+        if let Err(error) = take_in(&mut self.tables, &mut self.added, changeset.iter()) {
             self.tables.truncate(known);
             self.added.truncate(held);
             return Err(error_of_one(error, &self.added, &changeset));
@@ -121,7 +121,6 @@ impl<'a> Group<'a> {
 
 // Adds sections and their tables. An `Err` may have added some.
 fn take_in<'a>(
-    alloc: Global,
     tables: &mut Tables<'a>,
     added: &mut Vec<SectionRef<'a>>,
     sections: SectionRefs<'a>,
@@ -139,7 +138,7 @@ fn take_in<'a>(
     let held = added.len();
     push_all(added, sections)?;
     let (_, more) = added.split_at(held);
-    admit_all(alloc, tables, more)
+    admit_all(tables, more)
 }
 
 // Appends sections. An `Err` may have appended some.

@@ -1,75 +1,19 @@
-//! Where the key of a row stands in a record, and the key as a map's key.
+//! The key of a row as a map's key: bytes where they stand in a record, or copied.
 
-ghost use Rattle.std.specs.Prelude.{◌≡◌, ◌≤◌, ◌++◌, ◌∷◌, [], ℕ, IfOk, List, drop, length};
-ghost use Rattle.std.specs.Prelude.{take};
+ghost use Rattle.std.specs.Prelude.{◌≡◌, ◌∷◌, [], ℕ, IfOk, List};
 ghost use Rattle.std.specs.Cmp.{partial_equiv_from_equiv};
 ghost use Rattle.std.specs.Cmp.Lexicographic.{nat_list_eq_equiv, same_text};
 ghost use Rattle.std.proofs.Common.{ap, sym};
-ghost use Rattle.cs_model.specs.declared.value.Field.{Field};
-ghost use Rattle.cs_model.specs.KeyBytes.{key_fields};
+ghost use Rattle.cs_model.specs.KeyRun.{IsKeyRun, TellsKey};
 ghost use Rattle.cs_model.specs.Schema.{same_bytes};
 ghost use Rattle.cs_model.specs.Seen.{change_seen};
 ghost use Rattle.cs_group.specs.Group.{changed_row};
-ghost use Rattle.cs_group.specs.Key.{IsKeyAt, KeyStands, bytes_of_key};
+ghost use Rattle.cs_group.specs.Key.{bytes_of_key};
 
-use cs_model::{ChangeRef, Octets, Op, PackedChange, key_of_row};
+use cs_model::{ChangeRef, KeyColumns, Octets, Op, PackedChange, key_of_row};
 use std::alloc::{AllocError, Global};
 use std::hash::{Hash, Hasher};
 use std::marker::Model;
-
-/// The key columns of a table that stand next to each other.
-#[derive(Clone, Copy)]
-pub(crate) struct KeyColumns {
-    // the index of the first one
-    first: usize,
-    count: usize,
-}
-
-/// The key columns of a table with these key flags, if they stand next to each other.
-pub(crate) fn key_columns(flags: &[u8]) -> Option<KeyColumns>
-    ensures { KeyStands flags.now result }
-{
-    let first = zeros(flags);
-    let (_, rest) = flags.split_at(first);
-    let count = nonzeros(rest);
-    let (_, rest) = rest.split_at(count);
-    if zeros(rest) < rest.len() {
-        return None;
-    }
-    Some(KeyColumns { first, count })
-}
-
-// how many columns outside the key come first
-fn zeros(flags: &[u8]) -> usize
-    ensures bound { result ≤ length flags.now }
-    ensures rest { (fields : List Field) → key_fields flags.now fields
-        ≡ key_fields (drop result flags.now) (drop result fields) }
-{
-    let mut count: usize = 0;
-    for flag in flags {
-        if *flag > 0 {
-            return count;
-        }
-        count += 1;
-    }
-    count
-}
-
-// how many columns of the key come first
-fn nonzeros(flags: &[u8]) -> usize
-    ensures bound { result ≤ length flags.now }
-    ensures rest { (fields : List Field) → key_fields flags.now fields
-        ≡ take result fields ++ key_fields (drop result flags.now) (drop result fields) }
-{
-    let mut count: usize = 0;
-    for flag in flags {
-        if *flag == 0 {
-            return count;
-        }
-        count += 1;
-    }
-    count
-}
 
 /// The bytes of a key.
 #[derive(Debug, Drop)]
@@ -96,15 +40,15 @@ impl<'a> Model for Key<'a> {
 }
 
 impl<'a> Key<'a> {
-    /// The key of the row that a change of the table is about. `columns` are the table's key
-    /// columns, if they stand next to each other. Returns `AllocError` if memory runs out.
+    /// The key of the row that a change of the table is about. `columns` are where the table's key
+    /// columns stand, if they stand next to each other. Returns `AllocError` if memory runs out.
     pub(crate) fn of(
         alloc: Global,
         flags: &[u8],
         columns: Option<KeyColumns>,
         change: &PackedChange<'a>,
     ) -> Result<Key<'a>, AllocError>
-        requires { KeyStands flags.now columns }
+        requires { TellsKey flags.now columns }
         ensures { IfOk result (λ key. key ≡ changed_row flags.now change.now) }
     {
         let change = change.unpack();
@@ -128,7 +72,7 @@ impl<'a> Key<'a> {
 
 // the bytes of these columns in the record that identifies a change's row
 fn bytes_at<'a>(at: KeyColumns, change: &ChangeRef<'a>) -> &'a [u8]
-    ensures { (flags : List ℕ) → IsKeyAt flags at.first at.count
+    ensures { (flags : List ℕ) → IsKeyRun flags at.first at.count
         → result.now ≡ changed_row flags (change_seen change.now) }
 {
     match change.op {

@@ -12,7 +12,7 @@ ghost use Rattle.cs_group.specs.Group.{combined_section, group_of};
 ghost use Rattle.cs_group.specs.Text.{rows_seen, table_text};
 
 use crate::rows::Rows;
-use cs_model::{Changeset, CopyIn, Section, SectionRef, Seq};
+use cs_model::{Changeset, SectionRef, Sections};
 use cs_write::{Groups, add_lengths, add_section};
 use indexmap::IndexMap;
 use std::alloc::{AllocError, Global};
@@ -29,16 +29,16 @@ fn by_table<'a>(alloc: Global, sections: &[SectionRef<'a>]) -> Result<Groups<'a>
 }
 
 // one section for each table of which something is left
-fn sections_of(alloc: Global, groups: &Groups) -> Result<Vec<Section>, AllocError>
+fn sections_of(alloc: Global, groups: &Groups) -> Result<Sections, AllocError>
     requires { AllByRecursion IsSection (map joined_section (seen groups.now.entries)) }
-    ensures { IfOk result (λ sections. sections.items ≡ filter has_changes
+    ensures { IfOk result (λ sections. sections ≡ filter has_changes
         (map (λ group. combined_section (joined_section group)) (seen groups.now.entries))) }
 {
-    let mut sections = Vec::new(alloc);
+    let mut sections = Sections::new(alloc);
     for (shape, group) in groups.iter() {
-        let changes = Rows::of(alloc, shape, group)?.changes(alloc)?;
-        if !changes.is_empty() {
-            sections.push(Section::new(shape.copy_in(alloc)?, changes))?;
+        let rows = Rows::of(alloc, shape, group)?;
+        if rows.any_change() {
+            rows.push_to(&mut sections)?;
         }
     }
     Ok(sections)
@@ -50,8 +50,7 @@ pub(crate) fn changeset_of(alloc: Global, sections: &[SectionRef]) -> Result<Cha
     ensures { IfOk result (λ made. made ≡ group_of sections.now) }
 {
     let groups = by_table(alloc, sections)?;
-    let sections = sections_of(alloc, &groups)?;
-    Ok(Changeset::from_seq(Seq::from_vec(sections)))
+    Ok(Changeset::of(sections_of(alloc, &groups)?))
 }
 
 // what the changes of each table come to

@@ -1,6 +1,6 @@
 //! What all changes of one table come to, as changes and as text.
 
-ghost use Rattle.std.specs.Prelude.{◌≡◌, ◌+◌, ◌≤◌, IfOk, length, nat_lt};
+ghost use Rattle.std.specs.Prelude.{◌≡◌, ◌+◌, ◌≤◌, ◌++◌, ◌∷◌, [], IfOk, OnOk, length, nat_lt};
 ghost use Rattle.std.specs.List.{AllByRecursion};
 ghost use Rattle.cs_model.specs.Changeset.{IsChange, all_changes};
 ghost use Rattle.cs_model.specs.PackedChanges.{changes_bytes};
@@ -13,14 +13,14 @@ ghost use Rattle.cs_group.specs.Text.{rows_seen, table_text};
 use crate::slot::Slot;
 use crate::table::Table;
 use cs_model::laws::changes_fit;
-use cs_model::{Changes, SectionRef, Shape};
+use cs_model::{SectionRef, Sections, ShapeRef};
 use cs_write::{add_lengths, header_len, put_header};
 use std::alloc::{AllocError, Global};
 
 /// The rows of a table, each with the change that its changes come to, or none.
 #[derive(Drop)]
 pub(crate) struct Rows<'s, 'a> {
-    shape: &'s Shape,
+    shape: &'s ShapeRef<'a>,
     // in the order in which the rows began
     slots: Vec<Option<Slot<'a>>>,
 }
@@ -29,7 +29,7 @@ impl<'s, 'a> Rows<'s, 'a> {
     /// What the changes of these sections of one table come to.
     pub(crate) fn of(
         alloc: Global,
-        shape: &'s Shape,
+        shape: &'s ShapeRef<'a>,
         sections: &[SectionRef<'a>],
     ) -> Result<Rows<'s, 'a>, AllocError>
         requires { AllByRecursion (IsChange shape.now) (all_changes sections.now) }
@@ -40,7 +40,7 @@ impl<'s, 'a> Rows<'s, 'a> {
             ≡ combined shape.now.flags (all_changes sections.now)) }
     {
         changes_fit();
-        let mut table = Table::new(alloc, &shape.flags);
+        let mut table = Table::new(alloc, shape.flags);
         for section in sections {
             table.add_all(alloc, section)?;
         }
@@ -48,26 +48,24 @@ impl<'s, 'a> Rows<'s, 'a> {
         Ok(Rows { shape, slots })
     }
 
-    /// The changes, in the order in which their rows began.
-    pub(crate) fn changes(&self, alloc: Global) -> Result<Changes, AllocError>
+    /// Adds a section with the changes, in the order in which their rows began.
+    pub(crate) fn push_to(&self, sections: &mut Sections) -> Result<(), AllocError>
         requires { AllByRecursion (HasColumnsOf (length self.now.shape.now.flags))
             (slot_changes (slots_seen self.now.slots.items)) }
-        ensures columns { IfOk result (λ made. made.0 ≡ length self.now.shape.now.flags) }
-        ensures changes { IfOk result (λ made. made.1
-            ≡ slot_changes (slots_seen self.now.slots.items)) }
+        ensures { OnOk result (sections.new ≡ sections.old ++ rows_seen self.now ∷ []) }
     {
-        let mut changes = Changes::new(alloc, self.shape.flags.len());
+        sections.push_header(self.shape)?;
         for slot in &self.slots {
             let Some(slot) = slot else {
                 continue;
             };
-            slot.push_to(&mut changes)?;
+            slot.push_to(sections)?;
         }
-        Ok(changes)
+        Ok(())
     }
 
-    // whether a row has a change
-    fn any_change(&self) -> bool
+    /// Whether a row has a change.
+    pub(crate) fn any_change(&self) -> bool
         ensures { result ≡ nat_lt 0 (length (slot_changes (slots_seen self.now.slots.items))) }
     {
         for slot in &self.slots {

@@ -1,14 +1,15 @@
 //! What the changes of a row come to so far.
 
-ghost use Rattle.std.specs.Prelude.{◌≡◌, ◌+◌, ◌≤◌, ◌++◌, ◌∷◌, [], IfOk, OnOk, length};
+ghost use Rattle.std.specs.Prelude.{◌≡◌, ◌+◌, ◌≤◌, ◌∷◌, [], IfOk, OnOk, length};
 ghost use Rattle.cs_model.specs.PackedChanges.{change_bytes};
+ghost use Rattle.cs_model.specs.Sections.{LastIsLong, with_changes};
 ghost use Rattle.cs_model.specs.Seen.{change_seen, fields_seen};
 ghost use Rattle.cs_write.specs.Buffer.{laid};
 ghost use Rattle.cs_write.specs.Lengths.{held};
 ghost use Rattle.cs_group.specs.Slots.{merged_seen, slot_seen};
-ghost use Rattle.cs_group.specs.Table.{HasColumnsOf, met_at, slots_seen};
+ghost use Rattle.cs_group.specs.Table.{met_at, slots_seen};
 
-use cs_model::{Changes, FieldRef, Op, PackedChange, RecordRef};
+use cs_model::{FieldRef, Op, PackedChange, RecordRef, Sections};
 use cs_write::{add_lengths, fields_len, put_bytes, put_fields, put_operation};
 use std::alloc::{AllocError, Global};
 
@@ -84,16 +85,21 @@ impl<'a> Slot<'a> {
         }
     }
 
-    /// Appends the change to a list, in one copy of the bytes that its fields have.
-    pub(crate) fn push_to(&self, changes: &mut Changes) -> Result<(), AllocError>
-        requires { HasColumnsOf changes.old.0 (slot_seen self.now) }
-        ensures columns { changes.new.0 ≡ changes.old.0 }
-        ensures ok { OnOk result (changes.new.1 ≡ changes.old.1 ++ slot_seen self.now ∷ []) }
+    /// Adds the change to the last section, in one copy of the bytes that its fields have.
+    pub(crate) fn push_to(&self, sections: &mut Sections) -> Result<(), AllocError>
+        requires { LastIsLong sections.old (slot_seen self.now).op (slot_seen self.now).before
+            (slot_seen self.now).after }
+        ensures { OnOk result (sections.new
+            ≡ with_changes sections.old (slot_seen self.now ∷ [])) }
     {
         match self {
-            Slot::Alone(change) => changes.push_packed(change),
+            Slot::Alone(change) => {
+                // says that the fields fit
+                let _bytes = change.bytes();
+                sections.push_packed(change)
+            }
             Slot::Merged(merged) => {
-                changes.push_fields(merged.op, merged.indirect, &merged.before, &merged.after)
+                sections.push_fields(merged.op, merged.indirect, &merged.before, &merged.after)
             }
         }
     }

@@ -3,14 +3,14 @@
 ghost use Rattle.std.specs.Prelude.{◌≡◌, ◌++◌, ◌∷◌, [], List, None, OnOk};
 ghost use Rattle.std.specs.List.{AllByRecursion};
 ghost use Rattle.cs_model.specs.declared.change.Change.{Change};
+ghost use Rattle.cs_model.specs.KeyRun.{TellsKey};
 ghost use Rattle.cs_group.specs.Group.{changed_row};
-ghost use Rattle.cs_group.specs.Key.{KeyStands};
 ghost use Rattle.cs_group.specs.Table.{HoldSlots, IsOfTable, met_at, row_place, slots_seen};
 
-use crate::key::{Key, KeyColumns, key_columns};
+use crate::key::Key;
 use crate::merge::{merge_at, only};
 use crate::slot::{Slot, met};
-use cs_model::{PackedChange, SectionRef};
+use cs_model::{KeyColumns, PackedChange, SectionRef, key_columns};
 use indexmap::IndexMap;
 use std::alloc::{AllocError, Global};
 
@@ -75,7 +75,7 @@ impl<'s, 'a> Table<'s, 'a> {
         columns: Option<KeyColumns>,
         change: PackedChange<'a>,
     ) -> Result<(), AllocError>
-        requires { KeyStands self.old.flags.now columns }
+        requires { TellsKey self.old.flags.now columns }
         ensures flags { self.new.flags.now ≡ self.old.flags.now }
         ensures ok { OnOk result ((changes : List Change)
             → AllByRecursion (IsOfTable self.old.flags.now) changes

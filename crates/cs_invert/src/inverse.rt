@@ -1,17 +1,16 @@
 //! The inverse of a changeset.
 
 ghost use Rattle.std.specs.Prelude.{◌≡◌, ◌==◌, ◌++◌, ◌∷◌, [], if◌then◌else◌, IfOk, OnOk, length};
-ghost use Rattle.std.specs.Prelude.{map};
 ghost use Rattle.cs_model.specs.Changeset.{AreRecords, IsSection};
 ghost use Rattle.cs_model.specs.PackedChanges.{change_of};
+ghost use Rattle.cs_model.specs.Sections.{LastHasColumns, with_changes};
 ghost use Rattle.cs_model.specs.Seen.{change_seen, field_seen, fields_seen};
 ghost use Rattle.cs_invert.specs.Inverse.{inverse, inverse_change, inverse_new, inverse_old};
+ghost use Rattle.cs_invert.specs.Inverse.{inverse_section};
 
 use crate::laws::inverses_are_changesets;
 use cs_model::laws::changes_fit;
-use cs_model::{
-    ChangeRef, Changes, Changeset, CopyIn, FieldRef, Op, RecordRef, Section, SectionRef, Seq,
-};
+use cs_model::{ChangeRef, Changeset, FieldRef, Op, RecordRef, SectionRef, Sections};
 use std::alloc::{AllocError, Global};
 
 /// Returns the inverse of a changeset, as `sqlite3changeset_invert` does: an INSERT becomes a
@@ -22,45 +21,40 @@ pub fn invert(alloc: Global, changeset: &Changeset) -> Result<Changeset, AllocEr
     ensures { IfOk result (λ made. made ≡ inverse changeset.now) }
 {
     inverses_are_changesets();
-    let mut sections = Vec::with_capacity(alloc, changeset.len())?;
+    let mut made = Sections::new(alloc);
     for section in changeset.iter() {
-        let changes = inverse_changes(alloc, &section)?;
-        let shape = section.shape().copy_in(alloc)?;
-        sections.push(Section::new(shape, changes))?;
+        push_inverses(alloc, &mut made, &section)?;
     }
-    Ok(Changeset::from_seq(Seq::from_vec(sections)))
+    Ok(Changeset::of(made))
 }
 
-// the inverses of a section's changes, in order
-fn inverse_changes(alloc: Global, section: &SectionRef) -> Result<Changes, AllocError>
+// Adds a section with the inverses of a section's changes, in order.
+fn push_inverses(alloc: Global, made: &mut Sections, section: &SectionRef) -> Result<(), AllocError>
     requires { IsSection section.now }
-    ensures columns { IfOk result (λ made. made.0 ≡ length section.now.shape.flags) }
-    ensures changes { IfOk result (λ made. made.1
-        ≡ map (inverse_change section.now.shape.flags) section.now.changes) }
+    ensures { OnOk result (made.new ≡ made.old ++ inverse_section section.now ∷ []) }
 {
+    made.push_header(&section.shape())?;
     let flags = section.flags();
-    let mut made = Changes::new(alloc, flags.len());
     let mut before = Vec::new(alloc);
     let mut after = Vec::new(alloc);
     for change in section.changes() {
-        push_inverse(&mut made, flags, change, &mut before, &mut after)?;
+        push_inverse(made, flags, change, &mut before, &mut after)?;
     }
-    Ok(made)
+    Ok(())
 }
 
-// Appends the inverse of a change. The buffers are for the fields of an UPDATE.
+// Adds the inverse of a change to the last section. The buffers are for the fields of an UPDATE.
 fn push_inverse<'a>(
-    made: &mut Changes,
+    made: &mut Sections,
     flags: &[u8],
     change: ChangeRef<'a>,
     before: &mut Vec<FieldRef<'a>>,
     after: &mut Vec<FieldRef<'a>>,
 ) -> Result<(), AllocError>
-    requires columns { made.old.0 ≡ length flags.now }
+    requires last { LastHasColumns made.old (length flags.now) }
     requires valid { AreRecords flags.now change.op change.before change.after }
-    ensures columns { made.new.0 ≡ made.old.0 }
-    ensures ok { OnOk result (made.new.1
-        ≡ made.old.1 ++ inverse_change flags.now (change_seen change.entry) ∷ []) }
+    ensures { OnOk result (made.new
+        ≡ with_changes made.old (inverse_change flags.now (change_seen change.entry) ∷ [])) }
 {
     changes_fit();
     match change.op {

@@ -4,7 +4,6 @@
 #![tactic(auto)]
 
 mod inverse;
-mod key_first;
 pub mod laws;
 mod placing;
 mod text;

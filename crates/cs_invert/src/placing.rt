@@ -6,6 +6,7 @@ ghost use Rattle.std.specs.Prelude.{◌≡◌, ◌≤◌, ◌+◌, ◌++◌, len
 ghost use Rattle.std.specs.List.{AllByRecursion};
 ghost use Rattle.cs_model.specs.declared.change.Op.TheVariants.{Update};
 ghost use Rattle.cs_model.specs.Changeset.{AreRecords, IsSection, all_changes};
+ghost use Rattle.cs_model.specs.KeyRun.{IsKeyRun, TellsKey};
 ghost use Rattle.cs_model.specs.Packed.{packed};
 ghost use Rattle.cs_model.specs.PackedChanges.{change_bytes, changes_bytes};
 ghost use Rattle.cs_model.specs.Seen.{change_seen};
@@ -14,12 +15,10 @@ ghost use Rattle.cs_write.specs.Groups.{group_text, groups_text};
 ghost use Rattle.cs_write.specs.Seen.{bodies, seen};
 ghost use Rattle.cs_invert.specs.Inverse.{inverse, inverse_by, inverse_change, inverse_old};
 ghost use Rattle.cs_invert.specs.Inverse.{inverse_section};
-ghost use Rattle.cs_invert.specs.Text.{AreValid, KeyFirst, TellsKeyFirst, exchanged_bytes};
-ghost use Rattle.cs_invert.specs.Text.{inverse_group, row_bytes};
+ghost use Rattle.cs_invert.specs.Text.{AreValid, exchanged_bytes, inverse_group, row_bytes};
 
 use crate::inverse::exchanged_fields;
-use crate::key_first::key_first;
-use cs_model::{ChangeRef, Op, RecordRef, SectionRef, Shape};
+use cs_model::{ChangeRef, KeyColumns, Op, RecordRef, SectionRef, ShapeRef, key_columns};
 use cs_write::{Groups, any_change, put_bytes, put_fields, put_header, put_operation};
 
 // An UPDATE's old record, with the new values in place of the old ones outside the key.
@@ -79,7 +78,7 @@ struct Halves<'a> {
 
 // These parts of an UPDATE's records. Only the key's end has to be found, by a scan.
 fn halves_of<'a>(flags: &[u8], keys: usize, change: &ChangeRef<'a>) -> Halves<'a>
-    requires first { KeyFirst flags.now keys }
+    requires first { IsKeyRun flags.now 0 keys }
     requires valid { AreRecords flags.now Update (change_seen change.now).before
         (change_seen change.now).after }
     ensures { change_bytes (inverse_by Update flags.now (change_seen change.now))
@@ -131,15 +130,15 @@ fn put_halves(out: &mut [u8], at: usize, indirect: bool, halves: &Halves) -> usi
     put_bytes(out, end, halves.old)
 }
 
-// An UPDATE's inverse, where `keys` are the key columns if they come first.
+// An UPDATE's inverse. `columns` are where the key columns stand, if they stand next to each other.
 fn put_update(
     out: &mut [u8],
     at: usize,
     flags: &[u8],
-    keys: Option<usize>,
+    columns: Option<KeyColumns>,
     change: &ChangeRef,
 ) -> usize
-    requires first { TellsKeyFirst flags.now keys }
+    requires columns { TellsKey flags.now columns }
     requires valid { AreRecords flags.now Update (change_seen change.now).before
         (change_seen change.now).after }
     requires room { at
@@ -150,9 +149,16 @@ fn put_update(
     ensures bytes { out.new ≡ laid at
         (change_bytes (inverse_by Update flags.now (change_seen change.now))) out.old }
 {
-    match keys {
-        Some(keys) => put_halves(out, at, change.indirect, &halves_of(flags, keys, change)),
-        None => put_columns(out, at, flags, change),
+    match columns {
+        Some(at_key) if at_key.first == 0 => {
+            put_halves(
+                out,
+                at,
+                change.indirect,
+                &halves_of(flags, at_key.count, change),
+            )
+        }
+        _ => put_columns(out, at, flags, change),
     }
 }
 
@@ -171,10 +177,10 @@ fn put_inverse(
     out: &mut [u8],
     at: usize,
     flags: &[u8],
-    keys: Option<usize>,
+    columns: Option<KeyColumns>,
     change: &ChangeRef,
 ) -> usize
-    requires first { TellsKeyFirst flags.now keys }
+    requires columns { TellsKey flags.now columns }
     requires valid { AreRecords flags.now (change_seen change.now).op
         (change_seen change.now).before (change_seen change.now).after }
     requires room { at + length (change_bytes (inverse_change flags.now (change_seen change.now)))
@@ -186,7 +192,7 @@ fn put_inverse(
 {
     match change.op {
         Op::Insert => put_row(out, at, Op::Delete, change.indirect, &change.after),
-        Op::Update => put_update(out, at, flags, keys, change),
+        Op::Update => put_update(out, at, flags, columns, change),
         Op::Delete => put_row(out, at, Op::Insert, change.indirect, &change.before),
     }
 }
@@ -201,10 +207,10 @@ fn put_section(out: &mut [u8], at: usize, section: &SectionRef) -> usize
         out.old }
 {
     let flags = section.flags();
-    let keys = key_first(flags);
+    let columns = key_columns(flags);
     let mut end = at;
     for change in section.changes() {
-        end = put_inverse(out, end, flags, keys, &change);
+        end = put_inverse(out, end, flags, columns, &change);
     }
     end
 }
@@ -231,7 +237,7 @@ fn any_inverse(sections: &[SectionRef]) -> bool
 }
 
 // A group's inverse, if it has a change.
-fn put_group(out: &mut [u8], at: usize, shape: &Shape, sections: &[SectionRef]) -> usize
+fn put_group(out: &mut [u8], at: usize, shape: &ShapeRef, sections: &[SectionRef]) -> usize
     requires valid { AllByRecursion IsSection sections.now }
     requires room { at + length (group_text (inverse_group (shape.now, sections.now)))
         ≤ length out.old }

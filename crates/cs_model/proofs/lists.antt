@@ -2,3 +2,5 @@
 pub mod Tables
 pub mod Keys
 pub mod Fronts
+pub mod KeyRuns
+pub mod Refusals

@@ -1,13 +1,17 @@
 pub mod Bytes
 pub mod Rule
 pub mod Section
+pub mod SectionText
+pub mod Sections
 pub mod Changeset
 pub mod Varint
 pub mod Text
 pub mod FieldBytes
 pub mod KeyBytes
+pub mod KeyRun
 pub mod Key
 pub mod Schema
+pub mod Shape
 pub mod Seen
 pub mod Packed
 pub mod Row

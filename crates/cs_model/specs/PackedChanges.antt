@@ -7,7 +7,6 @@ use Rattle.cs_model.specs.declared.value.Field.{Field}
 use Rattle.cs_model.specs.declared.change.Op.{Op}
 use Rattle.cs_model.specs.declared.change.Op.TheVariants.{Insert, Update, Delete}
 use Rattle.cs_model.specs.declared.change.Change.{Change}
-use Rattle.cs_model.specs.Section.{Section}
 use Rattle.cs_model.specs.Text.{op_byte}
 use Rattle.cs_model.specs.Packed.{packed, Fits, typed_in}
 
@@ -45,15 +44,6 @@ change_of op indirect before after =
 pub record PacksAll (n : ℕ) (bytes : List ℕ) (changes : List Change) : Type 0 where
   pub parts : bytes ≡ changes_bytes changes
   pub fit : AllByRecursion (Fit n) changes
-
--- what distinguishes lists of changes: the number of columns, and their bytes
-abbrev pub changes_parts : ℕ × List Change → List (List ℕ)
-changes_parts c = (c.0 ∷ []) ∷ changes_bytes c.1 ∷ []
-
--- what distinguishes sections: the name and key flags of their tables, and the bytes of their
--- changes
-abbrev pub section_parts : Section → List (List ℕ)
-section_parts s = s.shape.name ∷ s.shape.flags ∷ changes_bytes s.changes ∷ []
 
 -- the bytes begin with those of n fields
 pub record BeginsFields (n : ℕ) (bytes : List ℕ) : Type 0 where

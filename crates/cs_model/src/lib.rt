@@ -3,6 +3,7 @@
 //! exist and which texts encode one; every other crate cites them.
 #![tactic(auto)]
 
+mod at;
 mod canonical;
 mod change;
 mod change_ref;
@@ -12,15 +13,17 @@ mod copy;
 mod field;
 mod field_ref;
 mod fields;
+mod key_run;
 pub mod laws;
 mod origin;
 mod packed_change;
+mod pushing;
 mod record;
 mod row;
 mod row_key;
 mod schema;
-mod section;
 mod section_ref;
+mod sections;
 mod seq;
 mod shape;
 mod text_changeset;
@@ -36,16 +39,17 @@ pub use copy::CopyIn;
 pub use field::{field_push, field_read};
 pub use field_ref::FieldRef;
 pub use fields::Fields;
+pub use key_run::{KeyColumns, key_columns};
 pub use origin::Origin;
 pub use packed_change::{PackedChange, PackedChanges};
 pub use record::Record;
 pub use row::{Row, same_values};
 pub use row_key::{RowKey, key_of_row};
 pub use schema::{RefusedTables, Schema, SchemaError, SectionFault, TableFault};
-pub use section::Section;
 pub use section_ref::{SectionRef, SectionRefs};
+pub use sections::Sections;
 pub use seq::{Octets, Seq};
-pub use shape::Shape;
+pub use shape::{Shape, ShapeRef};
 pub use text_changeset::TextChangeset;
 pub use text_section::TextSection;
 pub use value::{Field, Value};

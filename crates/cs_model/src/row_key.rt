@@ -9,7 +9,7 @@ use crate::change_ref::{ChangeRef, RecordRef};
 use crate::copy::CopyIn;
 use crate::field::field_push;
 use crate::seq::{Octets, Seq};
-use crate::shape::Shape;
+use crate::shape::ShapeRef;
 use std::alloc::{AllocError, Global};
 use std::hash::{Hash, Hasher};
 
@@ -31,12 +31,12 @@ impl RowKey {
     pub fn of(
         alloc: Global,
         table: usize,
-        shape: &Shape,
+        shape: &ShapeRef,
         change: &ChangeRef,
     ) -> Result<RowKey, AllocError>
         ensures { IfOk result (λ key. key ≡ key_of table shape.now.flags (change_seen change.now)) }
     {
-        let bytes = key_of_row(alloc, &shape.flags, change)?;
+        let bytes = key_of_row(alloc, shape.flags, change)?;
         Ok(RowKey { table, bytes })
     }
 }

@@ -1,17 +1,17 @@
 //! The schema: the tables that a broker serves, and the check of a changeset against them.
 
-ghost use Rattle.std.specs.Prelude.{◌≡◌, ◌++◌, ◌∷◌, [], ◌<◌, IfSome, Some, None, IfOk, IfErr, OnOk};
+ghost use Rattle.std.specs.Prelude.{◌≡◌, ◌++◌, ◌∷◌, [], Some, None, IfOk, IfErr, OnOk};
 ghost use Rattle.std.specs.Prelude.{OnErr, IsOk, length, MatchResult, nat_lt};
 ghost use Rattle.std.specs.List.{list_any, list_all};
 ghost use Rattle.cs_model.specs.Schema.{has_name, has_shape, table_index, are_flags, is_name};
-ghost use Rattle.cs_model.specs.Schema.{first_outside, table_refusal, tables_refusal, refusal_of};
+ghost use Rattle.cs_model.specs.Section.{Section};
+ghost use Rattle.cs_model.specs.Schema.{refusal_at, table_refusal, tables_refusal, refusal_of};
 ghost use Rattle.cs_model.specs.Schema.{same_bytes, same_shape, IsSchema, ReportsRefusal};
 ghost use Rattle.cs_model.specs.declared.schema.SchemaError.TheVariants.{Memory};
 
 use crate::changeset::Changeset;
 use crate::copy::CopyIn;
-use crate::section::Section;
-use crate::shape::Shape;
+use crate::shape::{Shape, ShapeRef};
 use std::alloc::{AllocError, AllocFailed, Global};
 use std::marker::Model;
 use thiserror::Error;
@@ -133,10 +133,12 @@ impl Schema {
     }
 
     /// The index of the table with this name and these key flags, if there is one.
-    pub fn table(&self, shape: &Shape) -> Option<usize>
+    pub fn table(&self, shape: &ShapeRef) -> Option<usize>
         ensures { result ≡ table_index self.now shape.now }
     {
-        self.tables.iter().position(|table| table == shape)
+        self.tables
+            .iter()
+            .position(|table| same_table(table, shape))
     }
 
     /// Checks that each section of a changeset has the shape of a table. Otherwise refuses the
@@ -145,14 +147,16 @@ impl Schema {
         ensures ok { OnOk result (refusal_of self.now changeset.now ≡ None) }
         ensures refused { IfErr result (λ fault. refusal_of self.now changeset.now ≡ Some fault) }
     {
-        let sections = changeset.sections();
-        match first_without_table(&self.tables, sections) {
-            None => Ok(()),
-            Some(i) if knows_name(&self.tables, &sections[i].shape().name) => {
-                Err(SectionFault::ShapeDiffers(i))
+        // there are no more sections than a `usize` counts
+        let _count = changeset.len();
+        let mut place: usize = 0;
+        for section in changeset.iter() {
+            if !has_table(&self.tables, &section.shape()) {
+                return Err(fault_at(&self.tables, section.name(), place));
             }
-            Some(i) => Err(SectionFault::UnknownTable(i)),
+            place += 1;
         }
+        Ok(())
     }
 }
 
@@ -164,13 +168,13 @@ impl CopyIn for Schema {
     }
 }
 
-fn same_table(a: &Shape, b: &Shape) -> bool
+fn same_table(a: &Shape, b: &ShapeRef) -> bool
     ensures { result ≡ same_shape a.now b.now }
 {
-    a == b
+    a.as_ref() == *b
 }
 
-fn has_table(tables: &[Shape], shape: &Shape) -> bool
+fn has_table(tables: &[Shape], shape: &ShapeRef) -> bool
     ensures { result ≡ has_shape tables.now shape.now }
 {
     tables.iter().any(|table| same_table(table, shape))
@@ -182,13 +186,16 @@ fn knows_name(tables: &[Shape], name: &[u8]) -> bool
     tables.iter().any(|table| &table.name[..] == name)
 }
 
-fn first_without_table(tables: &[Shape], sections: &[Section]) -> Option<usize>
-    ensures value { result ≡ first_outside tables.now sections.now }
-    ensures bound { IfSome result (λ i. i < length sections.now) }
+// why the section at this place, with a table of this name, is refused
+fn fault_at(tables: &[Shape], name: &[u8], place: usize) -> SectionFault
+    ensures { (section : Section) → section.shape.name ≡ name.now
+        → result ≡ refusal_at tables.now place (Some section) }
 {
-    sections
-        .iter()
-        .position(|section| !has_table(tables, section.shape()))
+    if knows_name(tables, name) {
+        SectionFault::ShapeDiffers(place)
+    } else {
+        SectionFault::UnknownTable(place)
+    }
 }
 
 fn flags_stand(flags: &[u8]) -> bool

@@ -1,22 +1,24 @@
 //! Borrowed sections, and an iterator over the sections of a changeset.
 
-ghost use Rattle.std.specs.Prelude.{◌≡◌, ◌++◌, OnErr, OnOk, length, ◌==◌};
-ghost use Rattle.cs_model.specs.PackedChanges.{AreCanonical, changes_bytes, unpacked_changes};
+ghost use Rattle.std.specs.Prelude.{◌≡◌, length, ◌==◌};
+ghost use Rattle.std.specs.List.{AllByRecursion};
+ghost use Rattle.cs_model.specs.PackedChanges.{AreCanonical, Fit, changes_bytes};
+ghost use Rattle.cs_model.specs.PackedChanges.{unpacked_changes};
+ghost use Rattle.cs_model.specs.Sections.{IsText, StartsSection, after_section, first_section, sections_by};
 
+use crate::at::At;
 use crate::change_ref::ChangeRefs;
-use crate::changes::Changes;
 use crate::packed_change::PackedChanges;
-use crate::section::Section;
-use crate::shape::Shape;
+use crate::shape::ShapeRef;
 use crate::text_section::TextSection;
-use std::alloc::AllocError;
 use std::iter::Iterator;
 use std::marker::Model;
 
 /// A section of a changeset, borrowed. Contracts see the section.
 #[derive(Drop)]
 pub struct SectionRef<'a> {
-    shape: &'a Shape,
+    name: &'a [u8],
+    flags: &'a [u8],
     bytes: &'a [u8],
     // the number of changes
     count: usize,
@@ -32,26 +34,27 @@ impl<'a> Model for SectionRef<'a> {
     ghost coded = { section_code };
 
     ghost view = { λ s. record {
-      shape = s.shape.now;
-      changes = unpacked_changes (length s.shape.now.flags) s.bytes.now;
+      shape = record { name = s.name.now; flags = s.flags.now };
+      changes = unpacked_changes (length s.flags.now) s.bytes.now;
     } };
 
-    ghost invariant = { λ s. AreCanonical (length s.shape.now.flags) s.bytes.now
-        × (s.count ≡ length (unpacked_changes (length s.shape.now.flags) s.bytes.now)) };
+    ghost invariant = { λ s. AreCanonical (length s.flags.now) s.bytes.now
+        × (s.count ≡ length (unpacked_changes (length s.flags.now) s.bytes.now)) };
 }
 
 impl<'a> SectionRef<'a> {
     /// The section of this table with the `count` changes that canonical bytes encode.
-    pub(crate) fn new(shape: &'a Shape, bytes: &'a [u8], count: usize) -> SectionRef<'a>
-        requires canonical { AreCanonical (length shape.now.flags) bytes.now }
-        requires count { count ≡ length (unpacked_changes (length shape.now.flags) bytes.now) }
+    pub(crate) fn new(shape: ShapeRef<'a>, bytes: &'a [u8], count: usize) -> SectionRef<'a>
+        requires canonical { AreCanonical (length shape.flags) bytes.now }
+        requires count { count ≡ length (unpacked_changes (length shape.flags) bytes.now) }
         ensures { result ≡ record {
-          shape = shape.now;
-          changes = unpacked_changes (length shape.now.flags) bytes.now;
+          shape = shape.entry;
+          changes = unpacked_changes (length shape.entry.flags) bytes.now;
         } }
     {
         SectionRef {
-            shape,
+            name: shape.name,
+            flags: shape.flags,
             bytes,
             count,
         }
@@ -62,7 +65,8 @@ impl<'a> SectionRef<'a> {
         ensures { result ≡ self.now }
     {
         SectionRef {
-            shape: self.shape,
+            name: self.name,
+            flags: self.flags,
             bytes: self.bytes,
             count: self.count,
         }
@@ -72,35 +76,38 @@ impl<'a> SectionRef<'a> {
     pub fn name(&self) -> &'a [u8]
         ensures { result.now ≡ self.now.shape.name }
     {
-        &self.shape.name
+        self.name
     }
 
     /// The key flags of the table, one byte a column.
     pub fn flags(&self) -> &'a [u8]
         ensures { result.now ≡ self.now.shape.flags }
     {
-        &self.shape.flags
+        self.flags
     }
 
     /// The table.
-    pub fn shape(&self) -> &'a Shape
-        ensures { result.now ≡ self.now.shape }
+    pub fn shape(&self) -> ShapeRef<'a>
+        ensures { result ≡ self.now.shape }
     {
-        self.shape
+        ShapeRef {
+            name: self.name,
+            flags: self.flags,
+        }
     }
 
     /// Returns an iterator over the changes, in order.
     pub fn changes(&self) -> ChangeRefs<'a>
         ensures { result ≡ self.now.changes }
     {
-        ChangeRefs::of(self.shape.flags.len(), self.bytes)
+        ChangeRefs::of(self.flags.len(), self.bytes)
     }
 
     /// The same iterator, over the changes as their bytes.
     pub fn packed_changes(&self) -> PackedChanges<'a>
         ensures { result ≡ self.now.changes }
     {
-        PackedChanges::of(self.shape.flags.len(), self.bytes)
+        PackedChanges::of(self.flags.len(), self.bytes)
     }
 
     /// The canonical bytes of the changes, one after another.
@@ -110,15 +117,12 @@ impl<'a> SectionRef<'a> {
         self.bytes
     }
 
-    /// Appends the changes to a list of the same number of columns, in one copy. An `Err` does not
-    /// change the list.
-    pub fn append_to(&self, changes: &mut Changes) -> Result<(), AllocError>
-        requires { length self.now.shape.flags ≡ changes.old.0 }
-        ensures columns { changes.new.0 ≡ changes.old.0 }
-        ensures ok { OnOk result (changes.new.1 ≡ changes.old.1 ++ self.now.changes) }
-        ensures err { OnErr result (changes.new.1 ≡ changes.old.1) }
+    /// The same bytes; each of the changes has canonical bytes.
+    pub(crate) fn canonical(&self) -> &'a [u8]
+        ensures bytes { result.now ≡ changes_bytes self.now.changes }
+        ensures fit { AllByRecursion (Fit (length self.now.shape.flags)) self.now.changes }
     {
-        changes.append_canonical(self.bytes, self.count)
+        self.bytes
     }
 
     /// The number of changes.
@@ -136,44 +140,71 @@ impl<'a> SectionRef<'a> {
     }
 }
 
+// the section at the front of a text, and the bytes behind it
+fn section_of<'a>(at: &At, text: &'a [u8]) -> (SectionRef<'a>, &'a [u8])
+    requires { StartsSection at.now text.now (after_section at.now text.now) }
+    ensures section { result.0 ≡ first_section at.now text.now }
+    ensures rest { result.1.now ≡ after_section at.now text.now }
+{
+    let (_, from_flags) = text.split_at(at.head as usize);
+    let (flags, from_name) = from_flags.split_at(at.columns as usize);
+    let (name, zero) = from_name.split_at(at.name as usize);
+    let (_, from_changes) = zero.split_at(1);
+    let (bytes, rest) = from_changes.split_at(at.size);
+    let section = SectionRef {
+        name,
+        flags,
+        bytes,
+        count: at.count,
+    };
+    (section, rest)
+}
+
 /// An iterator over the sections of a changeset. Contracts see the list of remaining sections.
 #[derive(Drop)]
 pub struct SectionRefs<'a> {
-    owned: &'a [Section],
     text: &'a [TextSection<'a>],
     // how many of `text` are gone
     gone: usize,
+    ats: &'a [At],
+    bytes: &'a [u8],
 }
 
 impl<'a> Model for SectionRefs<'a> {
     ghost use Rattle.std.specs.Prelude.{List, ◌++◌, drop};
     ghost use Rattle.cs_model.specs.Section.{Section};
+    ghost use Rattle.cs_model.specs.Sections.{IsText, sections_by};
 
     ghost Value = { List Section };
 
-    ghost view = { λ s. s.owned.now ++ drop s.gone s.text.now };
+    ghost view = { λ s. drop s.gone s.text.now ++ sections_by s.ats.now s.bytes.now };
+
+    ghost invariant = { λ s. IsText s.ats.now s.bytes.now (sections_by s.ats.now s.bytes.now) };
 }
 
 impl<'a> SectionRefs<'a> {
-    /// An iterator over these sections.
-    pub(crate) fn of(sections: &'a [Section]) -> SectionRefs<'a>
-        ensures { result ≡ sections.now }
-    {
-        SectionRefs {
-            owned: sections,
-            text: &[],
-            gone: 0,
-        }
-    }
-
     /// An iterator over these sections of a text.
     pub(crate) fn of_text(sections: &'a [TextSection<'a>]) -> SectionRefs<'a>
         ensures { result ≡ sections.now }
     {
         SectionRefs {
-            owned: &[],
             text: sections,
             gone: 0,
+            ats: &[],
+            bytes: &[],
+        }
+    }
+
+    /// An iterator over the sections of a canonical text with this index.
+    pub(crate) fn of_canonical(ats: &'a [At], bytes: &'a [u8]) -> SectionRefs<'a>
+        requires { IsText ats.now bytes.now (sections_by ats.now bytes.now) }
+        ensures { result ≡ sections_by ats.now bytes.now }
+    {
+        SectionRefs {
+            text: &[],
+            gone: 0,
+            ats,
+            bytes,
         }
     }
 }
@@ -188,12 +219,14 @@ impl<'a> Iterator for SectionRefs<'a> {
     ghost remaining = { item_count (λ s. s) };
 
     fn next(&mut self) -> Option<SectionRef<'a>> {
-        if let Some((section, after)) = self.owned.split_first() {
-            self.owned = after;
+        if let Some(section) = self.text.get(self.gone) {
+            self.gone += 1;
             return Some(section.as_ref());
         }
-        let section = self.text.get(self.gone)?;
-        self.gone += 1;
-        Some(section.as_ref())
+        let (at, more) = self.ats.split_first()?;
+        let (section, rest) = section_of(at, self.bytes);
+        self.ats = more;
+        self.bytes = rest;
+        Some(section)
     }
 }

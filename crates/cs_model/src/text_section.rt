@@ -76,10 +76,10 @@ impl<'a> TextSection<'a> {
     {
         match &self.changes {
             TextChanges::InPlace { bytes, count } => {
-                return SectionRef::new(&self.shape, bytes, *count);
+                return SectionRef::new(self.shape.as_ref(), bytes, *count);
             }
             TextChanges::Copied(changes) => {
-                return SectionRef::new(&self.shape, changes.canonical(), changes.len());
+                return SectionRef::new(self.shape.as_ref(), changes.canonical(), changes.len());
             }
         }
     }

@@ -6,7 +6,6 @@ pub mod FrontCounts
 pub mod SectionFronts
 pub mod Batches
 pub mod Unread
-pub mod GrowLaws
 pub mod GrowingLaws
 pub mod NameLaws
 pub mod SpotLaws

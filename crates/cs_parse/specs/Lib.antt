@@ -1,10 +1,10 @@
 pub mod Place
 pub mod Stands
 pub mod Fault
+pub mod FaultNumber
 pub mod Answer
 pub mod FieldRules
 pub mod Reading
-pub mod Seen
 pub mod Count
 pub mod Canonical
 pub mod Pieces

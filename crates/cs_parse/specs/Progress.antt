@@ -5,7 +5,6 @@ use Rattle.std.specs.Prelude.{◌≡◌, ℕ, zero, suc, ◌+◌, ◌-◌, List,
 use Rattle.std.specs.Prelude.{Option, Some, None, Result, Ok, Err, nat_lt, if◌then◌else◌, refl}
 use Rattle.std.specs.Coded.{Coded, code_by, coded×, coded_list, coded_ℕ, coded_option}
 use Rattle.cs_model.specs.Bytes.{AreBytes}
-use Rattle.cs_model.specs.declared.change.Change.{Change}
 use Rattle.cs_model.specs.Changeset.{most_bytes}
 use Rattle.cs_model.specs.Section.{Section, section_code}
 use Rattle.cs_parse.specs.contracts.fault.ParseFault as parse_fault
@@ -16,6 +15,7 @@ use Rattle.cs_parse.specs.declared.fault.ParseFault.{ParseFault}
 use Rattle.cs_parse.specs.declared.stop.ParseRefusal.{ParseRefusal}
 use Rattle.cs_parse.specs.declared.stop.ParseRefusal.TheVariants.{Short, Bad}
 use Rattle.cs_parse.specs.Reading.{◌>>=◌, shape_at, change_at, ends_section, is_empty}
+pub use Rattle.cs_model.specs.Sections.{last_flags, with_changes}
 
 -- What was read of a text. `sections`: the last one may still grow. `pending`: the bytes of an
 -- incomplete header or change. `offset`: the number of bytes taken. `fault`: the permanent fault.
@@ -45,19 +45,6 @@ abbrev pub broken : ParseFault → Progress
 broken fault = record { sections = []; pending = []; offset = fault.at; fault = Some fault }
 
 -- ---- parts
-
--- the key flags of the last section's table
-abbrev pub last_flags : List Section → Option (List ℕ)
-last_flags [] = None
-last_flags (section ∷ []) = Some section.shape.flags
-last_flags (section ∷ next ∷ sections) = last_flags (next ∷ sections)
-
--- more changes at the end of the last section
-abbrev pub with_changes : List Section → List Change → List Section
-with_changes [] changes = []
-with_changes (section ∷ []) changes =
-    record { shape = section.shape; changes = section.changes ++ changes } ∷ []
-with_changes (section ∷ next ∷ sections) changes = section ∷ with_changes (next ∷ sections) changes
 
 -- one more section, without changes, if a header is read
 abbrev pub with_header : List Section → List ℕ → Result (List Section × List ℕ) ParseRefusal

@@ -3,6 +3,7 @@
 //! (docs/DEFINITIONS.md, Faults).
 
 ghost use Rattle.std.specs.Prelude.{◌≡◌};
+ghost use Rattle.cs_parse.specs.FaultNumber.{kind_number};
 ghost use Rattle.cs_parse.specs.declared.fault.ParseError.TheVariants as error;
 
 use std::alloc::AllocError;
@@ -59,6 +60,32 @@ pub enum FaultKind {
     /// The text ends inside a header or a change.
     #[error("the text ends inside a header or a change")]
     Truncated,
+}
+
+impl FaultKind {
+    /// The number of the kind, 1 to 16, for C (include/changeset.h).
+    pub fn number(self) -> u32
+        ensures { result ≡ kind_number self }
+    {
+        match self {
+            FaultKind::BadMarker => 1,
+            FaultKind::Patchset => 2,
+            FaultKind::Columns => 3,
+            FaultKind::NoKey => 4,
+            FaultKind::EmptyName => 5,
+            FaultKind::NameTooLong => 6,
+            FaultKind::BadOperation => 7,
+            FaultKind::BadType => 8,
+            FaultKind::Real => 9,
+            FaultKind::UndefinedField => 10,
+            FaultKind::KeyMissing => 11,
+            FaultKind::KeyChanged => 12,
+            FaultKind::OneSided => 13,
+            FaultKind::ValueTooLong => 14,
+            FaultKind::TooLong => 15,
+            FaultKind::Truncated => 16,
+        }
+    }
 }
 
 /// The first fault of a text. `at` is the byte offset from the beginning of the text, `kind` is

@@ -2,6 +2,7 @@
 //! them.
 
 ghost use Rattle.std.specs.Prelude.{◌≡◌, ◌<◌, IfOk, IfErr, Option, List, Some};
+ghost use Rattle.std.specs.Option.{option_copied};
 ghost use Rattle.cs_model.specs.Section.{Section};
 ghost use Rattle.cs_parse.specs.Front.{fault_by, Brings, IsBroken, Grows, Heads, Tails, Waits};
 ghost use Rattle.cs_parse.specs.Front.{KeepsSpot, stop_after};
@@ -11,28 +12,28 @@ ghost use Rattle.cs_parse.specs.declared.stop.ParseRefusal.TheVariants.{Short};
 
 use crate::change::{is_over, whole_changes};
 use crate::fault::{ParseError, ParseFault};
-use crate::growing::Growing;
+use crate::growing::{Growing, WholeChanges};
 use crate::header_spot::header_short;
-use crate::respell::WholeChanges;
 use crate::section::{sections_counted, whole_sections};
 use crate::spot::{Spot, still_short};
 use crate::stop::ParseRefusal;
-use cs_model::Section;
+use cs_model::Sections;
 use cs_model::laws::{changes_fit, spelled_is_said};
 use std::alloc::{AllocError, Global};
 
-// Scans the complete changes that `bytes` begins with, which belong to the last section's table.
-// Returns their number, the bytes after them, whether they are canonical, and why the next change
+// Scans the complete changes that `bytes` begins with, of the last section's table, which has these
+// key flags. Returns their number, the bytes after them, whether they are canonical, and why the next change
 // isn't read.
 fn head_of<'a>(
-    sections: &[Section],
+    flags: Option<&[u8]>,
     bytes: &'a [u8],
 ) -> (usize, &'a [u8], bool, Option<ParseRefusal>)
-    ensures { Heads (last_flags sections.now) bytes.now result.0 result.1.now result.2 result.3 }
+    ensures { Heads (option_copied flags.entry) bytes.now result.0 result.1.now result.2
+        result.3 }
 {
-    match sections.last() {
+    match flags {
         None => (0, bytes, true, None),
-        Some(section) => whole_changes(&section.shape().flags, bytes),
+        Some(flags) => whole_changes(flags, bytes),
     }
 }
 
@@ -42,12 +43,12 @@ fn tail_of(
     alloc: Global,
     stopped: Option<ParseRefusal>,
     bytes: &[u8],
-) -> Result<(Vec<Section>, &[u8], Option<ParseRefusal>), AllocError>
-    ensures { IfOk result (λ x. Tails stopped bytes.now x.0.items x.1.now x.2) }
+) -> Result<(Sections, &[u8], Option<ParseRefusal>), AllocError>
+    ensures { IfOk result (λ x. Tails stopped bytes.now x.0 x.1.now x.2) }
 {
     match stopped {
-        None => whole_sections(alloc, bytes),
-        Some(why) => Ok((Vec::new(alloc), bytes, Some(why))),
+        None => whole_sections::<Sections>(alloc, bytes),
+        Some(why) => Ok((Sections::new(alloc), bytes, Some(why))),
     }
 }
 
@@ -84,14 +85,14 @@ fn wrong_in(taken: usize, why: Option<ParseRefusal>) -> Option<ParseFault>
 ///
 /// Advances the spot, so that the next call doesn't scan these bytes again. A bound of 0 means that
 /// an item is complete or a byte is wrong; the spot is then unspecified.
-pub fn still_waits(sections: &[Section], bytes: &[u8], spot: &mut Spot) -> (usize, bool)
-    requires { Waits (last_flags sections.now) bytes.now spot.old }
+pub fn still_waits(flags: Option<&[u8]>, bytes: &[u8], spot: &mut Spot) -> (usize, bool)
+    requires { Waits (option_copied flags) bytes.now spot.old }
     ensures waits { 0 < result.0 → (others : List Section)
-        → last_flags others ≡ last_flags sections.now → read_on others bytes.now
+        → last_flags others ≡ option_copied flags.entry → read_on others bytes.now
         ≡ record { sections = others; rest = bytes.now; why = Some Short } }
-    ensures lacks { (others : List Section) → last_flags others ≡ last_flags sections.now
+    ensures lacks { (others : List Section) → last_flags others ≡ option_copied flags.entry
         → WaitsFor others bytes.now result.1 result.0 }
-    ensures spot { 0 < result.0 → KeepsSpot (last_flags sections.now) bytes.now spot.new }
+    ensures spot { 0 < result.0 → KeepsSpot (option_copied flags.entry) bytes.now spot.new }
 {
     if bytes.is_empty() {
         return (0, false);
@@ -99,22 +100,22 @@ pub fn still_waits(sections: &[Section], bytes: &[u8], spot: &mut Spot) -> (usiz
     if is_over(bytes) {
         return (header_short(bytes, spot), true);
     }
-    let Some(section) = sections.last() else {
+    let Some(flags) = flags else {
         return (0, false);
     };
-    (still_short(&section.shape().flags, bytes, spot), false)
+    (still_short(flags, bytes, spot), false)
 }
 
 /// The error when memory runs out for bytes after these sections. It is the bytes' fault if one of
 /// them is wrong, because finding a fault does not allocate. `taken` is the number of bytes of the
 /// text up to their end. The result is the same after all sections whose last table is this one.
-pub fn unread(sections: &[Section], bytes: &[u8], taken: usize) -> ParseError
-    ensures { (others : List Section) → last_flags others ≡ last_flags sections.now
+pub fn unread(flags: Option<&[u8]>, bytes: &[u8], taken: usize) -> ParseError
+    ensures { (others : List Section) → last_flags others ≡ option_copied flags.entry
         → IsBroken result taken others bytes.now }
 {
     changes_fit();
     spelled_is_said();
-    let (_, behind, _, stopped) = head_of(sections, bytes);
+    let (_, behind, _, stopped) = head_of(flags, bytes);
     match wrong_in(taken, end_of(stopped, behind)) {
         Some(fault) => ParseError::Fault(fault),
         None => ParseError::Memory,
@@ -126,21 +127,21 @@ pub fn unread(sections: &[Section], bytes: &[u8], taken: usize) -> ParseError
 // last table is this one.
 fn brought<'a>(
     alloc: Global,
-    sections: &[Section],
+    flags: Option<&[u8]>,
     bytes: &'a [u8],
     taken: usize,
-) -> Result<(WholeChanges, Vec<Section>, &'a [u8]), ParseError>
+) -> Result<(WholeChanges, Sections, &'a [u8]), ParseError>
     ensures ok { IfOk result (λ x. (others : List Section) → last_flags others
-        ≡ last_flags sections.now → Brings taken x.0.len x.0.count x.0.canonical x.1.items x.2.now
+        ≡ option_copied flags.entry → Brings taken x.0.len x.0.count x.0.canonical x.1 x.2.now
         others bytes.now) }
     ensures err { IfErr result (λ error. (others : List Section)
-        → last_flags others ≡ last_flags sections.now → IsBroken error taken others bytes.now) }
+        → last_flags others ≡ option_copied flags.entry → IsBroken error taken others bytes.now) }
 {
     changes_fit();
     spelled_is_said();
-    let (count, behind, canonical, stopped) = head_of(sections, bytes);
+    let (count, behind, canonical, stopped) = head_of(flags, bytes);
     let Ok((more, rest, why)) = tail_of(alloc, stopped, behind) else {
-        return Err(unread(sections, bytes, taken));
+        return Err(unread(flags, bytes, taken));
     };
     if let Some(fault) = wrong_in(taken, why) {
         return Err(ParseError::Fault(fault));
@@ -159,12 +160,12 @@ fn brought<'a>(
 pub fn grow(alloc: Global, text: &mut Growing, taken: usize) -> Result<(), ParseError>
     ensures { Grows result taken text.old text.new }
 {
-    let (whole, more, rest) = brought(alloc, text.sections(), text.waiting(), taken)?;
+    let (whole, more, rest) = brought(alloc, text.last_flags(), text.waiting(), taken)?;
     if more.is_empty() {
         text.keep(alloc, whole)?;
         return Ok(());
     }
-    let others = Growing::of(alloc, more, rest)?;
-    text.join(alloc, whole, others)?;
+    let rest = Vec::from_slice(alloc, rest)?;
+    text.join(whole, more, rest)?;
     Ok(())
 }

@@ -1,26 +1,15 @@
 //! Reads table headers: the number of columns, the key flags and the name.
 
-ghost use Rattle.std.specs.Prelude.{◌≡◌, ◌==◌, ◌<◌, length, nat_lt, position, IfOk, IfSome};
+ghost use Rattle.std.specs.Prelude.{◌≡◌, ◌==◌, ◌<◌, length, nat_lt, position, IfSome};
 ghost use Rattle.std.specs.List.{list_any};
 ghost use Rattle.cs_parse.specs.Reading.{Reads, flags_at, letters_at, name_at, before_name_at};
 ghost use Rattle.cs_parse.specs.Reading.{header_at};
-ghost use Rattle.cs_parse.specs.Seen.{shape_seen};
 
 use crate::fault::FaultKind;
 use crate::number::columns_of;
 use crate::stop::ParseRefusal;
-use cs_model::{Seq, Shape};
+use cs_model::ShapeRef;
 use memchr::memchr;
-use std::alloc::{AllocError, Global};
-
-/// A table's shape that borrows its bytes from the text.
-#[derive(Clone, Copy)]
-pub struct ShapeRef<'a> {
-    /// The table's name.
-    pub name: &'a [u8],
-    /// The key flags, one byte a column. Nonzero means that the column is in the key.
-    pub flags: &'a [u8],
-}
 
 fn any_nonzero(bytes: &[u8]) -> bool
     ensures { result ≡ list_any (λ byte. nat_lt 0 byte) bytes.now }
@@ -99,19 +88,9 @@ pub fn before_name(bytes: &[u8]) -> Result<(&[u8], &[u8]), ParseRefusal>
 /// Reads a header after its `T`, in place.
 #[tactic(auto, unfolding(crate::specs::Reading::header_at, crate::specs::Reading::before_name_at))]
 pub fn header_of(bytes: &[u8]) -> Result<(ShapeRef, &[u8]), ParseRefusal>
-    ensures { Reads (λ x. (shape_seen x.0, x.1.now)) result (header_at bytes.now) }
+    ensures { Reads (λ x. (x.0, x.1.now)) result (header_at bytes.now) }
 {
     let (flags, rest) = before_name(bytes)?;
     let (name, rest) = name_of(rest)?;
     Ok((ShapeRef { name, flags }, rest))
-}
-
-/// Copies the shape into buffers of its own.
-pub fn shape_of(alloc: Global, shape: ShapeRef) -> Result<Shape, AllocError>
-    ensures { IfOk result (λ copy. copy ≡ shape_seen shape.entry) }
-{
-    Ok(Shape {
-        name: Seq::from_vec(Vec::from_slice(alloc, shape.name)?),
-        flags: Seq::from_vec(Vec::from_slice(alloc, shape.flags)?),
-    })
 }

@@ -31,6 +31,6 @@ pub fn parse_in_place<'a>(alloc: Global, text: &'a [u8]) -> Result<TextChangeset
     // The text determines the result.
     ensures exact { ParseAnswers result (answer_of text.now) }
 {
-    let sections = sections_of::<TextSection>(alloc, text)?;
+    let sections = sections_of::<Vec<TextSection>>(alloc, text)?;
     Ok(TextChangeset::from_seq(Seq::from_vec(sections)))
 }

@@ -22,7 +22,6 @@ mod made;
 mod number;
 mod pieces;
 mod record;
-mod respell;
 mod rule;
 mod section;
 mod spot;

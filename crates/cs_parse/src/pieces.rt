@@ -156,7 +156,7 @@ impl PieceParser {
             return self.fed_nothing();
         }
         if piece.len() < self.lacking && no_end(self.header, piece) {
-            self.text.extend(alloc, piece)?;
+            self.text.extend(piece)?;
             self.lacking -= piece.len();
             self.offset += piece.len();
             return Ok(());
@@ -221,12 +221,12 @@ impl PieceParser {
         ensures { TakesIn result self.old bytes.now self.new }
     {
         let start = self.text.waiting().len();
-        if self.text.extend(alloc, bytes).is_err() {
+        if self.text.extend(bytes).is_err() {
             return Err(self.without_room(bytes));
         }
         let taken = self.offset + bytes.len();
         let (lacking, header) = still_waits(
-            self.text.sections(),
+            self.text.last_flags(),
             self.text.waiting(),
             &mut self.spot,
         );
@@ -245,7 +245,7 @@ impl PieceParser {
                 Ok(())
             }
             Err(error) => {
-                self.text.shorten(alloc, start);
+                self.text.shorten(start);
                 Err(error)
             }
         }
@@ -260,7 +260,7 @@ impl PieceParser {
         if !self.text.waiting().is_empty() {
             return ParseError::Memory;
         }
-        unread(self.text.sections(), bytes, self.offset + bytes.len())
+        unread(self.text.last_flags(), bytes, self.offset + bytes.len())
     }
 
     // Drops everything but the fault.

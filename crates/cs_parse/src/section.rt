@@ -1,18 +1,18 @@
 //! Reads the sections of a text, a header and its changes each, and counts their changes.
 
-ghost use Rattle.std.specs.Prelude.{◌≡◌, ◌<◌, [], IfOk, length, map};
+ghost use Rattle.std.specs.Prelude.{◌≡◌, ◌<◌, ◌++◌, ◌∷◌, [], IfOk, OnOk, length};
 ghost use Rattle.cs_parse.specs.Count.{counted, changes_in};
 ghost use Rattle.cs_parse.specs.Front.{NextSection, changes_front};
 ghost use Rattle.cs_parse.specs.Progress.{read_on};
 ghost use Rattle.cs_parse.specs.Reading.{Reads, shape_at, section_at, is_empty, many_at};
 ghost use Rattle.cs_parse.specs.Reading.{sections_at};
-ghost use Rattle.cs_parse.specs.Seen.{shape_seen};
 
 use crate::change::{changes_counted, whole_changes};
 use crate::fault::FaultKind;
-use crate::header::{ShapeRef, header_of, shape_of};
-use crate::made::FromText;
+use crate::header::header_of;
+use crate::made::Collects;
 use crate::stop::ParseRefusal;
+use cs_model::ShapeRef;
 use cs_model::laws::{changes_fit, spelled_is_said};
 use std::alloc::{AllocError, Global};
 
@@ -20,7 +20,7 @@ use std::alloc::{AllocError, Global};
 /// is the first byte of the text.
 #[tactic(auto, unfolding(crate::specs::Reading::shape_at))]
 pub fn shape_in(bytes: &[u8]) -> Result<(ShapeRef, &[u8]), ParseRefusal>
-    ensures { Reads (λ x. (shape_seen x.0, x.1.now)) result (shape_at bytes.now) }
+    ensures { Reads (λ x. (x.0, x.1.now)) result (shape_at bytes.now) }
 {
     let Some((&byte, rest)) = bytes.split_first() else {
         return Err(ParseRefusal::Short);
@@ -39,60 +39,58 @@ pub fn shape_in(bytes: &[u8]) -> Result<(ShapeRef, &[u8]), ParseRefusal>
     })
 }
 
-// The section of this table with its complete changes. Returns it, the bytes after them, and why
+// Adds the section of this table with its complete changes. Returns the bytes after them, and why
 // the next change isn't read.
-fn section_of<'a, S: FromText<'a>>(
+fn add_section<'a, C: Collects<'a>>(
     alloc: Global,
-    shape: ShapeRef,
+    sections: &mut C,
+    shape: &ShapeRef,
     bytes: &'a [u8],
-) -> Result<(S, &'a [u8], Option<ParseRefusal>), AllocError>
-    ensures section { IfOk result (λ x. S.made x.0 ≡ record {
-      shape = shape_seen shape.entry;
-      changes = (changes_front shape.entry.flags.now bytes.now).items;
-    }) }
-    ensures rest { IfOk result (λ x. x.1.now
-        ≡ (changes_front shape.entry.flags.now bytes.now).rest) }
-    ensures why { IfOk result (λ x. x.2 ≡ (changes_front shape.entry.flags.now bytes.now).why) }
+) -> Result<(&'a [u8], Option<ParseRefusal>), AllocError>
+    ensures added { OnOk result (C.held sections.new ≡ C.held sections.old ++ record {
+      shape = shape.now;
+      changes = (changes_front shape.now.flags bytes.now).items;
+    } ∷ []) }
+    ensures rest { IfOk result (λ x. x.0.now ≡ (changes_front shape.now.flags bytes.now).rest) }
+    ensures why { IfOk result (λ x. x.1 ≡ (changes_front shape.now.flags bytes.now).why) }
 {
     let (count, rest, canonical, why) = whole_changes(shape.flags, bytes);
     let (text, _) = bytes.split_at(bytes.len() - rest.len());
     changes_fit();
     spelled_is_said();
-    let shape = shape_of(alloc, shape)?;
-    let section = S::from_text(alloc, shape, text, count, canonical)?;
-    Ok((section, rest, why))
+    sections.collect(alloc, shape, text, count, canonical)?;
+    Ok((rest, why))
 }
 
-// Appends the next section if its header is complete, with its complete changes. Returns the bytes
+// Adds the next section if its header is complete, with its complete changes. Returns the bytes
 // after it, and why it isn't read to its end.
-fn next_section<'a, S: FromText<'a>>(
+fn next_section<'a, C: Collects<'a>>(
     alloc: Global,
-    sections: &mut Vec<S>,
+    sections: &mut C,
     bytes: &'a [u8],
 ) -> Result<(&'a [u8], Option<ParseRefusal>), AllocError>
     requires { 0 < length bytes.now }
-    ensures { IfOk result (λ x. NextSection (map S.made sections.old.items)
-        (map S.made sections.new.items) bytes.now x.0.now x.1) }
+    ensures { IfOk result (λ x. NextSection (C.held sections.old) (C.held sections.new) bytes.now
+        x.0.now x.1) }
 {
     let (shape, rest) = match shape_in(bytes) {
         Ok(read) => read,
         Err(why) => return Ok((bytes, Some(why))),
     };
-    let (section, rest, why) = section_of(alloc, shape, rest)?;
-    sections.push(section)?;
-    Ok((rest, why))
+    let (after, why) = add_section(alloc, sections, &shape, rest)?;
+    Ok((after, why))
 }
 
 /// Reads the sections of a text, the last one as far as it is complete. Returns them, the bytes
 /// after them, and why no more is read.
-pub fn whole_sections<'a, S: FromText<'a>>(
+pub fn whole_sections<'a, C: Collects<'a>>(
     alloc: Global,
     bytes: &'a [u8],
-) -> Result<(Vec<S>, &'a [u8], Option<ParseRefusal>), AllocError>
+) -> Result<(C, &'a [u8], Option<ParseRefusal>), AllocError>
     ensures { IfOk result (λ x. read_on [] bytes.now
-        ≡ record { sections = map S.made x.0.items; rest = x.1.now; why = x.2 }) }
+        ≡ record { sections = C.held x.0; rest = x.1.now; why = x.2 }) }
 {
-    let mut sections = Vec::new(alloc);
+    let mut sections = C::none(alloc);
     let mut rest = bytes;
     // each turn takes at least one byte
     for _ in 0..bytes.len() {

@@ -1,7 +1,7 @@
 //! Parses a whole text (`parse`), or counts its changes without building a changeset
 //! (`count_changes`).
 
-ghost use Rattle.std.specs.Prelude.{◌≡◌, ◌≤◌, List, IfOk, IfErr, Ok, Err, length, map};
+ghost use Rattle.std.specs.Prelude.{◌≡◌, ◌≤◌, List, IfOk, IfErr, Ok, Err, length};
 ghost use Rattle.cs_parse.specs.declared.fault.ParseFault.{ParseFault};
 ghost use Rattle.cs_parse.specs.Fault.{IsFault};
 ghost use Rattle.cs_model.specs.Section.{Section};
@@ -13,10 +13,10 @@ ghost use Rattle.cs_parse.specs.Reading.{answer_of, fault_of, sections_at, whole
 ghost use Rattle.cs_parse.specs.Reading.{overlong_answer};
 
 use crate::fault::{FaultKind, ParseError, ParseFault};
-use crate::made::FromText;
+use crate::made::Collects;
 use crate::section::{sections_counted, whole_sections};
 use crate::stop::ParseRefusal;
-use cs_model::{Changeset, Section, Seq};
+use cs_model::{Changeset, Sections};
 use std::alloc::Global;
 
 /// The maximum length of a text, in bytes.
@@ -40,9 +40,9 @@ fn fault_from(refusal: ParseRefusal, len: usize, ended: FaultKind) -> ParseFault
 }
 
 // the sections of a text within the limit
-fn whole_of<'a, S: FromText<'a>>(alloc: Global, text: &'a [u8]) -> Result<Vec<S>, ParseError>
+fn whole_of<'a, C: Collects<'a>>(alloc: Global, text: &'a [u8]) -> Result<C, ParseError>
     ensures ok { IfOk result (λ x. whole_answer (length text.now) (sections_at text.now)
-        ≡ Ok (map S.made x.items)) }
+        ≡ Ok (C.held x)) }
     ensures err { IfErr result (λ error. ParseAnswers (Err error)
         (whole_answer (length text.now) (sections_at text.now))) }
 {
@@ -81,8 +81,8 @@ fn cut_of(front: &[u8]) -> ParseFault
 
 /// The sections of a text, or the error of `parse`.
 #[tactic(auto, unfolding(crate::specs::Reading::answer_of))]
-pub fn sections_of<'a, S: FromText<'a>>(alloc: Global, text: &'a [u8]) -> Result<Vec<S>, ParseError>
-    ensures ok { IfOk result (λ x. answer_of text.now ≡ Ok (map S.made x.items)) }
+pub fn sections_of<'a, C: Collects<'a>>(alloc: Global, text: &'a [u8]) -> Result<C, ParseError>
+    ensures ok { IfOk result (λ x. answer_of text.now ≡ Ok (C.held x)) }
     ensures err { IfErr result (λ error. ParseAnswers (Err error) (answer_of text.now)) }
 {
     if text.len() > MOST_BYTES {
@@ -111,8 +111,9 @@ pub fn parse(alloc: Global, text: &[u8]) -> Result<Changeset, ParseError>
     // The text determines the result.
     ensures exact { ParseAnswers result (answer_of text.now) }
 {
-    let sections = sections_of::<Section>(alloc, text)?;
-    Ok(Changeset::from_seq(Seq::from_vec(sections)))
+    let mut sections = sections_of::<Sections>(alloc, text)?;
+    sections.shrink_to_fit();
+    Ok(Changeset::of(sections))
 }
 
 // the number of changes in a text, from the result of reading it

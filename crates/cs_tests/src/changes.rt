@@ -1,12 +1,9 @@
-//! Tests lists of changes, sections and changesets, and the keys of rows.
-
-ghost use Rattle.std.specs.Prelude.{◌≡◌, IfOk};
+//! Tests sections and changesets, and the keys of rows.
 
 use crate::fixture::{HEADER, counts, joined, read, same, shape};
-use cs_model::FieldRef::{Integer, Null, Text, Undefined};
 use cs_model::*;
 use cs_parse::parse_in_place;
-use std::alloc::{AllocError, Global};
+use std::alloc::Global;
 use std::cmp::Ordering;
 use std::process::Abort;
 use std::test::Fail;
@@ -19,53 +16,25 @@ const UPDATED: &[u8] = b"\x17\x01\x01\0\0\0\0\0\0\0\x07\x03\x01w\0\x03\x01x";
 
 const DELETED: &[u8] = b"\x09\0\x01\0\0\0\0\0\0\0\x07\x03\x01w";
 
-// `count` INSERTs of (NULL, 'w')
-fn inserts(alloc: Global, count: usize) -> Result<Changes, AllocError>
-    ensures { IfOk result (λ changes. changes.0 ≡ 2) }
-{
-    let mut changes = Changes::new(alloc, 2);
-    for _ in 0..count {
-        changes.push_fields(Op::Insert, false, &[], &[Null, Text(b"w")])?;
-    }
-    Ok(changes)
-}
-
-// an INSERT and the UPDATE above
-fn lists(alloc: Global) -> Result<Changes, AllocError> {
-    let mut changes = inserts(alloc, 1)?;
-    let old = [Integer(7), Text(b"w")];
-    changes.push_fields(Op::Update, true, &old, &[Undefined, Text(b"x")])?;
-    Ok(changes)
-}
-
 // the changeset of its own sections
 fn again(changeset: Changeset) -> Changeset {
-    Changeset::from_seq(changeset.into_seq())
+    Changeset::of(changeset.into_sections())
 }
 
-// The last section's table and changes.
+// The first section's table and changes.
 fn parts(rt: &impl Abort, alloc: Global, all: Changeset) -> Result<(), Fail> {
-    let section = all.into_seq().into_vec().pop().ok_or("no section")?;
-    let (table, changes) = section.into_parts();
+    let copy = all.copy_in(alloc)?;
+    let section = copy.iter().next().ok_or("no section")?;
     let wanted = shape(alloc, b"t", &[1, 0])?;
-    assert!(rt; table.copy_in(alloc)? == wanted);
-    let copy = changes.copy_in(alloc)?;
-    same(rt, copy.bytes(), UPDATED);
-    counts(rt, copy.len(), 1);
+    assert!(rt; section.shape() == wanted.as_ref());
+    same(rt, section.bytes(), UPDATED);
+    counts(rt, section.len(), 1);
     Ok(())
 }
 
 #[test]
 fn changes(rt: HostRuntime) -> Result<(), Fail> {
     let alloc = rt.alloc();
-    let insert = b"\x12\0\x05\x03\x01w";
-    let wanted = joined(alloc, &[insert, UPDATED])?;
-    let all = lists(alloc)?;
-    same(&rt, all.bytes(), &wanted);
-    counts(&rt, all.len(), 2);
-    let many = inserts(alloc, 70_000)?;
-    counts(&rt, many.len(), 70_000);
-    counts(&rt, many.bytes().len(), 70_000 * 6);
     let changeset = again(read(alloc, &[HEADER, UPDATED])?);
     parts(&rt, alloc, changeset)
 }
@@ -122,9 +91,9 @@ fn has_key(
     want: &[u8],
 ) -> Result<(), Fail> {
     let read = read(alloc, &[text, change])?;
-    let section = read.sections().first().ok_or("no section")?;
-    let change = section.changes().iter().next().ok_or("no change")?;
-    let key = RowKey::of(alloc, 3, section.shape(), &change)?;
+    let section = read.iter().next().ok_or("no section")?;
+    let change = section.changes().next().ok_or("no change")?;
+    let key = RowKey::of(alloc, 3, &section.shape(), &change)?;
     same(rt, &key.bytes, want);
     let before = Record::copy_of(alloc, &change.before)?;
     same(rt, before.bytes(), change.before.bytes());

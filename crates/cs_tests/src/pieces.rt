@@ -2,8 +2,8 @@
 
 ghost use Rattle.std.specs.Prelude.{◌<◌};
 
-use crate::fixture::{BEGUN, HEADER, INSERT, counts, joined, shape};
-use cs_model::{Changeset, Schema, Section, SectionFault};
+use crate::fixture::{BEGUN, HEADER, INSERT, counts, joined, same, shape};
+use cs_model::{Changeset, Schema, SectionFault};
 use cs_parse::FaultKind::{BadOperation, EmptyName, NameTooLong, TooLong, Truncated};
 use cs_parse::*;
 use std::alloc::{AllocError, Global};
@@ -31,10 +31,6 @@ fn feeds(
     assert_eq!(rt; got.err(), want.map(ParseError::Fault));
 }
 
-fn are(rt: &impl Abort, sections: &[Section], want: &[Section]) {
-    assert_eq!(rt; sections, want);
-}
-
 // The result of parsing a text; an error if memory runs out.
 fn whole(alloc: Global, text: &[u8]) -> Result<Result<Changeset, ParseFault>, Fail> {
     match parse(alloc, text) {
@@ -47,7 +43,7 @@ fn whole(alloc: Global, text: &[u8]) -> Result<Result<Changeset, ParseFault>, Fa
 // The bytes taken give the same as the whole text: the same sections, or the same fault.
 fn as_whole(rt: &impl Abort, alloc: Global, parser: &PieceParser, text: &[u8]) -> Result<(), Fail> {
     match (whole(alloc, text)?, parser.finish()) {
-        (Ok(whole), Ok(found)) => are(rt, found.sections(), whole.sections()),
+        (Ok(whole), Ok(found)) => same(rt, found.text(), whole.text()),
         (whole, found) => assert_eq!(rt; found.err(), whole.err()),
     }
     Ok(())
@@ -160,7 +156,7 @@ fn ends(
     let ended = parser.end(alloc, schema);
     counts(rt, parser.offset(), if want.is_some() { before } else { 0 });
     match ended {
-        Ok(found) => counts(rt, found.sections().len(), 1),
+        Ok(found) => counts(rt, found.len(), 1),
         Err(error) => assert_eq!(rt; Some(error), want),
     }
 }
@@ -186,8 +182,8 @@ fn taken(rt: &impl Abort, alloc: Global, mut parser: PieceParser) -> Result<(), 
     if parser.finish().is_err() {
         return Err("a fault")?;
     }
-    counts(rt, parser.take(alloc).sections().len(), 1);
-    counts(rt, parser.into_changeset()?.sections().len(), 0);
+    counts(rt, parser.take(alloc).len(), 1);
+    counts(rt, parser.into_changeset()?.len(), 0);
     Ok(())
 }
 

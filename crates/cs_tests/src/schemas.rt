@@ -91,7 +91,7 @@ fn admits(rt: &impl Abort, alloc: Global, schema: &Schema) -> Result<(), Fail> {
         (b"x", [1, 1], None),
     ] {
         let table = shape(alloc, name, &flags)?;
-        assert_eq!(rt; schema.table(&table), place);
+        assert_eq!(rt; schema.table(&table.as_ref()), place);
     }
     Ok(())
 }

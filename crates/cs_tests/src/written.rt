@@ -31,7 +31,7 @@ fn forms(
 ) -> Result<(), Fail> {
     writes(rt, alloc, changeset, want)?;
     let form = canonical(alloc, changeset)?;
-    counts(rt, form.sections().len(), count);
+    counts(rt, form.len(), count);
     writes(rt, alloc, &form, want)
 }
 

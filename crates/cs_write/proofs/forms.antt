@@ -2,3 +2,5 @@
 pub mod Shapes
 pub mod GroupLaws
 pub mod FormLaws
+pub mod Giving
+pub mod OwnForm

@@ -1,4 +1,5 @@
 pub mod Canon
+pub mod Own
 pub mod Text
 pub mod Groups
 pub mod Seen

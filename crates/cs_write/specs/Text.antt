@@ -1,22 +1,8 @@
 -- The canonical text of a changeset.
-use Rattle.std.specs.Prelude.{ℕ, List, [], ◌∷◌, ◌++◌, length}
-use Rattle.std.specs.List.{flat_map}
-use Rattle.cs_model.specs.declared.shape.Shape.{Shape}
-use Rattle.cs_model.specs.PackedChanges.{changes_bytes}
+use Rattle.std.specs.Prelude.{ℕ, List}
+pub use Rattle.cs_model.specs.SectionText.{header_text, section_text, sections_text}
 use Rattle.cs_model.specs.Section.{Section}
-use Rattle.cs_model.specs.Varint.{varint}
 use Rattle.cs_write.specs.Canon.{canon}
-
--- `T`, the number of columns as a shortest varint, their key flags, the name and a zero byte
-abbrev pub header_text : Shape → List ℕ
-header_text shape = 84 ∷ (varint (length shape.flags) ++ (shape.flags ++ (shape.name ++ 0 ∷ [])))
-
--- a section: its header, and the bytes of its changes
-abbrev pub section_text : Section → List ℕ
-section_text section = header_text section.shape ++ changes_bytes section.changes
-
-abbrev pub sections_text : List Section → List ℕ
-sections_text sections = flat_map section_text sections
 
 -- the canonical text: that of the canonical form, with shortest varints
 abbrev pub text_of : List Section → List ℕ

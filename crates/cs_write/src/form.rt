@@ -1,43 +1,78 @@
 //! The canonical form of a changeset: one section per shape, and none without changes.
 
-ghost use Rattle.std.specs.Prelude.{◌≡◌, IfOk};
+ghost use Rattle.std.specs.Prelude.{◌≡◌, ◌++◌, ◌∷◌, [], IfOk, IsTrue, OnOk, length};
 ghost use Rattle.std.specs.List.{AllByRecursion};
-ghost use Rattle.cs_model.specs.Changeset.{all_changes};
-ghost use Rattle.cs_write.specs.Canon.{canon, canon_of};
+ghost use Rattle.cs_write.specs.Canon.{canon, canon_of, joined_section};
 ghost use Rattle.cs_write.specs.Groups.{HasColumns, IsAlike};
+ghost use Rattle.cs_write.specs.Own.{AreOwn, IsFormBeside};
 ghost use Rattle.cs_write.specs.Seen.{seen};
 
-use crate::groups::{Groups, groups_of};
-use cs_model::{Changes, Changeset, CopyIn, Section, SectionRef, Seq};
+use crate::groups::{Groups, any_change, groups_of};
+use cs_model::{Changeset, SectionRef, SectionRefs, Sections, ShapeRef};
+use indexmap::IndexSet;
 use std::alloc::{AllocError, Global};
 
-// the changes of these sections, one after another
-fn changes_of(alloc: Global, columns: usize, sections: &[SectionRef]) -> Result<Changes, AllocError>
-    requires { AllByRecursion (HasColumns columns) sections.now }
-    ensures changes { IfOk result (λ changes. changes.1 ≡ all_changes sections.now) }
-    ensures columns { IfOk result (λ changes. changes.0 ≡ columns) }
+// Adds one section with the changes of these, one after another.
+fn push_joined(
+    form: &mut Sections,
+    shape: &ShapeRef,
+    sections: &[SectionRef],
+) -> Result<(), AllocError>
+    requires { AllByRecursion (HasColumns (length shape.now.flags)) sections.now }
+    ensures { OnOk result (form.new
+        ≡ form.old ++ joined_section (shape.now, sections.now) ∷ []) }
 {
-    let mut changes = Changes::new(alloc, columns);
+    form.push_header(shape)?;
     for section in sections {
-        section.append_to(&mut changes)?;
+        form.push_changes(section)?;
     }
-    Ok(changes)
+    Ok(())
 }
 
 // one section for each group that has a change
-fn form_of(alloc: Global, groups: &Groups) -> Result<Vec<Section>, AllocError>
+fn form_of(alloc: Global, groups: &Groups) -> Result<Sections, AllocError>
     requires { AllByRecursion IsAlike (seen groups.now.entries) }
-    ensures { IfOk result (λ sections. sections.items ≡ canon_of (seen groups.now.entries)) }
+    ensures { IfOk result (λ form. form ≡ canon_of (seen groups.now.entries)) }
 {
-    let mut form = Vec::new(alloc);
+    let mut form = Sections::new(alloc);
     for (shape, sections) in groups.iter() {
-        let changes = changes_of(alloc, shape.flags.len(), sections)?;
-        if !changes.is_empty() {
-            let shape = shape.copy_in(alloc)?;
-            form.push(Section::new(shape, changes))?;
+        if any_change(sections) {
+            push_joined(&mut form, shape, sections)?;
         }
     }
     Ok(form)
+}
+
+// Whether these sections have different shapes, and a change each.
+fn are_own(alloc: Global, sections: SectionRefs) -> Result<bool, AllocError>
+    ensures { IfOk result (λ own. IsTrue own → AreOwn [] sections.entry) }
+{
+    let mut shapes = IndexSet::new(alloc);
+    for section in sections {
+        if section.is_empty() || !shapes.insert(section.shape())? {
+            return Ok(false);
+        }
+    }
+    Ok(true)
+}
+
+// Whether a changeset is in canonical form. Its text is the canonical one then.
+fn is_form(alloc: Global, changeset: &Changeset) -> Result<bool, AllocError>
+    ensures { IfOk result (λ form. IsTrue form → canon changeset.now ≡ changeset.now) }
+{
+    are_own(alloc, changeset.iter())
+}
+
+/// Returns the canonical form of a changeset that isn't in that form itself, as `canonical` does,
+/// and `None` if it is: no two sections have one shape, and none is without changes. Returns
+/// `AllocError` if memory runs out.
+pub fn other_form(alloc: Global, changeset: &Changeset) -> Result<Option<Changeset>, AllocError>
+    ensures { IfOk result (λ form. IsFormBeside changeset.now form) }
+{
+    if is_form(alloc, changeset)? {
+        return Ok(None);
+    }
+    Ok(Some(canonical(alloc, changeset)?))
 }
 
 /// Returns a copy of a changeset in canonical form. Sections of the same shape become one, at the
@@ -47,6 +82,5 @@ pub fn canonical(alloc: Global, changeset: &Changeset) -> Result<Changeset, Allo
     ensures { IfOk result (λ form. form ≡ canon changeset.now) }
 {
     let groups = groups_of(alloc, changeset.iter())?;
-    let form = form_of(alloc, &groups)?;
-    Ok(Changeset::from_seq(Seq::from_vec(form)))
+    Ok(Changeset::of(form_of(alloc, &groups)?))
 }

@@ -6,12 +6,12 @@ ghost use Rattle.cs_write.specs.Canon.{by_shape};
 ghost use Rattle.cs_write.specs.Groups.{added};
 ghost use Rattle.cs_write.specs.Seen.{seen};
 
-use cs_model::{CopyIn, SectionRef, SectionRefs, Shape};
+use cs_model::{SectionRef, SectionRefs, ShapeRef};
 use indexmap::IndexMap;
 use std::alloc::{AllocError, Global};
 
 /// The sections of each shape. The shapes are in the order of their first sections.
-pub type Groups<'a> = IndexMap<Shape, Vec<SectionRef<'a>>>;
+pub type Groups<'a> = IndexMap<ShapeRef<'a>, Vec<SectionRef<'a>>>;
 
 /// Adds a section to the group of its shape, which it creates if there is none. cs_group uses it.
 pub fn add_section<'a>(
@@ -23,13 +23,12 @@ pub fn add_section<'a>(
         ≡ added (seen groups.old.entries) section.entry) }
 {
     let shape = section.shape();
-    if let Some(place) = groups.get_index_of(shape) {
+    if let Some(place) = groups.get_index_of(&shape) {
         if let Some(group) = groups.get_index_mut(place) {
             group.push(section)?;
         }
         return Ok(());
     }
-    let shape = shape.copy_in(alloc)?;
     let mut group = Vec::new(alloc);
     group.push(section)?;
     groups.insert(shape, group)?;

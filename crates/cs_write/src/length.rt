@@ -7,7 +7,7 @@ ghost use Rattle.cs_write.specs.Lengths.{held};
 ghost use Rattle.cs_model.specs.PackedChanges.{changes_bytes};
 ghost use Rattle.cs_write.specs.Text.{header_text};
 
-use cs_model::{SectionRef, Shape};
+use cs_model::{SectionRef, ShapeRef};
 
 /// Adds two lengths. cs_group uses it.
 #[tactic(auto, using(crate::proofs::buffers::Held::holding))]
@@ -43,12 +43,10 @@ pub fn changes_len(section: &SectionRef) -> Option<usize>
 }
 
 /// The length of this header, in bytes. cs_group uses it.
-pub fn header_len(shape: &Shape) -> Option<usize>
+pub fn header_len(shape: &ShapeRef) -> Option<usize>
     ensures { result ≡ held (length (header_text shape.now)) }
 {
-    let flags: &[u8] = &shape.flags;
-    let name: &[u8] = &shape.name;
-    let columns = flags.len();
-    let names = columns.checked_add(name.len())?;
+    let columns = shape.flags.len();
+    let names = columns.checked_add(shape.name.len())?;
     names.checked_add(2 + varint_len(columns as u64))
 }

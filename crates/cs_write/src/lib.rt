@@ -18,7 +18,7 @@ mod sink;
 mod text;
 
 pub use field::{fields_len, put_fields, put_operation};
-pub use form::canonical;
+pub use form::{canonical, other_form};
 pub use groups::{Groups, add_section, any_change, groups_of};
 pub use length::{add_lengths, header_len};
 pub use pieces::{WriteError, write_pieces};

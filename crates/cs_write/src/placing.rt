@@ -9,7 +9,7 @@ ghost use Rattle.cs_write.specs.Seen.{bodies, seen};
 ghost use Rattle.cs_write.specs.Text.{header_text};
 
 use crate::groups::{Groups, any_change};
-use cs_model::{SectionRef, Shape, varint_of};
+use cs_model::{SectionRef, ShapeRef, varint_of};
 
 /// Writes these bytes, in one copy. cs_group uses it.
 #[tactic(auto, unfolding(crate::specs::Buffer::laid))]
@@ -34,17 +34,16 @@ pub fn put_byte(out: &mut [u8], at: usize, byte: u8) -> usize
 }
 
 /// Writes a header. cs_group uses it.
-pub fn put_header(out: &mut [u8], at: usize, shape: &Shape) -> usize
+pub fn put_header(out: &mut [u8], at: usize, shape: &ShapeRef) -> usize
     requires { at + length (header_text shape.now) ≤ length out.old }
     ensures end { result ≡ at + length (header_text shape.now) }
     ensures bytes { out.new ≡ laid at (header_text shape.now) out.old }
 {
-    let flags: &[u8] = &shape.flags;
-    let (count, start) = varint_of(flags.len() as u64);
+    let (count, start) = varint_of(shape.flags.len() as u64);
     let mut end = put_bytes(out, at, b"T");
     end = put_bytes(out, end, &count[start..]);
-    end = put_bytes(out, end, flags);
-    end = put_bytes(out, end, &shape.name);
+    end = put_bytes(out, end, shape.flags);
+    end = put_bytes(out, end, shape.name);
     put_bytes(out, end, &[0])
 }
 
@@ -62,7 +61,7 @@ fn put_sections(out: &mut [u8], at: usize, sections: &[SectionRef]) -> usize
 }
 
 // a group, if it has a change
-fn put_group(out: &mut [u8], at: usize, shape: &Shape, sections: &[SectionRef]) -> usize
+fn put_group(out: &mut [u8], at: usize, shape: &ShapeRef, sections: &[SectionRef]) -> usize
     requires { at + length (group_text (shape.now, sections.now)) ≤ length out.old }
     ensures end { result ≡ at + length (group_text (shape.now, sections.now)) }
     ensures bytes { out.new ≡ laid at (group_text (shape.now, sections.now)) out.old }

@@ -12,7 +12,7 @@ use crate::groups::{Groups, any_change, groups_of};
 use crate::length::{add_lengths, changes_len, header_len};
 use crate::placing::put_groups;
 use bytes::Bytes;
-use cs_model::{Changeset, SectionRef, Shape};
+use cs_model::{Changeset, SectionRef, ShapeRef};
 use std::alloc::{AllocError, Global};
 
 // the length of the changes of these sections, in bytes
@@ -27,7 +27,7 @@ fn sections_len(sections: &[SectionRef]) -> Option<usize>
 }
 
 // the length of a group in bytes, 0 if it has no change
-fn group_len(shape: &Shape, sections: &[SectionRef]) -> Option<usize>
+fn group_len(shape: &ShapeRef, sections: &[SectionRef]) -> Option<usize>
     ensures { result ≡ held (length (group_text (shape.now, sections.now))) }
 {
     if !any_change(sections) {

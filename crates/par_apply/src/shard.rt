@@ -9,7 +9,7 @@ ghost use Rattle.cs_model.specs.Seen.{change_seen};
 ghost use Rattle.par_apply.specs.Shards.{of_shard, section_positions, shard_number};
 ghost use Rattle.par_apply.specs.Shards.{taken_positions};
 
-use cs_model::{ChangeRef, Changeset, Op, RecordRef, RowKey, Schema, SectionRef, Shape};
+use cs_model::{ChangeRef, Changeset, Op, RecordRef, RowKey, Schema, SectionRef, ShapeRef};
 use std::alloc::{AllocError, Global};
 
 // A sum that gets so large is divided, so that none overflows and few bytes cost a division.
@@ -90,12 +90,12 @@ fn with_key(table: usize, flags: &[u8], from: &RecordRef, n: usize) -> usize
 }
 
 // The number of the shard that a change's key is of, among `n`. The key isn't copied.
-fn shard_of_change(table: usize, shape: &Shape, change: &ChangeRef, n: usize) -> usize
+fn shard_of_change(table: usize, shape: &ShapeRef, change: &ChangeRef, n: usize) -> usize
     requires some { 0 < n }
     requires few { n ≤ 16 }
     ensures { result ≡ shard_number n (key_of table shape.now.flags (change_seen change.now)) }
 {
-    with_key(table, &shape.flags, record_of(change), n) % n
+    with_key(table, shape.flags, record_of(change), n) % n
 }
 
 /// One of `n` shards: its number, and how many there are.
@@ -107,7 +107,7 @@ pub(crate) struct Shard {
 
 impl Shard {
     /// Whether the key of a change of this table is of this shard.
-    pub(crate) fn takes(self, table: usize, shape: &Shape, change: &ChangeRef) -> bool
+    pub(crate) fn takes(self, table: usize, shape: &ShapeRef, change: &ChangeRef) -> bool
         requires some { 0 < self.n }
         requires few { self.n ≤ 16 }
         ensures { result ≡ of_shard (shard_number self.n) self.number
@@ -159,7 +159,7 @@ fn positions(
         let Some(end) = start.checked_add(section.len()) else {
             return Err(AllocError);
         };
-        if let Some(table) = schema.table(section.shape()) {
+        if let Some(table) = schema.table(&section.shape()) {
             add_positions(&mut list, table, &section, start, shard)?;
         }
         start = end;
@@ -186,7 +186,7 @@ fn add_positions(
     let shape = section.shape();
     let mut position = start;
     for change in section.changes() {
-        note(list, position, shard.takes(table, shape, &change))?;
+        note(list, position, shard.takes(table, &shape, &change))?;
         position += 1;
     }
     Ok(())

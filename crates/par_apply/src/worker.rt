@@ -21,7 +21,7 @@ use crate::planned::RowChange;
 use crate::shard::Shard;
 use crate::shard_rows::ShardRows;
 use cs_apply::{ApplyError, ChangeError, Tables, row_after};
-use cs_model::{ChangeRef, Changeset, RowKey, SectionRef, Shape};
+use cs_model::{ChangeRef, Changeset, RowKey, SectionRef, ShapeRef};
 use std::alloc::{AllocError, Global};
 use std::thread;
 use std::thread::Threads;
@@ -38,7 +38,7 @@ fn change_row(
     alloc: Global,
     tables: &Tables,
     key: RowKey,
-    shape: &Shape,
+    shape: &ShapeRef,
     change: &ChangeRef,
 ) -> Result<(), ChangeError>
     requires { IsChange shape.now (change_seen change.now) }
@@ -63,7 +63,7 @@ fn change_own(
     alloc: Global,
     tables: &Tables,
     table: usize,
-    shape: &Shape,
+    shape: &ShapeRef,
     change: &ChangeRef,
     shard: Shard,
 ) -> Result<(), ChangeError>
@@ -115,7 +115,7 @@ fn change_section(
     let shape = section.shape();
     let mut position = start;
     for change in section.changes() {
-        if let Err(error) = change_own(rows, alloc, tables, table, shape, &change, shard) {
+        if let Err(error) = change_own(rows, alloc, tables, table, &shape, &change, shard) {
             return Err(error.at(position));
         }
         position += 1;
@@ -149,7 +149,7 @@ fn change_all(
         let Some(end) = start.checked_add(section.len()) else {
             return Err(ApplyError::Memory);
         };
-        if let Some(table) = tables.kept_table(section.shape()) {
+        if let Some(table) = tables.kept_table(&section.shape()) {
             change_section(rows, alloc, tables, table, &section, start, shard)?;
         }
         start = end;

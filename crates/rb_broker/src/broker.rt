@@ -152,7 +152,7 @@ impl<L: Hall> Broker<L> {
     }
 
     /// Places an item under this number, in one hold of the lock: its cell is set, and the desk has
-    /// placed the number. All memory is allocated before the hold: the item's text, its box and,
+    /// placed the number. All memory is allocated before the hold: the item's canonical form, its box and,
     /// for the first number of a segment, its cells. `Sequencer::turn` calls it. It asks for the
     /// sequencer's pass, of which there is one, so that nobody else places.
     ///
@@ -173,11 +173,11 @@ impl<L: Hall> Broker<L> {
             × ShowsWhy L.cells refused.why) }
         ensures desk { IfErr result (λ refused. DeskRefuses L.cells refused.why) }
     {
-        let Ok(text) = item.text(alloc) else {
+        let Ok(form) = item.form(alloc) else {
             let why = PlaceRefusal::Memory;
             return Err(RefusedItem { why, item });
         };
-        let entry = Entry::new(number, item, text);
+        let entry = Entry::new(number, item, form);
         if number == 0 || number > self.sequence.capacity() {
             let locked = self.locked.lock(rt);
             return Err(refused(locked.refuses(), entry));

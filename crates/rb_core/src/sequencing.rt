@@ -30,11 +30,11 @@ impl Parts {
             self.pull();
             return refused(BrokerRefusal::Desk(why));
         }
-        let text = item.text(alloc)?;
+        let form = item.form(alloc)?;
         self.sequence.reserve(1)?;
         let item = take_next(&mut self.hand, &mut self.intake).unwrap();
         let number = self.desk.place();
-        self.sequence.push_reserved(Entry::new(number, item, text));
+        self.sequence.push_reserved(Entry::new(number, item, form));
         Ok(Reply::Placed(number))
     }
 

@@ -13,7 +13,7 @@ pub fn header_in(alloc: Global, bytes: &[u8]) -> Result<Option<Shape>, AllocErro
     ensures { IfOk result (λ shape. shape ≡ header_of_answer (answer_of bytes.now)) }
 {
     match parse(alloc, bytes) {
-        Ok(changeset) => Ok(changeset.into_header()),
+        Ok(changeset) => changeset.header(alloc),
         Err(ParseError::Fault(_)) => Ok(None),
         Err(ParseError::Memory) => Err(AllocError),
     }

@@ -1,25 +1,25 @@
 //! Entries: items with their number in the sequence.
 
 ghost use Rattle.std.specs.Prelude.{◌≡◌};
+ghost use Rattle.cs_write.specs.Own.{IsFormBeside};
 ghost use Rattle.cs_write.specs.Text.{text_of};
 
 use crate::item::Item;
-use bytes::Bytes;
 use cs_model::{Changeset, Origin};
 use std::marker::Model;
 
-/// An entry of the sequence: an item with its number and the canonical text of its body. Contracts
-/// see the number and the item, which determine the text.
+/// An entry of the sequence: an item with its number. A body in canonical form is its canonical
+/// text; else the entry has that form beside it. Contracts see the number and the item.
 #[derive(Debug, Drop)]
 pub struct Entry {
     number: u64,
     item: Item,
-    text: Bytes,
+    // the canonical form of the body, if the body isn't in that form itself
+    form: Option<Changeset>,
 }
 
 impl Model for Entry {
-    ghost use Rattle.std.specs.Prelude.{◌≡◌};
-    ghost use Rattle.cs_write.specs.Text.{text_of};
+    ghost use Rattle.cs_write.specs.Own.{IsFormBeside};
     ghost use Rattle.rb_sequence.specs.Entry.{Entry, entry_code};
 
     ghost Value = { Entry };
@@ -28,17 +28,17 @@ impl Model for Entry {
 
     ghost view = { λ e. record { number = e.number; item = e.item } };
 
-    ghost invariant = { λ e. e.text ≡ text_of e.item.body };
+    ghost invariant = { λ e. IsFormBeside e.item.body e.form };
 }
 
 impl Entry {
-    /// Makes the entry of an item under this number, with the text that `Item::text` returned.
+    /// Makes the entry of an item under this number, with the form that `Item::form` returned.
     /// Copies nothing.
-    pub fn new(number: u64, item: Item, text: Bytes) -> Entry
-        requires { text ≡ text_of item.body }
+    pub fn new(number: u64, item: Item, form: Option<Changeset>) -> Entry
+        requires { IsFormBeside item.body form }
         ensures { result ≡ record { number = number; item = item } }
     {
-        Entry { number, item, text }
+        Entry { number, item, form }
     }
 
     /// Its number in the sequence, from 1.
@@ -85,9 +85,12 @@ impl Entry {
     }
 
     /// The canonical text of its body.
-    pub fn text(&self) -> &Bytes
+    pub fn text(&self) -> &[u8]
         ensures { result.now ≡ text_of self.now.item.body }
     {
-        &self.text
+        match &self.form {
+            Some(form) => form.text(),
+            None => self.item.body.text(),
+        }
     }
 }

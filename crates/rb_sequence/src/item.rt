@@ -1,11 +1,10 @@
 //! Items: changesets that wait for their number in the sequence.
 
-ghost use Rattle.std.specs.Prelude.{◌≡◌, IfOk};
-ghost use Rattle.cs_write.specs.Text.{text_of};
+ghost use Rattle.std.specs.Prelude.{IfOk};
+ghost use Rattle.cs_write.specs.Own.{IsFormBeside};
 
-use bytes::Bytes;
 use cs_model::{Changeset, Origin};
-use cs_write::write;
+use cs_write::other_form;
 use std::alloc::{AllocError, Global};
 
 /// A changeset that a publisher sent and that waits for its number in the sequence.
@@ -22,10 +21,11 @@ pub struct Item {
 }
 
 impl Item {
-    /// The canonical text of its body, for its entry. Returns `AllocError` if memory runs out.
-    pub fn text(&self, alloc: Global) -> Result<Bytes, AllocError>
-        ensures { IfOk result (λ text. text ≡ text_of self.now.body) }
+    /// The canonical form of its body, for its entry, or `None` if the body is in that form itself.
+    /// Returns `AllocError` if memory runs out.
+    pub fn form(&self, alloc: Global) -> Result<Option<Changeset>, AllocError>
+        ensures { IfOk result (λ form. IsFormBeside self.now.body form) }
     {
-        write(alloc, &self.body)
+        other_form(alloc, &self.body)
     }
 }

@@ -113,6 +113,50 @@ fn step_of(line: &str) -> Option<Step> {
     })
 }
 
+// The calls that ask for memory only where the journal needs a new piece. Each is a function of its
+// own, so that refused/calls.txt can name it.
+
+#[inline(never)]
+fn call_ack(
+    alloc: Global,
+    desk: &mut Desk,
+    sub: u64,
+    link: u64,
+    delivery: u64,
+    cursor: u64,
+) -> Result<(), DeskError> {
+    desk.ack(alloc, sub, link, delivery, cursor)?;
+    Ok(())
+}
+
+#[inline(never)]
+fn call_nack(
+    alloc: Global,
+    desk: &mut Desk,
+    sub: u64,
+    link: u64,
+    delivery: u64,
+) -> Result<(), DeskError> {
+    desk.nack(alloc, sub, link, delivery)
+}
+
+#[inline(never)]
+fn call_expire(alloc: Global, desk: &mut Desk, now: u64) -> Result<(), DeskError> {
+    desk.expire(alloc, now)?;
+    Ok(())
+}
+
+#[inline(never)]
+fn call_reconnect(alloc: Global, desk: &mut Desk, sub: u64, cursor: u64) -> Result<(), DeskError> {
+    desk.reconnect(alloc, sub, cursor)?;
+    Ok(())
+}
+
+#[inline(never)]
+fn call_unsubscribe(alloc: Global, desk: &mut Desk, sub: u64, link: u64) -> Result<(), DeskError> {
+    desk.unsubscribe(alloc, sub, link)
+}
+
 // Makes the call of this step.
 fn call(alloc: Global, desk: &mut Desk, step: Step) -> Result<(), DeskError> {
     match step {
@@ -135,14 +179,12 @@ fn call(alloc: Global, desk: &mut Desk, step: Step) -> Result<(), DeskError> {
             link,
             delivery,
             cursor,
-        } => {
-            desk.ack(alloc, sub, link, delivery, cursor)?;
-        }
+        } => call_ack(alloc, desk, sub, link, delivery, cursor)?,
         Step::Nack {
             sub,
             link,
             delivery,
-        } => desk.nack(alloc, sub, link, delivery)?,
+        } => call_nack(alloc, desk, sub, link, delivery)?,
         Step::NackOpened {
             sub,
             link,
@@ -150,13 +192,9 @@ fn call(alloc: Global, desk: &mut Desk, step: Step) -> Result<(), DeskError> {
         } => {
             desk.nack_opened(alloc, sub, link, delivery)?;
         }
-        Step::Expire { now } => {
-            desk.expire(alloc, now)?;
-        }
-        Step::Reconnect { sub, cursor } => {
-            desk.reconnect(alloc, sub, cursor)?;
-        }
-        Step::Unsubscribe { sub, link } => desk.unsubscribe(alloc, sub, link)?,
+        Step::Expire { now } => call_expire(alloc, desk, now)?,
+        Step::Reconnect { sub, cursor } => call_reconnect(alloc, desk, sub, cursor)?,
+        Step::Unsubscribe { sub, link } => call_unsubscribe(alloc, desk, sub, link)?,
         Step::Place => {
             desk.prepare()?;
             desk.place();

@@ -94,8 +94,8 @@ pub fn entry_of(alloc: Global, number: u64, text: &[u8]) -> Result<Entry, Fail>
         origin: Origin::Sent,
         body,
     };
-    let text = item.text(alloc)?;
-    Ok(Entry::new(number, item, text))
+    let form = item.form(alloc)?;
+    Ok(Entry::new(number, item, form))
 }
 
 /// One publisher more.

@@ -16,6 +16,10 @@ from_slot slots read i item same lt is =
     ap (drop i) (sym same) ∙ drop_more read i item lt ∙ ap (λ x. x ∷ drop (i + 1) read) (sym is)
     ∙ ap (λ r. item ∷ drop (i + 1) r) same
 
+pub slot_some : (slots rest : List (Option Slot)) (item : Option Slot) (slot : Slot) → slots ≡ item ∷ rest
+    → item ≡ Some slot → slot_changes (slots_seen slots) ≡ slot_seen slot ∷ slot_changes (slots_seen rest)
+slot_some slots rest item slot is some = ap (λ xs. slot_changes (slots_seen xs)) (is ∙ ap (λ x. x ∷ rest) some)
+
 pub slot_bytes_some : (slots rest : List (Option Slot)) (item : Option Slot) (slot : Slot) → slots ≡ item ∷ rest
     → item ≡ Some slot → slots_bytes slots ≡ change_bytes (slot_seen slot) ++ slots_bytes rest
 slot_bytes_some slots rest item slot is some = ap slots_bytes (is ∙ ap (λ x. x ∷ rest) some)

@@ -1,7 +1,7 @@
 -- The tables that are known by name, once one more section is there.
 use Rattle.std.proofs.Common.{◌≡◌, ◌∙◌, ℕ, suc, ◌+◌, Bool, true, false, cond, not, ◌||◌, List, [], ◌∷◌, ◌++◌, length}
 use Rattle.std.proofs.Common.{◌<◌, get_or, take, drop, length-drop}
-use Rattle.std.proofs.Common.{Option, Some, None, Bor, refl, sym, ap, arith, append_assoc, length-take}
+use Rattle.std.proofs.Common.{Option, Some, None, refl, sym, ap, arith, append_assoc, length-take}
 use Rattle.std.proofs.lemmas.Bool.{or_from}
 use Rattle.std.proofs.lemmas.List.{take-take, take_more, drop_more}
 use Rattle.std.proofs.lemmas.List.Folds.{list_any-append}
@@ -39,7 +39,7 @@ clashes_more (first ∷ earlier) last section =
 
 -- ---- a look-up with one entry more
 
-lookup_more : (test : List ℕ → Bool) (tables : List (List ℕ × Bor Shape)) (entry : List ℕ × Bor Shape)
+lookup_more : (test : List ℕ → Bool) (tables : List (List ℕ × Shape)) (entry : List ℕ × Shape)
     → lookup test tables ≡ None
     → lookup test (tables ++ entry ∷ []) ≡ cond (test entry.0) (Some entry.1) None
 lookup_more test [] entry none = refl
@@ -52,7 +52,7 @@ lookup_more test (first ∷ tables) entry none = by (test first.0) none (lookup_
     by true none more = absurd (none-some _ (sym none))
     by false none more = more none
 
-lookup_apart : (test : List ℕ → Bool) (tables : List (List ℕ × Bor Shape)) (entry : List ℕ × Bor Shape)
+lookup_apart : (test : List ℕ → Bool) (tables : List (List ℕ × Shape)) (entry : List ℕ × Shape)
     → test entry.0 ≡ false → lookup test (tables ++ entry ∷ []) ≡ lookup test tables
 lookup_apart test [] entry apart = ap (λ b. cond b (Some entry.1) None) apart
 lookup_apart test (first ∷ tables) entry apart = ap (cond (test first.0) (Some first.1))
@@ -64,7 +64,7 @@ not_false : (b : Bool) → not b ≡ false → b ≡ true
 not_false true e = refl
 not_false false e = sym e
 
-pub knows_old : (earlier : List Section) (section : Section) (tables : List (List ℕ × Bor Shape)) (known : Shape)
+pub knows_old : (earlier : List Section) (section : Section) (tables : List (List ℕ × Shape)) (known : Shape)
     → known_as tables section.shape.name ≡ Some known → Knows earlier tables → clashes earlier section ≡ false
     → Knows (earlier ++ section ∷ []) tables
 knows_old earlier section tables known is knows fits other =
@@ -89,8 +89,8 @@ knows_old earlier section tables known is knows fits other =
 
 -- ---- a section of a new table
 
-pub knows_new : (earlier : List Section) (section : Section) (tables : List (List ℕ × Bor Shape)) (shape : Bor Shape)
-    → section.shape ≡ shape.now → lookup (same_bytes section.shape.name) tables ≡ None → Knows earlier tables
+pub knows_new : (earlier : List Section) (section : Section) (tables : List (List ℕ × Shape)) (shape : Shape)
+    → section.shape ≡ shape → lookup (same_bytes section.shape.name) tables ≡ None → Knows earlier tables
     → Knows (earlier ++ section ∷ []) (tables ++ (section.shape.name, shape) ∷ [])
 knows_new earlier section tables shape is none knows other =
     clashes_more earlier section other ∙ by (same_bytes other.shape.name section.shape.name) refl
@@ -106,7 +106,7 @@ knows_new earlier section tables shape is none knows other =
     by false e =
         ap (λ b. clashes earlier other || (b && not (same_shape section.shape other.shape))) (turned false e)
         ∙ or_nothing (clashes earlier other) ∙ knows other
-        ∙ ap (λ k. differs_by (option_map (λ s. s.now) k) other.shape)
+        ∙ ap (λ k. differs_by k other.shape)
         (sym (lookup_apart (same_bytes other.shape.name) tables (section.shape.name, shape) e))
     by true e =
         let name : other.shape.name ≡ section.shape.name = same_text other.shape.name section.shape.name (sym e) in
@@ -114,9 +114,9 @@ knows_new earlier section tables shape is none knows other =
         ap (λ n. lookup (same_bytes n) tables) name ∙ none in
         ap (λ b. clashes earlier other || (b && not (same_shape section.shape other.shape))) (turned true e)
         ∙ ap (λ b. b || not (same_shape section.shape other.shape))
-        (knows other ∙ ap (λ k. differs_by (option_map (λ s. s.now) k) other.shape) absent)
+        (knows other ∙ ap (λ k. differs_by k other.shape) absent)
         ∙ ap (λ s. not (same_shape s other.shape)) is
-        ∙ ap (λ k. differs_by (option_map (λ s. s.now) k) other.shape)
+        ∙ ap (λ k. differs_by k other.shape)
         (sym (lookup_more (same_bytes other.shape.name) tables (section.shape.name, shape) absent
         ∙ ap (λ b. cond b (Some shape) None) e))
 

@@ -1,6 +1,6 @@
 -- Sections are inverted shape by shape.
-use Rattle.std.proofs.Common.{◌≡◌, Bool, true, false, cond, inl, inr, List, [], ◌∷◌, ◌++◌, map, refl, sym, ap, ◌∙◌}
-use Rattle.std.proofs.Common.{append_assoc, append-nil, length}
+use Rattle.std.proofs.Common.{◌≡◌, Bool, true, false, cond, inl, inr, List, [], ◌∷◌, map, refl, sym, ap, ◌∙◌}
+use Rattle.std.proofs.Common.{length}
 use Rattle.std.specs.List.{AllByRecursion}
 use Rattle.std.proofs.lemmas.Bool.{cases_Bool}
 use Rattle.cs_model.specs.declared.shape.Shape.{Shape}
@@ -8,9 +8,9 @@ use Rattle.cs_model.specs.Changeset.{IsChangeset, IsSection}
 use Rattle.cs_model.specs.Schema.{has_shape, same_shape}
 use Rattle.cs_model.specs.Section.{Section}
 use Rattle.cs_write.specs.Canon.{Group, by_shape, with_shape}
-use Rattle.cs_write.specs.Groups.{added, groups_text}
+use Rattle.cs_write.specs.Groups.{groups_text}
 use Rattle.cs_write.specs.Text.{text_of}
-use Rattle.cs_write.proofs.forms.GroupLaws.{by_shape-cons, by_shape-more, none_grouped}
+use Rattle.cs_write.proofs.forms.GroupLaws.{by_shape-cons}
 use Rattle.cs_write.proofs.texts.TextLaws.{groups_are}
 use Rattle.cs_invert.specs.Inverse.{inverse, inverse_section}
 use Rattle.cs_invert.specs.Text.{AreValid, inverse_group}

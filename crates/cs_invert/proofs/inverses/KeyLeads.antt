@@ -1,5 +1,5 @@
 -- A record of an inverse, where the key comes first, is the key of one record and the rest of the other.
-use Rattle.std.proofs.Common.{◌≡◌, ◌<◌, ◌≤◌, ℕ, zero, suc, true, List, [], ◌∷◌, ◌++◌, length, take, drop, get_or, refl}
+use Rattle.std.proofs.Common.{◌≡◌, ◌<◌, ◌≤◌, ℕ, zero, suc, true, List, [], ◌∷◌, ◌++◌, length, take, drop, refl}
 use Rattle.std.proofs.Common.{ap, ◌∙◌, sym, eqb, cond, append_assoc, length-append, arith}
 use Rattle.std.proofs.Math.Dec.{eqb-suc-zero}
 use Rattle.std.proofs.lemmas.Bool.{false≢true}
@@ -7,18 +7,12 @@ use Rattle.std.proofs.lemmas.List.{drop_at, take_at}
 use Rattle.cs_model.specs.declared.value.Field.{Field}
 use Rattle.cs_model.specs.declared.value.Field.TheVariants.{Undefined, Is}
 use Rattle.cs_model.specs.FieldBytes.{field_bytes}
+use Rattle.cs_model.specs.KeyRun.{IsKeyRun}
 use Rattle.cs_model.specs.Packed.{packed}
 use Rattle.cs_model.specs.Rule.{PairedWith, Blank, meets, new_rule}
 use Rattle.cs_group.proofs.one_row.Valid.{IsOldRecord, IsNewRecord}
 use Rattle.cs_invert.specs.Inverse.{inverse_new, inverse_old}
-use Rattle.cs_invert.specs.Text.{KeyFirst}
 use Rattle.cs_invert.proofs.inverses.Ending.{exchanged_back}
-
-pub one_more_key : (flags : List ℕ) (i keys : ℕ) → i < length flags → 0 < get_or flags i 0
-    → KeyFirst (drop (suc i) flags) keys → KeyFirst (drop i flags) (suc keys)
-one_more_key [] i keys within is rest = absurd (omega (arith, within))
-one_more_key (flag ∷ flags) zero keys within is rest = (is, rest)
-one_more_key (flag ∷ flags) (suc i) keys within is rest = one_more_key flags i keys (omega (arith, within)) is rest
 
 -- ---- the record
 
@@ -35,7 +29,7 @@ packed_in_parts (suc n) [] = refl
 packed_in_parts (suc n) (f ∷ fs) = ap (λ (w : List ℕ). field_bytes f ++ w) (packed_in_parts n fs)
     ∙ sym (append_assoc (field_bytes f) (packed (take n fs)) (packed (drop n fs)))
 
-key_then_rest : (flags : List ℕ) (keys : ℕ) (before after : List Field) → KeyFirst flags keys
+key_then_rest : (flags : List ℕ) (keys : ℕ) (before after : List Field) → IsKeyRun flags 0 keys
     → length before ≡ length flags → length after ≡ length flags
     → packed (inverse_old flags before after) ≡ packed (take keys before) ++ packed (drop keys after)
 key_then_rest [] zero before [] first one other = refl
@@ -73,7 +67,7 @@ blank_column (suc n) old Undefined is meets_it = refl
 blank_column (suc n) old (Is value) is meets_it = absurd (false≢true
     (sym (ap (λ b. meets (cond b (PairedWith old) Blank) (Is value)) (eqb-suc-zero n)) ∙ meets_it))
 
-blank_len : (flags : List ℕ) (keys : ℕ) (before after : List Field) → KeyFirst flags keys
+blank_len : (flags : List ℕ) (keys : ℕ) (before after : List Field) → IsKeyRun flags 0 keys
     → length before ≡ length flags → IsNewRecord flags before after → length (packed (take keys after)) ≡ keys
 blank_len flags zero before after first one n = refl
 blank_len [] (suc keys) before after first one n = absurd first
@@ -99,7 +93,7 @@ key_within keys before key is =
       length-append (packed (take keys before)) (packed (drop keys before)),
     )
 
-pub blank_within : (flags : List ℕ) (keys : ℕ) (before after : List Field) → KeyFirst flags keys
+pub blank_within : (flags : List ℕ) (keys : ℕ) (before after : List Field) → IsKeyRun flags 0 keys
     → IsOldRecord flags before → IsNewRecord flags before after → keys ≤ length (packed after)
 blank_within flags keys before after first o n =
     omega (
@@ -110,7 +104,7 @@ blank_within flags keys before after first o n =
     )
 
 pub exchanged_parts : (flags : List ℕ) (keys : ℕ) (before after : List Field) (key old blank new : List ℕ)
-    → KeyFirst flags keys → IsOldRecord flags before → IsNewRecord flags before after
+    → IsKeyRun flags 0 keys → IsOldRecord flags before → IsNewRecord flags before after
     → key ≡ packed (take keys before) → old ≡ drop (length key) (packed before)
     → blank ≡ take keys (packed after) → new ≡ drop keys (packed after)
     → packed (inverse_old flags before after) ++ packed (inverse_new flags before after)

@@ -23,10 +23,10 @@ use Rattle.cs_parse.proofs.reading.Steps.{back_fits}
 -- ---- what was found
 
 -- the bytes behind the changes are no more than all
-pub heads_shorter : (sections : List Section) (bytes : List ℕ) (count : ℕ) (behind : List ℕ) (canonical : Bool)
-    (stopped : Option ParseRefusal) → AreBytes bytes → Heads (last_flags sections) bytes count behind canonical stopped
+pub heads_shorter : (flags : Option (List ℕ)) (bytes : List ℕ) (count : ℕ) (behind : List ℕ) (canonical : Bool)
+    (stopped : Option ParseRefusal) → AreBytes bytes → Heads flags bytes count behind canonical stopped
     → length behind ≤ length bytes
-heads_shorter sections bytes count behind canonical stopped fits heads = by (last_flags sections) heads
+heads_shorter flags bytes count behind canonical stopped fits heads = by flags heads
   where
     by : (o : Option (List ℕ)) → Heads o bytes count behind canonical stopped → length behind ≤ length bytes
     by None h = omega (arith, ap length h.0)

@@ -1,11 +1,16 @@
 -- The canonical form of a changeset is a changeset.
 use Rattle.std.proofs.Common.{◌≡◌, Bool, true, false, cond, inl, inr, List, [], ◌∷◌, ◌++◌, length, map, refl, sym, ap}
-use Rattle.std.proofs.Common.{subst}
+use Rattle.std.proofs.Common.{subst, ◌∙◌}
 use Rattle.std.specs.Prelude.{filter}
 use Rattle.std.specs.List.{AllByRecursion}
 use Rattle.std.proofs.lemmas.Bool.{cases_Bool}
+use Rattle.std.proofs.lemmas.Grind.{flat_map-append}
+use Rattle.std.proofs.lemmas.List.{append-nil}
+use Rattle.cs_model.proofs.texts.LastOne.{changes_to_last}
+use Rattle.cs_model.specs.declared.change.Change.{Change}
 use Rattle.cs_model.specs.declared.shape.Shape.{Shape}
 use Rattle.cs_model.specs.Section.{Section}
+use Rattle.cs_model.specs.Sections.{with_changes}
 use Rattle.cs_model.specs.Schema.{same_shape, has_shape}
 use Rattle.cs_model.specs.Changeset.{IsChange, IsSection, IsChangeset}
 use Rattle.cs_model.specs.Changeset.{all_changes}
@@ -70,6 +75,18 @@ grouped_fit earlier (s ∷ ss) h =
 pub canon_fits : (sections : List Section) → IsChangeset sections → IsChangeset (canon sections)
 canon_fits sections h = filtered IsSection has_changes (map joined_section (by_shape [] sections))
     (grouped_fit [] sections h)
+
+-- ---- the changes of one more section
+
+pub joined_more : (front : List Section) (shape : Shape) (ss : List Section) (s : Section)
+    → with_changes (front ++ joined_section (shape, ss) ∷ []) s.changes
+    ≡ front ++ joined_section (shape, ss ++ s ∷ []) ∷ []
+joined_more front shape ss s =
+    let all : all_changes ss ++ s.changes ≡ all_changes (ss ++ s ∷ []) =
+    sym (flat_map-append (λ (t : Section). t.changes) ss (s ∷ [])
+    ∙ ap (λ (cs : List Change). all_changes ss ++ cs) (append-nil s.changes)) in
+    changes_to_last front (joined_section (shape, ss)) s.changes
+    ∙ (λ i. front ++ record { shape = shape; changes = all i } ∷ [])
 
 -- ---- groups are of sections with as many columns
 

@@ -1,4 +1,4 @@
-use Rattle.std.proofs.Common.{◌≡◌, ◌∙◌, ◌++◌, ◌+◌, false, take, sym, ap}
+use Rattle.std.proofs.Common.{◌≡◌, ◌∙◌, ◌++◌, ◌+◌, false, take, length, sym, ap, arith, length-drop}
 use Rattle.std.specs.Prelude.{option_map}
 use Rattle.cs_group.specs.Adding.{sections_in, sections_of}
 use Rattle.cs_group.specs.Group.{clashes, first_clash}
@@ -25,3 +25,11 @@ loop-section-preserved c =
           ∙ ap (λ ss. option_map (λ n. i + n) (first_clash (earlier ++ take i all) ss)) c.in-Some.ensures.steps)
           ∙ ap (λ ss. option_map (λ n. (i + 1) + n) (first_clash (earlier ++ ss) rest)) (sym step.0);
     }
+
+pub overflow_add-index : goal.overflow_add-index
+overflow_add-index c = omega (
+  arith,
+  ap length (sym c.in-Some.ensures.steps ∙ c.loop-section.invariant.rest),
+  length-drop c.loop-section.index (sections_of c.args.changeset.now),
+  c.len-len.ensures,
+)

@@ -11,10 +11,10 @@ sections_of-requires c =
     subst (λ groups. AllByRecursion IsSection (map joined_section groups)) (sym c.in_ok-groups.ensures)
     (groups_fit c.args.sections.now c.requires)
 
-pub from_seq-requires : goal.from_seq-requires
-from_seq-requires c =
-    let made : c.from_vec.result ≡ group_of c.args.sections.now =
-    c.from_vec.ensures ∙ c.in_ok-sections.ensures
+pub of-requires : goal.of-requires
+of-requires c =
+    let made : c.in_ok-sections_of.field-0 ≡ group_of c.args.sections.now =
+    c.in_ok-sections_of.ensures
     ∙ ap (λ groups. filter has_changes (map (λ group. combined_section (joined_section group)) groups))
     c.in_ok-groups.ensures in
     subst IsChangeset (sym made) (group_fits c.args.sections.now c.requires)

@@ -10,7 +10,7 @@ use Rattle.cs_group.proofs.output.sections_of.Given as goal
 abbrev pub invariant-loop-shape : goal.invariant-loop-shape
 invariant-loop-shape l = record {
   left : AllByRecursion IsSection (map joined_section (seen l.shape-iterator));
-  made : l.sections.items ++ filter has_changes
+  made : l.sections ++ filter has_changes
       (map (λ group. combined_section (joined_section group)) (seen l.shape-iterator))
       ≡ filter has_changes (map (λ group. combined_section (joined_section group)) (seen l.groups.entries));
 }

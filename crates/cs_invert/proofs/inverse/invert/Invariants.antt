@@ -7,5 +7,5 @@ use Rattle.cs_invert.proofs.inverse.invert.Given as goal
 abbrev pub invariant-loop-section : goal.invariant-loop-section
 invariant-loop-section l = record {
   left : IsChangeset l.section-iterator;
-  made : l.sections.items ++ inverse l.section-iterator ≡ inverse l.changeset;
+  made : l.made ++ inverse l.section-iterator ≡ inverse l.changeset;
 }

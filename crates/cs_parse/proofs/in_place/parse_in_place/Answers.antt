@@ -1,5 +1,4 @@
 use Rattle.std.proofs.Common.{Ok, Err, sym, ap, subst, ◌∙◌, arith}
-use Rattle.std.proofs.lemmas.List.{map-id}
 use Rattle.std.proofs.lemmas.Result.{err_from_is_err_and}
 use Rattle.cs_model.specs.Changeset.{IsChangeset}
 use Rattle.cs_parse.proofs.reading.TextLaws.{answer_takes}
@@ -7,13 +6,12 @@ use Rattle.cs_parse.proofs.refusing.FaultLaws.{by_reading}
 use Rattle.cs_parse.proofs.in_place.parse_in_place.Goals as goal
 
 pub from_seq-requires : goal.from_seq-requires
-from_seq-requires c = subst (λ s. IsChangeset s) (map-id c.in_ok-sections.sections.items ∙ sym c.from_vec.ensures)
+from_seq-requires c = subst (λ s. IsChangeset s) (sym c.from_vec.ensures)
     (answer_takes c.args.text.now _ (λ i. omega (arith, c.type_inv.text i)) c.in_ok-sections.ensures.ok).is_changeset
 
 pub returns : goal.returns
 returns c =
-    let exact = c.in_ok-sections.ensures.ok
-    ∙ ap (λ s. Ok s) (map-id c.in_ok-sections.sections.items ∙ sym (c.from_seq.ensures ∙ c.from_vec.ensures)) in
+    let exact = c.in_ok-sections.ensures.ok ∙ ap (λ s. Ok s) (sym (c.from_seq.ensures ∙ c.from_vec.ensures)) in
     let t = by_reading c.args.text.now (Ok c.from_seq.result) (λ i. omega (arith, c.type_inv.text i)) exact in
     record { found = t.found; only = t.only; faulty = t.faulty; the_fault = t.the_fault; exact = exact }
 

@@ -1,4 +1,4 @@
-use Rattle.std.proofs.Common.{◌≡◌, length, map, sym, ◌∙◌, arith}
+use Rattle.std.proofs.Common.{◌≡◌, length, sym, ◌∙◌, arith}
 use Rattle.std.proofs.lemmas.Bool.{eqb-true}
 use Rattle.cs_parse.proofs.feeding.SectionFronts.{along_ends}
 use Rattle.cs_parse.proofs.section.whole_sections.Goals.{else-loop-test, then-loop-test+then-is_empty}
@@ -11,5 +11,5 @@ returns g c =
       | then-loop-test+then-is_empty w ↦ eqb-true (length c.loop.rest.now) 0
           (sym w.is_empty.ensures ∙ w.if-is_empty.true)
     ] in
-    along_ends (map g.S.FromText.made c.loop.sections.items) c.loop.rest.now c.args.bytes.now empty
+    along_ends (g.C.Collects.held c.loop.sections) c.loop.rest.now c.args.bytes.now empty
     c.loop.invariant.along

@@ -6,10 +6,10 @@ use Rattle.cs_write.specs.Groups.{IsAlike}
 use Rattle.cs_write.proofs.forms.FormLaws.{canon_fits, groups_alike}
 use Rattle.cs_write.proofs.form.canonical.Goals as goal
 
-pub from_seq-requires : goal.from_seq-requires
-from_seq-requires c =
-    let is : c.from_vec.result ≡ canon c.args.changeset.now =
-    c.from_vec.ensures ∙ c.in_ok-form.ensures
+pub of-requires : goal.of-requires
+of-requires c =
+    let is : c.in_ok-form_of.field-0 ≡ canon c.args.changeset.now =
+    c.in_ok-form_of.ensures
     ∙ ap canon_of (c.in_ok-groups.ensures ∙ ap (by_shape []) c.iter.ensures.same) in
     subst IsChangeset (sym is) (canon_fits c.args.changeset.now c.iter.ensures.valid)
 

@@ -31,13 +31,13 @@ returns c =
     let s = c.args.section in
     let none : lookup (same_shape s.shape) m.entries ≡ None =
     ap (λ w. lookup (same_shape w) m.entries) (sym c.shape-shape.ensures)
-    ∙ unfound (lookup (same_shape c.shape-shape.result.now) m.entries) (sym c.in_default.ensures.found) in
-    let copied : c.in_ok-shape.shape ≡ s.shape = c.in_ok-shape.ensures ∙ c.shape-shape.ensures in
+    ∙ unfound (lookup (same_shape c.shape-shape.result) m.entries) (sym c.in_default.ensures.found) in
+    let same : c.shape-shape.result ≡ s.shape = c.shape-shape.ensures in
     let group = c.push-2.new.self in
     let items : group.items ≡ s ∷ [] = c.in_ok-push-2.ensures.items
     ∙ ap (λ xs. xs ++ s ∷ []) c.new-group.ensures.items in
-    let absent : get same_shape m c.in_ok-shape.shape ≡ None =
-    subst (λ k. get same_shape m k ≡ None) (sym copied) none in
-    let pushed = c.in_ok-insert.ensures.entries ∙ insert_entry-new same_shape m c.in_ok-shape.shape group absent
-    ∙ ap (λ k. m.entries ++ (k, group) ∷ []) copied in
+    let absent : get same_shape m c.shape-shape.result ≡ None =
+    subst (λ k. get same_shape m k ≡ None) (sym same) none in
+    let pushed = c.in_ok-insert.ensures.entries ∙ insert_entry-new same_shape m c.shape-shape.result group absent
+    ∙ ap (λ k. m.entries ++ (k, group) ∷ []) same in
     record { ok = ap seen pushed ∙ added_new m.entries s group none items }

@@ -1,4 +1,5 @@
 use Rattle.std.proofs.Common.{sym, ap, subst, ◌∙◌, ◌+◌, length, arith}
+use Rattle.std.specs.Option.{option_copied}
 use Rattle.cs_model.specs.Bytes.{AreBytes}
 use Rattle.cs_parse.specs.Front.{KeepsSpot}
 use Rattle.cs_parse.specs.Lack.{WaitsFor}
@@ -13,11 +14,11 @@ invariant_of-self-then-lacking-gt0 c =
     let w = c.still_waits-lacking in
     let header = w.result.1 in
     let lacks = subst (λ b. WaitsFor text.0 b header w.result.0) c.waiting.ensures
-    (w.ensures.lacks text.0 (sym c.sections.ensures.flags)) in
+    (w.ensures.lacks text.0 (sym c.last_flags.ensures.flags)) in
     let least = c.min-self-inside.result in (
       omega (arith, c.min-self-inside.ensures, c.requires.within, ap (λ p. p.offset) c.self.view_is),
-      keeps_as (last_flags c.sections.result.now) (last_flags text.0) c.waiting.result.now text.1 w.new.spot
-          c.sections.ensures.flags c.waiting.ensures (w.ensures.spot c.if-lacking-gt0.true),
+      keeps_as (option_copied c.last_flags.result) (last_flags text.0) c.waiting.result.now text.1 w.new.spot
+          c.last_flags.ensures.flags c.waiting.ensures (w.ensures.spot c.if-lacking-gt0.true),
       paused c.self.inside.fault text.0 text.1 header least (ap (λ p. p.fault) c.self.view_is ∙ c.requires.none)
           (waits_less text.0 text.1 header w.result.0 least (omega (arith, c.min-self-inside.ensures)) lacks),
       out_short text.0 text.1 (waits_now text.0 text.1 header w.result.0 lacks c.if-lacking-gt0.true),
