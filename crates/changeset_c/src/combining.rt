@@ -74,7 +74,7 @@ fn grouped<'a>(
 {
     let mut group = Group::new(alloc);
     for (text, changeset) in changesets.iter().enumerate() {
-        match group.add_text(alloc, changeset) {
+        match group.add_text(changeset) {
             Ok(()) => {}
             Err(GroupError::Schema { section }) => return Err(CombineError::Clash {
                 text,

@@ -57,7 +57,7 @@ impl<'a> Group<'a> {
     /// Returns `Schema` with the first section whose table has the name of an earlier section's and
     /// another shape, or `Memory` if there is none and memory runs out. An `Err` does not change
     /// the group.
-    pub fn add(&mut self, _alloc: Global, changeset: &'a Changeset) -> Result<(), GroupError>
+    pub fn add(&mut self, changeset: &'a Changeset) -> Result<(), GroupError>
         ensures ok { OnOk result (self.new ≡ self.old ++ changeset.now) }
         ensures fits { OnOk result (first_clash self.old changeset.now ≡ None) }
         ensures refused { IfErr result (λ e. ReportsClash e (first_clash self.old changeset.now)) }
@@ -67,11 +67,7 @@ impl<'a> Group<'a> {
     }
 
     /// The same for a changeset that stands in its text.
-    pub fn add_text(
-        &mut self,
-        _alloc: Global,
-        changeset: &'a TextChangeset<'a>,
-    ) -> Result<(), GroupError>
+    pub fn add_text(&mut self, changeset: &'a TextChangeset<'a>) -> Result<(), GroupError>
         ensures ok { OnOk result (self.new ≡ self.old ++ changeset.now) }
         ensures fits { OnOk result (first_clash self.old changeset.now ≡ None) }
         ensures refused { IfErr result (λ e. ReportsClash e (first_clash self.old changeset.now)) }
@@ -178,7 +174,7 @@ fn grouped<'a>(alloc: Global, changesets: &'a [Changeset]) -> Result<Group<'a>, 
 {
     let mut group = Group::new(alloc);
     for changeset in changesets {
-        group.add(alloc, changeset)?;
+        group.add(changeset)?;
     }
     Ok(group)
 }

@@ -93,11 +93,7 @@ impl<'a> Slot<'a> {
             ≡ with_changes sections.old (slot_seen self.now ∷ [])) }
     {
         match self {
-            Slot::Alone(change) => {
-                // says that the fields fit
-                let _bytes = change.bytes();
-                sections.push_packed(change)
-            }
+            Slot::Alone(change) => sections.push_packed(change),
             Slot::Merged(merged) => {
                 sections.push_fields(merged.op, merged.indirect, &merged.before, &merged.after)
             }

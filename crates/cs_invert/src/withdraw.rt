@@ -22,7 +22,7 @@ pub fn withdrawal(alloc: Global, changeset: &Changeset) -> Result<Changeset, Gro
     ensures refused { IfErr result (λ e. ReportsClash e (first_clash [] changeset.now)) }
 {
     let mut group = Group::new(alloc);
-    group.add(alloc, changeset)?;
+    group.add(changeset)?;
     let combined = group.output(alloc)?;
     Ok(invert(alloc, &combined)?)
 }

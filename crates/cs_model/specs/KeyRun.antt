@@ -1,5 +1,6 @@
 -- Where the columns of a table's key stand, by its key flags.
-use Rattle.std.specs.Prelude.{◌≡◌, ◌<◌, ℕ, zero, suc, List, [], ◌∷◌, length, get_or, Option, Some, None}
+use Rattle.std.specs.Prelude.{◌≡◌, ◌<◌, ℕ, zero, suc, List, [], ◌∷◌, length, get_or, Option, Some}
+use Rattle.std.specs.Prelude.{None}
 use Rattle.cs_model.specs.declared.key_run.KeyColumns.{KeyColumns}
 
 -- `first` columns outside the key, then `count` of the key, and then none of it

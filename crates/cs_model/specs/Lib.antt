@@ -17,5 +17,5 @@ pub mod Packed
 pub mod Row
 pub mod PackedChanges
 pub mod Canonical
-pub mod TextSection
+pub mod TextFront
 pub mod PackedOne

@@ -1,7 +1,10 @@
 //! Where a section stands in a text.
 
-ghost use Rattle.std.specs.Prelude.{◌≡◌, ◌<◌, ◌≤◌, ◌++◌, drop, length, take};
+ghost use Rattle.std.specs.Prelude.{◌≡◌, ◌<◌, ◌≤◌, ◌++◌, IfOk, drop, length, take};
 ghost use Rattle.cs_model.specs.Sections.{HasRoomFor, grown_index};
+
+use crate::shape::ShapeRef;
+use std::alloc::AllocError;
 
 /// Where a section stands in a text: the lengths of its parts, in bytes.
 #[derive(Clone, Copy, Debug)]
@@ -18,12 +21,40 @@ pub struct At {
     pub count: usize,
 }
 
+impl At {
+    /// The place of a section of this table: `head` bytes before its key flags, and `count` changes
+    /// in `size` bytes. `AllocError` says that a number doesn't fit its field, which those of a
+    /// changeset's tables always do.
+    pub fn of(shape: &ShapeRef, head: usize, size: usize, count: usize) -> Result<At, AllocError>
+        ensures { IfOk result (λ at. (at.head ≡ head) × (at.columns ≡ length shape.now.flags)
+            × (at.name ≡ length shape.now.name) × (at.size ≡ size) × (at.count ≡ count)) }
+    {
+        let Ok(head) = u16::try_from(head) else {
+            return Err(AllocError);
+        };
+        let Ok(columns) = u16::try_from(shape.flags.len()) else {
+            return Err(AllocError);
+        };
+        let Ok(name) = u16::try_from(shape.name.len()) else {
+            return Err(AllocError);
+        };
+        Ok(At {
+            head,
+            columns,
+            name,
+            size,
+            count,
+        })
+    }
+}
+
 /// So many bytes and changes more in the last of the first `len` sections.
 pub fn grow_at(ats: &mut Vec<At>, len: usize, size: usize, count: usize)
     requires some { 0 < len }
     requires inside { len ≤ length ats.old.items }
     requires room { HasRoomFor (take len ats.old.items) size count }
-    ensures { ats.new.items ≡ grown_index (take len ats.old.items) size count ++ drop len ats.old.items }
+    ensures { ats.new.items
+        ≡ grown_index (take len ats.old.items) size count ++ drop len ats.old.items }
 {
     let mut at = ats[len - 1];
     at.size += size;

@@ -1,7 +1,7 @@
 //! A whole changeset: a list of sections, each with the changes of one table.
 
-ghost use Rattle.std.specs.Prelude.{◌≡◌, ◌==◌, ◌++◌, [], IfOk, IsTrue, MatchOption, None, OnErr, OnOk};
-ghost use Rattle.std.specs.Prelude.{Some, length};
+ghost use Rattle.std.specs.Prelude.{◌≡◌, ◌==◌, ◌++◌, [], IfOk, IsTrue, MatchOption, None, OnErr};
+ghost use Rattle.std.specs.Prelude.{OnOk, Some, length};
 ghost use Rattle.std.specs.List.{AllByRecursion};
 ghost use Rattle.cs_model.specs.PackedChanges.{AreCanonical, Fit, unpacked_changes};
 ghost use Rattle.cs_model.specs.Sections.{LastHasColumns, last_flags, with_changes};
@@ -137,6 +137,14 @@ impl Changeset {
     {
         let Changeset { sections } = self;
         sections
+    }
+
+    /// Its text, without a copy.
+    pub fn into_text(self) -> Vec<u8>
+        ensures { result.items ≡ sections_text self }
+    {
+        let Changeset { sections } = self;
+        sections.into_text()
     }
 
     /// A copy of the shape of its only section, if it has one section and that has no changes.

@@ -4,13 +4,13 @@ ghost use Rattle.std.specs.Prelude.{◌≡◌, length, ◌==◌};
 ghost use Rattle.std.specs.List.{AllByRecursion};
 ghost use Rattle.cs_model.specs.PackedChanges.{AreCanonical, Fit, changes_bytes};
 ghost use Rattle.cs_model.specs.PackedChanges.{unpacked_changes};
-ghost use Rattle.cs_model.specs.Sections.{IsText, StartsSection, after_section, first_section, sections_by};
+ghost use Rattle.cs_model.specs.Sections.{IsText, StartsSection, after_section, first_section};
+ghost use Rattle.cs_model.specs.Sections.{sections_by};
 
 use crate::at::At;
 use crate::change_ref::ChangeRefs;
 use crate::packed_change::PackedChanges;
 use crate::shape::ShapeRef;
-use crate::text_section::TextSection;
 use std::iter::Iterator;
 use std::marker::Model;
 
@@ -43,23 +43,6 @@ impl<'a> Model for SectionRef<'a> {
 }
 
 impl<'a> SectionRef<'a> {
-    /// The section of this table with the `count` changes that canonical bytes encode.
-    pub(crate) fn new(shape: ShapeRef<'a>, bytes: &'a [u8], count: usize) -> SectionRef<'a>
-        requires canonical { AreCanonical (length shape.flags) bytes.now }
-        requires count { count ≡ length (unpacked_changes (length shape.flags) bytes.now) }
-        ensures { result ≡ record {
-          shape = shape.entry;
-          changes = unpacked_changes (length shape.entry.flags) bytes.now;
-        } }
-    {
-        SectionRef {
-            name: shape.name,
-            flags: shape.flags,
-            bytes,
-            count,
-        }
-    }
-
     /// Borrows the same section once more.
     pub fn again(&self) -> SectionRef<'a>
         ensures { result ≡ self.now }
@@ -163,49 +146,29 @@ fn section_of<'a>(at: &At, text: &'a [u8]) -> (SectionRef<'a>, &'a [u8])
 /// An iterator over the sections of a changeset. Contracts see the list of remaining sections.
 #[derive(Drop)]
 pub struct SectionRefs<'a> {
-    text: &'a [TextSection<'a>],
-    // how many of `text` are gone
-    gone: usize,
     ats: &'a [At],
     bytes: &'a [u8],
 }
 
 impl<'a> Model for SectionRefs<'a> {
-    ghost use Rattle.std.specs.Prelude.{List, ◌++◌, drop};
+    ghost use Rattle.std.specs.Prelude.{List};
     ghost use Rattle.cs_model.specs.Section.{Section};
     ghost use Rattle.cs_model.specs.Sections.{IsText, sections_by};
 
     ghost Value = { List Section };
 
-    ghost view = { λ s. drop s.gone s.text.now ++ sections_by s.ats.now s.bytes.now };
+    ghost view = { λ s. sections_by s.ats.now s.bytes.now };
 
     ghost invariant = { λ s. IsText s.ats.now s.bytes.now (sections_by s.ats.now s.bytes.now) };
 }
 
 impl<'a> SectionRefs<'a> {
-    /// An iterator over these sections of a text.
-    pub(crate) fn of_text(sections: &'a [TextSection<'a>]) -> SectionRefs<'a>
-        ensures { result ≡ sections.now }
-    {
-        SectionRefs {
-            text: sections,
-            gone: 0,
-            ats: &[],
-            bytes: &[],
-        }
-    }
-
     /// An iterator over the sections of a canonical text with this index.
-    pub(crate) fn of_canonical(ats: &'a [At], bytes: &'a [u8]) -> SectionRefs<'a>
+    pub(crate) fn of(ats: &'a [At], bytes: &'a [u8]) -> SectionRefs<'a>
         requires { IsText ats.now bytes.now (sections_by ats.now bytes.now) }
         ensures { result ≡ sections_by ats.now bytes.now }
     {
-        SectionRefs {
-            text: &[],
-            gone: 0,
-            ats,
-            bytes,
-        }
+        SectionRefs { ats, bytes }
     }
 }
 
@@ -219,10 +182,6 @@ impl<'a> Iterator for SectionRefs<'a> {
     ghost remaining = { item_count (λ s. s) };
 
     fn next(&mut self) -> Option<SectionRef<'a>> {
-        if let Some(section) = self.text.get(self.gone) {
-            self.gone += 1;
-            return Some(section.as_ref());
-        }
         let (at, more) = self.ats.split_first()?;
         let (section, rest) = section_of(at, self.bytes);
         self.ats = more;

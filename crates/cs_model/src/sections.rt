@@ -9,9 +9,8 @@ ghost use Rattle.cs_model.specs.PackedChanges.{unpacked_changes};
 ghost use Rattle.cs_model.specs.SectionText.{header_text, sections_text};
 ghost use Rattle.cs_model.specs.Section.{Section};
 ghost use Rattle.cs_model.specs.Seen.{change_seen, fields_seen};
-ghost use Rattle.cs_model.specs.Sections.{FitLast, EndsWithSection, LastHasColumns, IsPlaceOf, IsText, LastIsLong};
-ghost use Rattle.cs_model.specs.Sections.{last_flags};
-ghost use Rattle.cs_model.specs.Sections.{sections_by, with_changes};
+ghost use Rattle.cs_model.specs.Sections.{EndsWithSection, FitLast, IsPlaceOf, IsText};
+ghost use Rattle.cs_model.specs.Sections.{LastHasColumns, LastIsLong, last_flags, sections_by, with_changes};
 
 use crate::at::{At, grow_at, grow_last};
 use crate::canonical::text_push;
@@ -75,7 +74,7 @@ impl Sections {
     pub fn iter(&self) -> SectionRefs<'_>
         ensures { result ≡ self.now }
     {
-        SectionRefs::of_canonical(&self.ats, &self.text)
+        SectionRefs::of(&self.ats, &self.text)
     }
 
     /// Its text.
@@ -99,7 +98,7 @@ impl Sections {
 
     /// Adds a change to the last section, in one copy. An `Err` changes nothing.
     pub fn push_packed(&mut self, change: &PackedChange) -> Result<(), AllocError>
-        requires { FitLast self.old (change.now ∷ []) }
+        requires { LastIsLong self.old change.now.op change.now.before change.now.after }
         ensures ok { OnOk result (self.new ≡ with_changes self.old (change.now ∷ [])) }
         ensures err { OnErr result (self.new ≡ self.old) }
     {
@@ -154,8 +153,8 @@ impl Sections {
         Ok(())
     }
 
-    /// Adds the changes that a text encodes to the last section, in canonical form. An `Err` changes
-    /// nothing.
+    /// Adds the changes that a text encodes to the last section, in canonical form. An `Err`
+    /// changes nothing.
     pub fn push_text(&mut self, columns: usize, text: &[u8]) -> Result<(), AllocError>
         requires last { LastHasColumns self.old columns }
         requires fit { AllByRecursion (Fit columns) (unpacked_changes columns text.now) }
@@ -240,6 +239,14 @@ impl Sections {
         }
         grow_at(&mut self.ats, len, size, count);
         Ok(())
+    }
+
+    /// Its text, without a copy.
+    pub fn into_text(self) -> Vec<u8>
+        ensures { result.items ≡ sections_text self }
+    {
+        let (text, _) = self.into_parts();
+        text
     }
 
     /// Gives back the room that the sections don't need.
@@ -353,25 +360,11 @@ fn add_header(out: &mut Vec<u8>, shape: &ShapeRef) -> Result<At, AllocError>
     ensures adds { take (length out.old.items) out.new.items ≡ out.old.items }
 {
     let start = out.len();
-    let Ok(columns) = u16::try_from(shape.flags.len()) else {
-        return Err(AllocError);
-    };
-    let Ok(name) = u16::try_from(shape.name.len()) else {
-        return Err(AllocError);
-    };
     out.push(b'T')?;
-    varint_push(out, u64::from(columns))?;
-    let Ok(head) = u16::try_from(out.len() - start) else {
-        return Err(AllocError);
-    };
+    varint_push(out, shape.flags.len() as u64)?;
+    let head = out.len() - start;
     out.extend_from_slice(shape.flags)?;
     out.extend_from_slice(shape.name)?;
     out.push(0)?;
-    Ok(At {
-        head,
-        columns,
-        name,
-        size: 0,
-        count: 0,
-    })
+    At::of(shape, head, 0, 0)
 }

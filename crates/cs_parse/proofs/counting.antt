@@ -2,5 +2,6 @@
 pub mod Skims
 pub mod Counts
 pub mod CanonicalLaws
+pub mod CanonicalHeaders
 pub mod Fronts
 pub mod CountLaws

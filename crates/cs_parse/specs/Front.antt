@@ -1,6 +1,7 @@
 -- What is complete at the front of some bytes: changes, sections, and a growing changeset with its
 -- pending bytes.
-use Rattle.std.specs.Prelude.{◌≡◌, ℕ, zero, suc, ◌+◌, ◌-◌, ◌<◌, ◌≤◌, Bool, List, [], ◌∷◌, ◌++◌}
+use Rattle.std.specs.Prelude.{◌≡◌, ℕ, zero, suc, ◌+◌, ◌-◌, ◌<◌, ◌≤◌, Bool, true, false, List, []}
+use Rattle.std.specs.Prelude.{◌∷◌, ◌++◌}
 use Rattle.std.specs.Prelude.{length, take, drop, Option, Some, None, Result, Ok, Err, IsTrue}
 use Rattle.std.specs.Prelude.{if◌then◌else◌}
 use Rattle.std.specs.List.{AllByRecursion}
@@ -70,6 +71,11 @@ pub record NextSection (old new : List Section) (bytes rest : List ℕ) (why : O
   pub read : read_on [] bytes ≡ sections_reached sections rest why
   pub shorter : why ≡ None → length rest < length bytes
   pub fits : AreBytes rest
+
+-- A list of sections went on by the next section of the bytes behind it, or stayed as it was.
+abbrev pub ReadsNext : Bool → List Section → List ℕ → List Section → List ℕ → Type 0
+ReadsNext true old bytes new rest = NextSection old new bytes rest None
+ReadsNext false old bytes new rest = (new ≡ old) × (rest ≡ bytes)
 
 -- ---- a growing changeset
 

@@ -22,8 +22,8 @@ use cs_model::laws::{changes_fit, spelled_is_said};
 use std::alloc::{AllocError, Global};
 
 // Scans the complete changes that `bytes` begins with, of the last section's table, which has these
-// key flags. Returns their number, the bytes after them, whether they are canonical, and why the next change
-// isn't read.
+// key flags. Returns their number, the bytes after them, whether they are canonical, and why the
+// next change isn't read.
 fn head_of<'a>(
     flags: Option<&[u8]>,
     bytes: &'a [u8],
@@ -47,7 +47,10 @@ fn tail_of(
     ensures { IfOk result (λ x. Tails stopped bytes.now x.0 x.1.now x.2) }
 {
     match stopped {
-        None => whole_sections::<Sections>(alloc, bytes),
+        None => {
+            let (sections, rest, why) = whole_sections(alloc, bytes)?;
+            Ok((sections.into_sections(alloc)?, rest, why))
+        }
         Some(why) => Ok((Sections::new(alloc), bytes, Some(why))),
     }
 }

@@ -7,6 +7,7 @@
 #![tactic(auto)]
 
 mod and;
+mod canonical;
 mod change;
 mod end;
 mod fault;
@@ -15,11 +16,10 @@ mod grow;
 mod growing;
 mod header;
 mod header_spot;
-mod in_place;
 mod lack;
 pub mod laws;
-mod made;
 mod number;
+mod parsing;
 mod pieces;
 mod record;
 mod rule;
@@ -30,6 +30,6 @@ mod whole;
 
 pub use end::EndError;
 pub use fault::{FaultKind, ParseError, ParseFault};
-pub use in_place::parse_in_place;
+pub use parsing::{parse, parse_in_place};
 pub use pieces::PieceParser;
-pub use whole::{count_changes, parse};
+pub use whole::count_changes;

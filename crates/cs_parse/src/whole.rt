@@ -1,4 +1,4 @@
-//! Parses a whole text (`parse`), or counts its changes without building a changeset
+//! Reads a whole text within the limit, or counts its changes without building a changeset
 //! (`count_changes`).
 
 ghost use Rattle.std.specs.Prelude.{◌≡◌, ◌≤◌, List, IfOk, IfErr, Ok, Err, length};
@@ -7,16 +7,16 @@ ghost use Rattle.cs_parse.specs.Fault.{IsFault};
 ghost use Rattle.cs_model.specs.Section.{Section};
 ghost use Rattle.cs_model.specs.Text.{Spells};
 ghost use Rattle.cs_model.specs.Changeset.{most_bytes};
-ghost use Rattle.cs_parse.specs.Answer.{IsRead, ParseAnswers, ReportsFault};
+ghost use Rattle.cs_model.specs.TextFront.{sections_of_text};
+ghost use Rattle.cs_parse.specs.Answer.{ParseAnswers};
 ghost use Rattle.cs_parse.specs.Count.{changes_in, counted_answer, HasChangeCount};
 ghost use Rattle.cs_parse.specs.Reading.{answer_of, fault_of, sections_at, whole_answer};
 ghost use Rattle.cs_parse.specs.Reading.{overlong_answer};
 
 use crate::fault::{FaultKind, ParseError, ParseFault};
-use crate::made::Collects;
 use crate::section::{sections_counted, whole_sections};
 use crate::stop::ParseRefusal;
-use cs_model::{Changeset, Sections};
+use cs_model::TextSections;
 use std::alloc::Global;
 
 /// The maximum length of a text, in bytes.
@@ -40,9 +40,9 @@ fn fault_from(refusal: ParseRefusal, len: usize, ended: FaultKind) -> ParseFault
 }
 
 // the sections of a text within the limit
-fn whole_of<'a, C: Collects<'a>>(alloc: Global, text: &'a [u8]) -> Result<C, ParseError>
+fn whole_of<'a>(alloc: Global, text: &'a [u8]) -> Result<TextSections<'a>, ParseError>
     ensures ok { IfOk result (λ x. whole_answer (length text.now) (sections_at text.now)
-        ≡ Ok (C.held x)) }
+        ≡ Ok (sections_of_text x)) }
     ensures err { IfErr result (λ error. ParseAnswers (Err error)
         (whole_answer (length text.now) (sections_at text.now))) }
 {
@@ -81,39 +81,14 @@ fn cut_of(front: &[u8]) -> ParseFault
 
 /// The sections of a text, or the error of `parse`.
 #[tactic(auto, unfolding(crate::specs::Reading::answer_of))]
-pub fn sections_of<'a, C: Collects<'a>>(alloc: Global, text: &'a [u8]) -> Result<C, ParseError>
-    ensures ok { IfOk result (λ x. answer_of text.now ≡ Ok (C.held x)) }
+pub fn sections_of<'a>(alloc: Global, text: &'a [u8]) -> Result<TextSections<'a>, ParseError>
+    ensures ok { IfOk result (λ x. answer_of text.now ≡ Ok (sections_of_text x)) }
     ensures err { IfErr result (λ error. ParseAnswers (Err error) (answer_of text.now)) }
 {
     if text.len() > MOST_BYTES {
         return Err(ParseError::Fault(cut_of(&text[..MOST_BYTES])));
     }
     whole_of(alloc, text)
-}
-
-/// Returns the changeset that `text` encodes, or the text's one fault. The fault is at the first
-/// byte after which no continuation encodes a changeset, or at the end of a truncated text.
-///
-/// `Memory` comes only if the text encodes a changeset, because finding a fault does not allocate.
-/// Neither error changes anything. The call reads at most 16,777,216 bytes. A longer text is
-/// `TooLong`, unless its fault is among those bytes.
-pub fn parse(alloc: Global, text: &[u8]) -> Result<Changeset, ParseError>
-    // A changeset that is returned is the one that the text encodes.
-    ensures found { IfOk result (λ changeset. Spells text.now changeset) }
-    // If the text encodes a changeset, that changeset is returned, unless memory runs out.
-    ensures only { (changeset : List Section) → Spells text.now changeset
-        → IsRead result changeset }
-    // An error is the text's fault, or memory ran out and the text encodes a changeset.
-    ensures faulty { IfErr result (λ error. ReportsFault error text.now) }
-    // If the text has a fault, the fault is returned, even without memory.
-    ensures the_fault { (fault : ParseFault) → IsFault text.now fault
-        → result ≡ Err (ParseError.Fault fault) }
-    // The text determines the result.
-    ensures exact { ParseAnswers result (answer_of text.now) }
-{
-    let mut sections = sections_of::<Sections>(alloc, text)?;
-    sections.shrink_to_fit();
-    Ok(Changeset::of(sections))
 }
 
 // the number of changes in a text, from the result of reading it

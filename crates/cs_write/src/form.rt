@@ -1,11 +1,12 @@
 //! The canonical form of a changeset: one section per shape, and none without changes.
 
-ghost use Rattle.std.specs.Prelude.{◌≡◌, ◌++◌, ◌∷◌, [], IfOk, IsTrue, OnOk, length};
+ghost use Rattle.std.specs.Prelude.{◌≡◌, ◌++◌, ◌∷◌, ◌↔◌, [], IfOk, IsTrue, OnOk, length};
 ghost use Rattle.std.specs.List.{AllByRecursion};
 ghost use Rattle.cs_write.specs.Canon.{canon, canon_of, joined_section};
 ghost use Rattle.cs_write.specs.Groups.{HasColumns, IsAlike};
 ghost use Rattle.cs_write.specs.Own.{AreOwn, IsFormBeside};
 ghost use Rattle.cs_write.specs.Seen.{seen};
+ghost use Rattle.cs_write.specs.Text.{text_of};
 
 use crate::groups::{Groups, any_change, groups_of};
 use cs_model::{Changeset, SectionRef, SectionRefs, Sections, ShapeRef};
@@ -45,7 +46,7 @@ fn form_of(alloc: Global, groups: &Groups) -> Result<Sections, AllocError>
 
 // Whether these sections have different shapes, and a change each.
 fn are_own(alloc: Global, sections: SectionRefs) -> Result<bool, AllocError>
-    ensures { IfOk result (λ own. IsTrue own → AreOwn [] sections.entry) }
+    ensures { IfOk result (λ own. IsTrue own ↔ AreOwn [] sections.entry) }
 {
     let mut shapes = IndexSet::new(alloc);
     for section in sections {
@@ -56,9 +57,9 @@ fn are_own(alloc: Global, sections: SectionRefs) -> Result<bool, AllocError>
     Ok(true)
 }
 
-// Whether a changeset is in canonical form. Its text is the canonical one then.
+// Whether a changeset is in canonical form.
 fn is_form(alloc: Global, changeset: &Changeset) -> Result<bool, AllocError>
-    ensures { IfOk result (λ form. IsTrue form → canon changeset.now ≡ changeset.now) }
+    ensures { IfOk result (λ form. IsTrue form ↔ (canon changeset.now ≡ changeset.now)) }
 {
     are_own(alloc, changeset.iter())
 }
@@ -73,6 +74,17 @@ pub fn other_form(alloc: Global, changeset: &Changeset) -> Result<Option<Changes
         return Ok(None);
     }
     Ok(Some(canonical(alloc, changeset)?))
+}
+
+/// The canonical text of a changeset, from the form that `other_form` returned for it.
+pub fn text_beside<'a>(form: &'a Option<Changeset>, changeset: &'a Changeset) -> &'a [u8]
+    requires { IsFormBeside changeset.now form.now }
+    ensures { result.now ≡ text_of changeset.now }
+{
+    match form {
+        Some(form) => form.text(),
+        None => changeset.text(),
+    }
 }
 
 /// Returns a copy of a changeset in canonical form. Sections of the same shape become one, at the

@@ -4,6 +4,7 @@ ghost use Rattle.std.specs.Prelude.{◌≡◌};
 ghost use Rattle.cs_write.specs.Own.{IsFormBeside};
 ghost use Rattle.cs_write.specs.Text.{text_of};
 
+use crate::form::Form;
 use crate::item::Item;
 use cs_model::{Changeset, Origin};
 use std::marker::Model;
@@ -14,8 +15,8 @@ use std::marker::Model;
 pub struct Entry {
     number: u64,
     item: Item,
-    // the canonical form of the body, if the body isn't in that form itself
-    form: Option<Changeset>,
+    // the canonical form of the body, exactly if the body isn't in that form itself
+    form: Form,
 }
 
 impl Model for Entry {
@@ -34,7 +35,7 @@ impl Model for Entry {
 impl Entry {
     /// Makes the entry of an item under this number, with the form that `Item::form` returned.
     /// Copies nothing.
-    pub fn new(number: u64, item: Item, form: Option<Changeset>) -> Entry
+    pub fn new(number: u64, item: Item, form: Form) -> Entry
         requires { IsFormBeside item.body form }
         ensures { result ≡ record { number = number; item = item } }
     {
@@ -88,9 +89,6 @@ impl Entry {
     pub fn text(&self) -> &[u8]
         ensures { result.now ≡ text_of self.now.item.body }
     {
-        match &self.form {
-            Some(form) => form.text(),
-            None => self.item.body.text(),
-        }
+        self.form.text(&self.item.body)
     }
 }

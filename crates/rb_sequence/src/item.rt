@@ -3,8 +3,8 @@
 ghost use Rattle.std.specs.Prelude.{IfOk};
 ghost use Rattle.cs_write.specs.Own.{IsFormBeside};
 
+use crate::form::Form;
 use cs_model::{Changeset, Origin};
-use cs_write::other_form;
 use std::alloc::{AllocError, Global};
 
 /// A changeset that a publisher sent and that waits for its number in the sequence.
@@ -21,11 +21,11 @@ pub struct Item {
 }
 
 impl Item {
-    /// The canonical form of its body, for its entry, or `None` if the body is in that form itself.
-    /// Returns `AllocError` if memory runs out.
-    pub fn form(&self, alloc: Global) -> Result<Option<Changeset>, AllocError>
+    /// The canonical form of its body, for its entry, if the body isn't in that form itself. Returns
+    /// `AllocError` if memory runs out.
+    pub fn form(&self, alloc: Global) -> Result<Form, AllocError>
         ensures { IfOk result (λ form. IsFormBeside self.now.body form) }
     {
-        other_form(alloc, &self.body)
+        Form::beside(alloc, &self.body)
     }
 }

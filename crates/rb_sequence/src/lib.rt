@@ -5,6 +5,7 @@
 
 mod cells;
 mod entry;
+mod form;
 mod item;
 pub mod laws;
 mod ready;
@@ -14,6 +15,7 @@ mod told;
 
 pub use cells::ReadyError;
 pub use entry::Entry;
+pub use form::Form;
 pub use item::Item;
 pub use ready::Ready;
 pub use segment::{Cell, HoldsAny, HoldsItsCells, HoldsItsNumber};

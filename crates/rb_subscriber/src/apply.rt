@@ -53,19 +53,14 @@ pub fn combined<E: Brought>(
 {
     let mut group = Group::new(alloc);
     for index in 0..entries.count() {
-        add(alloc, schema, &mut group, entries.entry(index).body())?;
+        add(schema, &mut group, entries.entry(index).body())?;
     }
     group.output(alloc)
 }
 
 // Adds a changeset to a group. The schema admits it, and all that is in the group, so it can't
 // clash.
-fn add<'a>(
-    alloc: Global,
-    schema: &Schema,
-    group: &mut Group<'a>,
-    body: &'a Changeset,
-) -> Result<(), AllocError>
+fn add<'a>(schema: &Schema, group: &mut Group<'a>, body: &'a Changeset) -> Result<(), AllocError>
     requires group { refusal_of schema.now group.old ≡ None }
     requires body { refusal_of schema.now body.now ≡ None }
     ensures ok { OnOk result (group.new ≡ group.old ++ body.now) }
@@ -74,7 +69,7 @@ fn add<'a>(
     admitted_never_clash();
     // for what its clause says: no table is refused
     let _tables = schema.tables();
-    match group.add(alloc, body) {
+    match group.add(body) {
         Ok(()) => Ok(()),
         Err(GroupError::Memory) => Err(AllocError),
         Err(GroupError::Schema { .. }) => unreachable!(),

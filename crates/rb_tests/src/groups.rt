@@ -40,10 +40,10 @@ fn adds<'a>(
     changeset: &'a Changeset,
     earlier: &[u8],
 ) -> Result<(), Fail> {
-    match group.add(alloc, changeset) {
+    match group.add(changeset) {
         Err(GroupError::Memory) => {
             has(rt, alloc, &group.output(alloc)?, earlier)?;
-            Ok(group.add(alloc, changeset)?)
+            Ok(group.add(changeset)?)
         }
         added => Ok(added?),
     }
@@ -53,7 +53,7 @@ fn is_grouped(rt: &impl Abort, alloc: Global, sent: &[Changeset; 3]) -> Result<(
     let [insert, narrow, delete] = sent;
     let mut group = Group::new(alloc);
     adds(rt, alloc, &mut group, insert, b"")?;
-    refused(rt, group.add(alloc, narrow));
+    refused(rt, group.add(narrow));
     has(rt, alloc, &group.output(alloc)?, INSERT)?;
     adds(rt, alloc, &mut group, delete, INSERT)?;
     has(rt, alloc, &group.output(alloc)?, b"")

@@ -1,9 +1,9 @@
 -- The text of scanned changes, which is copied.
-use Rattle.std.proofs.Common.{◌≡◌, ℕ, ◌-◌, ◌≤◌, Bool, List, [], ◌∷◌, ◌++◌, length, take, sym, ap, subst, ◌∙◌, arith}
+use Rattle.std.proofs.Common.{◌≡◌, ℕ, ◌-◌, ◌≤◌, Bool, List, [], ◌∷◌, ◌++◌, length, take, drop, refl, sym, ap, subst, ◌∙◌, arith}
 use Rattle.std.specs.Prelude.{IsTrue}
 use Rattle.std.specs.List.{AllByRecursion}
 use Rattle.std.proofs.Math.Seq.{take-append_seam}
-use Rattle.std.proofs.lemmas.List.{length-append}
+use Rattle.std.proofs.lemmas.List.{drop_at, length-append}
 use Rattle.cs_model.specs.Bytes.{AreBytes}
 use Rattle.cs_model.specs.declared.shape.Shape.{Shape}
 use Rattle.cs_model.specs.declared.change.Change.{Change}
@@ -32,6 +32,12 @@ pub front_is : (bytes front back : List ℕ) → bytes ≡ front ++ back → tak
 front_is bytes front back e =
     let at : length bytes - length back ≡ length front = omega (arith, ap length e, length-append front back) in
     ap (λ n. take n bytes) at ∙ ap (take (length front)) e ∙ take-append_seam front back
+
+pub behind_cut : (bytes front section rest : List ℕ) → bytes ≡ front ++ rest
+    → section ≡ take (length bytes - length rest) bytes → drop (length section) bytes ≡ rest
+behind_cut bytes front section rest e is =
+    ap (λ w. drop (length w) bytes) (is ∙ front_is bytes front rest e) ∙ ap (drop (length front)) e
+    ∙ drop_at front rest (length front) refl
 
 -- the text in front of what is left says the changes that are whole
 pub record Says (flags bytes : List ℕ) (count : ℕ) (rest : List ℕ) (canonical : Bool) (columns : ℕ) (text : List ℕ) :

@@ -1,5 +1,5 @@
 -- A loop over sections, the last of which may still grow.
-use Rattle.std.proofs.Common.{◌≡◌, ℕ, ◌<◌, true, false, List, [], ◌∷◌, ◌++◌, length, Option, Some, None, Ok, Err, refl}
+use Rattle.std.proofs.Common.{◌≡◌, ℕ, ◌<◌, Bool, true, false, List, [], ◌∷◌, ◌++◌, length, Option, Some, None, Ok, Err, refl}
 use Rattle.std.proofs.Common.{sym, ap, subst, ◌∙◌, append_assoc, arith}
 use Rattle.std.specs.Prelude.{is_some}
 use Rattle.std.proofs.lemmas.List.{append-nil, nil_from_length}
@@ -8,8 +8,8 @@ use Rattle.cs_model.specs.declared.change.Change.{Change}
 use Rattle.cs_model.specs.declared.shape.Shape.{Shape}
 use Rattle.cs_model.specs.Section.{Section}
 use Rattle.cs_parse.specs.declared.stop.ParseRefusal.{ParseRefusal}
-use Rattle.cs_parse.specs.Front.{changes_front, prefixed, sections_reached, NextSection}
-use Rattle.cs_parse.specs.Progress.{part_at, read_on}
+use Rattle.cs_parse.specs.Front.{changes_front, prefixed, sections_reached, ReadsNext, NextSection}
+use Rattle.cs_parse.specs.Progress.{Reached, part_at, read_on}
 use Rattle.cs_parse.specs.Reading.{◌>>=◌, shape_at, ends_section}
 use Rattle.cs_parse.proofs.feeding.FrontLaws.{changes_over, front_fits, front_shorter}
 use Rattle.cs_parse.proofs.feeding.FrontParts.{headed, part_by, front_parts_changes_parts, behind_front, sections_apart}
@@ -19,6 +19,14 @@ use Rattle.cs_parse.proofs.joining.PartLaws.{nothing_behind, part_refused, part_
 
 header_first : (bytes : List ℕ) → part_at [] bytes ≡ (shape_at bytes >>= headed [])
 header_first bytes = part_by [] bytes None refl
+
+abbrev alone : Shape → List Change → List Section
+alone shape changes = record { shape = shape; changes = changes } ∷ []
+
+pub behind_shape_fits : (bytes rest : List ℕ) (shape : Shape) → AreBytes bytes → shape_at bytes ≡ Ok (shape, rest)
+    → AreBytes rest
+behind_shape_fits bytes rest shape fits read = part_rest_fits [] bytes (alone shape [], rest) fits
+    (header_first bytes ∙ ap (λ r. r >>= headed []) read)
 
 section_fronts_refused_first : (bytes : List ℕ) (why : ParseRefusal) → 0 < length bytes → shape_at bytes ≡ Err why
     → read_on [] bytes ≡ sections_reached [] bytes (Some why)
@@ -35,9 +43,6 @@ next_refused old bytes why fits some e = record {
   shorter = λ none. absurd cc;
   fits = fits;
 }
-
-abbrev alone : Shape → List Change → List Section
-alone shape changes = record { shape = shape; changes = changes } ∷ []
 
 -- behind its changes no section goes on where none of them is stopped at
 section_read : (shape : Shape) (changes : List Change) (rest : List ℕ) (why : Option ParseRefusal) → AreBytes rest
@@ -75,18 +80,15 @@ next_read old new bytes rest after shape changes why fits read are is reason add
 
 -- ---- all of them
 
--- Sections that were read, and what is read behind them.
-pub record Along (sections : List Section) (rest : List ℕ) (bytes : List ℕ) : Type 0 where
+-- Sections that were read, and what is read behind them, which gives all of this.
+pub record Along (sections : List Section) (rest : List ℕ) (all : Reached) : Type 0 where
   pub fits : AreBytes rest
-  pub read : prefixed sections (read_on [] rest) ≡ read_on [] bytes
+  pub read : prefixed sections (read_on [] rest) ≡ all
 
-pub along_start : (bytes : List ℕ) → AreBytes bytes → Along [] bytes bytes
-along_start bytes fits = record { fits = fits; read = refl }
-
-pub along_goes : (old new : List Section) (rest after bytes : List ℕ) (why : Option ParseRefusal) → is_some why ≡ false
-    → NextSection old new rest after why → Along old rest bytes → Along new after bytes
-along_goes old new rest after bytes (Some why) none next along = absurd cc
-along_goes old new rest after bytes None none next along = record {
+pub along_goes : (old new : List Section) (rest after : List ℕ) (all : Reached) (why : Option ParseRefusal)
+    → is_some why ≡ false → NextSection old new rest after why → Along old rest all → Along new after all
+along_goes old new rest after all (Some why) none next along = absurd cc
+along_goes old new rest after all None none next along = record {
   fits = next.fits;
   read =
       ap (λ s. prefixed s (read_on [] after)) next.added
@@ -96,18 +98,26 @@ along_goes old new rest after bytes None none next along = record {
       ∙ along.read;
 }
 
-pub along_stops : (old new : List Section) (rest after bytes : List ℕ) (why : Option ParseRefusal) → is_some why ≡ true
-    → NextSection old new rest after why → Along old rest bytes → read_on [] bytes
-    ≡ record { sections = new; rest = after; why = why }
-along_stops old new rest after bytes None some next along = absurd cc
-along_stops old new rest after bytes (Some why) some next along =
+pub along_by : (more : Bool) (old new : List Section) (rest after : List ℕ) (all : Reached)
+    → ReadsNext more old rest new after → Along old rest all → Along new after all
+along_by true old new rest after all goes along = along_goes old new rest after all None refl goes along
+along_by false old new rest after all goes along = record {
+  fits = subst AreBytes (sym goes.1) along.fits;
+  read = (λ i. prefixed (goes.0 i) (read_on [] (goes.1 i))) ∙ along.read;
+}
+
+pub along_stops : (old new : List Section) (rest after : List ℕ) (all : Reached) (why : Option ParseRefusal)
+    → is_some why ≡ true → NextSection old new rest after why → Along old rest all
+    → all ≡ record { sections = new; rest = after; why = why }
+along_stops old new rest after all None some next along = absurd cc
+along_stops old new rest after all (Some why) some next along =
     sym along.read ∙ ap (prefixed old) next.read ∙ ap (λ s. record { sections = s; rest = after; why = Some why })
     (sym next.added)
 
-pub along_ends : (sections : List Section) (rest bytes : List ℕ) → length rest ≡ 0 → Along sections rest bytes
-    → read_on [] bytes ≡ record { sections = sections; rest = rest; why = None }
-along_ends sections rest bytes empty along =
+pub along_ends : (sections : List Section) (rest : List ℕ) (all : Reached) → length rest ≡ 0
+    → prefixed sections (read_on [] rest) ≡ all → all ≡ record { sections = sections; rest = rest; why = None }
+along_ends sections rest all empty read =
     let nil = nil_from_length rest empty in
-    sym along.read ∙ ap (λ w. prefixed sections (read_on [] w)) nil ∙ ap (prefixed sections) (nothing_behind [])
+    sym read ∙ ap (λ w. prefixed sections (read_on [] w)) nil ∙ ap (prefixed sections) (nothing_behind [])
     ∙ ap (λ s. record { sections = s; rest = []; why = None }) (append-nil sections)
     ∙ ap (λ w. record { sections = sections; rest = w; why = None }) (sym nil)

@@ -1,5 +1,5 @@
--- Sections of different shapes, each with changes, are their own canonical form.
-use Rattle.std.proofs.Common.{◌≡◌, true, false, cond, inl, inr, List, [], ◌∷◌, ◌++◌, map, refl, sym, ap, subst}
+-- Sections are their own canonical form where their shapes differ and each has changes, and only there.
+use Rattle.std.proofs.Common.{◌≡◌, Bool, true, false, cond, inl, inr, List, [], ◌∷◌, ◌++◌, map, refl, sym, ap, subst}
 use Rattle.std.proofs.Common.{◌∙◌}
 use Rattle.std.specs.Prelude.{◌||◌}
 use Rattle.std.specs.List.{list_any}
@@ -91,3 +91,57 @@ all_left all (s ∷ ss) own =
 
 pub own_form : (ss : List Section) → AreOwn [] ss → canon ss ≡ ss
 own_form ss own = ap canon_of (grouped_alone [] [] ss (λ x h. h) own) ∙ all_left [] ss own
+
+-- ---- a canonical form is like that
+
+-- a shape of a longer list that isn't its last
+before_last : (all : List Shape) (shape x : Shape) → has_shape (all ++ shape ∷ []) x ≡ true → same_shape shape x ≡ false
+    → has_shape all x ≡ true
+before_last [] shape x h other = absurd (false≢true (sym (ap (λ b. b || false) other) ∙ h))
+before_last (a ∷ all) shape x h other =
+    elim (cases_Bool (same_shape a x)) as (λ w. has_shape (a ∷ all) x ≡ true) [
+      | inl hit ↦ or_left (same_shape a x) (has_shape all x) hit
+      | inr miss ↦ or_right (same_shape a x) (has_shape all x)
+          (before_last all shape x (sym (ap (λ b. b || has_shape (all ++ shape ∷ []) x) miss) ∙ h) other)
+    ]
+
+not_within : (all some : List Shape) (shape : Shape) → ShapesWithin all some → has_shape some shape ≡ false
+    → has_shape all shape ≡ false
+not_within all some shape inside new =
+    elim (cases_Bool (has_shape all shape)) as (λ w. has_shape all shape ≡ false) [
+      | inl stood ↦ absurd (false≢true (sym new ∙ inside shape stood))
+      | inr not_there ↦ not_there
+    ]
+
+-- the shapes so far, with one more, are among those that are left out
+more_within : (all some : List Shape) (shape : Shape) → ShapesWithin all some
+    → ShapesWithin (all ++ shape ∷ []) (shape ∷ some)
+more_within all some shape inside x h =
+    elim (cases_Bool (same_shape shape x)) as (λ w. has_shape (shape ∷ some) x ≡ true) [
+      | inl hit ↦ or_left (same_shape shape x) (has_shape some x) hit
+      | inr other ↦ or_right (same_shape shape x) (has_shape some x) (inside x (before_last all shape x h other))
+    ]
+
+own_left : (b : Bool) (all : List Shape) (s : Section) (ss : List Section) → has_changes s ≡ b
+    → has_shape all s.shape ≡ false → AreOwn all ss → AreOwn (all ++ s.shape ∷ []) ss
+    → AreOwn all (cond b (s ∷ ss) ss)
+own_left true all s ss kept new without with = (kept, has_is s.shape all ∙ new, with)
+own_left false all s ss kept new without with = without
+
+canon_owns : (some all : List Shape) (ss : List Section) → ShapesWithin all some → AreOwn all (canon_of (by_shape some ss))
+canon_owns some all [] inside = subst (λ (gs : List Group). AreOwn all (canon_of gs)) (sym (nothing_grouped some)) tt
+canon_owns some all (s ∷ ss) inside =
+    elim (cases_Bool (has_shape some s.shape)) [
+      | inl stood ↦ subst (λ (gs : List Group). AreOwn all (canon_of gs)) (sym (by_shape-cons some s ss true stood))
+          (canon_owns some all ss inside)
+      | inr new ↦
+          let first = joined_section (s.shape, s ∷ with_shape s.shape ss) in
+          let rest = canon_of (by_shape (s.shape ∷ some) ss) in
+          subst (λ (gs : List Group). AreOwn all (canon_of gs)) (sym (by_shape-cons some s ss false new))
+          (own_left (has_changes first) all first rest refl (not_within all some s.shape inside new)
+          (canon_owns (s.shape ∷ some) all ss (λ x h. or_right (same_shape s.shape x) (has_shape some x) (inside x h)))
+          (canon_owns (s.shape ∷ some) (all ++ s.shape ∷ []) ss (more_within all some s.shape inside)))
+    ]
+
+pub form_owns : (ss : List Section) → canon ss ≡ ss → AreOwn [] ss
+form_owns ss is = subst (AreOwn []) is (canon_owns [] [] ss (λ x h. h))

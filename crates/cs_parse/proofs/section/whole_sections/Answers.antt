@@ -1,15 +1,12 @@
-use Rattle.std.proofs.Common.{◌≡◌, length, sym, ◌∙◌, arith}
+use Rattle.std.proofs.Common.{List, [], ap, sym, ◌∙◌}
 use Rattle.std.proofs.lemmas.Bool.{eqb-true}
+use Rattle.cs_parse.specs.Front.{prefixed}
+use Rattle.cs_parse.specs.Progress.{read_on}
 use Rattle.cs_parse.proofs.feeding.SectionFronts.{along_ends}
-use Rattle.cs_parse.proofs.section.whole_sections.Goals.{else-loop-test, then-loop-test+then-is_empty}
 use Rattle.cs_parse.proofs.section.whole_sections.Goals as goal
 
-pub returns : goal.returns
-returns g c =
-    let empty : length c.loop.rest.now ≡ 0 = elim c.loop-test.branch [
-      | else-loop-test w ↦ omega (arith, w.loop-test.false, c.loop.invariant.few)
-      | then-loop-test+then-is_empty w ↦ eqb-true (length c.loop.rest.now) 0
-          (sym w.is_empty.ensures ∙ w.if-is_empty.true)
-    ] in
-    along_ends (g.C.Collects.held c.loop.sections) c.loop.rest.now c.args.bytes.now empty
-    c.loop.invariant.along
+pub returns-then-is_empty : goal.returns-then-is_empty
+returns-then-is_empty c =
+    along_ends c.in_ok-front.front.0 c.rest-rest.result.now (read_on [] c.args.bytes.now)
+    (eqb-true _ 0 (sym c.is_empty.ensures ∙ c.if-is_empty.true))
+    (ap (λ (w : List _). prefixed c.in_ok-front.front.0 (read_on [] w)) c.rest-rest.ensures ∙ c.in_ok-front.ensures)

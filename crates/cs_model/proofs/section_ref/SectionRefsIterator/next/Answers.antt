@@ -9,7 +9,7 @@ section_of-section-requires c = text_starts _ _ _
     (subst (λ (xs : List At). IsText xs c.self.inside.bytes.now (sections_by xs c.self.inside.bytes.now))
     c.in_ok-at.ensures.cases.0 c.self.invariant)
 
-pub invariant_of-self-2 : goal.invariant_of-self-2
-invariant_of-self-2 c = rw c.section_of-section.ensures.rest (others c.in_ok-at.at.now _ _
+pub invariant_of-self : goal.invariant_of-self
+invariant_of-self c = rw c.section_of-section.ensures.rest (others c.in_ok-at.at.now _ _
     (subst (λ (xs : List At). IsText xs c.self.inside.bytes.now (sections_by xs c.self.inside.bytes.now))
     c.in_ok-at.ensures.cases.0 c.self.invariant))
