@@ -4,8 +4,8 @@
 # and a type, or another name of one, that two files of a library define. Nothing is the right answer. Not counted:
 # - the answers to goals in proofs/, and what stands in a proof by hand (Proof.antt, Send.antt), whose names the prover gives;
 # - a type and the lemma that makes it, in one file of proofs/;
-# - the events' verbs in the four files whose names say their layer. Clauses cite them as `outcome.sent` or
-#   `outline.Places`: rb_desk's Outline, and Outcome, Told and Moves of rb_core;
+# - the events' verbs in the five files whose names say their layer. Clauses cite them as `outcome.sent` or
+#   `outline.Places`: rb_desk's Outline, and Publishing, Outcome, Told and Moves of rb_core;
 # - laws, whose names are those of one theorem at several layers (`laws.rt`, `courses.rt`);
 # - functions and types of programs, of tests and of static libraries, which nobody else uses;
 # - `Tables` of cs_group, private in two files.
@@ -79,7 +79,7 @@ list=$(
     echo "$definitions" |
         awk '
             function layer(file) {
-                return file ~ /(rb_desk\/specs\/Outline|rb_core\/specs\/(Outcome|Told|Moves))\.antt$/
+                return file ~ /(rb_desk\/specs\/Outline|rb_core\/specs\/(Publishing|Outcome|Told|Moves))\.antt$/
             }
             {
                 key = tolower($1)

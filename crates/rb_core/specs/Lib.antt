@@ -1,4 +1,5 @@
 pub mod State
+pub mod Publishing
 pub mod Outcome
 pub mod Combined
 pub mod Memory
