@@ -1,6 +1,7 @@
 #!/bin/sh
-# Refuses each allocation of the program in turn, for five scripts. The program must then say that memory ran out, with
-# status 1 and the answers to some first lines of the script; or do without, and answer all of them.
+# Refuses each allocation of the program in turn, for five scripts and two drives. The program must then say that memory
+# ran out, with status 1 and the answers to some first lines of the script, and no report of a drive; or do without, and
+# answer all of them, or write the whole report.
 #   sh refused/run.sh        needs gcc, and the program as `rt run` leaves it (README.md)
 . "$(dirname "$0")/shim.sh"
 program=crates/rb_run/out/rb_run
@@ -23,5 +24,22 @@ for script in examples/first.script refused/changes.script refused/groups.script
         continue
     fi
     in_turn "$script" judge "$script" "$program" script
+done
+# A drive's threads end by themselves where one of them has no memory: the program says that they were stopped.
+judge_drive() {
+    if [ "$1" -eq 0 ] && cmp -s "$work/out" "$work/all"; then
+        echo passed
+    elif [ "$1" -eq 1 ] && [ ! -s "$work/out" ] && grep -qx 'rb_run: \(out of memory\|stopped\)' "$work/err"; then
+        echo told
+    fi
+}
+
+for drive in drive-two faulty-no-such-table; do
+    case=crates/rb_drive_cases/data/$drive
+    if ! "$program" drive --subscribers 2 --appliers 4 <"$case.drive" >"$work/all" || [ ! -s "$work/all" ]; then
+        wrong "$drive: fails where nothing is refused"
+        continue
+    fi
+    in_turn "$drive" judge_drive "$case.drive" "$program" drive --subscribers 2 --appliers 4
 done
 summary

@@ -7,7 +7,7 @@
 # ONLY is a pattern that the tests' names match, where not all are wanted. Some allocate more often than anybody waits for,
 # and one of rb_tests asks for nothing, so it is
 # ONLY='^(desks|groups|lists|runs::runs|streams::(lines|showing|what|write)|texts)' for rb_tests, and
-# ONLY='^(appliers|cells|rows|tokens|deliveries|subscriptions|finishing|driving|falling|restarts)' for rb_threads. With
+# ONLY='^(appliers|cells|rows|tokens|deliveries|subscriptions|finishing|falling|restarts)' for rb_threads. With
 # REFUSE_LEAST only allocations of so many bytes are refused: REFUSE_LEAST=500000 ONLY='^(cells|segments)' refuses each
 # segment of the sequence.
 if [ $# -eq 0 ]; then

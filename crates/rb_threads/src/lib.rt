@@ -19,8 +19,6 @@ mod deliveries;
 #[cfg(test)]
 mod desks;
 #[cfg(test)]
-mod driving;
-#[cfg(test)]
 mod embedding;
 #[cfg(test)]
 mod falling;
