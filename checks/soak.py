@@ -407,12 +407,12 @@ def main():
         del soak
         most, used, runs = max(most, kilobytes), used + took, runs + 1
         driven = drive(seed, min(entries, 65536))
-        used += judged('drive', seed, *driven)[0]
-        seed += 1
+        took, kilobytes = judged('drive', seed, *driven)
+        most, used, seed = max(most, kilobytes), used + took, seed + 1
     print('%d scripts and %d drives, %d answers to scripts, %.0f s of processor time in %.0f s, at most %d kB' %
           (runs, runs, answers, used, time.monotonic() - begun, most))
     if most > MOST_KB:
-        sys.exit('soak.py: a script took %d kB, more than %d' % (most, MOST_KB))
+        sys.exit('soak.py: a run took %d kB, more than %d' % (most, MOST_KB))
 
 
 if __name__ == '__main__':
